@@ -1,0 +1,22 @@
+//! What the store knows of an operation: the objects that it reads and writes, when it is refused, what it makes,
+//! and its code in the log.
+//!
+//! The one contract is the trait [`Oper`] with its laws: an operation's effect is a function of the values that it
+//! reads, and the bytes in the log name exactly one operation. The crate stands on std alone.
+#![tactic(auto)]
+
+mod bounds;
+mod byte_list;
+mod memory;
+mod objs;
+mod oper;
+mod refusal;
+mod values;
+
+pub use bounds::Bounds;
+pub use byte_list::ByteList;
+pub use memory::Memory;
+pub use objs::Objs;
+pub use oper::Oper;
+pub use refusal::Refusal;
+pub use values::Values;

@@ -1,0 +1,54 @@
+ghost use Rattle.std.specs.Prelude.{◌≡◌, ◌≤◌, ◌<◌, ◌++◌, List, ℕ, None, All, length, take, IsTrue, IfOk, IfSome, OnOk, OnErr, IfNone};
+ghost use Rattle.std.specs.Result.{result_err};
+ghost use Rattle.oper_core.specs.Meaning.{Meaning, IsSmall, IsLawful, FitsReads, StartsWithCode};
+ghost use Rattle.oper_core.specs.declared.bounds.Bounds.{Bounds};
+ghost use Rattle.oper_core.specs.declared.refusal.Refusal.{Refusal};
+
+use crate::{Bounds, Memory, Objs, Refusal, Values};
+use std::alloc::Global;
+
+/// A logged operation: it reads some objects and writes some, and what it writes is a function of what it reads.
+pub trait Oper: Drop {
+    /// What it reads, writes and makes, when it is refused, and its code.
+    ghost meaning: { Bounds → Meaning Self };
+
+    /// The objects that it reads.
+    fn reads(&self) -> Objs
+        ensures { (b : Bounds) → result ≡ (meaning b).reads self.now };
+
+    /// The objects that it writes.
+    fn writes(&self) -> Objs
+        ensures { (b : Bounds) → result ≡ (meaning b).writes self.now };
+
+    /// The first refusal that needs no value.
+    fn shape(&self, b: Bounds) -> Result<(), Refusal>
+        ensures { result_err result ≡ (meaning b).shape self.now };
+
+    /// The first of the other refusals, on the values of the objects that it reads, in their order.
+    fn check(&self, b: Bounds, values: &Values) -> Result<(), Refusal>
+        requires { FitsReads (meaning b) self.now values.now }
+        ensures { result_err result ≡ (meaning b).check self.now values.now };
+
+    /// The new value of each object that it writes, in their order. Where it isn't applicable the values are empty.
+    fn apply(&self, alloc: Global, b: Bounds, values: &Values) -> Result<Values, Memory>
+        requires { FitsReads (meaning b) self.now values.now }
+        ensures { IfOk result (λ made. made ≡ (meaning b).effect self.now values.now) };
+
+    /// Appends its code.
+    fn encode(&self, out: &mut Vec<u8>) -> Result<(), Memory>
+        requires { (b : Bounds) → IsTrue ((meaning b).is_encodable self.now) }
+        ensures ok { (b : Bounds) → OnOk result (out.new.items ≡ out.old.items ++ (meaning b).code self.now) }
+        ensures err { OnErr result (out.new.items ≡ out.old.items) };
+
+    /// The operation whose code the bytes begin with, and the code's length; none exactly where they begin with no
+    /// code of the grammar for these bounds.
+    fn decode(alloc: Global, b: Bounds, bytes: &[u8]) -> Result<Option<(Self, usize)>, Memory>
+    where
+        Self: Sized,
+        ensures some { IfOk result (λ found. IfSome found (λ pair.
+            StartsWithCode (meaning b) bytes.now pair.0 × (pair.1 ≡ length ((meaning b).code pair.0)))) }
+        ensures none { IfOk result (λ found. IfNone found ((op : Self) → StartsWithCode (meaning b) bytes.now op → ⊥)) };
+
+    /// What each of them meets.
+    ghost lawful: { (b : Bounds) → IsSmall b → IsLawful (meaning b) };
+}

@@ -1,0 +1,26 @@
+use thiserror::Error;
+
+/// Why a command is refused. Where several causes apply, the first of this order is told.
+#[derive(Clone, Copy, Debug, PartialEq, Eq, Error)]
+pub enum Refusal {
+    #[error("NoObject")]
+    NoObject,
+    #[error("Same")]
+    Same,
+    #[error("BadPlace")]
+    BadPlace,
+    #[error("BadWidth")]
+    BadWidth,
+    #[error("NotApp")]
+    NotApp,
+    #[error("NoInput")]
+    NoInput,
+    #[error("NotNode")]
+    NotNode,
+    #[error("NoKey")]
+    NoKey,
+    #[error("NodeFull")]
+    NodeFull,
+    #[error("TooLarge")]
+    TooLarge,
+}
