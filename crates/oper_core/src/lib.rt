@@ -2,7 +2,8 @@
 //! and its code in the log.
 //!
 //! The one contract is the trait [`Oper`] with its laws: an operation's effect is a function of the values that it
-//! reads, and the bytes in the log name exactly one operation. The crate stands on std alone.
+//! reads, and the bytes in the log name exactly one operation. The crate stands on std, and on
+//! byteorder's words for numbers as bytes.
 #![tactic(auto)]
 
 mod bounds;
@@ -11,6 +12,8 @@ mod memory;
 mod objs;
 mod oper;
 mod refusal;
+#[cfg(test)]
+mod tests;
 mod values;
 
 pub use bounds::Bounds;

@@ -36,7 +36,7 @@ pub trait Oper: Drop {
 
     /// Appends its code.
     fn encode(&self, out: &mut Vec<u8>) -> Result<(), Memory>
-        requires { (b : Bounds) → IsTrue ((meaning b).is_encodable self.now) }
+        requires { (b : Bounds) × IsTrue ((meaning b).is_encodable self.now) }
         ensures ok { (b : Bounds) → OnOk result (out.new.items ≡ out.old.items ++ (meaning b).code self.now) }
         ensures err { OnErr result (out.new.items ≡ out.old.items) };
 

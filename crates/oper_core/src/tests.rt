@@ -1,0 +1,30 @@
+use crate::{ByteList, Objs, Values};
+use std::test::Fail;
+
+#[test]
+fn objects_keep_their_order(rt: HostRuntime) {
+    assert_eq!(rt; Objs::new().as_slice(), [].as_slice());
+    let mut objects = Objs::one(7);
+    objects.push(3);
+    objects.push(7);
+    objects.push(5);
+    assert_eq!(rt; objects.as_slice(), [7, 3, 7, 5].as_slice());
+}
+
+#[test]
+fn values_keep_their_bytes(rt: HostRuntime) -> Result<(), Fail> {
+    let mut values = Values::new(rt.alloc());
+    values.push(&[0xaa, 0xbb])?;
+    values.push(&[])?;
+    assert_eq!(rt; values.get(0), [0xaa, 0xbb].as_slice());
+    assert_eq!(rt; values.get(1), [].as_slice());
+    Ok(())
+}
+
+#[test]
+fn a_byte_list_gives_its_bytes_back(rt: HostRuntime) -> Result<(), Fail> {
+    let list = ByteList::new([1, 2].to_vec(rt.alloc())?);
+    assert_eq!(rt; list.as_slice(), [1, 2].as_slice());
+    assert_eq!(rt; list.into_vec().as_slice(), [1, 2].as_slice());
+    Ok(())
+}
