@@ -7,7 +7,7 @@ use Rattle.std.proofs.lemmas.Bool.{le-leb, leb-true, lt-ltb, ltb-true}
 use Rattle.std.proofs.lemmas.List.{take_at}
 use Rattle.byteorder.specs.Endian.{little_bytes}
 use Rattle.oper_core.specs.LittleEndian.{little_bytes-split}
-use Rattle.oper_core.specs.Meaning.{IsInGrammar, IsLawful, IsSmall, or_else, unless}
+use Rattle.oper_core.specs.Meaning.{HasBounds, IsInGrammar, IsLawful, IsSmall, or_else, unless}
 use Rattle.oper_core.specs.declared.bounds.Bounds.{Bounds}
 use Rattle.oper_core.specs.declared.refusal.Refusal.{Refusal}
 use Rattle.oper_core.specs.declared.refusal.Refusal.TheVariants.{NoObject, TooLarge}
@@ -59,6 +59,10 @@ none_apart = tt
 one_apart : (x : ℕ) → IsDistinct nat_eq (x ∷ [])
 unfolding IsDistinct
 one_apart x = (tt, tt)
+
+-- its meaning is that under these bounds
+pub put_bounded : (b : Bounds) → HasBounds b (put_meaning b)
+put_bounded b = record { objects = refl; cap = refl }
 
 pub put_lawful : (b : Bounds) → IsSmall b → IsLawful (put_meaning b)
 put_lawful b small = record {

@@ -1,6 +1,6 @@
 ghost use Rattle.std.specs.Prelude.{◌≡◌};
 ghost use Rattle.op_meaning.specs.Put.{put_meaning};
-ghost use Rattle.op_meaning.specs.PutLaws.{put_lawful};
+ghost use Rattle.op_meaning.specs.PutLaws.{put_bounded, put_lawful};
 
 use byteorder::{ByteOrder, LittleEndian};
 use oper_core::{Bounds, ByteList, Memory, Objs, Oper, Refusal, Values};
@@ -96,6 +96,8 @@ impl Oper for Put {
         let value = ByteList::new(rest[..length as usize].to_vec(alloc)?);
         Ok(Some((Put::new(object, value), HEAD_BYTES + length as usize)))
     }
+
+    ghost bounded = { put_bounded };
 
     ghost lawful = { put_lawful };
 }
