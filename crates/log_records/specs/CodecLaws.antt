@@ -1,5 +1,6 @@
 -- No record's code is the beginning of another's, and each record of the grammar has one.
-use Rattle.std.proofs.Common.{◌≡◌, ◌<◌, ℕ, ◌^◌, List, ◌∷◌, ◌++◌, drop, refl, sym, ap, ◌∙◌, arith, append_assoc}
+use Rattle.std.proofs.Common.{◌≡◌, ℕ, List, ◌++◌, length, drop, refl, sym, ap, ◌∙◌, arith, append_assoc}
+use Rattle.std.proofs.lemmas.List.Prefix.{front_rest}
 use Rattle.byteorder.specs.Endian.{little_bytes}
 use Rattle.oper_core.specs.LittleEndian.{little_bytes-split}
 use Rattle.oper_core.specs.Meaning.{IsLawful, Meaning}
@@ -27,3 +28,8 @@ same_record m lawful (Command number op) (Command number' op') bytes one two =
 pub encodable-from_grammar : {O : Type 0} (meaning : Bounds → Meaning O) (b : Bounds) → IsLawful (meaning b) → (it : Record O)
     → IsRecord (meaning b) it → IsEncodable meaning it
 encodable-from_grammar meaning b lawful (Command number op) good = (b, lawful.encodable op good.1)
+
+-- what stands behind its code
+pub rest-from_starts : {O : Type 0} (m : Meaning O) (bytes : List ℕ) (it : Record O) → (starts : StartsWithRecord m bytes it)
+    → starts.rest ≡ drop (length (record_code m it)) bytes
+rest-from_starts m bytes it starts = sym (front_rest bytes (record_code m it) starts.rest starts.split)

@@ -1,7 +1,6 @@
-use Rattle.std.proofs.Common.{◌≡◌, ◌<◌, ◌+◌, ◌^◌, ℕ, List, ◌∷◌, ◌++◌, length, take, drop, sym, subst, ap, ◌∙◌, arith}
+use Rattle.std.proofs.Common.{◌≡◌, ℕ, List, ◌∷◌, ◌++◌, drop, sym, ap, ◌∙◌, arith}
 use Rattle.byteorder.specs.Endian.{little_bytes, little_number}
 use Rattle.oper_core.specs.LittleEndian.{slice_from}
-use Rattle.oper_core.specs.Meaning.{StartsWithCode}
 use Rattle.log_records.proofs.Reading.{begins, no_record}
 use Rattle.log_records.proofs.codec.decode.Goals as goal
 
