@@ -1,0 +1,6 @@
+pub mod HexLemmas
+pub mod LineLemmas
+pub mod NumberLemmas
+pub mod ParseLemmas
+pub mod PlaceLemmas
+pub mod WordLemmas
