@@ -1,5 +1,5 @@
 -- Hexadecimal digits.
-use Rattle.std.proofs.Common.{◌≡◌, ◌+◌, ◌*◌, List, ℕ, [], ◌∷◌, Option, Some, None, refl, sym, ◌∙◌, Bool, true, false, is_some, unwrap_or, append_assoc, ◌++◌, length, get_or, drop, ◌≤◌, subst, ◌<◌, inl, inr, ◌⊎◌, ⊎_elim, codes, arith, ap}
+use Rattle.std.proofs.Common.{◌≡◌, ◌+◌, ◌*◌, List, ℕ, [], ◌∷◌, Option, Some, None, refl, sym, ◌∙◌, Bool, true, false, is_some, unwrap_or, append_assoc, ◌++◌, length, get_or, drop, ◌≤◌, subst, ◌<◌, inr, ⊎_elim, codes, arith, ap}
 use Rattle.std.proofs.lemmas.List.{append-nil}
 use Rattle.std.specs.Bool.{Decides}
 use Rattle.script_lines.specs.Grammar.{IsHexOf, IsHex, none, byte, hex_digit}
@@ -25,7 +25,7 @@ high_of (byte {a = a} h l rest) = (a, h)
 low_of : {high low : ℕ} {text bytes : List ℕ} → IsHexOf (high ∷ low ∷ text) bytes → (b : ℕ) × (hex_digit low ≡ Some b)
 low_of (byte {b = b} h l rest) = (b, l)
 
-one_left : {x : ℕ} {bytes : List ℕ} → IsHexOf (x ∷ []) bytes → ⊥
+pub one_left : {x : ℕ} {bytes : List ℕ} → IsHexOf (x ∷ []) bytes → ⊥
 one_left h = elim h [ ]
 
 pub hex_step : (text : List ℕ) (high low : ℕ) (tail : List ℕ) (h l : Option ℕ) → HexSoFar text (high ∷ low ∷ tail) → h ≡ hex_digit high → l ≡ hex_digit low → is_some h ≡ true → is_some l ≡ true → HexSoFar text tail

@@ -1,5 +1,5 @@
 -- A line is what stands before the first newline.
-use Rattle.std.proofs.Common.{◌≡◌, ◌≢◌, ◌+◌, ◌-◌, ◌≤◌, ◌<◌, ◌++◌, List, ℕ, [], ◌∷◌, zero, suc, length, take, drop, length-take, add-one, length-append, append_assoc, refl, ap, ◌∙◌, sym, subst, arith, Bool, true, false, if◌then◌else◌, ◌==◌, nat_le, min, inl, inr, position, Some, None}
+use Rattle.std.proofs.Common.{◌≡◌, ◌≢◌, ◌+◌, ◌-◌, ◌≤◌, ◌<◌, ◌++◌, List, ℕ, [], ◌∷◌, zero, suc, length, take, drop, length-take, length-append, append_assoc, refl, ap, ◌∙◌, sym, subst, arith, Bool, true, false, if◌then◌else◌, ◌==◌, nat_le, min, inl, inr, position, Some, None}
 use Rattle.std.proofs.lemmas.Bool.Decides.{nat_tests}
 use Rattle.std.proofs.lemmas.Bool.{cases_lt}
 use Rattle.std.proofs.lemmas.List.{append-nil, take_all}
@@ -86,7 +86,7 @@ line_at_end : {old : List ℕ} (now stored rest : List ℕ) → Taken old now st
 line_at_end {old} now stored rest t none over some =
     let full : 0 < length t.bytes = omega (arith, some, ap length t.kept, length-take 40001 t.bytes) in
     is_found _ old t.bytes stored rest refl t.kept
-        (ap lines_of (t.front ∙ ap (λ (l : List ℕ). t.bytes ++ l) none ∙ append-nil t.bytes) ∙ last_line t.bytes t.plain full ∙ ap (λ (l : List ℕ). t.bytes ∷ lines_of l) (sym over))
+    (ap lines_of (t.front ∙ ap (λ (l : List ℕ). t.bytes ++ l) none ∙ append-nil t.bytes) ∙ last_line t.bytes t.plain full ∙ ap (λ (l : List ℕ). t.bytes ∷ lines_of l) (sym over))
 
 empty_is_nil : (bytes : List ℕ) → length bytes ≡ 0 → bytes ≡ []
 empty_is_nil [] empty = refl

@@ -1,15 +1,13 @@
 -- A line's fields.
-use Rattle.std.proofs.Common.{◌≡◌, ◌≢◌, ◌+◌, ◌^◌, ◌<◌, ◌≤◌, ◌++◌, Option, Some, None, Bor, List, ℕ, [], ◌∷◌, zero, suc, length, take, drop, get_or, refl, sym, ◌∙◌, ap, subst, arith, rules, Bool, true, false, codes, inl, inr, ◌⊎◌, ⊎_elim, position, ◌==◌, ◌&&◌, cond, nat_lt, add-one, length-append}
+use Rattle.std.proofs.Common.{◌≡◌, ◌≢◌, ◌+◌, ◌^◌, ◌<◌, ◌++◌, Option, Some, None, Bor, List, ℕ, [], ◌∷◌, suc, length, take, drop, get_or, refl, sym, ◌∙◌, ap, subst, arith, true, false, codes, position, ◌==◌, nat_lt, add-one, length-append}
 use Rattle.std.specs.Option.{MatchOption, IfSome, IfNone}
-use Rattle.std.proofs.lemmas.Grind.{common_steps}
-use Rattle.std.proofs.lemmas.Bool.Decides.{Decides-eqb, nat_tests}
-use Rattle.std.proofs.lemmas.Slice.Eq.{strip_prefix_is}
+use Rattle.std.proofs.lemmas.Bool.Decides.{nat_tests}
 use Rattle.std.proofs.lemmas.Fmt.{digits_decimal}
 use Rattle.std.proofs.lemmas.List.{take_at}
 use Rattle.std.specs.Fmt.{decimal}
 use Rattle.std.specs.Str.{all_ascii_digits}
 use Rattle.std.specs.Char.{is_ascii_digit}
-use Rattle.script_lines.specs.Grammar.{IsPut, IsGet, IsForce, IsBad, IsHex}
+use Rattle.script_lines.specs.Grammar.{IsBad, IsHex}
 use Rattle.script_lines.proofs.NumberLemmas.{own}
 use Rattle.script_lines.proofs.PlaceLemmas.{place_of, is_here, not_here, split_at}
 
@@ -57,6 +55,16 @@ pub joined : (text hex : List ℕ) (object i : ℕ) → position (λ byte. byte 
 joined text hex object i at front rest =
     split_at 32 text i at ∙ ap (λ (l : List ℕ). l ++ 32 ∷ drop (i + 1) text) front ∙ ap (λ (l : List ℕ). decimal object ++ 32 ∷ l) (sym rest)
 
+-- a line begins with one word
+pub same_rest : {a b : List ℕ} → codes "put " ++ a ≡ codes "put " ++ b → a ≡ b
+same_rest e = ap (λ (l : List ℕ). drop 4 l) e
+
+pub other_word : {a b : List ℕ} → codes "put " ++ a ≡ codes "get " ++ b → ⊥
+other_word e = omega (arith, ap (λ (l : List ℕ). get_or l 0 0) e)
+
+pub other_force : {a : List ℕ} → codes "put " ++ a ≡ codes "force" → ⊥
+other_force e = omega (arith, ap (λ (l : List ℕ). get_or l 0 0) e)
+
 -- a put whose fields are wrong is a bad line
 pub bad_put : (line rest : List ℕ) → line ≡ codes "put " ++ rest → ((object : ℕ) (hex bytes : List ℕ) → object < 2 ^ 32 → IsHex hex bytes → rest ≢ decimal object ++ 32 ∷ hex) → IsBad line
 bad_put line rest is none = record {
@@ -64,12 +72,3 @@ bad_put line rest is none = record {
   get = λ object g. other_word (sym is ∙ g.text);
   force = λ f. other_force (sym is ∙ f);
 }
-  where
-    same_rest : {a b : List ℕ} → codes "put " ++ a ≡ codes "put " ++ b → a ≡ b
-    same_rest e = ap (λ (l : List ℕ). drop 4 l) e
-
-    other_word : {a b : List ℕ} → codes "put " ++ a ≡ codes "get " ++ b → ⊥
-    other_word e = omega (arith, ap (λ (l : List ℕ). get_or l 0 0) e)
-
-    other_force : {a : List ℕ} → codes "put " ++ a ≡ codes "force" → ⊥
-    other_force e = omega (arith, ap (λ (l : List ℕ). get_or l 0 0) e)

@@ -1,5 +1,5 @@
 -- The first place of a byte.
-use Rattle.std.proofs.Common.{◌≡◌, ◌≢◌, ◌+◌, ◌≤◌, ◌<◌, ◌++◌, Option, Some, None, List, ℕ, [], ◌∷◌, zero, suc, length, take, drop, refl, sym, ◌∙◌, ap, subst, arith, Bool, true, false, inl, inr, ◌⊎◌, position, ◌==◌, cond, nat_lt, add-one}
+use Rattle.std.proofs.Common.{◌≡◌, ◌+◌, ◌≤◌, ◌<◌, ◌++◌, Some, None, List, ℕ, [], ◌∷◌, suc, length, take, drop, refl, sym, ◌∙◌, ap, subst, arith, Bool, true, false, inl, inr, position, ◌==◌, cond, add-one}
 use Rattle.std.proofs.lemmas.Bool.Decides.{nat_tests}
 use Rattle.std.proofs.lemmas.Bool.{cases_eq}
 use Rattle.std.proofs.lemmas.List.{take_all}

@@ -1,5 +1,5 @@
 -- Words ask one thing.
-use Rattle.std.proofs.Common.{map, ◌≡◌, ◌^◌, ◌≤◌, ◌<◌, List, ℕ, [], ◌∷◌, length, ap, sym, ◌∙◌, arith, get_or}
+use Rattle.std.proofs.Common.{map, ◌≡◌, ◌^◌, ◌<◌, List, ℕ, [], ◌∷◌, length, ap, sym, ◌∙◌, arith, get_or}
 use Rattle.std.proofs.lemmas.Fmt.{decimal_injective}
 use Rattle.std.specs.Fmt.{decimal}
 use Rattle.formats.specs.Objects.{IsInRange}

@@ -1,4 +1,5 @@
 pub mod Grammar
+pub mod GrammarLaws
 pub mod Replies
 pub mod Reader
 pub mod Reading

@@ -8,18 +8,19 @@
 
 mod answer;
 mod hex;
+mod laws;
 mod line;
 mod next;
 mod number;
 mod read_error;
 mod reader;
+#[cfg(test)]
+mod tests;
 mod words;
-
-//#[cfg(test)]
-//mod tests;
 
 pub use answer::{Answer, answer_line, answer_text};
 pub use hex::hex_bytes;
+pub use laws::a_line_asks_one_thing;
 pub use line::{Bad, Line, MAX_LINE, parse_line};
 pub use next::Next;
 pub use read_error::ReadError;

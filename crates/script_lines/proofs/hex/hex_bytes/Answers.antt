@@ -1,4 +1,4 @@
-use Rattle.std.proofs.Common.{◌≡◌, ◌∷◌, [], List, ℕ, arith, refl, sym, ◌∙◌, subst, codes, rules}
+use Rattle.std.proofs.Common.{◌≡◌, List, ℕ, arith, sym, ◌∙◌, subst, codes}
 use Rattle.std.proofs.lemmas.Slice.Eq.{slice_eq-Decides}
 use Rattle.std.proofs.lemmas.Bool.Decides.{Decides-eqb}
 use Rattle.std.proofs.lemmas.Grind.{common_steps}

@@ -1,6 +1,5 @@
-use Rattle.std.proofs.Common.{◌≡◌, ◌≢◌, ◌+◌, ◌-◌, ◌≤◌, ◌++◌, List, ℕ, ◌∷◌, length, length-drop, take, drop, refl, sym, ◌∙◌, subst, arith, rules}
+use Rattle.std.proofs.Common.{◌≡◌, ◌+◌, ◌-◌, List, ℕ, length, length-drop, take, drop, refl, sym, ◌∙◌, subst, arith, rules}
 use Rattle.std.proofs.lemmas.List.{take_all}
-use Rattle.std.specs.Fmt.{decimal}
 use Rattle.script_lines.specs.Grammar.{IsHex}
 use Rattle.script_lines.proofs.ParseLemmas.{found_behind, parts_of, joined}
 use Rattle.script_lines.proofs.line.put_fields.Goals as goal
@@ -15,7 +14,7 @@ returns-in_err-space-clause-none c =
 pub returns-in_err-object-clause-none : goal.returns-in_err-object-clause-none
 returns-in_err-object-clause-none c =
     rw c.from_residual-in_err-object.ensures (λ object hex bytes small value is.
-      c.in_err-object.ensures.none object small (parts_of c.args.text.now object hex c.in_ok-space.space small is (sym c.in_ok-space.ensures)).0)
+    c.in_err-object.ensures.none object small (parts_of c.args.text.now object hex c.in_ok-space.space small is (sym c.in_ok-space.ensures)).0)
 
 pub returns-then-is_hex-clause-some : goal.returns-then-is_hex-clause-some
 returns-then-is_hex-clause-some c = (

@@ -1,4 +1,4 @@
-use Rattle.std.proofs.Common.{◌≡◌, ◌≤◌, ◌<◌, ◌^◌, ◌++◌, List, ℕ, length, drop}
+use Rattle.std.proofs.Common.{◌≡◌, ◌≤◌, drop}
 use Rattle.std.specs.Str.{all_ascii_digits}
 use Rattle.script_lines.proofs.NumberLemmas.{read_on}
 use Rattle.script_lines.proofs.number.read_number.Given as goal

@@ -1,4 +1,4 @@
-use Rattle.std.proofs.Common.{◌≡◌, ◌<◌, arith, refl}
+use Rattle.std.proofs.Common.{arith, refl}
 use Rattle.formats.specs.declared.params.Params.{Params}
 use Rattle.script_lines.proofs.WordLemmas.{no_other}
 use Rattle.script_lines.proofs.words.read_params.Goals as goal

@@ -1,4 +1,4 @@
-use Rattle.std.proofs.Common.{◌≡◌, ◌∷◌, [], List, ℕ, arith, rules, refl, sym, ◌∙◌, ap, string_bytes, length, get_or, codes}
+use Rattle.std.proofs.Common.{◌≡◌, ◌∷◌, [], List, ℕ, arith, rules, sym, ◌∙◌, ap, string_bytes, get_or, codes}
 use Rattle.script_lines.proofs.WordLemmas.{of_two, of_five, all_five}
 use Rattle.script_lines.proofs.words.read_words.Goals as goal
 

@@ -1,4 +1,4 @@
-use Rattle.std.proofs.Common.{◌≡◌, ◌+◌, ◌∙◌, List, ℕ, sym, ap}
+use Rattle.std.proofs.Common.{◌+◌, ◌∙◌, List, ℕ, sym, ap}
 use Rattle.script_lines.specs.Reader.{unread}
 use Rattle.script_lines.proofs.LineLemmas.{run_to_newline, run_of_all, none_unread}
 use Rattle.script_lines.proofs.reader.LineReader.take_run.Goals as goal
