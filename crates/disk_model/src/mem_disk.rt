@@ -25,7 +25,12 @@ impl MemDisk {
     ghost use Rattle.disk_model.specs.Disk.{Runs, Stays, Same, In, Torn, Holds, SaysFront, IsSettled, IsSettledIn};
     ghost use Rattle.disk_model.specs.Store.{recorded, state_of, left_after};
 
-    pub fn new(alloc: Global, sizes: [u64; 3], calls: usize, pool: usize) -> Result<MemDisk, AllocError>
+    pub fn new(
+        alloc: Global,
+        sizes: [u64; 3],
+        calls: usize,
+        pool: usize,
+    ) -> Result<MemDisk, AllocError>
         ensures reads { IfOk result (λ d. (file : FileNo) → (recorded d).reads file ≡ []) }
         ensures said { IfOk result (λ d. (recorded d).said ≡ []) }
         ensures settled { IfOk result (λ d. IsSettled (recorded d)) }
@@ -79,7 +84,7 @@ impl MemDisk {
         ensures runs { Runs (In file (Torn at (length bytes.now))) Same (recorded self.old) (recorded self.new) }
         ensures written { In file (Holds at bytes.now) (recorded self.old).reads (recorded self.new).reads }
         ensures takes { Takes (length bytes.now) self.old.calls self.new.calls }
-        ensures bounds { bound_of self.new.files ≡ bound_of self.old.files }
+        ensures bounds { (other : FileNo) → bound_of self.new.files other ≡ bound_of self.old.files other }
     {
         self.files.write(file, at, bytes);
         self.calls.add_write(file, at, bytes);
@@ -90,7 +95,7 @@ impl MemDisk {
         ensures kept { Stays (recorded self.old) (recorded self.new) }
         ensures settled { IsSettledIn file (recorded self.new) }
         ensures takes { Takes 0 self.old.calls self.new.calls }
-        ensures bounds { bound_of self.new.files ≡ bound_of self.old.files }
+        ensures bounds { (other : FileNo) → bound_of self.new.files other ≡ bound_of self.old.files other }
     {
         self.files.sync(file);
         self.calls.add_sync(file);
@@ -102,7 +107,7 @@ impl MemDisk {
         ensures runs { Runs Same (SaysFront bytes.now) (recorded self.old) (recorded self.new) }
         ensures all { (recorded self.new).said ≡ (recorded self.old).said ++ bytes.now }
         ensures takes { Takes (length bytes.now) self.old.calls self.new.calls }
-        ensures bounds { bound_of self.new.files ≡ bound_of self.old.files }
+        ensures bounds { (other : FileNo) → bound_of self.new.files other ≡ bound_of self.old.files other }
     {
         self.said.append(bytes);
         self.calls.add_say(bytes);
@@ -116,7 +121,7 @@ impl MemDisk {
         ensures said { (recorded self.new).said ≡ (recorded self.old).said }
         ensures settled { IsSettled (recorded self.new) }
         ensures calls { self.new.calls ≡ self.old.calls }
-        ensures bounds { bound_of self.new.files ≡ bound_of self.old.files }
+        ensures bounds { (other : FileNo) → bound_of self.new.files other ≡ bound_of self.old.files other }
     {
         self.files.place(file, bytes);
     }

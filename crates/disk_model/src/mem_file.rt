@@ -91,7 +91,13 @@ impl MemFile {
         match how {
             Crash::Old => self.present.set(self.synced.as_slice()),
             Crash::New => {}
-            Crash::Fill(byte) => fill_unsynced(&mut self.present, &self.synced, file, entries, byte),
+            Crash::Fill(byte) => fill_unsynced(
+                &mut self.present,
+                &self.synced,
+                file,
+                entries,
+                byte,
+            ),
         }
     }
 }

@@ -57,7 +57,7 @@ impl MemFiles {
         ensures reads { (other : FileNo) → reads_of self.new other ≡ changed file (written_over at bytes.now (reads_of self.old file)) (reads_of self.old) other }
         ensures first { first_of self.new ≡ first_of self.old }
         ensures synced { synced_of self.new ≡ synced_of self.old }
-        ensures bounds { bound_of self.new ≡ bound_of self.old }
+        ensures bounds { (other : FileNo) → bound_of self.new other ≡ bound_of self.old other }
     {
         match file {
             FileNo::Objects => self.objects.write(at, bytes),
@@ -70,7 +70,7 @@ impl MemFiles {
         ensures synced { (other : FileNo) → synced_of self.new other ≡ changed file (reads_of self.old file) (synced_of self.old) other }
         ensures first { first_of self.new ≡ first_of self.old }
         ensures reads { reads_of self.new ≡ reads_of self.old }
-        ensures bounds { bound_of self.new ≡ bound_of self.old }
+        ensures bounds { (other : FileNo) → bound_of self.new other ≡ bound_of self.old other }
     {
         match file {
             FileNo::Objects => self.objects.sync(),
@@ -85,7 +85,7 @@ impl MemFiles {
         ensures first { (other : FileNo) → first_of self.new other ≡ changed file bytes.now (first_of self.old) other }
         ensures reads { (other : FileNo) → reads_of self.new other ≡ changed file bytes.now (reads_of self.old) other }
         ensures synced { (other : FileNo) → synced_of self.new other ≡ changed file bytes.now (synced_of self.old) other }
-        ensures bounds { bound_of self.new ≡ bound_of self.old }
+        ensures bounds { (other : FileNo) → bound_of self.new other ≡ bound_of self.old other }
     {
         match file {
             FileNo::Objects => self.objects.place(bytes),
