@@ -56,7 +56,11 @@ impl<R: Files> StoredFile<R> {
         if self.opened.is_some() {
             return Ok(());
         }
-        match OpenOptions::new().read(true).write(true).open(rt, self.name) {
+        match OpenOptions::new()
+            .read(true)
+            .write(true)
+            .open(rt, self.name)
+        {
             Ok(file) => self.opened = Some(file),
             Err(error) if error.kind() == ErrorKind::NotFound => {}
             Err(error) => return Err(error),
