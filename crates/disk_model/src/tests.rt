@@ -47,64 +47,68 @@ fn crashes(rt: HostRuntime) -> Result<(), Fail> {
     Ok(())
 }
 
-// Eight calls, each of which could succeed, and the answers that the plan leaves.
+// Eight calls, each of which could succeed: which of them did, and the counts.
+fn eight_calls(mut machine: MemMachine) -> ([bool; 8], [u64; 3]) {
+    let answers = [
+        machine.write_at(FileNo::LogA, 6, &[1, 2]).is_ok(),
+        machine.size(FileNo::LogA).is_ok(),
+        machine.write_at(FileNo::LogA, 7, &[1, 2]).is_ok(),
+        machine.read(FileNo::LogB, 0, &mut [0; 4]).is_ok(),
+        machine.sync(FileNo::LogA).is_ok(),
+        machine.say(b"ab").is_ok(),
+        machine.write_at(FileNo::Objects, 0, &[1]).is_ok(),
+        machine.say(b"c").is_ok(),
+    ];
+    let counts = [machine.calls(), machine.disk_faults(), machine.say_faults()];
+    (answers, counts)
+}
+
 #[test]
 fn fails_as_planned(rt: HostRuntime) -> Result<(), Fail> {
-    let cases: [(u64, u64, &[u64], [bool; 8]); 5] = [
+    let (yes, not) = (true, false);
+    let cases: [(u64, u64, &[u64], [bool; 8], [u64; 3]); 5] = [
         (
             8,
             12,
             &[],
-            [true, true, false, true, true, true, true, true],
+            [yes, yes, not, yes, yes, yes, yes, yes],
+            [8, 1, 0],
         ),
         (
             8,
             12,
-            &[1, 5, 9],
-            [false, true, false, true, false, true, true, true],
+            &[1, 5, 6, 9],
+            [not, yes, not, yes, not, not, yes, yes],
+            [8, 3, 1],
         ),
         (
             4,
             12,
             &[],
-            [true, true, false, true, false, false, false, false],
+            [yes, yes, not, yes, not, not, not, not],
+            [8, 3, 2],
         ),
         (
             8,
             4,
             &[],
-            [true, true, false, true, true, true, false, false],
+            [yes, yes, not, yes, yes, yes, not, not],
+            [8, 2, 1],
         ),
-        (0, 0, &[], [false; 8]),
+        (0, 0, &[], [not; 8], [8, 6, 2]),
     ];
-    for (calls, pool, fails, wanted) in cases {
-        let mut machine = machine(rt.alloc(), calls, pool, fails)?;
-        let answers = [
-            machine.write_at(FileNo::LogA, 6, &[1, 2]).is_ok(),
-            machine.size(FileNo::LogA).is_ok(),
-            machine.write_at(FileNo::LogA, 7, &[1, 2]).is_ok(),
-            machine.read(FileNo::LogB, 0, &mut [0; 4]).is_ok(),
-            machine.sync(FileNo::LogA).is_ok(),
-            machine.say(b"ab").is_ok(),
-            machine.write_at(FileNo::Objects, 0, &[1]).is_ok(),
-            machine.say(b"c").is_ok(),
-        ];
-        assert_eq!(rt; answers, wanted, "{calls} {pool}");
-        assert_eq!(rt; machine.calls(), 8, "{calls} {pool}");
-        let failed = wanted.iter().filter(|is_ok| !**is_ok).count() as u64;
-        assert_eq!(rt;
-            machine.disk_faults() + machine.say_faults(),
-            failed,
-            "{calls} {pool}"
-        );
+    for (calls, pool, fails, answers, counts) in cases {
+        let planned = eight_calls(machine(rt.alloc(), calls, pool, fails)?);
+        assert_eq!(rt; planned.0, answers, "{calls} calls and {pool} bytes");
+        assert_eq!(rt; planned.1, counts, "{calls} calls and {pool} bytes");
     }
     Ok(())
 }
 
 #[test]
 fn starts_with_what_is_placed(rt: HostRuntime) -> Result<(), Fail> {
-    let mut machine = machine(rt.alloc(), 2, 0, &[2])?;
-    assert!(rt; machine.calls() == 0);
+    let fails = [2].to_vec(rt.alloc())?;
+    let mut machine = MemMachine::new(rt.alloc(), [8, 8, 8], 2, 0, fails)?;
     machine.place(FileNo::LogB, b"abcd");
     let mut into = [0; 8];
     assert_eq!(rt; machine.read(FileNo::LogB, 1, &mut into), Ok(3));
@@ -136,35 +140,31 @@ fn reads_fail_as_planned(rt: HostRuntime) -> Result<(), Fail> {
     Ok(())
 }
 
+fn five_calls<M: Machine>(machine: &mut M) -> [bool; 5] {
+    [
+        machine.say(b"a").is_ok(),
+        machine.write_at(FileNo::LogA, 0, &[1]).is_ok(),
+        machine.sync(FileNo::LogA).is_ok(),
+        machine.size(FileNo::LogA).is_ok(),
+        machine.read(FileNo::LogA, 0, &mut [0]).is_ok(),
+    ]
+}
+
 #[test]
 fn blows(rt: HostRuntime) -> Result<(), Fail> {
-    let mut fuse = Fuse::new(machine(rt.alloc(), 9, 9, &[1])?, 3);
-    let answers = [
-        fuse.say(b"a").is_ok(),
-        fuse.say(b"b").is_ok(),
-        fuse.write_at(FileNo::LogA, 0, &[1]).is_ok(),
-        fuse.write_at(FileNo::LogA, 0, &[2]).is_ok(),
-        fuse.say(b"c").is_ok(),
-        fuse.sync(FileNo::LogA).is_ok(),
-        fuse.size(FileNo::LogA).is_ok(),
-        fuse.read(FileNo::LogA, 0, &mut [0]).is_ok(),
-    ];
-    assert_eq!(rt;
-        answers,
-        [false, true, true, false, false, false, false, false]
-    );
+    let mut fuse = Fuse::new(machine(rt.alloc(), 9, 9, &[1])?, 7);
+    assert_eq!(rt; five_calls(&mut fuse), [false, true, true, true, true]);
+    assert_eq!(rt; five_calls(&mut fuse), [true, true, false, false, false]);
+    assert_eq!(rt; five_calls(&mut fuse), [false; 5]);
     let inner = fuse.into_inner();
-    assert_eq!(rt;
-        (inner.said(), inner.bytes(FileNo::LogA)),
-        (b"b".as_slice(), [1].as_slice())
-    );
-    assert_eq!(rt; inner.calls(), 3);
+    assert_eq!(rt; inner.said(), b"a".as_slice());
+    assert_eq!(rt; inner.calls(), 7);
     Ok(())
 }
 
 #[test]
 fn files_are_made_by_writes_alone(rt: HostRuntime) -> Result<(), Fail> {
-    let mut first = FileMachine::new(&rt);
+    let mut first = FileMachine::new(rt.clone()?);
     settle(&mut first)?;
     assert_eq!(rt; first.size(FileNo::Objects), Ok(0));
     assert_eq!(rt; first.read(FileNo::Objects, 2, &mut [0; 2]), Ok(0));
@@ -172,7 +172,7 @@ fn files_are_made_by_writes_alone(rt: HostRuntime) -> Result<(), Fail> {
     first.write_at(FileNo::Objects, 2, b"abc")?;
     first.write_at(FileNo::Objects, 3, b"x")?;
     first.sync(FileNo::Objects)?;
-    let mut second = FileMachine::new(&rt);
+    let mut second = FileMachine::new(rt.clone()?);
     second.write_at(FileNo::Objects, 7, &[])?;
     let mut into = [9; 9];
     assert_eq!(rt; second.read(FileNo::Objects, 1, &mut into), Ok(6));
