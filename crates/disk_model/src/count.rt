@@ -22,6 +22,7 @@ pub fn is_among(numbers: &[u64], number: u64) -> bool
 /// The answer of the outside, with an error counted.
 pub fn counted<T: Drop>(faults: &mut u64, answer: io::Result<T>) -> Result<T, Failed>
     ensures ok { (value : T) → result ≡ Ok value → answer ≡ Ok value }
+    ensures fails { IsErr result ↔ IsErr answer }
     ensures cause { IsErr result → Rises faults.old faults.new }
     ensures later { faults.old ≤ faults.new }
 {

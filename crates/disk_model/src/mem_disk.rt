@@ -6,7 +6,8 @@ ghost use Rattle.std.proofs.Props.{props};
 
 use crate::mem_files::MemFiles;
 use crate::record::Record;
-use crate::{Crash, FileNo, Reserved};
+use crate::reserved::Reserved;
+use crate::{Crash, FileNo};
 use std::alloc::{AllocError, Global};
 
 /// Files on which no call fails and none takes memory.

@@ -4,7 +4,8 @@ ghost use Rattle.disk_model.specs.Disk.{written_over};
 ghost use Rattle.disk_model.specs.Entries.{IsWithin, replay, replayed};
 
 use crate::entry::Entry;
-use crate::{Crash, FileNo, Reserved};
+use crate::reserved::Reserved;
+use crate::{Crash, FileNo};
 use std::alloc::{AllocError, Global};
 
 /// A file: its bytes as the machine was made, as reads give them, and as they were at its last sync.
