@@ -44,11 +44,11 @@ module _ (byte at : ℕ) (bytes old : List ℕ) where
       ∙ get_or-drop (at + length bytes) old (i - (at + length bytes)) 0 ∙ ap (λ (k : ℕ). get_or old k 0) place
 
 -- with these places written since the last sync, besides those past the synced length
-record Filling (byte : ℕ) (written : ℕ → Type 0) (synced reads filled : List ℕ) : Type 0 where
+record Filling (byte : ℕ) (written : ℕ → Type 0) (synced reads left : List ℕ) : Type 0 where
   grown : length synced ≤ length reads
-  size : length filled ≡ length reads
-  filled : (i : ℕ) → i < length reads → written i ⊎ (length synced ≤ i) → get_or filled i 0 ≡ byte
-  kept : (i : ℕ) → (written i → ⊥) → i < length synced → get_or filled i 0 ≡ get_or reads i 0
+  size : length left ≡ length reads
+  filled : (i : ℕ) → i < length reads → written i ⊎ (length synced ≤ i) → get_or left i 0 ≡ byte
+  kept : (i : ℕ) → (written i → ⊥) → i < length synced → get_or left i 0 ≡ get_or reads i 0
 
 same_places : (byte : ℕ) (one two : ℕ → Type 0) (synced reads filled : List ℕ) → ((i : ℕ) → one i → two i) → ((i : ℕ) → two i → one i) → Filling byte one synced reads filled → Filling byte two synced reads filled
 same_places byte one two synced reads filled to from f = record {
@@ -107,9 +107,9 @@ module _ (byte : ℕ) (file : FileNo) where
         let next = step (Write other at bytes) st in
         let more : ℕ → Type 0 = λ i. written i ⊎ ((at ≤ i) × (i < at + length bytes)) in
         let here : FillsAt more next = subst (λ (g : FileNo). Filling byte more (st.synced g) (changed other (written_over at bytes (st.reads other)) st.reads g) (changed other (filled_over byte at (length bytes) (st.filled byte other)) (st.filled byte) g)) (sym is)
-            (subst (λ (l : List ℕ). Filling byte more (st.synced other) l (changed other (filled_over byte at (length bytes) (st.filled byte other)) (st.filled byte) other)) (sym (changed_here other (written_over at bytes (st.reads other)) st.reads))
-            (subst (λ (l : List ℕ). Filling byte more (st.synced other) (written_over at bytes (st.reads other)) l) (sym (changed_here other (filled_over byte at (length bytes) (st.filled byte other)) (st.filled byte)))
-            (fills_write byte at bytes written (st.synced other) (st.reads other) (st.filled byte other) (subst (λ (g : FileNo). Filling byte written (st.synced g) (st.reads g) (st.filled byte g)) is f)))) in
+        (subst (λ (l : List ℕ). Filling byte more (st.synced other) l (changed other (filled_over byte at (length bytes) (st.filled byte other)) (st.filled byte) other)) (sym (changed_here other (written_over at bytes (st.reads other)) st.reads))
+        (subst (λ (l : List ℕ). Filling byte more (st.synced other) (written_over at bytes (st.reads other)) l) (sym (changed_here other (filled_over byte at (length bytes) (st.filled byte other)) (st.filled byte)))
+        (fills_write byte at bytes written (st.synced other) (st.reads other) (st.filled byte other) (subst (λ (g : FileNo). Filling byte written (st.synced g) (st.reads g) (st.filled byte g)) is f)))) in
         same_places byte (λ i. (more i × NoSync file calls) ⊎ IsUnsynced file i calls) (λ i. (written i × NoSync file calls) ⊎ (((file ≡ other) × (at ≤ i) × (i < at + length bytes) × NoSync file calls) ⊎ IsUnsynced file i calls))
         ((after next calls).synced file) ((after next calls).reads file) ((after next calls).filled byte file)
         (λ i w. ⊎_elim (λ p. ⊎_elim (λ old. inl (old, p.1)) (λ range. inr (inl (is, range.0, range.1, p.1))) p.0) (λ later. inr (inr later)) w)
@@ -118,8 +118,8 @@ module _ (byte : ℕ) (file : FileNo) where
     | inr is_other ↦
         let next = step (Write other at bytes) st in
         let here : FillsAt written next =
-            subst (λ (l : List ℕ). Filling byte written (st.synced file) l (changed other (filled_over byte at (length bytes) (st.filled byte other)) (st.filled byte) file)) (sym (changed_others other (written_over at bytes (st.reads other)) st.reads file is_other))
-            (subst (λ (l : List ℕ). Filling byte written (st.synced file) (st.reads file) l) (sym (changed_others other (filled_over byte at (length bytes) (st.filled byte other)) (st.filled byte) file is_other)) f) in
+        subst (λ (l : List ℕ). Filling byte written (st.synced file) l (changed other (filled_over byte at (length bytes) (st.filled byte other)) (st.filled byte) file)) (sym (changed_others other (written_over at bytes (st.reads other)) st.reads file is_other))
+        (subst (λ (l : List ℕ). Filling byte written (st.synced file) (st.reads file) l) (sym (changed_others other (filled_over byte at (length bytes) (st.filled byte other)) (st.filled byte) file is_other)) f) in
         same_places byte (λ i. (written i × NoSync file calls) ⊎ IsUnsynced file i calls) (λ i. (written i × NoSync file calls) ⊎ (((file ≡ other) × (at ≤ i) × (i < at + length bytes) × NoSync file calls) ⊎ IsUnsynced file i calls))
         ((after next calls).synced file) ((after next calls).reads file) ((after next calls).filled byte file)
         (λ i w. ⊎_elim (λ p. inl p) (λ later. inr (inr later)) w)
@@ -130,8 +130,8 @@ module _ (byte : ℕ) (file : FileNo) where
     | inl is ↦
         let next = step (Sync other) st in
         let here : FillsAt (λ i. ⊥) next = subst (λ (g : FileNo). Filling byte (λ i. ⊥) (changed other (st.reads other) st.synced g) (st.reads g) (changed other (st.reads other) (st.filled byte) g)) (sym is)
-            (subst (λ (l : List ℕ). Filling byte (λ i. ⊥) l (st.reads other) (changed other (st.reads other) (st.filled byte) other)) (sym (changed_here other (st.reads other) st.synced))
-            (subst (λ (l : List ℕ). Filling byte (λ i. ⊥) (st.reads other) (st.reads other) l) (sym (changed_here other (st.reads other) (st.filled byte))) (fills_sync byte (st.reads other)))) in
+        (subst (λ (l : List ℕ). Filling byte (λ i. ⊥) l (st.reads other) (changed other (st.reads other) (st.filled byte) other)) (sym (changed_here other (st.reads other) st.synced))
+        (subst (λ (l : List ℕ). Filling byte (λ i. ⊥) (st.reads other) (st.reads other) l) (sym (changed_here other (st.reads other) (st.filled byte))) (fills_sync byte (st.reads other)))) in
         same_places byte (λ i. (⊥ × NoSync file calls) ⊎ IsUnsynced file i calls) (λ i. (written i × ((file ≢ other) × NoSync file calls)) ⊎ IsUnsynced file i calls)
         ((after next calls).synced file) ((after next calls).reads file) ((after next calls).filled byte file)
         (λ i w. ⊎_elim (λ p. absurd p.0) (λ later. inr later) w)
@@ -140,8 +140,8 @@ module _ (byte : ℕ) (file : FileNo) where
     | inr is_other ↦
         let next = step (Sync other) st in
         let here : FillsAt written next =
-            subst (λ (l : List ℕ). Filling byte written l (st.reads file) (changed other (st.reads other) (st.filled byte) file)) (sym (changed_others other (st.reads other) st.synced file is_other))
-            (subst (λ (l : List ℕ). Filling byte written (st.synced file) (st.reads file) l) (sym (changed_others other (st.reads other) (st.filled byte) file is_other)) f) in
+        subst (λ (l : List ℕ). Filling byte written l (st.reads file) (changed other (st.reads other) (st.filled byte) file)) (sym (changed_others other (st.reads other) st.synced file is_other))
+        (subst (λ (l : List ℕ). Filling byte written (st.synced file) (st.reads file) l) (sym (changed_others other (st.reads other) (st.filled byte) file is_other)) f) in
         same_places byte (λ i. (written i × NoSync file calls) ⊎ IsUnsynced file i calls) (λ i. (written i × ((file ≢ other) × NoSync file calls)) ⊎ IsUnsynced file i calls)
         ((after next calls).synced file) ((after next calls).reads file) ((after next calls).filled byte file)
         (λ i w. ⊎_elim (λ p. inl (p.0, (is_other, p.1))) (λ later. inr later) w)

@@ -19,8 +19,7 @@ pub fn memory_leaves_exactly()
 pub fn fill_leaves_exactly()
     ensures { (m : MemMachine) (byte : ℕ) (file : FileNo) → let st = state_of (store_of m) in
         IsFilled byte (λ i. IsUnsynced file i (calls_of (store_of m).calls) ⊎ (length (st.synced file) ≤ i)) (st.reads file) (st.filled byte file) }
-{
-}
+{}
 
 /// A write into an empty file that was not synced leaves any bytes up to its end, and nothing else.
 pub fn write_on_empty_leaves_exactly()
