@@ -1,5 +1,5 @@
 // Counts that never fall, and the numbers of calls that fail.
-ghost use Rattle.std.specs.Prelude.{◌≡◌, ◌↔◌, ◌+◌, ◌-◌, ◌^◌, ◌≤◌, min, Contains, IsTrue, IsErr};
+ghost use Rattle.std.specs.Prelude.{◌≡◌, ◌↔◌, ◌+◌, ◌-◌, ◌^◌, ◌≤◌, min, Contains, IsTrue, IsErr, OnOk, OnErr};
 ghost use Rattle.disk_model.specs.Disk.{Rises};
 
 use crate::Failed;
@@ -17,6 +17,22 @@ pub fn is_among(numbers: &[u64], number: u64) -> bool
     ensures { IsTrue result ↔ Contains numbers.now number }
 {
     numbers.contains(&number)
+}
+
+/// Counts one call, and its fault where it fails.
+pub fn count_call(calls: &mut u64, faults: &mut u64, fails: bool) -> Result<(), Failed>
+    ensures fails { IsErr result ↔ IsTrue fails }
+    ensures calls { calls.new ≡ min (calls.old + 1) (2 ^ 64 - 1) }
+    ensures ok { OnOk result (faults.new ≡ faults.old) }
+    ensures err { OnErr result (faults.new ≡ min (faults.old + 1) (2 ^ 64 - 1)) }
+    ensures no_lower { faults.old ≤ faults.new }
+{
+    raise(calls);
+    if fails {
+        raise(faults);
+        return Err(Failed);
+    }
+    Ok(())
 }
 
 /// The answer of the outside, with an error counted.

@@ -2,7 +2,7 @@
 ghost use Rattle.std.specs.Prelude.{◌≡◌, ◌↔◌, ◌<◌, ◌≤◌, ◌+◌, ◌-◌, ◌^◌, ◌++◌, ℕ, length, min, take, drop, vec_len, Contains, IfOk, OnOk, OnErr, IsErr, IsOkAnd, IsTrue};
 
 use crate::copying::copy_from;
-use crate::count::{is_among, raise};
+use crate::count::{count_call, is_among};
 use crate::{Failed, Source};
 use std::alloc::AllocError;
 
@@ -75,11 +75,7 @@ impl Source for MemSource {
         ensures err { OnErr result (faults_of self.new ≡ min (faults_of self.old + 1) (2 ^ 64 - 1)) }
     {
         let fails = self.next_fails();
-        raise(&mut self.reads);
-        if fails {
-            raise(&mut self.faults);
-            return Err(Failed);
-        }
+        count_call(&mut self.reads, &mut self.faults, fails)?;
         let count = copy_from(&self.bytes, self.taken, into);
         self.taken += count;
         Ok(count)
