@@ -1,6 +1,7 @@
 // What no clause says: that calls succeed, and worked cases.
 use crate::*;
 use std::alloc::{AllocError, Global};
+use std::process::Abort;
 use std::test::Fail;
 
 fn machine(alloc: Global, calls: u64, pool: u64, fails: &[u64]) -> Result<MemMachine, AllocError> {
@@ -20,31 +21,25 @@ fn unsynced(alloc: Global) -> Result<MemMachine, Fail> {
     Ok(machine)
 }
 
+fn leaves(rt: &(impl Abort + AllocGlobal), how: Crash, objects: &[u8]) -> Result<(), Fail> {
+    let mut after = unsynced(rt.alloc())?.crash(how);
+    assert_eq!(rt; after.bytes(FileNo::Objects), objects, "{how:?}");
+    assert_eq!(rt; after.bytes(FileNo::LogA), [5].as_slice(), "{how:?}");
+    assert_eq!(rt; after.said().len(), 0, "{how:?}");
+    assert_eq!(rt; after.calls(), 0, "{how:?}");
+    write_through(&mut after, FileNo::LogB, 0, &[1; 8])?;
+    settle(&mut after)?;
+    Ok(())
+}
+
 #[test]
 fn crashes(rt: HostRuntime) -> Result<(), Fail> {
-    let cases: [(Crash, &[u8]); 6] = [
-        (Crash::Old, &[1, 2, 3, 4]),
-        (Crash::New, &[1, 9, 9, 4, 0, 0, 6]),
-        (Crash::Fill(0), &[1, 0, 0, 4, 0, 0, 0]),
-        (Crash::Fill(1), &[1, 1, 1, 4, 1, 1, 1]),
-        (Crash::Fill(7), &[1, 7, 7, 4, 7, 7, 7]),
-        (Crash::Fill(255), &[1, 255, 255, 4, 255, 255, 255]),
-    ];
-    for (how, left) in cases {
-        let mut after = unsynced(rt.alloc())?.crash(how);
-        assert_eq!(rt; after.bytes(FileNo::Objects), left, "{how:?}");
-        assert_eq!(rt; after.bytes(FileNo::LogA), [5].as_slice(), "{how:?}");
-        assert_eq!(rt; after.bytes(FileNo::LogB).len(), 0, "{how:?}");
-        assert_eq!(rt; (after.said().len(), after.calls()), (0, 0), "{how:?}");
-        write_through(&mut after, FileNo::LogB, 0, &[1; 8])?;
-        settle(&mut after)?;
-        assert_eq!(rt;
-            after.crash(Crash::Old).bytes(FileNo::LogB),
-            [1; 8].as_slice(),
-            "{how:?}"
-        );
-    }
-    Ok(())
+    leaves(&rt, Crash::Old, &[1, 2, 3, 4])?;
+    leaves(&rt, Crash::New, &[1, 9, 9, 4, 0, 0, 6])?;
+    leaves(&rt, Crash::Fill(0), &[1, 0, 0, 4, 0, 0, 0])?;
+    leaves(&rt, Crash::Fill(1), &[1, 1, 1, 4, 1, 1, 1])?;
+    leaves(&rt, Crash::Fill(7), &[1, 7, 7, 4, 7, 7, 7])?;
+    leaves(&rt, Crash::Fill(255), &[1, 255, 255, 4, 255, 255, 255])
 }
 
 // Eight calls, each of which could succeed: which of them did, and the counts.
@@ -63,46 +58,56 @@ fn eight_calls(mut machine: MemMachine) -> ([bool; 8], [u64; 3]) {
     (answers, counts)
 }
 
+fn answers(
+    rt: &(impl Abort + AllocGlobal),
+    calls: u64,
+    pool: u64,
+    fails: &[u64],
+    answers: [bool; 8],
+    counts: [u64; 3],
+) -> Result<(), Fail> {
+    let planned = eight_calls(machine(rt.alloc(), calls, pool, fails)?);
+    assert_eq!(rt; planned.0, answers, "{calls} calls and {pool} bytes");
+    assert_eq!(rt; planned.1, counts, "{calls} calls and {pool} bytes");
+    Ok(())
+}
+
 #[test]
 fn fails_as_planned(rt: HostRuntime) -> Result<(), Fail> {
     let (yes, not) = (true, false);
-    let cases: [(u64, u64, &[u64], [bool; 8], [u64; 3]); 5] = [
-        (
-            8,
-            12,
-            &[],
-            [yes, yes, not, yes, yes, yes, yes, yes],
-            [8, 1, 0],
-        ),
-        (
-            8,
-            12,
-            &[1, 5, 6, 9],
-            [not, yes, not, yes, not, not, yes, yes],
-            [8, 3, 1],
-        ),
-        (
-            4,
-            12,
-            &[],
-            [yes, yes, not, yes, not, not, not, not],
-            [8, 3, 2],
-        ),
-        (
-            8,
-            4,
-            &[],
-            [yes, yes, not, yes, yes, yes, not, not],
-            [8, 2, 1],
-        ),
-        (0, 0, &[], [not; 8], [8, 6, 2]),
-    ];
-    for (calls, pool, fails, answers, counts) in cases {
-        let planned = eight_calls(machine(rt.alloc(), calls, pool, fails)?);
-        assert_eq!(rt; planned.0, answers, "{calls} calls and {pool} bytes");
-        assert_eq!(rt; planned.1, counts, "{calls} calls and {pool} bytes");
-    }
-    Ok(())
+    answers(
+        &rt,
+        8,
+        12,
+        &[],
+        [yes, yes, not, yes, yes, yes, yes, yes],
+        [8, 1, 0],
+    )?;
+    answers(
+        &rt,
+        8,
+        12,
+        &[1, 5, 6, 9],
+        [not, yes, not, yes, not, not, yes, yes],
+        [8, 3, 1],
+    )?;
+    answers(
+        &rt,
+        4,
+        12,
+        &[],
+        [yes, yes, not, yes, not, not, not, not],
+        [8, 3, 2],
+    )?;
+    answers(
+        &rt,
+        8,
+        4,
+        &[],
+        [yes, yes, not, yes, yes, yes, not, not],
+        [8, 2, 1],
+    )?;
+    answers(&rt, 0, 0, &[], [not; 8], [8, 6, 2])
 }
 
 #[test]
@@ -124,18 +129,15 @@ fn starts_with_what_is_placed(rt: HostRuntime) -> Result<(), Fail> {
 #[test]
 fn reads_fail_as_planned(rt: HostRuntime) -> Result<(), Fail> {
     let mut source = MemSource::new(b"hello".to_vec(rt.alloc())?, [2].to_vec(rt.alloc())?)?;
-    let answers: [(Result<usize, Failed>, &[u8]); 5] = [
-        (Ok(2), b"he"),
-        (Err(Failed), b"he"),
-        (Ok(2), b"ll"),
-        (Ok(1), b"ol"),
-        (Ok(0), b"ol"),
-    ];
     let mut into = [0; 2];
-    for (answer, bytes) in answers {
-        assert_eq!(rt; source.read(&mut into), answer);
-        assert_eq!(rt; into.as_slice(), bytes);
-    }
+    assert_eq!(rt; source.read(&mut into), Ok(2));
+    assert_eq!(rt; into, *b"he");
+    assert_eq!(rt; source.read(&mut into), Err(Failed));
+    assert_eq!(rt; source.read(&mut into), Ok(2));
+    assert_eq!(rt; into, *b"ll");
+    assert_eq!(rt; source.read(&mut into), Ok(1));
+    assert_eq!(rt; into, *b"ol");
+    assert_eq!(rt; source.read(&mut into), Ok(0));
     assert_eq!(rt; source.read_faults(), 1);
     Ok(())
 }
