@@ -1,6 +1,6 @@
 -- What a crash leaves, both ways.
-use Rattle.std.proofs.Common.{◌≡◌, ◌↔◌, ℕ, ◌+◌, ◌-◌, ◌≤◌, min, List, [], ◌++◌, length, take, drop, refl, sym, ◌∙◌, ap, subst, arith, append_assoc, length-append, length-take, length-drop}
-use Rattle.std.proofs.lemmas.List.{take_all, take_at, drop_at, drop_all, drop-drop, take-append-drop, length-take-le, nil_from_length}
+use Rattle.std.proofs.Common.{◌≡◌, ◌↔◌, ℕ, ◌+◌, ◌≤◌, min, List, [], ◌++◌, length, take, drop, sym, ◌∙◌, ap, subst, arith, append_assoc, length-append, length-drop}
+use Rattle.std.proofs.lemmas.List.{take_all, take_at, drop_at, drop_all, drop-drop, take-append-drop, length-take-le}
 use Rattle.disk_model.specs.Disk.{Files, Torn}
 use Rattle.disk_model.specs.Record.{State, IsImage, Moment, after, start}
 use Rattle.disk_model.specs.RecordLaws.{is_disk, left_now}

@@ -1,7 +1,7 @@
 -- Calls of a machine in memory that change nothing on its disk.
-use Rattle.std.proofs.Common.{◌≡◌, ℕ, List, ◌≤◌, refl, sym, arith, length}
+use Rattle.std.proofs.Common.{ℕ, List, ◌≤◌, refl, sym, arith}
 use Rattle.std.proofs.lemmas.List.{append-nil}
-use Rattle.disk_model.specs.Disk.{Files, IsDisk, Runs, Stays, Same, In, Torn, SaysFront}
+use Rattle.disk_model.specs.Disk.{IsDisk, Runs, Stays, Same, In, Torn, SaysFront}
 use Rattle.disk_model.specs.Fused.{with_faults, runs_with_faults}
 use Rattle.disk_model.specs.Moments.{runs_silent, stays_here}
 use Rattle.disk_model.specs.RecordLaws.{is_disk, torn_none}

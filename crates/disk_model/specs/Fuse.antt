@@ -1,5 +1,5 @@
 -- What a fuse is over its inner machine, and what one call does to it.
-use Rattle.std.specs.Prelude.{◌≡◌, ◌+◌, ◌-◌, ◌^◌, ℕ, min}
+use Rattle.std.specs.Prelude.{◌≡◌, ◌+◌, ◌-◌, ◌^◌, min}
 use Rattle.disk_model.specs.Disk.{Disk}
 use Rattle.disk_model.specs.Fused.{fused}
 use Rattle.disk_model.specs.declared.fuse.Fuse.{Fuse}

@@ -1,4 +1,4 @@
-use Rattle.std.proofs.Common.{◌≡◌, ◌∙◌, ◌++◌, sym, ap, subst, length, length-append, List, ℕ, arith}
+use Rattle.std.proofs.Common.{◌∙◌, sym, ap, subst, length, length-append, List, ℕ, arith}
 use Rattle.disk_model.specs.Disk.{Runs, Same, SaysFront}
 use Rattle.disk_model.specs.Record.{Matches}
 use Rattle.disk_model.specs.Recorded.{calls_of, first_of, reads_of, synced_of}

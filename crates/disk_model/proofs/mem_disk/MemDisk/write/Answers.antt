@@ -1,6 +1,5 @@
 use Rattle.std.proofs.Common.{◌∙◌, refl, sym, length, arith}
 use Rattle.disk_model.specs.Disk.{Same, In, Torn}
-use Rattle.disk_model.specs.Record.{Matches}
 use Rattle.disk_model.specs.Recorded.{calls_of, first_of, reads_of, synced_of}
 use Rattle.disk_model.specs.Store.{recorded}
 use Rattle.disk_model.proofs.Kept.{write_matches, write_runs, same_matches, same_runs}
