@@ -1,5 +1,5 @@
 // The standard input. Nothing is proved of what it gives.
-ghost use Rattle.std.specs.Prelude.{◌≤◌, [], length, IfOk};
+ghost use Rattle.std.specs.Prelude.{◌≡◌, ◌≤◌, [], length, IfOk};
 
 use crate::count::counted;
 use crate::{Failed, Source};
@@ -14,7 +14,9 @@ pub struct StdSource<R: Input> {
 
 impl<R: Input> StdSource<R> {
     /// Reads nothing yet.
-    pub fn new(rt: &R) -> Self {
+    pub fn new(rt: &R) -> Self
+        ensures { result.faults ≡ 0 }
+    {
         StdSource {
             reader: rt.reader(),
             faults: 0,

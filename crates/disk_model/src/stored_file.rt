@@ -39,7 +39,7 @@ impl<R: Files> StoredFile<R> {
         self.open_or_make(rt)?;
         match &mut self.opened {
             Some(file) => write_at(file, at, bytes),
-            None => Ok(()),
+            None => Err(ErrorKind::NotFound.into()),
         }
     }
 
