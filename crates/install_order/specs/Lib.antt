@@ -1,0 +1,6 @@
+pub mod Order
+pub mod Entries
+pub mod Tests
+pub mod Computed
+pub mod FirstReads
+pub mod NodeLaws
