@@ -11,7 +11,7 @@ use Rattle.install_order.specs.Entries.{reads_at, writes_at, accesses}
 use Rattle.install_order.specs.Tests.{is_edge_at, is_edge, is_read_by, is_untouched, is_exposed, is_closed}
 
 -- an element that passes: each other test that it passes is passed by some element, and a test that all pass is passed by it
-any-gives : {X : Type 0} (t : X → Bool) (xs : List X) → IsTrue (list_any t xs) → (x : X) × IsTrue (t x) × ((u : X → Bool) → IsTrue (u x) → IsTrue (list_any u xs)) × ((u : X → Bool) → IsTrue (list_all u xs) → IsTrue (u x))
+pub any-gives : {X : Type 0} (t : X → Bool) (xs : List X) → IsTrue (list_any t xs) → (x : X) × IsTrue (t x) × ((u : X → Bool) → IsTrue (u x) → IsTrue (list_any u xs)) × ((u : X → Bool) → IsTrue (list_all u xs) → IsTrue (u x))
 any-gives t [] e = absurd (both_ways _ refl e)
 any-gives t (x ∷ xs) e = elim (or_cases (t x) (list_any t xs) e) [
   | inl here ↦ (x, here, (λ u p. or_left (u x) (list_any u xs) p), (λ u p. (and_parts (u x) (list_all u xs) p).0))

@@ -2,5 +2,6 @@ pub mod Order
 pub mod Entries
 pub mod Tests
 pub mod Computed
-pub mod FirstReads
 pub mod NodeLaws
+pub mod FirstReads
+pub mod Tables

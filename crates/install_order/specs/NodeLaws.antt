@@ -61,10 +61,16 @@ pub edge-iff : (a : Access) (objects end o p : ℕ) → IsWithin a objects end �
 edge-iff a objects end o p is = (test-gives a objects end o p, test-from a objects end o p is)
 
 -- an edge's first number is below the end
-edge-start : (a : Access) (objects end o p : ℕ) → IsWithin a objects end → Edge a o p → o < end
+pub edge-start : (a : Access) (objects end o p : ℕ) → IsWithin a objects end → Edge a o p → o < end
 edge-start a objects end o p is (Read_write x lt r w) = is.reads_number o x r
 edge-start a objects end o p is (Write_write x lt r w) = is.writes_number o x r
 edge-start a objects end o p is (Lost_version x later lt w none r le wl) = is.reads_number o x r
+
+-- and so is its last
+pub edge-end : (a : Access) (objects end o p : ℕ) → IsWithin a objects end → Edge a o p → p < end
+edge-end a objects end o p is (Read_write x lt r w) = is.writes_number p x w
+edge-end a objects end o p is (Write_write x lt r w) = is.writes_number p x w
+edge-end a objects end o p is (Lost_version x later lt w none r le wl) = is.writes_number p x w
 
 reach-more : (e : ℕ → ℕ → Bool) (k o p : ℕ) → IsTrue (reach e zero o p) → IsTrue (reach e k o p)
 reach-more e zero o p h = h
@@ -96,7 +102,7 @@ reach-join e (suc k) o m p lt f g =
           ]
     ]
 
-walk-on : (a : Access) (o m n : ℕ) → Reaches a o m → Reaches a m n → Reaches a o n
+pub walk-on : (a : Access) (o m n : ℕ) → Reaches a o m → Reaches a m n → Reaches a o n
 walk-on a o m n walk Here = walk
 walk-on a o m n walk (Then k p more edge) = Then k p (walk-on a o m k walk more) edge
 
