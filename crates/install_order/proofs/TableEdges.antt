@@ -41,7 +41,7 @@ abbrev pub is_within : List Entry → ℕ → ℕ → Bool
 is_within entries objects end = list_all (λ e. nat_lt e.lsn end && list_all (λ x. nat_lt x objects) e.writes) entries
 
 pub within-gives : (entries : List Entry) (objects end : ℕ) → IsTrue (is_within entries objects end) → IsWithin (accesses entries) objects end
-within-gives entries objects end e = 
+within-gives entries objects end e =
     let row : Entry → Bool = λ e. nat_lt e.lsn end && list_all (λ x. nat_lt x objects) e.writes in
     record {
       writes_number = λ n x w.
@@ -84,4 +84,3 @@ are_edges-gives a objects end arrows is e o p =
           let cell = all_below-gives end (λ p. not (edge_test a objects end o p) || is_listed arrows o p) p row (edge-end a objects end o p is edge) in
           second (edge_test a objects end o p) (is_listed arrows o p) cell (test-from a objects end o p is edge)),
     )
-

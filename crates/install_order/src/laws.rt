@@ -36,54 +36,36 @@ pub fn last_blind_write_is_alone()
 /// Small lists of operations with all their edges and nodes, in the order in which the nodes are installed.
 pub fn worked_tables()
     // the copy reads the version that the last put destroys, so it goes before the put that wrote it
-    ensures put_copy_put {
-        IsTable (put 1 0 ∷ copy 2 0 1 ∷ put 3 0 ∷ [])
-            (arrow 1 3 ∷ arrow 2 3 ∷ arrow 2 1 ∷ [])
-            (node (2 ∷ []) (1 ∷ []) ∷ node (1 ∷ []) [] ∷ node (3 ∷ []) (0 ∷ []) ∷ [])
-    }
-    ensures copy_there_and_back {
-        IsTable (copy 1 0 1 ∷ copy 2 1 0 ∷ [])
-            (arrow 1 2 ∷ [])
-            (node (1 ∷ []) (1 ∷ []) ∷ node (2 ∷ []) (0 ∷ []) ∷ [])
-    }
+    ensures put_copy_put { IsTable (put 1 0 ∷ copy 2 0 1 ∷ put 3 0 ∷ [])
+        (arrow 1 3 ∷ arrow 2 3 ∷ arrow 2 1 ∷ [])
+        (node (2 ∷ []) (1 ∷ []) ∷ node (1 ∷ []) [] ∷ node (3 ∷ []) (0 ∷ []) ∷ []) }
+    ensures copy_there_and_back { IsTable (copy 1 0 1 ∷ copy 2 1 0 ∷ [])
+        (arrow 1 2 ∷ [])
+        (node (1 ∷ []) (1 ∷ []) ∷ node (2 ∷ []) (0 ∷ []) ∷ []) }
     // the version of 1 that the second copy reads is lost, so both copies are one node
-    ensures copy_there_and_back_put {
-        IsTable (copy 1 0 1 ∷ copy 2 1 0 ∷ put 3 1 ∷ [])
-            (arrow 1 2 ∷ arrow 2 3 ∷ arrow 1 3 ∷ arrow 2 1 ∷ [])
-            (node (1 ∷ 2 ∷ []) (0 ∷ []) ∷ node (3 ∷ []) (1 ∷ []) ∷ [])
-    }
-    ensures put_put_swap {
-        IsTable (put 1 0 ∷ put 2 1 ∷ swap 3 0 1 ∷ [])
-            (arrow 1 3 ∷ arrow 2 3 ∷ arrow 3 1 ∷ arrow 3 2 ∷ [])
-            (node (1 ∷ 2 ∷ 3 ∷ []) (0 ∷ 1 ∷ []) ∷ [])
-    }
+    ensures copy_there_and_back_put { IsTable (copy 1 0 1 ∷ copy 2 1 0 ∷ put 3 1 ∷ [])
+        (arrow 1 2 ∷ arrow 2 3 ∷ arrow 1 3 ∷ arrow 2 1 ∷ [])
+        (node (1 ∷ 2 ∷ []) (0 ∷ []) ∷ node (3 ∷ []) (1 ∷ []) ∷ []) }
+    ensures put_put_swap { IsTable (put 1 0 ∷ put 2 1 ∷ swap 3 0 1 ∷ [])
+        (arrow 1 3 ∷ arrow 2 3 ∷ arrow 3 1 ∷ arrow 3 2 ∷ [])
+        (node (1 ∷ 2 ∷ 3 ∷ []) (0 ∷ 1 ∷ []) ∷ []) }
     // an identity write of 1 takes it out of the swap's flush set
-    ensures put_put_swap_identity {
-        IsTable (put 1 0 ∷ put 2 1 ∷ swap 3 0 1 ∷ put 4 1 ∷ [])
-            (arrow 1 3 ∷ arrow 2 3 ∷ arrow 3 1 ∷ arrow 3 2 ∷ arrow 2 4 ∷ arrow 3 4 ∷ [])
-            (node (1 ∷ 2 ∷ 3 ∷ []) (0 ∷ []) ∷ node (4 ∷ []) (1 ∷ []) ∷ [])
-    }
-    ensures put_append {
-        IsTable (put 1 1 ∷ append 2 0 1 ∷ [])
-            (arrow 1 2 ∷ arrow 2 1 ∷ [])
-            (node (1 ∷ 2 ∷ []) (1 ∷ []) ∷ [])
-    }
+    ensures put_put_swap_identity { IsTable (put 1 0 ∷ put 2 1 ∷ swap 3 0 1 ∷ put 4 1 ∷ [])
+        (arrow 1 3 ∷ arrow 2 3 ∷ arrow 3 1 ∷ arrow 3 2 ∷ arrow 2 4 ∷ arrow 3 4 ∷ [])
+        (node (1 ∷ 2 ∷ 3 ∷ []) (0 ∷ []) ∷ node (4 ∷ []) (1 ∷ []) ∷ []) }
+    ensures put_append { IsTable (put 1 1 ∷ append 2 0 1 ∷ [])
+        (arrow 1 2 ∷ arrow 2 1 ∷ [])
+        (node (1 ∷ 2 ∷ []) (1 ∷ []) ∷ []) }
     // every copy of the version that the last put destroys goes before the first put, and none of them shares its node
-    ensures put_copies_put {
-        IsTable (put 1 0 ∷ copy 2 0 1 ∷ copy 3 0 2 ∷ copy 4 0 3 ∷ copy 5 0 4 ∷ put 6 0 ∷ [])
-            (arrow 1 6 ∷ arrow 2 1 ∷ arrow 2 6 ∷ arrow 3 1 ∷ arrow 3 6 ∷ arrow 4 1 ∷ arrow 4 6 ∷ arrow 5 1 ∷ arrow 5 6 ∷ [])
-            (node (2 ∷ []) (1 ∷ []) ∷ node (3 ∷ []) (2 ∷ []) ∷ node (4 ∷ []) (3 ∷ []) ∷ node (5 ∷ []) (4 ∷ []) ∷ node (1 ∷ []) [] ∷ node (6 ∷ []) (0 ∷ []) ∷ [])
-    }
+    ensures put_copies_put { IsTable (put 1 0 ∷ copy 2 0 1 ∷ copy 3 0 2 ∷ copy 4 0 3 ∷ copy 5 0 4 ∷ put 6 0 ∷ [])
+        (arrow 1 6 ∷ arrow 2 1 ∷ arrow 2 6 ∷ arrow 3 1 ∷ arrow 3 6 ∷ arrow 4 1 ∷ arrow 4 6 ∷ arrow 5 1 ∷ arrow 5 6 ∷ [])
+        (node (2 ∷ []) (1 ∷ []) ∷ node (3 ∷ []) (2 ∷ []) ∷ node (4 ∷ []) (3 ∷ []) ∷ node (5 ∷ []) (4 ∷ []) ∷ node (1 ∷ []) [] ∷ node (6 ∷ []) (0 ∷ []) ∷ []) }
     // only the version that the copy reads is lost, not the one before it
-    ensures put_put_copy_put {
-        IsTable (put 1 0 ∷ put 2 0 ∷ copy 3 0 1 ∷ put 4 0 ∷ [])
-            (arrow 1 2 ∷ arrow 1 4 ∷ arrow 2 4 ∷ arrow 3 4 ∷ arrow 3 2 ∷ [])
-            (node (1 ∷ []) [] ∷ node (3 ∷ []) (1 ∷ []) ∷ node (2 ∷ []) [] ∷ node (4 ∷ []) (0 ∷ []) ∷ [])
-    }
+    ensures put_put_copy_put { IsTable (put 1 0 ∷ put 2 0 ∷ copy 3 0 1 ∷ put 4 0 ∷ [])
+        (arrow 1 2 ∷ arrow 1 4 ∷ arrow 2 4 ∷ arrow 3 4 ∷ arrow 3 2 ∷ [])
+        (node (1 ∷ []) [] ∷ node (3 ∷ []) (1 ∷ []) ∷ node (2 ∷ []) [] ∷ node (4 ∷ []) (0 ∷ []) ∷ []) }
     // no version is lost where nothing overwrites it
-    ensures put_copy {
-        IsTable (put 1 0 ∷ copy 2 0 1 ∷ [])
-            []
-            (node (1 ∷ []) (0 ∷ []) ∷ node (2 ∷ []) (1 ∷ []) ∷ [])
-    }
+    ensures put_copy { IsTable (put 1 0 ∷ copy 2 0 1 ∷ [])
+        []
+        (node (1 ∷ []) (0 ∷ []) ∷ node (2 ∷ []) (1 ∷ []) ∷ []) }
 {}

@@ -10,5 +10,7 @@ mod laws;
 mod order;
 
 pub use entry::Entry;
-pub use laws::{exposed_is_first_reads, last_blind_write_is_alone, nodes_are_computed, worked_tables};
+pub use laws::{
+    exposed_is_first_reads, last_blind_write_is_alone, nodes_are_computed, worked_tables,
+};
 pub use order::{closed, edge, exposed};

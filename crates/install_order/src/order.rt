@@ -129,3 +129,139 @@ fn has(numbers: &[u64], n: u64) -> bool
 {
     numbers.iter().any(|k| n == *k)
 }
+
+#[cfg(test)]
+mod tests {
+    use super::*;
+    use oper_core::Objs;
+
+    fn put(lsn: u64, x: u32) -> Entry {
+        Entry {
+            lsn,
+            reads: Objs::new(),
+            writes: Objs::one(x),
+        }
+    }
+
+    fn copy(lsn: u64, from: u32, to: u32) -> Entry {
+        Entry {
+            lsn,
+            reads: Objs::one(from),
+            writes: Objs::one(to),
+        }
+    }
+
+    fn append(lsn: u64, from: u32, to: u32) -> Entry {
+        Entry {
+            lsn,
+            reads: both(from, to),
+            writes: Objs::one(to),
+        }
+    }
+
+    fn swap(lsn: u64, left: u32, right: u32) -> Entry {
+        Entry {
+            lsn,
+            reads: both(left, right),
+            writes: both(left, right),
+        }
+    }
+
+    fn both(left: u32, right: u32) -> Objs {
+        let mut objects = Objs::one(left);
+        objects.push(right);
+        objects
+    }
+
+    #[test]
+    fn worked_edges(rt: HostRuntime) {
+        let tables: [(&[Entry], &[(u64, u64)]); 9] = [
+            (
+                &[put(1, 0), copy(2, 0, 1), put(3, 0)],
+                &[(1, 3), (2, 3), (2, 1)],
+            ),
+            (&[copy(1, 0, 1), copy(2, 1, 0)], &[(1, 2)]),
+            (
+                &[copy(1, 0, 1), copy(2, 1, 0), put(3, 1)],
+                &[(1, 2), (2, 3), (1, 3), (2, 1)],
+            ),
+            (
+                &[put(1, 0), put(2, 1), swap(3, 0, 1)],
+                &[(1, 3), (2, 3), (3, 1), (3, 2)],
+            ),
+            (
+                &[put(1, 0), put(2, 1), swap(3, 0, 1), put(4, 1)],
+                &[(1, 3), (2, 3), (3, 1), (3, 2), (2, 4), (3, 4)],
+            ),
+            (&[put(1, 1), append(2, 0, 1)], &[(1, 2), (2, 1)]),
+            (
+                &[
+                    put(1, 0),
+                    copy(2, 0, 1),
+                    copy(3, 0, 2),
+                    copy(4, 0, 3),
+                    copy(5, 0, 4),
+                    put(6, 0),
+                ],
+                &[
+                    (1, 6),
+                    (2, 1),
+                    (2, 6),
+                    (3, 1),
+                    (3, 6),
+                    (4, 1),
+                    (4, 6),
+                    (5, 1),
+                    (5, 6),
+                ],
+            ),
+            (
+                &[put(1, 0), put(2, 0), copy(3, 0, 1), put(4, 0)],
+                &[(1, 2), (1, 4), (2, 4), (3, 4), (3, 2)],
+            ),
+            (&[put(1, 0), copy(2, 0, 1)], &[]),
+        ];
+        for (entries, edges) in tables.iter() {
+            for a in 1..8 {
+                for b in 1..8 {
+                    let wanted = edges.iter().any(|e| e.0 == a && e.1 == b);
+                    assert_eq!(rt; edge(a, b, entries), wanted, "{a} to {b} in {edges:?}");
+                }
+            }
+        }
+    }
+
+    #[test]
+    fn worked_sets(rt: HostRuntime) {
+        let overwritten = [put(1, 0), copy(2, 0, 1), put(3, 0)];
+        let swapped = [put(1, 0), put(2, 1), swap(3, 0, 1)];
+        let appended = [put(1, 1), append(2, 0, 1)];
+        // the installed ones, whether they are closed, and which of the objects 0, 1 and 2 are exposed
+        let cases: [(&[Entry], &[u64], bool, [bool; 3]); 14] = [
+            (&overwritten, &[], true, [false, false, true]),
+            (&overwritten, &[1], true, [true, false, true]),
+            (&overwritten, &[2], true, [false, true, true]),
+            (&overwritten, &[3], false, [false, false, true]),
+            (&overwritten, &[1, 3], false, [true, false, true]),
+            (&overwritten, &[2, 3], false, [false, true, true]),
+            (&overwritten, &[1, 2], true, [false, true, true]),
+            (&overwritten, &[3, 2, 1], true, [true, true, true]),
+            (&swapped, &[1], true, [true, false, true]),
+            (&swapped, &[2, 1], true, [true, true, true]),
+            (&swapped, &[3], false, [false, false, true]),
+            (&appended, &[], true, [true, false, true]),
+            (&appended, &[1], true, [true, true, true]),
+            (&appended, &[2], false, [true, false, true]),
+        ];
+        for (entries, installed, is_closed, are_exposed) in cases.iter() {
+            assert_eq!(rt; closed(installed, entries), *is_closed, "{installed:?}");
+            for (x, is_exposed) in are_exposed.iter().enumerate() {
+                assert_eq!(rt;
+                    exposed(x as u32, installed, entries),
+                    *is_exposed,
+                    "{x} over {installed:?}"
+                );
+            }
+        }
+    }
+}
