@@ -1,0 +1,16 @@
+pub mod Basics
+pub mod Core
+pub mod Members
+pub mod Crash
+pub mod Gate
+pub mod Set
+pub mod Append
+pub mod Replay
+pub mod Install
+pub mod Nodes
+pub mod Tables
+pub mod Runs
+pub mod Graph
+pub mod OneState
+pub mod Fold
+pub mod Exact

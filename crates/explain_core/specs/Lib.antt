@@ -1,0 +1,6 @@
+pub mod History
+pub mod Explains
+pub mod World
+pub mod Sound
+pub mod Stable
+pub mod Exact

@@ -1,0 +1,5 @@
+//! The theory.
+#![tactic(auto)]
+
+mod steps;
+pub use steps::one;
