@@ -6,12 +6,12 @@ use Rattle.std.proofs.lemmas.List.{take_all, take-take}
 use Rattle.std.proofs.Math.ListN.{take-append-drop}
 use Rattle.std.proofs.lemmas.Bool.{cases_Bool, both_ways, eqb-true}
 use mathlib.Core.Path.{fun_ext}
-use Rattle.oper_core.specs.Meaning.{Meaning, IsLawful}
+use Rattle.oper_core.specs.Meaning.{Meaning, IsLawful, state_after}
 use Rattle.explain_core.specs.History.{Member, accesses_of, value_at, IsHistory, IsMember, numbered, writes_some, made_by, commands_of}
 use Rattle.explain_core.specs.History.Member.{Command, Identity}
 use Rattle.explain_core.specs.Explains.{Cell, Explains}
 use Rattle.explain_core.specs.World.{World, Table, step, run, replays, plan_of, start_of, end_of, set_by}
-use Rattle.explain_core.specs.World.Step.{Replay}
+use Rattle.explain_core.specs.World.Step.{Replay, Crash}
 use Rattle.explain_core.specs.Sound.{IsSound, SkipsNothing, and_below}
 use Rattle.explain_core.specs.Stable.{Stable, IsStableOf, world_of, stable_of}
 use Rattle.explain_core.proofs.Basics.{front-take}
@@ -35,6 +35,10 @@ sound-stands {O} m w s =
       tables = subst (λ (n : ℕ). AllByRecursion (SkipsNothing (accesses_of m (take w.forced w.history)) w.installed w.base (n + 1)) w.tables) (sym long)
           (all_fit-front (accesses_of m (take w.forced w.history)) (accesses_of m w.history) w.forced w.installed w.base (w.forced + 1) w.tables (front-take m w.history w.forced s.forced) s.tables);
     }
+
+-- a crash leaves the world that the stable parts make
+pub crash-world : {O : Type 0} (m : Meaning O) (w : World O) → IsSound m w → step m w Crash ≡ world_of m (stable_of w) (take w.forced w.history) w.installed
+crash-world {O} m w s = ap (λ (n : ℕ). record (step m w Crash) { forced = n }) (sym (length-take-le w.forced w.history s.forced))
 
 slice_get-drop : {X : Type 0} (n : ℕ) (xs : List X) (i : ℕ) → slice_get (drop n xs) i ≡ slice_get xs (n + i)
 slice_get-drop zero xs i = let e : 0 + i ≡ i = omega arith in rw e refl
@@ -119,9 +123,9 @@ stand-commands {O} m parts h i s =
     let e : length (commands_of (take d h ++ drop d h)) ≡ length (commands_of (take d h)) + length (commands_of (drop d h)) = ap length (commands_of-append (take d h) (drop d h)) ∙ length-append (commands_of (take d h)) (commands_of (drop d h)) in
     ap (λ (l : List (Member O)). length (commands_of l)) (sym (take-append-drop d h)) ∙ e ∙ ap (λ n. n + length (commands_of (drop d h))) (sym s.counted) ∙ ap (λ (l : List (Member O)). parts.commands_before + length (commands_of l)) s.records
 
--- stable parts stand for at most one length and one state
-pub one-state : {O : Type 0} (m : Meaning O) → IsLawful m → (parts : Stable O) (h k : List (Member O)) (i j : ℕ → Bool) → IsStableOf m parts h i → IsStableOf m parts k j → (length h ≡ length k) × ((x : ℕ) → value_at m h (length h) x ≡ value_at m k (length k) x)
-one-state {O} m law parts h k i j s t =
+-- stable parts are those of one state
+pub one-state : {O : Type 0} (m : Meaning O) → IsLawful m → (parts : Stable O) (h k : List (Member O)) (i j : ℕ → Bool) → IsStableOf m parts h i → IsStableOf m parts k j → (x : ℕ) → state_after m (commands_of h) x ≡ state_after m (commands_of k) x
+one-state {O} m law parts h k i j s t x =
     let w = world_of m parts h i in
     let z = world_of m parts k j in
     let plan = plan_of parts.tables parts.base in
@@ -134,5 +138,5 @@ one-state {O} m law parts h k i j s t =
     let caches : (run m w (replays n)).cache ≡ (run m z (replays n)).cache = run-caches m w n ∙ same-caches m (λ a. numbered h a) (λ a. numbered k a) plan w.next n w.cache members ∙ sym (run-caches m z n) in
     let left = (replayed_map m law w sound).2 in
     let right = (replayed_map m law z (standing_sound m law parts k j t)).2 in
-    (long, λ x. sym (left x) ∙ ap (λ (c : ℕ → Cell). (c x).value) caches ∙ ap (λ (q : ℕ). ((run m z (replays q)).cache x).value) same ∙ right x)
+    sym (left x) ∙ ap (λ (c : ℕ → Cell). (c x).value) caches ∙ ap (λ (q : ℕ). ((run m z (replays q)).cache x).value) same ∙ right x
 

@@ -1,17 +1,18 @@
 -- Every step, and so every run of steps, keeps a world sound.
-use Rattle.std.proofs.Common.{◌≡◌, sym, subst, ℕ, zero, suc, ◌+◌, ◌-◌, ◌<◌, ◌≤◌, Bool, List, [], ◌∷◌, length, refl, arith, inl}
+use Rattle.std.proofs.Common.{◌≡◌, ◌∙◌, sym, subst, ℕ, zero, suc, ◌+◌, ◌-◌, ◌<◌, ◌≤◌, Bool, List, [], ◌∷◌, length, refl, arith, inl}
 use Rattle.std.specs.Prelude.{IsFalse, ◌==◌}
 use Rattle.std.proofs.lemmas.Bool.{both_ways, eqb-true, eq-eqb, ne_eqb}
-use Rattle.oper_core.specs.Meaning.{Meaning, IsLawful}
-use Rattle.explain_core.specs.History.{Member, accesses_of, value_at}
+use Rattle.oper_core.specs.Meaning.{Meaning, IsLawful, state_after}
+use Rattle.explain_core.specs.History.{Member, accesses_of, value_at, commands_of}
 use Rattle.explain_core.specs.Explains.{Explains}
-use Rattle.explain_core.specs.World.{World, Step, step, run, IsAllowed, AreAllowed, IsLive, end_of, new_world, replays}
+use Rattle.explain_core.specs.World.{World, Step, step, run, IsAllowed, AreAllowed, IsLive, end_of, new_world, replays, redo_of}
 use Rattle.explain_core.specs.World.Step.{Append, Block_gate, Check, Slot_gate, Removal, Header_gate, Replay, Crash}
 use Rattle.explain_core.specs.Sound.{IsSound, and_below}
 use Rattle.explain_core.proofs.Crash.{crash_sound}
 use Rattle.explain_core.proofs.Gate.{gate_sound}
 use Rattle.explain_core.proofs.Append.{append_sound, live-map}
 use Rattle.explain_core.proofs.Set.{out-from}
+use Rattle.explain_core.proofs.Fold.{state_after-commands_of}
 use Rattle.explain_core.proofs.Replay.{replay_sound}
 use Rattle.explain_core.proofs.Nodes.{slot_sound, removal_sound}
 use Rattle.explain_core.proofs.Tables.{check_sound, header_sound}
@@ -30,10 +31,12 @@ pub run_sound : {O : Type 0} (m : Meaning O) → IsLawful m → (w : World O) (s
 run_sound m law w [] may s = s
 run_sound m law w (t ∷ steps) may s = run_sound m law (step m w t) steps may.1 (step_sound m law w t may.0 s)
 
--- in a live world the cache is the map
-pub sound-map : {O : Type 0} (m : Meaning O) (w : World O) → IsLive w → IsSound m w → (x : ℕ) → (w.cache x).value ≡ value_at m w.history (length w.history) x
-sound-map m w live s = live-map m w.history w.installed w.cache (λ k e. omega (arith, s.installed k e, s.forced))
-    (subst (λ (k : ℕ). Explains (accesses_of m w.history) (value_at m w.history) (and_below k w.installed) w.cache) (omega (arith, s.next.1)) s.cache)
+-- in a live world the cache is the state after the commands
+pub sound-map : {O : Type 0} (m : Meaning O) (w : World O) → IsLive w → IsSound m w → (x : ℕ) → (w.cache x).value ≡ state_after m (commands_of w.history) x
+sound-map m w live s x =
+    live-map m w.history w.installed w.cache (λ k e. omega (arith, s.installed k e, s.forced))
+    (subst (λ (k : ℕ). Explains (accesses_of m w.history) (value_at m w.history) (and_below k w.installed) w.cache) (omega (arith, s.next.1)) s.cache) x
+    ∙ sym (state_after-commands_of m w.history s.history x)
 
 nothing-written : {O : Type 0} (m : Meaning O) (n x : ℕ) → IsFalse ((accesses_of m []).writes n x)
 nothing-written m zero x = refl
@@ -80,11 +83,11 @@ replayed m law w (suc n) le s =
 
 -- a sound world replayed to its end is live, and its cache is the map
 pub replayed_map : {O : Type 0} (m : Meaning O) → IsLawful m → (w : World O) → IsSound m w →
-    AreAllowed m w (replays (end_of w - w.next)) × IsLive (run m w (replays (end_of w - w.next))) × ((x : ℕ) → ((run m w (replays (end_of w - w.next))).cache x).value ≡ value_at m w.history (length w.history) x)
+    AreAllowed m w (redo_of w) × IsLive (run m w (redo_of w)) × ((x : ℕ) → ((run m w (redo_of w)).cache x).value ≡ state_after m (commands_of w.history) x)
 replayed_map {O} m law w s =
     let n = end_of w - w.next in
     let r = replayed m law w n (omega (arith, s.next.1)) s in
     let z : World O = run m w (replays n) in
     let same : z.history ≡ w.history = r.1 in
     let live : length z.history < z.next = subst (λ (h : List (Member O)). length h < z.next) (sym same) (omega (arith, r.2, s.next.1)) in
-    (r.3, live, λ x. subst (λ (h : List (Member O)). (z.cache x).value ≡ value_at m h (length h) x) same (sound-map m z live r.0 x))
+    (r.3, live, λ x. subst (λ (h : List (Member O)). (z.cache x).value ≡ state_after m (commands_of h) x) same (sound-map m z live r.0 x))

@@ -4,3 +4,4 @@ pub mod World
 pub mod Sound
 pub mod Stable
 pub mod Exact
+pub mod ByteOps

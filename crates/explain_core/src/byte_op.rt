@@ -1,0 +1,111 @@
+ghost use Rattle.std.specs.Prelude.{◌≡◌, [], ◌∷◌, None, IfSome, IfNone};
+ghost use Rattle.explain_core.specs.ByteOps.{byte_meaning, byte_shape, byte_lawful};
+
+use oper_core::{Bounds, Memory, Objs, Oper, Refusal, Values};
+use std::alloc::Global;
+
+/// A small operation type, for worked runs: a write of one byte, and a swap of two objects.
+#[derive(Drop)]
+pub enum ByteOp {
+    Put { object: u8, byte: u8 },
+    Swap { left: u8, right: u8 },
+}
+
+impl Oper for ByteOp {
+    ghost meaning = { byte_meaning };
+
+    ghost lawful = { byte_lawful };
+
+    fn reads(&self) -> Objs {
+        match *self {
+            ByteOp::Put { .. } => Objs::new(),
+            ByteOp::Swap { left, right } => both(left, right),
+        }
+    }
+
+    fn writes(&self) -> Objs {
+        match *self {
+            ByteOp::Put { object, .. } => Objs::one(u32::from(object)),
+            ByteOp::Swap { left, right } => both(left, right),
+        }
+    }
+
+    fn shape(&self, b: Bounds) -> Result<(), Refusal> {
+        match *self {
+            ByteOp::Put { object, .. } => {
+                if u32::from(object) >= b.objects {
+                    return Err(Refusal::NoObject);
+                }
+                if b.cap == 0 {
+                    return Err(Refusal::TooLarge);
+                }
+                Ok(())
+            }
+            ByteOp::Swap { left, right } => {
+                if u32::from(left) >= b.objects || u32::from(right) >= b.objects {
+                    return Err(Refusal::NoObject);
+                }
+                if left == right {
+                    return Err(Refusal::Same);
+                }
+                Ok(())
+            }
+        }
+    }
+
+    fn check(&self, _b: Bounds, _values: &Values) -> Result<(), Refusal> {
+        Ok(())
+    }
+
+    fn apply(&self, alloc: Global, _b: Bounds, values: &Values) -> Result<Values, Memory> {
+        let mut made = Values::new(alloc);
+        match *self {
+            ByteOp::Put { byte, .. } => made.push(&[byte])?,
+            ByteOp::Swap { .. } => {
+                made.push(values.get(1))?;
+                made.push(values.get(0))?;
+            }
+        }
+        Ok(made)
+    }
+
+    fn encode(&self, out: &mut Vec<u8>) -> Result<(), Memory> {
+        let code = match *self {
+            ByteOp::Put { object, byte } => [0, object, byte],
+            ByteOp::Swap { left, right } => [1, left, right],
+        };
+        out.extend_from_slice(&code)?;
+        Ok(())
+    }
+
+    fn decode(_alloc: Global, b: Bounds, bytes: &[u8]) -> Result<Option<(Self, usize)>, Memory> {
+        let found = match *bytes {
+            [0, object, byte, ..] => ByteOp::Put { object, byte }.in_grammar(b),
+            [1, left, right, ..] => ByteOp::Swap { left, right }.in_grammar(b),
+            _ => None,
+        };
+        Ok(found)
+    }
+}
+
+impl ByteOp {
+    /// The operation and the length of its code, where it is in the grammar.
+    fn in_grammar(self, b: Bounds) -> Option<(Self, usize)>
+        ensures some { IfSome result (λ pair. (pair.0 ≡ self) × (pair.1 ≡ 3) × (byte_shape b self ≡ None)) }
+        ensures none { IfNone result (byte_shape b self ≡ None → ⊥) }
+    {
+        match self.shape(b) {
+            Ok(()) => Some((self, 3)),
+            Err(_) => None,
+        }
+    }
+}
+
+/// Two objects.
+fn both(left: u8, right: u8) -> Objs
+    ensures { result ≡ left ∷ right ∷ [] }
+{
+    let mut objects = Objs::one(u32::from(left));
+    objects.push(u32::from(right));
+    objects
+}
