@@ -14,3 +14,4 @@ pub mod Graph
 pub mod OneState
 pub mod Fold
 pub mod Exact
+pub mod ByteCodes

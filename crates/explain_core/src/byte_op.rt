@@ -1,5 +1,6 @@
 ghost use Rattle.std.specs.Prelude.{◌≡◌, [], ◌∷◌, None, IfSome, IfNone};
-ghost use Rattle.explain_core.specs.ByteOps.{byte_meaning, byte_shape, byte_lawful};
+ghost use Rattle.explain_core.specs.declared.byte_op.ByteOp.{ByteOp};
+ghost use Rattle.explain_core.specs.ByteOps.{byte_meaning, byte_code, byte_shape, byte_lawful};
 
 use oper_core::{Bounds, Memory, Objs, Oper, Refusal, Values};
 use std::alloc::Global;
@@ -79,16 +80,35 @@ impl Oper for ByteOp {
     }
 
     fn decode(_alloc: Global, b: Bounds, bytes: &[u8]) -> Result<Option<(Self, usize)>, Memory> {
-        let found = match *bytes {
-            [0, object, byte, ..] => ByteOp::Put { object, byte }.in_grammar(b),
-            [1, left, right, ..] => ByteOp::Swap { left, right }.in_grammar(b),
-            _ => None,
+        let [tag, first, second, ..] = *bytes else {
+            return Ok(None);
         };
-        Ok(found)
+        match ByteOp::of_bytes(tag, first, second) {
+            Some(op) => Ok(op.in_grammar(b)),
+            None => Ok(None),
+        }
     }
 }
 
 impl ByteOp {
+    /// The operation whose code these bytes are.
+    fn of_bytes(tag: u8, first: u8, second: u8) -> Option<Self>
+        ensures some { IfSome result (λ op. byte_code op ≡ tag ∷ first ∷ second ∷ []) }
+        ensures none { IfNone result ((op : ByteOp) → byte_code op ≡ tag ∷ first ∷ second ∷ [] → ⊥) }
+    {
+        match tag {
+            0 => Some(ByteOp::Put {
+                object: first,
+                byte: second,
+            }),
+            1 => Some(ByteOp::Swap {
+                left: first,
+                right: second,
+            }),
+            _ => None,
+        }
+    }
+
     /// The operation and the length of its code, where it is in the grammar.
     fn in_grammar(self, b: Bounds) -> Option<(Self, usize)>
         ensures some { IfSome result (λ pair. (pair.0 ≡ self) × (pair.1 ≡ 3) × (byte_shape b self ≡ None)) }
