@@ -1,28 +1,15 @@
 -- The tests say what the definitions say.
-use Rattle.std.proofs.Common.{◌≡◌, sym, subst, ℕ, ◌<◌, ◌≤◌, Bool, not, List, [], ◌∷◌, refl, arith, inl, inr}
+use Rattle.std.proofs.Common.{◌≡◌, sym, subst, ℕ, ◌<◌, ◌≤◌, Bool, not, List, refl, arith, inl, inr}
 use Rattle.std.specs.Prelude.{IsTrue, IsFalse, ◌||◌, ◌&&◌, ◌==◌, nat_lt, nat_le, ◌↔◌}
 use Rattle.std.specs.List.{list_any, list_all}
 use Rattle.std.proofs.lemmas.Bool.{cases_lt, cases_Bool, both_ways, or_left, or_right, or_cases, or_from, false_from_ne_true, and_parts, and_from, eqb-true, eq-eqb, lt-ltb, ltb-true, le-leb, leb-true, not-true, not_from_false}
+use Rattle.install_order.specs.ListLaws.{any-gives, all-from, in-from}
 use Rattle.install_order.specs.declared.entry.Entry.{Entry}
 use Rattle.install_order.specs.Order.{Edge, IsExposed, IsClosed}
 use Rattle.install_order.specs.Order.Edge.{Read_write, Write_write, Lost_version}
 use Rattle.oper_core.specs.State.{is_among}
-use Rattle.install_order.specs.Entries.{reads_at, writes_at, accesses}
+use Rattle.install_order.specs.Entries.{reads_at, writes_at, accesses, set_of}
 use Rattle.install_order.specs.Tests.{is_edge_at, is_edge, is_read_by, is_untouched, is_exposed, is_closed}
-
--- an element that passes: each other test that it passes is passed by some element, and a test that all pass is passed by it
-pub any-gives : {X : Type 0} (t : X → Bool) (xs : List X) → IsTrue (list_any t xs) → (x : X) × IsTrue (t x) × ((u : X → Bool) → IsTrue (u x) → IsTrue (list_any u xs)) × ((u : X → Bool) → IsTrue (list_all u xs) → IsTrue (u x))
-any-gives t [] e = absurd (both_ways _ refl e)
-any-gives t (x ∷ xs) e = elim (or_cases (t x) (list_any t xs) e) [
-  | inl here ↦ (x, here, (λ u p. or_left (u x) (list_any u xs) p), (λ u p. (and_parts (u x) (list_all u xs) p).0))
-  | inr later ↦ let r = any-gives t xs later in
-      (r.0, r.1, (λ u p. or_right (u x) (list_any u xs) (r.2 u p)), (λ u p. r.3 u (and_parts (u x) (list_all u xs) p).1))
-]
-
--- all pass where each that passes by itself does
-all-from : {X : Type 0} (t : X → Bool) (xs : List X) → ((x : X) → ((u : X → Bool) → IsTrue (u x) → IsTrue (list_any u xs)) → IsTrue (t x)) → IsTrue (list_all t xs)
-all-from t [] each = refl
-all-from t (x ∷ xs) each = and_from (t x) (list_all t xs) (each x (λ u p. or_left (u x) (list_any u xs) p)) (all-from t xs (λ y there. each y (λ u p. or_right (u x) (list_any u xs) (there u p))))
 
 -- an entry of the number n that writes x
 writes-from : (entries : List Entry) (n x : ℕ) (e : Entry) → ((u : Entry → Bool) → IsTrue (u e) → IsTrue (list_any u entries)) → e.lsn ≡ n → IsTrue (is_among x e.writes) → IsTrue (writes_at entries n x)
@@ -30,10 +17,6 @@ writes-from entries n x e there q w = there (λ e. (e.lsn == n) && is_among x e.
 
 reads-from : (entries : List Entry) (n x : ℕ) (e : Entry) → ((u : Entry → Bool) → IsTrue (u e) → IsTrue (list_any u entries)) → e.lsn ≡ n → IsTrue (is_among x e.reads) → IsTrue (reads_at entries n x)
 reads-from entries n x e there q w = there (λ e. (e.lsn == n) && is_among x e.reads) (and_from _ _ (eq-eqb e.lsn n q) w)
-
--- in a list of objects
-in-from : (y : ℕ) (ys : List ℕ) → ((u : ℕ → Bool) → IsTrue (u y) → IsTrue (list_any u ys)) → IsTrue (is_among y ys)
-in-from y ys there = there (λ z. y == z) (eq-eqb y y refl)
 
 edge_at-gives : (entries : List Entry) (a b x : ℕ) → IsTrue (writes_at entries b x) → IsTrue (is_edge_at entries a b x) → Edge (accesses entries) a b
 edge_at-gives entries a b x w e = elim (or_cases _ _ e) [
@@ -89,7 +72,7 @@ edge-from entries a b (Lost_version x later lt w none r le wl) =
 pub edge_iff : (entries : List Entry) (a b : ℕ) → IsTrue (is_edge entries a b) ↔ Edge (accesses entries) a b
 edge_iff entries a b = (edge-gives entries a b, edge-from entries a b)
 
-pub exposed_iff : (entries : List Entry) (installed : List ℕ) (x : ℕ) → IsTrue (is_exposed x installed entries) ↔ IsExposed (accesses entries) (λ n. is_among n installed) x
+pub exposed_iff : (entries : List Entry) (installed : List ℕ) (x : ℕ) → IsTrue (is_exposed x installed entries) ↔ IsExposed (accesses entries) (set_of installed) x
 exposed_iff entries installed x = (
   (λ e p out w.
       let m = any-gives (λ e. (e.lsn == p) && is_among x e.writes) entries w in
@@ -123,7 +106,7 @@ exposed_iff entries installed x = (
       ])),
 )
 
-pub closed_iff : (entries : List Entry) (installed : List ℕ) → IsTrue (is_closed installed entries) ↔ IsClosed (accesses entries) (λ n. is_among n installed)
+pub closed_iff : (entries : List Entry) (installed : List ℕ) → IsTrue (is_closed installed entries) ↔ IsClosed (accesses entries) (set_of installed)
 closed_iff entries installed =
     let test : Entry → Entry → Bool = λ o p. not (is_among p.lsn installed) || (nat_le p.lsn o.lsn || list_all (λ x. not (is_among x o.reads || is_among x o.writes)) p.writes) in
     let row : Entry → Bool = λ o. is_among o.lsn installed || list_all (λ p. test o p) entries in

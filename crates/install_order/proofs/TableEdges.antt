@@ -1,8 +1,8 @@
 -- The edges of a table are right where a test of them passes.
-use Rattle.std.proofs.Common.{◌≡◌, sym, subst, ℕ, zero, suc, ◌<◌, Bool, true, false, not, List, [], ◌∷◌, ◌++◌, refl, arith, inl, inr}
-use Rattle.std.specs.Prelude.{IsTrue, IsFalse, ◌⊎◌, ◌||◌, ◌&&◌, ◌==◌, ◌↔◌, nat_lt, length, if◌then◌else◌}
-use Rattle.std.specs.List.{list_any, list_all}
-use Rattle.std.proofs.lemmas.Bool.{cases_eq, cases_Bool, both_ways, or_left, or_right, or_cases, false_from_ne_true, and_parts, and_from, eqb-true, eq-eqb, ltb-true, not-true, not_from_false}
+use Rattle.std.proofs.Common.{◌≡◌, subst, ℕ, ◌<◌, Bool, not, List}
+use Rattle.std.specs.Prelude.{IsTrue, ◌||◌, ◌&&◌, ◌==◌, ◌↔◌, nat_lt}
+use Rattle.std.specs.List.{list_all}
+use Rattle.std.proofs.lemmas.Bool.{and_parts, eqb-true, ltb-true}
 use Rattle.oper_core.specs.State.{is_among}
 use Rattle.install_order.specs.declared.entry.Entry.{Entry}
 use Rattle.install_order.specs.Order.{Access, within, Edge}
@@ -10,31 +10,7 @@ use Rattle.install_order.specs.Entries.{accesses}
 use Rattle.install_order.specs.Computed.{IsWithin, edge_test}
 use Rattle.install_order.specs.NodeLaws.{test-gives, test-from, edge-start, edge-end}
 use Rattle.install_order.specs.Tables.{Arrow, is_listed}
-use Rattle.install_order.proofs.Decided.{any-gives}
-
--- all numbers below n pass
-abbrev pub all_below : ℕ → (ℕ → Bool) → Bool
-all_below zero p = true
-all_below (suc n) p = p n && all_below n p
-
-pub all_below-gives : (n : ℕ) (p : ℕ → Bool) (k : ℕ) → IsTrue (all_below n p) → k < n → IsTrue (p k)
-all_below-gives zero p k e lt = absurd (omega arith)
-all_below-gives (suc n) p k e lt =
-    let u = and_parts (p n) (all_below n p) e in
-    elim (cases_eq k n) [
-      | inl q ↦ subst (λ (j : ℕ). IsTrue (p j)) (sym q) u.0
-      | inr ne ↦ all_below-gives n p k u.1 (omega arith)
-    ]
-
--- what all of a list pass, each of it passes
-pub all-gives : (t : ℕ → Bool) (xs : List ℕ) (x : ℕ) → IsTrue (list_all t xs) → IsTrue (is_among x xs) → IsTrue (t x)
-all-gives t xs x each there =
-    let m = any-gives (λ y. x == y) xs there in
-    subst (λ (y : ℕ). IsTrue (t y)) (sym (eqb-true x m.0 m.1)) (m.3 t each)
-
--- the second of two facts, of which the first is false where its test is true
-pub second : (b c : Bool) → IsTrue (not b || c) → IsTrue b → IsTrue c
-second b c e there = elim (or_cases (not b) c e) [ inl none ↦ absurd (both_ways _ (not-true b none) there) | inr d ↦ d ]
+use Rattle.install_order.specs.ListLaws.{any-gives, all-gives, all_below, all_below-gives, second}
 
 -- the entries' numbers and objects are below these
 abbrev pub is_within : List Entry → ℕ → ℕ → Bool

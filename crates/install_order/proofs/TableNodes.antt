@@ -1,44 +1,20 @@
 -- The nodes of a table are right where a test of them passes.
-use Rattle.std.proofs.Common.{◌≡◌, ◌∙◌, sym, subst, ℕ, zero, suc, ◌<◌, Bool, true, false, not, List, [], ◌∷◌, ◌++◌, refl, arith, inl, inr}
-use Rattle.std.specs.Prelude.{IsTrue, IsFalse, ◌||◌, ◌&&◌, ◌==◌, ◌↔◌, length}
-use Rattle.std.specs.List.{list_any, list_all}
+use Rattle.std.proofs.Common.{◌≡◌, ◌∙◌, sym, subst, ℕ, Bool, not, List, [], ◌∷◌, ◌++◌, inl, inr}
+use Rattle.std.specs.Prelude.{IsTrue, ◌||◌, ◌&&◌, ◌==◌, ◌↔◌}
+use Rattle.std.specs.List.{list_all}
 use Rattle.std.proofs.lemmas.List.Folds.{list_any-append}
-use Rattle.std.proofs.lemmas.Bool.{both_ways, or_cases, or_left, or_right, and_parts, and_from, eqb-true, eq-eqb, not-true, not_from_false}
+use Rattle.std.proofs.lemmas.Bool.{both_ways, or_cases, or_left, or_right, and_parts, eqb-true, not-true}
 use Rattle.oper_core.specs.State.{is_among}
 use Rattle.install_order.specs.declared.entry.Entry.{Entry}
-use Rattle.install_order.specs.Order.{Access, within, Edge, Reaches, IsNode, NoEdgeInto, flush_set_of}
+use Rattle.install_order.specs.Order.{Access, within, Edge, Reaches, IsNode, flush_set_of}
 use Rattle.install_order.specs.Order.Reaches.{Here, Then}
-use Rattle.install_order.specs.Entries.{accesses}
-use Rattle.install_order.specs.Computed.{IsWithin, edge_test, is_flushed}
-use Rattle.install_order.specs.NodeLaws.{test-from, edge-start, walk-on, flushed-iff}
-use Rattle.install_order.specs.Tables.{Arrow, Row, is_listed, set_of, AreNodes, IsTable}
-use Rattle.install_order.proofs.Decided.{any-gives}
-use Rattle.install_order.proofs.TableEdges.{all_below, all_below-gives, all-gives, second, is_within, within-gives, within-left, are_edges, are_edges-gives}
-
--- one reaches n in at most so many steps over members
-abbrev reached : (ℕ → ℕ → Bool) → List ℕ → ℕ → ℕ → ℕ → Bool
-reached e members one zero n = one == n
-reached e members one (suc k) n = reached e members one k n || list_any (λ m. reached e members one k m && e m n) members
-
-reached-ahead : (a : Access) (e : ℕ → ℕ → Bool) → ((o p : ℕ) → IsTrue (e o p) → Edge a o p) → (members : List ℕ) (one k n : ℕ) → IsTrue (reached e members one k n) → Reaches a one n
-reached-ahead a e edge members one zero n there = subst (λ (j : ℕ). Reaches a one j) (eqb-true one n there) Here
-reached-ahead a e edge members one (suc k) n there = elim (or_cases (reached e members one k n) _ there) [
-  | inl old ↦ reached-ahead a e edge members one k n old
-  | inr new ↦
-      let m = any-gives (λ m. reached e members one k m && e m n) members new in
-      let u = and_parts (reached e members one k m.0) _ m.1 in
-      Then m.0 n (reached-ahead a e edge members one k m.0 u.0) (edge m.0 n u.1)
-]
-
-reached-back : (a : Access) (e : ℕ → ℕ → Bool) → ((o p : ℕ) → IsTrue (e o p) → Edge a p o) → (members : List ℕ) (one k n : ℕ) → IsTrue (reached e members one k n) → Reaches a n one
-reached-back a e edge members one zero n there = subst (λ (j : ℕ). Reaches a j one) (eqb-true one n there) Here
-reached-back a e edge members one (suc k) n there = elim (or_cases (reached e members one k n) _ there) [
-  | inl old ↦ reached-back a e edge members one k n old
-  | inr new ↦
-      let m = any-gives (λ m. reached e members one k m && e m n) members new in
-      let u = and_parts (reached e members one k m.0) _ m.1 in
-      walk-on a n m.0 one (Then n m.0 Here (edge m.0 n u.1)) (reached-back a e edge members one k m.0 u.0)
-]
+use Rattle.install_order.specs.Entries.{accesses, set_of}
+use Rattle.install_order.specs.Computed.{IsWithin, is_flushed}
+use Rattle.install_order.specs.NodeLaws.{flushed-iff}
+use Rattle.install_order.specs.Tables.{Arrow, Row, is_listed, AreNodes, IsTable}
+use Rattle.install_order.specs.ListLaws.{any-gives, all-gives, all_below, all_below-gives, second}
+use Rattle.install_order.specs.Checks.{first, are_joined, are_joined-gives, is_free, is_free-gives}
+use Rattle.install_order.proofs.TableEdges.{is_within, within-gives, within-left, are_edges, are_edges-gives}
 
 -- a list that has the end of each edge that begins in it, and the beginning of each that ends in it
 abbrev holds_ends : List Arrow → List ℕ → Bool
@@ -65,33 +41,26 @@ comes-from a arrows back listed e o p there (Then m q walk edge) =
     let held = second (is_among g.0.to back) (is_among g.0.from back) (g.3 (λ g. not (is_among g.to back) || is_among g.from back) e) (subst (λ (j : ℕ). IsTrue (is_among j back)) to there) in
     comes-from a arrows back listed e o m (subst (λ (j : ℕ). IsTrue (is_among j back)) (eqb-true g.0.from m u.0) held) walk
 
-abbrev first : List ℕ → ℕ
-first [] = 0
-first (x ∷ xs) = x
-
 -- the members are one node, where the earlier and the later ones are all others
 abbrev is_node : List Arrow → List ℕ → List ℕ → List ℕ → Bool
 is_node arrows earlier members later =
-    is_among (first members) members
-    && (list_all (λ n. reached (is_listed arrows) members (first members) (length members) n && reached (λ m n. is_listed arrows n m) members (first members) (length members) n) members
+    are_joined (is_listed arrows) members
     && (holds_ends arrows (members ++ later)
     && (holds_starts arrows (earlier ++ members)
-    && list_all (λ n. not (is_among n earlier)) later)))
+    && list_all (λ n. not (is_among n earlier)) later))
 
 is_node-gives : (a : Access) (arrows : List Arrow) (earlier members later : List ℕ) → ((o p : ℕ) → IsTrue (is_listed arrows o p) ↔ Edge a o p) → IsTrue (is_node arrows earlier members later) → IsNode a (set_of members)
 is_node-gives a arrows earlier members later iff e =
     let one = first members in
-    let u = and_parts (is_among one members) _ e in
-    let v = and_parts _ _ u.1 in
-    let w = and_parts (holds_ends arrows (members ++ later)) _ v.1 in
+    let u = and_parts (are_joined (is_listed arrows) members) _ e in
+    let joined = are_joined-gives a (is_listed arrows) members (λ o p. (iff o p).0) u.0 in
+    let w = and_parts (holds_ends arrows (members ++ later)) _ u.1 in
     let x = and_parts (holds_starts arrows (earlier ++ members)) _ w.1 in
-    let front : IsTrue (is_among one (members ++ later)) = list_any-append (λ y. one == y) members later ∙ or_left _ _ u.0 in
-    let back : IsTrue (is_among one (earlier ++ members)) = list_any-append (λ y. one == y) earlier members ∙ or_right _ _ u.0 in (
+    let front : IsTrue (is_among one (members ++ later)) = list_any-append (λ y. one == y) members later ∙ or_left _ _ joined.0 in
+    let back : IsTrue (is_among one (earlier ++ members)) = list_any-append (λ y. one == y) earlier members ∙ or_right _ _ joined.0 in (
       one,
-      u.0,
-      (λ n there.
-          let r = and_parts _ _ (all-gives (λ n. reached (is_listed arrows) members one (length members) n && reached (λ m n. is_listed arrows n m) members one (length members) n) members n v.0 there) in
-          (reached-ahead a (is_listed arrows) (λ o p. (iff o p).0) members one (length members) n r.0, reached-back a (λ m n. is_listed arrows n m) (λ o p. (iff p o).0) members one (length members) n r.1)),
+      joined.0,
+      joined.1,
       (λ n to from.
           let in_front = sym (list_any-append (λ y. n == y) members later) ∙ stays-in a arrows (members ++ later) (λ o p. (iff o p).1) w.0 one n front to in
           let in_back = sym (list_any-append (λ y. n == y) earlier members) ∙ comes-from a arrows (earlier ++ members) (λ o p. (iff o p).1) x.0 n one back from in
@@ -103,21 +72,6 @@ is_node-gives a arrows earlier members later iff e =
             ]
           ]),
     )
-
--- no edge over those that are left leads into the members
-abbrev is_free : Access → ℕ → ℕ → List ℕ → List ℕ → Bool
-is_free a objects end earlier members =
-    list_all (λ p. all_below end (λ o. is_among o members || not (edge_test (within (λ n. not (is_among n earlier)) a) objects end o p))) members
-
-is_free-gives : (a : Access) (objects end : ℕ) (earlier members : List ℕ) → IsWithin a objects end → IsTrue (is_free a objects end earlier members) → NoEdgeInto (within (λ n. not (is_among n earlier)) a) (set_of members)
-is_free-gives a objects end earlier members is e o p out there edge =
-    let left = within (λ n. not (is_among n earlier)) a in
-    let is_left = within-left (λ n. not (is_among n earlier)) a objects end is in
-    let row = all-gives (λ p. all_below end (λ o. is_among o members || not (edge_test left objects end o p))) members p e there in
-    elim (or_cases (is_among o members) _ (all_below-gives end (λ o. is_among o members || not (edge_test left objects end o p)) o row (edge-start left objects end o p is_left edge))) [
-      | inl held ↦ both_ways _ out held
-      | inr none ↦ both_ways _ (not-true _ none) (test-from left objects end o p is_left edge)
-    ]
 
 -- the objects are the flush set
 abbrev is_flush_set : Access → ℕ → ℕ → Row → Bool
@@ -142,7 +96,7 @@ abbrev are_nodes : Access → ℕ → ℕ → List Arrow → List ℕ → List R
 are_nodes a objects end arrows earlier [] = all_below end (λ n. all_below objects (λ x. not (a.writes n x) || is_among n earlier))
 are_nodes a objects end arrows earlier (row ∷ rows) =
     is_node arrows earlier row.members (members_of rows)
-    && (is_free a objects end earlier row.members
+    && (is_free (within (λ n. not (is_among n earlier)) a) objects end row.members
     && (is_flush_set a objects end row
     && are_nodes a objects end arrows (earlier ++ row.members) rows))
 
@@ -151,10 +105,10 @@ are_nodes-gives a objects end arrows is iff earlier [] e = λ n x w.
     second (a.writes n x) (is_among n earlier) (all_below-gives objects (λ x. not (a.writes n x) || is_among n earlier) x (all_below-gives end (λ n. all_below objects (λ x. not (a.writes n x) || is_among n earlier)) n e (is.writes_number n x w)) (is.writes_object n x w)) w
 are_nodes-gives a objects end arrows is iff earlier (row ∷ rows) e =
     let u = and_parts (is_node arrows earlier row.members (members_of rows)) _ e in
-    let v = and_parts (is_free a objects end earlier row.members) _ u.1 in
+    let v = and_parts (is_free (within (λ n. not (is_among n earlier)) a) objects end row.members) _ u.1 in
     let w = and_parts (is_flush_set a objects end row) _ v.1 in (
       is_node-gives a arrows earlier row.members (members_of rows) iff u.0,
-      is_free-gives a objects end earlier row.members is v.0,
+      is_free-gives (within (λ n. not (is_among n earlier)) a) objects end row.members (within-left (λ n. not (is_among n earlier)) a objects end is) v.0,
       is_flush_set-gives a objects end row is w.0,
       are_nodes-gives a objects end arrows is iff (earlier ++ row.members) rows w.1,
     )

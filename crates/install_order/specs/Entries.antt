@@ -16,3 +16,7 @@ writes_at entries n x = list_any (λ e. (e.lsn == n) && is_among x e.writes) ent
 -- which of the entries reads and which writes which object
 abbrev pub accesses : List Entry → Access
 accesses entries = record { reads = reads_at entries; writes = writes_at entries }
+
+-- the listed numbers as a set
+abbrev pub set_of : List ℕ → ℕ → Bool
+set_of numbers n = is_among n numbers

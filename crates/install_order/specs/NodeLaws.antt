@@ -1,9 +1,9 @@
 -- Edges, nodes, names and flush sets are computed as they are defined, and one of the nodes is minimal.
 use Rattle.std.proofs.Common.{◌≡◌, ◌∙◌, sym, subst, ℕ, zero, suc, ◌<◌, Bool, not, refl, arith, inl, inr}
-use Rattle.std.specs.Prelude.{IsTrue, ◌||◌, ◌&&◌, ◌==◌, ◌≤◌, ◌↔◌, nat_lt, nat_le, if◌then◌else◌}
+use Rattle.std.specs.Prelude.{IsTrue, IsFalse, ◌||◌, ◌&&◌, ◌==◌, ◌≤◌, ◌↔◌, nat_lt, nat_le, if◌then◌else◌}
 use Rattle.std.proofs.lemmas.Bool.{cases_lt, cases_eq, cases_Bool, le-ltb, both_ways, or_left, or_right, or_cases, false_from_ne_true, and_parts, and_from, eqb-true, eq-eqb, lt-ltb, ltb-true, le-leb, leb-true, not-true, not_from_false, cond-true, cond-false}
 use mathlib.Core.Path.{fun_ext}
-use Rattle.install_order.specs.Order.{Access, Edge, Reaches, IsNode, IsName, IsMinimal, flush_set_of}
+use Rattle.install_order.specs.Order.{Access, Edge, Reaches, IsNode, IsName, NoEdgeInto, IsMinimal, flush_set_of}
 use Rattle.install_order.specs.Order.Edge.{Read_write, Write_write, Lost_version}
 use Rattle.install_order.specs.Order.Reaches.{Here, Then}
 use Rattle.install_order.specs.Computed.{some_below, edge_over, edge_test, reach, node_of, least_below, is_flushed, IsWithin}
@@ -105,6 +105,11 @@ reach-join e (suc k) o m p lt f g =
 pub walk-on : (a : Access) (o m n : ℕ) → Reaches a o m → Reaches a m n → Reaches a o n
 walk-on a o m n walk Here = walk
 walk-on a o m n walk (Then k p more edge) = Then k p (walk-on a o m k walk more) edge
+
+-- from outside a set with no edge into it no walk leads into it
+pub walk-in : (a : Access) (set : ℕ → Bool) (o n : ℕ) → NoEdgeInto a set → IsFalse (set o) → Reaches a o n → IsFalse (set n)
+walk-in a set o n none off Here = off
+walk-in a set o n none off (Then mid p walk edge) = false_from_ne_true _ (λ there. none mid p (walk-in a set o mid none off walk) there edge)
 
 pub reach-gives : (a : Access) (e : ℕ → ℕ → Bool) → ((o p : ℕ) → IsTrue (e o p) → Edge a o p) → (k o p : ℕ) → IsTrue (reach e k o p) → Reaches a o p
 reach-gives a e each zero o p h = elim (or_cases (o == p) (e o p) h) [

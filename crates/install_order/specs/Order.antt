@@ -1,5 +1,5 @@
 -- The installation order: which numbered operations have to be installed before which.
-use Rattle.std.specs.Prelude.{◌≡◌, ℕ, ◌<◌, ◌≤◌, Bool, ◌&&◌, ◌⊎◌, IsTrue, IsFalse}
+use Rattle.std.specs.Prelude.{◌≡◌, ℕ, ◌<◌, ◌≤◌, Bool, ◌&&◌, IsTrue, IsFalse}
 
 -- which numbered operation reads and which writes which object
 pub record Access : Type 0 where

@@ -4,7 +4,7 @@ use Rattle.std.specs.List.{list_any}
 use Rattle.oper_core.specs.State.{is_among}
 use Rattle.install_order.specs.declared.entry.Entry.{Entry}
 use Rattle.install_order.specs.Order.{Access, within, Edge, IsNode, NoEdgeInto, flush_set_of}
-use Rattle.install_order.specs.Entries.{accesses}
+use Rattle.install_order.specs.Entries.{accesses, set_of}
 
 -- an edge of a table
 pub record Arrow : Type 0 where
@@ -20,16 +20,12 @@ pub record Row : Type 0 where
 abbrev pub is_listed : List Arrow → ℕ → ℕ → Bool
 is_listed arrows o p = list_any (λ e. (e.from == o) && (e.to == p)) arrows
 
--- the numbers as a set
-abbrev pub set_of : List ℕ → ℕ → Bool
-set_of numbers n = is_among n numbers
-
 -- the rows are nodes with their flush sets, each of them minimal once the earlier ones are gone; nobody else writes
 abbrev pub AreNodes : Access → List ℕ → List Row → Type 0
 AreNodes a earlier [] = (n x : ℕ) → IsTrue (a.writes n x) → IsTrue (is_among n earlier)
 AreNodes a earlier (row ∷ rows) =
     IsNode a (set_of row.members)
-    × NoEdgeInto (within (λ n. not (is_among n earlier)) a) (set_of row.members)
+    × NoEdgeInto (within (λ n. not (set_of earlier n)) a) (set_of row.members)
     × ((x : ℕ) → IsTrue (is_among x row.flush_set) ↔ flush_set_of a (set_of row.members) x)
     × AreNodes a (earlier ++ row.members) rows
 

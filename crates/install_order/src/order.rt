@@ -1,7 +1,7 @@
 ghost use Rattle.std.specs.Prelude.{◌≡◌, ℕ, ◌↔◌, IsTrue};
 ghost use Rattle.oper_core.specs.State.{is_among};
 ghost use Rattle.install_order.specs.Order.{Edge, IsExposed, IsClosed};
-ghost use Rattle.install_order.specs.Entries.{reads_at, writes_at, accesses};
+ghost use Rattle.install_order.specs.Entries.{reads_at, writes_at, accesses, set_of};
 ghost use Rattle.install_order.specs.Tests.{is_written_between, is_written_from, is_edge_at, is_edge_over, is_edge, is_read_by, is_untouched, is_in_order, is_exposed, is_closed};
 
 use crate::Entry;
@@ -15,14 +15,14 @@ pub fn edge(a: u64, b: u64, entries: &[Entry]) -> bool
 
 /// Whether no entry outside the installed ones accesses the object, or the first that does reads it.
 pub fn exposed(x: u32, installed: &[u64], entries: &[Entry]) -> bool
-    ensures { IsTrue result ↔ IsExposed (accesses entries.now) (λ n. is_among n installed.now) x }
+    ensures { IsTrue result ↔ IsExposed (accesses entries.now) (set_of installed.now) x }
 {
     is_exposed(x, installed, entries)
 }
 
 /// Whether no entry outside the installed ones accesses an object that a later installed one writes.
 pub fn closed(installed: &[u64], entries: &[Entry]) -> bool
-    ensures { IsTrue result ↔ IsClosed (accesses entries.now) (λ n. is_among n installed.now) }
+    ensures { IsTrue result ↔ IsClosed (accesses entries.now) (set_of installed.now) }
 {
     is_closed(installed, entries)
 }
