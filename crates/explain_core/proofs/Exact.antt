@@ -4,7 +4,7 @@ use Rattle.std.specs.Prelude.{IsTrue, IsFalse, ◌⊎◌, ◌||◌, ◌≢◌, n
 use Rattle.std.proofs.lemmas.Bool.{cases_lt, cases_eq, cases_Bool, cases_order, both_ways, or_left, or_parts, or_from, false_from_ne_true, and_parts, and_from, not-true, not_from_false, le-leb, leb-true, cond-true, cond-false}
 use Rattle.install_order.specs.Order.{Access, within, IsExposed, NoEdgeInto, IsNode, Reaches}
 use Rattle.install_order.specs.Order.Edge.{Read_write, Write_write, Lost_version}
-use Rattle.install_order.specs.Order.Reaches.{Here, Then}
+use Rattle.install_order.specs.NodeLaws.{walk-on, walk-in}
 use Rattle.oper_core.specs.Meaning.{Meaning}
 use Rattle.explain_core.specs.History.{Member, accesses_of, value_at}
 use Rattle.explain_core.specs.Explains.{Cell, Explains}
@@ -168,19 +168,9 @@ can-gives {O} m h i j s first e part can o p off jp edge =
           ]
     ]
 
--- a walk from outside the part to a member of it has an edge into it
-walk-in : (a : Access) (part : ℕ → Bool) (o n : ℕ) → NoEdgeInto a part → IsFalse (part o) → Reaches a o n → IsFalse (part n)
-walk-in a part o n none off Here = off
-walk-in a part o n none off (Then mid p walk edge) =
-    false_from_ne_true _ (λ there. none mid p (walk-in a part o mid none off walk) there edge)
-
-reaches-on : (a : Access) (o m n : ℕ) → Reaches a o m → Reaches a m n → Reaches a o n
-reaches-on a o m n walk Here = walk
-reaches-on a o m n walk (Then k p more edge) = Then k p (reaches-on a o m k walk more) edge
-
 -- no proper part of a node, but the empty one, is without an edge into it
 pub node-whole : (a : Access) (node part : ℕ → Bool) → IsNode a node → IsPartOf part node → NoEdgeInto a part → (o n : ℕ) → IsTrue (node o) → IsFalse (part o) → IsTrue (part n) → ⊥
 node-whole a node part is inside none o n there off in_n =
     let from = is.2 o there in
     let to = is.2 n (inside n in_n) in
-    both_ways _ (walk-in a part o n none off (reaches-on a o is.0 n from.1 to.0)) in_n
+    both_ways _ (walk-in a part o n none off (walk-on a o is.0 n from.1 to.0)) in_n

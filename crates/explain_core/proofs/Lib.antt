@@ -15,3 +15,4 @@ pub mod OneState
 pub mod Fold
 pub mod Exact
 pub mod ByteCodes
+pub mod WorkedRuns

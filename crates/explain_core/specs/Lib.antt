@@ -5,3 +5,4 @@ pub mod Sound
 pub mod Stable
 pub mod Exact
 pub mod ByteOps
+pub mod Worked

@@ -10,6 +10,7 @@ mod byte_op;
 mod flush_order;
 mod recovery;
 mod steps;
+mod worked;
 
 pub use byte_op::ByteOp;
 pub use flush_order::{exactly_no_edge, minimal_nodes_are_whole, some_node_is_minimal};
@@ -20,3 +21,4 @@ pub use steps::{
     append_keeps, block_gate_keeps, check_keeps, crash_keeps, every_run_keeps, header_gate_keeps,
     removal_keeps, replay_keeps, slot_gate_keeps,
 };
+pub use worked::{runs_of_bytes, swap_is_flushed, swap_is_redone};

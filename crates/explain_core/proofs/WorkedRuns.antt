@@ -1,0 +1,74 @@
+-- The worked runs are allowed.
+use Rattle.std.proofs.Common.{◌≡◌, sym, ap, subst, ℕ, ◌<◌, Bool, List, [], ◌∷◌, ◌++◌, length, refl, arith, Option, None}
+use Rattle.std.specs.Prelude.{IsTrue, ◌≢◌}
+use Rattle.oper_core.specs.Meaning.{IsSmall, IsLawful}
+use Rattle.install_order.specs.Order.{IsMinimal, flush_set_of}
+use Rattle.install_order.specs.Computed.{IsWithin}
+use Rattle.install_order.specs.ListLaws.{all-gives}
+use Rattle.install_order.specs.NodeLaws.{flushed-iff}
+use Rattle.install_order.specs.Checks.{is_minimal-gives, flushes_only-gives}
+use Rattle.explain_core.specs.declared.byte_op.ByteOp.{ByteOp}
+use Rattle.explain_core.specs.ByteOps.{byte_meaning, byte_lawful}
+use Rattle.explain_core.specs.World.{World, Step, run, IsAllowed, AreAllowed, IsReady, new_world, graph_access, work_of, end_of, replays}
+use Rattle.explain_core.specs.World.Step.{Slot_gate, Removal, Crash}
+use Rattle.explain_core.specs.Sound.{IsSound}
+use Rattle.explain_core.specs.Worked.{two, after_steps, swap_node, swap_logged, swap_flushed, swap_removed, swap_redone}
+use Rattle.explain_core.proofs.Graph.{graph-within, run-append, allowed-append}
+use Rattle.explain_core.proofs.Runs.{run_sound, new_sound}
+
+two-lawful : IsLawful (byte_meaning two)
+two-lawful = byte_lawful two (record { objects = omega arith; cap = omega arith })
+
+-- allowed steps of a new store lead to a sound world
+pub steps-sound : (steps : List (Step ByteOp)) → AreAllowed (byte_meaning two) (new_world ByteOp) steps → IsSound (byte_meaning two) (after_steps steps)
+steps-sound steps may = run_sound (byte_meaning two) two-lawful (new_world ByteOp) steps may (new_sound (byte_meaning two))
+
+pub logged-allowed : AreAllowed (byte_meaning two) (new_world ByteOp) swap_logged
+logged-allowed = (
+  (omega arith, refl),
+  ((omega arith, refl), ((omega arith, refl), ((omega arith, (omega arith, refl)), (omega arith, tt)))),
+)
+
+within : (steps : List (Step ByteOp)) → AreAllowed (byte_meaning two) (new_world ByteOp) steps → IsWithin (graph_access (byte_meaning two) (after_steps steps)) 2 (end_of (after_steps steps))
+within steps may = graph-within (byte_meaning two) two-lawful (after_steps steps) (steps-sound steps may)
+
+-- one more step of a run
+one-more : (steps more : List (Step ByteOp)) → AreAllowed (byte_meaning two) (new_world ByteOp) steps → AreAllowed (byte_meaning two) (after_steps steps) more → AreAllowed (byte_meaning two) (new_world ByteOp) (steps ++ more)
+one-more steps more may then = allowed-append (byte_meaning two) (new_world ByteOp) steps more may then
+
+logged-ready : IsReady (byte_meaning two) (after_steps swap_logged) swap_node
+logged-ready = (
+  (λ n there. all-gives (after_steps swap_logged).graph (1 ∷ 2 ∷ 3 ∷ []) n refl there),
+  is_minimal-gives (graph_access (byte_meaning two) (after_steps swap_logged)) 2 5 (1 ∷ 2 ∷ 3 ∷ []) (within swap_logged logged-allowed) refl,
+  refl,
+)
+
+logged-work : work_of (byte_meaning two) (after_steps swap_logged) swap_node 0
+logged-work = (
+  (flushed-iff (graph_access (byte_meaning two) (after_steps swap_logged)) 2 5 swap_node 0 (within swap_logged logged-allowed)).0 refl,
+  λ e. absurd (omega (arith, e)),
+)
+
+pub flushed-allowed : AreAllowed (byte_meaning two) (new_world ByteOp) swap_flushed
+flushed-allowed = one-more swap_logged (Slot_gate swap_node 0 ∷ []) logged-allowed (
+  (logged-ready, logged-work, λ y work. flushes_only-gives (graph_access (byte_meaning two) (after_steps swap_logged)) 2 5 swap_node 0 (within swap_logged logged-allowed) refl y work.0),
+  tt,
+)
+
+flushed-ready : IsReady (byte_meaning two) (after_steps swap_flushed) swap_node
+flushed-ready = (
+  (λ n there. all-gives (after_steps swap_flushed).graph (1 ∷ 2 ∷ 3 ∷ []) n refl there),
+  is_minimal-gives (graph_access (byte_meaning two) (after_steps swap_flushed)) 2 5 (1 ∷ 2 ∷ 3 ∷ []) (within swap_flushed flushed-allowed) refl,
+  refl,
+)
+
+pub removed-allowed : AreAllowed (byte_meaning two) (new_world ByteOp) swap_removed
+removed-allowed = one-more swap_flushed (Removal swap_node ∷ []) flushed-allowed (
+  (flushed-ready, λ y work.
+      let q : y ≡ 0 = flushes_only-gives (graph_access (byte_meaning two) (after_steps swap_flushed)) 2 5 swap_node 0 (within swap_flushed flushed-allowed) refl y work.0 in
+      work.1 (subst (λ (y : ℕ). ((after_steps swap_flushed).slots y).id ≡ ((after_steps swap_flushed).cache y).id) (sym q) refl)),
+  tt,
+)
+
+pub redone-allowed : AreAllowed (byte_meaning two) (new_world ByteOp) (swap_redone 4)
+redone-allowed = one-more swap_flushed (Crash ∷ replays 4) flushed-allowed (tt, (omega arith, (omega arith, (omega arith, (omega arith, tt)))))
