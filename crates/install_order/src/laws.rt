@@ -68,4 +68,11 @@ pub fn worked_tables()
     ensures put_copy { IsTable (put 1 0 ∷ copy 2 0 1 ∷ [])
         []
         (node (1 ∷ []) (0 ∷ []) ∷ node (2 ∷ []) (1 ∷ []) ∷ []) }
+    // with the swap the first three are one node; where it is installed and left out, each is a node of its own
+    ensures swap_copy_copy_put { IsTable (swap 1 0 1 ∷ copy 2 2 1 ∷ copy 3 0 2 ∷ put 4 0 ∷ [])
+        (arrow 1 2 ∷ arrow 2 3 ∷ arrow 3 1 ∷ arrow 1 4 ∷ arrow 3 4 ∷ [])
+        (node (1 ∷ 2 ∷ 3 ∷ []) (1 ∷ 2 ∷ []) ∷ node (4 ∷ []) (0 ∷ []) ∷ []) }
+    ensures copy_copy_put { IsTable (copy 2 2 1 ∷ copy 3 0 2 ∷ put 4 0 ∷ [])
+        (arrow 2 3 ∷ arrow 3 4 ∷ [])
+        (node (2 ∷ []) (1 ∷ []) ∷ node (3 ∷ []) (2 ∷ []) ∷ node (4 ∷ []) (0 ∷ []) ∷ []) }
 {}

@@ -175,7 +175,7 @@ mod tests {
 
     #[test]
     fn worked_edges(rt: HostRuntime) {
-        let tables: [(&[Entry], &[(u64, u64)]); 9] = [
+        let tables: [(&[Entry], &[(u64, u64)]); 11] = [
             (
                 &[put(1, 0), copy(2, 0, 1), put(3, 0)],
                 &[(1, 3), (2, 3), (2, 1)],
@@ -220,6 +220,14 @@ mod tests {
                 &[(1, 2), (1, 4), (2, 4), (3, 4), (3, 2)],
             ),
             (&[put(1, 0), copy(2, 0, 1)], &[]),
+            (
+                &[swap(1, 0, 1), copy(2, 2, 1), copy(3, 0, 2), put(4, 0)],
+                &[(1, 2), (2, 3), (3, 1), (1, 4), (3, 4)],
+            ),
+            (
+                &[copy(2, 2, 1), copy(3, 0, 2), put(4, 0)],
+                &[(2, 3), (3, 4)],
+            ),
         ];
         for (entries, edges) in tables.iter() {
             for a in 1..8 {

@@ -13,4 +13,6 @@ returns c = record {
   put_copies_put = table-is 5 7 _ _ _ refl;
   put_put_copy_put = table-is 2 5 _ _ _ refl;
   put_copy = table-is 2 3 _ _ _ refl;
+  swap_copy_copy_put = table-is 3 5 _ _ _ refl;
+  copy_copy_put = table-is 3 5 _ _ _ refl;
 }
