@@ -108,6 +108,7 @@ set-append {O} m h member i c closed out e x =
     ]
 
 pub append_sound : {O : Type 0} (m : Meaning O) (w : World O) (member : Member O) → IsLive w → MayAppend m w member → IsSound m w → IsSound m (step m w (Append member))
+unfolding step
 append_sound {O} m w member live may s =
     let h = w.history in
     let n = length h in

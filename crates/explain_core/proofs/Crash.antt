@@ -98,6 +98,7 @@ start-installed {O} m law h installed base end t e le fits first (suc n) lt = el
 ]
 
 pub crash_sound : {O : Type 0} (m : Meaning O) → IsLawful m → (w : World O) → IsSound m w → IsSound m (step m w Crash)
+unfolding step
 crash_sound {O} m law w s =
     let h = take w.forced w.history in
     let plan = plan_of w.tables w.base in

@@ -25,6 +25,7 @@ all-append P [] ys h k = k
 all-append P (x ∷ xs) ys h k = (h.0, all-append P xs ys h.1 k)
 
 pub gate_sound : {O : Type 0} (m : Meaning O) (w : World O) → IsLive w → IsSound m w → IsSound m (step m w Block_gate)
+unfolding step
 gate_sound {O} m w live s =
     let n = length w.history in
     let a = accesses_of m w.history in

@@ -58,9 +58,11 @@ minimal-ready m law w s c there =
 
 -- a run in two parts
 pub run-append : {O : Type 0} (m : Meaning O) (w : World O) (xs ys : List (Step O)) → run m w (xs ++ ys) ≡ run m (run m w xs) ys
+unfolding run
 run-append m w [] ys = refl
 run-append m w (x ∷ xs) ys = run-append m (step m w x) xs ys
 
 pub allowed-append : {O : Type 0} (m : Meaning O) (w : World O) (xs ys : List (Step O)) → AreAllowed m w xs → AreAllowed m (run m w xs) ys → AreAllowed m w (xs ++ ys)
+unfolding run
 allowed-append m w [] ys f g = g
 allowed-append m w (x ∷ xs) ys f g = (f.0, allowed-append m (step m w x) xs ys f.1 g)

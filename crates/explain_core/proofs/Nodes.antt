@@ -54,6 +54,7 @@ installed-within m w node s all inside n e = elim (or_cases (node n) (w.installe
 ]
 
 pub slot_sound : {O : Type 0} (m : Meaning O) (w : World O) (node : ℕ → Bool) (x : ℕ) → ((n : ℕ) → IsTrue (node n) → IsTrue (w.graph n)) → NoEdgeInto (graph_access m w) node → w.forced ≡ length w.history → work_of m w node x → ((y : ℕ) → work_of m w node y → y ≡ x) → IsSound m w → IsSound m (step m w (Slot_gate node x))
+unfolding step
 slot_sound {O} m w node x inside none all work only s =
     let a = accesses_of m w.history in
     let slots : ℕ → Cell = λ y. if y == x then w.cache x else w.slots y in
@@ -92,6 +93,7 @@ slot_sound {O} m w node x inside none all work only s =
     }
 
 pub removal_sound : {O : Type 0} (m : Meaning O) (w : World O) (node : ℕ → Bool) → ((n : ℕ) → IsTrue (node n) → IsTrue (w.graph n)) → NoEdgeInto (graph_access m w) node → w.forced ≡ length w.history → ((y : ℕ) → work_of m w node y → ⊥) → IsSound m w → IsSound m (step m w (Removal node))
+unfolding step
 removal_sound {O} m w node inside none all idle s =
     let a = accesses_of m w.history in
     let may = may-install m w node s inside none in

@@ -38,6 +38,7 @@ sound-stands {O} m w s =
 
 -- a crash leaves the world that the stable parts make
 pub crash-world : {O : Type 0} (m : Meaning O) (w : World O) → IsSound m w → step m w Crash ≡ world_of m (stable_of w) (take w.forced w.history) w.installed
+unfolding step
 crash-world {O} m w s = ap (λ (n : ℕ). record (step m w Crash) { forced = n }) (sym (length-take-le w.forced w.history s.forced))
 
 slice_get-drop : {X : Type 0} (n : ℕ) (xs : List X) (i : ℕ) → slice_get (drop n xs) i ≡ slice_get xs (n + i)
@@ -54,6 +55,7 @@ redo_caches m members plan k zero c = c
 redo_caches m members plan k (suc n) c = redo_caches m members plan (k + 1) n (redo_cache m (members k) plan k c)
 
 run-caches : {O : Type 0} (m : Meaning O) (w : World O) (n : ℕ) → (run m w (replays n)).cache ≡ redo_caches m (λ k. numbered w.history k) (plan_of w.tables w.base) w.next n w.cache
+unfolding step run
 run-caches m w zero = refl
 run-caches m w (suc n) = run-caches m (step m w Replay) n
 

@@ -25,6 +25,7 @@ Redone m w c x =
     ⊎ (IsFalse (is_redone m w x) × (c x ≡ w.cache x))
 
 redone : {O : Type 0} (m : Meaning O) (w : World O) (x : ℕ) → Redone m w (step m w Replay).cache x
+unfolding step
 redone m w x =
     let a = accesses_of m w.history in
     elim (cases_Bool (is_redone m w x)) [
@@ -46,6 +47,7 @@ made-right : {O : Type 0} (m : Meaning O) (h : List (Member O)) (i : ℕ → Boo
 made-right {O} m h i c x j k q = subst (λ (k : ℕ). IsClosed (accesses_of m h) i → IsFalse (i k) → Explains (accesses_of m h) (value_at m h) (and_below k i) c → IsTrue ((accesses_of m h).writes k x) → made_by m (numbered h k) (λ y. (c y).value) x ≡ value_at m h k x) (sym q) (made-suc m h i c x j)
 
 pub replay_sound : {O : Type 0} (m : Meaning O) → IsLawful m → (w : World O) (j : ℕ) → w.next ≡ suc j → w.next ≤ length w.history → IsSound m w → IsSound m (step m w Replay)
+unfolding step
 replay_sound {O} m law w j next old s =
     let h = w.history in
     let a = accesses_of m h in

@@ -28,6 +28,7 @@ step_sound m law w Replay may s = replay_sound m law w (w.next - 1) (omega (arit
 step_sound m law w Crash may s = crash_sound m law w s
 
 pub run_sound : {O : Type 0} (m : Meaning O) → IsLawful m → (w : World O) (steps : List (Step O)) → AreAllowed m w steps → IsSound m w → IsSound m (run m w steps)
+unfolding run
 run_sound m law w [] may s = s
 run_sound m law w (t ∷ steps) may s = run_sound m law (step m w t) steps may.1 (step_sound m law w t may.0 s)
 
@@ -75,6 +76,7 @@ new_sound m =
 -- so many replays of a sound world leave the history, and bring it that far
 pub replayed : {O : Type 0} (m : Meaning O) → IsLawful m → (w : World O) (n : ℕ) → n + w.next ≤ end_of w → IsSound m w →
     IsSound m (run m w (replays n)) × ((run m w (replays n)).history ≡ w.history) × ((run m w (replays n)).next ≡ n + w.next) × AreAllowed m w (replays n)
+unfolding step run
 replayed m law w zero le s = (s, refl, omega arith, tt)
 replayed m law w (suc n) le s =
     let old : w.next ≤ length w.history = omega arith in

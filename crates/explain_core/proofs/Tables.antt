@@ -31,6 +31,7 @@ now-fits m w base live le each s =
     }
 
 pub check_sound : {O : Type 0} (m : Meaning O) (w : World O) → IsLive w → IsSound m w → IsSound m (step m w Check)
+unfolding step
 check_sound m w live s = record {
   history = s.history;
   forced = s.forced;
@@ -52,6 +53,7 @@ check_sound m w live s = record {
 }
 
 pub header_sound : {O : Type 0} (m : Meaning O) (w : World O) (base : ℕ) → IsLive w → w.forced ≡ length w.history → w.base ≤ base → base ≤ w.next → ((n : ℕ) → IsTrue (w.graph n) → base ≤ n) → IsSound m w → IsSound m (step m w (Header_gate base))
+unfolding step
 header_sound m w base live all up le each s =
     let fits : SkipsNothing (accesses_of m w.history) w.installed base (end_of w) (table_now m w) = now-fits m w base live (omega (arith, s.next.1)) each s in
     record {

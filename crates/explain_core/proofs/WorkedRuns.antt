@@ -9,7 +9,7 @@ use Rattle.install_order.specs.NodeLaws.{flushed-iff}
 use Rattle.install_order.specs.Checks.{is_minimal-gives, flushes_only-gives}
 use Rattle.explain_core.specs.declared.byte_op.ByteOp.{ByteOp}
 use Rattle.explain_core.specs.ByteOps.{byte_meaning, byte_lawful}
-use Rattle.explain_core.specs.World.{World, Step, run, IsAllowed, AreAllowed, IsReady, new_world, graph_access, work_of, end_of, replays}
+use Rattle.explain_core.specs.World.{World, Step, step, run, IsAllowed, AreAllowed, IsReady, new_world, graph_access, work_of, end_of, replays}
 use Rattle.explain_core.specs.World.Step.{Slot_gate, Removal, Crash}
 use Rattle.explain_core.specs.Sound.{IsSound}
 use Rattle.explain_core.specs.Worked.{two, after_steps, swap_node, swap_logged, swap_flushed, swap_removed, swap_redone}
@@ -24,6 +24,7 @@ pub steps-sound : (steps : List (Step ByteOp)) → AreAllowed (byte_meaning two)
 steps-sound steps may = run_sound (byte_meaning two) two-lawful (new_world ByteOp) steps may (new_sound (byte_meaning two))
 
 pub logged-allowed : AreAllowed (byte_meaning two) (new_world ByteOp) swap_logged
+unfolding step run
 logged-allowed = (
   (omega arith, refl),
   ((omega arith, refl), ((omega arith, refl), ((omega arith, (omega arith, refl)), (omega arith, tt)))),
@@ -37,6 +38,7 @@ one-more : (steps more : List (Step ByteOp)) → AreAllowed (byte_meaning two) (
 one-more steps more may then = allowed-append (byte_meaning two) (new_world ByteOp) steps more may then
 
 logged-ready : IsReady (byte_meaning two) (after_steps swap_logged) swap_node
+unfolding step run
 logged-ready = (
   (λ n there. all-gives (after_steps swap_logged).graph (1 ∷ 2 ∷ 3 ∷ []) n refl there),
   is_minimal-gives (graph_access (byte_meaning two) (after_steps swap_logged)) 2 5 (1 ∷ 2 ∷ 3 ∷ []) (within swap_logged logged-allowed) refl,
@@ -44,18 +46,21 @@ logged-ready = (
 )
 
 logged-work : work_of (byte_meaning two) (after_steps swap_logged) swap_node 0
+unfolding step run
 logged-work = (
   (flushed-iff (graph_access (byte_meaning two) (after_steps swap_logged)) 2 5 swap_node 0 (within swap_logged logged-allowed)).0 refl,
   λ e. absurd (omega (arith, e)),
 )
 
 pub flushed-allowed : AreAllowed (byte_meaning two) (new_world ByteOp) swap_flushed
+unfolding step run
 flushed-allowed = one-more swap_logged (Slot_gate swap_node 0 ∷ []) logged-allowed (
   (logged-ready, logged-work, λ y work. flushes_only-gives (graph_access (byte_meaning two) (after_steps swap_logged)) 2 5 swap_node 0 (within swap_logged logged-allowed) refl y work.0),
   tt,
 )
 
 flushed-ready : IsReady (byte_meaning two) (after_steps swap_flushed) swap_node
+unfolding step run
 flushed-ready = (
   (λ n there. all-gives (after_steps swap_flushed).graph (1 ∷ 2 ∷ 3 ∷ []) n refl there),
   is_minimal-gives (graph_access (byte_meaning two) (after_steps swap_flushed)) 2 5 (1 ∷ 2 ∷ 3 ∷ []) (within swap_flushed flushed-allowed) refl,
@@ -63,6 +68,7 @@ flushed-ready = (
 )
 
 pub removed-allowed : AreAllowed (byte_meaning two) (new_world ByteOp) swap_removed
+unfolding step run
 removed-allowed = one-more swap_flushed (Removal swap_node ∷ []) flushed-allowed (
   (flushed-ready, λ y work.
       let q : y ≡ 0 = flushes_only-gives (graph_access (byte_meaning two) (after_steps swap_flushed)) 2 5 swap_node 0 (within swap_flushed flushed-allowed) refl y work.0 in
@@ -71,4 +77,5 @@ removed-allowed = one-more swap_flushed (Removal swap_node ∷ []) flushed-allow
 )
 
 pub redone-allowed : AreAllowed (byte_meaning two) (new_world ByteOp) (swap_redone 4)
+unfolding step run
 redone-allowed = one-more swap_flushed (Crash ∷ replays 4) flushed-allowed (tt, (omega arith, (omega arith, (omega arith, (omega arith, tt)))))

@@ -103,7 +103,7 @@ IsAllowed m w Replay = w.next ≤ length w.history
 IsAllowed m w Crash = Unit {0}
 
 -- the world after a step
-abbrev pub step : {O : Type 0} → Meaning O → World O → Step O → World O
+unfoldable pub step : {O : Type 0} → Meaning O → World O → Step O → World O
 step m w (Append member) = record w {
   history = w.history ++ member ∷ [];
   cache = set_by m (Some member) (λ x. is_among x (writes_of m member)) (end_of w) w.cache;
@@ -145,7 +145,7 @@ AreAllowed m w [] = Unit {0}
 AreAllowed m w (s ∷ steps) = IsAllowed m w s × AreAllowed m (step m w s) steps
 
 -- the world after a list of steps
-abbrev pub run : {O : Type 0} → Meaning O → World O → List (Step O) → World O
+unfoldable pub run : {O : Type 0} → Meaning O → World O → List (Step O) → World O
 run m w [] = w
 run m w (s ∷ steps) = run m (step m w s) steps
 
