@@ -69,7 +69,7 @@ may-member : {O : Type 0} (m : Meaning O) (w : World O) (before : ℕ → List �
 may-member {O} m w before (Command op) same may = accepted-in_grammar m (λ x. (w.cache x).value) op may
 may-member m w before (Identity x v) same may = (may.0, may.1 ∙ same x)
 
--- the tables still fit
+-- the checks skip nothing of the longer history either
 fits-append : {O : Type 0} (m : Meaning O) (h t : List (Member O)) (i : ℕ → Bool) (base end : ℕ) (table : Table) → end ≤ length h + 1 → SkipsNothing (accesses_of m h) i base end table → SkipsNothing (accesses_of m (h ++ t)) i base end table
 fits-append m h t i base end table le f = record {
   before = λ n x out w. elim (cases_lt (length h) n) [

@@ -1,5 +1,5 @@
 -- A crash keeps a world sound.
-use Rattle.std.proofs.Common.{◌≡◌, ◌∙◌, sym, subst, ℕ, zero, suc, ◌+◌, ◌-◌, ◌<◌, ◌≤◌, Bool, List, [], ◌∷◌, length, take, refl, ap, arith, inl, inr, length-take, length-take-le, Option, Some}
+use Rattle.std.proofs.Common.{◌≡◌, ◌∙◌, sym, subst, ℕ, zero, suc, ◌+◌, ◌-◌, ◌<◌, ◌≤◌, Bool, List, [], ◌∷◌, length, take, refl, ap, arith, inl, inr, length-take, length-take-le, Option}
 use Rattle.std.specs.Prelude.{IsTrue, slice_get, IfSome}
 use Rattle.std.specs.List.{AllByRecursion}
 use Rattle.std.proofs.lemmas.Bool.{cases_lt, cases_Bool, both_ways, lt-ltb, le-ltb, or_left}
@@ -7,10 +7,8 @@ use Rattle.std.proofs.lemmas.Option.{slice_get_past}
 use Rattle.std.proofs.lemmas.List.{take_all, take-take}
 use Rattle.std.proofs.Math.Nat.{min-le_left, min-le_right, le-min}
 use Rattle.install_order.specs.Order.{Access}
-use Rattle.oper_core.specs.State.{is_among}
 use Rattle.oper_core.specs.Meaning.{Meaning, IsLawful}
 use Rattle.explain_core.specs.History.{Member, IsHistory, IsMember, accesses_of, value_at, commands_of}
-use Rattle.explain_core.specs.History.Member.{Command, Identity}
 use Rattle.explain_core.specs.Explains.{Explains}
 use Rattle.explain_core.specs.World.{World, Table, step, plan_of, start_of, least_of}
 use Rattle.explain_core.specs.World.Step.{Crash}
@@ -58,7 +56,7 @@ same-below i k inside n = elim (cases_lt n k) [
   | inr le ↦ rw (le-ltb n k le) refl
 ]
 
--- a plan's table fits where the stable tables do
+-- the plan skips nothing where the stable checks skip nothing
 pub plan_fits : (a : Access) (installed : ℕ → Bool) (base end : ℕ) (tables : List Table) → base ≤ end → ((n : ℕ) → n < base → IsTrue (installed n)) → AllByRecursion (SkipsNothing a installed base end) tables → SkipsNothing a installed base end (plan_of tables base)
 plan_fits a i base end [] le below all = record {
   before = λ n x out w. elim (cases_lt n base) [ inl lt ↦ absurd (both_ways _ out (below n lt)) | inr ge ↦ ge ];
@@ -69,7 +67,7 @@ plan_fits a i base end [] le below all = record {
 }
 plan_fits a i base end (t ∷ ts) le below all = all.0
 
--- a table that fits the whole fits the front of stable members
+-- a check that skips nothing of the whole skips nothing of the stable front
 fits-front : (t a : Access) (f : ℕ) (installed : ℕ → Bool) (base end : ℕ) (table : Table) → IsFront t a f → SkipsNothing a installed base end table → SkipsNothing t installed base end table
 fits-front t a f i base end table front h = record {
   before = λ n x out w. elim (cases_lt f n) [

@@ -2,7 +2,7 @@
 use Rattle.std.proofs.Common.{◌≡◌, ◌∙◌, sym, subst, ℕ, zero, suc, ◌<◌, ◌≤◌, Bool, not, List, length, refl, ap, arith, inl, inr}
 use Rattle.std.specs.Prelude.{IsTrue, IsFalse, ◌⊎◌, ◌||◌, ◌≢◌, nat_le, if◌then◌else◌}
 use Rattle.std.proofs.lemmas.Bool.{cases_lt, cases_eq, cases_Bool, cases_order, both_ways, or_left, or_parts, or_from, false_from_ne_true, and_parts, and_from, not-true, not_from_false, le-leb, leb-true, cond-true, cond-false}
-use Rattle.install_order.specs.Order.{Access, within, IsExposed, NoEdgeInto, IsNode, Reaches}
+use Rattle.install_order.specs.Order.{Access, within, IsExposed, NoEdgeInto, IsNode}
 use Rattle.install_order.specs.Order.Edge.{Read_write, Write_write, Lost_version}
 use Rattle.install_order.specs.NodeLaws.{walk-on, walk-in}
 use Rattle.oper_core.specs.Meaning.{Meaning}

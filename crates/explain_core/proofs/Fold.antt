@@ -1,5 +1,5 @@
 -- The last values of a history are the state after its commands.
-use Rattle.std.proofs.Common.{◌≡◌, ◌∙◌, sym, subst, ℕ, suc, ◌+◌, Bool, false, List, [], ◌∷◌, length, refl, ap, arith, inl, inr, Option, Some}
+use Rattle.std.proofs.Common.{◌≡◌, ◌∙◌, sym, subst, ℕ, suc, ◌+◌, Bool, false, List, [], ◌∷◌, length, ap, arith, inl, inr, Option, Some}
 use Rattle.std.specs.Prelude.{◌||◌, ◌==◌, slice_get, IfSome, if◌then◌else◌, fold}
 use Rattle.std.proofs.lemmas.Bool.{cases_Bool, eqb-true}
 use mathlib.Core.Path.{fun_ext}

@@ -1,5 +1,5 @@
 -- What the members of a lawful history write.
-use Rattle.std.proofs.Common.{◌≡◌, subst, sym, ℕ, zero, suc, ◌<◌, Bool, true, false, List, [], ◌∷◌, length, refl, ap, arith, inl, inr, Option, None, Some}
+use Rattle.std.proofs.Common.{◌≡◌, subst, sym, ℕ, zero, suc, ◌<◌, false, List, [], ◌∷◌, length, refl, arith, inl, inr, Option, None, Some}
 use Rattle.std.specs.Prelude.{IsTrue, ◌==◌, All, slice_get, IfSome}
 use Rattle.std.proofs.lemmas.Bool.{both_ways, or_left, or_cases, eq-eqb, eqb-true}
 use Rattle.std.proofs.lemmas.List.Elements.{All-head, All-tail}

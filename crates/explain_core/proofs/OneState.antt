@@ -1,13 +1,12 @@
 -- Stable parts stand for one state.
-use Rattle.std.proofs.Common.{◌++◌, ◌≡◌, ◌∙◌, sym, subst, ℕ, zero, suc, ◌+◌, ◌-◌, ◌<◌, ◌≤◌, Bool, false, List, [], ◌∷◌, length, take, drop, refl, ap, arith, inl, inr, Option, Some, length-drop, length-append, length-take-le}
-use Rattle.std.specs.Prelude.{IsTrue, ◌&&◌, ◌||◌, nat_lt, nat_le, slice_get, IfSome, if◌then◌else◌, ◌==◌}
+use Rattle.std.proofs.Common.{◌++◌, ◌≡◌, ◌∙◌, sym, subst, ℕ, zero, suc, ◌+◌, ◌-◌, ◌<◌, ◌≤◌, Bool, List, [], ◌∷◌, length, take, drop, refl, ap, arith, inl, inr, Option, length-drop, length-append, length-take-le}
+use Rattle.std.specs.Prelude.{IsTrue, ◌&&◌, nat_lt, nat_le, slice_get}
 use Rattle.std.specs.List.{AllByRecursion}
 use Rattle.std.proofs.lemmas.List.{take_all, take-take}
 use Rattle.std.proofs.Math.ListN.{take-append-drop}
-use Rattle.std.proofs.lemmas.Bool.{cases_Bool, both_ways, eqb-true}
-use mathlib.Core.Path.{fun_ext}
+use Rattle.std.proofs.lemmas.Bool.{both_ways}
 use Rattle.oper_core.specs.Meaning.{Meaning, IsLawful, state_after}
-use Rattle.explain_core.specs.History.{Member, accesses_of, value_at, IsHistory, IsMember, numbered, writes_some, made_by, commands_of}
+use Rattle.explain_core.specs.History.{Member, accesses_of, value_at, numbered, writes_some, commands_of}
 use Rattle.explain_core.specs.History.Member.{Command, Identity}
 use Rattle.explain_core.specs.Explains.{Cell, Explains}
 use Rattle.explain_core.specs.World.{World, Table, step, run, replays, plan_of, start_of, end_of, set_by}
@@ -141,4 +140,3 @@ one-state {O} m law parts h k i j s t x =
     let left = (replayed_map m law w sound).2 in
     let right = (replayed_map m law z (standing_sound m law parts k j t)).2 in
     sym (left x) ∙ ap (λ (c : ℕ → Cell). (c x).value) caches ∙ ap (λ (q : ℕ). ((run m z (replays q)).cache x).value) same ∙ right x
-

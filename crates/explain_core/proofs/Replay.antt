@@ -1,13 +1,12 @@
 -- A replay keeps a world sound.
-use Rattle.std.proofs.Common.{◌≡◌, ◌∙◌, sym, subst, ℕ, zero, suc, ◌+◌, ◌<◌, ◌≤◌, Bool, false, List, length, refl, ap, arith, inl, inr, Option, None, Some}
-use Rattle.std.specs.Prelude.{IsTrue, IsFalse, ◌⊎◌, ◌||◌, ◌&&◌, nat_lt, nat_le, ◌==◌, slice_get, IfSome}
+use Rattle.std.proofs.Common.{◌≡◌, ◌∙◌, sym, subst, ℕ, suc, ◌+◌, ◌<◌, ◌≤◌, Bool, List, length, refl, ap, arith, inl, inr}
+use Rattle.std.specs.Prelude.{IsTrue, IsFalse, ◌⊎◌, ◌||◌, ◌&&◌, nat_lt, nat_le, ◌==◌, slice_get}
 use Rattle.std.proofs.lemmas.Bool.{cases_eq, cases_Bool, both_ways, or_left, or_right, or_cases, eq-eqb, eqb-true, and_parts, and_from, lt-ltb, ltb-true, le-leb, leb-true, and_left}
 use Rattle.install_order.specs.Order.{IsClosed}
 use Rattle.install_order.specs.Computed.{some_below}
 use Rattle.install_order.specs.NodeLaws.{some-from}
 use Rattle.oper_core.specs.Meaning.{Meaning, IsLawful}
-use Rattle.explain_core.specs.History.{Member, accesses_of, value_at, made_by, writes_some, numbered, IsHistory, IsMember}
-use Rattle.explain_core.specs.History.Member.{Command, Identity}
+use Rattle.explain_core.specs.History.{Member, accesses_of, value_at, made_by, numbered}
 use Rattle.explain_core.specs.Explains.{Cell, Explains}
 use Rattle.explain_core.specs.World.{World, step, plan_of, set_by, is_redone}
 use Rattle.explain_core.specs.World.Step.{Replay}

@@ -29,7 +29,7 @@ pub made_by-still : {O : Type 0} (m : Meaning O) (o : Option (Member O)) (s : �
 made_by-still m None s x e = refl
 made_by-still m (Some member) s x e = rw e refl
 
--- a value_at stays while nobody writes the object
+-- a value stays while nobody writes the object
 pub value_at-still : {O : Type 0} (m : Meaning O) (h : List (Member O)) (x k n : ℕ) → k ≤ n → ((i : ℕ) → k < i → i ≤ n → IsFalse ((accesses_of m h).writes i x)) → value_at m h n x ≡ value_at m h k x
 value_at-still m h x k zero le none = let e : k ≡ 0 = omega arith in rw e refl
 value_at-still m h x k (suc n) le none = elim (cases_lt n k) [

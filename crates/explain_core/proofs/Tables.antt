@@ -1,7 +1,7 @@
 -- A check and a header's gate keep a world sound.
-use Rattle.std.proofs.Common.{◌≡◌, refl, sym, subst, ℕ, zero, suc, ◌+◌, ◌<◌, ◌≤◌, Bool, length, arith, inl, inr}
-use Rattle.std.specs.Prelude.{IsTrue, ◌&&◌, nat_lt}
-use Rattle.std.proofs.lemmas.Bool.{cases_lt, cases_Bool, both_ways, true_from_ne_false, and_parts, and_from, lt-ltb, le-ltb, cond-true, cond-false}
+use Rattle.std.proofs.Common.{◌≡◌, refl, sym, subst, ℕ, ◌+◌, ◌≤◌, Bool, length, arith, inl, inr}
+use Rattle.std.specs.Prelude.{IsTrue, ◌&&◌}
+use Rattle.std.proofs.lemmas.Bool.{cases_lt, both_ways, true_from_ne_false, and_parts, and_from}
 use Rattle.oper_core.specs.Meaning.{Meaning}
 use Rattle.explain_core.specs.History.{accesses_of}
 use Rattle.install_order.specs.Computed.{least_below}
@@ -11,7 +11,7 @@ use Rattle.explain_core.specs.World.Step.{Check, Header_gate}
 use Rattle.explain_core.specs.Sound.{IsSound, SkipsNothing}
 use Rattle.explain_core.proofs.Append.{no-writes}
 
--- a check taken now fits, from any base that is at most each member of the graph
+-- a check taken now skips nothing, from any base that is at most each member of the graph
 now-fits : {O : Type 0} (m : Meaning O) (w : World O) (base : ℕ) → IsLive w → base ≤ end_of w → ((n : ℕ) → IsTrue (w.graph n) → base ≤ n) → IsSound m w → SkipsNothing (accesses_of m w.history) w.installed base (end_of w) (table_now m w)
 now-fits m w base live le each s =
     let a = accesses_of m w.history in

@@ -1,19 +1,17 @@
 -- The worked runs are allowed.
-use Rattle.std.proofs.Common.{◌≡◌, sym, ap, subst, ℕ, ◌<◌, Bool, List, [], ◌∷◌, ◌++◌, length, refl, arith, Option, None}
-use Rattle.std.specs.Prelude.{IsTrue, ◌≢◌}
-use Rattle.oper_core.specs.Meaning.{IsSmall, IsLawful}
-use Rattle.install_order.specs.Order.{IsMinimal, flush_set_of}
+use Rattle.std.proofs.Common.{◌≡◌, sym, subst, ℕ, List, [], ◌∷◌, ◌++◌, refl, arith}
+use Rattle.oper_core.specs.Meaning.{IsLawful}
 use Rattle.install_order.specs.Computed.{IsWithin}
 use Rattle.install_order.specs.ListLaws.{all-gives}
 use Rattle.install_order.specs.NodeLaws.{flushed-iff}
 use Rattle.install_order.specs.Checks.{is_minimal-gives, flushes_only-gives}
 use Rattle.explain_core.specs.declared.byte_op.ByteOp.{ByteOp}
 use Rattle.explain_core.specs.ByteOps.{byte_meaning, byte_lawful}
-use Rattle.explain_core.specs.World.{World, Step, step, run, IsAllowed, AreAllowed, IsReady, new_world, graph_access, work_of, end_of, replays}
+use Rattle.explain_core.specs.World.{Step, step, run, AreAllowed, IsReady, new_world, graph_access, work_of, end_of, replays}
 use Rattle.explain_core.specs.World.Step.{Slot_gate, Removal, Crash}
 use Rattle.explain_core.specs.Sound.{IsSound}
 use Rattle.explain_core.specs.Worked.{two, after_steps, swap_node, swap_logged, swap_flushed, swap_removed, swap_redone}
-use Rattle.explain_core.proofs.Graph.{graph-within, run-append, allowed-append}
+use Rattle.explain_core.proofs.Graph.{graph-within, allowed-append}
 use Rattle.explain_core.proofs.Runs.{run_sound, new_sound}
 
 two-lawful : IsLawful (byte_meaning two)
@@ -70,9 +68,12 @@ flushed-ready = (
 pub removed-allowed : AreAllowed (byte_meaning two) (new_world ByteOp) swap_removed
 unfolding step run
 removed-allowed = one-more swap_flushed (Removal swap_node ∷ []) flushed-allowed (
-  (flushed-ready, λ y work.
-      let q : y ≡ 0 = flushes_only-gives (graph_access (byte_meaning two) (after_steps swap_flushed)) 2 5 swap_node 0 (within swap_flushed flushed-allowed) refl y work.0 in
-      work.1 (subst (λ (y : ℕ). ((after_steps swap_flushed).slots y).id ≡ ((after_steps swap_flushed).cache y).id) (sym q) refl)),
+  (
+    flushed-ready,
+    λ y work.
+        let q : y ≡ 0 = flushes_only-gives (graph_access (byte_meaning two) (after_steps swap_flushed)) 2 5 swap_node 0 (within swap_flushed flushed-allowed) refl y work.0 in
+        work.1 (subst (λ (y : ℕ). ((after_steps swap_flushed).slots y).id ≡ ((after_steps swap_flushed).cache y).id) (sym q) refl),
+  ),
   tt,
 )
 

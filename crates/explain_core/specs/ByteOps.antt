@@ -8,7 +8,7 @@ use Rattle.std.proofs.lemmas.Map.Keys.{IsDistinct-cons, IsDistinct-from_apart}
 use Rattle.oper_core.specs.declared.bounds.Bounds.{Bounds}
 use Rattle.oper_core.specs.declared.refusal.Refusal.{Refusal}
 use Rattle.oper_core.specs.declared.refusal.Refusal.TheVariants.{NoObject, Same, TooLarge}
-use Rattle.oper_core.specs.Meaning.{Meaning, IsSmall, IsLawful, IsInGrammar, FitsReads, StartsWithCode}
+use Rattle.oper_core.specs.Meaning.{Meaning, IsSmall, IsLawful, FitsReads}
 use Rattle.explain_core.specs.declared.byte_op.ByteOp.{ByteOp}
 use Rattle.explain_core.specs.declared.byte_op.ByteOp.TheVariants.{Put, Swap}
 

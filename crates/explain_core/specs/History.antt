@@ -1,5 +1,5 @@
 -- A history of commands and identity writes, and the values that it gives the objects.
-use Rattle.std.specs.Prelude.{◌≡◌, ℕ, zero, suc, ◌<◌, Bool, false, IsTrue, Option, None, Some, List, [], ◌∷◌, map, slice_get, IfSome}
+use Rattle.std.specs.Prelude.{◌≡◌, ℕ, zero, suc, ◌<◌, Bool, false, Option, None, Some, List, [], ◌∷◌, map, slice_get, IfSome}
 use Rattle.oper_core.specs.State.{State, start, is_among, with_values}
 use Rattle.oper_core.specs.Meaning.{Meaning, IsInGrammar}
 use Rattle.install_order.specs.Order.{Access}

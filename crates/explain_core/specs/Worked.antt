@@ -5,7 +5,6 @@ use Rattle.install_order.specs.Entries.{set_of}
 use Rattle.explain_core.specs.declared.byte_op.ByteOp.{ByteOp}
 use Rattle.explain_core.specs.declared.byte_op.ByteOp.TheVariants.{Put, Swap}
 use Rattle.explain_core.specs.ByteOps.{byte_meaning}
-use Rattle.explain_core.specs.History.{Member}
 use Rattle.explain_core.specs.History.Member.{Command, Identity}
 use Rattle.explain_core.specs.World.{World, Step, run, new_world, replays}
 use Rattle.explain_core.specs.World.Step.{Append, Block_gate, Slot_gate, Removal, Crash}

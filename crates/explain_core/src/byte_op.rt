@@ -129,3 +129,60 @@ fn both(left: u8, right: u8) -> Objs
     objects.push(u32::from(right));
     objects
 }
+
+#[cfg(test)]
+mod tests {
+    use super::*;
+    use std::test::Fail;
+
+    const BOUNDS: Bounds = Bounds { objects: 2, cap: 1 };
+
+    #[test]
+    fn codes(rt: HostRuntime) -> Result<(), Fail> {
+        let alloc = rt.alloc();
+        let put = ByteOp::Put {
+            object: 1,
+            byte: 0xbb,
+        };
+        let swap = ByteOp::Swap { left: 0, right: 1 };
+        let mut log = Vec::new(alloc);
+        put.encode(&mut log)?;
+        swap.encode(&mut log)?;
+        assert_eq!(rt; log.as_slice(), [0, 1, 0xbb, 1, 0, 1].as_slice());
+        let found = ByteOp::decode(alloc, BOUNDS, log.as_slice())?;
+        assert!(rt;
+            matches!(
+                found,
+                Some((
+                    ByteOp::Put {
+                        object: 1,
+                        byte: 0xbb
+                    },
+                    3
+                ))
+            )
+        );
+        let found = ByteOp::decode(alloc, BOUNDS, &[1, 0, 1])?;
+        assert!(rt; matches!(found, Some((ByteOp::Swap { left: 0, right: 1 }, 3))));
+        for bytes in [[0, 2, 0xbb], [1, 1, 1], [1, 0, 2], [2, 0, 1]] {
+            assert!(rt;
+                ByteOp::decode(alloc, BOUNDS, &bytes)?.is_none(),
+                "{bytes:?}"
+            );
+        }
+        Ok(())
+    }
+
+    #[test]
+    fn effects(rt: HostRuntime) -> Result<(), Fail> {
+        let alloc = rt.alloc();
+        let mut values = Values::new(alloc);
+        values.push(&[0xaa])?;
+        values.push(&[0xbb])?;
+        let swap = ByteOp::Swap { left: 0, right: 1 };
+        let made = swap.apply(alloc, BOUNDS, &values)?;
+        assert_eq!(rt; made.get(0), [0xbb].as_slice());
+        assert_eq!(rt; made.get(1), [0xaa].as_slice());
+        Ok(())
+    }
+}

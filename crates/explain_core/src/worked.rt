@@ -19,14 +19,10 @@ use crate::{
 /// The laws at one operation type: every run of small operations from a new store is sound, and replayed to its end it
 /// has the state after its commands in its cache.
 pub fn runs_of_bytes()
-    ensures sound {
-        (b : Bounds) (steps : List (Step ByteOp)) → IsSmall b → AreAllowed (byte_meaning b) (new_world ByteOp) steps →
-        IsSound (byte_meaning b) (run (byte_meaning b) (new_world ByteOp) steps)
-    }
-    ensures map {
-        (b : Bounds) (w : World ByteOp) (x : ℕ) → IsSmall b → IsSound (byte_meaning b) w →
-        ((run (byte_meaning b) w (redo_of w)).cache x).value ≡ state_after (byte_meaning b) (commands_of w.history) x
-    }
+    ensures sound { (b : Bounds) (steps : List (Step ByteOp)) → IsSmall b → AreAllowed (byte_meaning b) (new_world ByteOp) steps →
+        IsSound (byte_meaning b) (run (byte_meaning b) (new_world ByteOp) steps) }
+    ensures map { (b : Bounds) (w : World ByteOp) (x : ℕ) → IsSmall b → IsSound (byte_meaning b) w →
+        ((run (byte_meaning b) w (redo_of w)).cache x).value ≡ state_after (byte_meaning b) (commands_of w.history) x }
 {
     append_keeps::<ByteOp>();
     block_gate_keeps::<ByteOp>();
@@ -50,47 +46,31 @@ pub fn runs_of_bytes()
 /// Two objects are put and swapped; 1 is logged as an identity write, 0 is flushed, and the swap's node is removed.
 pub fn swap_is_flushed()
     ensures allowed { AreAllowed (byte_meaning two) (new_world ByteOp) swap_removed }
-    ensures slots {
-        ((after_steps swap_removed).slots 0 ≡ record { id = 3; value = 187 ∷ [] })
-        × ((after_steps swap_removed).slots 1 ≡ record { id = 0; value = [] })
-    }
-    ensures cache {
-        ((after_steps swap_removed).cache 0 ≡ record { id = 3; value = 187 ∷ [] })
-        × ((after_steps swap_removed).cache 1 ≡ record { id = 4; value = 170 ∷ [] })
-    }
+    ensures slots { ((after_steps swap_removed).slots 0 ≡ record { id = 3; value = 187 ∷ [] })
+        × ((after_steps swap_removed).slots 1 ≡ record { id = 0; value = [] }) }
+    ensures cache { ((after_steps swap_removed).cache 0 ≡ record { id = 3; value = 187 ∷ [] })
+        × ((after_steps swap_removed).cache 1 ≡ record { id = 4; value = 170 ∷ [] }) }
     // only the identity write is left to install
-    ensures graph {
-        ((after_steps swap_removed).graph 1 ≡ false) × ((after_steps swap_removed).graph 2 ≡ false)
-        × ((after_steps swap_removed).graph 3 ≡ false) × ((after_steps swap_removed).graph 4 ≡ true)
-    }
-    ensures map {
-        (x : ℕ) → ((after_steps swap_removed).cache x).value
-        ≡ state_after (byte_meaning two) (commands_of (after_steps swap_removed).history) x
-    }
+    ensures graph { ((after_steps swap_removed).graph 1 ≡ false) × ((after_steps swap_removed).graph 2 ≡ false)
+        × ((after_steps swap_removed).graph 3 ≡ false) × ((after_steps swap_removed).graph 4 ≡ true) }
+    ensures map { (x : ℕ) → ((after_steps swap_removed).cache x).value
+        ≡ state_after (byte_meaning two) (commands_of (after_steps swap_removed).history) x }
 {}
 
 /// The same, stopped just after the flush and replayed.
 pub fn swap_is_redone()
     ensures allowed { AreAllowed (byte_meaning two) (new_world ByteOp) (swap_redone 4) }
     // the slot of 0 is newer than the first put, which is skipped
-    ensures skipped {
-        ((after_steps (swap_redone 1)).cache 0 ≡ record { id = 3; value = 187 ∷ [] })
-        × ((after_steps (swap_redone 1)).graph 1 ≡ false)
-    }
-    ensures applied {
-        ((after_steps (swap_redone 2)).cache 1 ≡ record { id = 2; value = 187 ∷ [] })
-        × ((after_steps (swap_redone 2)).graph 2 ≡ true)
-    }
+    ensures skipped { ((after_steps (swap_redone 1)).cache 0 ≡ record { id = 3; value = 187 ∷ [] })
+        × ((after_steps (swap_redone 1)).graph 1 ≡ false) }
+    ensures applied { ((after_steps (swap_redone 2)).cache 1 ≡ record { id = 2; value = 187 ∷ [] })
+        × ((after_steps (swap_redone 2)).graph 2 ≡ true) }
     // the swap finds its own result in 0, and so gives 1 a value that it never had
     ensures wrong { (after_steps (swap_redone 3)).cache 1 ≡ record { id = 3; value = 187 ∷ [] } }
     // nobody reads it before the identity write makes it right
-    ensures healed {
-        ((after_steps (swap_redone 4)).cache 0 ≡ record { id = 3; value = 187 ∷ [] })
-        × ((after_steps (swap_redone 4)).cache 1 ≡ record { id = 4; value = 170 ∷ [] })
-    }
+    ensures healed { ((after_steps (swap_redone 4)).cache 0 ≡ record { id = 3; value = 187 ∷ [] })
+        × ((after_steps (swap_redone 4)).cache 1 ≡ record { id = 4; value = 170 ∷ [] }) }
     ensures live { IsLive (after_steps (swap_redone 4)) }
-    ensures map {
-        (x : ℕ) → ((after_steps (swap_redone 4)).cache x).value
-        ≡ state_after (byte_meaning two) (commands_of (after_steps (swap_redone 4)).history) x
-    }
+    ensures map { (x : ℕ) → ((after_steps (swap_redone 4)).cache x).value
+        ≡ state_after (byte_meaning two) (commands_of (after_steps (swap_redone 4)).history) x }
 {}
