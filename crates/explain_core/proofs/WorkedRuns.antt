@@ -1,5 +1,6 @@
 -- The worked runs are allowed.
-use Rattle.std.proofs.Common.{◌≡◌, sym, subst, ℕ, List, [], ◌∷◌, ◌++◌, refl, arith}
+use Rattle.std.proofs.Common.{◌≡◌, ◌<◌, sym, subst, ℕ, List, [], ◌∷◌, ◌++◌, refl, arith, inl, inr}
+use Rattle.std.proofs.lemmas.Bool.{cases_eq}
 use Rattle.oper_core.specs.Meaning.{IsLawful}
 use Rattle.install_order.specs.Computed.{IsWithin}
 use Rattle.install_order.specs.ListLaws.{all-gives}
@@ -10,7 +11,7 @@ use Rattle.explain_core.specs.ByteOps.{byte_meaning, byte_lawful}
 use Rattle.explain_core.specs.World.{Step, step, run, AreAllowed, IsReady, new_world, graph_access, work_of, end_of, replays}
 use Rattle.explain_core.specs.World.Step.{Slot_gate, Removal, Crash}
 use Rattle.explain_core.specs.Sound.{IsSound}
-use Rattle.explain_core.specs.Worked.{two, after_steps, swap_node, swap_logged, swap_flushed, swap_removed, swap_redone}
+use Rattle.explain_core.specs.Worked.{two, after_steps, swap_node, swap_logged, swap_flushed, swap_removed, swap_redone, redone_node, swap_installed, swap_redone_again}
 use Rattle.explain_core.proofs.Graph.{graph-within, allowed-append}
 use Rattle.explain_core.proofs.Runs.{run_sound, new_sound}
 
@@ -80,3 +81,65 @@ removed-allowed = one-more swap_flushed (Removal swap_node ∷ []) flushed-allow
 pub redone-allowed : AreAllowed (byte_meaning two) (new_world ByteOp) (swap_redone 4)
 unfolding step run
 redone-allowed = one-more swap_flushed (Crash ∷ replays 4) flushed-allowed (tt, (omega arith, (omega arith, (omega arith, (omega arith, tt)))))
+
+in_redo-allowed : AreAllowed (byte_meaning two) (new_world ByteOp) (swap_redone 3)
+unfolding step run
+in_redo-allowed = one-more swap_flushed (Crash ∷ replays 3) flushed-allowed (tt, (omega arith, (omega arith, (omega arith, tt))))
+
+in_redo-ready : IsReady (byte_meaning two) (after_steps (swap_redone 3)) redone_node
+unfolding step run
+in_redo-ready = (
+  (λ n there. all-gives (after_steps (swap_redone 3)).graph (2 ∷ 3 ∷ []) n refl there),
+  is_minimal-gives (graph_access (byte_meaning two) (after_steps (swap_redone 3))) 2 5 (2 ∷ 3 ∷ []) (within (swap_redone 3) in_redo-allowed) refl,
+  refl,
+)
+
+in_redo-work : work_of (byte_meaning two) (after_steps (swap_redone 3)) redone_node 1
+unfolding step run
+in_redo-work = (
+  (flushed-iff (graph_access (byte_meaning two) (after_steps (swap_redone 3))) 2 5 redone_node 1 (within (swap_redone 3) in_redo-allowed)).0 refl,
+  λ e. absurd (omega (arith, e)),
+)
+
+-- of the node's flush set only 1 is dirty
+in_redo-only : (y : ℕ) → work_of (byte_meaning two) (after_steps (swap_redone 3)) redone_node y → y ≡ 1
+unfolding step run
+in_redo-only y work =
+    let low : y < 2 = (within (swap_redone 3) in_redo-allowed).writes_object work.0.0 y work.0.2.0 in
+    elim (cases_eq y 0) [
+      | inl q ↦ absurd (work.1 (subst (λ (y : ℕ). ((after_steps (swap_redone 3)).slots y).id ≡ ((after_steps (swap_redone 3)).cache y).id) (sym q) refl))
+      | inr ne ↦ omega arith
+    ]
+
+gate-allowed : AreAllowed (byte_meaning two) (new_world ByteOp) (swap_redone 3 ++ Slot_gate redone_node 1 ∷ [])
+gate-allowed = one-more (swap_redone 3) (Slot_gate redone_node 1 ∷ []) in_redo-allowed ((in_redo-ready, in_redo-work, in_redo-only), tt)
+
+gate-ready : IsReady (byte_meaning two) (after_steps (swap_redone 3 ++ Slot_gate redone_node 1 ∷ [])) redone_node
+unfolding step run
+gate-ready = (
+  (λ n there. all-gives (after_steps (swap_redone 3 ++ Slot_gate redone_node 1 ∷ [])).graph (2 ∷ 3 ∷ []) n refl there),
+  is_minimal-gives (graph_access (byte_meaning two) (after_steps (swap_redone 3 ++ Slot_gate redone_node 1 ∷ []))) 2 5 (2 ∷ 3 ∷ []) (within (swap_redone 3 ++ Slot_gate redone_node 1 ∷ []) gate-allowed) refl,
+  refl,
+)
+
+-- both slots are as the cache has them
+gate-idle : (y : ℕ) → work_of (byte_meaning two) (after_steps (swap_redone 3 ++ Slot_gate redone_node 1 ∷ [])) redone_node y → ⊥
+unfolding step run
+gate-idle y work =
+    let w = after_steps (swap_redone 3 ++ Slot_gate redone_node 1 ∷ []) in
+    let low : y < 2 = (within (swap_redone 3 ++ Slot_gate redone_node 1 ∷ []) gate-allowed).writes_object work.0.0 y work.0.2.0 in
+    elim (cases_eq y 0) [
+      | inl q ↦ work.1 (subst (λ (y : ℕ). (w.slots y).id ≡ (w.cache y).id) (sym q) refl)
+      | inr ne ↦ let q : y ≡ 1 = omega arith in work.1 (subst (λ (y : ℕ). (w.slots y).id ≡ (w.cache y).id) (sym q) refl)
+    ]
+
+pub installed-allowed : AreAllowed (byte_meaning two) (new_world ByteOp) swap_installed
+installed-allowed = one-more (swap_redone 3 ++ Slot_gate redone_node 1 ∷ []) (Removal redone_node ∷ []) gate-allowed ((gate-ready, gate-idle), tt)
+
+pub ended-allowed : AreAllowed (byte_meaning two) (new_world ByteOp) (swap_installed ++ replays 1)
+unfolding step run
+ended-allowed = one-more swap_installed (replays 1) installed-allowed (omega arith, tt)
+
+pub again-allowed : AreAllowed (byte_meaning two) (new_world ByteOp) (swap_redone_again 4)
+unfolding step run
+again-allowed = one-more swap_installed (Crash ∷ replays 4) installed-allowed (tt, (omega arith, (omega arith, (omega arith, (omega arith, tt)))))

@@ -38,3 +38,15 @@ swap_removed = swap_flushed ++ Removal swap_node ∷ []
 -- the store stops just after the flush, and so many records are replayed
 abbrev pub swap_redone : ℕ → List (Step ByteOp)
 swap_redone n = swap_flushed ++ Crash ∷ replays n
+
+-- the node of the second put and the swap, in a redo that skipped the first put
+abbrev pub redone_node : ℕ → Bool
+redone_node = set_of (2 ∷ 3 ∷ [])
+
+-- before the identity write is replayed, that node is installed: the wrong value of 1 goes to its slot
+abbrev pub swap_installed : List (Step ByteOp)
+swap_installed = swap_redone 3 ++ Slot_gate redone_node 1 ∷ Removal redone_node ∷ []
+
+-- the store stops once more, and so many records are replayed
+abbrev pub swap_redone_again : ℕ → List (Step ByteOp)
+swap_redone_again n = swap_installed ++ Crash ∷ replays n

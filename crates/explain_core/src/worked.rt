@@ -1,13 +1,13 @@
-ghost use Rattle.std.specs.Prelude.{ℕ, ◌≡◌, ◌∷◌, [], List, true, false};
+ghost use Rattle.std.specs.Prelude.{ℕ, ◌≡◌, ◌∷◌, [], ◌++◌, List, true, false};
 ghost use Rattle.oper_core.specs.Meaning.{IsSmall, state_after};
 ghost use Rattle.oper_core.specs.declared.bounds.Bounds.{Bounds};
 ghost use Rattle.explain_core.specs.declared.byte_op.ByteOp.{ByteOp};
 ghost use Rattle.explain_core.specs.ByteOps.{byte_meaning};
 ghost use Rattle.explain_core.specs.History.{commands_of};
 ghost use Rattle.explain_core.specs.Explains.{Cell};
-ghost use Rattle.explain_core.specs.World.{World, Step, run, AreAllowed, IsLive, new_world, redo_of};
+ghost use Rattle.explain_core.specs.World.{World, Step, run, AreAllowed, IsLive, new_world, redo_of, replays};
 ghost use Rattle.explain_core.specs.Sound.{IsSound};
-ghost use Rattle.explain_core.specs.Worked.{two, after_steps, swap_logged, swap_flushed, swap_removed, swap_redone};
+ghost use Rattle.explain_core.specs.Worked.{two, after_steps, swap_logged, swap_flushed, swap_removed, swap_redone, swap_installed, swap_redone_again};
 
 use crate::{
     ByteOp, append_keeps, block_gate_keeps, check_keeps, crash_keeps, every_run_keeps,
@@ -73,4 +73,18 @@ pub fn swap_is_redone()
     ensures live { IsLive (after_steps (swap_redone 4)) }
     ensures map { (x : ℕ) → ((after_steps (swap_redone 4)).cache x).value
         ≡ state_after (byte_meaning two) (commands_of (after_steps (swap_redone 4)).history) x }
+{}
+
+/// The same, with an install in the middle of the redo: it writes a wrong value to the slot of 1, which nobody reads
+/// before the identity write is replayed, in this redo and in one after a further stop.
+pub fn swap_is_installed_in_a_redo()
+    ensures allowed { AreAllowed (byte_meaning two) (new_world ByteOp) (swap_installed ++ replays 1) }
+    ensures wrong { (after_steps swap_installed).slots 1 ≡ record { id = 3; value = 187 ∷ [] } }
+    ensures map { (x : ℕ) → ((after_steps (swap_installed ++ replays 1)).cache x).value
+        ≡ state_after (byte_meaning two) (commands_of (after_steps (swap_installed ++ replays 1)).history) x }
+    ensures allowed_again { AreAllowed (byte_meaning two) (new_world ByteOp) (swap_redone_again 4) }
+    ensures healed { ((after_steps (swap_redone_again 4)).cache 0 ≡ record { id = 3; value = 187 ∷ [] })
+        × ((after_steps (swap_redone_again 4)).cache 1 ≡ record { id = 4; value = 170 ∷ [] }) }
+    ensures map_again { (x : ℕ) → ((after_steps (swap_redone_again 4)).cache x).value
+        ≡ state_after (byte_meaning two) (commands_of (after_steps (swap_redone_again 4)).history) x }
 {}
