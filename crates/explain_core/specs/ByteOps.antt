@@ -8,7 +8,7 @@ use Rattle.std.proofs.lemmas.Map.Keys.{IsDistinct-cons, IsDistinct-from_apart}
 use Rattle.oper_core.specs.declared.bounds.Bounds.{Bounds}
 use Rattle.oper_core.specs.declared.refusal.Refusal.{Refusal}
 use Rattle.oper_core.specs.declared.refusal.Refusal.TheVariants.{NoObject, Same, TooLarge}
-use Rattle.oper_core.specs.Meaning.{Meaning, IsSmall, IsLawful, FitsReads}
+use Rattle.oper_core.specs.Meaning.{Meaning, HasBounds, IsSmall, IsLawful, FitsReads}
 use Rattle.explain_core.specs.declared.byte_op.ByteOp.{ByteOp}
 use Rattle.explain_core.specs.declared.byte_op.ByteOp.TheVariants.{Put, Swap}
 
@@ -124,6 +124,9 @@ writes-below b (Swap left right) e = two-below b left right e
 writes-apart : (b : Bounds) (op : ByteOp) → byte_shape b op ≡ None → IsDistinct nat_eq (byte_writes op)
 writes-apart b (Put object byte) e = one-apart object
 writes-apart b (Swap left right) e = two-apart b left right e
+
+pub byte_bounded : (b : Bounds) → HasBounds b (byte_meaning b)
+byte_bounded b = record { objects = refl; cap = refl }
 
 pub byte_lawful : (b : Bounds) → IsSmall b → IsLawful (byte_meaning b)
 byte_lawful b small = record {

@@ -1,6 +1,6 @@
 ghost use Rattle.std.specs.Prelude.{◌≡◌, [], ◌∷◌, None, IfSome, IfNone};
 ghost use Rattle.explain_core.specs.declared.byte_op.ByteOp.{ByteOp};
-ghost use Rattle.explain_core.specs.ByteOps.{byte_meaning, byte_code, byte_shape, byte_lawful};
+ghost use Rattle.explain_core.specs.ByteOps.{byte_meaning, byte_code, byte_shape, byte_bounded, byte_lawful};
 
 use oper_core::{Bounds, Memory, Objs, Oper, Refusal, Values};
 use std::alloc::Global;
@@ -14,6 +14,8 @@ pub enum ByteOp {
 
 impl Oper for ByteOp {
     ghost meaning = { byte_meaning };
+
+    ghost bounded = { byte_bounded };
 
     ghost lawful = { byte_lawful };
 

@@ -14,7 +14,7 @@ pub fn append_keeps<O: Oper>()
     ensures command { (b : Bounds) (w : World O) (op : O) → IsSound (O.meaning b) w → IsLive w →
         Accepts (O.meaning b) (λ x. (w.cache x).value) op →
         IsSound (O.meaning b) (step (O.meaning b) w (Append (Command op))) }
-    ensures identity { (b : Bounds) (w : World O) (x : ℕ) → IsSound (O.meaning b) w → IsLive w → x < (O.meaning b).objects →
+    ensures identity { (b : Bounds) (w : World O) (x : ℕ) → IsSound (O.meaning b) w → IsLive w → x < b.objects →
         IsSound (O.meaning b) (step (O.meaning b) w (Append (Identity x (w.cache x).value))) }
 {}
 
