@@ -1,5 +1,5 @@
--- The graph of a sound world has nodes, and a minimal one; runs in two parts.
-use Rattle.std.proofs.Common.{◌≡◌, ℕ, zero, suc, ◌<◌, Bool, List, [], ◌∷◌, ◌++◌, length, refl, arith, inl, inr}
+-- The graph of a sound world has nodes, and a minimal one.
+use Rattle.std.proofs.Common.{ℕ, zero, suc, ◌<◌, Bool, List, [], length, refl, arith, inl, inr}
 use Rattle.std.specs.Prelude.{IsTrue, IsFalse, slice_get}
 use Rattle.std.proofs.lemmas.Bool.{cases_lt, both_ways, and_parts}
 use Rattle.install_order.specs.Order.{Access, Edge, Reaches, IsMinimal, within}
@@ -9,7 +9,7 @@ use Rattle.install_order.specs.Computed.{IsWithin, edge_test, reach}
 use Rattle.install_order.specs.NodeLaws.{minimal-exists, reach-gives, test-gives}
 use Rattle.oper_core.specs.Meaning.{Meaning, IsLawful}
 use Rattle.explain_core.specs.History.{Member, accesses_of, value_at}
-use Rattle.explain_core.specs.World.{World, Step, step, run, AreAllowed, graph_access, end_of, node_named}
+use Rattle.explain_core.specs.World.{World, graph_access, end_of, node_named}
 use Rattle.explain_core.specs.Sound.{IsSound}
 use Rattle.explain_core.proofs.Basics.{front-append}
 use Rattle.explain_core.proofs.Append.{no-writes}
@@ -55,14 +55,3 @@ minimal-ready m law w s c there =
     let e = edge_test u m.objects (end_of w) in
     let r = minimal-exists u m.objects (end_of w) w.graph (graph-within m law w s) (λ o p edge. (edge-chosen w.graph (accesses_of m w.history) o p edge).0) (λ n held. omega (arith, (s.graph n held).1, s.next.1)) c there in
     (r.0, r.1, r.2, λ n held. walk-chosen w.graph (accesses_of m w.history) r.0 n r.1 (reach-gives u e (λ o p. test-gives u m.objects (end_of w) o p) (end_of w) r.0 n (and_parts (reach e (end_of w) r.0 n) _ held).0))
-
--- a run in two parts
-pub run-append : {O : Type 0} (m : Meaning O) (w : World O) (xs ys : List (Step O)) → run m w (xs ++ ys) ≡ run m (run m w xs) ys
-unfolding run
-run-append m w [] ys = refl
-run-append m w (x ∷ xs) ys = run-append m (step m w x) xs ys
-
-pub allowed-append : {O : Type 0} (m : Meaning O) (w : World O) (xs ys : List (Step O)) → AreAllowed m w xs → AreAllowed m (run m w xs) ys → AreAllowed m w (xs ++ ys)
-unfolding run
-allowed-append m w [] ys f g = g
-allowed-append m w (x ∷ xs) ys f g = (f.0, allowed-append m (step m w x) xs ys f.1 g)

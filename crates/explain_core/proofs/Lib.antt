@@ -16,3 +16,4 @@ pub mod Fold
 pub mod Exact
 pub mod ByteCodes
 pub mod WorkedRuns
+pub mod HalfSwap

@@ -1,21 +1,22 @@
 -- The worked runs are allowed.
-use Rattle.std.proofs.Common.{◌≡◌, ◌<◌, sym, subst, ℕ, List, [], ◌∷◌, ◌++◌, refl, arith, inl, inr}
-use Rattle.std.proofs.lemmas.Bool.{cases_eq}
+use Rattle.std.proofs.Common.{◌≡◌, ◌<◌, ◌≤◌, not, sym, subst, ℕ, IsTrue, List, [], ◌∷◌, ◌++◌, refl, arith, inl, inr}
+use Rattle.std.proofs.lemmas.Bool.{cases_eq, cases_lt, both_ways, not-true}
 use Rattle.oper_core.specs.Meaning.{IsLawful}
 use Rattle.install_order.specs.Computed.{IsWithin}
-use Rattle.install_order.specs.ListLaws.{all-gives}
+use Rattle.install_order.specs.ListLaws.{all-gives, all_below-gives}
 use Rattle.install_order.specs.NodeLaws.{flushed-iff}
 use Rattle.install_order.specs.Checks.{is_minimal-gives, flushes_only-gives}
 use Rattle.explain_core.specs.declared.byte_op.ByteOp.{ByteOp}
 use Rattle.explain_core.specs.ByteOps.{byte_meaning, byte_lawful}
 use Rattle.explain_core.specs.World.{Step, step, run, AreAllowed, IsReady, new_world, graph_access, work_of, end_of, replays}
-use Rattle.explain_core.specs.World.Step.{Slot_gate, Removal, Crash}
+use Rattle.explain_core.specs.World.Step.{Block_gate, Check, Slot_gate, Removal, Header_gate, Crash}
+use Rattle.explain_core.specs.RunLaws.{allowed-append}
 use Rattle.explain_core.specs.Sound.{IsSound}
-use Rattle.explain_core.specs.Worked.{two, after_steps, swap_node, swap_logged, swap_flushed, swap_removed, swap_redone, redone_node, swap_installed, swap_redone_again}
-use Rattle.explain_core.proofs.Graph.{graph-within, allowed-append}
+use Rattle.explain_core.specs.Worked.{two, after_steps, swap_node, swap_logged, swap_flushed, swap_removed, swap_checked, swap_redone, redone_node, swap_installed, swap_redone_again}
+use Rattle.explain_core.proofs.Graph.{graph-within}
 use Rattle.explain_core.proofs.Runs.{run_sound, new_sound}
 
-two-lawful : IsLawful (byte_meaning two)
+pub two-lawful : IsLawful (byte_meaning two)
 two-lawful = byte_lawful two (record { objects = omega arith; cap = omega arith })
 
 -- allowed steps of a new store lead to a sound world
@@ -77,6 +78,19 @@ removed-allowed = one-more swap_flushed (Removal swap_node ∷ []) flushed-allow
   ),
   tt,
 )
+
+-- only the identity write is left in the graph
+from-four : (n : ℕ) → IsTrue ((after_steps swap_removed).graph n) → 4 ≤ n
+unfolding step run
+from-four n there = elim (cases_lt n 4) [
+  | inl low ↦ absurd (both_ways _ (not-true _ (all_below-gives 4 (λ n. not ((after_steps swap_removed).graph n)) n refl low)) there)
+  | inr high ↦ high
+]
+
+pub checked-allowed : AreAllowed (byte_meaning two) (new_world ByteOp) swap_checked
+unfolding step run
+checked-allowed = one-more swap_removed (Check ∷ Block_gate ∷ Header_gate 4 ∷ Crash ∷ []) removed-allowed
+    (omega arith, (omega arith, ((omega arith, refl, omega arith, omega arith, from-four), (tt, tt))))
 
 pub redone-allowed : AreAllowed (byte_meaning two) (new_world ByteOp) (swap_redone 4)
 unfolding step run

@@ -1,6 +1,7 @@
 pub mod History
 pub mod Explains
 pub mod World
+pub mod RunLaws
 pub mod Sound
 pub mod Stable
 pub mod Exact

@@ -21,4 +21,7 @@ pub use steps::{
     append_keeps, block_gate_keeps, check_keeps, crash_keeps, every_run_keeps, header_gate_keeps,
     removal_keeps, replay_keeps, slot_gate_keeps,
 };
-pub use worked::{runs_of_bytes, swap_is_flushed, swap_is_installed_in_a_redo, swap_is_redone};
+pub use worked::{
+    half_a_swap_is_not_explained, runs_of_bytes, swap_is_checked, swap_is_flushed,
+    swap_is_installed_in_a_redo, swap_is_redone,
+};

@@ -1,13 +1,13 @@
-ghost use Rattle.std.specs.Prelude.{ℕ, ◌≡◌, ◌∷◌, [], ◌++◌, List, true, false};
+ghost use Rattle.std.specs.Prelude.{ℕ, ◌≡◌, ◌∷◌, [], ◌++◌, List, Bool, true, false};
 ghost use Rattle.oper_core.specs.Meaning.{IsSmall, state_after};
 ghost use Rattle.oper_core.specs.declared.bounds.Bounds.{Bounds};
 ghost use Rattle.explain_core.specs.declared.byte_op.ByteOp.{ByteOp};
 ghost use Rattle.explain_core.specs.ByteOps.{byte_meaning};
-ghost use Rattle.explain_core.specs.History.{commands_of};
-ghost use Rattle.explain_core.specs.Explains.{Cell};
-ghost use Rattle.explain_core.specs.World.{World, Step, run, AreAllowed, IsLive, new_world, redo_of, replays};
+ghost use Rattle.explain_core.specs.History.{accesses_of, value_at, commands_of};
+ghost use Rattle.explain_core.specs.Explains.{Cell, Explains};
+ghost use Rattle.explain_core.specs.World.{World, Step, run, AreAllowed, IsLive, new_world, redo_of, replays, plan_of};
 ghost use Rattle.explain_core.specs.Sound.{IsSound};
-ghost use Rattle.explain_core.specs.Worked.{two, after_steps, swap_logged, swap_flushed, swap_removed, swap_redone, swap_installed, swap_redone_again};
+ghost use Rattle.explain_core.specs.Worked.{two, swapped, half_flushed, after_steps, swap_logged, swap_flushed, swap_removed, swap_checked, swap_redone, swap_installed, swap_redone_again};
 
 use crate::{
     ByteOp, append_keeps, block_gate_keeps, check_keeps, crash_keeps, every_run_keeps,
@@ -43,6 +43,13 @@ pub fn runs_of_bytes()
     some_node_is_minimal::<ByteOp>();
 }
 
+/// Why two objects of one node are not flushed one after the other: with one half of the swap in its slot, no set of
+/// installed records explains the slots.
+pub fn half_a_swap_is_not_explained()
+    ensures { (installed : ℕ → Bool) →
+        Explains (accesses_of (byte_meaning two) swapped) (value_at (byte_meaning two) swapped) installed half_flushed → ⊥ }
+{}
+
 /// Two objects are put and swapped; 1 is logged as an identity write, 0 is flushed, and the swap's node is removed.
 pub fn swap_is_flushed()
     ensures allowed { AreAllowed (byte_meaning two) (new_world ByteOp) swap_removed }
@@ -55,6 +62,19 @@ pub fn swap_is_flushed()
         × ((after_steps swap_removed).graph 3 ≡ false) × ((after_steps swap_removed).graph 4 ≡ true) }
     ensures map { (x : ℕ) → ((after_steps swap_removed).cache x).value
         ≡ state_after (byte_meaning two) (commands_of (after_steps swap_removed).history) x }
+{}
+
+/// Then a check is taken and forced, the log is cut before the identity write, and the store stops: the redo begins
+/// with that record, and needs it for 1 alone.
+pub fn swap_is_checked()
+    ensures allowed { AreAllowed (byte_meaning two) (new_world ByteOp) swap_checked }
+    ensures plan { ((plan_of (after_steps swap_checked).tables 4).redo_from 0 ≡ 5)
+        × ((plan_of (after_steps swap_checked).tables 4).redo_from 1 ≡ 4)
+        × ((plan_of (after_steps swap_checked).tables 4).next ≡ 5) }
+    ensures base { ((after_steps swap_checked).base ≡ 4) × ((after_steps swap_checked).commands_before ≡ 3)
+        × ((after_steps swap_checked).next ≡ 4) }
+    ensures map { (x : ℕ) → ((run (byte_meaning two) (after_steps swap_checked) (redo_of (after_steps swap_checked))).cache x).value
+        ≡ state_after (byte_meaning two) (commands_of (after_steps swap_checked).history) x }
 {}
 
 /// The same, stopped just after the flush and replayed.
