@@ -85,7 +85,7 @@ pub fn swap_is_redone()
         × ((after_steps (swap_redone 1)).graph 1 ≡ false) }
     ensures applied { ((after_steps (swap_redone 2)).cache 1 ≡ record { id = 2; value = 187 ∷ [] })
         × ((after_steps (swap_redone 2)).graph 2 ≡ true) }
-    // the swap finds its own result in 0, and so gives 1 a value that it never had
+    // the swap finds its own result in 0, and so makes bb of 1, where it had made aa
     ensures wrong { (after_steps (swap_redone 3)).cache 1 ≡ record { id = 3; value = 187 ∷ [] } }
     // nobody reads it before the identity write makes it right
     ensures healed { ((after_steps (swap_redone 4)).cache 0 ≡ record { id = 3; value = 187 ∷ [] })
