@@ -1,7 +1,8 @@
 -- Numbers and their bytes, the lowest first: each gives the other back.
-use Rattle.std.proofs.Common.{◌≡◌, ℕ, zero, suc, ◌+◌, ◌*◌, ◌/◌, ◌%◌, ◌^◌, ◌<◌, ◌≤◌, List, [], ◌∷◌, ◌++◌, length, take, drop, slice_index, refl, sym, ap, ◌∙◌, arith}
+use Rattle.std.proofs.Common.{◌≡◌, ℕ, zero, suc, ◌+◌, ◌-◌, ◌*◌, ◌/◌, ◌%◌, ◌^◌, ◌<◌, ◌≤◌, List, [], ◌∷◌, ◌++◌, length, take, drop, slice_index, refl, sym, ap, ◌∙◌, arith}
 use Rattle.std.proofs.Math.Nat.{div-div-eq-div-mul, pow-succ'}
 use Rattle.std.proofs.Math.Seq.{drop-append_seam}
+use Rattle.std.proofs.lemmas.List.{length-drop, take-append-drop, take_all}
 use Rattle.std.specs.Int.{byte_at, bytes_low_first}
 use Rattle.byteorder.specs.Endian.{little_bytes, little_number}
 use Rattle.byteorder.specs.Numbers.{length-bytes_low_first, little_from-cons, little_number-reads_back}
@@ -46,6 +47,12 @@ little_bytes-little_number (suc n) (byte ∷ bytes) long small =
     ∙ ap (λ (y : ℕ). y ∷ bytes_low_first 1 n (byte + 256 * little_number n bytes)) low
     ∙ ap (λ (ys : List ℕ). byte ∷ ys) rest
 
+-- a list of bytes begins with the bytes of the number in its first n
+pub little_bytes-front : (n : ℕ) (bytes : List ℕ) → n ≤ length bytes → ((i : ℕ) → slice_index bytes i < 256)
+    → bytes ≡ little_bytes n (little_number n bytes) ++ drop n bytes
+little_bytes-front n bytes long small =
+    sym (take-append-drop n bytes) ∙ ap (λ (front : List ℕ). front ++ drop n bytes) (sym (little_bytes-little_number n bytes long small))
+
 -- two numbers with the same n bytes in front are equal, and so is what stands behind
 pub little_bytes-split : (n x y : ℕ) (rest more : List ℕ) → x < 256 ^ n → y < 256 ^ n
     → little_bytes n x ++ rest ≡ little_bytes n y ++ more → (x ≡ y) × (rest ≡ more)
@@ -58,3 +65,7 @@ little_bytes-split n x y rest more fits also same =
 -- two numbers with the same n bytes are equal
 pub little_bytes-injective : (n x y : ℕ) → x < 256 ^ n → y < 256 ^ n → little_bytes n x ≡ little_bytes n y → x ≡ y
 little_bytes-injective n x y fits also same = (little_bytes-split n x y [] [] fits also (ap (λ (bytes : List ℕ). bytes ++ []) same)).0
+
+-- the bytes from a place on, as a slice gives them
+pub slice_from : (place : ℕ) (bytes : List ℕ) → take (length bytes - place) (drop place bytes) ≡ drop place bytes
+slice_from place bytes = take_all (length bytes - place) (drop place bytes) (omega (arith, length-drop place bytes))

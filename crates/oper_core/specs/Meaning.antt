@@ -1,5 +1,5 @@
 -- What an operation means, and the commands of a whole store.
-use Rattle.std.specs.Prelude.{◌≡◌, ℕ, ◌≤◌, ◌<◌, ◌^◌, nat_eq, Bool, IsTrue, Option, None, Some, List, ◌++◌, length, map, fold, All}
+use Rattle.std.specs.Prelude.{◌≡◌, ℕ, ◌≤◌, ◌<◌, ◌^◌, nat_eq, Bool, true, false, IsTrue, Option, None, Some, List, ◌++◌, length, map, fold, All}
 use Rattle.std.specs.List.{IsDistinct}
 use Rattle.oper_core.specs.State.{State, start, with_values}
 use Rattle.oper_core.specs.declared.bounds.Bounds.{Bounds}
@@ -62,6 +62,11 @@ pub record IsLawful {O : Type 0} (m : Meaning O) : Type 0 where
   pub encodable : (op : O) → IsInGrammar m op → IsTrue (m.is_encodable op)
   -- bytes begin with the code of at most one operation: no code is another's beginning
   pub one_code : (a b : O) (bytes : List ℕ) → StartsWithCode m bytes a → StartsWithCode m bytes b → a ≡ b
+
+-- the refusal where the test fails
+abbrev pub unless : Bool → Refusal → Option Refusal
+unless true r = None
+unless false r = Some r
 
 -- the first refusal, or the other where there is none
 abbrev pub or_else : Option Refusal → Option Refusal → Option Refusal

@@ -1,0 +1,17 @@
+-- Bytes that begin with a record.
+use Rattle.std.specs.Prelude.{◌≡◌, IsTrue, List, ℕ, ◌++◌}
+use Rattle.oper_core.specs.Meaning.{Meaning}
+use Rattle.oper_core.specs.declared.bounds.Bounds.{Bounds}
+use Rattle.formats.specs.Records.{IsRecord, record_code}
+use Rattle.formats.specs.declared.record.Record.{Record}
+use Rattle.formats.specs.declared.record.Record.TheVariants.{Command}
+
+-- the bytes begin with its code, and it is in the grammar
+pub record StartsWithRecord {O : Type 0} (m : Meaning O) (bytes : List ℕ) (it : Record O) : Type 0 where
+  pub rest : List ℕ
+  pub split : bytes ≡ record_code m it ++ rest
+  pub in_grammar : IsRecord m it
+
+-- its operation has a code, whatever the bounds: each list of bytes in it has a length of four bytes
+abbrev pub IsEncodable : {O : Type 0} → (Bounds → Meaning O) → Record O → Type 0
+IsEncodable meaning (Command number op) = (b : Bounds) × IsTrue ((meaning b).is_encodable op)

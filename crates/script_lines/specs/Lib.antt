@@ -1,0 +1,6 @@
+pub mod Grammar
+pub mod GrammarLaws
+pub mod Replies
+pub mod Reader
+pub mod Reading
+pub mod Words

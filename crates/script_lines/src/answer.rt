@@ -1,0 +1,97 @@
+ghost use Rattle.std.specs.Prelude.{◌≡◌, ◌++◌, OnOk, IfOk};
+ghost use Rattle.std.specs.Fmt.{decimal};
+ghost use Rattle.script_lines.specs.Replies.{reply_of, text_of, said_line, name_of};
+
+use crate::hex::push_hex;
+use oper_core::{Memory, Refusal};
+use std::alloc::Global;
+
+/// What a line is answered.
+#[derive(Clone, Copy, Debug, Drop)]
+pub enum Answer<'a> {
+    /// A command was done: `ok`.
+    Done,
+    /// The value of an object: lower-case hexadecimal, or `-` where it is empty.
+    Value(&'a [u8]),
+    /// So many commands are stable: `forced n`.
+    Forced(u64),
+    /// The line is outside the grammar: `bad`.
+    Bad,
+    /// A command was refused: `refused NAME`.
+    Refused(Refusal),
+    /// The log has no room for a record: `full used need limit`.
+    Full { used: u64, need: u64, limit: u64 },
+    /// No record number is left: `end number`.
+    End { number: u64 },
+}
+
+/// The name of a refusal.
+fn refusal_name(refusal: Refusal) -> &'static [u8]
+    ensures { result.now ≡ name_of refusal }
+{
+    match refusal {
+        Refusal::NoObject => b"NoObject",
+        Refusal::Same => b"Same",
+        Refusal::BadPlace => b"BadPlace",
+        Refusal::BadWidth => b"BadWidth",
+        Refusal::NotApp => b"NotApp",
+        Refusal::NoInput => b"NoInput",
+        Refusal::NotNode => b"NotNode",
+        Refusal::NoKey => b"NoKey",
+        Refusal::NodeFull => b"NodeFull",
+        Refusal::TooLarge => b"TooLarge",
+    }
+}
+
+/// Adds a number in digits.
+fn push_number(alloc: Global, text: &mut Vec<u8>, number: u64) -> Result<(), Memory>
+    ensures { OnOk result (text.new.items ≡ text.old.items ++ decimal number) }
+{
+    let digits = number.to_string(alloc)?;
+    text.extend_from_slice(digits.as_bytes())?;
+    Ok(())
+}
+
+/// The text of an answer, without a newline.
+#[tactic(auto, unfolding(crate::specs::Replies::text_of))]
+pub fn answer_text(alloc: Global, answer: &Answer<'_>) -> Result<Vec<u8>, Memory>
+    ensures { IfOk result (λ text. text.items ≡ text_of (reply_of answer.now)) }
+{
+    let mut text = Vec::new(alloc);
+    match answer {
+        Answer::Done => text.extend_from_slice(b"ok")?,
+        Answer::Value([]) => text.extend_from_slice(b"-")?,
+        Answer::Value(bytes) => push_hex(&mut text, bytes)?,
+        Answer::Forced(number) => {
+            text.extend_from_slice(b"forced ")?;
+            push_number(alloc, &mut text, *number)?;
+        }
+        Answer::Bad => text.extend_from_slice(b"bad")?,
+        Answer::Refused(refusal) => {
+            text.extend_from_slice(b"refused ")?;
+            text.extend_from_slice(refusal_name(*refusal))?;
+        }
+        Answer::Full { used, need, limit } => {
+            text.extend_from_slice(b"full ")?;
+            push_number(alloc, &mut text, *used)?;
+            text.push(b' ')?;
+            push_number(alloc, &mut text, *need)?;
+            text.push(b' ')?;
+            push_number(alloc, &mut text, *limit)?;
+        }
+        Answer::End { number } => {
+            text.extend_from_slice(b"end ")?;
+            push_number(alloc, &mut text, *number)?;
+        }
+    }
+    Ok(text)
+}
+
+/// The text of an answer and a newline, as it is said.
+pub fn answer_line(alloc: Global, answer: &Answer<'_>) -> Result<Vec<u8>, Memory>
+    ensures { IfOk result (λ line. line.items ≡ said_line (reply_of answer.now)) }
+{
+    let mut line = answer_text(alloc, answer)?;
+    line.push(b'\n')?;
+    Ok(line)
+}

@@ -1,0 +1,28 @@
+//! The lines of a script and the answers to them, the words of the command line, and a reader of lines.
+//!
+//! The one contract is the grammar of `specs/`, a relation on bytes: a line is parsed exactly where it is in the
+//! grammar, an answer is exactly the text of its reply, and the reader gives exactly the lines of its source, one after
+//! the other. The crate stands on oper_core, whose refusals an answer names, on formats, whose limits the words are
+//! held to, and on the source of disk_model.
+#![tactic(auto)]
+
+mod answer;
+mod hex;
+mod laws;
+mod line;
+mod next;
+mod number;
+mod read_error;
+mod reader;
+#[cfg(test)]
+mod tests;
+mod words;
+
+pub use answer::{Answer, answer_line, answer_text};
+pub use hex::hex_bytes;
+pub use laws::a_line_asks_one_thing;
+pub use line::{Bad, Line, MAX_LINE, parse_line};
+pub use next::Next;
+pub use read_error::ReadError;
+pub use reader::LineReader;
+pub use words::{Asked, read_words};

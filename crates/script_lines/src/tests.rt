@@ -1,0 +1,309 @@
+ghost use Rattle.std.specs.Prelude.{⊤, []};
+
+use crate::{
+    Answer, Asked, Bad, Line, LineReader, Next, ReadError, answer_line, answer_text, hex_bytes,
+    parse_line, read_words,
+};
+use disk_model::{Failed, Source};
+use formats::Params;
+use oper_core::Refusal;
+use std::alloc::Global;
+use std::test::Fail;
+
+#[test]
+fn lines_are_parsed(rt: HostRuntime) {
+    let good: [(&[u8], Line<'_>); 6] = [
+        (
+            b"put 0 aa",
+            Line::Put {
+                object: 0,
+                hex: b"aa",
+            },
+        ),
+        (
+            b"put 4294967295 00FfA9",
+            Line::Put {
+                object: 4294967295,
+                hex: b"00FfA9",
+            },
+        ),
+        (
+            b"put 10 -",
+            Line::Put {
+                object: 10,
+                hex: b"-",
+            },
+        ),
+        (b"get 0", Line::Get { object: 0 }),
+        (b"get 4294967295", Line::Get { object: 4294967295 }),
+        (b"force", Line::Force),
+    ];
+    for (line, want) in good {
+        assert_eq!(rt; parse_line(line), Ok(want));
+    }
+    let bad: [&[u8]; 39] = [
+        b"",
+        b"# x",
+        b" ",
+        b"put",
+        b"put 0",
+        b"put 0 ",
+        b"put 0 a",
+        b"put 0 aab",
+        b"put 0 ag",
+        b"put 0 --",
+        b"put 0 -a",
+        b"put 00 aa",
+        b"put 01 aa",
+        b"put  0 aa",
+        b"put 0  aa",
+        b"put 0 aa ",
+        b" put 0 aa",
+        b"put 0 aa\r",
+        b"put 0 aa bb",
+        b"put x aa",
+        b"put 4294967296 aa",
+        b"PUT 0 aa",
+        b"put\t0 aa",
+        b"get",
+        b"get ",
+        b"get 00",
+        b"get 0 ",
+        b"get 0 1",
+        b"get -1",
+        b"get +1",
+        b"get 4294967296",
+        b"get 18446744073709551616",
+        b"Get 0",
+        b"force ",
+        b"force 1",
+        b"Force",
+        b"forced",
+        b"copy 0 1",
+        b"dump",
+    ];
+    for line in bad {
+        assert_eq!(rt; parse_line(line), Err(Bad), "{line:?}");
+    }
+}
+
+#[test]
+fn hex_is_read(rt: HostRuntime) -> Result<(), Fail> {
+    let cases: [(&[u8], &[u8]); 3] = [
+        (b"put 0 -", &[]),
+        (b"put 0 00", &[0]),
+        (b"put 0 09aAfFC3", &[0x09, 0xaa, 0xff, 0xc3]),
+    ];
+    for (line, want) in cases {
+        if let Ok(Line::Put { hex, .. }) = parse_line(line) {
+            assert_eq!(rt; hex_bytes(rt.alloc(), hex)?.as_slice(), want);
+        } else {
+            assert!(rt; false, "{line:?}");
+        }
+    }
+    Ok(())
+}
+
+#[test]
+fn answers_have_their_texts(rt: HostRuntime) -> Result<(), Fail> {
+    let full = Answer::Full {
+        used: 5248,
+        need: 902,
+        limit: 6144,
+    };
+    let end = Answer::End {
+        number: 4611686018427387904,
+    };
+    let cases: [(Answer<'_>, &[u8]); 18] = [
+        (Answer::Done, b"ok"),
+        (Answer::Value(&[]), b"-"),
+        (Answer::Value(&[0x00, 0x9a, 0xff]), b"009aff"),
+        (Answer::Forced(0), b"forced 0"),
+        (
+            Answer::Forced(18446744073709551615),
+            b"forced 18446744073709551615",
+        ),
+        (Answer::Bad, b"bad"),
+        (Answer::Refused(Refusal::NoObject), b"refused NoObject"),
+        (Answer::Refused(Refusal::Same), b"refused Same"),
+        (Answer::Refused(Refusal::BadPlace), b"refused BadPlace"),
+        (Answer::Refused(Refusal::BadWidth), b"refused BadWidth"),
+        (Answer::Refused(Refusal::NotApp), b"refused NotApp"),
+        (Answer::Refused(Refusal::NoInput), b"refused NoInput"),
+        (Answer::Refused(Refusal::NotNode), b"refused NotNode"),
+        (Answer::Refused(Refusal::NoKey), b"refused NoKey"),
+        (Answer::Refused(Refusal::NodeFull), b"refused NodeFull"),
+        (Answer::Refused(Refusal::TooLarge), b"refused TooLarge"),
+        (full, b"full 5248 902 6144"),
+        (end, b"end 4611686018427387904"),
+    ];
+    for (answer, want) in cases {
+        assert_eq!(rt; answer_text(rt.alloc(), &answer)?.as_slice(), want);
+    }
+    let line = answer_line(rt.alloc(), &Answer::Forced(3))?;
+    assert_eq!(rt; line.as_slice(), b"forced 3\n".as_slice());
+    Ok(())
+}
+
+fn strings(alloc: Global, words: &[&str]) -> Result<Vec<String>, Fail> {
+    let mut strings = Vec::new(alloc);
+    for word in words {
+        strings.push(word.to_string(alloc)?)?;
+    }
+    Ok(strings)
+}
+
+#[test]
+fn words_are_read(rt: HostRuntime) -> Result<(), Fail> {
+    let largest = Params {
+        objects: 4096,
+        cap: 16384,
+        limit: 536870912,
+    };
+    let least = Params {
+        objects: 1,
+        cap: 16,
+        limit: 4128,
+    };
+    let cases: [(&[&str], Option<Asked>); 20] = [
+        (&["redo", "run"], Some(Asked::Run)),
+        (
+            &["redo", "init", "1", "16", "4128"],
+            Some(Asked::Init(least)),
+        ),
+        (
+            &["redo", "init", "4096", "16384", "536870912"],
+            Some(Asked::Init(largest)),
+        ),
+        (&[], None),
+        (&["redo"], None),
+        (&["redo", "fly"], None),
+        (&["redo", "--help"], None),
+        (&["redo", "Run"], None),
+        (&["redo", "run", "run"], None),
+        (&["redo", "init"], None),
+        (&["redo", "init", "8", "64"], None),
+        (&["redo", "init", "8", "64", "65536", "1"], None),
+        (&["redo", "init", "0", "64", "65536"], None),
+        (&["redo", "init", "4097", "64", "65536"], None),
+        (&["redo", "init", "8", "15", "65536"], None),
+        (&["redo", "init", "8", "16385", "65536"], None),
+        (&["redo", "init", "8", "64", "4223"], None),
+        (&["redo", "init", "8", "64", "536870913"], None),
+        (&["redo", "init", "+8", "64", "65536"], None),
+        (&["redo", "init", "008", "64", "65536"], None),
+    ];
+    for (words, want) in cases {
+        let words = strings(rt.alloc(), words)?;
+        assert_eq!(rt; read_words(words.as_slice()), want);
+    }
+    Ok(())
+}
+
+/// Gives bytes in pieces of so many.
+#[derive(Drop)]
+struct Pieces<'a> {
+    left: &'a [u8],
+    size: usize,
+}
+
+impl Source for Pieces<'_> {
+    ghost use Rattle.std.specs.Prelude.{⊤, []};
+
+    ghost tells = { λ _. ⊤ };
+
+    ghost left = { λ s. s.left.now };
+
+    ghost faults = { λ _. 0 };
+
+    fn read(&mut self, into: &mut [u8]) -> Result<usize, Failed> {
+        let count = self.size.max(1).min(into.len()).min(self.left.len());
+        let (front, rest) = self.left.split_at(count);
+        into[..count].copy_from_slice(front);
+        self.left = rest;
+        Ok(count)
+    }
+}
+
+/// Fails.
+#[derive(Drop)]
+struct Broken {
+    faults: u64,
+}
+
+impl Source for Broken {
+    ghost tells = { λ _. ⊤ };
+
+    ghost left = { λ _. [] };
+
+    ghost faults = { λ s. s.faults };
+
+    fn read(&mut self, _into: &mut [u8]) -> Result<usize, Failed> {
+        self.faults = self.faults.saturating_add(1);
+        Err(Failed)
+    }
+}
+
+#[test]
+fn lines_are_read(rt: HostRuntime) -> Result<(), Fail> {
+    let cases: [(&[u8], &[(Next, &[u8])]); 5] = [
+        (b"", &[(Next::End, b"")]),
+        (b"\n", &[(Next::Line, b""), (Next::End, b"")]),
+        (
+            b"ab\nc",
+            &[(Next::Line, b"ab"), (Next::Line, b"c"), (Next::End, b"")],
+        ),
+        (b"ab\n", &[(Next::Line, b"ab"), (Next::End, b"")]),
+        (
+            b"\n\na\r\n",
+            &[
+                (Next::Line, b""),
+                (Next::Line, b""),
+                (Next::Line, b"a\r"),
+                (Next::End, b""),
+            ],
+        ),
+    ];
+    for size in [1, 2, 100] {
+        for (script, wants) in cases {
+            let mut source = Pieces { left: script, size };
+            let mut reader = LineReader::new(rt.alloc())?;
+            for (next, line) in wants {
+                assert_eq!(rt; reader.next(&mut source)?, *next);
+                assert_eq!(rt; reader.line(), *line);
+            }
+        }
+    }
+    Ok(())
+}
+
+#[test]
+fn long_lines_are_thrown_away(rt: HostRuntime) -> Result<(), Fail> {
+    let mut script = vec![in rt.alloc(); b'a'; 40000]?;
+    script.push(b'\n')?;
+    script.extend_from_slice(&[b'b'; 40001])?;
+    script.extend_from_slice(b"\nc\n")?;
+    for size in [1, 65536] {
+        let mut source = Pieces {
+            left: script.as_slice(),
+            size,
+        };
+        let mut reader = LineReader::new(rt.alloc())?;
+        assert_eq!(rt; reader.next(&mut source)?, Next::Line);
+        assert_eq!(rt; reader.line().len(), 40000);
+        assert_eq!(rt; reader.next(&mut source)?, Next::Long);
+        assert_eq!(rt; reader.next(&mut source)?, Next::Line);
+        assert_eq!(rt; reader.line(), b"c".as_slice());
+        assert_eq!(rt; reader.next(&mut source)?, Next::End);
+    }
+    Ok(())
+}
+
+#[test]
+fn a_failing_source_is_told(rt: HostRuntime) -> Result<(), Fail> {
+    let mut source = Broken { faults: 0 };
+    let mut reader = LineReader::new(rt.alloc())?;
+    assert_eq!(rt; reader.next(&mut source), Err(ReadError::ReadFault));
+    assert_eq!(rt; source.faults, 1);
+    Ok(())
+}
