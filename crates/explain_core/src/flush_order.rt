@@ -13,7 +13,8 @@ use oper_core::Oper;
 /// A part of the uninstalled members can be installed by writing current versions exactly where no edge over the
 /// uninstalled members leads into it.
 pub fn exactly_no_edge<O: Oper>()
-    ensures { (b : Bounds) (h : List (Member O)) (installed part : ℕ → Bool) (state : ℕ → Cell) → IsTrue (installed 0) →
+    ensures { (b : Bounds) (h : List (Member O)) (installed part : ℕ → Bool) (state : ℕ → Cell) →
+        IsTrue (installed 0) →
         Explains (accesses_of (O.meaning b) h) (value_at (O.meaning b) h) installed state →
         IsPartOf part (rest_of h installed) →
         CanInstall (O.meaning b) h installed part state
@@ -23,13 +24,14 @@ pub fn exactly_no_edge<O: Oper>()
 /// A minimal node of the uninstalled members can be installed, and no part of a node that has one member and lacks
 /// another can be.
 pub fn minimal_nodes_are_whole<O: Oper>()
-    ensures whole { (b : Bounds) (h : List (Member O)) (installed node : ℕ → Bool) (state : ℕ → Cell) → IsTrue (installed 0) →
+    ensures whole { (b : Bounds) (h : List (Member O)) (installed node : ℕ → Bool) (state : ℕ → Cell) →
+        IsTrue (installed 0) →
         Explains (accesses_of (O.meaning b) h) (value_at (O.meaning b) h) installed state →
         IsPartOf node (rest_of h installed) →
         IsMinimal (within (rest_of h installed) (accesses_of (O.meaning b) h)) node →
         CanInstall (O.meaning b) h installed node state }
-    ensures part { (b : Bounds) (h : List (Member O)) (installed node part : ℕ → Bool) (state : ℕ → Cell) (held lacked : ℕ) →
-        IsTrue (installed 0) →
+    ensures part { (b : Bounds) (h : List (Member O)) (installed node part : ℕ → Bool) (state : ℕ → Cell)
+        (held lacked : ℕ) → IsTrue (installed 0) →
         Explains (accesses_of (O.meaning b) h) (value_at (O.meaning b) h) installed state →
         IsPartOf node (rest_of h installed) →
         IsNode (within (rest_of h installed) (accesses_of (O.meaning b) h)) node →

@@ -24,8 +24,10 @@ pub fn live_cache_is_the_map<O: Oper>()
 /// A sound world that is replayed to its end, without another step, is live, and its cache is the state after its
 /// commands.
 pub fn redo_gives_the_map<O: Oper>()
-    ensures allowed { (b : Bounds) (w : World O) → IsSmall b → IsSound (O.meaning b) w → AreAllowed (O.meaning b) w (redo_of w) }
-    ensures live { (b : Bounds) (w : World O) → IsSmall b → IsSound (O.meaning b) w → IsLive (run (O.meaning b) w (redo_of w)) }
+    ensures allowed { (b : Bounds) (w : World O) → IsSmall b → IsSound (O.meaning b) w →
+        AreAllowed (O.meaning b) w (redo_of w) }
+    ensures live { (b : Bounds) (w : World O) → IsSmall b → IsSound (O.meaning b) w →
+        IsLive (run (O.meaning b) w (redo_of w)) }
     ensures map { (b : Bounds) (w : World O) (x : ℕ) → IsSmall b → IsSound (O.meaning b) w →
         ((run (O.meaning b) w (redo_of w)).cache x).value ≡ state_after (O.meaning b) (commands_of w.history) x }
 {}
@@ -37,8 +39,9 @@ pub fn stable_parts_stand<O: Oper>()
         IsStableOf (O.meaning b) (stable_of w) (take w.forced w.history) w.installed }
     ensures crash { (b : Bounds) (w : World O) → IsSound (O.meaning b) w →
         step (O.meaning b) w Crash ≡ world_of (O.meaning b) (stable_of w) (take w.forced w.history) w.installed }
-    ensures sound { (b : Bounds) (parts : Stable O) (h : List (Member O)) (installed : ℕ → Bool) → IsSmall b →
-        IsStableOf (O.meaning b) parts h installed → IsSound (O.meaning b) (world_of (O.meaning b) parts h installed) }
+    ensures sound { (b : Bounds) (parts : Stable O) (h : List (Member O)) (installed : ℕ → Bool) →
+        IsSmall b → IsStableOf (O.meaning b) parts h installed →
+        IsSound (O.meaning b) (world_of (O.meaning b) parts h installed) }
 {}
 
 /// Slots, checks, stable records and the count before the base alone fix the state and the number of commands: of
@@ -47,7 +50,7 @@ pub fn one_state<O: Oper>()
     ensures commands { (b : Bounds) (parts : Stable O) (h k : List (Member O)) (i j : ℕ → Bool) →
         IsStableOf (O.meaning b) parts h i → IsStableOf (O.meaning b) parts k j →
         length (commands_of h) ≡ length (commands_of k) }
-    ensures state { (b : Bounds) (parts : Stable O) (h k : List (Member O)) (i j : ℕ → Bool) (x : ℕ) → IsSmall b →
-        IsStableOf (O.meaning b) parts h i → IsStableOf (O.meaning b) parts k j →
+    ensures state { (b : Bounds) (parts : Stable O) (h k : List (Member O)) (i j : ℕ → Bool) (x : ℕ) →
+        IsSmall b → IsStableOf (O.meaning b) parts h i → IsStableOf (O.meaning b) parts k j →
         state_after (O.meaning b) (commands_of h) x ≡ state_after (O.meaning b) (commands_of k) x }
 {}

@@ -14,7 +14,8 @@ pub fn append_keeps<O: Oper>()
     ensures command { (b : Bounds) (w : World O) (op : O) → IsSound (O.meaning b) w → IsLive w →
         Accepts (O.meaning b) (λ x. (w.cache x).value) op →
         IsSound (O.meaning b) (step (O.meaning b) w (Append (Command op))) }
-    ensures identity { (b : Bounds) (w : World O) (x : ℕ) → IsSound (O.meaning b) w → IsLive w → x < b.objects →
+    ensures identity { (b : Bounds) (w : World O) (x : ℕ) → IsSound (O.meaning b) w → IsLive w →
+        x < b.objects →
         IsSound (O.meaning b) (step (O.meaning b) w (Append (Identity x (w.cache x).value))) }
 {}
 
@@ -54,7 +55,8 @@ pub fn header_gate_keeps<O: Oper>()
 
 /// A replay of the next record keeps a world sound.
 pub fn replay_keeps<O: Oper>()
-    ensures { (b : Bounds) (w : World O) → IsSmall b → IsSound (O.meaning b) w → IsAllowed (O.meaning b) w Replay →
+    ensures { (b : Bounds) (w : World O) → IsSmall b → IsSound (O.meaning b) w →
+        IsAllowed (O.meaning b) w Replay →
         IsSound (O.meaning b) (step (O.meaning b) w Replay) }
 {}
 
@@ -68,6 +70,7 @@ pub fn crash_keeps<O: Oper>()
 pub fn every_run_keeps<O: Oper>()
     ensures from_sound { (b : Bounds) (w : World O) (steps : List (Step O)) → IsSmall b → IsSound (O.meaning b) w →
         AreAllowed (O.meaning b) w steps → IsSound (O.meaning b) (run (O.meaning b) w steps) }
-    ensures from_new { (b : Bounds) (steps : List (Step O)) → IsSmall b → AreAllowed (O.meaning b) (new_world O) steps →
+    ensures from_new { (b : Bounds) (steps : List (Step O)) → IsSmall b →
+        AreAllowed (O.meaning b) (new_world O) steps →
         IsSound (O.meaning b) (run (O.meaning b) (new_world O) steps) }
 {}

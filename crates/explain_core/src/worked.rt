@@ -19,7 +19,8 @@ use crate::{
 /// The laws at one operation type: every run of small operations from a new store is sound, and replayed to its end it
 /// has the state after its commands in its cache.
 pub fn runs_of_bytes()
-    ensures sound { (b : Bounds) (steps : List (Step ByteOp)) → IsSmall b → AreAllowed (byte_meaning b) (new_world ByteOp) steps →
+    ensures sound { (b : Bounds) (steps : List (Step ByteOp)) → IsSmall b →
+        AreAllowed (byte_meaning b) (new_world ByteOp) steps →
         IsSound (byte_meaning b) (run (byte_meaning b) (new_world ByteOp) steps) }
     ensures map { (b : Bounds) (w : World ByteOp) (x : ℕ) → IsSmall b → IsSound (byte_meaning b) w →
         ((run (byte_meaning b) w (redo_of w)).cache x).value ≡ state_after (byte_meaning b) (commands_of w.history) x }

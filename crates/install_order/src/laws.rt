@@ -11,10 +11,13 @@ pub fn nodes_are_computed()
         IsTrue (edge_test a objects end o p) ↔ Edge a o p }
     ensures node { (a : Access) (objects end n : ℕ) → IsWithin a objects end →
         IsNode a (node_of (edge_test a objects end) end n) × IsTrue (node_of (edge_test a objects end) end n n) }
-    ensures unique { (a : Access) (s t : ℕ → Bool) (n : ℕ) → IsNode a s → IsNode a t → IsTrue (s n) → IsTrue (t n) → s ≡ t }
-    ensures name { (node : ℕ → Bool) (end n : ℕ) → IsTrue (node n) → n < end → IsName node (least_below end node) }
+    ensures unique { (a : Access) (s t : ℕ → Bool) (n : ℕ) → IsNode a s → IsNode a t →
+        IsTrue (s n) → IsTrue (t n) → s ≡ t }
+    ensures name { (node : ℕ → Bool) (end n : ℕ) → IsTrue (node n) → n < end →
+        IsName node (least_below end node) }
     ensures flush_set { (a : Access) (objects end x : ℕ) (node : ℕ → Bool) → IsWithin a objects end →
         IsTrue (is_flushed a end node x) ↔ flush_set_of a node x }
+    // of the chosen operations, among which is each one that an edge leaves, one is in a minimal node
     ensures minimal { (a : Access) (objects end c : ℕ) (chosen : ℕ → Bool) → IsWithin a objects end →
         ((o p : ℕ) → Edge a o p → IsTrue (chosen o)) → ((n : ℕ) → IsTrue (chosen n) → n < end) →
         IsTrue (chosen c) →
@@ -58,8 +61,10 @@ pub fn worked_tables()
         (node (1 ∷ 2 ∷ []) (1 ∷ []) ∷ []) }
     // every copy of the version that the last put destroys goes before the first put, and none of them shares its node
     ensures put_copies_put { IsTable (put 1 0 ∷ copy 2 0 1 ∷ copy 3 0 2 ∷ copy 4 0 3 ∷ copy 5 0 4 ∷ put 6 0 ∷ [])
-        (arrow 1 6 ∷ arrow 2 1 ∷ arrow 2 6 ∷ arrow 3 1 ∷ arrow 3 6 ∷ arrow 4 1 ∷ arrow 4 6 ∷ arrow 5 1 ∷ arrow 5 6 ∷ [])
-        (node (2 ∷ []) (1 ∷ []) ∷ node (3 ∷ []) (2 ∷ []) ∷ node (4 ∷ []) (3 ∷ []) ∷ node (5 ∷ []) (4 ∷ []) ∷ node (1 ∷ []) [] ∷ node (6 ∷ []) (0 ∷ []) ∷ []) }
+        (arrow 1 6 ∷ arrow 2 1 ∷ arrow 3 1 ∷ arrow 4 1 ∷ arrow 5 1
+        ∷ arrow 2 6 ∷ arrow 3 6 ∷ arrow 4 6 ∷ arrow 5 6 ∷ [])
+        (node (2 ∷ []) (1 ∷ []) ∷ node (3 ∷ []) (2 ∷ []) ∷ node (4 ∷ []) (3 ∷ []) ∷ node (5 ∷ []) (4 ∷ [])
+        ∷ node (1 ∷ []) [] ∷ node (6 ∷ []) (0 ∷ []) ∷ []) }
     // only the version that the copy reads is lost, not the one before it
     ensures put_put_copy_put { IsTable (put 1 0 ∷ put 2 0 ∷ copy 3 0 1 ∷ put 4 0 ∷ [])
         (arrow 1 2 ∷ arrow 1 4 ∷ arrow 2 4 ∷ arrow 3 4 ∷ arrow 3 2 ∷ [])
