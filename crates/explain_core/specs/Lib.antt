@@ -1,0 +1,9 @@
+pub mod History
+pub mod Explains
+pub mod World
+pub mod RunLaws
+pub mod Sound
+pub mod Stable
+pub mod Exact
+pub mod ByteOps
+pub mod Worked

@@ -1,0 +1,66 @@
+-- Worked runs: a swap of two objects, of which one is flushed and the other one is logged as an identity write.
+use Rattle.std.specs.Prelude.{ℕ, Bool, ◌==◌, if◌then◌else◌, List, [], ◌∷◌, ◌++◌}
+use Rattle.oper_core.specs.declared.bounds.Bounds.{Bounds}
+use Rattle.install_order.specs.Entries.{set_of}
+use Rattle.explain_core.specs.declared.byte_op.ByteOp.{ByteOp}
+use Rattle.explain_core.specs.declared.byte_op.ByteOp.TheVariants.{Put, Swap}
+use Rattle.explain_core.specs.ByteOps.{byte_meaning}
+use Rattle.explain_core.specs.History.{Member}
+use Rattle.explain_core.specs.History.Member.{Command, Identity}
+use Rattle.explain_core.specs.Explains.{Cell}
+use Rattle.explain_core.specs.World.{World, Step, run, new_world, replays}
+use Rattle.explain_core.specs.World.Step.{Append, Block_gate, Check, Slot_gate, Removal, Header_gate, Crash}
+
+-- two objects of at most one byte
+abbrev pub two : Bounds
+two = record { objects = 2; cap = 1 }
+
+-- the world after these steps of a new store
+abbrev pub after_steps : List (Step ByteOp) → World ByteOp
+after_steps steps = run (byte_meaning two) (new_world ByteOp) steps
+
+-- the node of the two puts and the swap
+abbrev pub swap_node : ℕ → Bool
+swap_node = set_of (1 ∷ 2 ∷ 3 ∷ [])
+
+-- aa is put into 0 and bb into 1, and the two are swapped
+abbrev pub swapped : List (Member ByteOp)
+swapped = Command (Put 0 170) ∷ Command (Put 1 187) ∷ Command (Swap 0 1) ∷ []
+
+-- of the swap's two objects only 0 is flushed
+abbrev pub half_flushed : ℕ → Cell
+half_flushed x = if x == 0 then record { id = 3; value = 187 ∷ [] } else record { id = 0; value = [] }
+
+-- the same as steps; 1 then has aa, which is logged as the record 4; all is forced
+abbrev pub swap_logged : List (Step ByteOp)
+swap_logged =
+    Append (Command (Put 0 170)) ∷ Append (Command (Put 1 187)) ∷ Append (Command (Swap 0 1)) ∷ Append (Identity 1 (170 ∷ []))
+    ∷ Block_gate ∷ []
+
+-- and 0 is flushed, which installs the node
+abbrev pub swap_flushed : List (Step ByteOp)
+swap_flushed = swap_logged ++ Slot_gate swap_node 0 ∷ []
+
+-- and the node leaves the graph
+abbrev pub swap_removed : List (Step ByteOp)
+swap_removed = swap_flushed ++ Removal swap_node ∷ []
+
+-- a check is taken and forced, the log is cut before the identity write, and the store stops
+abbrev pub swap_checked : List (Step ByteOp)
+swap_checked = swap_removed ++ Check ∷ Block_gate ∷ Header_gate 4 ∷ Crash ∷ []
+
+-- the store stops just after the flush, and so many records are replayed
+abbrev pub swap_redone : ℕ → List (Step ByteOp)
+swap_redone n = swap_flushed ++ Crash ∷ replays n
+
+-- the node of the second put and the swap, in a redo that skipped the first put
+abbrev pub redone_node : ℕ → Bool
+redone_node = set_of (2 ∷ 3 ∷ [])
+
+-- before the identity write is replayed, that node is installed: the wrong value of 1 goes to its slot
+abbrev pub swap_installed : List (Step ByteOp)
+swap_installed = swap_redone 3 ++ Slot_gate redone_node 1 ∷ Removal redone_node ∷ []
+
+-- the store stops once more, and so many records are replayed
+abbrev pub swap_redone_again : ℕ → List (Step ByteOp)
+swap_redone_again n = swap_installed ++ Crash ∷ replays n

@@ -1,0 +1,27 @@
+//! Why a crash loses nothing: the store as a machine of worlds and steps, what every step keeps, and which flush
+//! order that needs.
+//!
+//! The one contract: every run of allowed steps from a new store is sound, and a sound world replayed to its end has
+//! the state after its commands in its cache. The crate stands on `oper_core` and `install_order`, and reads and
+//! writes nothing: its laws are functions without parameters whose clauses are the statements.
+#![tactic(auto)]
+
+mod byte_op;
+mod flush_order;
+mod recovery;
+mod steps;
+mod worked;
+
+pub use byte_op::ByteOp;
+pub use flush_order::{exactly_no_edge, minimal_nodes_are_whole, some_node_is_minimal};
+pub use recovery::{
+    history_gives_the_map, live_cache_is_the_map, one_state, redo_gives_the_map, stable_parts_stand,
+};
+pub use steps::{
+    append_keeps, block_gate_keeps, check_keeps, crash_keeps, every_run_keeps, header_gate_keeps,
+    removal_keeps, replay_keeps, slot_gate_keeps,
+};
+pub use worked::{
+    half_a_swap_is_not_explained, runs_of_bytes, swap_is_checked, swap_is_flushed,
+    swap_is_installed_in_a_redo, swap_is_redone,
+};

@@ -1,0 +1,56 @@
+ghost use Rattle.std.specs.Prelude.{ℕ, ◌≡◌, Bool, List, length, take};
+ghost use Rattle.oper_core.specs.Meaning.{IsSmall, state_after};
+ghost use Rattle.oper_core.specs.declared.bounds.Bounds.{Bounds};
+ghost use Rattle.explain_core.specs.History.{Member, IsHistory, commands_of, value_at};
+ghost use Rattle.explain_core.specs.World.{World, step, run, AreAllowed, IsLive, redo_of};
+ghost use Rattle.explain_core.specs.World.Step.{Crash};
+ghost use Rattle.explain_core.specs.Sound.{IsSound};
+ghost use Rattle.explain_core.specs.Stable.{Stable, IsStableOf, world_of, stable_of};
+
+use oper_core::Oper;
+
+/// The last values of a history are those of the state after its commands.
+pub fn history_gives_the_map<O: Oper>()
+    ensures { (b : Bounds) (h : List (Member O)) (x : ℕ) → IsHistory (O.meaning b) h →
+        value_at (O.meaning b) h (length h) x ≡ state_after (O.meaning b) (commands_of h) x }
+{}
+
+/// In a sound live world the cache is the state after its commands.
+pub fn live_cache_is_the_map<O: Oper>()
+    ensures { (b : Bounds) (w : World O) (x : ℕ) → IsSound (O.meaning b) w → IsLive w →
+        (w.cache x).value ≡ state_after (O.meaning b) (commands_of w.history) x }
+{}
+
+/// A sound world that is replayed to its end, without another step, is live, and its cache is the state after its
+/// commands.
+pub fn redo_gives_the_map<O: Oper>()
+    ensures allowed { (b : Bounds) (w : World O) → IsSmall b → IsSound (O.meaning b) w →
+        AreAllowed (O.meaning b) w (redo_of w) }
+    ensures live { (b : Bounds) (w : World O) → IsSmall b → IsSound (O.meaning b) w →
+        IsLive (run (O.meaning b) w (redo_of w)) }
+    ensures map { (b : Bounds) (w : World O) (x : ℕ) → IsSmall b → IsSound (O.meaning b) w →
+        ((run (O.meaning b) w (redo_of w)).cache x).value ≡ state_after (O.meaning b) (commands_of w.history) x }
+{}
+
+/// What is stable in a sound world is that of its stable history; a crash leaves the world that these parts make; and
+/// the world that any stable parts make is sound.
+pub fn stable_parts_stand<O: Oper>()
+    ensures stands { (b : Bounds) (w : World O) → IsSound (O.meaning b) w →
+        IsStableOf (O.meaning b) (stable_of w) (take w.forced w.history) w.installed }
+    ensures crash { (b : Bounds) (w : World O) → IsSound (O.meaning b) w →
+        step (O.meaning b) w Crash ≡ world_of (O.meaning b) (stable_of w) (take w.forced w.history) w.installed }
+    ensures sound { (b : Bounds) (parts : Stable O) (h : List (Member O)) (installed : ℕ → Bool) →
+        IsSmall b → IsStableOf (O.meaning b) parts h installed →
+        IsSound (O.meaning b) (world_of (O.meaning b) parts h installed) }
+{}
+
+/// Slots, checks, stable records and the count before the base alone fix the state and the number of commands: of
+/// whatever histories the parts may be, these have equal states and equally many commands.
+pub fn one_state<O: Oper>()
+    ensures commands { (b : Bounds) (parts : Stable O) (h k : List (Member O)) (i j : ℕ → Bool) →
+        IsStableOf (O.meaning b) parts h i → IsStableOf (O.meaning b) parts k j →
+        length (commands_of h) ≡ length (commands_of k) }
+    ensures state { (b : Bounds) (parts : Stable O) (h k : List (Member O)) (i j : ℕ → Bool) (x : ℕ) →
+        IsSmall b → IsStableOf (O.meaning b) parts h i → IsStableOf (O.meaning b) parts k j →
+        state_after (O.meaning b) (commands_of h) x ≡ state_after (O.meaning b) (commands_of k) x }
+{}

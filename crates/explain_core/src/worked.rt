@@ -1,0 +1,111 @@
+ghost use Rattle.std.specs.Prelude.{ℕ, ◌≡◌, ◌∷◌, [], ◌++◌, List, Bool, true, false};
+ghost use Rattle.oper_core.specs.Meaning.{IsSmall, state_after};
+ghost use Rattle.oper_core.specs.declared.bounds.Bounds.{Bounds};
+ghost use Rattle.explain_core.specs.declared.byte_op.ByteOp.{ByteOp};
+ghost use Rattle.explain_core.specs.ByteOps.{byte_meaning};
+ghost use Rattle.explain_core.specs.History.{accesses_of, value_at, commands_of};
+ghost use Rattle.explain_core.specs.Explains.{Cell, Explains};
+ghost use Rattle.explain_core.specs.World.{World, Step, run, AreAllowed, IsLive, new_world, redo_of, replays, plan_of};
+ghost use Rattle.explain_core.specs.Sound.{IsSound};
+ghost use Rattle.explain_core.specs.Worked.{two, swapped, half_flushed, after_steps, swap_logged, swap_flushed, swap_removed, swap_checked, swap_redone, swap_installed, swap_redone_again};
+
+use crate::{
+    ByteOp, append_keeps, block_gate_keeps, check_keeps, crash_keeps, every_run_keeps,
+    exactly_no_edge, header_gate_keeps, history_gives_the_map, live_cache_is_the_map,
+    minimal_nodes_are_whole, one_state, redo_gives_the_map, removal_keeps, replay_keeps,
+    slot_gate_keeps, some_node_is_minimal, stable_parts_stand,
+};
+
+/// The laws at one operation type: every run of small operations from a new store is sound, and replayed to its end it
+/// has the state after its commands in its cache.
+pub fn runs_of_bytes()
+    ensures sound { (b : Bounds) (steps : List (Step ByteOp)) → IsSmall b →
+        AreAllowed (byte_meaning b) (new_world ByteOp) steps →
+        IsSound (byte_meaning b) (run (byte_meaning b) (new_world ByteOp) steps) }
+    ensures map { (b : Bounds) (w : World ByteOp) (x : ℕ) → IsSmall b → IsSound (byte_meaning b) w →
+        ((run (byte_meaning b) w (redo_of w)).cache x).value ≡ state_after (byte_meaning b) (commands_of w.history) x }
+{
+    append_keeps::<ByteOp>();
+    block_gate_keeps::<ByteOp>();
+    check_keeps::<ByteOp>();
+    slot_gate_keeps::<ByteOp>();
+    removal_keeps::<ByteOp>();
+    header_gate_keeps::<ByteOp>();
+    replay_keeps::<ByteOp>();
+    crash_keeps::<ByteOp>();
+    every_run_keeps::<ByteOp>();
+    history_gives_the_map::<ByteOp>();
+    live_cache_is_the_map::<ByteOp>();
+    redo_gives_the_map::<ByteOp>();
+    stable_parts_stand::<ByteOp>();
+    one_state::<ByteOp>();
+    exactly_no_edge::<ByteOp>();
+    minimal_nodes_are_whole::<ByteOp>();
+    some_node_is_minimal::<ByteOp>();
+}
+
+/// Why two objects of one node are not flushed one after the other: with one half of the swap in its slot, no set of
+/// installed records explains the slots.
+pub fn half_a_swap_is_not_explained()
+    ensures { (installed : ℕ → Bool) →
+        Explains (accesses_of (byte_meaning two) swapped) (value_at (byte_meaning two) swapped) installed half_flushed → ⊥ }
+{}
+
+/// Two objects are put and swapped; 1 is logged as an identity write, 0 is flushed, and the swap's node is removed.
+pub fn swap_is_flushed()
+    ensures allowed { AreAllowed (byte_meaning two) (new_world ByteOp) swap_removed }
+    ensures slots { ((after_steps swap_removed).slots 0 ≡ record { id = 3; value = 187 ∷ [] })
+        × ((after_steps swap_removed).slots 1 ≡ record { id = 0; value = [] }) }
+    ensures cache { ((after_steps swap_removed).cache 0 ≡ record { id = 3; value = 187 ∷ [] })
+        × ((after_steps swap_removed).cache 1 ≡ record { id = 4; value = 170 ∷ [] }) }
+    // only the identity write is left to install
+    ensures graph { ((after_steps swap_removed).graph 1 ≡ false) × ((after_steps swap_removed).graph 2 ≡ false)
+        × ((after_steps swap_removed).graph 3 ≡ false) × ((after_steps swap_removed).graph 4 ≡ true) }
+    ensures map { (x : ℕ) → ((after_steps swap_removed).cache x).value
+        ≡ state_after (byte_meaning two) (commands_of (after_steps swap_removed).history) x }
+{}
+
+/// Then a check is taken and forced, the log is cut before the identity write, and the store stops: the redo begins
+/// with that record, and needs it for 1 alone.
+pub fn swap_is_checked()
+    ensures allowed { AreAllowed (byte_meaning two) (new_world ByteOp) swap_checked }
+    ensures plan { ((plan_of (after_steps swap_checked).tables 4).redo_from 0 ≡ 5)
+        × ((plan_of (after_steps swap_checked).tables 4).redo_from 1 ≡ 4)
+        × ((plan_of (after_steps swap_checked).tables 4).next ≡ 5) }
+    ensures base { ((after_steps swap_checked).base ≡ 4) × ((after_steps swap_checked).commands_before ≡ 3)
+        × ((after_steps swap_checked).next ≡ 4) }
+    ensures map { (x : ℕ) → ((run (byte_meaning two) (after_steps swap_checked) (redo_of (after_steps swap_checked))).cache x).value
+        ≡ state_after (byte_meaning two) (commands_of (after_steps swap_checked).history) x }
+{}
+
+/// The same, stopped just after the flush and replayed.
+pub fn swap_is_redone()
+    ensures allowed { AreAllowed (byte_meaning two) (new_world ByteOp) (swap_redone 4) }
+    // the slot of 0 is newer than the first put, which is skipped
+    ensures skipped { ((after_steps (swap_redone 1)).cache 0 ≡ record { id = 3; value = 187 ∷ [] })
+        × ((after_steps (swap_redone 1)).graph 1 ≡ false) }
+    ensures applied { ((after_steps (swap_redone 2)).cache 1 ≡ record { id = 2; value = 187 ∷ [] })
+        × ((after_steps (swap_redone 2)).graph 2 ≡ true) }
+    // the swap finds its own result in 0, and so makes bb of 1, where it had made aa
+    ensures wrong { (after_steps (swap_redone 3)).cache 1 ≡ record { id = 3; value = 187 ∷ [] } }
+    // nobody reads it before the identity write makes it right
+    ensures healed { ((after_steps (swap_redone 4)).cache 0 ≡ record { id = 3; value = 187 ∷ [] })
+        × ((after_steps (swap_redone 4)).cache 1 ≡ record { id = 4; value = 170 ∷ [] }) }
+    ensures live { IsLive (after_steps (swap_redone 4)) }
+    ensures map { (x : ℕ) → ((after_steps (swap_redone 4)).cache x).value
+        ≡ state_after (byte_meaning two) (commands_of (after_steps (swap_redone 4)).history) x }
+{}
+
+/// The same, with an install in the middle of the redo: it writes a wrong value to the slot of 1, which nobody reads
+/// before the identity write is replayed, in this redo and in one after a further stop.
+pub fn swap_is_installed_in_a_redo()
+    ensures allowed { AreAllowed (byte_meaning two) (new_world ByteOp) (swap_installed ++ replays 1) }
+    ensures wrong { (after_steps swap_installed).slots 1 ≡ record { id = 3; value = 187 ∷ [] } }
+    ensures map { (x : ℕ) → ((after_steps (swap_installed ++ replays 1)).cache x).value
+        ≡ state_after (byte_meaning two) (commands_of (after_steps (swap_installed ++ replays 1)).history) x }
+    ensures allowed_again { AreAllowed (byte_meaning two) (new_world ByteOp) (swap_redone_again 4) }
+    ensures healed { ((after_steps (swap_redone_again 4)).cache 0 ≡ record { id = 3; value = 187 ∷ [] })
+        × ((after_steps (swap_redone_again 4)).cache 1 ≡ record { id = 4; value = 170 ∷ [] }) }
+    ensures map_again { (x : ℕ) → ((after_steps (swap_redone_again 4)).cache x).value
+        ≡ state_after (byte_meaning two) (commands_of (after_steps (swap_redone_again 4)).history) x }
+{}

@@ -1,0 +1,9 @@
+pub mod Order
+pub mod Entries
+pub mod Tests
+pub mod Computed
+pub mod ListLaws
+pub mod NodeLaws
+pub mod Checks
+pub mod FirstReads
+pub mod Tables

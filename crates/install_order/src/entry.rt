@@ -1,0 +1,28 @@
+ghost use Rattle.std.specs.Prelude.{◌≡◌};
+ghost use Rattle.oper_core.specs.State.{is_among};
+
+use oper_core::Objs;
+
+/// A logged operation as the order sees it: its number, the objects that it reads and those that it writes.
+#[derive(Drop)]
+pub struct Entry {
+    pub lsn: u64,
+    pub reads: Objs,
+    pub writes: Objs,
+}
+
+impl Entry {
+    /// Whether it reads the object.
+    pub(crate) fn reads_object(&self, x: u32) -> bool
+        ensures { result ≡ is_among x self.now.reads }
+    {
+        self.reads.as_slice().iter().any(|y| x == *y)
+    }
+
+    /// Whether it writes the object.
+    pub(crate) fn writes_object(&self, x: u32) -> bool
+        ensures { result ≡ is_among x self.now.writes }
+    {
+        self.writes.as_slice().iter().any(|y| x == *y)
+    }
+}
