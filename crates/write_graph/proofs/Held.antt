@@ -30,11 +30,6 @@ at-among [] k lt = absurd (omega arith)
 at-among (y ∷ ys) zero lt = or_left (y == y) (is_among y ys) (eq-eqb y y refl)
 at-among (y ∷ ys) (suc k) lt = or_right (slice_index ys k == y) (is_among (slice_index ys k) ys) (at-among ys k (omega arith))
 
-pub at-default : (xs : List ℕ) (k d : ℕ) → k < length xs → get_or xs k d ≡ slice_index xs k
-at-default [] k d lt = absurd (omega arith)
-at-default (y ∷ ys) zero d lt = refl
-at-default (y ∷ ys) (suc k) d lt = at-default ys k d (omega arith)
-
 -- in a list with one number more are those of the list and that number
 pub among-push : (x y : ℕ) (xs : List ℕ) → IsTrue (is_among x (xs ++ y ∷ [])) → IsTrue (is_among x xs) ⊎ (x ≡ y)
 among-push x y [] e = elim (or_cases (x == y) _ e) [ inl q ↦ inr (eqb-true x y q) | inr r ↦ absurd (both_ways _ refl r) ]

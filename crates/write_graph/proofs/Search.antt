@@ -80,7 +80,7 @@ pub record Searched (d : Direction) (a : Access) (n : ℕ) (all : List ℕ) (nex
   pub within : next ≤ length found
 
 -- an edge before a walk
-walk-before : (a : Access) (o m p : ℕ) → Edge a o m → Reaches a m p → Reaches a o p
+pub walk-before : (a : Access) (o m p : ℕ) → Edge a o m → Reaches a m p → Reaches a o p
 walk-before a o m p edge Here = Then o m Here edge
 walk-before a o m p edge (Then k q walk last) = Then k q (walk-before a o m k edge walk) last
 
@@ -94,7 +94,7 @@ closed-along : (a : Access) (among : ℕ → Bool) → ((o p : ℕ) → IsTrue (
 closed-along a among closed o p there Here = there
 closed-along a among closed o p there (Then m q walk edge) = closed m q (closed-along a among closed o m there walk) edge
 
-closed-against : (a : Access) (among : ℕ → Bool) → ((o p : ℕ) → IsTrue (among p) → Edge a o p → IsTrue (among o)) → (o p : ℕ) → IsTrue (among p) → Reaches a o p → IsTrue (among o)
+pub closed-against : (a : Access) (among : ℕ → Bool) → ((o p : ℕ) → IsTrue (among p) → Edge a o p → IsTrue (among o)) → (o p : ℕ) → IsTrue (among p) → Reaches a o p → IsTrue (among o)
 closed-against a among closed o p there Here = there
 closed-against a among closed o p there (Then m q walk edge) = closed-against a among closed o m (closed m q there edge) walk
 
@@ -117,7 +117,7 @@ once-one : (n : ℕ) → IsDistinct nat_eq (n ∷ [])
 once-one n = once-push [] n once-none refl
 
 -- what stands at a place of the first list stands there in both together
-at-left : (xs ys : List ℕ) (k : ℕ) → k < length xs → slice_index (xs ++ ys) k ≡ slice_index xs k
+pub at-left : (xs ys : List ℕ) (k : ℕ) → k < length xs → slice_index (xs ++ ys) k ≡ slice_index xs k
 at-left [] ys k lt = absurd (omega arith)
 at-left (x ∷ xs) ys zero lt = refl
 at-left (x ∷ xs) ys (suc k) lt = at-left xs ys k (omega arith)

@@ -17,6 +17,6 @@ IsWritten a x = (n : ℕ) × IsWriter a x n
 abbrev pub is_written_after : List Entry → ℕ → ℕ → Bool
 is_written_after entries n x = list_any (λ e. nat_lt n e.lsn && is_among x e.writes) entries
 
--- an entry whose number is in both lists writes x, and none after it does
-abbrev pub is_flushed : List Entry → List ℕ → List ℕ → ℕ → Bool
-is_flushed entries reached reaching x = list_any (λ e. (is_among e.lsn reached && is_among e.lsn reaching) && (is_among x e.writes && not (is_written_after entries e.lsn x))) entries
+-- an entry of the node writes x, and none after it does
+abbrev pub is_flushed : List Entry → (ℕ → Bool) → ℕ → Bool
+is_flushed entries node x = list_any (λ e. node e.lsn && (is_among x e.writes && not (is_written_after entries e.lsn x))) entries

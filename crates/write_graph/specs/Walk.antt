@@ -1,5 +1,5 @@
 -- Walks along the edges and against them.
-use Rattle.std.specs.Prelude.{ℕ, min, ◌↔◌, IsTrue, List}
+use Rattle.std.specs.Prelude.{ℕ, min, Bool, ◌&&◌, ◌↔◌, IsTrue, List}
 use Rattle.std.specs.Vec.{vec_capacity}
 use Rattle.oper_core.specs.State.{is_among}
 use Rattle.install_order.specs.Order.{Access, Edge, Reaches}
@@ -21,6 +21,10 @@ IsWalk Against a o p = Reaches a p o
 pub record AreWalks (a : Access) (n : ℕ) (walks : Walks) : Type 0 where
   pub reached : (p : ℕ) → IsTrue (is_among p walks.reached.items) ↔ Reaches a n p
   pub reaching : (p : ℕ) → IsTrue (is_among p walks.reaching.items) ↔ Reaches a p n
+
+-- p is in both lists
+abbrev pub in_both : Walks → ℕ → Bool
+in_both walks p = is_among p walks.reached.items && is_among p walks.reaching.items
 
 -- so many entries there is room for
 abbrev pub walks_room : Walks → ℕ

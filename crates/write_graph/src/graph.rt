@@ -9,7 +9,7 @@ ghost use Rattle.write_graph.specs.Walk.{AreWalks};
 
 use crate::objects::{first_writer, is_flushed, written};
 use crate::push::push_in_room;
-use crate::questions::{count_nodes, least_minimal};
+use crate::questions::{count_nodes, least_minimal, members};
 use crate::walks::Walks;
 use install_order::Entry;
 use oper_core::Memory;
@@ -99,13 +99,7 @@ impl WriteGraph {
             Lists (λ k. IsTrue (node k)) found.items) }
     {
         let walks = self.walks_of(n)?;
-        let found = self
-            .entries
-            .iter()
-            .map(|e| e.lsn)
-            .filter(|k| walks.have_both(*k))
-            .collect(self.alloc)?;
-        Ok(found)
+        members(self.alloc, self.entries.as_slice(), &walks)
     }
 
     /// The objects whose last writer is in the node, rising.
@@ -145,11 +139,10 @@ impl WriteGraph {
         ensures numbers { IfOk result (λ starts. All (λ s. IsLeast (IsWriter (accesses self.now.entries) s.0) s.1) starts.items) }
     {
         let entries = self.entries.as_slice();
+        let objects = written(self.alloc, entries)?;
         let mut starts = Vec::new(self.alloc);
-        for x in written(self.alloc, entries)? {
-            if let Some(n) = first_writer(x, entries) {
-                starts.push((x, n))?;
-            }
+        for x in &objects {
+            starts.push((*x, first_writer(*x, entries)))?;
         }
         Ok(starts)
     }

@@ -1,10 +1,11 @@
-ghost use Rattle.std.specs.Prelude.{◌≡◌, ◌&&◌, nat_lt, not, ℕ, IsTrue, IsFalse, IfOk, IfSome, IfNone};
+ghost use Rattle.std.specs.Prelude.{◌≡◌, ◌&&◌, nat_lt, not, ℕ, IsTrue, IfOk};
 ghost use Rattle.std.specs.List.{list_any};
 ghost use Rattle.std.specs.List.Sorted.{IsStrictlyIncreasing};
 ghost use Rattle.oper_core.specs.State.{is_among};
 ghost use Rattle.install_order.specs.Entries.{accesses};
 ghost use Rattle.write_graph.specs.Graph.{numbers, Lists, IsLeast};
 ghost use Rattle.write_graph.specs.Objects.{is_written_after, is_flushed, IsWritten, IsWriter};
+ghost use Rattle.write_graph.specs.Walk.{in_both};
 
 use crate::walks::Walks;
 use install_order::Entry;
@@ -24,23 +25,23 @@ pub(crate) fn written(alloc: Global, entries: &[Entry]) -> Result<Vec<u32>, Memo
     Ok(objects)
 }
 
-/// The least number of an entry that writes the object.
-pub(crate) fn first_writer(x: u32, entries: &[Entry]) -> Option<u64>
-    requires { IsStrictlyIncreasing (numbers entries.now) }
-    ensures some { IfSome result (IsLeast (IsWriter (accesses entries.now) x)) }
-    ensures none { IfNone result (IsWritten (accesses entries.now) x → ⊥) }
+/// The least number of an entry that writes the object, which some entry writes.
+pub(crate) fn first_writer(x: u32, entries: &[Entry]) -> u64
+    requires rising { IsStrictlyIncreasing (numbers entries.now) }
+    requires written { IsWritten (accesses entries.now) x }
+    ensures { IsLeast (IsWriter (accesses entries.now) x) result }
 {
     for e in entries {
         if writes(e, x) {
-            return Some(e.lsn);
+            return e.lsn;
         }
     }
-    None
+    unreachable!()
 }
 
 /// Whether the last entry that writes the object is in the node that was followed.
 pub(crate) fn is_flushed(x: u32, entries: &[Entry], walks: &Walks) -> bool
-    ensures { result ≡ is_flushed entries.now walks.now.reached.items walks.now.reaching.items x }
+    ensures { result ≡ is_flushed entries.now (in_both walks.now) x }
 {
     entries.iter().any(|e| {
         walks.have_both(e.lsn) && (writes(e, x) && !is_written_after(e.lsn, x, entries))

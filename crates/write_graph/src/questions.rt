@@ -1,11 +1,14 @@
-ghost use Rattle.std.specs.Prelude.{◌≡◌, ◌≤◌, ◌↔◌, ℕ, IsTrue, IfSome, IfNone, length};
+ghost use Rattle.std.specs.Prelude.{◌≡◌, ◌≤◌, ◌↔◌, ℕ, IsTrue, IfOk, IfSome, IfNone, length};
+ghost use Rattle.std.specs.List.{filter};
 ghost use Rattle.std.specs.List.Sorted.{IsStrictlyIncreasing};
 ghost use Rattle.oper_core.specs.State.{is_among};
 ghost use Rattle.write_graph.specs.Graph.{numbers, NamesNode, NamesMinimal, IsLeast, IsCount};
-ghost use Rattle.write_graph.specs.Walk.{walks_room};
+ghost use Rattle.write_graph.specs.Walk.{in_both, walks_room};
 
 use crate::walks::Walks;
 use install_order::Entry;
+use oper_core::Memory;
+use std::alloc::Global;
 
 /// The least name at or above the number of a minimal node.
 pub(crate) fn least_minimal(from: u64, entries: &[Entry], walks: &mut Walks) -> Option<u64>
@@ -37,6 +40,18 @@ pub(crate) fn count_nodes(entries: &[Entry], walks: &mut Walks) -> usize
         }
     }
     count
+}
+
+/// The numbers of the entries that are in one node with the number that was followed.
+pub(crate) fn members(alloc: Global, entries: &[Entry], walks: &Walks) -> Result<Vec<u64>, Memory>
+    ensures { IfOk result (λ found. found.items ≡ filter (in_both walks.now) (numbers entries.now)) }
+{
+    let found = entries
+        .iter()
+        .map(|e| e.lsn)
+        .filter(|n| walks.have_both(*n))
+        .collect(alloc)?;
+    Ok(found)
 }
 
 /// Whether the number of an entry names a minimal node.

@@ -3,7 +3,7 @@ ghost use Rattle.std.specs.List.{list_all};
 ghost use Rattle.oper_core.specs.State.{is_among};
 ghost use Rattle.install_order.specs.Entries.{accesses};
 ghost use Rattle.write_graph.specs.Graph.{numbers};
-ghost use Rattle.write_graph.specs.Walk.{AreWalks, walks_room};
+ghost use Rattle.write_graph.specs.Walk.{AreWalks, in_both, walks_room};
 
 use crate::direction::Direction;
 use crate::walk::{has, walk};
@@ -52,7 +52,7 @@ impl Walks {
 
     /// Whether the number is in one node with the number that was followed.
     pub(crate) fn have_both(&self, p: u64) -> bool
-        ensures { result ≡ (is_among p self.now.reached.items && is_among p self.now.reaching.items) }
+        ensures { result ≡ in_both self.now p }
     {
         has(self.reached.as_slice(), p) && has(self.reaching.as_slice(), p)
     }

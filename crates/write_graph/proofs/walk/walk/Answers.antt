@@ -4,7 +4,8 @@ use Rattle.oper_core.specs.State.{is_among}
 use Rattle.install_order.specs.Entries.{accesses}
 use Rattle.write_graph.specs.Walk.{IsStep}
 use Rattle.write_graph.specs.Graph.{numbers}
-use Rattle.write_graph.proofs.Held.{few, at-default}
+use Rattle.write_graph.proofs.Held.{few}
+use Rattle.std.proofs.lemmas.Grind.{get_or_default_zero}
 use Rattle.write_graph.proofs.Search.{Searched, searched-start, searched-more, searched-all, step-held}
 use Rattle.write_graph.proofs.walk.walk.Goals as goal
 
@@ -22,7 +23,7 @@ loop-next-smaller c =
 pub loop-next-preserved : goal.loop-next-preserved
 loop-next-preserved c =
     let lt : c.loop-next.next < length c.loop-next.found.items = omega (arith, c.len.ensures, c.loop-next.found.ok) in
-    let from = c.index-from.ensures ∙ at-default c.loop-next.found.items c.loop-next.next c.index-from.result.now lt in (
+    let from = c.index-from.ensures ∙ get_or_default_zero c.loop-next.found.items c.loop-next.next c.index-from.result.now lt in (
       searched-more c.args.direction (accesses c.args.entries.now) c.args.n (numbers c.args.entries.now) c.loop-next.next c.loop-next.found.items c.add_steps.new.found.items c.loop-next.invariant.0 lt c.add_steps.ensures.once c.add_steps.ensures.kept
       (subst (λ (o : ℕ). (p : ℕ) → IsTrue (is_among p c.add_steps.new.found.items) ↔ (IsTrue (is_among p c.loop-next.found.items) ⊎ IsStep c.args.direction (accesses c.args.entries.now) o p)) from c.add_steps.ensures.added)
       (λ p step. step-held c.args.direction c.args.entries.now (slice_index c.loop-next.found.items c.loop-next.next) p step),
