@@ -5,3 +5,5 @@ pub mod Rising
 pub mod Count
 pub mod Exists
 pub mod Options
+pub mod Written
+pub mod Removal

@@ -2,10 +2,14 @@
 use Rattle.std.proofs.Common.{◌≡◌, ◌∙◌, ap, sym, subst, ℕ, zero, suc, ◌+◌, ◌<◌, ◌≤◌, Bool, List, [], ◌∷◌, ◌++◌, length, map, get_or, refl, arith, inl, inr, All}
 use Rattle.std.specs.Prelude.{IsTrue, slice_index}
 use Rattle.std.specs.List.Sorted.{IsStrictlyIncreasing}
-use Rattle.std.proofs.lemmas.Bool.{cases_lt, cases_eq}
-use Rattle.std.proofs.lemmas.List.{length_push}
+use Rattle.std.proofs.lemmas.Bool.{cases_lt, cases_eq, cases_Bool}
+use Rattle.std.specs.List.{filter}
+use Rattle.std.proofs.lemmas.List.{length_push, map-append}
+use Rattle.std.proofs.lemmas.List.Kept.{IsStrictlyIncreasing-filter}
 use Rattle.oper_core.specs.State.{is_among}
-use Rattle.write_graph.proofs.Held.{at-among}
+use Rattle.install_order.specs.declared.entry.Entry.{Entry}
+use Rattle.write_graph.specs.Graph.{numbers}
+use Rattle.write_graph.proofs.Held.{at-among, among-at}
 use Rattle.write_graph.proofs.Search.{at-left}
 
 pub at-last : (xs : List ℕ) (y : ℕ) → slice_index (xs ++ y ∷ []) (length xs) ≡ y
@@ -43,3 +47,25 @@ rising-lt xs i j is lt len =
     let s = is i (omega arith) in
     let r = rising-le xs (i + 1) j is (omega arith) len in
     omega (arith, r, s)
+
+numbers-push : (entries : List Entry) (e : Entry) → numbers (entries ++ e ∷ []) ≡ numbers entries ++ e.lsn ∷ []
+numbers-push entries e = map-append (λ (f : Entry). f.lsn) entries (e ∷ [])
+
+-- an entry may come last whose number is above all others
+pub entries-push : (entries : List Entry) (e : Entry) → IsStrictlyIncreasing (numbers entries) → All (λ n. n < e.lsn) (numbers entries) → IsStrictlyIncreasing (numbers (entries ++ e ∷ []))
+entries-push entries e rising above = subst IsStrictlyIncreasing (sym (numbers-push entries e)) (rising-push (numbers entries) e.lsn rising (λ k there.
+    let j = among-at k (numbers entries) there in
+    let lt = above j.0 zero j.1 in
+    omega (arith, lt, j.2)))
+
+-- the numbers of the entries that a test on numbers keeps
+pub numbers-filter : (t : ℕ → Bool) (entries : List Entry) → numbers (filter (λ e. t e.lsn) entries) ≡ filter t (numbers entries)
+numbers-filter t [] = refl
+numbers-filter t (e ∷ entries) = elim (cases_Bool (t e.lsn)) [
+  | inl out ↦ rw out (ap (λ (ns : List ℕ). e.lsn ∷ ns) (numbers-filter t entries))
+  | inr off ↦ rw off (numbers-filter t entries)
+]
+
+-- the numbers that are left rise as before
+pub entries-filter : (t : ℕ → Bool) (entries : List Entry) → IsStrictlyIncreasing (numbers entries) → IsStrictlyIncreasing (numbers (filter (λ e. t e.lsn) entries))
+entries-filter t entries rising = subst IsStrictlyIncreasing (sym (numbers-filter t entries)) (IsStrictlyIncreasing-filter t (numbers entries) rising)
