@@ -81,12 +81,15 @@ counted-all entries i count is end = (
 pub least-first : (entries : List Entry) (from i n : ℕ) → IsStrictlyIncreasing (numbers entries) →
     ((k : ℕ) → k < i → from ≤ slice_index (numbers entries) k → NamesMinimal entries (slice_index (numbers entries) k) → ⊥) →
     n ≡ slice_index (numbers entries) i → from ≤ n → NamesMinimal entries n → IsLeast (λ k. (from ≤ k) × NamesMinimal entries k) n
-least-first entries from i n rising none at le named = ((le, named), λ k is.
-    let j = among-at k (numbers entries) is.1.1.held in
-    elim (cases_lt j.0 i) [
-      | inl lt ↦ absurd (none j.0 lt (omega (arith, is.0, j.2)) (subst (λ (m : ℕ). NamesMinimal entries m) (sym j.2) is.1))
-      | inr ge ↦ let r = rising-le (numbers entries) i j.0 rising ge j.1 in omega (arith, r, at, j.2)
-    ])
+least-first entries from i n rising none at le named = (
+  (le, named),
+  λ k is.
+      let j = among-at k (numbers entries) is.1.1.held in
+      elim (cases_lt j.0 i) [
+        | inl lt ↦ absurd (none j.0 lt (omega (arith, is.0, j.2)) (subst (λ (m : ℕ). NamesMinimal entries m) (sym j.2) is.1))
+        | inr ge ↦ let r = rising-le (numbers entries) i j.0 rising ge j.1 in omega (arith, r, at, j.2)
+      ],
+)
 
 -- one number more that does not pass
 pub least-more : (entries : List Entry) (from i n : ℕ) → ((k : ℕ) → k < i → from ≤ slice_index (numbers entries) k → NamesMinimal entries (slice_index (numbers entries) k) → ⊥) →

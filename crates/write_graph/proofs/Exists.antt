@@ -26,11 +26,15 @@ above (y ∷ ys) =
 
 -- all accesses are of numbers and objects below some
 within : (entries : List Entry) → (objects : ℕ) × (end : ℕ) × IsWithin (accesses entries) objects end
-within [] = (zero, zero, record {
-  writes_number = λ n x w. absurd (both_ways _ refl w);
-  writes_object = λ n x w. absurd (both_ways _ refl w);
-  reads_number = λ n x r. absurd (both_ways _ refl r);
-})
+within [] = (
+  zero,
+  zero,
+  record {
+    writes_number = λ n x w. absurd (both_ways _ refl w);
+    writes_object = λ n x w. absurd (both_ways _ refl w);
+    reads_number = λ n x r. absurd (both_ways _ refl r);
+  },
+)
 within (e ∷ entries) =
     let rest = within entries in
     let top = above e.writes in (

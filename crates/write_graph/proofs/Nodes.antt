@@ -56,23 +56,26 @@ named-iff entries n walks are held =
     let a = accesses entries in
     let test : ℕ → Bool = λ p. nat_le n p || not (is_among p walks.reaching.items) in (
       (λ all. (
-          in_both walks,
-          record {
-            held = held;
-            is_node = both-node a n walks are;
-            is_name = (both-held a n walks are, λ k there.
+        in_both walks,
+        record {
+          held = held;
+          is_node = both-node a n walks are;
+          is_name = (
+            both-held a n walks are,
+            λ k there.
                 let u = and_parts (is_among k walks.reached.items) (is_among k walks.reaching.items) there in
                 elim (or_cases (nat_le n k) _ (all-gives test walks.reached.items all k u.0)) [
                   | inl le ↦ leb-true n k le
                   | inr none ↦ absurd (both_ways _ (not-true _ none) u.1)
-                ]);
-          },
+                ],
+          );
+        },
       )),
       (λ named. all-from test walks.reached.items (λ k there. elim (cases_Bool (is_among k walks.reaching.items)) [
-          | inl also ↦
-              let held_k = subst (λ (s : ℕ → Bool). IsTrue (s k)) (sym (node-both entries n walks named.0 are named.1)) (and_from (is_among k walks.reached.items) (is_among k walks.reaching.items) there also) in
-              or_left (nat_le n k) _ (le-leb n k (named.1.is_name.1 k held_k))
-          | inr none ↦ or_right (nat_le n k) _ (not_from_false _ none)
+        | inl also ↦
+            let held_k = subst (λ (s : ℕ → Bool). IsTrue (s k)) (sym (node-both entries n walks named.0 are named.1)) (and_from (is_among k walks.reached.items) (is_among k walks.reaching.items) there also) in
+            or_left (nat_le n k) _ (le-leb n k (named.1.is_name.1 k held_k))
+        | inr none ↦ or_right (nat_le n k) _ (not_from_false _ none)
       ])),
     )
 
@@ -90,18 +93,21 @@ minimal-iff entries n walks are held =
     let a = accesses entries in
     let test : ℕ → Bool = λ p. nat_le n p && is_among p walks.reached.items in (
       (λ all. (
-          in_both walks,
-          record {
-            held = held;
-            is_node = both-node a n walks are;
-            is_name = (both-held a n walks are, λ k there.
+        in_both walks,
+        record {
+          held = held;
+          is_node = both-node a n walks are;
+          is_name = (
+            both-held a n walks are,
+            λ k there.
                 let u = and_parts (is_among k walks.reached.items) (is_among k walks.reaching.items) there in
-                leb-true n k (and_parts (nat_le n k) _ (all-gives test walks.reaching.items all k u.1)).0);
-          },
-          (λ o p out there edge.
-              let u = and_parts (is_among p walks.reached.items) (is_among p walks.reaching.items) there in
-              let reaching = (are.reaching o).1 (walk-before a o p n edge ((are.reaching p).0 u.1)) in
-              both_ways _ out (and_from _ _ (and_parts (nat_le n o) _ (all-gives test walks.reaching.items all o reaching)).1 reaching)),
+                leb-true n k (and_parts (nat_le n k) _ (all-gives test walks.reaching.items all k u.1)).0,
+          );
+        },
+        (λ o p out there edge.
+            let u = and_parts (is_among p walks.reached.items) (is_among p walks.reaching.items) there in
+            let reaching = (are.reaching o).1 (walk-before a o p n edge ((are.reaching p).0 u.1)) in
+            both_ways _ out (and_from _ _ (and_parts (nat_le n o) _ (all-gives test walks.reaching.items all o reaching)).1 reaching)),
       )),
       (λ named. all-from test walks.reaching.items (λ k there.
           let same = node-both entries n walks named.0 are named.1 in

@@ -1,9 +1,10 @@
 -- A minimal node is taken out, and each other node stays as it was.
-use Rattle.std.proofs.Common.{◌≡◌, ◌∙◌, ap, sym, subst, ℕ, ◌<◌, ◌≤◌, Bool, true, false, not, List, [], ◌∷◌, map, refl, arith, inl, inr}
+use Rattle.std.proofs.Common.{◌≡◌, ◌∙◌, ap, sym, subst, ℕ, ◌<◌, ◌≤◌, Bool, true, false, not, List, [], ◌∷◌, length, map, refl, arith, inl, inr}
 use Rattle.std.specs.Prelude.{IsTrue, IsFalse, ◌||◌, ◌&&◌, ◌==◌, ◌↔◌, ◌⊎◌}
 use Rattle.std.specs.List.{list_any, filter}
 use mathlib.Core.Path.{fun_ext}
 use Rattle.std.proofs.lemmas.Bool.{cases_eq, cases_lt, cases_Bool, both_ways, or_left, or_right, or_cases, and_parts, and_from, eqb-true, eq-eqb, not-true, not_from_false, false_from_ne_true}
+use Rattle.std.proofs.lemmas.List.Sums.{length-filter, count_by-le-length}
 use Rattle.oper_core.specs.State.{is_among}
 use Rattle.install_order.specs.declared.entry.Entry.{Entry}
 use Rattle.install_order.specs.Order.{Access, Edge, Reaches, IsNode, NoEdgeInto, flush_set_of, within}
@@ -60,8 +61,7 @@ edge-was a node none o p (Write_write x lt v w) =
 edge-was a node none o p (Lost_version x later lt w between r le wl) =
     let s = and_parts (outside node o) _ r in
     let t = and_parts (outside node p) _ w in
-    let u = and_parts (outside node later) _ wl in
-    (
+    let u = and_parts (outside node later) _ wl in (
       not-true _ s.0,
       Lost_version x later lt t.1 (λ q low high. elim (in-or-out node q) [
         | inl there ↦ false_from_ne_true _ (λ wq. none p q (not-true _ t.0) there (Write_write x low t.1 wq))
@@ -179,10 +179,10 @@ nodes-left entries n node named none k other =
       (λ both.
           let is = both.0 in
           let out : IsFalse (node k) = false_from_ne_true _ (λ there.
-              let eq : other ≡ node = node-unique a other node k is.is_node named.is_node is.is_name.0 there in
-              let low : n ≤ k = named.is_name.1 k there in
-              let high : k ≤ n = is.is_name.1 n (subst (λ (s : ℕ → Bool). IsTrue (s n)) (sym eq) named.is_name.0) in
-              both.1 (omega arith)) in
+          let eq : other ≡ node = node-unique a other node k is.is_node named.is_node is.is_name.0 there in
+          let low : n ≤ k = named.is_name.1 k there in
+          let high : k ≤ n = is.is_name.1 n (subst (λ (s : ℕ → Bool). IsTrue (s n)) (sym eq) named.is_name.0) in
+          both.1 (omega arith)) in
           record {
             held = held.1 (is.held, not_from_false _ out);
             is_node = subst (λ (b : Access). IsNode b other) (sym same) (node-stays a node other k none out is.is_name.0 is.is_node);
@@ -194,11 +194,17 @@ nodes-left entries n node named none k other =
 flush-left : (a : Access) (node other : ℕ → Bool) (x : ℕ) → NoEdgeInto a node → ((m : ℕ) → IsTrue (other m) → IsFalse (node m)) → flush_set_of (within (outside node) a) other x ↔ flush_set_of a other x
 flush-left a node other x none apart = (
   (λ s.
-      let w = (and_parts (outside node s.0) (a.writes s.0 x) s.2.0).1 in
-      (s.0, s.1, (w, λ later lt. elim (in-or-out node later) [
-        | inl there ↦ false_from_ne_true _ (λ wl. none s.0 later (apart s.0 s.1) there (Write_write x lt w wl))
-        | inr out ↦ no-write node a later x (s.2.1 later lt) out
-      ]))),
+      let w = (and_parts (outside node s.0) (a.writes s.0 x) s.2.0).1 in (
+        s.0,
+        s.1,
+        (
+          w,
+          λ later lt. elim (in-or-out node later) [
+            | inl there ↦ false_from_ne_true _ (λ wl. none s.0 later (apart s.0 s.1) there (Write_write x lt w wl))
+            | inr out ↦ no-write node a later x (s.2.1 later lt) out
+          ],
+        ),
+      )),
   (λ s. (s.0, s.1, (and_from (outside node s.0) (a.writes s.0 x) (not_from_false _ (apart s.0 s.1)) s.2.0, λ later lt. no-write-within node a later x (s.2.1 later lt)))),
 )
 
@@ -213,3 +219,17 @@ flush-sets-left entries n node named none k other x is =
 
 pub entries-edges-left : (entries : List Entry) (node : ℕ → Bool) → NoEdgeInto (accesses entries) node → (o p : ℕ) → Edge (accesses (left node entries)) o p ↔ (IsFalse (node o) × Edge (accesses entries) o p)
 entries-edges-left entries node none o p = subst (λ (b : Access). Edge b o p ↔ (IsFalse (node o) × Edge (accesses entries) o p)) (sym (accesses-left node entries)) (edges-left (accesses entries) node none o p)
+
+-- where a number is in the node, there are fewer
+pub left-fewer : (node : ℕ → Bool) (entries : List Entry) (n : ℕ) → IsTrue (node n) → IsTrue (is_among n (numbers entries)) → length (left node entries) < length entries
+left-fewer node [] n in_node held = absurd (both_ways _ refl held)
+left-fewer node (e ∷ entries) n in_node held = elim (or_cases (n == e.lsn) (is_among n (numbers entries)) held) [
+  | inl same ↦
+      let there : IsTrue (node e.lsn) = subst (λ (k : ℕ). IsTrue (node k)) (eqb-true n e.lsn same) in_node in
+      let le = length-filter (λ (f : Entry). not (node f.lsn)) entries in
+      let few = count_by-le-length (λ (f : Entry). not (node f.lsn)) entries in
+      rw there (omega (arith, le, few))
+  | inr more ↦
+      let lt = left-fewer node entries n in_node more in
+      elim (cases_Bool (node e.lsn)) [ inl there ↦ rw there (omega (arith, lt)) | inr out ↦ rw out (omega (arith, lt)) ]
+]

@@ -126,6 +126,7 @@ impl WriteGraph {
             flush_set_of (accesses self.new.entries) other x ↔ flush_set_of (accesses self.old.entries) other x }
         ensures edges { (node : ℕ → Bool) (o p : ℕ) → IsNodeNamed self.old.entries n node →
             Edge (accesses self.new.entries) o p ↔ (IsFalse (node o) × Edge (accesses self.old.entries) o p) }
+        ensures fewer { length self.new.entries < length self.old.entries }
         ensures room { self.old.room ≤ self.new.room }
     {
         self.walks.follow(n, self.entries.as_slice());

@@ -10,6 +10,8 @@ mod graph;
 mod objects;
 mod push;
 mod questions;
+#[cfg(test)]
+mod tests;
 mod walk;
 mod walks;
 

@@ -9,7 +9,7 @@ ghost use Rattle.write_graph.specs.Walk.{IsStep, IsWalk};
 
 use crate::direction::Direction;
 use crate::push::push_in_room;
-use install_order::{edge, Entry};
+use install_order::{Entry, edge};
 
 /// Writes down where the walks from the number end, each number once.
 pub(crate) fn walk(direction: Direction, n: u64, entries: &[Entry], found: &mut Vec<u64>)

@@ -25,8 +25,8 @@ loop-next-preserved c =
     let lt : c.loop-next.next < length c.loop-next.found.items = omega (arith, c.len.ensures, c.loop-next.found.ok) in
     let from = c.index-from.ensures ∙ get_or_default_zero c.loop-next.found.items c.loop-next.next c.index-from.result.now lt in (
       searched-more c.args.direction (accesses c.args.entries.now) c.args.n (numbers c.args.entries.now) c.loop-next.next c.loop-next.found.items c.add_steps.new.found.items c.loop-next.invariant.0 lt c.add_steps.ensures.once c.add_steps.ensures.kept
-      (subst (λ (o : ℕ). (p : ℕ) → IsTrue (is_among p c.add_steps.new.found.items) ↔ (IsTrue (is_among p c.loop-next.found.items) ⊎ IsStep c.args.direction (accesses c.args.entries.now) o p)) from c.add_steps.ensures.added)
-      (λ p step. step-held c.args.direction c.args.entries.now (slice_index c.loop-next.found.items c.loop-next.next) p step),
+          (subst (λ (o : ℕ). (p : ℕ) → IsTrue (is_among p c.add_steps.new.found.items) ↔ (IsTrue (is_among p c.loop-next.found.items) ⊎ IsStep c.args.direction (accesses c.args.entries.now) o p)) from c.add_steps.ensures.added)
+          (λ p step. step-held c.args.direction c.args.entries.now (slice_index c.loop-next.found.items c.loop-next.next) p step),
       omega (arith, c.add_steps.ensures.capacity),
     )
 

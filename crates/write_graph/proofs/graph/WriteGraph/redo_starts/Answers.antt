@@ -15,7 +15,7 @@ first_writer-requires-clause-written c =
 
 pub loop-x-preserved : goal.loop-x-preserved
 loop-x-preserved c = rw c.in_ok-push.ensures.items (
-  starts-more (accesses c.as_slice-entries.result.now) c.deref-x-items.result.now c.loop-x.starts.items c.loop-x.x-index c.first_writer.result c.loop-x-test.true c.loop-x.invariant.0 c.loop-x.invariant.1 c.first_writer.ensures)
+    starts-more (accesses c.as_slice-entries.result.now) c.deref-x-items.result.now c.loop-x.starts.items c.loop-x.x-index c.first_writer.result c.loop-x-test.true c.loop-x.invariant.0 c.loop-x.invariant.1 c.first_writer.ensures)
 
 pub returns-clause-objects : goal.returns-clause-objects
 returns-clause-objects c =

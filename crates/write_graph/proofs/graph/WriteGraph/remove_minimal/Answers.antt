@@ -1,4 +1,4 @@
-use Rattle.std.proofs.Common.{rules, ◌≡◌, ◌∙◌, ap, sym, subst, ℕ, ◌≤◌, List, Bool, not, length, arith}
+use Rattle.std.proofs.Common.{rules, ◌≡◌, ◌∙◌, ap, sym, subst, ℕ, ◌<◌, ◌≤◌, List, Bool, not, length, arith}
 use Rattle.std.specs.Prelude.{IsFalse, ◌↔◌}
 use Rattle.std.specs.List.{filter}
 use Rattle.std.specs.List.Sorted.{IsStrictlyIncreasing}
@@ -11,7 +11,7 @@ use Rattle.write_graph.specs.Graph.{Graph, numbers, IsNodeNamed}
 use Rattle.write_graph.specs.Walk.{AreWalks, in_both}
 use Rattle.write_graph.proofs.Nodes.{node-both}
 use Rattle.write_graph.proofs.Rising.{entries-filter}
-use Rattle.write_graph.proofs.Removal.{outside, left, nodes-left, flush-sets-left, entries-edges-left}
+use Rattle.write_graph.proofs.Removal.{outside, left, nodes-left, flush-sets-left, entries-edges-left, left-fewer}
 use Rattle.write_graph.proofs.graph.WriteGraph.remove_minimal.Goals as goal
 
 -- what stays are the entries outside the node
@@ -49,3 +49,8 @@ returns-clause-edges c node o p named =
     let same = node-unique (accesses c.args.self.now.entries) node c.requires.0 c.args.n named.is_node c.requires.1.is_node named.is_name.0 c.requires.1.is_name.0 in
     subst (λ (s : ℕ → Bool). Edge (accesses c.retain.new.self.items) o p ↔ (IsFalse (s o) × Edge (accesses c.args.self.now.entries) o p)) (sym same) (
     subst (λ (es : List Entry). Edge (accesses es) o p ↔ (IsFalse (c.requires.0 o) × Edge (accesses c.args.self.now.entries) o p)) (sym (node-kept c c.requires.0 c.requires.1)) (entries-edges-left c.args.self.now.entries c.requires.0 c.requires.2 o p))
+
+pub returns-clause-fewer : goal.returns-clause-fewer
+returns-clause-fewer c =
+    let node = c.requires.0 in
+    subst (λ (es : List Entry). length es < length c.args.self.now.entries) (sym (node-kept c node c.requires.1)) (left-fewer node c.args.self.now.entries c.args.n c.requires.1.is_name.0 c.requires.1.held)
