@@ -1,13 +1,13 @@
 -- The names are counted in their order, and the least minimal one is the first that passes.
-use Rattle.std.proofs.Common.{◌≡◌, ◌∙◌, ap, sym, subst, ℕ, zero, suc, ◌+◌, ◌<◌, ◌≤◌, Bool, List, [], ◌∷◌, ◌++◌, length, refl, arith, inl, inr}
-use Rattle.std.specs.Prelude.{IsTrue, ◌⊎◌, ◌↔◌, slice_index}
+use Rattle.std.proofs.Common.{◌≡◌, ◌∙◌, ap, sym, subst, ℕ, zero, ◌+◌, ◌<◌, ◌≤◌, List, [], ◌∷◌, ◌++◌, length, refl, arith, inl, inr}
+use Rattle.std.specs.Prelude.{IsTrue, slice_index}
 use Rattle.std.specs.List.Sorted.{IsStrictlyIncreasing}
 use Rattle.std.proofs.lemmas.Bool.{cases_lt, cases_eq, both_ways}
 use Rattle.std.proofs.lemmas.List.{length_push}
 use Rattle.oper_core.specs.State.{is_among}
 use Rattle.install_order.specs.declared.entry.Entry.{Entry}
-use Rattle.write_graph.specs.Graph.{numbers, NamesNode, NamesMinimal, IsLeast, Lists, IsCount}
-use Rattle.write_graph.proofs.Held.{among-at, among-push, among-left, among-last, length-numbers}
+use Rattle.write_graph.specs.Graph.{numbers, NamesNode, NamesMinimal, IsLeast, IsCount}
+use Rattle.write_graph.proofs.Held.{among-at, among-push, among-left, among-last}
 use Rattle.write_graph.proofs.Rising.{rising-push, rising-lt, rising-le}
 
 -- the names among the first i numbers

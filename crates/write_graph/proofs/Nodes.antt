@@ -1,11 +1,11 @@
 -- The node of a number is what it reaches and is reached from, and the tests of its name and of minimal nodes say so.
-use Rattle.std.proofs.Common.{◌≡◌, ◌∙◌, ap, sym, subst, ℕ, zero, suc, ◌<◌, ◌≤◌, Bool, not, List, [], ◌∷◌, refl, arith, inl, inr}
-use Rattle.std.specs.Prelude.{IsTrue, IsFalse, ◌||◌, ◌&&◌, ◌==◌, ◌↔◌, nat_le}
+use Rattle.std.proofs.Common.{◌≡◌, sym, subst, ℕ, Bool, not, List, [], ◌∷◌, refl, inl, inr}
+use Rattle.std.specs.Prelude.{IsTrue, ◌||◌, ◌&&◌, ◌==◌, ◌↔◌, nat_le}
 use Rattle.std.specs.List.{list_all}
 use Rattle.std.proofs.lemmas.Bool.{cases_Bool, both_ways, or_left, or_right, or_cases, and_parts, and_from, eqb-true, eq-eqb, le-leb, leb-true, not-true, not_from_false}
 use Rattle.oper_core.specs.State.{is_among}
 use Rattle.install_order.specs.declared.entry.Entry.{Entry}
-use Rattle.install_order.specs.Order.{Access, Edge, Reaches, IsNode, NoEdgeInto}
+use Rattle.install_order.specs.Order.{Access, Reaches, IsNode, NoEdgeInto}
 use Rattle.install_order.specs.Order.Reaches.{Here, Then}
 use Rattle.install_order.specs.Entries.{accesses}
 use Rattle.install_order.specs.NodeLaws.{node-unique}

@@ -1,9 +1,9 @@
 -- A minimal node is taken out, and each other node stays as it was.
-use Rattle.std.proofs.Common.{◌≡◌, ◌∙◌, ap, sym, subst, ℕ, ◌<◌, ◌≤◌, Bool, true, false, not, List, [], ◌∷◌, length, map, refl, arith, inl, inr}
+use Rattle.std.proofs.Common.{◌≡◌, ◌∙◌, ap, sym, subst, ℕ, ◌<◌, ◌≤◌, Bool, true, false, not, List, [], ◌∷◌, length, refl, arith, inl, inr}
 use Rattle.std.specs.Prelude.{IsTrue, IsFalse, ◌||◌, ◌&&◌, ◌==◌, ◌↔◌, ◌⊎◌}
 use Rattle.std.specs.List.{list_any, filter}
 use mathlib.Core.Path.{fun_ext}
-use Rattle.std.proofs.lemmas.Bool.{cases_eq, cases_lt, cases_Bool, both_ways, or_left, or_right, or_cases, and_parts, and_from, eqb-true, eq-eqb, not-true, not_from_false, false_from_ne_true}
+use Rattle.std.proofs.lemmas.Bool.{cases_eq, cases_Bool, both_ways, or_left, or_cases, and_parts, and_from, eqb-true, not-true, not_from_false, false_from_ne_true}
 use Rattle.std.proofs.lemmas.List.Sums.{length-filter, count_by-le-length}
 use Rattle.oper_core.specs.State.{is_among}
 use Rattle.install_order.specs.declared.entry.Entry.{Entry}
@@ -12,7 +12,7 @@ use Rattle.install_order.specs.Order.Edge.{Read_write, Write_write, Lost_version
 use Rattle.install_order.specs.Order.Reaches.{Here, Then}
 use Rattle.install_order.specs.Entries.{accesses, reads_at, writes_at}
 use Rattle.install_order.specs.NodeLaws.{node-unique}
-use Rattle.write_graph.specs.Graph.{numbers, IsNodeNamed, NamesMinimal}
+use Rattle.write_graph.specs.Graph.{numbers, IsNodeNamed}
 use Rattle.write_graph.proofs.Nodes.{walk-on}
 use Rattle.write_graph.proofs.Rising.{numbers-filter}
 use Rattle.write_graph.proofs.Written.{among-filter}

@@ -1,8 +1,8 @@
 -- How a search comes to all that walks lead to.
-use Rattle.std.proofs.Common.{◌≡◌, ◌∙◌, ap, sym, subst, ℕ, zero, suc, ◌+◌, ◌<◌, ◌≤◌, Bool, List, [], ◌∷◌, ◌++◌, length, get_or, refl, arith, inl, inr, append_assoc, append-nil, length-append}
+use Rattle.std.proofs.Common.{◌≡◌, ◌∙◌, ap, sym, subst, ℕ, zero, suc, ◌+◌, ◌<◌, ◌≤◌, Bool, List, [], ◌∷◌, ◌++◌, length, refl, arith, inl, inr, append_assoc, append-nil, length-append}
 use Rattle.std.specs.Prelude.{IsTrue, IsFalse, ◌==◌, ◌⊎◌, ◌↔◌, nat_eq, slice_index}
 use Rattle.std.specs.List.{IsDistinct}
-use Rattle.std.proofs.lemmas.Bool.{cases_lt, cases_eq, cases_Bool, both_ways, or_left, or_right, or_cases, eqb-true, eq-eqb}
+use Rattle.std.proofs.lemmas.Bool.{cases_eq, both_ways, or_left, or_cases, eqb-true, eq-eqb}
 use Rattle.oper_core.specs.State.{is_among}
 use Rattle.install_order.specs.declared.entry.Entry.{Entry}
 use Rattle.install_order.specs.Order.{Access, Edge, Reaches}

@@ -1,5 +1,5 @@
 -- Walks along the edges and against them.
-use Rattle.std.specs.Prelude.{ℕ, min, Bool, ◌&&◌, ◌↔◌, IsTrue, List}
+use Rattle.std.specs.Prelude.{ℕ, min, Bool, ◌&&◌, ◌↔◌, IsTrue}
 use Rattle.std.specs.Vec.{vec_capacity}
 use Rattle.oper_core.specs.State.{is_among}
 use Rattle.install_order.specs.Order.{Access, Edge, Reaches}

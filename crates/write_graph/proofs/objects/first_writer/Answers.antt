@@ -1,4 +1,4 @@
-use Rattle.std.proofs.Common.{◌≡◌, ◌∙◌, sym, ℕ, ◌<◌, length, arith}
+use Rattle.std.proofs.Common.{◌∙◌, sym}
 use Rattle.std.specs.Prelude.{IsTrue, IsFalse}
 use Rattle.oper_core.specs.State.{is_among}
 use Rattle.write_graph.proofs.Written.{first-writer, none-more, none-writes}

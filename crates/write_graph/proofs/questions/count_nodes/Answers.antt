@@ -1,5 +1,4 @@
-use Rattle.std.proofs.Common.{◌≡◌, ◌∙◌, ap, sym, subst, ℕ, ◌+◌, ◌<◌, ◌≤◌, List, length, arith, inl, inr}
-use Rattle.std.specs.Prelude.{IsTrue, slice_index}
+use Rattle.std.proofs.Common.{◌<◌, length, arith}
 use Rattle.write_graph.specs.Graph.{numbers}
 use Rattle.write_graph.proofs.Held.{held-item, number-item, length-numbers}
 use Rattle.write_graph.proofs.Count.{counted-none, counted-same, counted-more, counted-all}

@@ -1,7 +1,5 @@
-use Rattle.std.proofs.Common.{◌≡◌, ◌∙◌, ap, sym, subst, ℕ, ◌+◌, ◌<◌, ◌≤◌, List, length, arith, inl, inr}
-use Rattle.std.specs.Prelude.{IsTrue, slice_index}
+use Rattle.std.proofs.Common.{arith}
 use Rattle.std.proofs.lemmas.Bool.{both_ways}
-use Rattle.write_graph.specs.Graph.{numbers, NamesMinimal}
 use Rattle.write_graph.proofs.Held.{held-item, number-item, length-numbers}
 use Rattle.write_graph.proofs.Count.{least-first, least-more, least-none}
 use Rattle.write_graph.proofs.questions.least_minimal.Goals.{else-from-e-via-then-from-e+else-names_minimal, else-from-e-via-else-from-e}

@@ -1,4 +1,4 @@
-use Rattle.std.proofs.Common.{◌≡◌, ◌∙◌, ap, sym, subst, ℕ, ◌+◌, ◌<◌, ◌≤◌, Bool, List, ◌++◌, ◌∷◌, [], length, arith, inl, inr}
+use Rattle.std.proofs.Common.{◌≡◌, subst, ℕ, length, arith}
 use Rattle.std.specs.Prelude.{IsTrue, IsFalse}
 use Rattle.std.proofs.lemmas.Bool.{both_ways}
 use Rattle.oper_core.specs.State.{is_among}

@@ -1,4 +1,4 @@
-use Rattle.std.proofs.Common.{◌≡◌, ◌∙◌, ap, sym, subst, ℕ, ◌+◌, ◌<◌, ◌≤◌, Bool, List, ◌++◌, ◌∷◌, [], length, arith, inl, inr}
+use Rattle.std.proofs.Common.{◌∙◌, subst, ℕ, ◌<◌, length, arith}
 use Rattle.std.specs.Prelude.{IsTrue, ◌↔◌, ◌⊎◌, slice_index}
 use Rattle.oper_core.specs.State.{is_among}
 use Rattle.install_order.specs.Entries.{accesses}
@@ -6,7 +6,7 @@ use Rattle.write_graph.specs.Walk.{IsStep}
 use Rattle.write_graph.specs.Graph.{numbers}
 use Rattle.write_graph.proofs.Held.{few}
 use Rattle.std.proofs.lemmas.Grind.{get_or_default_zero}
-use Rattle.write_graph.proofs.Search.{Searched, searched-start, searched-more, searched-all, step-held}
+use Rattle.write_graph.proofs.Search.{searched-start, searched-more, searched-all, step-held}
 use Rattle.write_graph.proofs.walk.walk.Goals as goal
 
 pub loop-next-init : goal.loop-next-init

@@ -1,4 +1,4 @@
-use Rattle.std.proofs.Common.{ℕ, ◌≤◌, ◌-◌, length}
+use Rattle.std.proofs.Common.{◌≤◌, ◌-◌, length}
 use Rattle.std.specs.Vec.{vec_capacity}
 use Rattle.install_order.specs.Entries.{accesses}
 use Rattle.write_graph.specs.Graph.{numbers}

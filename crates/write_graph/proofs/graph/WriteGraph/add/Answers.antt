@@ -1,4 +1,4 @@
-use Rattle.std.proofs.Common.{◌≡◌, ◌∙◌, ap, sym, subst, ℕ, List, Bool, ◌++◌, ◌∷◌, [], length, arith, All, ◌<◌, ◌-◌, min}
+use Rattle.std.proofs.Common.{◌≡◌, ap, sym, subst, List, length, arith, All, ◌<◌, ◌-◌, min}
 use Rattle.std.specs.Vec.{vec_capacity}
 use Rattle.std.proofs.lemmas.List.{length_push}
 use Rattle.install_order.specs.declared.entry.Entry.{Entry}

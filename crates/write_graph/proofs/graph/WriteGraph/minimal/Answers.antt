@@ -1,5 +1,4 @@
-use Rattle.std.proofs.Common.{ℕ, ◌≤◌, ◌≡◌, [], Option, IfSome, IfNone}
-use Rattle.write_graph.specs.Graph.{NamesMinimal, IsLeast}
+use Rattle.write_graph.specs.Graph.{NamesMinimal}
 use Rattle.write_graph.proofs.Options.{some-then, none-then}
 use Rattle.write_graph.proofs.Exists.{none-left, least-of-all}
 use Rattle.write_graph.proofs.graph.WriteGraph.minimal.Goals as goal

@@ -1,4 +1,4 @@
-use Rattle.std.proofs.Common.{◌≡◌, ◌∙◌, ap, subst, ℕ, ◌≤◌, List, IfSome, IfNone}
+use Rattle.std.proofs.Common.{◌∙◌, ap, subst, ℕ, ◌≤◌, List, IfSome, IfNone}
 use Rattle.install_order.specs.declared.entry.Entry.{Entry}
 use Rattle.write_graph.specs.Graph.{Graph, NamesMinimal, IsLeast}
 use Rattle.write_graph.proofs.graph.WriteGraph.minimal_from.Goals as goal

@@ -1,11 +1,9 @@
-use Rattle.std.proofs.Common.{◌≡◌, ◌∙◌, ap, sym, subst, ℕ, List, Bool}
-use Rattle.std.specs.Prelude.{IsTrue, IfOk}
+use Rattle.std.proofs.Common.{◌≡◌, ◌∙◌, ap, subst, List}
 use Rattle.std.specs.List.{filter}
 use Rattle.std.specs.List.Sorted.{IsStrictlyIncreasing}
 use Rattle.install_order.specs.declared.entry.Entry.{Entry}
-use Rattle.install_order.specs.Entries.{accesses}
-use Rattle.write_graph.specs.Graph.{Graph, numbers, IsNodeNamed, Lists}
-use Rattle.write_graph.specs.Walk.{AreWalks, in_both}
+use Rattle.write_graph.specs.Graph.{Graph, numbers}
+use Rattle.write_graph.specs.Walk.{in_both}
 use Rattle.write_graph.proofs.Options.{ok-then}
 use Rattle.write_graph.proofs.Written.{members-list}
 use Rattle.write_graph.proofs.graph.WriteGraph.ops.Goals as goal

@@ -1,4 +1,4 @@
-use Rattle.std.proofs.Common.{◌≡◌, ℕ, take, map, All}
+use Rattle.std.proofs.Common.{◌≡◌, take, map, All}
 use Rattle.install_order.specs.Entries.{accesses}
 use Rattle.write_graph.specs.Graph.{IsLeast}
 use Rattle.write_graph.specs.Objects.{IsWriter}
