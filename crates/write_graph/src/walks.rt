@@ -1,4 +1,4 @@
-ghost use Rattle.std.specs.Prelude.{◌≡◌, ◌<◌, ◌≤◌, ◌++◌, ◌↔◌, ◌&&◌, ◌||◌, nat_le, not, ℕ, IsTrue, List, length, nat_eq, OnOk};
+ghost use Rattle.std.specs.Prelude.{◌≡◌, ◌≤◌, [], ◌&&◌, ◌||◌, nat_le, not, IsTrue, length, OnOk};
 ghost use Rattle.std.specs.List.{list_all};
 ghost use Rattle.oper_core.specs.State.{is_among};
 ghost use Rattle.install_order.specs.Entries.{accesses};
@@ -14,13 +14,16 @@ use std::alloc::Global;
 /// What a number reaches along the edges, and what reaches it: both lists are written anew for each question.
 #[derive(Drop)]
 pub(crate) struct Walks {
-    pub(crate) reached: Vec<u64>,
-    pub(crate) reaching: Vec<u64>,
+    reached: Vec<u64>,
+    reaching: Vec<u64>,
 }
 
 impl Walks {
     /// Empty lists.
-    pub(crate) fn new(alloc: Global) -> Self {
+    pub(crate) fn new(alloc: Global) -> Self
+        ensures reached { result.reached.items ≡ [] }
+        ensures reaching { result.reaching.items ≡ [] }
+    {
         Walks {
             reached: Vec::new(alloc),
             reaching: Vec::new(alloc),
