@@ -6,10 +6,9 @@ use Rattle.oper_core.specs.State.{is_among}
 use Rattle.install_order.specs.declared.entry.Entry.{Entry}
 use Rattle.install_order.specs.Computed.{IsWithin, edge_test, node_of, least_below}
 use Rattle.install_order.specs.Entries.{accesses, writes_at, reads_at}
-use Rattle.install_order.specs.NodeLaws.{minimal-exists, name-is, node-is}
+use Rattle.install_order.specs.NodeLaws.{minimal-exists, name-is, node-is, walk-on}
 use Rattle.write_graph.specs.Graph.{numbers, NamesMinimal, IsLeast}
 use Rattle.write_graph.proofs.Held.{edge-held, reached-held}
-use Rattle.write_graph.proofs.Nodes.{walk-on}
 
 -- a number above all of a list
 above : (xs : List ℕ) → (top : ℕ) × ((x : ℕ) → IsTrue (is_among x xs) → x < top)

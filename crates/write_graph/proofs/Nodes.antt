@@ -1,23 +1,19 @@
 -- The node of a number is what it reaches and is reached from, and the tests of its name and of minimal nodes say so.
-use Rattle.std.proofs.Common.{◌≡◌, sym, subst, ℕ, Bool, not, List, [], ◌∷◌, refl, inl, inr}
-use Rattle.std.specs.Prelude.{IsTrue, ◌||◌, ◌&&◌, ◌==◌, ◌↔◌, nat_le}
+use Rattle.std.proofs.Common.{◌≡◌, sym, subst, ℕ, Bool, not, List, inl, inr}
+use Rattle.std.specs.Prelude.{IsTrue, ◌||◌, ◌&&◌, ◌↔◌, nat_le}
 use Rattle.std.specs.List.{list_all}
-use Rattle.std.proofs.lemmas.Bool.{cases_Bool, both_ways, or_left, or_right, or_cases, and_parts, and_from, eqb-true, eq-eqb, le-leb, leb-true, not-true, not_from_false}
+use Rattle.std.proofs.lemmas.Bool.{cases_Bool, both_ways, or_left, or_right, or_cases, and_parts, and_from, le-leb, leb-true, not-true, not_from_false}
 use Rattle.oper_core.specs.State.{is_among}
 use Rattle.install_order.specs.declared.entry.Entry.{Entry}
 use Rattle.install_order.specs.Order.{Access, Reaches, IsNode, NoEdgeInto}
-use Rattle.install_order.specs.Order.Reaches.{Here, Then}
+use Rattle.install_order.specs.Order.Reaches.{Here}
 use Rattle.install_order.specs.Entries.{accesses}
+use Rattle.install_order.specs.ListLaws.{all-gives, all-from, in-from}
 use Rattle.install_order.specs.NodeLaws.{node-unique}
 use Rattle.write_graph.specs.declared.walks.Walks.{Walks}
 use Rattle.write_graph.specs.Graph.{numbers, IsNodeNamed, NamesNode, NamesMinimal}
 use Rattle.write_graph.specs.Walk.{AreWalks, in_both}
 use Rattle.write_graph.proofs.Search.{walk-before, closed-against}
-
--- a walk after a walk
-pub walk-on : (a : Access) (o m p : ℕ) → Reaches a o m → Reaches a m p → Reaches a o p
-walk-on a o m p walk Here = walk
-walk-on a o m p walk (Then k q more edge) = Then k q (walk-on a o m k walk more) edge
 
 pub both-held : (a : Access) (n : ℕ) (walks : Walks) → AreWalks a n walks → IsTrue (in_both walks n)
 both-held a n walks are = and_from _ _ ((are.reached n).1 Here) ((are.reaching n).1 Here)
@@ -35,19 +31,9 @@ both-node a n walks are = (
 pub node-both : (entries : List Entry) (n : ℕ) (walks : Walks) (node : ℕ → Bool) → AreWalks (accesses entries) n walks → IsNodeNamed entries n node → node ≡ in_both walks
 node-both entries n walks node are is = node-unique (accesses entries) node (in_both walks) n is.is_node (both-node (accesses entries) n walks are) is.is_name.0 (both-held (accesses entries) n walks are)
 
--- a test that all of a list pass
-pub all-gives : (t : ℕ → Bool) (xs : List ℕ) → IsTrue (list_all t xs) → (k : ℕ) → IsTrue (is_among k xs) → IsTrue (t k)
-all-gives t [] all k there = absurd (both_ways _ refl there)
-all-gives t (x ∷ xs) all k there =
-    let u = and_parts (t x) (list_all t xs) all in
-    elim (or_cases (k == x) (is_among k xs) there) [
-      | inl q ↦ subst (λ (j : ℕ). IsTrue (t j)) (sym (eqb-true k x q)) u.0
-      | inr r ↦ all-gives t xs u.1 k r
-    ]
-
-pub all-from : (t : ℕ → Bool) (xs : List ℕ) → ((k : ℕ) → IsTrue (is_among k xs) → IsTrue (t k)) → IsTrue (list_all t xs)
-all-from t [] each = refl
-all-from t (x ∷ xs) each = and_from (t x) (list_all t xs) (each x (or_left (x == x) (is_among x xs) (eq-eqb x x refl))) (all-from t xs (λ k there. each k (or_right (k == x) (is_among k xs) there)))
+-- a test that each of a list passes, all pass
+pub all-among : (t : ℕ → Bool) (xs : List ℕ) → ((k : ℕ) → IsTrue (is_among k xs) → IsTrue (t k)) → IsTrue (list_all t xs)
+all-among t xs each = all-from t xs (λ k there. each k (in-from k xs there))
 
 -- the test of a name
 pub named-iff : (entries : List Entry) (n : ℕ) (walks : Walks) → AreWalks (accesses entries) n walks → IsTrue (is_among n (numbers entries)) →
@@ -64,14 +50,14 @@ named-iff entries n walks are held =
             both-held a n walks are,
             λ k there.
                 let u = and_parts (is_among k walks.reached.items) (is_among k walks.reaching.items) there in
-                elim (or_cases (nat_le n k) _ (all-gives test walks.reached.items all k u.0)) [
+                elim (or_cases (nat_le n k) _ (all-gives test walks.reached.items k all u.0)) [
                   | inl le ↦ leb-true n k le
                   | inr none ↦ absurd (both_ways _ (not-true _ none) u.1)
                 ],
           );
         },
       )),
-      (λ named. all-from test walks.reached.items (λ k there. elim (cases_Bool (is_among k walks.reaching.items)) [
+      (λ named. all-among test walks.reached.items (λ k there. elim (cases_Bool (is_among k walks.reaching.items)) [
         | inl also ↦
             let held_k = subst (λ (s : ℕ → Bool). IsTrue (s k)) (sym (node-both entries n walks named.0 are named.1)) (and_from (is_among k walks.reached.items) (is_among k walks.reaching.items) there also) in
             or_left (nat_le n k) _ (le-leb n k (named.1.is_name.1 k held_k))
@@ -101,15 +87,15 @@ minimal-iff entries n walks are held =
             both-held a n walks are,
             λ k there.
                 let u = and_parts (is_among k walks.reached.items) (is_among k walks.reaching.items) there in
-                leb-true n k (and_parts (nat_le n k) _ (all-gives test walks.reaching.items all k u.1)).0,
+                leb-true n k (and_parts (nat_le n k) _ (all-gives test walks.reaching.items k all u.1)).0,
           );
         },
         (λ o p out there edge.
             let u = and_parts (is_among p walks.reached.items) (is_among p walks.reaching.items) there in
             let reaching = (are.reaching o).1 (walk-before a o p n edge ((are.reaching p).0 u.1)) in
-            both_ways _ out (and_from _ _ (and_parts (nat_le n o) _ (all-gives test walks.reaching.items all o reaching)).1 reaching)),
+            both_ways _ out (and_from _ _ (and_parts (nat_le n o) _ (all-gives test walks.reaching.items o all reaching)).1 reaching)),
       )),
-      (λ named. all-from test walks.reaching.items (λ k there.
+      (λ named. all-among test walks.reaching.items (λ k there.
           let same = node-both entries n walks named.0 are named.1 in
           let in_node = minimal-closed a named.0 named.2 k n named.1.is_name.0 ((are.reaching k).0 there) in
           let u = and_parts (is_among k walks.reached.items) _ (subst (λ (s : ℕ → Bool). IsTrue (s k)) same in_node) in

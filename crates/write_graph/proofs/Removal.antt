@@ -11,9 +11,8 @@ use Rattle.install_order.specs.Order.{Access, Edge, Reaches, IsNode, NoEdgeInto,
 use Rattle.install_order.specs.Order.Edge.{Read_write, Write_write, Lost_version}
 use Rattle.install_order.specs.Order.Reaches.{Here, Then}
 use Rattle.install_order.specs.Entries.{accesses, reads_at, writes_at}
-use Rattle.install_order.specs.NodeLaws.{node-unique}
+use Rattle.install_order.specs.NodeLaws.{node-unique, walk-on, walk-in}
 use Rattle.write_graph.specs.Graph.{numbers, IsNodeNamed}
-use Rattle.write_graph.proofs.Nodes.{walk-on}
 use Rattle.write_graph.proofs.Rising.{numbers-filter}
 use Rattle.write_graph.proofs.Written.{among-filter}
 
@@ -72,14 +71,10 @@ edge-was a node none o p (Lost_version x later lt w between r le wl) =
 pub edges-left : (a : Access) (node : ℕ → Bool) → NoEdgeInto a node → (o p : ℕ) → Edge (within (outside node) a) o p ↔ (IsFalse (node o) × Edge a o p)
 edges-left a node none o p = (edge-was a node none o p, (λ both. edge-stays a node none o p both.0 both.1))
 
--- a walk from outside stays outside
-walk-out : (a : Access) (node : ℕ → Bool) → NoEdgeInto a node → (o p : ℕ) → IsFalse (node o) → Reaches a o p → IsFalse (node p)
-walk-out a node none o p out Here = out
-walk-out a node none o p out (Then m q walk edge) = false_from_ne_true _ (λ there. none m q (walk-out a node none o m out walk) there edge)
-
+-- a walk from outside stays
 walk-stays : (a : Access) (node : ℕ → Bool) → NoEdgeInto a node → (o p : ℕ) → IsFalse (node o) → Reaches a o p → Reaches (within (outside node) a) o p
 walk-stays a node none o p out Here = Here
-walk-stays a node none o p out (Then m q walk edge) = Then m q (walk-stays a node none o m out walk) (edge-stays a node none m q (walk-out a node none o m out walk) edge)
+walk-stays a node none o p out (Then m q walk edge) = Then m q (walk-stays a node none o m out walk) (edge-stays a node none m q (walk-in a node o m none out walk) edge)
 
 walk-was : (a : Access) (node : ℕ → Bool) → NoEdgeInto a node → (o p : ℕ) → Reaches (within (outside node) a) o p → Reaches a o p
 walk-was a node none o p Here = Here
@@ -99,7 +94,7 @@ node-was a node other k none out there is =
       k,
       there,
       (λ p held. let u = m.0 p held in (walk-was a node none k p u.0, walk-was a node none p k u.1)),
-      (λ p f g. m.1 p (walk-stays a node none k p out f) (walk-stays a node none p k (walk-out a node none k p out f) g)),
+      (λ p f g. m.1 p (walk-stays a node none k p out f) (walk-stays a node none p k (walk-in a node k p none out f) g)),
     )
 
 node-stays : (a : Access) (node other : ℕ → Bool) (k : ℕ) → NoEdgeInto a node → IsFalse (node k) → IsTrue (other k) → IsNode a other → IsNode (within (outside node) a) other
@@ -107,7 +102,7 @@ node-stays a node other k none out there is =
     let m = at-member a other k is there in (
       k,
       there,
-      (λ p held. let u = m.0 p held in (walk-stays a node none k p out u.0, walk-stays a node none p k (walk-out a node none k p out u.0) u.1)),
+      (λ p held. let u = m.0 p held in (walk-stays a node none k p out u.0, walk-stays a node none p k (walk-in a node k p none out u.0) u.1)),
       (λ p f g. m.1 p (walk-was a node none k p f) (walk-was a node none p k g)),
     )
 
@@ -215,7 +210,7 @@ flush-sets-left entries n node named none k other x is =
     let was = ((nodes-left entries n node named none k other).0 is).0 in
     let out : IsFalse (node k) = not-true _ ((held-left node entries k).0 is.held).1 in
     let members = at-member a other k was.is_node is.is_name.0 in
-    subst (λ (b : Access). flush_set_of b other x ↔ flush_set_of a other x) (sym (accesses-left node entries)) (flush-left a node other x none (λ m there. walk-out a node none k m out (members.0 m there).0))
+    subst (λ (b : Access). flush_set_of b other x ↔ flush_set_of a other x) (sym (accesses-left node entries)) (flush-left a node other x none (λ m there. walk-in a node k m none out (members.0 m there).0))
 
 pub entries-edges-left : (entries : List Entry) (node : ℕ → Bool) → NoEdgeInto (accesses entries) node → (o p : ℕ) → Edge (accesses (left node entries)) o p ↔ (IsFalse (node o) × Edge (accesses entries) o p)
 entries-edges-left entries node none o p = subst (λ (b : Access). Edge b o p ↔ (IsFalse (node o) × Edge (accesses entries) o p)) (sym (accesses-left node entries)) (edges-left (accesses entries) node none o p)

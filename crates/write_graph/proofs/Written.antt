@@ -4,7 +4,7 @@ use Rattle.std.specs.Prelude.{IsTrue, IsFalse, ◌||◌, ◌&&◌, ◌==◌, ◌
 use Rattle.std.specs.List.{list_any, filter, Contains, dedup}
 use Rattle.std.specs.List.Sorted.{IsStrictlyIncreasing, IsPermutation, IsSorted}
 use Rattle.std.specs.Ordering.{nat_cmp}
-use Rattle.std.proofs.lemmas.Bool.{cases_lt, both_ways, or_left, or_right, or_cases, and_parts, and_from, eqb-true, eq-eqb, lt-ltb, ltb-true, not-true, not_from_false, false_from_ne_true}
+use Rattle.std.proofs.lemmas.Bool.{cases_lt, both_ways, or_cases, and_parts, and_from, eqb-true, eq-eqb, lt-ltb, ltb-true, not-true, not_from_false, false_from_ne_true}
 use Rattle.std.proofs.lemmas.List.{get_or_default, map-append, take_more}
 use Rattle.std.proofs.lemmas.List.Elements.{All-push}
 use Rattle.std.proofs.lemmas.List.Folds.{list_any-append, list_any_more, list_any_at}
@@ -16,6 +16,7 @@ use Rattle.std.proofs.lemmas.Cmp.{nat_eq_equiv}
 use Rattle.oper_core.specs.State.{is_among}
 use Rattle.install_order.specs.declared.entry.Entry.{Entry}
 use Rattle.install_order.specs.Order.{Access, flush_set_of}
+use Rattle.install_order.specs.ListLaws.{any-gives}
 use Rattle.install_order.specs.Entries.{accesses, writes_at}
 use Rattle.write_graph.specs.declared.walks.Walks.{Walks}
 use Rattle.write_graph.specs.Graph.{numbers, IsNodeNamed, Lists, IsLeast}
@@ -24,14 +25,6 @@ use Rattle.write_graph.specs.Objects.{IsWriter, IsWritten, is_written_after, is_
 use Rattle.write_graph.proofs.Held.{among-at, at-among, number-item, length-numbers, reached-held}
 use Rattle.write_graph.proofs.Nodes.{node-both}
 use Rattle.write_graph.proofs.Rising.{rising-le}
-
--- an element that passes, and each other test that it passes is passed by some element
-any-some : {X : Type 0} (t : X → Bool) (xs : List X) → IsTrue (list_any t xs) → (x : X) × IsTrue (t x) × ((u : X → Bool) → IsTrue (u x) → IsTrue (list_any u xs))
-any-some t [] e = absurd (both_ways _ refl e)
-any-some t (x ∷ xs) e = elim (or_cases (t x) (list_any t xs) e) [
-  | inl here ↦ (x, here, (λ u p. or_left (u x) (list_any u xs) p))
-  | inr later ↦ let r = any-some t xs later in (r.0, r.1, (λ u p. or_right (u x) (list_any u xs) (r.2 u p)))
-]
 
 -- the place of an element that passes
 any-place : {X : Type 0} (t : X → Bool) (xs : List X) → IsTrue (list_any t xs) → (i : ℕ) × (i < length xs) × ((d : X) → IsTrue (t (get_or xs i d)))
@@ -66,13 +59,13 @@ members-list entries n walks found rising are is node named =
 -- an entry after n writes x
 after-some : (entries : List Entry) (n x : ℕ) → IsTrue (is_written_after entries n x) → (later : ℕ) × (n < later) × IsTrue (writes_at entries later x)
 after-some entries n x e =
-    let f = any-some (λ e. nat_lt n e.lsn && is_among x e.writes) entries e in
+    let f = any-gives (λ e. nat_lt n e.lsn && is_among x e.writes) entries e in
     let u = and_parts (nat_lt n f.0.lsn) _ f.1 in
     (f.0.lsn, ltb-true n f.0.lsn u.0, f.2 (λ e. (e.lsn == f.0.lsn) && is_among x e.writes) (and_from _ _ (eq-eqb f.0.lsn f.0.lsn refl) u.1))
 
 after-from : (entries : List Entry) (n x later : ℕ) → n < later → IsTrue (writes_at entries later x) → IsTrue (is_written_after entries n x)
 after-from entries n x later lt w =
-    let f = any-some (λ e. (e.lsn == later) && is_among x e.writes) entries w in
+    let f = any-gives (λ e. (e.lsn == later) && is_among x e.writes) entries w in
     let u = and_parts (f.0.lsn == later) _ f.1 in
     let same : f.0.lsn ≡ later = eqb-true f.0.lsn later u.0 in
     f.2 (λ e. nat_lt n e.lsn && is_among x e.writes) (and_from _ _ (lt-ltb n f.0.lsn (omega arith)) u.1)
@@ -82,7 +75,7 @@ pub flushed-iff : (entries : List Entry) (node : ℕ → Bool) (x : ℕ) → IsT
 flushed-iff entries node x =
     let test : Entry → Bool = λ e. node e.lsn && (is_among x e.writes && not (is_written_after entries e.lsn x)) in (
       (λ t.
-          let f = any-some test entries t in
+          let f = any-gives test entries t in
           let u = and_parts (node f.0.lsn) _ f.1 in
           let v = and_parts (is_among x f.0.writes) _ u.1 in (
             f.0.lsn,
@@ -93,7 +86,7 @@ flushed-iff entries node x =
             ),
           )),
       (λ s.
-          let f = any-some (λ e. (e.lsn == s.0) && is_among x e.writes) entries s.2.0 in
+          let f = any-gives (λ e. (e.lsn == s.0) && is_among x e.writes) entries s.2.0 in
           let u = and_parts (f.0.lsn == s.0) _ f.1 in
           let same : s.0 ≡ f.0.lsn = sym (eqb-true f.0.lsn s.0 u.0) in
           let last : IsFalse (is_written_after entries s.0 x) = false_from_ne_true _ (λ e. let l = after-some entries s.0 x e in both_ways _ (s.2.1 l.0 l.1) l.2) in
@@ -104,10 +97,10 @@ flushed-iff entries node x =
 any-writes : (entries : List Entry) (x : ℕ) → IsTrue (list_any (λ e. is_among x e.writes) entries) ↔ IsWritten (accesses entries) x
 any-writes entries x = (
   (λ e.
-      let f = any-some (λ e. is_among x e.writes) entries e in
+      let f = any-gives (λ e. is_among x e.writes) entries e in
       (f.0.lsn, f.2 (λ e. (e.lsn == f.0.lsn) && is_among x e.writes) (and_from _ _ (eq-eqb f.0.lsn f.0.lsn refl) f.1))),
   (λ w.
-      let f = any-some (λ e. (e.lsn == w.0) && is_among x e.writes) entries w.1 in
+      let f = any-gives (λ e. (e.lsn == w.0) && is_among x e.writes) entries w.1 in
       f.2 (λ e. is_among x e.writes) (and_parts (f.0.lsn == w.0) _ f.1).1),
 )
 
