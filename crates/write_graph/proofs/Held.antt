@@ -1,0 +1,114 @@
+-- The numbers of a list, and those of the entries.
+use Rattle.std.proofs.Common.{◌≡◌, ◌∙◌, ap, sym, subst, ℕ, zero, suc, ◌<◌, ◌≤◌, Bool, List, [], ◌∷◌, ◌++◌, length, get_or, refl, arith, inl, inr}
+use Rattle.std.specs.Prelude.{IsTrue, IsFalse, ◌&&◌, ◌==◌, ◌⊎◌, nat_eq, slice_index}
+use Rattle.std.specs.List.{list_any, IsDistinct}
+use Rattle.std.proofs.lemmas.Bool.{both_ways, or_left, or_right, or_cases, and_parts, eqb-true, eq-eqb}
+use Rattle.std.proofs.lemmas.List.{length_push}
+use Rattle.std.proofs.lemmas.List.Folds.{list_any-append}
+use Rattle.std.proofs.lemmas.Cmp.{nat_eq_equiv}
+use Rattle.std.proofs.lemmas.Map.Keys.{IsDistinct-push}
+use Rattle.std.proofs.lemmas.Map.Made.{length-le_from_is_member}
+use Rattle.oper_core.specs.State.{is_among}
+use Rattle.install_order.specs.declared.entry.Entry.{Entry}
+use Rattle.install_order.specs.Order.{Edge, Reaches}
+use Rattle.install_order.specs.Order.Edge.{Read_write, Write_write, Lost_version}
+use Rattle.install_order.specs.Order.Reaches.{Here, Then}
+use Rattle.install_order.specs.Entries.{accesses}
+use Rattle.write_graph.specs.Graph.{numbers}
+
+-- a number of a list stands at some place
+pub among-at : (x : ℕ) (xs : List ℕ) → IsTrue (is_among x xs) → (k : ℕ) × (k < length xs) × (slice_index xs k ≡ x)
+among-at x [] e = absurd (both_ways _ refl e)
+among-at x (y ∷ ys) e = elim (or_cases (x == y) (is_among x ys) e) [
+  | inl q ↦ (zero, omega arith, sym (eqb-true x y q))
+  | inr r ↦ let s = among-at x ys r in (suc s.0, omega (arith, s.1), s.2)
+]
+
+-- what stands at a place is in the list
+pub at-among : (xs : List ℕ) (k : ℕ) → k < length xs → IsTrue (is_among (slice_index xs k) xs)
+at-among [] k lt = absurd (omega arith)
+at-among (y ∷ ys) zero lt = or_left (y == y) (is_among y ys) (eq-eqb y y refl)
+at-among (y ∷ ys) (suc k) lt = or_right (slice_index ys k == y) (is_among (slice_index ys k) ys) (at-among ys k (omega arith))
+
+-- in a list with one number more are those of the list and that number
+pub among-push : (x y : ℕ) (xs : List ℕ) → IsTrue (is_among x (xs ++ y ∷ [])) → IsTrue (is_among x xs) ⊎ (x ≡ y)
+among-push x y [] e = elim (or_cases (x == y) _ e) [ inl q ↦ inr (eqb-true x y q) | inr r ↦ absurd (both_ways _ refl r) ]
+among-push x y (z ∷ zs) e = elim (or_cases (x == z) (is_among x (zs ++ y ∷ [])) e) [
+  | inl q ↦ inl (or_left (x == z) (is_among x zs) q)
+  | inr r ↦ elim (among-push x y zs r) [ inl s ↦ inl (or_right (x == z) (is_among x zs) s) | inr s ↦ inr s ]
+]
+
+pub among-left : (x : ℕ) (xs ys : List ℕ) → IsTrue (is_among x xs) → IsTrue (is_among x (xs ++ ys))
+among-left x xs ys e = list_any-append (λ y. x == y) xs ys ∙ or_left (is_among x xs) (is_among x ys) e
+
+pub among-last : (x : ℕ) (xs : List ℕ) → IsTrue (is_among x (xs ++ x ∷ []))
+among-last x xs = list_any-append (λ y. x == y) xs (x ∷ []) ∙ or_right (is_among x xs) (is_among x (x ∷ [])) (or_left (x == x) _ (eq-eqb x x refl))
+
+-- the number at a place is that of the entry there
+pub number-at : (entries : List Entry) (i : ℕ) (d : Entry) → i < length entries → slice_index (numbers entries) i ≡ (get_or entries i d).lsn
+number-at [] i d lt = absurd (omega arith)
+number-at (e ∷ entries) zero d lt = refl
+number-at (e ∷ entries) (suc i) d lt = number-at entries i d (omega arith)
+
+pub length-numbers : (entries : List Entry) → length (numbers entries) ≡ length entries
+length-numbers [] = refl
+length-numbers (e ∷ entries) = ap suc (length-numbers entries)
+
+-- the entry at a place has a number of the entries
+pub held-at : (entries : List Entry) (i : ℕ) (d : Entry) → i < length entries → IsTrue (is_among (get_or entries i d).lsn (numbers entries))
+held-at entries i d lt = subst (λ (n : ℕ). IsTrue (is_among n (numbers entries))) (number-at entries i d lt) (at-among (numbers entries) i (omega (arith, length-numbers entries)))
+
+-- the number of an entry that passes a test is a number of the entries
+pub held-any : (t : Entry → Bool) (entries : List Entry) (n : ℕ) → IsTrue (list_any (λ e. (e.lsn == n) && t e) entries) → IsTrue (is_among n (numbers entries))
+held-any t [] n e = absurd (both_ways _ refl e)
+held-any t (f ∷ entries) n e = elim (or_cases ((f.lsn == n) && t f) _ e) [
+  | inl here ↦ or_left (n == f.lsn) _ (eq-eqb n f.lsn (sym (eqb-true f.lsn n (and_parts (f.lsn == n) (t f) here).0)))
+  | inr more ↦ or_right (n == f.lsn) _ (held-any t entries n more)
+]
+
+pub held-write : (entries : List Entry) (n x : ℕ) → IsTrue ((accesses entries).writes n x) → IsTrue (is_among n (numbers entries))
+held-write entries n x w = held-any (λ e. is_among x e.writes) entries n w
+
+pub held-read : (entries : List Entry) (n x : ℕ) → IsTrue ((accesses entries).reads n x) → IsTrue (is_among n (numbers entries))
+held-read entries n x r = held-any (λ e. is_among x e.reads) entries n r
+
+-- both ends of an edge are numbers of entries
+pub edge-held : (entries : List Entry) (o p : ℕ) → Edge (accesses entries) o p → IsTrue (is_among o (numbers entries)) × IsTrue (is_among p (numbers entries))
+edge-held entries o p (Read_write x lt r w) = (held-read entries o x r, held-write entries p x w)
+edge-held entries o p (Write_write x lt v w) = (held-write entries o x v, held-write entries p x w)
+edge-held entries o p (Lost_version x later lt w none r le wl) = (held-read entries o x r, held-write entries p x w)
+
+-- what a walk comes to is the number of an entry, where it begins at one
+pub reached-held : (entries : List Entry) (o p : ℕ) → Reaches (accesses entries) o p → IsTrue (is_among o (numbers entries)) → IsTrue (is_among p (numbers entries))
+reached-held entries o p Here held = held
+reached-held entries o p (Then m q walk edge) held = (edge-held entries m q edge).1
+
+-- where a walk begins is the number of an entry, where it ends at one
+pub reaching-held : (entries : List Entry) (o p : ℕ) → Reaches (accesses entries) o p → IsTrue (is_among p (numbers entries)) → IsTrue (is_among o (numbers entries))
+reaching-held entries o p Here held = held
+reaching-held entries o p (Then m q walk edge) held = reaching-held entries o m walk (edge-held entries m q edge).0
+
+-- numbers of entries, each once, are at most as many as the entries
+pub few : (entries : List Entry) (found : List ℕ) → IsDistinct nat_eq found → ((p : ℕ) → IsTrue (is_among p found) → IsTrue (is_among p (numbers entries))) → length found ≤ length entries
+few entries found once held = subst (λ (n : ℕ). length found ≤ n) (length-numbers entries) (length-le_from_is_member nat_eq_equiv found (numbers entries) once held)
+
+-- one number more is one number more
+pub once-push : (found : List ℕ) (p : ℕ) → IsDistinct nat_eq found → IsFalse (is_among p found) → IsDistinct nat_eq (found ++ p ∷ [])
+once-push found p once none = IsDistinct-push nat_eq_equiv found p once none
+
+-- while a number is not found yet, there are fewer than entries
+pub fewer : (entries : List Entry) (found : List ℕ) (p : ℕ) → IsDistinct nat_eq found → ((q : ℕ) → IsTrue (is_among q found) → IsTrue (is_among q (numbers entries))) →
+    IsFalse (is_among p found) → IsTrue (is_among p (numbers entries)) → length found < length entries
+fewer entries found p once held none there =
+    let le = few entries (found ++ p ∷ []) (once-push found p once none) (λ q among. elim (among-push q p found among) [
+      | inl yet ↦ held q yet
+      | inr new ↦ subst (λ (k : ℕ). IsTrue (is_among k (numbers entries))) (sym new) there
+    ]) in
+    omega (arith, le, length_push found p)
+
+-- the entry at a place: its number stands there, and is one of the numbers
+pub number-item : (entries : List Entry) (i : ℕ) (e : Entry) → i < length entries → e ≡ get_or entries i e → e.lsn ≡ slice_index (numbers entries) i
+number-item entries i e lt is = ap (λ (f : Entry). f.lsn) is ∙ sym (number-at entries i e lt)
+
+pub held-item : (entries : List Entry) (i : ℕ) (e : Entry) → i < length entries → e ≡ get_or entries i e → IsTrue (is_among e.lsn (numbers entries))
+held-item entries i e lt is = subst (λ (n : ℕ). IsTrue (is_among n (numbers entries))) (sym (ap (λ (f : Entry). f.lsn) is)) (held-at entries i e lt)

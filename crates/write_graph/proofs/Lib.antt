@@ -1,0 +1,9 @@
+pub mod Held
+pub mod Search
+pub mod Nodes
+pub mod Rising
+pub mod Count
+pub mod Exists
+pub mod Options
+pub mod Written
+pub mod Removal

@@ -1,0 +1,3 @@
+pub mod Graph
+pub mod Walk
+pub mod Objects
