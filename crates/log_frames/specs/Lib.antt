@@ -1,0 +1,5 @@
+pub mod LogView
+pub mod Forcing
+pub mod Creating
+pub mod Reading
+pub mod Laws
