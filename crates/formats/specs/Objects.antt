@@ -14,6 +14,7 @@ pub record IsInRange (p : Params) : Type 0 where
   pub least : 2 * p.cap + 4096 ≤ p.limit
   pub limit : p.limit ≤ 536870912
 
+-- the bounds of a store with these numbers
 abbrev pub bounds_of : Params → Bounds
 bounds_of p = record { objects = p.objects; cap = p.cap }
 

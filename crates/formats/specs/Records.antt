@@ -11,13 +11,13 @@ use Rattle.formats.specs.declared.record.Record.TheVariants.{Command}
 abbrev pub record_code : {O : Type 0} → Meaning O → Record O → List ℕ
 record_code m (Command number op) = 1 ∷ (little_bytes 8 number ++ m.code op)
 
--- a record is in the grammar where its operation is, and its number has a code
+-- a record is in the grammar where its operation is, and its number has eight bytes
 abbrev pub IsRecord : {O : Type 0} → Meaning O → Record O → Type 0
-IsRecord m (Command number op) = (number < 2 ^ 62) × IsInGrammar m op
+IsRecord m (Command number op) = (number < 2 ^ 64) × IsInGrammar m op
 
--- the number of a numbered record is this one
+-- the number of a numbered record is this one, and a store may give it
 abbrev pub HasNumber : {O : Type 0} → ℕ → Record O → Type 0
-HasNumber next (Command number op) = number ≡ next
+HasNumber next (Command number op) = (number ≡ next) × (number < 2 ^ 62)
 
 -- records in their grammar, their numbers consecutive from this one on
 abbrev pub AreRecords : {O : Type 0} → Meaning O → ℕ → List (Record O) → Type 0

@@ -17,10 +17,15 @@ pub record Meaning (O : Type 0) : Type 0 where
   pub check : O → List (List ℕ) → Option Refusal
   -- the new value of each written object, from the values of the read ones
   pub effect : O → List (List ℕ) → List (List ℕ)
-  -- each list of bytes in it has a length of four bytes
+  -- each list of bytes in it is shorter than 2^32
   pub is_encodable : O → Bool
   -- its bytes in the log
   pub code : O → List ℕ
+
+-- the numbers of a meaning are those of the bounds
+pub record HasBounds {O : Type 0} (b : Bounds) (m : Meaning O) : Type 0 where
+  pub objects : m.objects ≡ b.objects
+  pub cap : m.cap ≡ b.cap
 
 -- it is in the grammar for these bounds
 abbrev pub IsInGrammar : {O : Type 0} → Meaning O → O → Type 0
@@ -37,7 +42,7 @@ pub record StartsWithCode {O : Type 0} (m : Meaning O) (bytes : List ℕ) (op : 
   pub split : bytes ≡ m.code op ++ rest
   pub in_grammar : IsInGrammar m op
 
--- the numbers are those of a program, not of mathematics
+-- both numbers are below 2^32
 pub record IsSmall (b : Bounds) : Type 0 where
   pub objects : b.objects < 2 ^ 32
   pub cap : b.cap < 2 ^ 32

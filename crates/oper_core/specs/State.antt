@@ -1,5 +1,5 @@
 -- The values of the objects.
-use Rattle.std.specs.Prelude.{ℕ, ◌==◌, Bool, List, [], ◌∷◌, if◌then◌else◌}
+use Rattle.std.specs.Prelude.{slice_index_or, ℕ, ◌==◌, Bool, List, [], ◌∷◌, if◌then◌else◌}
 use Rattle.std.specs.List.{list_any}
 
 -- the bytes of each object, by its number
@@ -10,7 +10,7 @@ State = ℕ → List ℕ
 abbrev pub start : State
 start x = []
 
--- x is one of them
+-- x is one of the objects
 abbrev pub is_among : ℕ → List ℕ → Bool
 is_among x objects = list_any (λ y. x == y) objects
 
@@ -23,3 +23,7 @@ value_for x (y ∷ objects) (v ∷ values) = if x == y then v else value_for x o
 -- the state with these values at these objects
 abbrev pub with_values : State → List ℕ → List (List ℕ) → State
 with_values s objects values x = if is_among x objects then value_for x objects values else s x
+
+-- the state that a list of values gives: an object past its end is empty
+abbrev pub listed : List (List ℕ) → State
+listed values x = slice_index_or values x []

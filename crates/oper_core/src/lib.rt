@@ -2,7 +2,8 @@
 //! and its code in the log.
 //!
 //! The one contract is the trait [`Oper`] with its laws: an operation's effect is a function of the values that it
-//! reads, and the bytes in the log name exactly one operation. The crate stands on std alone.
+//! reads, and bytes in the log begin with the code of at most one operation. The crate stands on std, on `thiserror`,
+//! and on `byteorder`'s words for numbers as bytes.
 #![tactic(auto)]
 
 mod bounds;
@@ -11,6 +12,9 @@ mod memory;
 mod objs;
 mod oper;
 mod refusal;
+mod state;
+#[cfg(test)]
+mod tests;
 mod values;
 
 pub use bounds::Bounds;
@@ -19,4 +23,5 @@ pub use memory::Memory;
 pub use objs::Objs;
 pub use oper::Oper;
 pub use refusal::Refusal;
+pub use state::State;
 pub use values::Values;

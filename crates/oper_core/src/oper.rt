@@ -1,6 +1,6 @@
 ghost use Rattle.std.specs.Prelude.{◌≡◌, ◌≤◌, ◌<◌, ◌++◌, List, ℕ, None, All, length, take, IsTrue, IfOk, IfSome, OnOk, OnErr, IfNone};
 ghost use Rattle.std.specs.Result.{result_err};
-ghost use Rattle.oper_core.specs.Meaning.{Meaning, IsSmall, IsLawful, FitsReads, StartsWithCode};
+ghost use Rattle.oper_core.specs.Meaning.{Meaning, HasBounds, IsSmall, IsLawful, FitsReads, StartsWithCode};
 ghost use Rattle.oper_core.specs.declared.bounds.Bounds.{Bounds};
 ghost use Rattle.oper_core.specs.declared.refusal.Refusal.{Refusal};
 
@@ -36,7 +36,7 @@ pub trait Oper: Drop {
 
     /// Appends its code.
     fn encode(&self, out: &mut Vec<u8>) -> Result<(), Memory>
-        requires { (b : Bounds) → IsTrue ((meaning b).is_encodable self.now) }
+        requires { (b : Bounds) × IsTrue ((meaning b).is_encodable self.now) }
         ensures ok { (b : Bounds) → OnOk result (out.new.items ≡ out.old.items ++ (meaning b).code self.now) }
         ensures err { OnErr result (out.new.items ≡ out.old.items) };
 
@@ -49,6 +49,9 @@ pub trait Oper: Drop {
             StartsWithCode (meaning b) bytes.now pair.0 × (pair.1 ≡ length ((meaning b).code pair.0)))) }
         ensures none { IfOk result (λ found. IfNone found ((op : Self) → StartsWithCode (meaning b) bytes.now op → ⊥)) };
 
-    /// What each of them meets.
+    /// What they mean under some bounds is said of those bounds.
+    ghost bounded: { (b : Bounds) → HasBounds b (meaning b) };
+
+    /// What each operation of the grammar meets.
     ghost lawful: { (b : Bounds) → IsSmall b → IsLawful (meaning b) };
 }

@@ -46,4 +46,11 @@ impl Values {
     {
         self.items[i].as_slice()
     }
+
+    /// The values, moved out.
+    pub fn into_lists(self) -> Vec<ByteList>
+        ensures { result.items ≡ self }
+    {
+        self.items
+    }
 }
