@@ -3,3 +3,4 @@ pub mod Forcing
 pub mod Creating
 pub mod Reading
 pub mod Laws
+pub mod Numbers

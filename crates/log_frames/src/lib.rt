@@ -8,10 +8,12 @@
 
 mod creating;
 mod forcing;
+mod header;
 mod layout;
 mod log_err;
 mod log_file;
 mod payload;
+mod reading;
 
 pub use log_err::LogErr;
 pub use log_file::LogFile;

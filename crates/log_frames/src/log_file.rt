@@ -1,6 +1,7 @@
 ghost use Rattle.std.specs.Prelude.{◌≡◌, ◌<◌, ◌≤◌, ◌+◌, ◌^◌, ◌++◌, length, OnOk, IsErr};
 ghost use Rattle.log_frames.specs.LogView.{used_of, growth_of};
 
+use crate::header::Header;
 use crate::layout::{HEAD_BYTES, LENGTH_BYTES};
 use disk_model::FileNo;
 use oper_core::Memory;
@@ -12,9 +13,7 @@ use std::marker::Model;
 #[derive(Drop)]
 pub struct LogFile {
     pub(crate) active: FileNo,
-    pub(crate) epoch: u64,
-    pub(crate) base: u64,
-    pub(crate) commands: u64,
+    pub(crate) header: Header,
     pub(crate) end: u64,
     pub(crate) buffer: Vec<u8>,
 }
@@ -27,7 +26,7 @@ impl Model for LogFile {
 
     ghost view = { λ a. record {
         active = a.active;
-        header = record { epoch = a.epoch; base = a.base; commands = a.commands };
+        header = record { epoch = a.header.epoch; base = a.header.base; commands = a.header.commands };
         end = a.end;
         pending = drop 4 a.buffer.items;
         room = vec_capacity a.buffer - 1 - length a.buffer.items
@@ -48,14 +47,14 @@ impl LogFile {
     pub fn base(&self) -> u64
         ensures { result ≡ self.now.header.base }
     {
-        self.base
+        self.header.base
     }
 
     /// How many commands were accepted before the base.
     pub fn commands(&self) -> u64
         ensures { result ≡ self.now.header.commands }
     {
-        self.commands
+        self.header.commands
     }
 
     /// The log's length, with the block that a force would add.

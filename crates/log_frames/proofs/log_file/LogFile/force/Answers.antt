@@ -30,7 +30,7 @@ returns-clause-acknowledged g c told =
     let old = g.M.Machine.disk c.args.machine.now in
     let new = g.M.Machine.disk c.write_block-written.new.machine in
     let a = c.self.inside in
-    let header : Header = record { epoch = a.epoch; base = a.base; commands = a.commands } in
+    let header : Header = record { epoch = a.header.epoch; base = a.header.base; commands = a.header.commands } in
     let waits = drop 4 a.buffer.items in
     let some : 0 < length waits = omega (arith, length-drop 4 a.buffer.items) in
     let short : length waits ≤ 2 ^ 30 = omega (arith, length-drop 4 a.buffer.items) in
