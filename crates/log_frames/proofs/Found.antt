@@ -8,7 +8,9 @@ use Rattle.byteorder.specs.Endian.{little_bytes, little_number, little_from}
 use Rattle.disk_model.specs.Disk.{read_of}
 use Rattle.formats.specs.Bytes.{byte_at, number_at}
 use Rattle.log_frames.specs.Reading.{filled_up, IsBlockHead, IsBroken}
-use Rattle.log_frames.specs.Numbers.{number_same, bytes_of_number}
+use Rattle.oper_core.specs.LittleEndian.{little_bytes-little_number}
+use Rattle.formats.specs.Image.{IsWithin}
+use Rattle.log_frames.specs.Numbers.{number_same}
 
 pub length_read : (file : List ℕ) (place n : ℕ) → place + n ≤ length file → length (read_of file place n) ≡ n
 length_read file place n within = omega (arith, length-take n (drop place file), length-drop place file)
@@ -44,7 +46,7 @@ number_read file place n k at within = number_same 0 k (drop at (filled_up n (re
 head_bytes : (xs : List ℕ) → length xs ≡ 5 → get_or xs 0 0 ≡ 1 → ((k : ℕ) → get_or xs k 0 < 256) → xs ≡ 1 ∷ little_bytes 4 (little_number 4 (drop 1 xs))
 head_bytes [] long first small = absurd (omega arith)
 head_bytes (b ∷ xs) long first small =
-    let rest : xs ≡ little_bytes 4 (little_number 4 xs) = sym (take_all 4 xs (omega arith)) ∙ sym (bytes_of_number 4 xs (omega arith) (λ k less. small (suc k))) in
+    let rest : xs ≡ little_bytes 4 (little_number 4 xs) = sym (take_all 4 xs (omega arith)) ∙ sym (little_bytes-little_number 4 xs (omega arith) (λ k. small (suc k))) in
     λ i. first i ∷ rest i
 
 -- the head of a block that is read whole
@@ -56,10 +58,10 @@ head_read file gate into is within open_gate small =
 
 -- an open gate whose length or block is wrong
 pub is_broken : (file : List ℕ) (gate : ℕ) (into : List ℕ) → into ≡ filled_up 5 (read_of file gate 5) → get_or into 0 0 ≡ 1
-    → (1 ≤ little_number 4 (drop 1 into) → little_number 4 (drop 1 into) ≤ 2 ^ 30 → gate + 1 + 4 + little_number 4 (drop 1 into) < length file → ⊥) → IsBroken gate file
+    → (IsWithin 1 (2 ^ 30) (little_number 4 (drop 1 into)) → gate + 1 + 4 + little_number 4 (drop 1 into) < length file → ⊥) → IsBroken gate file
 is_broken file gate into is open_gate wrong =
     let number : little_number 4 (drop 1 into) ≡ number_at 4 (gate + 1) file = ap (λ (l : List ℕ). little_number 4 (drop 1 l)) is ∙ number_read file gate 5 4 1 (omega arith) in
     record {
       open_gate = ap (λ (n : ℕ). get_or file n 0) (omega arith) ∙ sym (byte_read file gate 5 0 (omega arith)) ∙ ap (λ (l : List ℕ). get_or l 0 0) (sym is) ∙ open_gate;
-      broken = subst (λ (n : ℕ). 1 ≤ n → n ≤ 2 ^ 30 → gate + 1 + 4 + n < length file → ⊥) number wrong;
+      broken = subst (λ (n : ℕ). IsWithin 1 (2 ^ 30) n → gate + 1 + 4 + n < length file → ⊥) number wrong;
     }

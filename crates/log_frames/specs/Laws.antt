@@ -158,7 +158,7 @@ no_block_fault h ps file place is fault =
       length-append (block next.payload) next.rest,
       length-block next.payload,
     ) in
-    fault.broken (omega (arith, number, next.is_payload.some)) (omega (arith, number, next.is_payload.short)) (omega (arith, number, long, fault.here, next.some))
+    fault.broken (omega (arith, number, next.is_payload.some), omega (arith, number, next.is_payload.short)) (omega (arith, number, long, fault.here, next.some))
 
 -- a whole log has no fault in its header
 pub no_header_fault : (h : Header) (ps : List (List ℕ)) (file : List ℕ) (place : ℕ) → IsWholeLog h ps file → IsHeaderFault file place → ⊥
@@ -172,8 +172,8 @@ no_header_fault h ps file place is fault = none place (subst (λ (l : List ℕ).
 
     none : (place : ℕ) → IsHeaderFault (header_bytes h ++ behind) place → ⊥
     none _ (gate shut) = shut refl
-    none _ (magic other) = other refl
-    none _ (epoch out) = let n = epoch_stands h is.in_range behind in out (omega (arith, n, is.in_range.epoch_low)) (omega (arith, n, is.in_range.epoch_high))
-    none _ (base out) = let n = base_stands h is.in_range behind in out (omega (arith, n, is.in_range.base_low)) (omega (arith, n, is.in_range.base_high))
-    none _ (commands over) = let n = base_stands h is.in_range behind in let k = commands_stand h is.in_range behind in omega (arith, n, k, over, is.in_range.commands)
-    none _ (short cut) = omega (arith, cut, length-append (header_bytes h) behind, length-header_bytes h, length-append (blocks ps) (is.log.gate ∷ is.log.rest))
+    none _ (magic is_open other) = other refl
+    none _ (epoch is_open out) = let n = epoch_stands h is.in_range behind in out (omega (arith, n, is.in_range.epoch_low), omega (arith, n, is.in_range.epoch_high))
+    none _ (base is_open out) = let n = base_stands h is.in_range behind in out (omega (arith, n, is.in_range.base_low), omega (arith, n, is.in_range.base_high))
+    none _ (commands is_open over) = let n = base_stands h is.in_range behind in let k = commands_stand h is.in_range behind in omega (arith, n, k, over, is.in_range.commands)
+    none _ (short is_open cut) = omega (arith, cut, length-append (header_bytes h) behind, length-header_bytes h, length-append (blocks ps) (is.log.gate ∷ is.log.rest))

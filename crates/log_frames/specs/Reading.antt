@@ -4,9 +4,10 @@ use Rattle.byteorder.specs.Endian.{little_bytes}
 use Rattle.disk_model.specs.Disk.{Files, read_of}
 use Rattle.disk_model.specs.declared.machine.FileNo.{FileNo}
 use Rattle.disk_model.specs.declared.machine.FileNo.TheVariants.{LogA, LogB}
-use Rattle.formats.specs.Log.{blocks, end_of, IsPayload, IsShutLog}
+use Rattle.formats.specs.Log.{Header, blocks, end_of, IsPayload, IsShutLog}
 use Rattle.formats.specs.Bytes.{number_at, IsOpenAt, IsShutAt}
-use Rattle.formats.specs.Image.{IsHeaderFault, IsBlockFault}
+use Rattle.formats.specs.Image.{IsWithin, IsHeaderFault, IsBlockFault}
+use Rattle.log_frames.specs.declared.header.Header.{Header as Read}
 use Rattle.log_frames.specs.declared.log_err.LogErr.{LogErr}
 use Rattle.log_frames.specs.declared.log_err.LogErr.TheVariants.{DiskFault, LogFull, Damaged, Exhausted, Memory}
 use Rattle.log_frames.specs.declared.payload.Payload.{Payload}
@@ -30,15 +31,15 @@ FailsBy rises fault (Exhausted epoch) = ⊥
 FailsBy rises fault Memory = Unit {0}
 
 -- it says that the files are damaged
-abbrev pub IsDamaged : {T : Type 0} → Result T LogErr → Type 0
-IsDamaged (Ok value) = ⊥
-IsDamaged (Err (Damaged file place)) = Unit {0}
-IsDamaged (Err other) = ⊥
+abbrev pub SaysDamaged : {T : Type 0} → Result T LogErr → Type 0
+SaysDamaged (Ok value) = ⊥
+SaysDamaged (Err (Damaged file place)) = Unit {0}
+SaysDamaged (Err other) = ⊥
 
 -- the log breaks its format in this file at this place
 pub data IsLogFault (files : Files) : FileNo → ℕ → Type 0 where
   in_header : (place : ℕ) → IsHeaderFault (files LogA) place → IsLogFault files LogA place
-  in_block : (place : ℕ) → IsBlockFault (files LogA) place → IsLogFault files LogA place
+  in_block : (place : ℕ) → IsOpenAt 0 (files LogA) → IsBlockFault (files LogA) place → IsLogFault files LogA place
   -- the second log file has no byte, or its header gate is open
   in_other_log : (IsShutLog (files LogB) → ⊥) → IsLogFault files LogB 0
 
@@ -61,7 +62,7 @@ FoundAt gate file (Some len) = IsBlockHead gate len file
 -- this gate is open, but its block or the gate behind it isn't within the file, or its length is out of range
 pub record IsBroken (gate : ℕ) (file : List ℕ) : Type 0 where
   pub open_gate : IsOpenAt gate file
-  pub broken : 1 ≤ number_at 4 (gate + 1) file → number_at 4 (gate + 1) file ≤ 2 ^ 30 → gate + 1 + 4 + number_at 4 (gate + 1) file < length file → ⊥
+  pub broken : IsWithin 1 (2 ^ 30) (number_at 4 (gate + 1) file) → gate + 1 + 4 + number_at 4 (gate + 1) file < length file → ⊥
 
 -- between the header and this gate are the blocks of these payloads; the gate stands in the file where the first does
 pub record IsReadTo (file : List ℕ) (gate : ℕ) (payloads : List (List ℕ)) : Type 0 where
@@ -84,3 +85,7 @@ fails_on rises rises' fault fault' (LogFull used need limit) risen there fails =
 fails_on rises rises' fault fault' (Damaged file place) risen there fails = there file place fails
 fails_on rises rises' fault fault' (Exhausted epoch) risen there fails = fails
 fails_on rises rises' fault fault' Memory risen there fails = fails
+
+-- the header that was read
+abbrev pub header_of : Read → Header
+header_of h = record { epoch = h.epoch; base = h.base; commands = h.commands }

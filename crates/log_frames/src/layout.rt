@@ -6,6 +6,14 @@ pub const CLOSED: u8 = 0;
 
 pub const MAGIC: [u8; 8] = *b"RDOLOG01";
 
+pub const MAGIC_PLACE: u64 = 1;
+
+pub const EPOCH_PLACE: u64 = 9;
+
+pub const BASE_PLACE: u64 = 17;
+
+pub const COMMANDS_PLACE: u64 = 25;
+
 // The header: the gate, the magic, and three numbers of eight bytes.
 pub const HEADER_BYTES: usize = 33;
 

@@ -10,9 +10,11 @@ mod creating;
 mod forcing;
 mod header;
 mod layout;
+mod loading;
 mod log_err;
 mod log_file;
 mod payload;
+mod payloads;
 mod reading;
 
 pub use log_err::LogErr;
