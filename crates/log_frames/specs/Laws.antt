@@ -8,6 +8,8 @@ use Rattle.byteorder.specs.Endian.{little_bytes, little_number}
 use Rattle.byteorder.specs.Numbers.{length-bytes_low_first, little_number-reads_back}
 use Rattle.formats.specs.Bytes.{number_at, byte_at, IsOpenAt, IsShutAt}
 use Rattle.formats.specs.Log.{Header, header_bytes, header_fields, block, blocks, end_of, IsHeader, IsPayload, IsLog, IsWholeLog}
+use Rattle.log_frames.specs.Reading.{placed_from}
+use Rattle.log_frames.specs.declared.payload.Payload.{Payload}
 use Rattle.formats.specs.Image.{IsHeaderFault, gate, magic, epoch, base, commands, short, IsBlockFault}
 
 -- a header is 33 bytes
@@ -177,3 +179,12 @@ no_header_fault h ps file place is fault = none place (subst (λ (l : List ℕ).
     none _ (base is_open out) = let n = base_stands h is.in_range behind in out (omega (arith, n, is.in_range.base_low), omega (arith, n, is.in_range.base_high))
     none _ (commands is_open over) = let n = base_stands h is.in_range behind in let k = commands_stand h is.in_range behind in omega (arith, n, k, over, is.in_range.commands)
     none _ (short is_open cut) = omega (arith, cut, length-append (header_bytes h) behind, length-header_bytes h, length-append (blocks ps) (is.log.gate ∷ is.log.rest))
+
+-- one payload more is placed behind the others
+pub placed-push : (from : ℕ) (payloads : List (List ℕ)) (payload : List ℕ) → placed_from from (payloads ++ payload ∷ []) ≡ placed_from from payloads ++ record { place = from + length (blocks payloads) + 5; bytes = payload } ∷ []
+placed-push from [] payload = let at : from + 5 ≡ from + 0 + 5 = omega arith in λ i. record { place = at i; bytes = payload } ∷ []
+placed-push from (p ∷ payloads) payload =
+    let at : from + 5 + length p + length (blocks payloads) + 5 ≡ from + length (block p ++ blocks payloads) + 5 = omega (arith, length-append (block p) (blocks payloads), length-block p) in
+    let first : Payload = record { place = from + 5; bytes = p } in
+    ap (λ (l : List Payload). first ∷ l) (placed-push (from + 5 + length p) payloads payload)
+    ∙ λ i. first ∷ (placed_from (from + 5 + length p) payloads ++ record { place = at i; bytes = payload } ∷ [])

@@ -1,5 +1,5 @@
 -- What a reader of a log finds, and why it fails.
-use Rattle.std.specs.Prelude.{◌≡◌, ◌<◌, ◌≤◌, ◌+◌, ◌-◌, ◌^◌, ℕ, List, [], ◌∷◌, ◌++◌, length, take, replicate, All, Option, Some, None, Result, Ok, Err}
+use Rattle.std.specs.Prelude.{◌≡◌, ◌<◌, ◌≤◌, ◌+◌, ◌-◌, ◌^◌, ℕ, List, [], ◌∷◌, ◌++◌, length, take, replicate, All, Option, Some, None}
 use Rattle.byteorder.specs.Endian.{little_bytes}
 use Rattle.disk_model.specs.Disk.{Files, read_of}
 use Rattle.disk_model.specs.declared.machine.FileNo.{FileNo}
@@ -30,11 +30,13 @@ FailsBy rises fault (Damaged file place) = fault file place
 FailsBy rises fault (Exhausted epoch) = ⊥
 FailsBy rises fault Memory = Unit {0}
 
--- it says that the files are damaged
-abbrev pub SaysDamaged : {T : Type 0} → Result T LogErr → Type 0
-SaysDamaged (Ok value) = ⊥
-SaysDamaged (Err (Damaged file place)) = Unit {0}
-SaysDamaged (Err other) = ⊥
+-- it tells of damage in the files
+abbrev pub TellsDamage : LogErr → Type 0
+TellsDamage DiskFault = ⊥
+TellsDamage (LogFull used need limit) = ⊥
+TellsDamage (Damaged file place) = Unit {0}
+TellsDamage (Exhausted epoch) = ⊥
+TellsDamage Memory = ⊥
 
 -- the log breaks its format in this file at this place
 pub data IsLogFault (files : Files) : FileNo → ℕ → Type 0 where
@@ -89,3 +91,11 @@ fails_on rises rises' fault fault' Memory risen there fails = fails
 -- the header that was read
 abbrev pub header_of : Read → Header
 header_of h = record { epoch = h.epoch; base = h.base; commands = h.commands }
+
+-- where no fault is there, none is told
+pub none_told : (rises : Type 0) (fault : FileNo → ℕ → Type 0) (e : LogErr) → ((file : FileNo) (place : ℕ) → fault file place → ⊥) → FailsBy rises fault e → TellsDamage e → ⊥
+none_told rises fault DiskFault none fails tells = tells
+none_told rises fault (LogFull used need limit) none fails tells = tells
+none_told rises fault (Damaged file place) none fails tells = none file place fails
+none_told rises fault (Exhausted epoch) none fails tells = tells
+none_told rises fault Memory none fails tells = tells

@@ -4,7 +4,7 @@ ghost use Rattle.disk_model.specs.Disk.{Rises, Stays};
 ghost use Rattle.disk_model.specs.declared.machine.FileNo.TheVariants.{LogA, LogB};
 ghost use Rattle.formats.specs.Log.{Header as Fields, header_bytes, IsHeader, IsWholeLog, IsShutLog, end_of};
 ghost use Rattle.formats.specs.Image.{IsHeaderFault};
-ghost use Rattle.log_frames.specs.Reading.{FailsBy, SaysDamaged, IsLogFault, header_of};
+ghost use Rattle.log_frames.specs.Reading.{FailsBy, TellsDamage, IsLogFault, header_of};
 
 use crate::header::Header;
 use crate::layout::{
@@ -99,7 +99,7 @@ impl LogFile {
             × IsWholeLog log.header payloads ((M.disk machine.old).reads LogA) × IsShutLog ((M.disk machine.old).reads LogB)
             × (log.end ≡ end_of payloads) × (log.active ≡ LogA) × (log.pending ≡ [])) }
         ensures undamaged { (M.disk machine.old).tells_files → (header : Fields) (payloads : List (List ℕ))
-            → IsWholeLog header payloads ((M.disk machine.old).reads LogA) → IsShutLog ((M.disk machine.old).reads LogB) → SaysDamaged result → ⊥ }
+            → IsWholeLog header payloads ((M.disk machine.old).reads LogA) → IsShutLog ((M.disk machine.old).reads LogB) → IfErr result (λ e. TellsDamage e → ⊥) }
         ensures cause { IfErr result (FailsBy (Rises (M.disk machine.old).disk_faults (M.disk machine.new).disk_faults)
             (λ file place. (M.disk machine.old).tells_files → IsLogFault (M.disk machine.old).reads file place)) }
     {
