@@ -7,8 +7,11 @@ use Rattle.std.proofs.lemmas.List.Elements.{All-push, All-head, All-tail}
 use Rattle.byteorder.specs.Endian.{little_bytes, little_number}
 use Rattle.byteorder.specs.Numbers.{length-bytes_low_first, little_number-reads_back}
 use Rattle.formats.specs.Bytes.{number_at, byte_at, IsOpenAt, IsShutAt}
-use Rattle.formats.specs.Log.{Header, header_bytes, header_fields, block, blocks, end_of, IsHeader, IsPayload, IsLog, IsWholeLog}
-use Rattle.log_frames.specs.Reading.{placed_from}
+use Rattle.formats.specs.Log.{Header, header_bytes, header_fields, block, blocks, end_of, IsHeader, IsPayload, IsLog, IsWholeLog, IsShutLog}
+use Rattle.disk_model.specs.Disk.{Files}
+use Rattle.disk_model.specs.declared.machine.FileNo.{FileNo}
+use Rattle.disk_model.specs.declared.machine.FileNo.TheVariants.{LogA, LogB}
+use Rattle.log_frames.specs.Reading.{placed_from, IsLogFault, in_header, in_block, in_other_log}
 use Rattle.log_frames.specs.declared.payload.Payload.{Payload}
 use Rattle.formats.specs.Image.{IsHeaderFault, gate, magic, epoch, base, commands, short, IsBlockFault}
 
@@ -188,3 +191,9 @@ placed-push from (p ∷ payloads) payload =
     let first : Payload = record { place = from + 5; bytes = p } in
     ap (λ (l : List Payload). first ∷ l) (placed-push (from + 5 + length p) payloads payload)
     ∙ λ i. first ∷ (placed_from (from + 5 + length p) payloads ++ record { place = at i; bytes = payload } ∷ [])
+
+-- the log in a whole log file has no fault while the other log is shut
+pub no_log_fault : (h : Header) (ps : List (List ℕ)) (files : Files) (file : FileNo) (place : ℕ) → IsWholeLog h ps (files LogA) → IsShutLog (files LogB) → IsLogFault files file place → ⊥
+no_log_fault h ps files _ _ is shut (in_header place fault) = no_header_fault h ps (files LogA) place is fault
+no_log_fault h ps files _ _ is shut (in_block place is_open fault) = no_block_fault h ps (files LogA) place is fault
+no_log_fault h ps files _ _ is shut (in_other_log fault) = fault shut
