@@ -16,6 +16,8 @@ mod log_file;
 mod payload;
 mod payloads;
 mod reading;
+#[cfg(test)]
+mod tests;
 
 pub use log_err::LogErr;
 pub use log_file::LogFile;
