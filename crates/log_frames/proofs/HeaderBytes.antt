@@ -83,7 +83,7 @@ module _ (file : List ℕ) where
   file_fault _ less (short is_open cut) = absurd (omega arith)
 
   pub front_stands : 33 < length file → head ≡ take 33 file
-  front_stands within = full_read file 0 33 (omega arith) 
+  front_stands within = full_read file 0 33 (omega arith)
 
   -- a file that is read as a header begins with an open gate
   pub opened_by : (into : List ℕ) (h : Header) → into ≡ head → into ≡ header_bytes h → IsOpenAt 0 file

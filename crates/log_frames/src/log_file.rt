@@ -25,11 +25,11 @@ impl Model for LogFile {
     ghost Value = { LogView };
 
     ghost view = { λ a. record {
-        active = a.active;
-        header = record { epoch = a.header.epoch; base = a.header.base; commands = a.header.commands };
-        end = a.end;
-        pending = drop 4 a.buffer.items;
-        room = vec_capacity a.buffer - 1 - length a.buffer.items
+      active = a.active;
+      header = record { epoch = a.header.epoch; base = a.header.base; commands = a.header.commands };
+      end = a.end;
+      pending = drop 4 a.buffer.items;
+      room = vec_capacity a.buffer - 1 - length a.buffer.items;
     } };
 
     ghost invariant = { λ a. IsBuffer a.end a.buffer.items (vec_capacity a.buffer) };

@@ -58,7 +58,11 @@ fn read_payloads<M: Machine>(
 
 impl LogFile {
     /// The forced payloads, whole, in the log's order.
-    pub fn payloads<M: Machine>(&self, alloc: Global, machine: &mut M) -> Result<Vec<Payload>, LogErr>
+    pub fn payloads<M: Machine>(
+        &self,
+        alloc: Global,
+        machine: &mut M,
+    ) -> Result<Vec<Payload>, LogErr>
         ensures kept { Stays (M.disk machine.old) (M.disk machine.new) }
         ensures payloads { (M.disk machine.old).tells_files → (payloads : List (List ℕ)) → IsWholeLog self.now.header payloads ((M.disk machine.old).reads self.now.active)
             → IfOk result (λ found. found.items ≡ placed payloads) }

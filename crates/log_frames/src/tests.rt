@@ -4,8 +4,7 @@ use std::alloc::Global;
 use std::process::Abort;
 use std::test::Fail;
 
-const NEW_LOG: [u8; 34] =
-    *b"\x01RDOLOG01\x01\0\0\0\0\0\0\0\x01\0\0\0\0\0\0\0\0\0\0\0\0\0\0\0\0";
+const NEW_LOG: [u8; 34] = *b"\x01RDOLOG01\x01\0\0\0\0\0\0\0\x01\0\0\0\0\0\0\0\0\0\0\0\0\0\0\0\0";
 
 // A settled machine with a new log.
 fn new_store(alloc: Global) -> Result<MemMachine, Fail> {
@@ -110,7 +109,11 @@ fn a_changed_byte_is_damage(rt: HostRuntime) -> Result<(), Fail> {
         machine.write_at(FileNo::LogA, at, &[byte])?;
         let answer = LogFile::load(rt.alloc(), &mut machine).err();
         let file = FileNo::LogA;
-        assert_eq!(rt; answer, Some(LogErr::Damaged { file, place }), "{byte} at {at}");
+        assert_eq!(rt;
+            answer,
+            Some(LogErr::Damaged { file, place }),
+            "{byte} at {at}"
+        );
     }
     Ok(())
 }
@@ -121,7 +124,11 @@ fn a_cut_file_is_damage(rt: HostRuntime) -> Result<(), Fail> {
         let mut machine = store_of(rt.alloc(), &NEW_LOG[..len], &[0])?;
         let answer = LogFile::load(rt.alloc(), &mut machine).err();
         let file = FileNo::LogA;
-        assert_eq!(rt; answer, Some(LogErr::Damaged { file, place }), "{len} bytes");
+        assert_eq!(rt;
+            answer,
+            Some(LogErr::Damaged { file, place }),
+            "{len} bytes"
+        );
     }
     Ok(())
 }

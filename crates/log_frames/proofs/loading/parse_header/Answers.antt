@@ -15,18 +15,26 @@ returns-then-not-has_magic-clause-cause c = rw c.damaged_at-then-not-has_magic.e
 pub returns-then-epoch-eq0-clause-cause : goal.returns-then-epoch-eq0-clause-cause
 returns-then-epoch-eq0-clause-cause c =
     let is : c.read_u64-epoch.result ≡ number_at 8 9 c.args.head.now = c.read_u64-epoch.ensures ∙ little_from-take 0 8 24 (drop 9 c.args.head.now) (omega arith) in
-    rw c.damaged_at-then-epoch-eq0.ensures (refl, omega arith, epoch c.if-head-ne-OPEN.false (λ range. elim c.then-epoch-eq0.branch [
-      | then-epoch-eq0-via-then-epoch-eq0 w ↦ omega (arith, is, range.0, w.if-epoch-eq0.true)
-      | then-epoch-eq0-via-else-epoch-eq0+then-epoch-gt-MAX_NUMBER w ↦ omega (arith, is, range.1, w.if-epoch-gt-MAX_NUMBER.true)
-    ]))
+    rw c.damaged_at-then-epoch-eq0.ensures (
+      refl,
+      omega arith,
+      epoch c.if-head-ne-OPEN.false (λ range. elim c.then-epoch-eq0.branch [
+        | then-epoch-eq0-via-then-epoch-eq0 w ↦ omega (arith, is, range.0, w.if-epoch-eq0.true)
+        | then-epoch-eq0-via-else-epoch-eq0+then-epoch-gt-MAX_NUMBER w ↦ omega (arith, is, range.1, w.if-epoch-gt-MAX_NUMBER.true)
+      ]),
+    )
 
 pub returns-then-base-eq0-clause-cause : goal.returns-then-base-eq0-clause-cause
 returns-then-base-eq0-clause-cause c =
     let is : c.read_u64-base.result ≡ number_at 8 17 c.args.head.now = c.read_u64-base.ensures ∙ little_from-take 0 8 16 (drop 17 c.args.head.now) (omega arith) in
-    rw c.damaged_at-then-base-eq0.ensures (refl, omega arith, base c.if-head-ne-OPEN.false (λ range. elim c.then-base-eq0.branch [
-      | then-base-eq0-via-then-base-eq0 w ↦ omega (arith, is, range.0, w.if-base-eq0.true)
-      | then-base-eq0-via-else-base-eq0+then-base-gt-MAX_NUMBER w ↦ omega (arith, is, range.1, w.if-base-gt-MAX_NUMBER.true)
-    ]))
+    rw c.damaged_at-then-base-eq0.ensures (
+      refl,
+      omega arith,
+      base c.if-head-ne-OPEN.false (λ range. elim c.then-base-eq0.branch [
+        | then-base-eq0-via-then-base-eq0 w ↦ omega (arith, is, range.0, w.if-base-eq0.true)
+        | then-base-eq0-via-else-base-eq0+then-base-gt-MAX_NUMBER w ↦ omega (arith, is, range.1, w.if-base-gt-MAX_NUMBER.true)
+      ]),
+    )
 
 pub returns-then-commands-base-clause-cause : goal.returns-then-commands-base-clause-cause
 returns-then-commands-base-clause-cause c =
@@ -38,8 +46,7 @@ pub returns-clause-ok : goal.returns-clause-ok
 returns-clause-ok c =
     let epochs : c.read_u64-epoch.result ≡ number_at 8 9 c.args.head.now = c.read_u64-epoch.ensures ∙ little_from-take 0 8 24 (drop 9 c.args.head.now) (omega arith) in
     let bases : c.read_u64-base.result ≡ number_at 8 17 c.args.head.now = c.read_u64-base.ensures ∙ little_from-take 0 8 16 (drop 17 c.args.head.now) (omega arith) in
-    let counts : c.read_u64-commands.result ≡ number_at 8 25 c.args.head.now = c.read_u64-commands.ensures ∙ little_from-take 0 8 8 (drop 25 c.args.head.now) (omega arith) in
-    (
+    let counts : c.read_u64-commands.result ≡ number_at 8 25 c.args.head.now = c.read_u64-commands.ensures ∙ little_from-take 0 8 8 (drop 25 c.args.head.now) (omega arith) in (
       record {
         epoch_low = omega (arith, c.if-epoch-eq0.false);
         epoch_high = c.if-epoch-gt-MAX_NUMBER.false;

@@ -17,9 +17,12 @@ returns-in_err-header-clause-cause g c =
     c.in_err-header.ensures.cause)
 
 pub returns-then-size-le-FIRST_BLOCK-clause-cause : goal.returns-then-size-le-FIRST_BLOCK-clause-cause
-returns-then-size-le-FIRST_BLOCK-clause-cause g c = (refl, λ told size.
-    let file = (g.M.Machine.disk c.args.machine.now).reads c.args.file in
-    short (opened_by file c.read_at.new.into (header_of c.in_ok-header.header) (c.in_ok-read_at.ensures.bytes told) c.in_ok-header.ensures.ok.1) (omega (arith, size, c.if-size-le-FIRST_BLOCK.true)))
+returns-then-size-le-FIRST_BLOCK-clause-cause g c = (
+  refl,
+  λ told size.
+      let file = (g.M.Machine.disk c.args.machine.now).reads c.args.file in
+      short (opened_by file c.read_at.new.into (header_of c.in_ok-header.header) (c.in_ok-read_at.ensures.bytes told) c.in_ok-header.ensures.ok.1) (omega (arith, size, c.if-size-le-FIRST_BLOCK.true)),
+)
 
 pub returns-clause-ok : goal.returns-clause-ok
 returns-clause-ok g c told size =

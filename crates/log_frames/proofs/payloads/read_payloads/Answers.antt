@@ -50,11 +50,14 @@ returns-in_err-len-clause-cause g c =
     let inv = c.loop-found.invariant in
     let p = err_from_is_err_and c.from_residual.result c.from_residual.ensures.1 in
     rw (p.1, p.2) (fails_on _ _ _ _ c.in_err-len.field-0.0 (λ risen below. omega (arith, risen below, inv.kept.time.disk_faults))
-    (λ f place there. (there.0, λ told size.
-        let same = inv.kept.reads told in
-        let found = inv.so_far told size in
-        let broken = there.2 (inv.kept.time.files_told.0 told) (size ∙ ap (λ (f : Files). length (f c.args.file)) (sym same)) in
-        subst (λ (n : ℕ). IsBlockFault (old.reads c.args.file) n) (sym there.1) (block_fault (old.reads c.args.file) c.loop-found.gate found.payloads found.read (subst (λ (f : Files). IsBroken c.loop-found.gate (f c.args.file)) same broken))))
+    (λ f place there. (
+      there.0,
+      λ told size.
+          let same = inv.kept.reads told in
+          let found = inv.so_far told size in
+          let broken = there.2 (inv.kept.time.files_told.0 told) (size ∙ ap (λ (f : Files). length (f c.args.file)) (sym same)) in
+          subst (λ (n : ℕ). IsBlockFault (old.reads c.args.file) n) (sym there.1) (block_fault (old.reads c.args.file) c.loop-found.gate found.payloads found.read (subst (λ (f : Files). IsBroken c.loop-found.gate (f c.args.file)) same broken)),
+    ))
     c.in_err-len.ensures.cause)
 
 pub returns-clause-all : goal.returns-clause-all

@@ -56,10 +56,10 @@ returns-in_err-end-clause-cause g c =
     let p = err_from_is_err_and c.from_residual-in_err-end.result c.from_residual-in_err-end.ensures.1 in
     rw (p.1, p.2) (by_block old three (g.M.Machine.disk c.first_closed.new.machine) kept c.in_err-end.field-0.0 c.in_ok-size.size c.in_ok-size.ensures.size
     (λ told.
-        let same = c.size.ensures.kept.reads told in
-        let long = c.in_ok-size.ensures.size told ∙ ap (λ (f : Files). length (f LogA)) (sym same) in
-        let read = c.in_ok-header.ensures.ok (c.size.ensures.kept.time.files_told.0 told) long in
-        front_opens (old.reads LogA) (header_of c.in_ok-header.header) (subst (λ (f : Files). take 33 (f LogA) ≡ header_bytes (header_of c.in_ok-header.header)) same read.1))
+    let same = c.size.ensures.kept.reads told in
+    let long = c.in_ok-size.ensures.size told ∙ ap (λ (f : Files). length (f LogA)) (sym same) in
+    let read = c.in_ok-header.ensures.ok (c.size.ensures.kept.time.files_told.0 told) long in
+    front_opens (old.reads LogA) (header_of c.in_ok-header.header) (subst (λ (f : Files). take 33 (f LogA) ≡ header_bytes (header_of c.in_ok-header.header)) same read.1))
     c.in_err-end.ensures.cause)
 
 pub returns-in_err-end-clause-undamaged : goal.returns-in_err-end-clause-undamaged

@@ -34,6 +34,6 @@ returns-clause-undamaged g c told =
     subst (λ (log : LogView). (payloads : List (List ℕ)) → IsWholeLog log.header payloads (old.reads log.active) → IfErr c.read_payloads.result (λ e. TellsDamage e → ⊥)) c.self.view_is
     (λ payloads is. IfErr-weaker c.read_payloads.result _ (λ e. TellsDamage e → ⊥)
     (λ e fails. none_told _ _ e
-        (λ f place there. no_block_fault _ payloads (old.reads file) place is (subst (λ (x : Files). IsBlockFault (x file) place) same (there.1 (kept.time.files_told.0 told) long)))
-        fails)
+    (λ f place there. no_block_fault _ payloads (old.reads file) place is (subst (λ (x : Files). IsBlockFault (x file) place) same (there.1 (kept.time.files_told.0 told) long)))
+    fails)
     c.read_payloads.ensures.cause)
