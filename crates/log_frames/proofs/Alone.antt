@@ -1,6 +1,5 @@
 -- Runs that leave the objects alone.
-use Rattle.std.proofs.Common.{◌≡◌, ◌≢◌, List, ℕ, [], ◌∷◌, ◌++◌, refl, ◌∙◌, sym, ap, subst, arith}
-use Rattle.std.proofs.lemmas.List.{append-nil}
+use Rattle.std.proofs.Common.{◌≡◌, ◌≢◌, List, ℕ, [], ◌∷◌, ◌++◌, refl, ◌∙◌, sym, subst, arith}
 use Rattle.std.proofs.lemmas.List.Elements.{All-nil}
 use Rattle.disk_model.specs.Disk.{Files, Disk, Runs, Stays, Same, In, Holds, IsSettled}
 use Rattle.disk_model.specs.Moments.{runs_twice, runs_wider, stays_settled}

@@ -1,11 +1,11 @@
 -- What the two writes of a force may leave of a log file's bytes.
-use Rattle.std.proofs.Common.{◌≡◌, ◌⊎◌, ◌<◌, ◌≤◌, ◌^◌, inl, inr, ℕ, ◌+◌, ◌-◌, min, List, [], ◌∷◌, ◌++◌, length, get_or, take, drop, replicate, refl, sym, ◌∙◌, ap, subst, arith, append_assoc, length-append, take-append-drop}
+use Rattle.std.proofs.Common.{◌≡◌, ◌⊎◌, ◌<◌, inl, inr, ℕ, ◌+◌, ◌-◌, min, List, [], ◌∷◌, ◌++◌, length, get_or, take, drop, replicate, refl, sym, ◌∙◌, ap, subst, arith, append_assoc, length-append, take-append-drop}
 use Rattle.std.proofs.lemmas.List.{take_at, drop_at, drop_more, append-nil}
 use Rattle.std.proofs.lemmas.Bool.{cases_eq}
 use Rattle.disk_model.specs.Disk.{Holds, Torn}
-use Rattle.formats.specs.Log.{Header, header_bytes, block, blocks, end_of, IsPayload, IsLog, IsWholeLog}
+use Rattle.formats.specs.Log.{Header, header_bytes, blocks, end_of, IsLog}
 use Rattle.log_frames.specs.Forcing.{frame, with_block}
-use Rattle.log_frames.specs.Laws.{blocks-push, length-header_bytes, length-block, all_push}
+use Rattle.log_frames.specs.Laws.{blocks-push}
 
 pub with_block-some : (payloads : List (List ℕ)) (payload : List ℕ) → 0 < length payload → with_block payloads payload ≡ payloads ++ payload ∷ []
 with_block-some payloads [] some = absurd (omega arith)

@@ -1,13 +1,13 @@
 -- What the bytes at a place say of the file.
-use Rattle.std.proofs.Common.{inl, inr, ◌≡◌, ◌≢◌, ◌<◌, ◌≤◌, ◌+◌, ◌-◌, ◌^◌, ℕ, suc, List, [], ◌∷◌, ◌++◌, length, get_or, take, drop, replicate, refl, sym, ◌∙◌, ap, subst, arith, length-append, length-take, length-drop}
+use Rattle.std.proofs.Common.{inl, inr, ◌≡◌, ◌<◌, ◌≤◌, ◌+◌, ◌-◌, ◌^◌, ℕ, suc, List, [], ◌∷◌, ◌++◌, length, get_or, drop, replicate, sym, ◌∙◌, ap, subst, arith, length-take, length-drop}
 use Rattle.std.proofs.lemmas.List.{get_or-drop, get_or-take, get_or_past, get_or-replicate, append-nil, take_all}
 use Rattle.std.proofs.Math.ListN.{get_or-append}
 use Rattle.std.proofs.Math.Seq.{drop-append_seam}
 use Rattle.std.proofs.lemmas.Bool.{cases_lt}
-use Rattle.byteorder.specs.Endian.{little_bytes, little_number, little_from}
+use Rattle.byteorder.specs.Endian.{little_bytes, little_number}
 use Rattle.disk_model.specs.Disk.{read_of}
 use Rattle.formats.specs.Bytes.{byte_at, number_at}
-use Rattle.log_frames.specs.Reading.{filled_up, IsBlockHead, IsBroken}
+use Rattle.log_frames.specs.Reading.{filled_up, IsBroken}
 use Rattle.oper_core.specs.LittleEndian.{little_bytes-little_number}
 use Rattle.formats.specs.Image.{IsWithin}
 use Rattle.log_frames.specs.Numbers.{number_same}

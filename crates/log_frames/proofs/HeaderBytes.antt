@@ -1,16 +1,16 @@
 -- What the bytes of a header are.
-use Rattle.std.proofs.Common.{◌≡◌, ◌<◌, ◌≤◌, ◌+◌, ◌-◌, ◌^◌, ℕ, suc, replicate, List, [], ◌∷◌, ◌++◌, length, get_or, take, drop, refl, sym, ◌∙◌, ap, subst, arith, append_assoc, length-take, length-drop, take-append-drop, length-append}
+use Rattle.std.proofs.Common.{◌≡◌, ◌<◌, ◌≤◌, ◌+◌, ◌-◌, ◌^◌, ℕ, replicate, List, [], ◌∷◌, ◌++◌, length, get_or, take, drop, sym, ◌∙◌, ap, subst, arith, append_assoc, length-take, length-drop, take-append-drop, length-append}
 use Rattle.std.specs.Prelude.{codes}
 use Rattle.std.proofs.lemmas.List.{take_all, drop-drop, get_or-drop, get_or-take, same_lists, length-replicate}
 use Rattle.std.proofs.lemmas.Grind.{get_or_default_zero}
 use Rattle.oper_core.specs.LittleEndian.{little_bytes-little_number}
-use Rattle.byteorder.specs.Endian.{little_bytes, little_number}
+use Rattle.byteorder.specs.Endian.{little_bytes}
 use Rattle.disk_model.specs.Disk.{read_of}
-use Rattle.formats.specs.Bytes.{number_at, byte_at, IsOpenAt, IsShutAt}
+use Rattle.formats.specs.Bytes.{number_at, byte_at, IsOpenAt}
 use Rattle.formats.specs.Image.{IsWithin, IsHeaderFault, gate, magic, epoch, base, commands, short}
-use Rattle.formats.specs.Log.{Header, header_bytes, IsHeader}
+use Rattle.formats.specs.Log.{Header, header_bytes}
 use Rattle.log_frames.specs.Reading.{filled_up}
-use Rattle.log_frames.proofs.Found.{byte_read, number_read, full_read, length_read}
+use Rattle.log_frames.proofs.Found.{byte_read, number_read, full_read}
 
 -- eight bytes at a place are those of their number
 eight : (head : List ℕ) (at : ℕ) → at + 8 ≤ length head → ((i : ℕ) → get_or head i 0 < 256) → take 8 (drop at head) ≡ little_bytes 8 (number_at 8 at head)

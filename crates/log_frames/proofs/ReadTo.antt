@@ -1,14 +1,13 @@
 -- How far the blocks of a log are read.
-use Rattle.std.proofs.Common.{◌≡◌, ◌≢◌, ◌<◌, ◌≤◌, ◌+◌, ◌^◌, inl, inr, ℕ, List, [], ◌∷◌, ◌++◌, length, get_or, take, drop, refl, sym, ◌∙◌, ap, subst, arith, append_assoc, length-append, length-take, length-drop, take-append-drop}
-use Rattle.std.specs.Prelude.{All}
-use Rattle.std.proofs.lemmas.List.{append-nil, take_at, drop_more, get_or_past, drop-drop, take_all}
+use Rattle.std.proofs.Common.{◌≡◌, ◌<◌, ◌+◌, inl, inr, ℕ, List, [], ◌∷◌, ◌++◌, length, take, drop, refl, sym, ◌∙◌, ap, subst, arith, append_assoc, length-append, length-take, take-append-drop}
+use Rattle.std.proofs.lemmas.List.{append-nil, take_at, drop_more, get_or_past, drop-drop}
 use Rattle.std.proofs.lemmas.List.Elements.{All-nil}
 use Rattle.std.proofs.Math.Seq.{take-add}
 use Rattle.std.proofs.lemmas.Bool.{cases_lt}
 use Rattle.byteorder.specs.Endian.{little_bytes}
 use Rattle.disk_model.specs.Disk.{read_of}
 use Rattle.formats.specs.Bytes.{byte_at, IsOpenAt, IsShutAt}
-use Rattle.formats.specs.Log.{Header, header_bytes, block, blocks, end_of, IsHeader, IsPayload, IsWholeLog}
+use Rattle.formats.specs.Log.{Header, header_bytes, block, blocks, IsHeader, IsPayload, IsWholeLog}
 use Rattle.formats.specs.Image.{IsBlockFault}
 use Rattle.log_frames.specs.Reading.{IsReadTo, IsBlockHead, IsBroken, EndsBlocks, placed}
 use Rattle.log_frames.specs.Laws.{blocks-push, all_push, length-block, length-header_bytes, one_log, placed-push}

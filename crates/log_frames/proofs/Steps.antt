@@ -1,9 +1,9 @@
 -- The two steps of a force.
-use Rattle.std.proofs.Common.{◌≡◌, ◌≢◌, ◌⊎◌, ◌<◌, ◌≤◌, ◌^◌, inl, ⊎_elim, inr, ℕ, ◌+◌, List, [], ◌∷◌, ◌++◌, length, sym, ◌∙◌, subst, ap, arith, length-append}
+use Rattle.std.proofs.Common.{◌≡◌, ◌≢◌, ◌<◌, ◌≤◌, ◌^◌, inl, ⊎_elim, inr, ℕ, ◌+◌, List, [], ◌∷◌, ◌++◌, length, sym, ◌∙◌, subst, arith, length-append}
 use Rattle.disk_model.specs.Disk.{Files, Disk, Passes, Steps, Same, In, Torn, Holds, Any, IsSettled, LeavesOnly, Runs}
 use Rattle.disk_model.specs.Moments.{first_call, goes_on, from_reads, runs_wider}
 use Rattle.disk_model.specs.declared.machine.FileNo.{FileNo}
-use Rattle.formats.specs.Log.{Header, header_bytes, blocks, end_of, IsLog, IsWholeLog, IsPayload}
+use Rattle.formats.specs.Log.{Header, header_bytes, blocks, IsLog, IsWholeLog}
 use Rattle.log_frames.specs.Forcing.{frame, with_block, IsLogAt, IsOneOf}
 use Rattle.log_frames.specs.Laws.{length-header_bytes, all_push}
 use Rattle.log_frames.proofs.Bytes.{with_block-some, torn_behind, held_behind, torn_gate, held_gate, opened, either, next_place}
@@ -95,6 +95,16 @@ module _ (old : Disk) (file : FileNo) (gate : ℕ) (header : Header) (payloads :
   leaves_opening mid new n told time goes said is time_after goes_after =
       let mid_told = time.moments_told.0 told in
       goes_on old mid new P mid_told (leaves_staging mid n told time goes) time_after (opening mid new is mid_told said goes_after)
+
+  -- the first write is done
+  pub staged_by : (mid : Disk) (bytes : List ℕ) → bytes ≡ frame payload → (IsSettled old → IsSettled mid) → In file (Holds (gate + 1) bytes) old.reads mid.reads → IsStaged old mid file header payloads payload
+  staged_by mid bytes is settles written =
+      staged mid (settles f.rests.settled) (subst (λ (b : List ℕ). In file (Holds (gate + 1) b) old.reads mid.reads) is written)
+
+  -- both writes, whether the second is done or not
+  pub leaves_both : (mid new : Disk) (n : ℕ) → old.tells_moments → Runs (In file (Torn (gate + 1) n)) Same old mid → Runs (In file (Torn gate 1)) Same mid new
+      → IsStaged old mid file header payloads payload → LeavesOnly old new P
+  leaves_both mid new n told first second is = leaves_opening mid new n told first.time first.crash (first.said (first.begins.telling told)) is second.time second.crash
 
 -- any change of one file, then any other
 pub any_twice : (file : FileNo) (a b c : Files) → In file Any a b → In file Any b c → In file Any a c

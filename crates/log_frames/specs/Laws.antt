@@ -1,13 +1,13 @@
 -- Laws of the bytes of a log: how long they are, that they name one header and one list of payloads, and that a whole
 -- log has no fault.
-use Rattle.std.proofs.Common.{◌≡◌, ◌≢◌, ◌<◌, ◌≤◌, ◌+◌, ◌^◌, ℕ, List, [], ◌∷◌, ◌++◌, length, get_or, take, drop, refl, sym, ◌∙◌, ap, subst, arith, append_assoc, length-append}
-use Rattle.std.specs.Prelude.{All, codes}
+use Rattle.std.proofs.Common.{◌≡◌, ◌≢◌, ◌<◌, ◌+◌, ℕ, List, [], ◌∷◌, ◌++◌, length, get_or, take, drop, refl, sym, ◌∙◌, ap, subst, arith, append_assoc, length-append}
+use Rattle.std.specs.Prelude.{All}
 use Rattle.std.proofs.lemmas.List.{append-nil, append_cancel_left, take_at, drop_at, drop-drop}
 use Rattle.std.proofs.lemmas.List.Elements.{All-push, All-head, All-tail}
 use Rattle.byteorder.specs.Endian.{little_bytes, little_number}
 use Rattle.byteorder.specs.Numbers.{length-bytes_low_first, little_number-reads_back}
-use Rattle.formats.specs.Bytes.{number_at, byte_at, IsOpenAt, IsShutAt}
-use Rattle.formats.specs.Log.{Header, header_bytes, header_fields, block, blocks, end_of, IsHeader, IsPayload, IsLog, IsWholeLog, IsShutLog}
+use Rattle.formats.specs.Bytes.{number_at}
+use Rattle.formats.specs.Log.{Header, header_bytes, block, blocks, end_of, IsHeader, IsPayload, IsWholeLog, IsShutLog}
 use Rattle.disk_model.specs.Disk.{Files}
 use Rattle.disk_model.specs.declared.machine.FileNo.{FileNo}
 use Rattle.disk_model.specs.declared.machine.FileNo.TheVariants.{LogA, LogB}
@@ -30,10 +30,12 @@ length-header_bytes h = omega (
 pub length-block : (payload : List ℕ) → length (block payload) ≡ 5 + length payload
 length-block payload = omega (arith, length-append (little_bytes 4 (length payload)) payload, length-bytes_low_first 0 4 (length payload))
 
+-- one payload more is one block more behind the others
 pub blocks-push : (payloads : List (List ℕ)) (payload : List ℕ) → blocks (payloads ++ payload ∷ []) ≡ blocks payloads ++ block payload
 blocks-push [] payload = append-nil (block payload)
 blocks-push (p ∷ payloads) payload = ap (λ (l : List ℕ). block p ++ l) (blocks-push payloads payload) ∙ sym (append_assoc (block p) (blocks payloads) (block payload))
 
+-- payloads with one more are payloads
 pub all_push : (payloads : List (List ℕ)) (payload : List ℕ) → All IsPayload payloads → IsPayload payload → All IsPayload (payloads ++ payload ∷ [])
 all_push payloads payload all is = All-push IsPayload payloads payload all is
 

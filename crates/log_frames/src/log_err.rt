@@ -20,6 +20,7 @@ pub enum LogErr {
     /// The log has had its last epoch.
     #[error("no epoch comes after {epoch}")]
     Exhausted { epoch: u64 },
+    /// There is no memory left.
     #[error("out of memory")]
     Memory,
 }

@@ -1,4 +1,4 @@
-use Rattle.std.proofs.Common.{◌≡◌, ◌∙◌, ℕ, refl, arith, drop}
+use Rattle.std.proofs.Common.{◌≡◌, ◌∙◌, refl, arith, drop}
 use Rattle.byteorder.specs.Numbers.{little_from-take}
 use Rattle.formats.specs.Bytes.{number_at}
 use Rattle.formats.specs.Image.{gate, magic, epoch, base, commands}

@@ -1,10 +1,7 @@
-use Rattle.std.proofs.Common.{◌≡◌, ◌≢◌, ◌<◌, ◌∙◌, ℕ, List, refl, sym, ap, subst, arith, length, take}
+use Rattle.std.proofs.Common.{◌∙◌, ℕ, List, refl, sym, subst, arith}
 use Rattle.std.proofs.lemmas.Result.{err_from_is_err_and}
-use Rattle.disk_model.specs.Disk.{read_of}
-use Rattle.formats.specs.Bytes.{IsOpenAt}
 use Rattle.formats.specs.Image.{IsHeaderFault, short}
-use Rattle.formats.specs.Log.{header_bytes, IsHeader}
-use Rattle.log_frames.specs.Reading.{fails_on, filled_up, header_of}
+use Rattle.log_frames.specs.Reading.{fails_on, header_of}
 use Rattle.log_frames.proofs.HeaderBytes.{file_fault, front_stands, opened_by}
 use Rattle.log_frames.proofs.loading.read_header.Goals as goal
 

@@ -1,11 +1,11 @@
-use Rattle.std.proofs.Common.{◌≡◌, ◌<◌, ◌≤◌, ◌+◌, ◌∙◌, ℕ, List, ap, subst, sym, arith, refl, Option, Some, [], length}
+use Rattle.std.proofs.Common.{◌≡◌, ◌<◌, ◌+◌, ◌∙◌, ℕ, ap, subst, sym, arith, Option, Some, [], length}
 use Rattle.disk_model.specs.Disk.{Files}
 use Rattle.disk_model.specs.Moments.{stays_here, stays_twice}
 use Rattle.std.specs.Prelude.{IfSome}
 use Rattle.std.proofs.lemmas.Result.{err_from_is_err_and}
 use Rattle.formats.specs.Bytes.{IsShutAt}
 use Rattle.formats.specs.Image.{IsBlockFault}
-use Rattle.log_frames.specs.Reading.{fails_on, FoundAt, IsBroken, IsReadTo}
+use Rattle.log_frames.specs.Reading.{fails_on, FoundAt, IsBroken}
 use Rattle.log_frames.proofs.ReadTo.{read_none, read_more, block_fault}
 use Rattle.log_frames.proofs.reading.first_closed.Goals as goal
 

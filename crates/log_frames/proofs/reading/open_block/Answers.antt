@@ -1,9 +1,7 @@
-use Rattle.std.proofs.Common.{◌≡◌, ◌<◌, ◌≤◌, ◌+◌, ◌∙◌, ℕ, List, ap, sym, arith, refl, ◌∷◌, get_or, length, drop, take}
+use Rattle.std.proofs.Common.{◌≡◌, ◌∙◌, ℕ, ap, sym, arith, refl, ◌∷◌, drop}
 use Rattle.byteorder.specs.Endian.{little_number, little_bytes}
 use Rattle.byteorder.specs.Numbers.{little_from-take}
-use Rattle.disk_model.specs.Disk.{read_of}
-use Rattle.formats.specs.Bytes.{number_at}
-use Rattle.log_frames.proofs.Found.{head_read, byte_read, number_read, is_broken}
+use Rattle.log_frames.proofs.Found.{head_read, is_broken}
 use Rattle.log_frames.proofs.reading.open_block.Goals as goal
 use Rattle.log_frames.proofs.reading.open_block.Goals.{then-len-eq0-via-then-len-eq0, then-len-eq0-via-else-len-eq0+then-len-gt-MAX_PAYLOAD, then-len-eq0-via-else-len-eq0+else-len-gt-MAX_PAYLOAD+then-room-len}
 

@@ -2,7 +2,7 @@ use Rattle.std.proofs.Common.{◌≡◌, ◌<◌, ◌≤◌, ◌^◌, ◌∙◌,
 use Rattle.disk_model.specs.Disk.{LeavesOnly}
 use Rattle.formats.specs.Log.{Header}
 use Rattle.log_frames.specs.LogView.{LogView}
-use Rattle.log_frames.specs.Forcing.{IsAtRest, IsBeforeOrAfter, IsLogAt, with_block, frame}
+use Rattle.log_frames.specs.Forcing.{IsAtRest, IsBeforeOrAfter, IsLogAt, with_block}
 use Rattle.log_frames.proofs.log_file.LogFile.force.Goals as goal
 
 pub returns-in_err-written-clause-any_moment : goal.returns-in_err-written-clause-any_moment

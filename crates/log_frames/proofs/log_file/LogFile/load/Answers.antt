@@ -3,10 +3,10 @@ use Rattle.std.proofs.lemmas.Result.{err_from_is_err_and}
 use Rattle.disk_model.specs.Disk.{Files}
 use Rattle.disk_model.specs.Moments.{stays_twice}
 use Rattle.disk_model.specs.declared.machine.FileNo.TheVariants.{LogA, LogB}
-use Rattle.formats.specs.Log.{Header, header_bytes, IsShutLog}
+use Rattle.formats.specs.Log.{header_bytes, IsShutLog}
 use Rattle.log_frames.specs.Laws.{no_log_fault}
 use Rattle.log_frames.specs.Reading.{none_told, header_of, EndsBlocks}
-use Rattle.log_frames.proofs.Causes.{by_header, by_block, by_other_log, front_opens, size_now}
+use Rattle.log_frames.proofs.Causes.{by_header, by_block, by_other_log, front_opens}
 use Rattle.log_frames.proofs.ReadTo.{whole_log}
 use Rattle.log_frames.proofs.log_file.LogFile.load.Goals as goal
 

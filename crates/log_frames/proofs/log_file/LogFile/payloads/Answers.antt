@@ -8,7 +8,6 @@ use Rattle.formats.specs.Image.{IsBlockFault}
 use Rattle.log_frames.specs.Laws.{no_block_fault}
 use Rattle.log_frames.specs.LogView.{LogView}
 use Rattle.log_frames.specs.Reading.{placed, TellsDamage, none_told}
-use Rattle.log_frames.specs.declared.log_err.LogErr.{LogErr}
 use Rattle.log_frames.specs.declared.payload.Payload.{Payload}
 use Rattle.log_frames.proofs.log_file.LogFile.payloads.Goals as goal
 
