@@ -1,0 +1,90 @@
+-- What the bytes of a header are.
+use Rattle.std.proofs.Common.{◌≡◌, ◌<◌, ◌≤◌, ◌+◌, ◌-◌, ◌^◌, ℕ, replicate, List, [], ◌∷◌, ◌++◌, length, get_or, take, drop, sym, ◌∙◌, ap, subst, arith, append_assoc, length-take, length-drop, take-append-drop, length-append}
+use Rattle.std.specs.Prelude.{codes}
+use Rattle.std.proofs.lemmas.List.{take_all, drop-drop, get_or-drop, get_or-take, same_lists, length-replicate}
+use Rattle.std.proofs.lemmas.Grind.{get_or_default_zero}
+use Rattle.oper_core.specs.LittleEndian.{little_bytes-little_number}
+use Rattle.byteorder.specs.Endian.{little_bytes}
+use Rattle.disk_model.specs.Disk.{read_of}
+use Rattle.formats.specs.Bytes.{number_at, byte_at, IsOpenAt}
+use Rattle.formats.specs.Image.{IsWithin, IsHeaderFault, gate, magic, epoch, base, commands, short}
+use Rattle.formats.specs.Log.{Header, header_bytes}
+use Rattle.log_frames.specs.Reading.{filled_up}
+use Rattle.log_frames.proofs.Found.{byte_read, number_read, full_read}
+
+-- eight bytes at a place are those of their number
+eight : (head : List ℕ) (at : ℕ) → at + 8 ≤ length head → ((i : ℕ) → get_or head i 0 < 256) → take 8 (drop at head) ≡ little_bytes 8 (number_at 8 at head)
+eight head at within small =
+    sym (little_bytes-little_number 8 (drop at head) (omega (arith, length-drop at head)) (λ i. subst (λ (n : ℕ). n < 256) (sym (get_or-drop at head i 0)) (small (at + i))))
+
+-- n bytes, and what stands behind them
+cut : (n at : ℕ) (head : List ℕ) → drop at head ≡ take n (drop at head) ++ drop (at + n) head
+cut n at head = sym (take-append-drop n (drop at head)) ∙ ap (λ (l : List ℕ). take n (drop at head) ++ l) (drop-drop n at head)
+
+-- 33 bytes that begin with an open gate and the magic are those of a header
+pub header_is : (head : List ℕ) (h : Header) → length head ≡ 33 → ((i : ℕ) → get_or head i 0 < 256) → get_or head 0 0 ≡ 1 → take 8 (drop 1 head) ≡ codes "RDOLOG01"
+    → h.epoch ≡ number_at 8 9 head → h.base ≡ number_at 8 17 head → h.commands ≡ number_at 8 25 head → head ≡ header_bytes h
+header_is [] h long small open_gate has_magic e b k = absurd (omega arith)
+header_is (g ∷ xs) h long small open_gate has_magic e b k =
+    let head = g ∷ xs in
+    let epochs = eight head 9 (omega arith) small ∙ ap (λ (n : ℕ). little_bytes 8 n) (sym e) in
+    let bases = eight head 17 (omega arith) small ∙ ap (λ (n : ℕ). little_bytes 8 n) (sym b) in
+    let counts = eight head 25 (omega arith) small ∙ ap (λ (n : ℕ). little_bytes 8 n) (sym k) in
+    let last : drop 25 head ≡ little_bytes 8 h.commands = sym (take_all 8 (drop 25 head) (omega (arith, length-drop 25 head))) ∙ counts in
+    let third : drop 17 head ≡ little_bytes 8 h.base ++ little_bytes 8 h.commands = cut 8 17 head ∙ ap (λ (l : List ℕ). l ++ drop 25 head) bases ∙ ap (λ (l : List ℕ). little_bytes 8 h.base ++ l) last in
+    let second : drop 9 head ≡ little_bytes 8 h.epoch ++ (little_bytes 8 h.base ++ little_bytes 8 h.commands) =
+    cut 8 9 head ∙ ap (λ (l : List ℕ). l ++ drop 17 head) epochs ∙ ap (λ (l : List ℕ). little_bytes 8 h.epoch ++ l) third in
+    let behind : xs ≡ codes "RDOLOG01" ++ (little_bytes 8 h.epoch ++ (little_bytes 8 h.base ++ little_bytes 8 h.commands)) =
+    cut 8 1 head ∙ ap (λ (l : List ℕ). l ++ drop 9 head) has_magic ∙ ap (λ (l : List ℕ). codes "RDOLOG01" ++ l) second in
+    (λ i. open_gate i ∷ behind i) ∙ ap (λ (l : List ℕ). 1 ∷ (codes "RDOLOG01" ++ l)) (sym (append_assoc (little_bytes 8 h.epoch) (little_bytes 8 h.base) (little_bytes 8 h.commands)))
+
+-- what is read of the file's first bytes
+module _ (file : List ℕ) where
+  abbrev head : List ℕ
+  head = filled_up 33 (read_of file 0 33)
+
+  byte_stands : (i : ℕ) → i < 33 → get_or head i 0 ≡ byte_at i file
+  byte_stands i less = byte_read file 0 33 i less ∙ ap (λ (n : ℕ). byte_at n file) (omega arith)
+
+  number_stands : (n : ℕ) → n + 8 ≤ 33 → number_at 8 n head ≡ number_at 8 n file
+  number_stands n within = number_read file 0 33 8 n within ∙ ap (λ (k : ℕ). number_at 8 k file) (omega arith)
+
+  -- a file with a magic is long enough for it
+  magic_stands : take 8 (drop 1 file) ≡ codes "RDOLOG01" → take 8 (drop 1 head) ≡ codes "RDOLOG01"
+  magic_stands is =
+      let one = take 8 (drop 1 head) in
+      let two = take 8 (drop 1 file) in
+      let long : length two ≡ 8 = ap length is in
+      let reads = length-take 33 (drop 0 file) in
+      let also : length one ≡ 8 = omega (
+        arith,
+        length-take 8 (drop 1 head),
+        length-drop 1 head,
+        length-append (read_of file 0 33) (replicate {A = ℕ} (33 - length (read_of file 0 33)) 0),
+        length-replicate {A = ℕ} (33 - length (read_of file 0 33)) 0,
+        reads,
+      ) in
+      same_lists one two (also ∙ sym long) (λ k d less.
+      let small : k < 8 = omega (arith, less, also) in
+      get_or_default_zero one k d less ∙ get_or-take 8 (drop 1 head) k 0 small ∙ get_or-drop 1 head k 0 ∙ byte_stands (1 + k) (omega arith)
+      ∙ sym (get_or-drop 1 file k 0) ∙ sym (get_or-take 8 (drop 1 file) k 0 small) ∙ sym (get_or_default_zero two k d (omega (arith, long, small))))
+      ∙ is
+
+  opens : IsOpenAt 0 head → IsOpenAt 0 file
+  opens is = sym (byte_stands 0 (omega arith)) ∙ is
+
+  -- a fault in what is read is one of the file
+  pub file_fault : (place : ℕ) → place < 33 → IsHeaderFault head place → IsHeaderFault file place
+  file_fault _ less (gate shut) = gate (λ is. shut (byte_stands 0 (omega arith) ∙ is))
+  file_fault _ less (magic is_open other) = magic (opens is_open) (λ is. other (magic_stands is))
+  file_fault _ less (epoch is_open out) = epoch (opens is_open) (subst (λ (n : ℕ). IsWithin 1 (2 ^ 62) n → ⊥) (number_stands 9 (omega arith)) out)
+  file_fault _ less (base is_open out) = base (opens is_open) (subst (λ (n : ℕ). IsWithin 1 (2 ^ 62) n → ⊥) (number_stands 17 (omega arith)) out)
+  file_fault _ less (commands is_open over) = commands (opens is_open) (omega (arith, over, number_stands 17 (omega arith), number_stands 25 (omega arith)))
+  file_fault _ less (short is_open cut) = absurd (omega arith)
+
+  pub front_stands : 33 < length file → head ≡ take 33 file
+  front_stands within = full_read file 0 33 (omega arith)
+
+  -- a file that is read as a header begins with an open gate
+  pub opened_by : (into : List ℕ) (h : Header) → into ≡ head → into ≡ header_bytes h → IsOpenAt 0 file
+  opened_by into h is of = opens (ap (λ (l : List ℕ). get_or l 0 0) (sym is ∙ of))

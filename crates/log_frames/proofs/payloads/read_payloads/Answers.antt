@@ -1,0 +1,71 @@
+use Rattle.std.proofs.Common.{◌<◌, ◌+◌, ◌∙◌, ℕ, List, ap, subst, sym, arith, Option, length}
+use Rattle.std.specs.Prelude.{IfSome}
+use Rattle.std.proofs.lemmas.Result.{err_from_is_err_and}
+use Rattle.disk_model.specs.Disk.{Files, read_of}
+use Rattle.disk_model.specs.Moments.{stays_here, stays_twice}
+use Rattle.formats.specs.Bytes.{IsShutAt}
+use Rattle.formats.specs.Image.{IsBlockFault}
+use Rattle.log_frames.specs.Reading.{fails_on, FoundAt, IsBroken, IsBlockHead}
+use Rattle.log_frames.specs.declared.payload.Payload.{Payload}
+use Rattle.log_frames.proofs.ReadTo.{Finds, finds_none, finds_more, finds_all, block_fault}
+use Rattle.log_frames.proofs.payloads.read_payloads.Goals as goal
+
+pub loop-found-init : goal.loop-found-init
+loop-found-init g c = record {
+  kept = stays_here (g.M.Machine.disk c.args.machine.now) (g.met.M.Machine.lawful c.args.machine.now);
+  small = omega arith;
+  so_far = λ told size. subst (λ (l : List Payload). Finds ((g.M.Machine.disk c.args.machine.now).reads c.args.file) 33 l) (sym c.new-found.ensures.items) (finds_none ((g.M.Machine.disk c.args.machine.now).reads c.args.file));
+}
+
+pub loop-found-preserved : goal.loop-found-preserved
+loop-found-preserved g c =
+    let old = g.M.Machine.disk c.args.machine.now in
+    let mid = g.M.Machine.disk c.loop-found.machine in
+    let after = g.M.Machine.disk c.open_block.new.machine in
+    let new = g.M.Machine.disk c.read_payload.new.machine in
+    let inv = c.loop-found.invariant in
+    let gate = c.loop-found.gate in
+    let len = c.in-Some.len in
+    let within : gate + 5 + len < c.args.size = subst (λ (o : Option ℕ). IfSome o (λ n. gate + 5 + n < c.args.size)) c.in-Some.is c.in_ok-len.ensures.within in
+    let kept = stays_twice old mid after inv.kept c.open_block.ensures.kept in
+    record {
+      kept = stays_twice old after new kept c.read_payload.ensures.kept;
+      small = omega (arith, within, c.ranges.size);
+      so_far = λ told size.
+          let file = old.reads c.args.file in
+          let same = inv.kept.reads told in
+          let also = kept.reads told in
+          let found = c.in_ok-len.ensures.found (inv.kept.time.files_told.0 told) (size ∙ ap (λ (f : Files). length (f c.args.file)) (sym same)) in
+          let head : IsBlockHead gate len file = subst (λ (f : Files). IsBlockHead gate len (f c.args.file)) same (subst (λ (o : Option ℕ). FoundAt gate (mid.reads c.args.file) o) c.in-Some.is found) in
+          let bytes = c.in_ok-read_payload.ensures.bytes (kept.time.files_told.0 told) (omega (arith, ap (λ (f : Files). length (f c.args.file)) also, head.within)) in
+          let more = finds_more file gate len c.loop-found.found.items c.in_ok-read_payload.field-0 (inv.so_far told size) head c.in_ok-read_payload.ensures.place
+          (bytes ∙ ap (λ (f : Files). read_of (f c.args.file) (gate + 5) len) also) in
+          subst (λ (l : List Payload). Finds file (gate + 5 + len) l) (sym c.in_ok-push.ensures.items) more;
+    }
+
+pub returns-in_err-len-clause-cause : goal.returns-in_err-len-clause-cause
+returns-in_err-len-clause-cause g c =
+    let old = g.M.Machine.disk c.args.machine.now in
+    let mid = g.M.Machine.disk c.loop-found.machine in
+    let inv = c.loop-found.invariant in
+    let p = err_from_is_err_and c.from_residual.result c.from_residual.ensures.1 in
+    rw (p.1, p.2) (fails_on _ _ _ _ c.in_err-len.field-0.0 (λ risen below. omega (arith, risen below, inv.kept.time.disk_faults))
+    (λ f place there. (
+      there.0,
+      λ told size.
+          let same = inv.kept.reads told in
+          let found = inv.so_far told size in
+          let broken = there.2 (inv.kept.time.files_told.0 told) (size ∙ ap (λ (f : Files). length (f c.args.file)) (sym same)) in
+          subst (λ (n : ℕ). IsBlockFault (old.reads c.args.file) n) (sym there.1) (block_fault (old.reads c.args.file) c.loop-found.gate found.payloads found.read (subst (λ (f : Files). IsBroken c.loop-found.gate (f c.args.file)) same broken)),
+    ))
+    c.in_err-len.ensures.cause)
+
+pub returns-clause-all : goal.returns-clause-all
+returns-clause-all g c told size header payloads is =
+    let old = g.M.Machine.disk c.args.machine.now in
+    let mid = g.M.Machine.disk c.loop-found.machine in
+    let inv = c.loop-found.invariant in
+    let same = inv.kept.reads told in
+    let found = c.in_ok-len.ensures.found (inv.kept.time.files_told.0 told) (size ∙ ap (λ (f : Files). length (f c.args.file)) (sym same)) in
+    let shut = subst (λ (o : Option ℕ). FoundAt c.loop-found.gate (mid.reads c.args.file) o) c.in_default.is found in
+    finds_all header payloads (old.reads c.args.file) c.loop-found.gate c.loop-found.found.items is (inv.so_far told size) (subst (λ (f : Files). IsShutAt c.loop-found.gate (f c.args.file)) same shut)

@@ -1,0 +1,101 @@
+-- What a reader of a log finds, and why it fails.
+use Rattle.std.specs.Prelude.{◌≡◌, ◌<◌, ◌≤◌, ◌+◌, ◌-◌, ◌^◌, ℕ, List, [], ◌∷◌, ◌++◌, length, take, replicate, All, Option, Some, None}
+use Rattle.byteorder.specs.Endian.{little_bytes}
+use Rattle.disk_model.specs.Disk.{Files, read_of}
+use Rattle.disk_model.specs.declared.machine.FileNo.{FileNo}
+use Rattle.disk_model.specs.declared.machine.FileNo.TheVariants.{LogA, LogB}
+use Rattle.formats.specs.Log.{Header, blocks, end_of, IsPayload, IsShutLog}
+use Rattle.formats.specs.Bytes.{number_at, IsOpenAt, IsShutAt}
+use Rattle.formats.specs.Image.{IsWithin, IsHeaderFault, IsBlockFault}
+use Rattle.log_frames.specs.declared.header.Header.{Header as Read}
+use Rattle.log_frames.specs.declared.log_err.LogErr.{LogErr}
+use Rattle.log_frames.specs.declared.log_err.LogErr.TheVariants.{DiskFault, LogFull, Damaged, Exhausted, Memory}
+use Rattle.log_frames.specs.declared.payload.Payload.{Payload}
+
+-- the payloads of blocks, the first of which stands at this gate, each with the place of its first byte
+abbrev pub placed_from : ℕ → List (List ℕ) → List Payload
+placed_from gate [] = []
+placed_from gate (payload ∷ payloads) = record { place = gate + 5; bytes = payload } ∷ placed_from (gate + 5 + length payload) payloads
+
+-- the payloads of a log, each with the place of its first byte
+abbrev pub placed : List (List ℕ) → List Payload
+placed payloads = placed_from 33 payloads
+
+-- Why a reading call fails: by a fault of the disk, which then counts it, by a fault in the files, or for want of
+-- memory.
+abbrev pub FailsBy : Type 0 → (FileNo → ℕ → Type 0) → LogErr → Type 0
+FailsBy rises fault DiskFault = rises
+FailsBy rises fault (LogFull used need limit) = ⊥
+FailsBy rises fault (Damaged file place) = fault file place
+FailsBy rises fault (Exhausted epoch) = ⊥
+FailsBy rises fault Memory = Unit {0}
+
+-- it tells of damage in the files
+abbrev pub TellsDamage : LogErr → Type 0
+TellsDamage DiskFault = ⊥
+TellsDamage (LogFull used need limit) = ⊥
+TellsDamage (Damaged file place) = Unit {0}
+TellsDamage (Exhausted epoch) = ⊥
+TellsDamage Memory = ⊥
+
+-- the log breaks its format in this file at this place
+pub data IsLogFault (files : Files) : FileNo → ℕ → Type 0 where
+  in_header : (place : ℕ) → IsHeaderFault (files LogA) place → IsLogFault files LogA place
+  in_block : (place : ℕ) → IsOpenAt 0 (files LogA) → IsBlockFault (files LogA) place → IsLogFault files LogA place
+  -- the second log file has no byte, or its header gate is open
+  in_other_log : (IsShutLog (files LogB) → ⊥) → IsLogFault files LogB 0
+
+-- n bytes of which these are the first, the others 0
+abbrev pub filled_up : ℕ → List ℕ → List ℕ
+filled_up n bytes = bytes ++ replicate (n - length bytes) 0
+
+-- at this gate stands a block whose payload has so many bytes, and a gate behind it
+pub record IsBlockHead (gate len : ℕ) (file : List ℕ) : Type 0 where
+  pub head : read_of file gate 5 ≡ 1 ∷ little_bytes 4 len
+  pub some : 0 < len
+  pub short : len ≤ 2 ^ 30
+  pub within : gate + 5 + len < length file
+
+-- what stands at this gate: the block of a payload of so many bytes, or none where it is closed
+abbrev pub FoundAt : ℕ → List ℕ → Option ℕ → Type 0
+FoundAt gate file None = IsShutAt gate file
+FoundAt gate file (Some len) = IsBlockHead gate len file
+
+-- this gate is open, but its block or the gate behind it isn't within the file, or its length is out of range
+pub record IsBroken (gate : ℕ) (file : List ℕ) : Type 0 where
+  pub open_gate : IsOpenAt gate file
+  pub broken : IsWithin 1 (2 ^ 30) (number_at 4 (gate + 1) file) → gate + 1 + 4 + number_at 4 (gate + 1) file < length file → ⊥
+
+-- between the header and this gate are the blocks of these payloads; the gate stands in the file where the first does
+pub record IsReadTo (file : List ℕ) (gate : ℕ) (payloads : List (List ℕ)) : Type 0 where
+  pub whole : All IsPayload payloads
+  pub here : gate ≡ end_of payloads
+  pub front : take gate file ≡ take 33 file ++ blocks payloads
+  pub within : 33 < length file → gate < length file
+
+-- the first closed gate of a log, and the payloads before it
+pub record EndsBlocks (file : List ℕ) (gate : ℕ) : Type 0 where
+  pub payloads : List (List ℕ)
+  pub read : IsReadTo file gate payloads
+  pub shut : IsShutAt gate file
+
+-- a call that hands on why another failed
+pub fails_on : (rises rises' : Type 0) (fault fault' : FileNo → ℕ → Type 0) (e : LogErr) → (rises → rises') → ((file : FileNo) (place : ℕ) → fault file place → fault' file place)
+    → FailsBy rises fault e → FailsBy rises' fault' e
+fails_on rises rises' fault fault' DiskFault risen there fails = risen fails
+fails_on rises rises' fault fault' (LogFull used need limit) risen there fails = fails
+fails_on rises rises' fault fault' (Damaged file place) risen there fails = there file place fails
+fails_on rises rises' fault fault' (Exhausted epoch) risen there fails = fails
+fails_on rises rises' fault fault' Memory risen there fails = fails
+
+-- the header that was read
+abbrev pub header_of : Read → Header
+header_of h = record { epoch = h.epoch; base = h.base; commands = h.commands }
+
+-- where no fault is there, none is told
+pub none_told : (rises : Type 0) (fault : FileNo → ℕ → Type 0) (e : LogErr) → ((file : FileNo) (place : ℕ) → fault file place → ⊥) → FailsBy rises fault e → TellsDamage e → ⊥
+none_told rises fault DiskFault none fails tells = tells
+none_told rises fault (LogFull used need limit) none fails tells = tells
+none_told rises fault (Damaged file place) none fails tells = none file place fails
+none_told rises fault (Exhausted epoch) none fails tells = tells
+none_told rises fault Memory none fails tells = tells

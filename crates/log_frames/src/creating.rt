@@ -1,0 +1,57 @@
+// Makes the log of a new store.
+ghost use Rattle.std.specs.Prelude.{◌≡◌, ◌≢◌, [], ◌∷◌, ◌++◌, OnOk, IfErr};
+ghost use Rattle.disk_model.specs.Disk.{Rises, Runs, Same, IsSettled};
+ghost use Rattle.disk_model.specs.declared.machine.FileNo.TheVariants.{LogA, LogB};
+ghost use Rattle.formats.specs.Log.{header_fields, new_header, IsWholeLog, IsShutLog};
+ghost use Rattle.log_frames.specs.Creating.{LogsAlone};
+
+use crate::layout::{CLOSED, HEADER_BYTES, MAGIC, OPEN};
+use crate::{LogErr, LogFile};
+use byteorder::{ByteOrder, LittleEndian};
+use disk_model::{FileNo, Machine, write_through};
+
+// Closes a header gate where it is open, and writes a first byte where there is none.
+#[tactic(auto, using(crate::proofs::Alone::alone_twice, crate::proofs::Alone::alone_write, crate::proofs::Alone::alone_stays))]
+fn shut<M: Machine>(machine: &mut M, file: FileNo) -> Result<(), LogErr>
+    requires { file ≢ FileNo.Objects }
+    ensures runs { Runs LogsAlone Same (M.disk machine.old) (M.disk machine.new) }
+    ensures shut { (M.disk machine.old).tells_files → OnOk result (IsShutLog ((M.disk machine.new).reads file)) }
+    ensures others { (M.disk machine.old).tells_files → OnOk result ((other : FileNo) → other ≢ file → (M.disk machine.new).reads other ≡ (M.disk machine.old).reads other) }
+    ensures settled { IsSettled (M.disk machine.old) → OnOk result (IsSettled (M.disk machine.new)) }
+    ensures cause { IfErr result (λ e. (e ≡ LogErr.DiskFault) × Rises (M.disk machine.old).disk_faults (M.disk machine.new).disk_faults) }
+{
+    let mut gate = [0; 1];
+    let read = machine.read(file, 0, &mut gate)?;
+    if read == 0 || gate[0] == OPEN {
+        write_through(machine, file, 0, &[CLOSED])?;
+    }
+    Ok(())
+}
+
+// What stands behind the header gate of a new log: the magic, epoch 1, base 1, no command before it, and a closed gate.
+fn new_front() -> [u8; HEADER_BYTES]
+    ensures { result ≡ header_fields new_header ++ 0 ∷ [] }
+{
+    let mut bytes = [CLOSED; HEADER_BYTES];
+    bytes[..8].copy_from_slice(&MAGIC);
+    LittleEndian::write_u64(&mut bytes[8..], 1);
+    LittleEndian::write_u64(&mut bytes[16..], 1);
+    bytes
+}
+
+impl LogFile {
+    /// Makes log A a log with no block, and shuts log B. Whenever it stops, the objects are as they were.
+    #[tactic(auto, using(crate::proofs::Alone::alone_twice, crate::proofs::Alone::alone_write))]
+    pub fn create<M: Machine>(machine: &mut M) -> Result<(), LogErr>
+        ensures runs { Runs LogsAlone Same (M.disk machine.old) (M.disk machine.new) }
+        ensures made { (M.disk machine.old).tells_files → OnOk result (IsWholeLog new_header [] ((M.disk machine.new).reads LogA) × IsShutLog ((M.disk machine.new).reads LogB)) }
+        ensures settled { IsSettled (M.disk machine.old) → OnOk result (IsSettled (M.disk machine.new)) }
+        ensures cause { IfErr result (λ e. (e ≡ LogErr.DiskFault) × Rises (M.disk machine.old).disk_faults (M.disk machine.new).disk_faults) }
+    {
+        shut(machine, FileNo::LogA)?;
+        shut(machine, FileNo::LogB)?;
+        write_through(machine, FileNo::LogA, 1, &new_front())?;
+        write_through(machine, FileNo::LogA, 0, &[OPEN])?;
+        Ok(())
+    }
+}

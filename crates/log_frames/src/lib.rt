@@ -1,0 +1,24 @@
+//! A log file of gated blocks. A block counts from the moment that its gate is open on the disk, so a force is whole
+//! or absent.
+//!
+//! The one contract is [`LogFile::force`]: a crash at any moment of it leaves the payloads from before it, with what
+//! waited as one block more or without. The crate stands on disk_model, whose machines it writes to, and on formats,
+//! which says what the bytes of a log are.
+#![tactic(auto)]
+
+mod creating;
+mod forcing;
+mod header;
+mod layout;
+mod loading;
+mod log_err;
+mod log_file;
+mod payload;
+mod payloads;
+mod reading;
+#[cfg(test)]
+mod tests;
+
+pub use log_err::LogErr;
+pub use log_file::LogFile;
+pub use payload::Payload;

@@ -1,0 +1,104 @@
+ghost use Rattle.std.specs.Prelude.{◌≡◌, ◌<◌, ◌≤◌, ◌+◌, ◌^◌, ◌++◌, length, OnOk, IsErr};
+ghost use Rattle.log_frames.specs.LogView.{used_of, growth_of};
+
+use crate::header::Header;
+use crate::layout::{HEAD_BYTES, LENGTH_BYTES};
+use disk_model::FileNo;
+use oper_core::Memory;
+use std::marker::Model;
+
+/// The log in force: where it ends, and what waits to be forced.
+///
+/// The buffer always has room for a block's length in front and for a closed gate behind, so a force takes no memory.
+#[derive(Drop)]
+pub struct LogFile {
+    pub(crate) active: FileNo,
+    pub(crate) header: Header,
+    pub(crate) end: u64,
+    pub(crate) buffer: Vec<u8>,
+}
+
+impl Model for LogFile {
+    ghost use Rattle.std.specs.Prelude.{◌-◌, length, drop, vec_capacity};
+    ghost use Rattle.log_frames.specs.LogView.{LogView, IsBuffer};
+
+    ghost Value = { LogView };
+
+    ghost view = { λ a. record {
+      active = a.active;
+      header = record { epoch = a.header.epoch; base = a.header.base; commands = a.header.commands };
+      end = a.end;
+      pending = drop 4 a.buffer.items;
+      room = vec_capacity a.buffer - 1 - length a.buffer.items;
+    } };
+
+    ghost invariant = { λ a. IsBuffer a.end a.buffer.items (vec_capacity a.buffer) };
+}
+
+impl LogFile {
+    /// The file that the log stands in.
+    pub fn active(&self) -> FileNo
+        ensures { result ≡ self.now.active }
+    {
+        self.active
+    }
+
+    /// The number of the log's first numbered record, or of the next one where it has none.
+    pub fn base(&self) -> u64
+        ensures { result ≡ self.now.header.base }
+    {
+        self.header.base
+    }
+
+    /// How many commands were accepted before the base.
+    pub fn commands(&self) -> u64
+        ensures { result ≡ self.now.header.commands }
+    {
+        self.header.commands
+    }
+
+    /// The log's length, with the block that a force would add.
+    pub fn used(&self) -> u64
+        ensures { result ≡ used_of self.now }
+    {
+        if self.buffer.len() == LENGTH_BYTES {
+            return self.end;
+        }
+        self.end + 1 + self.buffer.len() as u64
+    }
+
+    /// By how much a payload of n bytes lets the log grow.
+    pub fn growth(&self, n: u64) -> u64
+        requires { n ≤ 2 ^ 62 }
+        ensures { result ≡ growth_of self.now.pending n }
+    {
+        if self.buffer.len() == LENGTH_BYTES {
+            return n + HEAD_BYTES as u64;
+        }
+        n
+    }
+
+    /// Makes room for n bytes. Either way nothing else changes.
+    pub fn make_room(&mut self, n: u64) -> Result<(), Memory>
+        ensures ok { OnOk result (n ≤ self.new.room) }
+        ensures kept { self.new ≡ record self.old { room = self.new.room } }
+        ensures no_less { self.old.room ≤ self.new.room }
+    {
+        let Some(wanted) = n.checked_add(1) else {
+            return Err(Memory);
+        };
+        self.buffer.reserve(wanted as usize)?;
+        Ok(())
+    }
+
+    /// Adds bytes to what waits. Room was made for them.
+    pub fn push(&mut self, payload: &[u8])
+        requires room { length payload.now ≤ self.old.room }
+        requires short { length self.old.pending + length payload.now ≤ 2 ^ 30 }
+        requires place { self.old.end + 5 + length self.old.pending + length payload.now < 2 ^ 49 }
+        ensures pushed { self.new ≡ record self.old { pending = self.old.pending ++ payload.now; room = self.new.room } }
+        ensures room { self.old.room ≤ self.new.room + length payload.now }
+    {
+        let _ = self.buffer.extend_from_slice(payload);
+    }
+}

@@ -1,0 +1,72 @@
+// Reads the blocks of a log file.
+ghost use Rattle.std.specs.Prelude.{◌≡◌, ◌<◌, ◌≤◌, ◌+◌, ◌-◌, ◌^◌, length, slice_index, ℕ, OnOk, IfErr, IfOk, IfSome};
+ghost use Rattle.disk_model.specs.Disk.{Rises, Stays, read_of};
+ghost use Rattle.formats.specs.Image.{IsBlockFault};
+ghost use Rattle.log_frames.specs.Reading.{filled_up, FailsBy, FoundAt, IsBroken, EndsBlocks};
+
+use crate::LogErr;
+use crate::layout::{FIRST_BLOCK, HEAD_BYTES, MAX_PAYLOAD, OPEN};
+use byteorder::{ByteOrder, LittleEndian};
+use disk_model::{FileNo, Machine};
+
+/// Reads from a place on. A byte past the file's end counts as 0.
+pub fn read_at<M: Machine>(
+    machine: &mut M,
+    file: FileNo,
+    place: u64,
+    into: &mut [u8],
+) -> Result<(), LogErr>
+    ensures kept { Stays (M.disk machine.old) (M.disk machine.new) }
+    ensures bytes { (M.disk machine.old).tells_files → OnOk result (into.new ≡ filled_up (length into.old) (read_of ((M.disk machine.old).reads file) place (length into.old))) }
+    ensures small { OnOk result ((i : ℕ) → slice_index into.new i < 256) }
+    ensures cause { IfErr result (λ e. (e ≡ LogErr.DiskFault) × Rises (M.disk machine.old).disk_faults (M.disk machine.new).disk_faults) }
+{
+    let read = machine.read(file, place, into)?;
+    into[read..].fill(0);
+    Ok(())
+}
+
+/// How many bytes the payload of the block at a gate has, or none where the gate is closed.
+pub fn open_block<M: Machine>(
+    machine: &mut M,
+    file: FileNo,
+    size: u64,
+    gate: u64,
+) -> Result<Option<u32>, LogErr>
+    requires { gate < 2 ^ 64 - 1 }
+    ensures kept { Stays (M.disk machine.old) (M.disk machine.new) }
+    ensures within { IfOk result (λ found. IfSome found (λ len. gate + 5 + len < size)) }
+    ensures found { (M.disk machine.old).tells_files → size ≡ length ((M.disk machine.old).reads file) → IfOk result (FoundAt gate ((M.disk machine.old).reads file)) }
+    ensures cause { IfErr result (FailsBy (Rises (M.disk machine.old).disk_faults (M.disk machine.new).disk_faults)
+        (λ f place. (f ≡ file) × (place ≡ gate + 1) × ((M.disk machine.old).tells_files → size ≡ length ((M.disk machine.old).reads file) → IsBroken gate ((M.disk machine.old).reads file)))) }
+{
+    let mut head = [0; HEAD_BYTES];
+    read_at(machine, file, gate, &mut head)?;
+    if head[0] != OPEN {
+        return Ok(None);
+    }
+    let len = LittleEndian::read_u32(&head[1..]);
+    let room = size.saturating_sub(gate);
+    if len == 0 || len > MAX_PAYLOAD || room <= HEAD_BYTES as u64 + len as u64 {
+        return Err(LogErr::Damaged {
+            file,
+            place: gate + 1,
+        });
+    }
+    Ok(Some(len))
+}
+
+/// The place of the first closed gate behind the header.
+pub fn first_closed<M: Machine>(machine: &mut M, file: FileNo, size: u64) -> Result<u64, LogErr>
+    requires { 33 < size }
+    ensures kept { Stays (M.disk machine.old) (M.disk machine.new) }
+    ensures end { (M.disk machine.old).tells_files → size ≡ length ((M.disk machine.old).reads file) → IfOk result (EndsBlocks ((M.disk machine.old).reads file)) }
+    ensures cause { IfErr result (FailsBy (Rises (M.disk machine.old).disk_faults (M.disk machine.new).disk_faults)
+        (λ f place. (f ≡ file) × ((M.disk machine.old).tells_files → size ≡ length ((M.disk machine.old).reads file) → IsBlockFault ((M.disk machine.old).reads file) place))) }
+{
+    let mut gate = FIRST_BLOCK;
+    while let Some(len) = open_block(machine, file, size, gate)? {
+        gate += HEAD_BYTES as u64 + len as u64;
+    }
+    Ok(gate)
+}
