@@ -1,0 +1,4 @@
+pub mod SlotGates
+pub mod Reading
+pub mod Making
+pub mod Laws
