@@ -12,7 +12,7 @@ use Rattle.formats.specs.declared.params.Params.{Params}
 use Rattle.disk_model.specs.declared.machine.FileNo.{FileNo}
 use Rattle.stable_objects.specs.SlotGates.{slot_gate}
 use Rattle.stable_objects.specs.Reading.{filled_up, FailsBy, FailsAt, HasHeader, HasOpenSlot, IsHeaderFault, IsDamagedAt, IsDiskFault}
-use Rattle.stable_objects.specs.Laws.{params_of_header, gate_is_open, no_fault}
+use Rattle.stable_objects.specs.Laws.{length-objects_fields, params_of_header, gate_is_open, no_fault}
 use Rattle.stable_objects.specs.declared.slot_err.SlotErr.{SlotErr}
 use Rattle.stable_objects.specs.declared.slot_err.SlotErr.TheVariants.{NotAStore, DiskFault, Damaged, Memory}
 use Rattle.stable_objects.proofs.Bytes.{byte_filled, number_same}
@@ -63,6 +63,14 @@ damaged_read file head place is fault =
 pub shut_read : (file head : List ℕ) → head ≡ filled_up 21 (read_of file 0 21) → IsShutAt 0 head → IsShutAt 0 file
 shut_read file head is shut is_open = shut (ap (λ (l : List ℕ). get_or l 0 0) is ∙ byte_read file 0 (omega arith) ∙ is_open)
 
+-- what stands between the gate and the end of a header
+header_bytes : (head : List ℕ) → length head ≡ 21 → get_or head 0 0 ≡ 1 → take 8 (drop 1 head) ≡ codes "RDOOBJ01" → ((i : ℕ) → get_or head i 0 < 256) → head ≡ 1 ∷ objects_fields (params_in head)
+header_bytes head long first name small =
+    let split : (n : ℕ) (l : List ℕ) → l ≡ take n l ++ drop n l = λ n l. sym (take-append-drop n l) in
+    let number : (at : ℕ) → at + 4 ≤ 21 → take 4 (drop at head) ≡ little_bytes 4 (number_at 4 at head) =
+    λ at within. sym (little_bytes-little_number 4 (drop at head) (omega (arith, length-drop at head)) (λ i. subst (λ (b : ℕ). b < 256) (sym (get_or-drop at head i 0)) (small (at + i)))) in
+    ?
+
 -- a header that was read whole, in a file that reaches to the last slot
 pub header_read : (p : Params) (file head : List ℕ) → head ≡ filled_up 21 (read_of file 0 21) → IsInRange p → head ≡ 1 ∷ objects_fields p → last_slot p < length file → HasHeader p file
 header_read p file head is in_range fields within =
@@ -74,13 +82,17 @@ header_read p file head is in_range fields within =
     }
 
 -- the file is too short
-pub cut_short : (p : Params) (file head : List ℕ) → length head ≡ 21 → head ≡ filled_up 21 (read_of file 0 21) → IsInRange p → head ≡ 1 ∷ objects_fields p → length file ≤ last_slot p → IsDamagedAt file 0
-cut_short p file head long is in_range fields short =
-    let same : p ≡ params_in file = sym (params_of_header p head (take_all 21 head (omega (arith, long)) ∙ fields) in_range) ∙ ap (λ (l : List ℕ). params_in l) is ∙ params_read file in
+pub cut_short : (p : Params) (file head : List ℕ) → head ≡ filled_up 21 (read_of file 0 21) → IsInRange p → head ≡ 1 ∷ objects_fields p → length file ≤ last_slot p → IsDamagedAt file 0
+cut_short p file head is in_range fields short =
+    let same : p ≡ params_in file = sym (params_of_header p head (take_all 21 head (omega (arith, ap length fields, length-objects_fields p)) ∙ fields) in_range) ∙ ap (λ (l : List ℕ). params_in l) is ∙ params_read file in
     record {
       gate = sym (byte_read file 0 (omega arith)) ∙ ap (λ (l : List ℕ). get_or l 0 0) (sym is ∙ fields);
       fault = cut (subst IsInRange same in_range) (subst (λ (q : Params). length file ≤ last_slot q) same short);
     }
+
+-- the last of all slots, counted through the file
+pub last_gate : (p : Params) → IsInRange p → slot_gate p.cap (2 * p.objects - 1) ≡ last_slot p
+last_gate p in_range = let same : 2 * p.objects - 1 ≡ 2 * (p.objects - 1) + 1 = omega (arith, in_range.some) in ap (λ (k : ℕ). slot_gate p.cap k) same
 
 -- a slot is open
 pub open_slot : (p : Params) (file : List ℕ) (place : ℕ) → HasHeader p file → HasOpenSlot p file place → IsDamagedAt file place

@@ -2,8 +2,6 @@
 use Rattle.std.proofs.Common.{◌≡◌, ◌≢◌, ◌⊎◌, ◌<◌, ◌≤◌, ◌+◌, ◌-◌, ◌*◌, inl, inr, ℕ, List, [], ◌∷◌, ◌++◌, length, get_or, take, drop, min, max, refl, sym, ◌∙◌, ap, subst, arith, length-append, length-drop}
 use Rattle.std.proofs.lemmas.List.{get_or-take, take_min}
 use Rattle.std.proofs.lemmas.Bool.{cases_eq, cases_lt}
-use Rattle.oper_core.specs.LittleEndian.{length-little_bytes}
-use Rattle.byteorder.specs.Endian.{little_bytes}
 use Rattle.disk_model.specs.Disk.{Files, Disk, Runs, Stays, Same, In, Torn, Holds, Any, IsSettled, IsSettledIn, LeavesOnly, written_over, read_of}
 use Rattle.disk_model.specs.Moments.{runs_twice, runs_wider, runs_join, runs_then_stays, stays_settled, settled_again, from_reads, first_call, goes_on}
 use Rattle.disk_model.specs.declared.machine.FileNo.{FileNo}
@@ -13,6 +11,7 @@ use Rattle.formats.specs.Objects.{IsInRange, IsObjectsFile, AreSlotsShut, object
 use Rattle.formats.specs.declared.params.Params.{Params}
 use Rattle.stable_objects.specs.SlotGates.{slot_gate}
 use Rattle.stable_objects.specs.Making.{KeepsGate, HasShutSlots, IsPrepared, IsShut, IsShutOrWhole}
+use Rattle.stable_objects.specs.Laws.{length-objects_fields}
 use Rattle.stable_objects.proofs.Bytes.{written_long, byte_before, byte_after, byte_written, written_read, held_first, torn_first, byte_behind}
 
 -- a write behind the gate keeps it
@@ -74,24 +73,14 @@ all_shut p file in_range shut = record {
   slots = λ x s below two. (shut (2 * x + s) (omega (arith, below, two))).shut;
 }
 
-fields_long : (p : Params) → length (objects_fields p) ≡ 20
-fields_long p = omega (
-  arith,
-  length-append (little_bytes 4 p.objects ++ little_bytes 4 p.cap) (little_bytes 4 p.limit),
-  length-append (little_bytes 4 p.objects) (little_bytes 4 p.cap),
-  length-little_bytes 4 p.objects,
-  length-little_bytes 4 p.cap,
-  length-little_bytes 4 p.limit,
-)
-
 -- with the header written, all but the gate stands
 pub header_written : (p : Params) (old new : List ℕ) → HasShutSlots p old → Holds 1 (objects_fields p) old new → IsPrepared p new
 header_written p old new shut holds = subst (λ (l : List ℕ). IsPrepared p l) (sym holds) (record {
-  fields = ap (λ (n : ℕ). read_of (written_over 1 (objects_fields p) old) 1 n) (sym (fields_long p)) ∙ written_read 1 (objects_fields p) old;
+  fields = ap (λ (n : ℕ). read_of (written_over 1 (objects_fields p) old) 1 n) (sym (length-objects_fields p)) ∙ written_read 1 (objects_fields p) old;
   slots = record {
     whole = omega (arith, written_long 1 (objects_fields p) old, shut.whole);
     slots = λ x s below two is_open. shut.slots x s below two
-        (sym (byte_after 1 (objects_fields p) old (slot_place p.cap x s) (omega (arith, fields_long p))) ∙ is_open);
+        (sym (byte_after 1 (objects_fields p) old (slot_place p.cap x s) (omega (arith, length-objects_fields p))) ∙ is_open);
   };
 })
 

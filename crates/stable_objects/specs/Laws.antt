@@ -1,5 +1,5 @@
 -- Laws of the objects file: its header names one store, it begins a store, and it has no fault.
-use Rattle.std.proofs.Common.{◌≡◌, ◌≢◌, ◌<◌, ◌≤◌, ◌+◌, ◌-◌, ◌*◌, ◌^◌, ℕ, List, [], ◌∷◌, ◌++◌, length, get_or, take, drop, refl, sym, ◌∙◌, ap, subst, arith, append_assoc, take-append-drop}
+use Rattle.std.proofs.Common.{◌≡◌, ◌≢◌, ◌<◌, ◌≤◌, ◌+◌, ◌-◌, ◌*◌, ◌^◌, ℕ, List, [], ◌∷◌, ◌++◌, length, get_or, take, drop, refl, sym, ◌∙◌, ap, subst, arith, append_assoc, length-append, take-append-drop}
 use Rattle.std.specs.Prelude.{codes}
 use Rattle.std.proofs.lemmas.List.{drop-drop, drop_at, take-take, drop-take, get_or-take}
 use Rattle.byteorder.specs.Endian.{little_bytes, little_number}
@@ -8,6 +8,17 @@ use Rattle.formats.specs.Bytes.{number_at, byte_at, IsOpenAt}
 use Rattle.formats.specs.Objects.{IsInRange, IsObjectsFile, objects_fields}
 use Rattle.formats.specs.Image.{BeginsStore, params_in, IsObjectsFault, magic, objects, cap, limit, cut, slot}
 use Rattle.formats.specs.declared.params.Params.{Params}
+
+-- the fields of a header are 20 bytes
+pub length-objects_fields : (p : Params) → length (objects_fields p) ≡ 20
+length-objects_fields p = omega (
+  arith,
+  length-append (little_bytes 4 p.objects ++ little_bytes 4 p.cap) (little_bytes 4 p.limit),
+  length-append (little_bytes 4 p.objects) (little_bytes 4 p.cap),
+  length-little_bytes 4 p.objects,
+  length-little_bytes 4 p.cap,
+  length-little_bytes 4 p.limit,
+)
 
 -- the numbers of a header stand at their places
 module _ (p : Params) (is : IsInRange p) (rest : List ℕ) where
@@ -73,15 +84,14 @@ start_is_open file begins = sym (get_or-take 9 file 0 0 (omega arith)) ∙ ap (�
 magic_stands : (file : List ℕ) → BeginsStore file → take 8 (drop 1 file) ≡ codes "RDOOBJ01"
 magic_stands file begins = sym (drop-take 1 8 file) ∙ ap (λ (l : List ℕ). drop 1 l) begins
 
+nowhere : (file : List ℕ) (place : ℕ) → IsObjectsFile (params_in file) file → IsObjectsFault file place → ⊥
+nowhere file place is (magic wrong) = wrong (magic_stands file (begins_store (params_in file) file is))
+nowhere file place is (objects wrong) = wrong (is.in_range.some, is.in_range.objects)
+nowhere file place is (cap wrong) = wrong (is.in_range.low, is.in_range.cap)
+nowhere file place is (limit wrong) = wrong (is.in_range.least, is.in_range.limit)
+nowhere file place is (cut in_range short) = omega (arith, short, is.whole)
+nowhere file place is (slot x s in_range below two open_gate) = is.slots x s below two open_gate
+
 -- an objects file breaks its format nowhere
 pub no_fault : (p : Params) (file : List ℕ) (place : ℕ) → IsObjectsFile p file → IsObjectsFault file place → ⊥
-no_fault p file place is fault =
-    let here : IsObjectsFile (params_in file) file = subst (λ (q : Params). IsObjectsFile q file) (sym (params_of_file p file is)) is in
-    elim fault [
-      | magic wrong ↦ wrong (magic_stands file (begins_store p file is))
-      | objects wrong ↦ wrong (here.in_range.some, here.in_range.objects)
-      | cap wrong ↦ wrong (here.in_range.low, here.in_range.cap)
-      | limit wrong ↦ wrong (here.in_range.least, here.in_range.limit)
-      | cut in_range short ↦ omega (arith, short, here.whole)
-      | slot x s in_range below two open_gate ↦ here.slots x s below two open_gate
-    ]
+no_fault p file place is fault = nowhere file place (subst (λ (q : Params). IsObjectsFile q file) (sym (params_of_file p file is)) is) fault
