@@ -1,10 +1,14 @@
 -- What the bytes that were read say of the file.
-use Rattle.std.proofs.Common.{◌≡◌, ◌≢◌, ◌<◌, ◌≤◌, ◌+◌, ◌-◌, ◌*◌, ◌/◌, ◌%◌, ◌^◌, ℕ, List, [], ◌∷◌, ◌++◌, length, get_or, take, drop, replicate, refl, sym, ◌∙◌, ap, subst, arith, length-append, length-take, length-drop}
-use Rattle.std.specs.Prelude.{codes}
+use Rattle.std.proofs.Common.{◌≡◌, ◌≢◌, ◌<◌, ◌≤◌, ◌+◌, ◌-◌, ◌*◌, ◌/◌, ◌%◌, ◌^◌, ℕ, List, [], ◌∷◌, ◌++◌, length, get_or, take, drop, replicate, refl, sym, ◌∙◌, ap, subst, arith, take-append-drop, length-append, length-take, length-drop}
+use Rattle.std.specs.Prelude.{codes, Bool, true, false, not, IsTrue, ◌↔◌}
+use Rattle.std.specs.Str.{bytes_eq}
+use Rattle.std.proofs.lemmas.Slice.Eq.{bytes_eq-Decides}
+use Rattle.byteorder.specs.Numbers.{little_from-take}
 use Rattle.std.proofs.lemmas.List.{get_or-drop, get_or-take, append-nil, take_all, take-take, take-append-le, drop-take, drop-drop}
 use Rattle.byteorder.specs.Endian.{little_bytes, little_number}
 use Rattle.oper_core.specs.LittleEndian.{little_bytes-little_number}
-use Rattle.disk_model.specs.Disk.{read_of}
+use Rattle.disk_model.specs.Disk.{Files, Disk, Stays, Rises, read_of}
+use Rattle.disk_model.specs.declared.machine.FileNo.TheVariants.{Objects}
 use Rattle.formats.specs.Bytes.{byte_at, number_at, IsOpenAt, IsShutAt}
 use Rattle.formats.specs.Objects.{IsInRange, IsObjectsFile, AreSlotsShut, objects_fields, last_slot, slot_place}
 use Rattle.formats.specs.Image.{params_in, IsWithin, IsObjectsFault, magic, objects, cap, limit, cut, slot}
@@ -63,13 +67,48 @@ damaged_read file head place is fault =
 pub shut_read : (file head : List ℕ) → head ≡ filled_up 21 (read_of file 0 21) → IsShutAt 0 head → IsShutAt 0 file
 shut_read file head is shut is_open = shut (ap (λ (l : List ℕ). get_or l 0 0) is ∙ byte_read file 0 (omega arith) ∙ is_open)
 
--- what stands between the gate and the end of a header
+-- a number read from the rest of a header
+pub number_slice : (head : List ℕ) (at : ℕ) → length head ≡ 21 → at + 4 ≤ 21 → little_number 4 (take (length head - at) (drop at head)) ≡ number_at 4 at head
+number_slice head at long within = little_from-take 0 4 (length head - at) (drop at head) (omega (arith, long))
+
+-- what the bytes of a header are, from the last number to the first
 header_bytes : (head : List ℕ) → length head ≡ 21 → get_or head 0 0 ≡ 1 → take 8 (drop 1 head) ≡ codes "RDOOBJ01" → ((i : ℕ) → get_or head i 0 < 256) → head ≡ 1 ∷ objects_fields (params_in head)
-header_bytes head long first name small =
-    let split : (n : ℕ) (l : List ℕ) → l ≡ take n l ++ drop n l = λ n l. sym (take-append-drop n l) in
+header_bytes [] long first name small = absurd (omega arith)
+header_bytes (gate ∷ rest) long first name small =
+    let head : List ℕ = gate ∷ rest in
+    let p = params_in head in
     let number : (at : ℕ) → at + 4 ≤ 21 → take 4 (drop at head) ≡ little_bytes 4 (number_at 4 at head) =
     λ at within. sym (little_bytes-little_number 4 (drop at head) (omega (arith, length-drop at head)) (λ i. subst (λ (b : ℕ). b < 256) (sym (get_or-drop at head i 0)) (small (at + i)))) in
-    ?
+    let last : drop 17 head ≡ little_bytes 4 p.limit = sym (take_all 4 (drop 17 head) (omega (arith, length-drop 17 head))) ∙ number 17 (omega arith) in
+    let middle : drop 13 head ≡ little_bytes 4 p.cap ++ little_bytes 4 p.limit = joined 4 13 head (little_bytes 4 p.cap) (little_bytes 4 p.limit) (number 13 (omega arith)) last in
+    let numbers : drop 9 head ≡ little_bytes 4 p.objects ++ (little_bytes 4 p.cap ++ little_bytes 4 p.limit) =
+    joined 4 9 head (little_bytes 4 p.objects) (little_bytes 4 p.cap ++ little_bytes 4 p.limit) (number 9 (omega arith)) middle in
+    let fields : rest ≡ objects_fields p = joined 8 1 head (codes "RDOOBJ01") (little_bytes 4 p.objects ++ (little_bytes 4 p.cap ++ little_bytes 4 p.limit)) name numbers in
+    λ i. first i ∷ fields i
+  where
+    joined : (n at : ℕ) (l front behind : List ℕ) → take n (drop at l) ≡ front → drop (at + n) l ≡ behind → drop at l ≡ front ++ behind
+    joined n at l front behind is then = sym (take-append-drop n (drop at l)) ∙ ap (λ (x : List ℕ). x ++ drop n (drop at l)) is ∙ ap (λ (x : List ℕ). front ++ x) (drop-drop n at l ∙ then)
+
+pub header_fields : (head : List ℕ) (p : Params) → length head ≡ 21 → get_or head 0 0 ≡ 1 → take 8 (drop 1 head) ≡ codes "RDOOBJ01" → ((i : ℕ) → get_or head i 0 < 256)
+    → p.objects ≡ number_at 4 9 head → p.cap ≡ number_at 4 13 head → p.limit ≡ number_at 4 17 head → head ≡ 1 ∷ objects_fields p
+header_fields head p long first name small first_number second_number third_number =
+    let same : params_in head ≡ p = λ i. record { objects = sym first_number i; cap = sym second_number i; limit = sym third_number i } in
+    header_bytes head long first name small ∙ ap (λ (q : Params). 1 ∷ objects_fields q) same
+
+-- what a test of two lists says
+pub differ : (xs ys : List ℕ) (b : Bool) → b ≡ not (bytes_eq xs ys) → b ≡ true → xs ≢ ys
+differ xs ys b test is same = let equal = (bytes_eq-Decides xs ys).1 same in cc
+
+not_false : (b : Bool) → not b ≡ false → b ≡ true
+not_false true is = refl
+not_false false is = cc
+
+pub agree : (xs ys : List ℕ) (b : Bool) → b ≡ not (bytes_eq xs ys) → b ≡ false → xs ≡ ys
+agree xs ys b test is = (bytes_eq-Decides xs ys).0 (not_false (bytes_eq xs ys) (sym test ∙ is))
+
+-- and a test that failed
+pub fails_test : (P : Type 0) (b : Bool) → IsTrue b ↔ P → b ≡ false → P → ⊥
+fails_test P b test is holds = let here = test.1 holds in cc
 
 -- a header that was read whole, in a file that reaches to the last slot
 pub header_read : (p : Params) (file head : List ℕ) → head ≡ filled_up 21 (read_of file 0 21) → IsInRange p → head ≡ 1 ∷ objects_fields p → last_slot p < length file → HasHeader p file
@@ -115,6 +154,17 @@ fails_on rises rises' shut shut' fault fault' NotAStore risen closed there fails
 fails_on rises rises' shut shut' fault fault' DiskFault risen closed there fails = risen fails
 fails_on rises rises' shut shut' fault fault' (Damaged file place) risen closed there fails = there file place fails
 fails_on rises rises' shut shut' fault fault' Memory risen closed there fails = fails
+
+-- an open slot, or a fault, that was met behind the header
+pub behind_header : (old mid new : Disk) (p : Params) (e : SlotErr) → Stays old mid → (old.tells_files → HasHeader p (old.reads Objects))
+    → FailsBy (Rises mid.disk_faults new.disk_faults) ⊥ (FailsAt (λ place. mid.tells_files → HasOpenSlot p (mid.reads Objects) place)) e
+    → FailsBy (Rises old.disk_faults new.disk_faults) (old.tells_files → IsShutAt 0 (old.reads Objects)) (FailsAt (λ place. old.tells_files → IsDamagedAt (old.reads Objects) place)) e
+behind_header old mid new p NotAStore stays header fails = absurd fails
+behind_header old mid new p DiskFault stays header fails = λ below. omega (arith, fails below, stays.time.disk_faults)
+behind_header old mid new p (Damaged number place) stays header fails = (fails.0, λ told.
+    let met : HasOpenSlot p (old.reads Objects) place = subst (λ (f : Files). HasOpenSlot p (f Objects) place) (stays.reads told) (fails.1 (stays.time.files_told.0 told)) in
+    open_slot p (old.reads Objects) place (header told) met)
+behind_header old mid new p Memory stays header fails = fails
 
 -- over a whole file, only the disk fails
 pub only_the_disk : (rises told : Type 0) (file : List ℕ) (p : Params) (e : SlotErr) → told → IsObjectsFile p file

@@ -2,6 +2,8 @@ use Rattle.std.proofs.Common.{◌≡◌, ◌<◌, ◌≤◌, ℕ, List, refl, sy
 use Rattle.std.proofs.lemmas.Result.{err_from_is_err_and}
 use Rattle.disk_model.specs.Disk.{Files}
 use Rattle.disk_model.specs.declared.machine.FileNo.TheVariants.{Objects}
+use Rattle.formats.specs.Bytes.{IsShutAt}
+use Rattle.stable_objects.specs.Reading.{FailsAt, IsHeaderFault, IsDamagedAt}
 use Rattle.stable_objects.proofs.Found.{fails_on, shut_read, damaged_read, cut_short, header_read, last_gate}
 use Rattle.stable_objects.proofs.loading.read_header.Goals as goal
 
@@ -10,9 +12,10 @@ returns-in_err-params-clause-cause g c =
     let file = (g.M.Machine.disk c.args.machine.now).reads Objects in
     let head = c.read_at.new.into in
     let p = err_from_is_err_and c.from_residual-in_err-params.result c.from_residual-in_err-params.ensures.1 in
-    rw (p.1, p.2) (fails_on _ _ _ _ _ _ _ (λ none. absurd none)
-    (λ shut told. shut_read file head (c.in_ok-read_at.ensures.bytes told) shut)
-    (λ f place there. (there.0, λ told. damaged_read file head place (c.in_ok-read_at.ensures.bytes told) there.1))
+    let told = (g.M.Machine.disk c.args.machine.now).tells_files in
+    rw (p.1, p.2) (fails_on ⊥ _ (IsShutAt 0 head) (told → IsShutAt 0 file) (FailsAt (IsHeaderFault head)) (FailsAt (λ place. told → IsDamagedAt file place)) _ (λ none. absurd none)
+    (λ shut is_told. shut_read file head (c.in_ok-read_at.ensures.bytes is_told) shut)
+    (λ f place there. (there.0, λ is_told. damaged_read file head place (c.in_ok-read_at.ensures.bytes is_told) there.1))
     c.in_err-params.ensures.cause)
 
 pub returns-then-size-gate_place-clause-cause : goal.returns-then-size-gate_place-clause-cause

@@ -5,6 +5,7 @@ use Rattle.disk_model.specs.declared.machine.FileNo.TheVariants.{Objects}
 use Rattle.std.proofs.lemmas.Result.{err_from_is_err_and}
 use Rattle.formats.specs.Bytes.{IsOpenAt, IsShutAt}
 use Rattle.stable_objects.specs.SlotGates.{slot_gate}
+use Rattle.stable_objects.proofs.Found.{fails_test}
 use Rattle.stable_objects.proofs.loading.see_shut.Goals as goal
 
 pub loop-slot-init : goal.loop-slot-init
@@ -23,8 +24,7 @@ loop-slot-preserved g c =
       shut = λ told. below_more (λ k. IsShutAt (slot_gate c.args.params.cap k) (old.reads Objects)) c.loop-slot.slot (so_far.shut told) (λ is_open.
           let same : mid.reads ≡ old.reads = so_far.kept.reads told in
           let there = subst (λ (f : Files). IsOpenAt c.gate_place-place.result (f Objects)) (sym same) (subst (λ (n : ℕ). IsOpenAt n (old.reads Objects)) (sym c.gate_place-place.ensures) is_open) in
-          let test = (c.in_ok-is_open.ensures.open (so_far.kept.time.files_told.0 told)).1 there in
-          cc (test, c.if-branch.false));
+          fails_test _ _ (c.in_ok-is_open.ensures.open (so_far.kept.time.files_told.0 told)) c.if-branch.false there);
     }
 
 pub returns-in_err-is_open-clause-kept : goal.returns-in_err-is_open-clause-kept
