@@ -1,0 +1,18 @@
+use Rattle.std.proofs.Common.{length, arith}
+use Rattle.disk_model.specs.Record.{Write}
+use Rattle.disk_model.specs.declared.entry.Entry.TheVariants.{Written}
+use Rattle.disk_model.proofs.Added.{still_whole, one_more, all_written}
+use Rattle.disk_model.proofs.record.Record.add_write.Goals as goal
+
+pub invariant_of-self : goal.invariant_of-self
+invariant_of-self c =
+    let r = c.args.self.now in
+    record {
+      room = omega (arith, r.room, c.add.ensures.capacity);
+      whole = still_whole r.entries.items c.add.new.entries.items r.pool.bytes.items c.append.new.self.bytes.items c.args.bytes.now r.whole (Written c.args.file c.args.at (length c.args.bytes.now)) c.add.ensures.items c.append.ensures.bytes (omega arith);
+    }
+
+pub returns-clause-calls : goal.returns-clause-calls
+returns-clause-calls c =
+    let r = c.args.self.now in
+    one_more r.entries.items c.add.new.entries.items r.pool.bytes.items c.append.new.self.bytes.items c.args.bytes.now r.whole (Written c.args.file c.args.at (length c.args.bytes.now)) c.add.ensures.items c.append.ensures.bytes (Write c.args.file c.args.at c.args.bytes.now) (all_written c.args.file c.args.at c.args.bytes.now)
