@@ -161,9 +161,12 @@ pub behind_header : (old mid new : Disk) (p : Params) (e : SlotErr) → Stays ol
     → FailsBy (Rises old.disk_faults new.disk_faults) (old.tells_files → IsShutAt 0 (old.reads Objects)) (FailsAt (λ place. old.tells_files → IsDamagedAt (old.reads Objects) place)) e
 behind_header old mid new p NotAStore stays header fails = absurd fails
 behind_header old mid new p DiskFault stays header fails = λ below. omega (arith, fails below, stays.time.disk_faults)
-behind_header old mid new p (Damaged number place) stays header fails = (fails.0, λ told.
-    let met : HasOpenSlot p (old.reads Objects) place = subst (λ (f : Files). HasOpenSlot p (f Objects) place) (stays.reads told) (fails.1 (stays.time.files_told.0 told)) in
-    open_slot p (old.reads Objects) place (header told) met)
+behind_header old mid new p (Damaged number place) stays header fails = (
+  fails.0,
+  λ told.
+      let met : HasOpenSlot p (old.reads Objects) place = subst (λ (f : Files). HasOpenSlot p (f Objects) place) (stays.reads told) (fails.1 (stays.time.files_told.0 told)) in
+      open_slot p (old.reads Objects) place (header told) met,
+)
 behind_header old mid new p Memory stays header fails = fails
 
 -- over a whole file, only the disk fails

@@ -52,9 +52,9 @@ pub stays_shut : (at j : ℕ) (old : List ℕ) → IsShutWithin j old → IsShut
 stays_shut at j old was = elim (cases_eq j at) [
   | inl same ↦ subst (λ (k : ℕ). IsShutWithin k (written_over at (0 ∷ []) old)) (sym same) (now_shut at old)
   | inr other ↦ record {
-      within = omega (arith, written_long at (0 ∷ []) old, was.within);
-      shut = λ is_open. was.shut (sym (byte_stays at j old other) ∙ is_open);
-    }
+    within = omega (arith, written_long at (0 ∷ []) old, was.within);
+    shut = λ is_open. was.shut (sym (byte_stays at j old other) ∙ is_open);
+  }
 ]
 
 -- one slot more is closed
@@ -116,12 +116,12 @@ leaves_either old mid new p told in_range leaves first settled prepared second =
     let told_mid = first.time.moments_told.0 told in
     let files_told = first.begins.telling told in
     goes_on old mid new (IsShutOrWhole old p) told_mid leaves second.time (λ c s left.
-        let from = from_reads mid new (In Objects (Torn 0 1)) Same told_mid settled second.crash c s left in
-        record {
-          objects = shut_or_whole p (mid.reads Objects) (c Objects) in_range prepared from.0.changed;
-          others = λ other is_other. from.0.others other is_other ∙ (first.reads files_told).others other is_other;
-          silent = from.1 ∙ first.said files_told;
-        })
+    let from = from_reads mid new (In Objects (Torn 0 1)) Same told_mid settled second.crash c s left in
+    record {
+      objects = shut_or_whole p (mid.reads Objects) (c Objects) in_range prepared from.0.changed;
+      others = λ other is_other. from.0.others other is_other ∙ (first.reads files_told).others other is_other;
+      silent = from.1 ∙ first.said files_told;
+    })
 
 -- both together
 pub run_any : (old mid new : Disk) → Runs (In Objects KeepsGate) Same old mid → Runs (In Objects (Torn 0 1)) Same mid new → Runs (In Objects Any) Same old new

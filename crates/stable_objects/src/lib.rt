@@ -15,3 +15,6 @@ mod slots;
 
 pub use slot_err::SlotErr;
 pub use slots::Slots;
+
+#[cfg(test)]
+mod tests;

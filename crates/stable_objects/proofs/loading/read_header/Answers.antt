@@ -19,13 +19,16 @@ returns-in_err-params-clause-cause g c =
     c.in_err-params.ensures.cause)
 
 pub returns-then-size-gate_place-clause-cause : goal.returns-then-size-gate_place-clause-cause
-returns-then-size-gate_place-clause-cause g c = (refl, λ told.
-    let file = (g.M.Machine.disk c.args.machine.now).reads Objects in
-    let p = c.in_ok-params.params in
-    let ok = c.in_ok-params.ensures.ok in
-    let size = c.in_ok-size.ensures.size (c.read_at.ensures.kept.time.files_told.0 told) ∙ ap (λ (f : Files). length (f Objects)) (c.read_at.ensures.kept.reads told) in
-    cut_short p file c.read_at.new.into (c.in_ok-read_at.ensures.bytes told) ok.0 ok.1
-    (omega (arith, size, c.if-size-gate_place.true, c.gate_place.ensures, last_gate p ok.0)))
+returns-then-size-gate_place-clause-cause g c = (
+  refl,
+  λ told.
+      let file = (g.M.Machine.disk c.args.machine.now).reads Objects in
+      let p = c.in_ok-params.params in
+      let ok = c.in_ok-params.ensures.ok in
+      let size = c.in_ok-size.ensures.size (c.read_at.ensures.kept.time.files_told.0 told) ∙ ap (λ (f : Files). length (f Objects)) (c.read_at.ensures.kept.reads told) in
+      cut_short p file c.read_at.new.into (c.in_ok-read_at.ensures.bytes told) ok.0 ok.1
+      (omega (arith, size, c.if-size-gate_place.true, c.gate_place.ensures, last_gate p ok.0)),
+)
 
 pub returns-clause-read : goal.returns-clause-read
 returns-clause-read g c told =

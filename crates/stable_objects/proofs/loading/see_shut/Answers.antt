@@ -39,14 +39,17 @@ pub returns-then-branch-clause-kept : goal.returns-then-branch-clause-kept
 returns-then-branch-clause-kept g c = stays_twice _ _ _ c.loop-slot.invariant.kept c.is_open.ensures.kept
 
 pub returns-then-branch-clause-cause : goal.returns-then-branch-clause-cause
-returns-then-branch-clause-cause g c = (refl, λ told.
-    let so_far = c.loop-slot.invariant in
-    record {
-      slot = c.loop-slot.slot;
-      below = c.loop-slot-test.true;
-      here = c.gate_place-place.ensures;
-      open_gate = subst (λ (f : Files). IsOpenAt c.gate_place-place.result (f Objects)) (so_far.kept.reads told) ((c.in_ok-is_open.ensures.open (so_far.kept.time.files_told.0 told)).0 c.if-branch.true);
-    })
+returns-then-branch-clause-cause g c = (
+  refl,
+  λ told.
+      let so_far = c.loop-slot.invariant in
+      record {
+        slot = c.loop-slot.slot;
+        below = c.loop-slot-test.true;
+        here = c.gate_place-place.ensures;
+        open_gate = subst (λ (f : Files). IsOpenAt c.gate_place-place.result (f Objects)) (so_far.kept.reads told) ((c.in_ok-is_open.ensures.open (so_far.kept.time.files_told.0 told)).0 c.if-branch.true);
+      },
+)
 
 pub returns-clause-shut : goal.returns-clause-shut
 returns-clause-shut g c told x s below two = c.loop-slot.invariant.shut told (2 * x + s) (omega (arith, c.loop-slot-test.false))
