@@ -147,14 +147,6 @@ open_slot p file place head is =
           (slot (k / 2) (k % 2) (subst IsInRange same head.in_range) (omega (arith, here.below)) (omega arith) (subst (λ (n : ℕ). IsOpenAt n file) spot here.open_gate));
     }
 
--- why a call fails that hands on why another did
-pub fails_on : (rises rises' shut shut' : Type 0) (fault fault' : FileNo → ℕ → Type 0) (e : SlotErr) → (rises → rises') → (shut → shut') → ((file : FileNo) (place : ℕ) → fault file place → fault' file place)
-    → FailsBy rises shut fault e → FailsBy rises' shut' fault' e
-fails_on rises rises' shut shut' fault fault' NotAStore risen closed there fails = closed fails
-fails_on rises rises' shut shut' fault fault' DiskFault risen closed there fails = risen fails
-fails_on rises rises' shut shut' fault fault' (Damaged file place) risen closed there fails = there file place fails
-fails_on rises rises' shut shut' fault fault' Memory risen closed there fails = fails
-
 -- an open slot, or a fault, that was met behind the header
 pub behind_header : (old mid new : Disk) (p : Params) (e : SlotErr) → Stays old mid → (old.tells_files → HasHeader p (old.reads Objects))
     → FailsBy (Rises mid.disk_faults new.disk_faults) ⊥ (FailsAt (λ place. mid.tells_files → HasOpenSlot p (mid.reads Objects) place)) e

@@ -53,3 +53,11 @@ pub record HasOpenSlot (p : Params) (file : List ℕ) (place : ℕ) : Type 0 whe
 -- n bytes of which these are the first, the others 0
 abbrev pub filled_up : ℕ → List ℕ → List ℕ
 filled_up n bytes = bytes ++ replicate (n - length bytes) 0
+
+-- a call that hands on why another failed
+pub fails_on : (rises rises' shut shut' : Type 0) (fault fault' : FileNo → ℕ → Type 0) (e : SlotErr) → (rises → rises') → (shut → shut') → ((file : FileNo) (place : ℕ) → fault file place → fault' file place)
+    → FailsBy rises shut fault e → FailsBy rises' shut' fault' e
+fails_on rises rises' shut shut' fault fault' NotAStore risen closed there fails = closed fails
+fails_on rises rises' shut shut' fault fault' DiskFault risen closed there fails = risen fails
+fails_on rises rises' shut shut' fault fault' (Damaged file place) risen closed there fails = there file place fails
+fails_on rises rises' shut shut' fault fault' Memory risen closed there fails = fails

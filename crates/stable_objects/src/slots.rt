@@ -3,11 +3,20 @@ ghost use Rattle.formats.specs.Objects.{bounds_of};
 
 use formats::Params;
 use oper_core::Bounds;
+use std::marker::Model;
 
 /// The slots of a store whose objects file is whole.
 #[derive(Drop)]
 pub struct Slots {
     pub(crate) params: Params,
+}
+
+impl Model for Slots {
+    ghost use Rattle.stable_objects.specs.SlotsView.{SlotsView};
+
+    ghost Value = { SlotsView };
+
+    ghost view = { λ s. record { params = s.params } };
 }
 
 impl Slots {

@@ -3,8 +3,8 @@ use Rattle.std.proofs.lemmas.Result.{err_from_is_err_and}
 use Rattle.disk_model.specs.Disk.{Files}
 use Rattle.disk_model.specs.declared.machine.FileNo.TheVariants.{Objects}
 use Rattle.formats.specs.Bytes.{IsShutAt}
-use Rattle.stable_objects.specs.Reading.{FailsAt, IsHeaderFault, IsDamagedAt}
-use Rattle.stable_objects.proofs.Found.{fails_on, shut_read, damaged_read, cut_short, header_read, last_gate}
+use Rattle.stable_objects.specs.Reading.{FailsAt, IsHeaderFault, IsDamagedAt, fails_on}
+use Rattle.stable_objects.proofs.Found.{shut_read, damaged_read, cut_short, header_read, last_gate}
 use Rattle.stable_objects.proofs.loading.read_header.Goals as goal
 
 pub returns-in_err-params-clause-cause : goal.returns-in_err-params-clause-cause
