@@ -1,6 +1,6 @@
 -- Bytes at places of a file that was written to, or that is read.
-use Rattle.std.proofs.Common.{◌≡◌, ◌<◌, ◌≤◌, ◌+◌, ◌-◌, ◌*◌, inl, inr, ℕ, zero, suc, List, [], ◌∷◌, ◌++◌, length, get_or, take, drop, replicate, min, max, refl, sym, ◌∙◌, ap, arith, append_assoc, length-append, length-take, length-drop}
-use Rattle.std.proofs.lemmas.List.{length-replicate, get_or-drop, get_or-take, get_or_append_left, get_or-append_right, take_at, drop_at, append-nil}
+use Rattle.std.proofs.Common.{◌≡◌, ◌<◌, ◌≤◌, ◌+◌, ◌-◌, ℕ, zero, suc, List, [], ◌∷◌, ◌++◌, length, get_or, take, drop, replicate, max, refl, sym, ◌∙◌, ap, arith, append_assoc, length-append, length-take, length-drop}
+use Rattle.std.proofs.lemmas.List.{length-replicate, get_or-drop, get_or-take, get_or_append_left, get_or-append_right, take_at, drop_at}
 use Rattle.byteorder.specs.Endian.{little_from}
 use Rattle.disk_model.specs.Disk.{Holds, Torn, written_over, read_of}
 use Rattle.formats.specs.Bytes.{byte_at}

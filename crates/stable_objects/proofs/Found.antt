@@ -1,5 +1,5 @@
 -- What the bytes that were read say of the file.
-use Rattle.std.proofs.Common.{◌≡◌, ◌≢◌, ◌<◌, ◌≤◌, ◌+◌, ◌-◌, ◌*◌, ◌/◌, ◌%◌, ◌^◌, ℕ, List, [], ◌∷◌, ◌++◌, length, get_or, take, drop, replicate, refl, sym, ◌∙◌, ap, subst, arith, take-append-drop, length-append, length-take, length-drop}
+use Rattle.std.proofs.Common.{◌≡◌, ◌≢◌, ◌<◌, ◌≤◌, ◌+◌, ◌-◌, ◌*◌, ◌/◌, ◌%◌, ℕ, List, [], ◌∷◌, ◌++◌, length, get_or, take, drop, replicate, refl, sym, ◌∙◌, ap, subst, arith, take-append-drop, length-take, length-drop}
 use Rattle.std.specs.Prelude.{codes, Bool, true, false, not, IsTrue, ◌↔◌}
 use Rattle.std.specs.Str.{bytes_eq}
 use Rattle.std.proofs.lemmas.Slice.Eq.{bytes_eq-Decides}
@@ -10,10 +10,9 @@ use Rattle.oper_core.specs.LittleEndian.{little_bytes-little_number}
 use Rattle.disk_model.specs.Disk.{Files, Disk, Stays, Rises, read_of}
 use Rattle.disk_model.specs.declared.machine.FileNo.TheVariants.{Objects}
 use Rattle.formats.specs.Bytes.{byte_at, number_at, IsOpenAt, IsShutAt}
-use Rattle.formats.specs.Objects.{IsInRange, IsObjectsFile, AreSlotsShut, objects_fields, last_slot, slot_place}
+use Rattle.formats.specs.Objects.{IsInRange, IsObjectsFile, objects_fields, last_slot, slot_place}
 use Rattle.formats.specs.Image.{params_in, IsWithin, IsObjectsFault, magic, objects, cap, limit, cut, slot}
 use Rattle.formats.specs.declared.params.Params.{Params}
-use Rattle.disk_model.specs.declared.machine.FileNo.{FileNo}
 use Rattle.stable_objects.specs.SlotGates.{slot_gate}
 use Rattle.stable_objects.specs.Reading.{filled_up, FailsBy, FailsAt, HasHeader, HasOpenSlot, IsHeaderFault, IsDamagedAt, IsDiskFault}
 use Rattle.stable_objects.specs.Laws.{length-objects_fields, params_of_header, gate_is_open, no_fault}

@@ -1,13 +1,12 @@
 -- What the writes that make the objects file leave of it.
-use Rattle.std.proofs.Common.{◌≡◌, ◌≢◌, ◌⊎◌, ◌<◌, ◌≤◌, ◌+◌, ◌-◌, ◌*◌, inl, inr, ℕ, List, [], ◌∷◌, ◌++◌, length, get_or, take, drop, min, max, refl, sym, ◌∙◌, ap, subst, arith, length-append, length-drop}
+use Rattle.std.proofs.Common.{◌≡◌, ◌≢◌, ◌⊎◌, ◌<◌, ◌≤◌, ◌+◌, ◌-◌, ◌*◌, inl, inr, ℕ, List, [], ◌∷◌, length, get_or, drop, min, refl, sym, ◌∙◌, ap, subst, arith, length-drop}
 use Rattle.std.proofs.lemmas.List.{get_or-take, take_min}
 use Rattle.std.proofs.lemmas.Bool.{cases_eq, cases_lt}
 use Rattle.disk_model.specs.Disk.{Files, Disk, Runs, Stays, Same, In, Torn, Holds, Any, IsSettled, IsSettledIn, LeavesOnly, written_over, read_of}
 use Rattle.disk_model.specs.Moments.{runs_twice, runs_wider, runs_join, runs_then_stays, stays_settled, settled_again, from_reads, first_call, goes_on}
-use Rattle.disk_model.specs.declared.machine.FileNo.{FileNo}
 use Rattle.disk_model.specs.declared.machine.FileNo.TheVariants.{Objects}
 use Rattle.formats.specs.Bytes.{byte_at, IsShutAt}
-use Rattle.formats.specs.Objects.{IsInRange, IsObjectsFile, AreSlotsShut, objects_fields, last_slot, slot_place}
+use Rattle.formats.specs.Objects.{IsInRange, IsObjectsFile, objects_fields, slot_place}
 use Rattle.formats.specs.declared.params.Params.{Params}
 use Rattle.stable_objects.specs.SlotGates.{slot_gate}
 use Rattle.stable_objects.specs.Making.{KeepsGate, HasShutSlots, IsPrepared, IsShut, IsShutOrWhole}

@@ -1,10 +1,10 @@
 -- Laws of the objects file: its header names one store, it begins a store, and it has no fault.
-use Rattle.std.proofs.Common.{◌≡◌, ◌≢◌, ◌<◌, ◌≤◌, ◌+◌, ◌-◌, ◌*◌, ◌^◌, ℕ, List, [], ◌∷◌, ◌++◌, length, get_or, take, drop, refl, sym, ◌∙◌, ap, subst, arith, append_assoc, length-append, take-append-drop}
+use Rattle.std.proofs.Common.{◌≡◌, ℕ, List, ◌∷◌, ◌++◌, length, get_or, take, drop, sym, ◌∙◌, ap, subst, arith, append_assoc, length-append, take-append-drop}
 use Rattle.std.specs.Prelude.{codes}
 use Rattle.std.proofs.lemmas.List.{drop-drop, drop_at, take-take, drop-take, get_or-take}
 use Rattle.byteorder.specs.Endian.{little_bytes, little_number}
 use Rattle.oper_core.specs.LittleEndian.{length-little_bytes, little_number-little_bytes}
-use Rattle.formats.specs.Bytes.{number_at, byte_at, IsOpenAt}
+use Rattle.formats.specs.Bytes.{number_at, IsOpenAt}
 use Rattle.formats.specs.Objects.{IsInRange, IsObjectsFile, objects_fields}
 use Rattle.formats.specs.Image.{BeginsStore, params_in, IsObjectsFault, magic, objects, cap, limit, cut, slot}
 use Rattle.formats.specs.declared.params.Params.{Params}

@@ -1,4 +1,4 @@
-use Rattle.std.proofs.Common.{◌<◌, ℕ, List, [], ◌∷◌, refl, arith, subst}
+use Rattle.std.proofs.Common.{ℕ, [], ◌∷◌, refl, arith, subst}
 use Rattle.disk_model.specs.Disk.{In, Holds}
 use Rattle.disk_model.specs.Moments.{runs_none}
 use Rattle.disk_model.specs.declared.machine.FileNo.TheVariants.{Objects}

@@ -1,4 +1,4 @@
-use Rattle.std.proofs.Common.{◌≡◌, ◌<◌, ◌≤◌, ◌+◌, ◌∙◌, inl, inr, ℕ, refl, arith}
+use Rattle.std.proofs.Common.{◌∙◌, inl, inr, refl, arith}
 use Rattle.std.proofs.Math.Facts.{Fits-lt-pow}
 use Rattle.formats.specs.Image.{magic, objects, cap, limit}
 use Rattle.formats.specs.declared.params.Params.{Params}

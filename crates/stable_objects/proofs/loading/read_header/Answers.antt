@@ -1,4 +1,4 @@
-use Rattle.std.proofs.Common.{◌≡◌, ◌<◌, ◌≤◌, ℕ, List, refl, sym, ◌∙◌, ap, arith, subst, length}
+use Rattle.std.proofs.Common.{refl, ◌∙◌, ap, arith, length}
 use Rattle.std.proofs.lemmas.Result.{err_from_is_err_and}
 use Rattle.disk_model.specs.Disk.{Files}
 use Rattle.disk_model.specs.declared.machine.FileNo.TheVariants.{Objects}

@@ -1,4 +1,4 @@
-use Rattle.std.proofs.Common.{◌≡◌, ◌<◌, ◌+◌, ◌*◌, ℕ, List, refl, sym, ap, ◌∙◌, arith, subst, below_more}
+use Rattle.std.proofs.Common.{◌≡◌, ◌+◌, ◌*◌, ℕ, refl, sym, arith, subst, below_more}
 use Rattle.disk_model.specs.Disk.{Files}
 use Rattle.disk_model.specs.Moments.{stays_here, stays_twice}
 use Rattle.disk_model.specs.declared.machine.FileNo.TheVariants.{Objects}

@@ -1,6 +1,6 @@
 use Rattle.stable_objects.specs.Making.{params_with}
 use Rattle.stable_objects.proofs.Bytes.{held_first}
-use Rattle.stable_objects.proofs.Made.{keeps_any, run_any, leaves_shut, leaves_either, opened}
+use Rattle.stable_objects.proofs.Made.{run_any, leaves_shut, leaves_either, opened}
 use Rattle.stable_objects.proofs.slots.Slots.create.Goals as goal
 
 pub returns-in_err-prepare-clause-any_moment : goal.returns-in_err-prepare-clause-any_moment
