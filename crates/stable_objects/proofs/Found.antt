@@ -1,0 +1,169 @@
+-- What the bytes that were read say of the file.
+use Rattle.std.proofs.Common.{◌≡◌, ◌≢◌, ◌<◌, ◌≤◌, ◌+◌, ◌-◌, ◌*◌, ◌/◌, ◌%◌, ℕ, List, [], ◌∷◌, ◌++◌, length, get_or, take, drop, replicate, refl, sym, ◌∙◌, ap, subst, arith, take-append-drop, length-take, length-drop}
+use Rattle.std.specs.Prelude.{codes, Bool, true, false, not, IsTrue, ◌↔◌}
+use Rattle.std.specs.Str.{bytes_eq}
+use Rattle.std.proofs.lemmas.Slice.Eq.{bytes_eq-Decides}
+use Rattle.byteorder.specs.Numbers.{little_from-take}
+use Rattle.std.proofs.lemmas.List.{get_or-drop, get_or-take, append-nil, take_all, take-take, take-append-le, drop-take, drop-drop}
+use Rattle.byteorder.specs.Endian.{little_bytes, little_number}
+use Rattle.oper_core.specs.LittleEndian.{little_bytes-little_number}
+use Rattle.disk_model.specs.Disk.{Files, Disk, Stays, Rises, read_of}
+use Rattle.disk_model.specs.declared.machine.FileNo.TheVariants.{Objects}
+use Rattle.formats.specs.Bytes.{byte_at, number_at, IsOpenAt, IsShutAt}
+use Rattle.formats.specs.Objects.{IsInRange, IsObjectsFile, objects_fields, last_slot, slot_place}
+use Rattle.formats.specs.Image.{params_in, IsWithin, IsObjectsFault, magic, objects, cap, limit, cut, slot}
+use Rattle.formats.specs.declared.params.Params.{Params}
+use Rattle.stable_objects.specs.SlotGates.{slot_gate}
+use Rattle.stable_objects.specs.Reading.{filled_up, FailsBy, FailsAt, HasHeader, HasOpenSlot, IsHeaderFault, IsDamagedAt, IsDiskFault}
+use Rattle.stable_objects.specs.Laws.{length-objects_fields, params_of_header, gate_is_open, no_fault}
+use Rattle.stable_objects.specs.declared.slot_err.SlotErr.{SlotErr}
+use Rattle.stable_objects.specs.declared.slot_err.SlotErr.TheVariants.{NotAStore, DiskFault, Damaged, Memory}
+use Rattle.stable_objects.proofs.Bytes.{byte_filled, number_same}
+
+-- the bytes of a header that was read are those of the file
+pub byte_read : (file : List ℕ) (i : ℕ) → i < 21 → get_or (filled_up 21 (read_of file 0 21)) i 0 ≡ byte_at i file
+byte_read file i less = byte_filled (take 21 file) (21 - length (take 21 file)) i ∙ get_or-take 21 file i 0 less
+
+-- and so are its numbers
+pub number_read : (file : List ℕ) (at : ℕ) → at + 4 ≤ 21 → number_at 4 at (filled_up 21 (read_of file 0 21)) ≡ number_at 4 at file
+number_read file at within = number_same 0 4 (drop at (filled_up 21 (read_of file 0 21))) (drop at file)
+    (λ j low high. get_or-drop at (filled_up 21 (read_of file 0 21)) j 0 ∙ byte_read file (at + j) (omega arith) ∙ sym (get_or-drop at file j 0))
+
+pub params_read : (file : List ℕ) → params_in (filled_up 21 (read_of file 0 21)) ≡ params_in file
+params_read file =
+    let first = number_read file 9 (omega arith) in
+    let second = number_read file 13 (omega arith) in
+    let third = number_read file 17 (omega arith) in
+    λ i. record { objects = first i; cap = second i; limit = third i }
+
+-- where the file has the magic, so has what was read
+magic_read : (file : List ℕ) → take 8 (drop 1 file) ≡ codes "RDOOBJ01" → take 8 (drop 1 (filled_up 21 (read_of file 0 21))) ≡ codes "RDOOBJ01"
+magic_read file is =
+    let long : 9 ≤ length file = omega (arith, ap length is, length-take 8 (drop 1 file), length-drop 1 file) in
+    let head = filled_up 21 (read_of file 0 21) in
+    let nine : take 9 head ≡ take 9 file =
+    take-append-le 9 (take 21 file) (replicate (21 - length (take 21 file)) 0) (omega (arith, long, length-take 21 file)) ∙ take-take 9 21 file (omega arith) in
+    sym (drop-take 1 8 head) ∙ ap (λ (l : List ℕ). drop 1 l) nine ∙ drop-take 1 8 file ∙ is
+
+-- a fault that the header shows is one of the file
+fault_read : (file : List ℕ) (place : ℕ) → 0 < place → place < 21 → IsObjectsFault (filled_up 21 (read_of file 0 21)) place → IsObjectsFault file place
+fault_read file place some within (magic wrong) = magic (λ is. wrong (magic_read file is))
+fault_read file place some within (objects wrong) = objects (subst (λ (n : ℕ). IsWithin 1 4096 n → ⊥) (number_read file 9 (omega arith)) wrong)
+fault_read file place some within (cap wrong) = cap (subst (λ (n : ℕ). IsWithin 16 16384 n → ⊥) (number_read file 13 (omega arith)) wrong)
+fault_read file place some within (limit wrong) =
+    limit (subst (λ (q : Params). IsWithin (2 * q.cap + 4096) 536870912 q.limit → ⊥) (params_read file) wrong)
+fault_read file place some within (cut in_range short) = absurd (omega (arith, some))
+fault_read file place some within (slot x s in_range below two is_open) = absurd (omega (arith, within))
+
+pub damaged_read : (file head : List ℕ) (place : ℕ) → head ≡ filled_up 21 (read_of file 0 21) → IsHeaderFault head place → IsDamagedAt file place
+damaged_read file head place is fault =
+    let here : IsHeaderFault (filled_up 21 (read_of file 0 21)) place = subst (λ (l : List ℕ). IsHeaderFault l place) is fault in
+    record {
+      gate = sym (byte_read file 0 (omega arith)) ∙ here.damaged.gate;
+      fault = fault_read file place here.some here.within here.damaged.fault;
+    }
+
+pub shut_read : (file head : List ℕ) → head ≡ filled_up 21 (read_of file 0 21) → IsShutAt 0 head → IsShutAt 0 file
+shut_read file head is shut is_open = shut (ap (λ (l : List ℕ). get_or l 0 0) is ∙ byte_read file 0 (omega arith) ∙ is_open)
+
+-- a number read from the rest of a header
+pub number_slice : (head : List ℕ) (at : ℕ) → length head ≡ 21 → at + 4 ≤ 21 → little_number 4 (take (length head - at) (drop at head)) ≡ number_at 4 at head
+number_slice head at long within = little_from-take 0 4 (length head - at) (drop at head) (omega (arith, long))
+
+-- what the bytes of a header are, from the last number to the first
+header_bytes : (head : List ℕ) → length head ≡ 21 → get_or head 0 0 ≡ 1 → take 8 (drop 1 head) ≡ codes "RDOOBJ01" → ((i : ℕ) → get_or head i 0 < 256) → head ≡ 1 ∷ objects_fields (params_in head)
+header_bytes [] long first name small = absurd (omega arith)
+header_bytes (gate ∷ rest) long first name small =
+    let head : List ℕ = gate ∷ rest in
+    let p = params_in head in
+    let number : (at : ℕ) → at + 4 ≤ 21 → take 4 (drop at head) ≡ little_bytes 4 (number_at 4 at head) =
+    λ at within. sym (little_bytes-little_number 4 (drop at head) (omega (arith, length-drop at head)) (λ i. subst (λ (b : ℕ). b < 256) (sym (get_or-drop at head i 0)) (small (at + i)))) in
+    let last : drop 17 head ≡ little_bytes 4 p.limit = sym (take_all 4 (drop 17 head) (omega (arith, length-drop 17 head))) ∙ number 17 (omega arith) in
+    let middle : drop 13 head ≡ little_bytes 4 p.cap ++ little_bytes 4 p.limit = joined 4 13 head (little_bytes 4 p.cap) (little_bytes 4 p.limit) (number 13 (omega arith)) last in
+    let numbers : drop 9 head ≡ little_bytes 4 p.objects ++ (little_bytes 4 p.cap ++ little_bytes 4 p.limit) =
+    joined 4 9 head (little_bytes 4 p.objects) (little_bytes 4 p.cap ++ little_bytes 4 p.limit) (number 9 (omega arith)) middle in
+    let fields : rest ≡ objects_fields p = joined 8 1 head (codes "RDOOBJ01") (little_bytes 4 p.objects ++ (little_bytes 4 p.cap ++ little_bytes 4 p.limit)) name numbers in
+    λ i. first i ∷ fields i
+  where
+    joined : (n at : ℕ) (l front behind : List ℕ) → take n (drop at l) ≡ front → drop (at + n) l ≡ behind → drop at l ≡ front ++ behind
+    joined n at l front behind is then = sym (take-append-drop n (drop at l)) ∙ ap (λ (x : List ℕ). x ++ drop n (drop at l)) is ∙ ap (λ (x : List ℕ). front ++ x) (drop-drop n at l ∙ then)
+
+pub header_fields : (head : List ℕ) (p : Params) → length head ≡ 21 → get_or head 0 0 ≡ 1 → take 8 (drop 1 head) ≡ codes "RDOOBJ01" → ((i : ℕ) → get_or head i 0 < 256)
+    → p.objects ≡ number_at 4 9 head → p.cap ≡ number_at 4 13 head → p.limit ≡ number_at 4 17 head → head ≡ 1 ∷ objects_fields p
+header_fields head p long first name small first_number second_number third_number =
+    let same : params_in head ≡ p = λ i. record { objects = sym first_number i; cap = sym second_number i; limit = sym third_number i } in
+    header_bytes head long first name small ∙ ap (λ (q : Params). 1 ∷ objects_fields q) same
+
+-- what a test of two lists says
+pub differ : (xs ys : List ℕ) (b : Bool) → b ≡ not (bytes_eq xs ys) → b ≡ true → xs ≢ ys
+differ xs ys b test is same = let equal = (bytes_eq-Decides xs ys).1 same in cc
+
+not_false : (b : Bool) → not b ≡ false → b ≡ true
+not_false true is = refl
+not_false false is = cc
+
+pub agree : (xs ys : List ℕ) (b : Bool) → b ≡ not (bytes_eq xs ys) → b ≡ false → xs ≡ ys
+agree xs ys b test is = (bytes_eq-Decides xs ys).0 (not_false (bytes_eq xs ys) (sym test ∙ is))
+
+-- and a test that failed
+pub fails_test : (P : Type 0) (b : Bool) → IsTrue b ↔ P → b ≡ false → P → ⊥
+fails_test P b test is holds = let here = test.1 holds in cc
+
+-- a header that was read whole, in a file that reaches to the last slot
+pub header_read : (p : Params) (file head : List ℕ) → head ≡ filled_up 21 (read_of file 0 21) → IsInRange p → head ≡ 1 ∷ objects_fields p → last_slot p < length file → HasHeader p file
+header_read p file head is in_range fields within =
+    let none : 21 - length (take 21 file) ≡ 0 = omega (arith, length-take 21 file, within) in
+    record {
+      header = sym (append-nil (take 21 file)) ∙ ap (λ (k : ℕ). take 21 file ++ replicate {A = ℕ} k 0) (sym none) ∙ sym is ∙ fields;
+      in_range = in_range;
+      whole = within;
+    }
+
+-- the file is too short
+pub cut_short : (p : Params) (file head : List ℕ) → head ≡ filled_up 21 (read_of file 0 21) → IsInRange p → head ≡ 1 ∷ objects_fields p → length file ≤ last_slot p → IsDamagedAt file 0
+cut_short p file head is in_range fields short =
+    let same : p ≡ params_in file = sym (params_of_header p head (take_all 21 head (omega (arith, ap length fields, length-objects_fields p)) ∙ fields) in_range) ∙ ap (λ (l : List ℕ). params_in l) is ∙ params_read file in
+    record {
+      gate = sym (byte_read file 0 (omega arith)) ∙ ap (λ (l : List ℕ). get_or l 0 0) (sym is ∙ fields);
+      fault = cut (subst IsInRange same in_range) (subst (λ (q : Params). length file ≤ last_slot q) same short);
+    }
+
+-- the last of all slots, counted through the file
+pub last_gate : (p : Params) → IsInRange p → slot_gate p.cap (2 * p.objects - 1) ≡ last_slot p
+last_gate p in_range = let same : 2 * p.objects - 1 ≡ 2 * (p.objects - 1) + 1 = omega (arith, in_range.some) in ap (λ (k : ℕ). slot_gate p.cap k) same
+
+-- a slot is open
+pub open_slot : (p : Params) (file : List ℕ) (place : ℕ) → HasHeader p file → HasOpenSlot p file place → IsDamagedAt file place
+open_slot p file place head is =
+    let same : p ≡ params_in file = sym (params_of_header p file head.header head.in_range) in
+    let here : HasOpenSlot (params_in file) file place = subst (λ (q : Params). HasOpenSlot q file place) same is in
+    let k = here.slot in
+    let halves : k ≡ 2 * (k / 2) + k % 2 = omega arith in
+    let spot : place ≡ slot_place (number_at 4 13 file) (k / 2) (k % 2) = here.here ∙ ap (λ (j : ℕ). slot_gate (number_at 4 13 file) j) halves in
+    record {
+      gate = sym (get_or-take 21 file 0 0 (omega arith)) ∙ ap (λ (l : List ℕ). get_or l 0 0) head.header;
+      fault = subst (λ (n : ℕ). IsObjectsFault file n) (sym spot)
+          (slot (k / 2) (k % 2) (subst IsInRange same head.in_range) (omega (arith, here.below)) (omega arith) (subst (λ (n : ℕ). IsOpenAt n file) spot here.open_gate));
+    }
+
+-- an open slot, or a fault, that was met behind the header
+pub behind_header : (old mid new : Disk) (p : Params) (e : SlotErr) → Stays old mid → (old.tells_files → HasHeader p (old.reads Objects))
+    → FailsBy (Rises mid.disk_faults new.disk_faults) ⊥ (FailsAt (λ place. mid.tells_files → HasOpenSlot p (mid.reads Objects) place)) e
+    → FailsBy (Rises old.disk_faults new.disk_faults) (old.tells_files → IsShutAt 0 (old.reads Objects)) (FailsAt (λ place. old.tells_files → IsDamagedAt (old.reads Objects) place)) e
+behind_header old mid new p NotAStore stays header fails = absurd fails
+behind_header old mid new p DiskFault stays header fails = λ below. omega (arith, fails below, stays.time.disk_faults)
+behind_header old mid new p (Damaged number place) stays header fails = (
+  fails.0,
+  λ told.
+      let met : HasOpenSlot p (old.reads Objects) place = subst (λ (f : Files). HasOpenSlot p (f Objects) place) (stays.reads told) (fails.1 (stays.time.files_told.0 told)) in
+      open_slot p (old.reads Objects) place (header told) met,
+)
+behind_header old mid new p Memory stays header fails = fails
+
+-- over a whole file, only the disk fails
+pub only_the_disk : (rises told : Type 0) (file : List ℕ) (p : Params) (e : SlotErr) → told → IsObjectsFile p file
+    → FailsBy rises (told → IsShutAt 0 file) (FailsAt (λ place. told → IsDamagedAt file place)) e → IsDiskFault e
+only_the_disk rises told file p NotAStore is_told is fails = absurd (fails is_told (gate_is_open p file is))
+only_the_disk rises told file p DiskFault is_told is fails = refl
+only_the_disk rises told file p (Damaged number place) is_told is fails = absurd (no_fault p file place is (fails.1 is_told).fault)
+only_the_disk rises told file p Memory is_told is fails = absurd fails

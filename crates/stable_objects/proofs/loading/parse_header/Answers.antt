@@ -1,0 +1,80 @@
+use Rattle.std.proofs.Common.{◌∙◌, inl, inr, refl, arith}
+use Rattle.std.proofs.Math.Facts.{Fits-lt-pow}
+use Rattle.formats.specs.Image.{magic, objects, cap, limit}
+use Rattle.formats.specs.declared.params.Params.{Params}
+use Rattle.stable_objects.proofs.Found.{number_slice, header_fields, differ, agree}
+use Rattle.stable_objects.proofs.loading.parse_header.Goals as goal
+
+pub returns-then-ne-clause-cause : goal.returns-then-ne-clause-cause
+returns-then-ne-clause-cause c = rw c.damaged_at.ensures (
+  refl,
+  record {
+    damaged = record { gate = c.if-head-ne-OPEN.false; fault = magic (differ _ _ c.ne.result c.ne.ensures c.if-ne.true) };
+    some = omega arith;
+    within = omega arith;
+  },
+)
+
+pub returns-then-objects-eq0-clause-cause : goal.returns-then-objects-eq0-clause-cause
+returns-then-objects-eq0-clause-cause c =
+    let is = c.read_u32-objects.ensures ∙ number_slice c.args.head.now 9 c.requires (omega arith) in
+    rw c.damaged_at-then-objects-eq0.ensures (
+      refl,
+      record {
+        damaged = record {
+          gate = c.if-head-ne-OPEN.false;
+          fault = objects (λ within. elim c.then-objects-eq0.either [ inl none ↦ omega (arith, is, within.0, none) | inr more ↦ omega (arith, is, within.1, more.1) ]);
+        };
+        some = omega arith;
+        within = omega arith;
+      },
+    )
+
+pub returns-then-cap-lt-MIN_CAP-clause-cause : goal.returns-then-cap-lt-MIN_CAP-clause-cause
+returns-then-cap-lt-MIN_CAP-clause-cause c =
+    let is = c.read_u32-cap.ensures ∙ number_slice c.args.head.now 13 c.requires (omega arith) in
+    rw c.damaged_at-then-cap-lt-MIN_CAP.ensures (
+      refl,
+      record {
+        damaged = record {
+          gate = c.if-head-ne-OPEN.false;
+          fault = cap (λ within. elim c.then-cap-lt-MIN_CAP.either [ inl less ↦ omega (arith, is, within.0, less) | inr more ↦ omega (arith, is, within.1, more.1) ]);
+        };
+        some = omega arith;
+        within = omega arith;
+      },
+    )
+
+pub returns-then-limit-cap-clause-cause : goal.returns-then-limit-cap-clause-cause
+returns-then-limit-cap-clause-cause c =
+    let cap_is = c.read_u32-cap.ensures ∙ number_slice c.args.head.now 13 c.requires (omega arith) in
+    let is = c.read_u32-limit.ensures ∙ number_slice c.args.head.now 17 c.requires (omega arith) in
+    rw c.damaged_at-then-limit-cap.ensures (
+      refl,
+      record {
+        damaged = record {
+          gate = c.if-head-ne-OPEN.false;
+          fault = limit (λ within. elim c.then-limit-cap.either [ inl less ↦ omega (arith, is, cap_is, within.0, less) | inr more ↦ omega (arith, is, within.1, more.1) ]);
+        };
+        some = omega arith;
+        within = omega arith;
+      },
+    )
+
+pub returns-clause-ok : goal.returns-clause-ok
+returns-clause-ok c =
+    let head = c.args.head.now in
+    let p : Params = record { objects = c.read_u32-objects.result; cap = c.read_u32-cap.result; limit = c.read_u32-limit.result } in (
+      record {
+        some = omega (arith, c.if-objects-eq0.false);
+        objects = c.if-objects-gt-MAX_OBJECTS.false;
+        low = c.if-cap-lt-MIN_CAP.false;
+        cap = c.if-cap-gt-MAX_CAP.false;
+        least = c.if-limit-cap.false;
+        limit = c.if-limit-gt-MAX_LIMIT.false;
+      },
+      header_fields head p c.requires c.if-head-ne-OPEN.false (agree _ _ c.ne.result c.ne.ensures c.if-ne.false) (λ i. Fits-lt-pow (c.type_inv.head i))
+          (c.read_u32-objects.ensures ∙ number_slice head 9 c.requires (omega arith))
+          (c.read_u32-cap.ensures ∙ number_slice head 13 c.requires (omega arith))
+          (c.read_u32-limit.ensures ∙ number_slice head 17 c.requires (omega arith)),
+    )

@@ -1,0 +1,97 @@
+-- Laws of the objects file: its header names one store, it begins a store, and it has no fault.
+use Rattle.std.proofs.Common.{◌≡◌, ℕ, List, ◌∷◌, ◌++◌, length, get_or, take, drop, sym, ◌∙◌, ap, subst, arith, append_assoc, length-append, take-append-drop}
+use Rattle.std.specs.Prelude.{codes}
+use Rattle.std.proofs.lemmas.List.{drop-drop, drop_at, take-take, drop-take, get_or-take}
+use Rattle.byteorder.specs.Endian.{little_bytes, little_number}
+use Rattle.oper_core.specs.LittleEndian.{length-little_bytes, little_number-little_bytes}
+use Rattle.formats.specs.Bytes.{number_at, IsOpenAt}
+use Rattle.formats.specs.Objects.{IsInRange, IsObjectsFile, objects_fields}
+use Rattle.formats.specs.Image.{BeginsStore, params_in, IsObjectsFault, magic, objects, cap, limit, cut, slot}
+use Rattle.formats.specs.declared.params.Params.{Params}
+
+-- the fields of a header are 20 bytes
+pub length-objects_fields : (p : Params) → length (objects_fields p) ≡ 20
+length-objects_fields p = omega (
+  arith,
+  length-append (little_bytes 4 p.objects ++ little_bytes 4 p.cap) (little_bytes 4 p.limit),
+  length-append (little_bytes 4 p.objects) (little_bytes 4 p.cap),
+  length-little_bytes 4 p.objects,
+  length-little_bytes 4 p.cap,
+  length-little_bytes 4 p.limit,
+)
+
+-- the numbers of a header stand at their places
+module _ (p : Params) (is : IsInRange p) (rest : List ℕ) where
+  abbrev object_bytes : List ℕ
+  object_bytes = little_bytes 4 p.objects
+
+  abbrev cap_bytes : List ℕ
+  cap_bytes = little_bytes 4 p.cap
+
+  abbrev limit_bytes : List ℕ
+  limit_bytes = little_bytes 4 p.limit
+
+  abbrev whole : List ℕ
+  whole = (1 ∷ objects_fields p) ++ rest
+
+  from_objects : drop 9 whole ≡ object_bytes ++ (cap_bytes ++ (limit_bytes ++ rest))
+  from_objects = append_assoc (object_bytes ++ cap_bytes) limit_bytes rest ∙ append_assoc object_bytes cap_bytes (limit_bytes ++ rest)
+
+  from_cap : drop 13 whole ≡ cap_bytes ++ (limit_bytes ++ rest)
+  from_cap = sym (drop-drop 4 9 whole) ∙ ap (λ (l : List ℕ). drop 4 l) from_objects ∙ drop_at object_bytes (cap_bytes ++ (limit_bytes ++ rest)) 4 (length-little_bytes 4 p.objects)
+
+  from_limit : drop 17 whole ≡ limit_bytes ++ rest
+  from_limit = sym (drop-drop 4 13 whole) ∙ ap (λ (l : List ℕ). drop 4 l) from_cap ∙ drop_at cap_bytes (limit_bytes ++ rest) 4 (length-little_bytes 4 p.cap)
+
+  objects_stand : number_at 4 9 whole ≡ p.objects
+  objects_stand = ap (λ (l : List ℕ). little_number 4 l) from_objects ∙ little_number-little_bytes 4 p.objects (cap_bytes ++ (limit_bytes ++ rest)) (omega (arith, is.objects))
+
+  cap_stands : number_at 4 13 whole ≡ p.cap
+  cap_stands = ap (λ (l : List ℕ). little_number 4 l) from_cap ∙ little_number-little_bytes 4 p.cap (limit_bytes ++ rest) (omega (arith, is.cap))
+
+  limit_stands : number_at 4 17 whole ≡ p.limit
+  limit_stands = ap (λ (l : List ℕ). little_number 4 l) from_limit ∙ little_number-little_bytes 4 p.limit rest (omega (arith, is.limit))
+
+  pub params_stand : params_in ((1 ∷ objects_fields p) ++ rest) ≡ p
+  params_stand = λ i. record { objects = objects_stand i; cap = cap_stands i; limit = limit_stands i }
+
+-- a file with the header of these numbers has these numbers
+pub params_of_header : (p : Params) (file : List ℕ) → take 21 file ≡ 1 ∷ objects_fields p → IsInRange p → params_in file ≡ p
+params_of_header p file header is =
+    let split : file ≡ (1 ∷ objects_fields p) ++ drop 21 file = sym (take-append-drop 21 file) ∙ ap (λ (l : List ℕ). l ++ drop 21 file) header in
+    ap (λ (l : List ℕ). params_in l) split ∙ params_stand p is (drop 21 file)
+
+-- an objects file has its numbers
+pub params_of_file : (p : Params) (file : List ℕ) → IsObjectsFile p file → params_in file ≡ p
+params_of_file p file is = params_of_header p file is.header is.in_range
+
+-- and no others
+pub one_store : (p q : Params) (file : List ℕ) → IsObjectsFile p file → IsObjectsFile q file → p ≡ q
+one_store p q file is also = sym (params_of_file p file is) ∙ params_of_file q file also
+
+-- an objects file begins a store
+pub begins_store : (p : Params) (file : List ℕ) → IsObjectsFile p file → BeginsStore file
+begins_store p file is = sym (take-take 9 21 file (omega arith)) ∙ ap (λ (l : List ℕ). take 9 l) is.header
+
+-- its gate is open
+pub gate_is_open : (p : Params) (file : List ℕ) → IsObjectsFile p file → IsOpenAt 0 file
+gate_is_open p file is = sym (get_or-take 21 file 0 0 (omega arith)) ∙ ap (λ (l : List ℕ). get_or l 0 0) is.header
+
+-- where a store begins, the gate is open and the magic stands behind it
+pub start_is_open : (file : List ℕ) → BeginsStore file → IsOpenAt 0 file
+start_is_open file begins = sym (get_or-take 9 file 0 0 (omega arith)) ∙ ap (λ (l : List ℕ). get_or l 0 0) begins
+
+magic_stands : (file : List ℕ) → BeginsStore file → take 8 (drop 1 file) ≡ codes "RDOOBJ01"
+magic_stands file begins = sym (drop-take 1 8 file) ∙ ap (λ (l : List ℕ). drop 1 l) begins
+
+nowhere : (file : List ℕ) (place : ℕ) → IsObjectsFile (params_in file) file → IsObjectsFault file place → ⊥
+nowhere file place is (magic wrong) = wrong (magic_stands file (begins_store (params_in file) file is))
+nowhere file place is (objects wrong) = wrong (is.in_range.some, is.in_range.objects)
+nowhere file place is (cap wrong) = wrong (is.in_range.low, is.in_range.cap)
+nowhere file place is (limit wrong) = wrong (is.in_range.least, is.in_range.limit)
+nowhere file place is (cut in_range short) = omega (arith, short, is.whole)
+nowhere file place is (slot x s in_range below two open_gate) = is.slots x s below two open_gate
+
+-- an objects file breaks its format nowhere
+pub no_fault : (p : Params) (file : List ℕ) (place : ℕ) → IsObjectsFile p file → IsObjectsFault file place → ⊥
+no_fault p file place is fault = nowhere file place (subst (λ (q : Params). IsObjectsFile q file) (sym (params_of_file p file is)) is) fault

@@ -1,0 +1,63 @@
+-- What a reader of the objects file finds, and why it fails.
+use Rattle.std.specs.Prelude.{◌≡◌, ◌<◌, ◌-◌, ◌*◌, ℕ, List, ◌∷◌, ◌++◌, length, take, replicate}
+use Rattle.disk_model.specs.declared.machine.FileNo.{FileNo}
+use Rattle.disk_model.specs.declared.machine.FileNo.TheVariants.{Objects}
+use Rattle.formats.specs.Bytes.{IsOpenAt}
+use Rattle.formats.specs.Objects.{IsInRange, last_slot, objects_fields}
+use Rattle.formats.specs.Image.{IsObjectsFault}
+use Rattle.formats.specs.declared.params.Params.{Params}
+use Rattle.stable_objects.specs.SlotGates.{slot_gate}
+use Rattle.stable_objects.specs.declared.slot_err.SlotErr.{SlotErr}
+use Rattle.stable_objects.specs.declared.slot_err.SlotErr.TheVariants.{NotAStore, DiskFault, Damaged, Memory}
+
+-- Why loading fails: by a fault of the disk, which then counts it, since the objects gate is closed, or by a fault in
+-- the file. It takes no memory.
+abbrev pub FailsBy : Type 0 → Type 0 → (FileNo → ℕ → Type 0) → SlotErr → Type 0
+FailsBy rises shut fault NotAStore = shut
+FailsBy rises shut fault DiskFault = rises
+FailsBy rises shut fault (Damaged file place) = fault file place
+FailsBy rises shut fault Memory = ⊥
+
+-- a fault in the objects file
+abbrev pub FailsAt : (ℕ → Type 0) → FileNo → ℕ → Type 0
+FailsAt fault file place = (file ≡ Objects) × fault place
+
+-- the disk failed
+abbrev pub IsDiskFault : SlotErr → Type 0
+IsDiskFault e = e ≡ DiskFault
+
+-- the objects gate is open, and the file breaks its format at this place
+pub record IsDamagedAt (file : List ℕ) (place : ℕ) : Type 0 where
+  pub gate : IsOpenAt 0 file
+  pub fault : IsObjectsFault file place
+
+-- the fault is one that the first 21 bytes show
+pub record IsHeaderFault (head : List ℕ) (place : ℕ) : Type 0 where
+  pub damaged : IsDamagedAt head place
+  pub some : 0 < place
+  pub within : place < 21
+
+-- an open gate and the header of these numbers; the file reaches to the last slot's gate
+pub record HasHeader (p : Params) (file : List ℕ) : Type 0 where
+  pub header : take 21 file ≡ 1 ∷ objects_fields p
+  pub in_range : IsInRange p
+  pub whole : last_slot p < length file
+
+-- this is the place of a slot gate, and it is open
+pub record HasOpenSlot (p : Params) (file : List ℕ) (place : ℕ) : Type 0 where
+  pub slot : ℕ
+  pub below : slot < 2 * p.objects
+  pub here : place ≡ slot_gate p.cap slot
+  pub open_gate : IsOpenAt place file
+
+-- n bytes of which these are the first, the others 0
+abbrev pub filled_up : ℕ → List ℕ → List ℕ
+filled_up n bytes = bytes ++ replicate (n - length bytes) 0
+
+-- a call that hands on why another failed
+pub fails_on : (rises rises' shut shut' : Type 0) (fault fault' : FileNo → ℕ → Type 0) (e : SlotErr) → (rises → rises') → (shut → shut') → ((file : FileNo) (place : ℕ) → fault file place → fault' file place)
+    → FailsBy rises shut fault e → FailsBy rises' shut' fault' e
+fails_on rises rises' shut shut' fault fault' NotAStore risen closed there fails = closed fails
+fails_on rises rises' shut shut' fault fault' DiskFault risen closed there fails = risen fails
+fails_on rises rises' shut shut' fault fault' (Damaged file place) risen closed there fails = there file place fails
+fails_on rises rises' shut shut' fault fault' Memory risen closed there fails = fails
