@@ -1,5 +1,5 @@
 // The forced payloads of a log.
-ghost use Rattle.std.specs.Prelude.{◌≡◌, ◌+◌, ◌<◌, ◌≤◌, length, List, ℕ, IfErr, IfOk};
+ghost use Rattle.std.specs.Prelude.{◌≡◌, ◌+◌, ◌<◌, ◌≤◌, ◌^◌, All, length, List, ℕ, IfErr, IfOk};
 ghost use Rattle.disk_model.specs.Disk.{Rises, Stays, read_of};
 ghost use Rattle.formats.specs.Log.{Header, IsWholeLog};
 ghost use Rattle.formats.specs.Image.{IsBlockFault};
@@ -22,6 +22,7 @@ fn read_payload<M: Machine>(
 ) -> Result<Payload, LogErr>
     ensures kept { Stays (M.disk machine.old) (M.disk machine.new) }
     ensures place { IfOk result (λ payload. payload.place ≡ place) }
+    ensures long { IfOk result (λ payload. length payload.bytes ≡ len) }
     ensures bytes { (M.disk machine.old).tells_files → place + len ≤ length ((M.disk machine.old).reads file) → IfOk result (λ payload. payload.bytes ≡ read_of ((M.disk machine.old).reads file) place len) }
     ensures cause { IfErr result (FailsBy (Rises (M.disk machine.old).disk_faults (M.disk machine.new).disk_faults) (λ f p. ⊥)) }
 {
@@ -41,6 +42,7 @@ fn read_payloads<M: Machine>(
     size: u64,
 ) -> Result<Vec<Payload>, LogErr>
     ensures kept { Stays (M.disk machine.old) (M.disk machine.new) }
+    ensures fit { IfOk result (λ found. All (λ payload. payload.place + length payload.bytes < 2 ^ 64) found.items) }
     ensures all { (M.disk machine.old).tells_files → size ≡ length ((M.disk machine.old).reads file) → (header : Header) (payloads : List (List ℕ))
         → IsWholeLog header payloads ((M.disk machine.old).reads file) → IfOk result (λ found. found.items ≡ placed payloads) }
     ensures cause { IfErr result (FailsBy (Rises (M.disk machine.old).disk_faults (M.disk machine.new).disk_faults)
@@ -66,6 +68,7 @@ impl LogFile {
         ensures kept { Stays (M.disk machine.old) (M.disk machine.new) }
         ensures payloads { (M.disk machine.old).tells_files → (payloads : List (List ℕ)) → IsWholeLog self.now.header payloads ((M.disk machine.old).reads self.now.active)
             → IfOk result (λ found. found.items ≡ placed payloads) }
+        ensures fit { IfOk result (λ found. All (λ payload. payload.place + length payload.bytes < 2 ^ 64) found.items) }
         ensures undamaged { (M.disk machine.old).tells_files → (payloads : List (List ℕ)) → IsWholeLog self.now.header payloads ((M.disk machine.old).reads self.now.active)
             → IfErr result (λ e. TellsDamage e → ⊥) }
         ensures cause { IfErr result (FailsBy (Rises (M.disk machine.old).disk_faults (M.disk machine.new).disk_faults)

@@ -1,5 +1,6 @@
-use Rattle.std.proofs.Common.{◌<◌, ◌+◌, ◌∙◌, ℕ, List, ap, subst, sym, arith, Option, length}
-use Rattle.std.specs.Prelude.{IfSome}
+use Rattle.std.proofs.Common.{◌<◌, ◌+◌, ◌^◌, ◌∙◌, ℕ, List, ap, subst, sym, arith, Option, length}
+use Rattle.std.specs.Prelude.{IfSome, All}
+use Rattle.std.proofs.lemmas.List.Elements.{All-push}
 use Rattle.std.proofs.lemmas.Result.{err_from_is_err_and}
 use Rattle.disk_model.specs.Disk.{Files, read_of}
 use Rattle.disk_model.specs.Moments.{stays_here, stays_twice}
@@ -14,6 +15,7 @@ pub loop-found-init : goal.loop-found-init
 loop-found-init g c = record {
   kept = stays_here (g.M.Machine.disk c.args.machine.now) (g.met.M.Machine.lawful c.args.machine.now);
   small = omega arith;
+  fit = subst (λ (l : List Payload). All (λ payload. payload.place + length payload.bytes < 2 ^ 64) l) (sym c.new-found.ensures.items) (λ k d h. absurd (omega arith));
   so_far = λ told size. subst (λ (l : List Payload). Finds ((g.M.Machine.disk c.args.machine.now).reads c.args.file) 33 l) (sym c.new-found.ensures.items) (finds_none ((g.M.Machine.disk c.args.machine.now).reads c.args.file));
 }
 
@@ -31,6 +33,9 @@ loop-found-preserved g c =
     record {
       kept = stays_twice old after new kept c.read_payload.ensures.kept;
       small = omega (arith, within, c.ranges.size);
+      fit = subst (λ (l : List Payload). All (λ payload. payload.place + length payload.bytes < 2 ^ 64) l) (sym c.in_ok-push.ensures.items)
+          (All-push (λ payload. payload.place + length payload.bytes < 2 ^ 64) c.loop-found.found.items c.in_ok-read_payload.field-0 inv.fit
+          (omega (arith, within, c.ranges.size, c.in_ok-read_payload.ensures.place, c.in_ok-read_payload.ensures.long)));
       so_far = λ told size.
           let file = old.reads c.args.file in
           let same = inv.kept.reads told in

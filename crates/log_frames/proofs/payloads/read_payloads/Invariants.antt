@@ -1,4 +1,5 @@
-use Rattle.std.proofs.Common.{◌≡◌, ◌<◌, ◌-◌, ◌^◌, ℕ, List, length}
+use Rattle.std.proofs.Common.{◌≡◌, ◌<◌, ◌+◌, ◌-◌, ◌^◌, ℕ, List, length}
+use Rattle.std.specs.Prelude.{All}
 use Rattle.disk_model.specs.Disk.{Disk, Stays}
 use Rattle.disk_model.specs.declared.machine.FileNo.{FileNo}
 use Rattle.log_frames.specs.declared.payload.Payload.{Payload}
@@ -8,6 +9,7 @@ use Rattle.log_frames.proofs.payloads.read_payloads.Given as goal
 pub record Walks (first now : Disk) (file : FileNo) (size gate : ℕ) (found : List Payload) : Type 0 where
   pub kept : Stays first now
   pub small : gate < 2 ^ 64 - 1
+  pub fit : All (λ payload. payload.place + length payload.bytes < 2 ^ 64) found
   pub so_far : first.tells_files → size ≡ length (first.reads file) → Finds (first.reads file) gate found
 
 abbrev pub invariant-loop-found : goal.invariant-loop-found
