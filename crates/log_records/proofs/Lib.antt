@@ -1,1 +1,3 @@
 pub mod Reading
+mod LoadingLemmas
+mod LoadLemmas

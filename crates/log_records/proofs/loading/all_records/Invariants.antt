@@ -1,0 +1,6 @@
+use Rattle.std.proofs.Common.{take}
+use Rattle.log_records.specs.Loading.{AreGroups}
+use Rattle.log_records.proofs.loading.all_records.Given as goal
+
+abbrev pub invariant-loop-payload : goal.invariant-loop-payload
+invariant-loop-payload g l = AreGroups (g.O.Oper.meaning l.b) l.base (take l.payload-index l.payloads) l.found.items

@@ -1,0 +1,31 @@
+use Rattle.std.proofs.Common.{◌∙◌, ℕ, List, subst}
+use Rattle.std.proofs.lemmas.Result.{err_from_is_err_and}
+use Rattle.log_frames.specs.Laws.{no_block_fault}
+use Rattle.log_frames.specs.Reading.{fails_on, placed}
+use Rattle.log_frames.specs.declared.payload.Payload.{Payload}
+use Rattle.log_records.specs.Loading.{IsBrokenIn}
+use Rattle.log_records.proofs.LoadLemmas.{map_err, record_fault}
+use Rattle.log_records.proofs.loading.stable_records.Goals as goal
+
+pub returns-in_err-payloads-clause-cause : goal.returns-in_err-payloads-clause-cause
+returns-in_err-payloads-clause-cause g c =
+    let old = g.M.Machine.disk c.args.m.now in
+    let log = c.args.log.now in
+    let p = err_from_is_err_and c.from_residual.result c.from_residual.ensures.1 in
+    rw (p.1, p.2) (fails_on _ _ _ _ c.in_err-payloads.field-0.0 (λ risen. risen)
+    (λ f place there. (there.0, λ told payloads whole. absurd (no_block_fault log.header payloads (old.reads log.active) place whole (there.1 told)))) c.in_err-payloads.ensures.cause)
+
+pub returns-clause-cause : goal.returns-clause-cause
+returns-clause-cause g c =
+    let old = g.M.Machine.disk c.args.m.now in
+    let log = c.args.log.now in
+    let m = g.O.Oper.meaning c.args.b in
+    map_err c.all_records.result (λ e fails. fails_on _ _ _ _ e (λ none. absurd none)
+    (λ f place there. (
+      there.0 ∙ c.active.ensures,
+      λ told payloads whole.
+          let items = c.as_slice.ensures.value ∙ c.in_ok-payloads.ensures.payloads told payloads whole in
+          record_fault m log.header payloads (old.reads log.active) place whole
+          (subst (λ (n : ℕ). IsBrokenIn m n (placed payloads) place) c.base.ensures (subst (λ (l : List Payload). IsBrokenIn m c.base.result l place) items there.1)),
+    )) fails)
+    c.all_records.ensures.cause

@@ -1,0 +1,119 @@
+// The log in force, and its counts.
+ghost use Rattle.std.specs.Prelude.{◌≡◌, ◌≤◌, ◌<◌, ◌+◌, ◌^◌, ◌++◌, [], length, OnOk, OnErr, IfErr};
+ghost use Rattle.disk_model.specs.Disk.{Rises, Runs, Same, IsSettled};
+ghost use Rattle.disk_model.specs.declared.machine.FileNo.TheVariants.{LogA, LogB};
+ghost use Rattle.formats.specs.Log.{new_header, IsWholeLog, IsShutLog};
+ghost use Rattle.formats.specs.Records.{record_code, IsRecord, HasNumber};
+ghost use Rattle.log_frames.specs.LogView.{used_of, growth_of};
+ghost use Rattle.log_frames.specs.Creating.{LogsAlone};
+ghost use Rattle.log_records.specs.Codec.{IsEncodable};
+
+use crate::codec::encode;
+use disk_model::Machine;
+use formats::Record;
+use log_frames::{LogErr, LogFile};
+use oper_core::{Bounds, Oper};
+use std::alloc::Global;
+use std::marker::{Model, PhantomData};
+
+/// The log's records in their files, and those that wait for a force.
+#[derive(Drop)]
+pub struct RecordLog<O: Oper> {
+    pub(crate) alloc: Global,
+    pub(crate) bounds: Bounds,
+    pub(crate) log: LogFile,
+    pub(crate) next: u64,
+    pub(crate) accepted: u64,
+    pub(crate) forced: u64,
+    pub(crate) of: PhantomData<O>,
+}
+
+impl<O: Oper> Model for RecordLog<O> {
+    ghost use Rattle.oper_core.specs.Meaning.{IsSmall};
+    ghost use Rattle.log_records.specs.RecordLog.{RecordLogView};
+
+    ghost Value = { RecordLogView };
+
+    ghost view = { λ s. record { bounds = s.bounds; log = s.log; next = s.next; accepted = s.accepted; forced = s.forced } };
+
+    ghost invariant = { λ s. IsSmall s.bounds };
+}
+
+impl<O: Oper> RecordLog<O> {
+    /// The number of the log's first numbered record, or of the next one where it has none.
+    pub fn base(&self) -> u64
+        ensures { result ≡ self.now.log.header.base }
+    {
+        self.log.base()
+    }
+
+    /// The number of the next record.
+    pub fn next(&self) -> u64
+        ensures { result ≡ self.now.next }
+    {
+        self.next
+    }
+
+    /// The log's length, with the block that a force would add.
+    pub fn used(&self) -> u64
+        ensures { result ≡ used_of self.now.log }
+    {
+        self.log.used()
+    }
+
+    /// By how much records of n bytes let the log grow.
+    pub fn growth(&self, n: u64) -> u64
+        requires { n ≤ 2 ^ 62 }
+        ensures { result ≡ growth_of self.now.log.pending n }
+    {
+        self.log.growth(n)
+    }
+
+    /// How many commands were accepted since the store was made.
+    pub fn accepted(&self) -> u64
+        ensures { result ≡ self.now.accepted }
+    {
+        self.accepted
+    }
+
+    /// How many of them are stable.
+    pub fn forced(&self) -> u64
+        ensures { result ≡ self.now.forced }
+    {
+        self.forced
+    }
+
+    /// Makes the log of a new store. A crash at any moment of it leaves the objects as they were.
+    pub fn create<M: Machine>(m: &mut M) -> Result<(), LogErr>
+        ensures runs { Runs LogsAlone Same (M.disk m.old) (M.disk m.new) }
+        ensures made { (M.disk m.old).tells_files → OnOk result (IsWholeLog new_header [] ((M.disk m.new).reads LogA) × IsShutLog ((M.disk m.new).reads LogB)) }
+        ensures settled { IsSettled (M.disk m.old) → OnOk result (IsSettled (M.disk m.new)) }
+        ensures cause { IfErr result (λ e. (e ≡ LogErr.DiskFault) × Rises (M.disk m.old).disk_faults (M.disk m.new).disk_faults) }
+    {
+        LogFile::create(m)
+    }
+
+    /// Adds a record behind those that wait. Without memory nothing changes but the room.
+    pub fn append(&mut self, new: Record<O>) -> Result<(), LogErr>
+        requires number { HasNumber self.old.next new }
+        requires grammar { IsRecord (O.meaning self.old.bounds) new }
+        requires short { length self.old.log.pending + length (record_code (O.meaning self.old.bounds) new) ≤ 2 ^ 30 }
+        requires place { self.old.log.end + 5 + length self.old.log.pending + length (record_code (O.meaning self.old.bounds) new) < 2 ^ 49 }
+        requires count { self.old.accepted < self.old.next }
+        ensures ok { OnOk result (self.new ≡ record self.old {
+          log = record self.old.log { pending = self.old.log.pending ++ record_code (O.meaning self.old.bounds) new; room = self.new.log.room };
+          next = self.old.next + 1;
+          accepted = self.old.accepted + 1;
+        }) }
+        ensures err { OnErr result (self.new ≡ record self.old { log = record self.old.log { room = self.new.log.room } }) }
+        ensures only { IfErr result (λ e. e ≡ LogErr.Memory) }
+    {
+        let mut code = Vec::new(self.alloc);
+        encode(&new, &mut code)?;
+        self.log.make_room(code.len() as u64)?;
+        self.log.push(&code);
+        self.next += 1;
+        self.accepted += 1;
+        Ok(())
+    }
+}
