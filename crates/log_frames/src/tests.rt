@@ -1,24 +1,34 @@
 use crate::{LogErr, LogFile};
 use disk_model::{Crash, FileNo, Fuse, Machine, MemMachine};
-use std::alloc::Global;
+use std::alloc::{AllocError, Global};
 use std::process::Abort;
 use std::test::Fail;
 
 const NEW_LOG: [u8; 34] = *b"\x01RDOLOG01\x01\0\0\0\0\0\0\0\x01\0\0\0\0\0\0\0\0\0\0\0\0\0\0\0\0";
 
-// A settled machine with a new log.
-fn new_store(alloc: Global) -> Result<MemMachine, Fail> {
-    let mut machine = MemMachine::new(alloc);
-    LogFile::create(&mut machine)?;
-    Ok(machine.crash(Crash::New)?)
+fn empty_store(alloc: Global) -> Result<MemMachine, AllocError> {
+    MemMachine::new(alloc, [64, 64, 64], 64, 512, Vec::new(alloc))
 }
 
-// A machine whose logs have these bytes.
-fn store_of(alloc: Global, log_a: &[u8], log_b: &[u8]) -> Result<MemMachine, Fail> {
-    let mut machine = MemMachine::new(alloc);
-    machine.write_at(FileNo::LogA, 0, log_a)?;
+// A settled machine with a new log.
+fn new_store(alloc: Global) -> Result<MemMachine, Fail> {
+    let mut machine = empty_store(alloc)?;
+    LogFile::create(&mut machine)?;
+    Ok(machine.crash(Crash::New))
+}
+
+// How a load fails where log A has these bytes and those behind them.
+fn fault_of(
+    alloc: Global,
+    front: &[u8],
+    behind: &[u8],
+    log_b: &[u8],
+) -> Result<Option<LogErr>, Fail> {
+    let mut machine = empty_store(alloc)?;
+    machine.write_at(FileNo::LogA, 0, front)?;
+    machine.write_at(FileNo::LogA, front.len() as u64, behind)?;
     machine.write_at(FileNo::LogB, 0, log_b)?;
-    Ok(machine)
+    Ok(LogFile::load(alloc, &mut machine).err())
 }
 
 // Makes room for a short payload, and adds it.
@@ -73,10 +83,13 @@ fn a_stopped_force_is_whole_or_absent(rt: HostRuntime) -> Result<(), Fail> {
         (0, Crash::New, 0),
         (1, Crash::Old, 0),
         (1, Crash::New, 0),
+        (1, Crash::Fill(1), 0),
         (2, Crash::Old, 0),
         (2, Crash::New, 0),
         (3, Crash::Old, 0),
         (3, Crash::New, 1),
+        (3, Crash::Fill(1), 1),
+        (3, Crash::Fill(7), 0),
         (4, Crash::Old, 1),
         (4, Crash::New, 1),
     ] {
@@ -86,7 +99,7 @@ fn a_stopped_force_is_whole_or_absent(rt: HostRuntime) -> Result<(), Fail> {
         let mut fuse = Fuse::new(machine, calls);
         let answer = log.force(&mut fuse);
         assert_eq!(rt; answer.is_ok(), calls == 4, "after {calls} calls");
-        let mut left = fuse.into_inner().crash(how)?;
+        let mut left = fuse.into_inner().crash(how);
         let found = LogFile::load(rt.alloc(), &mut left)?.payloads(rt.alloc(), &mut left)?;
         assert_eq!(rt; found.len(), blocks, "after {calls} calls, {how:?}");
     }
@@ -94,74 +107,62 @@ fn a_stopped_force_is_whole_or_absent(rt: HostRuntime) -> Result<(), Fail> {
 }
 
 #[test]
-fn a_changed_byte_is_damage(rt: HostRuntime) -> Result<(), Fail> {
-    for (at, byte, place) in [
-        (0, 0, 0),
-        (1, b'r', 1),
-        (9, 0, 9),
-        (16, 0x80, 9),
-        (17, 0, 17),
-        (24, 0x80, 17),
-        (25, 1, 25),
-        (33, 1, 34),
+fn a_wrong_log_a_is_damaged(rt: HostRuntime) -> Result<(), Fail> {
+    for (at, byte, len, place) in [
+        (0, 0, 34, 0),
+        (1, b'r', 34, 1),
+        (9, 0, 34, 9),
+        (16, 0x80, 34, 9),
+        (17, 0, 34, 17),
+        (24, 0x80, 34, 17),
+        (25, 1, 34, 25),
+        (0, 1, 0, 0),
+        (0, 1, 8, 1),
+        (0, 1, 9, 9),
+        (0, 1, 17, 17),
+        (0, 1, 20, 33),
+        (0, 1, 33, 33),
     ] {
-        let mut machine = store_of(rt.alloc(), &NEW_LOG, &[0])?;
-        machine.write_at(FileNo::LogA, at, &[byte])?;
-        let answer = LogFile::load(rt.alloc(), &mut machine).err();
-        let file = FileNo::LogA;
-        assert_eq!(rt;
-            answer,
-            Some(LogErr::Damaged { file, place }),
-            "{byte} at {at}"
-        );
-    }
-    Ok(())
-}
-
-#[test]
-fn a_cut_file_is_damage(rt: HostRuntime) -> Result<(), Fail> {
-    for (len, place) in [(0, 0), (1, 1), (8, 1), (9, 9), (17, 17), (20, 33), (33, 33)] {
-        let mut machine = store_of(rt.alloc(), &NEW_LOG[..len], &[0])?;
-        let answer = LogFile::load(rt.alloc(), &mut machine).err();
-        let file = FileNo::LogA;
-        assert_eq!(rt;
-            answer,
-            Some(LogErr::Damaged { file, place }),
-            "{len} bytes"
-        );
-    }
-    Ok(())
-}
-
-#[test]
-fn a_block_out_of_range_is_damage(rt: HostRuntime) -> Result<(), Fail> {
-    for behind in [
-        b"\x01\0\0\0\0ab".as_slice(),
-        b"\x01\x02\0\0\0ab".as_slice(),
-        b"\x01\x01\0\0\x40ab".as_slice(),
-    ] {
-        let mut machine = store_of(rt.alloc(), &NEW_LOG, &[0])?;
-        machine.write_at(FileNo::LogA, 33, behind)?;
-        let answer = LogFile::load(rt.alloc(), &mut machine).err();
+        let mut log = NEW_LOG;
+        assert!(rt; at < log.len() && len <= log.len());
+        log[at] = byte;
         let damage = LogErr::Damaged {
             file: FileNo::LogA,
-            place: 34,
+            place,
         };
-        assert_eq!(rt; answer, Some(damage));
+        let fault = fault_of(rt.alloc(), &log[..len], &[], &[0])?;
+        assert_eq!(rt; fault, Some(damage), "{byte} at {at} of {len}");
     }
     Ok(())
 }
 
 #[test]
-fn log_b_must_be_shut(rt: HostRuntime) -> Result<(), Fail> {
-    for log_b in [[].as_slice(), [1].as_slice()] {
-        let mut machine = store_of(rt.alloc(), &NEW_LOG, log_b)?;
-        let answer = LogFile::load(rt.alloc(), &mut machine).err();
-        let damage = LogErr::Damaged {
-            file: FileNo::LogB,
-            place: 0,
-        };
-        assert_eq!(rt; answer, Some(damage));
+fn a_wrong_block_or_log_b_is_damaged(rt: HostRuntime) -> Result<(), Fail> {
+    for (block, log_b, file, place) in [
+        (b"\x01".as_slice(), [0].as_slice(), FileNo::LogA, 34),
+        (
+            b"\x01\0\0\0\0ab".as_slice(),
+            [0].as_slice(),
+            FileNo::LogA,
+            34,
+        ),
+        (
+            b"\x01\x02\0\0\0ab".as_slice(),
+            [0].as_slice(),
+            FileNo::LogA,
+            34,
+        ),
+        (
+            b"\x01\x01\0\0\x40ab".as_slice(),
+            [0].as_slice(),
+            FileNo::LogA,
+            34,
+        ),
+        (b"\x01".as_slice(), [].as_slice(), FileNo::LogB, 0),
+        (b"\x01".as_slice(), [1].as_slice(), FileNo::LogB, 0),
+    ] {
+        let fault = fault_of(rt.alloc(), &NEW_LOG[..33], block, log_b)?;
+        assert_eq!(rt; fault, Some(LogErr::Damaged { file, place }));
     }
     Ok(())
 }
