@@ -59,6 +59,7 @@ fn parse_header(file: FileNo, head: &[u8; HEADER_BYTES]) -> Result<Header, LogEr
 fn read_header<M: Machine>(machine: &mut M, file: FileNo, size: u64) -> Result<Header, LogErr>
     ensures kept { Stays (M.disk machine.old) (M.disk machine.new) }
     ensures inside { IfOk result (λ _. 33 < size) }
+    ensures header { IfOk result (λ h. IsHeader (header_of h)) }
     ensures ok { (M.disk machine.old).tells_files → size ≡ length ((M.disk machine.old).reads file)
         → IfOk result (λ h. IsHeader (header_of h) × (take 33 ((M.disk machine.old).reads file) ≡ header_bytes (header_of h))) }
     ensures cause { IfErr result (FailsBy (Rises (M.disk machine.old).disk_faults (M.disk machine.new).disk_faults)
@@ -98,6 +99,7 @@ impl LogFile {
         ensures read { (M.disk machine.old).tells_files → IfOk result (λ log. (payloads : List (List ℕ))
             × IsWholeLog log.header payloads ((M.disk machine.old).reads LogA) × IsShutLog ((M.disk machine.old).reads LogB)
             × (log.end ≡ end_of payloads) × (log.active ≡ LogA) × (log.pending ≡ [])) }
+        ensures header { IfOk result (λ log. IsHeader log.header) }
         ensures undamaged { (M.disk machine.old).tells_files → (header : Fields) (payloads : List (List ℕ))
             → IsWholeLog header payloads ((M.disk machine.old).reads LogA) → IsShutLog ((M.disk machine.old).reads LogB) → IfErr result (λ e. TellsDamage e → ⊥) }
         ensures cause { IfErr result (FailsBy (Rises (M.disk machine.old).disk_faults (M.disk machine.new).disk_faults)

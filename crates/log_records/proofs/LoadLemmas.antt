@@ -1,7 +1,8 @@
 -- What a loaded log holds, and why a load fails.
 use Rattle.std.proofs.Common.{◌≡◌, ℕ, ◌+◌, ◌-◌, ◌^◌, ◌<◌, List, [], ◌∷◌, ◌++◌, length, map, min, refl, sym, ap, ◌∙◌, subst, arith, append_assoc, length-append, Result, Ok, Err}
-use Rattle.std.specs.Prelude.{IfErr, IfOk}
+use Rattle.std.specs.Prelude.{All, IfErr, IfOk}
 use Rattle.std.proofs.lemmas.List.{append-nil, map-append}
+use Rattle.std.proofs.lemmas.List.Elements.{All-cons, All-nil}
 use Rattle.disk_model.specs.Disk.{Files, Disk, Stays, Rises}
 use Rattle.disk_model.specs.Moments.{stays_settled}
 use Rattle.disk_model.specs.declared.machine.FileNo.{FileNo}
@@ -9,7 +10,7 @@ use Rattle.disk_model.specs.declared.machine.FileNo.TheVariants.{LogA, LogB}
 use Rattle.oper_core.specs.Meaning.{Meaning, IsLawful}
 use Rattle.oper_core.specs.declared.bounds.Bounds.{Bounds}
 use Rattle.formats.specs.Log.{Header, block, blocks, end_of, IsWholeLog, IsShutLog}
-use Rattle.formats.specs.Records.{payload_of, records_of, commands_of, AreRecords, IsRecordLog}
+use Rattle.formats.specs.Records.{payload_of, records_of, commands_of, IsRecord, AreRecords, IsRecordLog}
 use Rattle.formats.specs.Image.{IsRecordFault}
 use Rattle.formats.specs.declared.record.Record.{Record}
 use Rattle.formats.specs.declared.record.Record.TheVariants.{Command}
@@ -85,6 +86,15 @@ module _ {O : Type 0} (m : Meaning O) where
   commands_length : (records : List (Record O)) → length (commands_of records) ≡ length records
   commands_length [] = refl
   commands_length (Command number op ∷ records) = let rest = commands_length records in omega (arith, rest)
+
+  -- numbered records are in the grammar
+  all_in_grammar : (next : ℕ) (records : List (Record O)) → AreRecords m next records → All (IsRecord m) records
+  all_in_grammar next [] are = All-nil (IsRecord m)
+  all_in_grammar next (r ∷ records) are = All-cons (IsRecord m) r records are.0 (all_in_grammar (next + 1) records are.2)
+
+  -- and so are those that were read
+  pub found_in_grammar : (base : ℕ) (payloads : List Payload) (found : List (Record O)) → AreGroups m base payloads found → All (IsRecord m) found
+  found_in_grammar base payloads found so = subst (λ (l : List (Record O)). All (IsRecord m) l) (sym so.records_are) (all_in_grammar base (records_of so.groups) so.numbered)
 
   -- the groups that were read make the file a log of records
   pub groups_log : (header : Header) (ps : List (List ℕ)) (file : List ℕ) (found : List (Record O)) → IsWholeLog header ps file → (so : AreGroups m header.base (placed ps) found) → IsRecordLog m header so.groups file

@@ -1,7 +1,7 @@
 -- What a log of records holds, in its files and in the buffer behind them.
-use Rattle.std.specs.Prelude.{◌≡◌, ◌⊎◌, ℕ, ◌+◌, List, [], ◌++◌, length, map, filter, nat_le}
+use Rattle.std.specs.Prelude.{◌≡◌, ◌⊎◌, ◌<◌, ℕ, ◌+◌, List, [], ◌++◌, length, map, filter, nat_le}
 use Rattle.disk_model.specs.Disk.{Files, Disk, In, IsSettled}
-use Rattle.oper_core.specs.Meaning.{Meaning}
+use Rattle.oper_core.specs.Meaning.{Meaning, IsSmall}
 use Rattle.oper_core.specs.declared.bounds.Bounds.{Bounds}
 use Rattle.disk_model.specs.declared.machine.FileNo.TheVariants.{LogA, LogB}
 use Rattle.formats.specs.Log.{Header, end_of, IsShutLog}
@@ -20,6 +20,11 @@ pub record RecordLogView : Type 0 where
   pub accepted : ℕ
   -- so many of them are stable
   pub forced : ℕ
+
+-- the bounds are small, and fewer commands were accepted than there are numbers before the next
+pub record IsCounted (b : Bounds) (accepted next : ℕ) : Type 0 where
+  pub small : IsSmall b
+  pub count : accepted < next
 
 -- a file is a log of these records
 pub record HoldsRecords {O : Type 0} (m : Meaning O) (header : Header) (records : List (Record O)) (file : List ℕ) : Type 0 where

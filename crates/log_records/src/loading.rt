@@ -1,10 +1,10 @@
 // Reads the records of a log.
-ghost use Rattle.std.specs.Prelude.{◌≡◌, ◌≤◌, ◌<◌, ◌+◌, ◌-◌, ◌^◌, ◌↔◌, ◌++◌, List, ℕ, IsTrue, IfOk, IfSome, IfNone, IfErr, length, min};
+ghost use Rattle.std.specs.Prelude.{◌≡◌, ◌≤◌, ◌<◌, ◌+◌, ◌-◌, ◌^◌, ◌↔◌, ◌++◌, All, List, ℕ, IsTrue, IfOk, IfSome, IfNone, IfErr, length, min};
 ghost use Rattle.disk_model.specs.Disk.{Rises, Stays};
 ghost use Rattle.disk_model.specs.declared.machine.FileNo.TheVariants.{LogA, LogB};
 ghost use Rattle.formats.specs.Log.{Header, IsShutLog, IsWholeLog};
 ghost use Rattle.formats.specs.Image.{IsRecordFault};
-ghost use Rattle.formats.specs.Records.{record_code, HasNumber, IsRecordLog};
+ghost use Rattle.formats.specs.Records.{record_code, HasNumber, IsRecord, IsRecordLog};
 ghost use Rattle.formats.specs.declared.record.Record.{Record};
 ghost use Rattle.log_frames.specs.Reading.{FailsBy, TellsDamage, placed};
 ghost use Rattle.log_records.specs.Codec.{StartsWithRecord};
@@ -121,6 +121,7 @@ pub fn stable_records<O: Oper, M: Machine>(
     ensures kept { Stays (M.disk m.old) (M.disk m.new) }
     ensures read { (M.disk m.old).tells_files → (payloads : List (List ℕ)) → IsWholeLog log.now.header payloads ((M.disk m.old).reads log.now.active)
         → IfOk result (λ found. AreGroups (O.meaning b) log.now.header.base (placed payloads) found.items) }
+    ensures grammar { IfOk result (λ found. All (IsRecord (O.meaning b)) found.items) }
     ensures cause { IfErr result (FailsBy (Rises (M.disk m.old).disk_faults (M.disk m.new).disk_faults)
         (λ file place. (file ≡ log.now.active) × ((M.disk m.old).tells_files → (payloads : List (List ℕ)) → IsWholeLog log.now.header payloads ((M.disk m.old).reads log.now.active)
         → IsRecordFault (O.meaning b) ((M.disk m.old).reads log.now.active) place))) }
@@ -134,6 +135,7 @@ impl<O: Oper> RecordLog<O> {
     pub fn load<M: Machine>(alloc: Global, m: &mut M, b: Bounds) -> Result<RecordLog<O>, LogErr>
         ensures kept { Stays (M.disk m.old) (M.disk m.new) }
         ensures read { (M.disk m.old).tells_files → IfOk result (λ log. IsLoaded (O.meaning b) b (M.disk m.old) (M.disk m.new) log) }
+        ensures bounds { IfOk result (λ log. log.bounds ≡ b) }
         ensures cause { IfErr result (FailsBy (Rises (M.disk m.old).disk_faults (M.disk m.new).disk_faults)
             (λ file place. (M.disk m.old).tells_files → IsLoadFault (O.meaning b) (M.disk m.old).reads file place)) }
         ensures whole { (M.disk m.old).tells_files → (header : Header) (groups : List (List (Record O)))

@@ -29,14 +29,13 @@ pub struct RecordLog<O: Oper> {
 }
 
 impl<O: Oper> Model for RecordLog<O> {
-    ghost use Rattle.oper_core.specs.Meaning.{IsSmall};
-    ghost use Rattle.log_records.specs.RecordLog.{RecordLogView};
+    ghost use Rattle.log_records.specs.RecordLog.{RecordLogView, IsCounted};
 
     ghost Value = { RecordLogView };
 
     ghost view = { λ s. record { bounds = s.bounds; log = s.log; next = s.next; accepted = s.accepted; forced = s.forced } };
 
-    ghost invariant = { λ s. IsSmall s.bounds };
+    ghost invariant = { λ s. IsCounted s.bounds s.accepted s.next };
 }
 
 impl<O: Oper> RecordLog<O> {
@@ -99,7 +98,6 @@ impl<O: Oper> RecordLog<O> {
         requires grammar { IsRecord (O.meaning self.old.bounds) new }
         requires short { length self.old.log.pending + length (record_code (O.meaning self.old.bounds) new) ≤ 2 ^ 30 }
         requires place { self.old.log.end + 5 + length self.old.log.pending + length (record_code (O.meaning self.old.bounds) new) < 2 ^ 49 }
-        requires count { self.old.accepted < self.old.next }
         ensures ok { OnOk result (self.new ≡ record self.old {
           log = record self.old.log { pending = self.old.log.pending ++ record_code (O.meaning self.old.bounds) new; room = self.new.log.room };
           next = self.old.next + 1;

@@ -1,6 +1,7 @@
 // The stable records once more.
-ghost use Rattle.std.specs.Prelude.{◌≡◌, ◌≤◌, List, IfOk, IfErr};
+ghost use Rattle.std.specs.Prelude.{◌≡◌, ◌≤◌, All, List, IfOk, IfErr};
 ghost use Rattle.disk_model.specs.Disk.{Rises, Stays};
+ghost use Rattle.formats.specs.Records.{IsRecord};
 ghost use Rattle.formats.specs.declared.record.Record.{Record};
 ghost use Rattle.log_frames.specs.Reading.{FailsBy, TellsDamage};
 ghost use Rattle.log_records.specs.RecordLog.{Keeps};
@@ -18,6 +19,7 @@ impl<O: Oper> RecordLog<O> {
         ensures kept { Stays (M.disk m.old) (M.disk m.new) }
         ensures records { (M.disk m.old).tells_files → (stable pending : List (Record O)) → Keeps (O.meaning self.now.bounds) (M.disk m.old) self.now stable pending
             → IfOk result (λ found. found.items ≡ stable) }
+        ensures grammar { IfOk result (λ found. All (IsRecord (O.meaning self.now.bounds)) found.items) }
         ensures undamaged { (M.disk m.old).tells_files → (stable pending : List (Record O)) → Keeps (O.meaning self.now.bounds) (M.disk m.old) self.now stable pending
             → IfErr result (λ e. TellsDamage e → ⊥) }
         ensures cause { IfErr result (FailsBy (Rises (M.disk m.old).disk_faults (M.disk m.new).disk_faults) (λ file place. file ≡ self.now.log.active)) }

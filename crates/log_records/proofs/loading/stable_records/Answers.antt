@@ -4,7 +4,7 @@ use Rattle.log_frames.specs.Laws.{no_block_fault}
 use Rattle.log_frames.specs.Reading.{fails_on, placed}
 use Rattle.log_frames.specs.declared.payload.Payload.{Payload}
 use Rattle.log_records.specs.Loading.{IsBrokenIn}
-use Rattle.log_records.proofs.LoadLemmas.{map_err, record_fault}
+use Rattle.log_records.proofs.LoadLemmas.{found_in_grammar, map_ok, map_err, record_fault}
 use Rattle.log_records.proofs.loading.stable_records.Goals as goal
 
 pub returns-in_err-payloads-clause-cause : goal.returns-in_err-payloads-clause-cause
@@ -29,3 +29,7 @@ returns-clause-cause g c =
           (subst (λ (n : ℕ). IsBrokenIn m n (placed payloads) place) c.base.ensures (subst (λ (l : List Payload). IsBrokenIn m c.base.result l place) items there.1)),
     )) fails)
     c.all_records.ensures.cause
+
+pub returns-clause-grammar : goal.returns-clause-grammar
+returns-clause-grammar g c =
+    map_ok c.all_records.result (λ found so. found_in_grammar (g.O.Oper.meaning c.args.b) c.base.result _ found.items so) c.all_records.ensures.whole

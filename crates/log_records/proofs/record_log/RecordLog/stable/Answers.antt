@@ -10,7 +10,7 @@ pub returns-clause-records : goal.returns-clause-records
 returns-clause-records g c = λ told stable pending keeps.
     let d = g.M.Machine.disk c.args.m.now in
     let m = g.O.Oper.meaning c.self.inside.bounds in
-    let lawful = g.met.O.Oper.lawful c.self.inside.bounds c.self.invariant in
+    let lawful = g.met.O.Oper.lawful c.self.inside.bounds c.self.invariant.small in
     let k = subst (λ (v : RecordLogView). Keeps (g.O.Oper.meaning v.bounds) d v stable pending) (sym c.self.view_is) keeps in
     map_ok c.stable_records.result (λ found so. found_stable m lawful d _ stable pending found.items k so)
     (c.stable_records.ensures.read told (map (payload_of m) k.groups) k.file.log)
@@ -19,7 +19,7 @@ pub returns-clause-undamaged : goal.returns-clause-undamaged
 returns-clause-undamaged g c = λ told stable pending keeps.
     let d = g.M.Machine.disk c.args.m.now in
     let m = g.O.Oper.meaning c.self.inside.bounds in
-    let lawful = g.met.O.Oper.lawful c.self.inside.bounds c.self.invariant in
+    let lawful = g.met.O.Oper.lawful c.self.inside.bounds c.self.invariant.small in
     let k = subst (λ (v : RecordLogView). Keeps (g.O.Oper.meaning v.bounds) d v stable pending) (sym c.self.view_is) keeps in
     map_err c.stable_records.result (λ e fails. none_told _ _ e
     (λ f place there. no_record_fault m lawful _ k.groups (d.reads c.self.inside.log.active) place k.file (there.1 told (map (payload_of m) k.groups) k.file.log)) fails)
