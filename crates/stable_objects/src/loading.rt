@@ -106,6 +106,7 @@ impl Slots {
     /// is open, and `DiskFault` where the device fails. It takes no memory, so `Memory` never comes.
     pub fn load<M: Machine>(machine: &mut M) -> Result<Slots, SlotErr>
         ensures kept { Stays (M.disk machine.old) (M.disk machine.new) }
+        ensures in_range { IfOk result (λ s. IsInRange s.params) }
         ensures read { (M.disk machine.old).tells_files → IfOk result (λ s. IsObjectsFile s.params ((M.disk machine.old).reads Objects)) }
         ensures cause { IfErr result (FailsBy (Rises (M.disk machine.old).disk_faults (M.disk machine.new).disk_faults)
             ((M.disk machine.old).tells_files → IsShutAt 0 ((M.disk machine.old).reads Objects))
