@@ -1,0 +1,91 @@
+-- Engine and files that stand for commands, over calls that write nothing.
+use Rattle.std.proofs.Common.{◌≡◌, ◌≤◌, List, ℕ, length, take, sym, ap, ◌∙◌, subst, arith}
+use Rattle.std.proofs.lemmas.List.{take_all}
+use Rattle.disk_model.specs.Disk.{Files, Disk, IsDisk, Runs, Same, IsSettled, LeavesOnly, Rises}
+use Rattle.disk_model.specs.Moments.{started}
+use Rattle.disk_model.specs.declared.machine.FileNo.TheVariants.{Objects, LogB}
+use Rattle.formats.specs.Log.{IsShutLog}
+use Rattle.formats.specs.Objects.{IsObjectsFile}
+use Rattle.formats.specs.Records.{IsRecordLog}
+use Rattle.formats.specs.declared.params.Params.{Params}
+use Rattle.store_engine.specs.Store.{Command, meaning_in, Stands}
+use Rattle.store_engine.specs.Engine.{EngineView, Opens, Carries, Holds, Between, InEachImage}
+
+-- what is true of each image stays so
+pub each_stays : {d new : Disk} {says : List ℕ → List ℕ → Type 0} {P : Files → Type 0} → Runs Same says d new → d.tells_files → InEachImage d P → InEachImage new P
+each_stays {d} {new} {says} {P} run told here = (
+  subst P (sym (run.reads told)) here.0,
+  λ told_new f s left.
+      let told_old = run.time.moments_told.1 told_new in
+      let from = run.crash told_old f s (run.ends.among d.clock new.clock f s run.time.later (omega arith) left) in
+      subst P (sym from.0.2) (here.1 told_old from.0.0 d.said from.0.1),
+)
+
+-- a settled machine stays so
+still_settled : {d new : Disk} {says : List ℕ → List ℕ → Type 0} → Runs Same says d new → d.tells_files → IsSettled d → IsSettled new
+still_settled {d} {new} {says} run told settled file told_new f s left =
+    let told_old = run.time.moments_told.1 told_new in
+    let from = run.crash told_old f s (run.ends.among d.clock new.clock f s run.time.later (omega arith) left) in
+    ap (λ (g : Files). g file) from.0.2 ∙ settled file told_old from.0.0 d.said from.0.1 ∙ sym (ap (λ (g : Files). g file) (run.reads told))
+
+-- the records stay where they are
+carries_stays : {p : Params} {d new : Disk} {engine : EngineView} {commands : List Command} {says : List ℕ → List ℕ → Type 0} → Runs Same says d new → Carries p d engine commands → Carries p new engine commands
+carries_stays {p} {d} {new} {engine} {commands} {says} run c =
+    let k = c.log in
+    let same = sym (run.reads c.told) in
+    record {
+      told = run.time.files_told.0 c.told;
+      params = c.params;
+      stable = c.stable;
+      pending = c.pending;
+      log = record {
+        settled = still_settled run c.told k.settled;
+        groups = k.groups;
+        file = subst (λ (f : Files). IsRecordLog (meaning_in p) engine.log.log.header k.groups (f engine.log.log.active)) same k.file;
+        stable_are = k.stable_are;
+        place = k.place;
+        pending_are = k.pending_are;
+        numbered = k.numbered;
+        next_is = k.next_is;
+        accepted_are = k.accepted_are;
+        forced_are = k.forced_are;
+      };
+      commands_are = c.commands_are;
+      active = c.active;
+      base = c.base;
+      none_before = c.none_before;
+      accepted = c.accepted;
+      forced = c.forced;
+      objects = subst (λ (f : Files). IsObjectsFile p (f Objects)) same c.objects;
+      other = subst (λ (f : Files). IsShutLog (f LogB)) same c.other;
+      values = c.values;
+    }
+
+-- engine and files stand for the same commands after a call that writes no file
+pub holds_stays : {p : Params} {d new : Disk} {engine : EngineView} {commands : List Command} {says : List ℕ → List ℕ → Type 0} → Runs Same says d new → Holds p d engine commands → Holds p new engine commands
+holds_stays {p} {d} {new} {engine} {commands} run holds =
+    let each = each_stays {P = λ (f : Files). Stands p f (take engine.forced commands)} run holds.told (holds.now, holds.images) in
+    record {
+      told = run.time.files_told.0 holds.told;
+      params = holds.params;
+      accepted = holds.accepted;
+      forced = holds.forced;
+      now = each.0;
+      images = each.1;
+      map_is = holds.map_is;
+      carried = carries_stays run holds.carried;
+    }
+
+-- where no call is made, each image stands for what is forced
+pub holds_between : {p : Params} {d : Disk} {engine : EngineView} {commands : List Command} → IsDisk d → Holds p d engine commands → d.tells_moments → LeavesOnly d d (Between p d engine.forced commands)
+holds_between {p} {d} {engine} {commands} lawful holds told = started d (Between p d engine.forced commands) (λ f s left. record {
+  quiet = lawful.said_now told f s left;
+  kept = engine.forced;
+  enough = omega arith;
+  within = holds.forced;
+  stands = holds.images told f s left;
+})
+
+-- a count that rose in a part of a call rose in the call
+pub rises_within : (a b c d : ℕ) → a ≤ b → c ≤ d → Rises b c → Rises a d
+rises_within a b c d before after rises small = omega (arith, before, after, rises (omega (arith, small, after)))

@@ -1,0 +1,67 @@
+-- A run from before the store was opened.
+use Rattle.std.proofs.Common.{◌≡◌, ◌⊎◌, ⊎_elim, ◌++◌, List, ℕ, [], length, ap, ◌∙◌, sym, subst, Bool, Result, Ok, Err, IfOk}
+use Rattle.std.specs.Prelude.{⊤}
+use Rattle.std.proofs.lemmas.List.{append-nil}
+use Rattle.std.specs.List.{flat_map}
+use Rattle.disk_model.specs.Disk.{Disk, Passes, LeavesOnly}
+use Rattle.disk_model.specs.Moments.{runs_on, weaker}
+use Rattle.disk_model.specs.declared.machine.FileNo.{FileNo}
+use Rattle.formats.specs.declared.params.Params.{Params}
+use Rattle.script_lines.specs.Replies.{said_line}
+use Rattle.store_engine.specs.Store.{Command}
+use Rattle.store_engine.specs.Engine.{Between, IsNoDamage}
+use Rattle.redo_shell.specs.Answers.{Moment, SaysAnswers}
+use Rattle.redo_shell.specs.Status.{status_of, status_after}
+use Rattle.store_engine.specs.declared.restart_err.RestartErr.{RestartErr}
+use Rattle.store_engine.specs.declared.restart_err.RestartErr.TheVariants.{Damaged}
+use Rattle.redo_shell.specs.declared.status.Status.{Status}
+use Rattle.redo_shell.specs.declared.status.Status.TheVariants.{Done, DoneWithRefusals}
+use Rattle.redo_shell.specs.declared.stop.Stop.{Stop}
+use Rattle.redo_shell.specs.declared.stop.Stop.TheVariants.{DiskFault, ReadFault, SayFault, Memory, TooLong}
+use Rattle.redo_shell.specs.Run.{IsRun, IsComplete}
+use Rattle.redo_shell.proofs.StoryLemmas.{story_start, told_whole}
+use Rattle.redo_shell.proofs.RunLemmas.{first_moment}
+
+-- while the store is opened, nothing is said
+pub opening_moments : {p : Params} {start mid : Disk} {commands : List Command} (script : List (List ℕ)) → LeavesOnly start mid (Between p start (length commands) commands) → LeavesOnly start mid (Moment p commands script start.said)
+opening_moments {p} {start} {mid} {commands} script opening = weaker start mid (Between p start (length commands) commands) (Moment p commands script start.said) opening (first_moment script)
+
+pub says_nothing : {p : Params} {commands : List Command} (script : List (List ℕ)) {before after : List ℕ} → after ≡ before → SaysAnswers p commands script before after
+says_nothing {p} {commands} script {before} {after} quiet = record { bytes = []; since = quiet ∙ sym (append-nil before); story = (told_whole (λ reply. ⊤) (story_start p commands script)).story }
+
+-- then the script is answered
+pub run_moments : {p : Params} {start mid new : Disk} {commands : List Command} (script : List (List ℕ)) → Passes start mid → mid.said ≡ start.said → LeavesOnly start mid (Between p start (length commands) commands)
+    → IsRun p mid new commands script → start.tells_moments → LeavesOnly start new (Moment p commands script start.said)
+run_moments {p} {start} {mid} {new} {commands} script time quiet opening run told =
+    runs_on start mid new (Moment p commands script start.said) (opening_moments script opening)
+    (subst (λ (s : List ℕ). LeavesOnly mid new (Moment p commands script s)) quiet (run.moments (time.moments_told.0 told)))
+
+pub run_says : {p : Params} {mid new : Disk} {commands : List Command} {script : List (List ℕ)} {before : List ℕ} → mid.said ≡ before → IsRun p mid new commands script → SaysAnswers p commands script before new.said
+run_says {p} {mid} {new} {commands} {script} {before} quiet run = subst (λ (s : List ℕ). SaysAnswers p commands script s new.said) quiet run.says
+
+complete_from : {p : Params} {start mid new : Disk} {commands : List Command} {script : List (List ℕ)} {status : Status} → mid.said ≡ start.said → IsComplete p mid new commands script status → IsComplete p start new commands script status
+complete_from quiet all = record {
+  replies = all.replies;
+  acc = all.acc;
+  answers = all.answers;
+  said_is = all.said_is ∙ ap (λ (l : List ℕ). l ++ flat_map said_line all.replies) quiet;
+  stands = all.stands;
+  refusals = all.refusals;
+}
+
+-- a status that tells of an early end is none of a whole run
+not_early : (stop : Stop) → (status_of stop ≡ Done) ⊎ (status_of stop ≡ DoneWithRefusals) → ⊥
+not_early DiskFault is = ⊎_elim (λ (e : status_of DiskFault ≡ Done). cc) (λ (e : status_of DiskFault ≡ DoneWithRefusals). cc) is
+not_early ReadFault is = ⊎_elim (λ (e : status_of ReadFault ≡ Done). cc) (λ (e : status_of ReadFault ≡ DoneWithRefusals). cc) is
+not_early SayFault is = ⊎_elim (λ (e : status_of SayFault ≡ Done). cc) (λ (e : status_of SayFault ≡ DoneWithRefusals). cc) is
+not_early Memory is = ⊎_elim (λ (e : status_of Memory ≡ Done). cc) (λ (e : status_of Memory ≡ DoneWithRefusals). cc) is
+not_early TooLong is = ⊎_elim (λ (e : status_of TooLong ≡ Done). cc) (λ (e : status_of TooLong ≡ DoneWithRefusals). cc) is
+
+pub run_completes : {p : Params} (start mid new : Disk) {commands : List Command} {script : List (List ℕ)} (outcome : Result Bool Stop) (status : Status) → status ≡ status_after outcome → mid.said ≡ start.said
+    → IfOk outcome (λ refusing. IsComplete p mid new commands script (status_after (Ok refusing))) → (status ≡ Done) ⊎ (status ≡ DoneWithRefusals) → IsComplete p start new commands script status
+run_completes {p} start mid new {commands} {script} (Ok refusing) status is quiet all done = subst (λ (s : Status). IsComplete p start new commands script s) (sym is) (complete_from quiet all)
+run_completes start mid new (Err stop) status is quiet all done = absurd (not_early stop (subst (λ (s : Status). (s ≡ Done) ⊎ (s ≡ DoneWithRefusals)) is done))
+
+-- on files that stand nothing is damaged
+pub no_damage : (error : RestartErr) {file : FileNo} {place : ℕ} → error ≡ Damaged file place → IsNoDamage error → ⊥
+no_damage error is none = subst IsNoDamage is none

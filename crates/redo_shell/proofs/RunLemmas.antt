@@ -1,0 +1,279 @@
+-- How a run's moments go on from line to line.
+use Rattle.std.proofs.Common.{◌≡◌, ◌≢◌, ◌⊎◌, inl, inr, ⊎_elim, ◌≤◌, ◌++◌, ◌||◌, ◌↔◌, List, ℕ, [], ◌∷◌, length, take, append_assoc, refl, ap, ◌∙◌, sym, subst, arith, Bool, true, false, Contains, Result, Ok, Err, IfOk, OnOk, OnErr, IsErr}
+use Rattle.std.specs.Prelude.{⊤}
+use Rattle.std.proofs.lemmas.List.{append-nil, take_all}
+use Rattle.std.proofs.lemmas.List.Folds.{list_any-append}
+use Rattle.std.specs.List.{flat_map, list_any}
+use Rattle.disk_model.specs.Disk.{Files, Disk, IsDisk, Passes, Runs, Same, SaysFront, LeavesOnly}
+use Rattle.disk_model.specs.Moments.{passes_none, first_call, runs_on, weaker}
+use Rattle.formats.specs.declared.params.Params.{Params}
+use Rattle.script_lines.specs.Replies.{Reply, forced, said_line}
+use Rattle.store_engine.specs.Store.{Command, Stands}
+use Rattle.store_engine.specs.Engine.{EngineView, Holds, Kept, Between}
+use Rattle.redo_shell.specs.Replies.{Replies, IsTrueIn, is_refusing}
+use Rattle.redo_shell.specs.Answers.{Moment}
+use Rattle.redo_shell.specs.Status.{status_after}
+use Rattle.redo_shell.specs.declared.status.Status.TheVariants.{DoneWithRefusals}
+use Rattle.redo_shell.specs.declared.stop.Stop.{Stop}
+use Rattle.redo_shell.specs.Run.{IsAnswered, IsPartly, During, LineMoment, Going, IsComplete, IsFound, Answering, IsRun}
+use Rattle.redo_shell.proofs.HoldLemmas.{holds_stays, holds_between}
+use Rattle.redo_shell.proofs.StoryLemmas.{Story, Told, story_start, story_more, story_end, said_more, spoken_more, told_whole, told_partly}
+
+-- the story so far
+story_of : {p : Params} {start now : Disk} {engine : EngineView} {commands : List Command} {script todo : List (List ℕ)} {refusing : Bool}
+    → (g : Going p start now engine commands script todo refusing) → Story p commands script todo g.replies g.acc
+story_of g = record { lines = g.lines; script_is = g.script_is; answers = g.answers }
+
+-- bytes that were told, beside files that stand for enough of what they tell
+moment_of : {p : Params} {commands : List Command} {script : List (List ℕ)} {replies : List Reply} {acc : List Command} (before bytes : List ℕ) (f : Files) (s : List ℕ) (kept : ℕ)
+    → Told p (IsTrueIn p f) commands script replies acc bytes → s ≡ before ++ bytes → length commands ≤ kept → kept ≤ length (commands ++ acc)
+    → Stands p f (take kept (commands ++ acc)) → ((n : ℕ) → Contains replies (forced n) → n ≤ kept) → Moment p commands script before f s
+moment_of {p} {commands} {script} {replies} {acc} before bytes f s kept told since all_before no_more stands acked = record {
+  bytes = bytes;
+  since = since;
+  story = told.story;
+  kept = kept;
+  all_before = all_before;
+  no_more = omega (arith, no_more, ap length told.all);
+  stands = subst (λ (l : List Command). Stands p f (take kept l)) (sym told.all) stands;
+  acked = λ n has. acked n (told.spoken n has);
+}
+
+-- while the engine works, the story is that of the lines before
+between_moment : {p : Params} {start now : Disk} {engine : EngineView} {commands : List Command} {script todo : List (List ℕ)} {refusing : Bool}
+    (g : Going p start now engine commands script todo refusing) → (f : Files) (s : List ℕ) → Between p now engine.forced (commands ++ g.acc) f s → Moment p commands script start.said f s
+between_moment {p} {start} {now} {engine} {commands} {script} g f s b =
+    moment_of start.said (flat_map said_line g.replies) f s b.kept (told_whole (IsTrueIn p f) (story_of g)) (b.quiet ∙ g.said_is) (omega (arith, g.all_before, b.enough)) b.within b.stands
+    (λ n has. omega (arith, g.acked n has, b.enough))
+
+-- while an answer is said, it has begun, or is whole
+during_moment : {p : Params} {start now : Disk} {engine : EngineView} {commands : List Command} {script todo : List (List ℕ)} {refusing : Bool} (line : List ℕ)
+    (g : Going p start now engine commands script (line ∷ todo) refusing) → (f : Files) (s : List ℕ) → During p now engine.forced (commands ++ g.acc) line f s → Moment p commands script start.said f s
+during_moment {p} {start} {now} {engine} {commands} {script} line g f s d =
+    let same : commands ++ g.acc ++ d.added ≡ commands ++ (g.acc ++ d.added) = append_assoc commands g.acc d.added in
+    moment_of start.said (flat_map said_line g.replies ++ take d.count (said_line d.reply)) f s d.kept
+    (told_partly (IsTrueIn p f) line d.reply d.added d.count (story_of g) d.replies d.tied)
+    (d.said_is ∙ ap (λ (l : List ℕ). l ++ take d.count (said_line d.reply)) g.said_is ∙ append_assoc start.said (flat_map said_line g.replies) _)
+    (omega (arith, g.all_before, d.enough))
+    (omega (arith, d.within, ap length same))
+    (subst (λ (l : List Command). Stands p f (take d.kept l)) same d.stands)
+    (λ n has. ⊎_elim (λ (h : Contains g.replies (forced n)). omega (arith, g.acked n h, d.enough)) (λ (h : d.reply ≡ forced n). d.acked n h) (spoken_more g.replies d.reply n has))
+
+line_moment : {p : Params} {start now : Disk} {engine : EngineView} {commands : List Command} {script todo : List (List ℕ)} {refusing : Bool} (line : List ℕ)
+    (g : Going p start now engine commands script (line ∷ todo) refusing) → (f : Files) (s : List ℕ) → LineMoment p now engine.forced (commands ++ g.acc) line f s → Moment p commands script start.said f s
+line_moment line g f s here = ⊎_elim (between_moment g f s) (during_moment line g f s) here
+
+-- the moments of a run, one line further
+moments_more : {p : Params} {start now new : Disk} {engine after : EngineView} {commands : List Command} {script todo : List (List ℕ)} {refusing : Bool} {result : Result Bool Stop} (line : List ℕ)
+    (g : Going p start now engine commands script (line ∷ todo) refusing) → Passes start now → Answering p now new engine after (commands ++ g.acc) line result
+    → start.tells_moments → LeavesOnly start new (Moment p commands script start.said)
+moments_more {p} {start} {now} {new} {engine} {after} {commands} {script} {todo} {refusing} {result} line g time a told =
+    runs_on start now new (Moment p commands script start.said) (g.moments told)
+    (weaker now new (LineMoment p now engine.forced (commands ++ g.acc) line) (Moment p commands script start.said) (a.moments (time.moments_told.0 told)) (line_moment line g))
+
+acked_more : (replies : List Reply) (reply : Reply) (least kept : ℕ) → ((n : ℕ) → Contains replies (forced n) → n ≤ least) → least ≤ kept
+    → ((n : ℕ) → reply ≡ forced n → n ≤ kept) → (n : ℕ) → Contains (replies ++ reply ∷ []) (forced n) → n ≤ kept
+acked_more replies reply least kept before le here n has =
+    ⊎_elim (λ (h : Contains replies (forced n)). omega (arith, before n h, le)) (λ (h : reply ≡ forced n). here n h) (spoken_more replies reply n has)
+
+kind_more : (refusing kind : Bool) (replies : List Reply) (reply : Reply) → refusing ≡ list_any is_refusing replies → kind ≡ is_refusing reply → (refusing || kind) ≡ list_any is_refusing (replies ++ reply ∷ [])
+kind_more refusing kind replies reply before here = grind (arith, before, here, list_any-append is_refusing replies (reply ∷ []))
+
+-- a line was answered: the run is one line further
+pub goes_on : {p : Params} {start now new : Disk} {engine after : EngineView} {commands : List Command} {script todo : List (List ℕ)} {refusing kind : Bool} {result : Result Bool Stop} (line : List ℕ)
+    (g : Going p start now engine commands script (line ∷ todo) refusing) → Passes start now → result ≡ Ok kind → Answering p now new engine after (commands ++ g.acc) line result
+    → Going p start new after commands script todo (refusing || kind)
+goes_on {p} {start} {now} {new} {engine} {after} {commands} {script} {todo} {refusing} {kind} {result} line g time is a =
+    let whole = subst (λ (r : Result Bool Stop). IfOk r (IsAnswered p now new engine after (commands ++ g.acc) line)) is a.whole in
+    let story = story_more line whole.reply whole.added (story_of g) whole.replies in
+    record {
+      lines = story.lines;
+      replies = g.replies ++ whole.reply ∷ [];
+      acc = g.acc ++ whole.added;
+      script_is = story.script_is;
+      said_is = whole.said ∙ ap (λ (l : List ℕ). l ++ said_line whole.reply) g.said_is ∙ append_assoc start.said (flat_map said_line g.replies) (said_line whole.reply)
+          ∙ ap (λ (l : List ℕ). start.said ++ l) (sym (said_more g.replies whole.reply));
+      answers = story.answers;
+      holds = subst (λ (l : List Command). Holds p new after l) (append_assoc commands g.acc whole.added) whole.kept.holds;
+      all_before = omega (arith, g.all_before, whole.kept.rising);
+      acked = acked_more g.replies whole.reply engine.forced after.forced g.acked whole.kept.rising whole.acked;
+      kind = kind_more refusing kind g.replies whole.reply g.kind whole.kind;
+      moments = moments_more line g time a;
+    }
+
+-- the start of a run, of which nothing is said yet
+pub first_moment : {p : Params} {start : Disk} {commands : List Command} (script : List (List ℕ)) → (f : Files) (s : List ℕ) → Between p start (length commands) commands f s → Moment p commands script start.said f s
+first_moment {p} {start} {commands} script f s b =
+    let same : commands ++ [] ≡ commands = append-nil commands in
+    moment_of start.said [] f s b.kept (told_whole (IsTrueIn p f) (story_start p commands script)) (b.quiet ∙ sym (append-nil start.said)) b.enough (omega (arith, b.within, ap length same))
+    (subst (λ (l : List Command). Stands p f (take b.kept l)) (sym same) b.stands)
+    (λ n has. absurd (omega (arith, has.1)))
+
+-- a store is open: nothing is said, and the whole script is still to be answered
+pub opened : {p : Params} {start : Disk} {engine : EngineView} {commands : List Command} (script : List (List ℕ)) → IsDisk start → Holds p start engine commands
+    → engine.forced ≡ length commands → Going p start start engine commands script script false
+opened {p} {start} {engine} {commands} script lawful holds all = record {
+  lines = [];
+  replies = [];
+  acc = [];
+  script_is = refl;
+  said_is = sym (append-nil start.said);
+  answers = refl;
+  holds = subst (λ (l : List Command). Holds p start engine l) (sym (append-nil commands)) holds;
+  all_before = omega (arith, all);
+  acked = λ n has. absurd (omega (arith, has.1));
+  kind = refl;
+  moments = λ told. weaker start start (Between p start engine.forced commands) (Moment p commands script start.said) (holds_between lawful holds told)
+      (λ f s b. first_moment script f s (subst (λ (n : ℕ). Between p start n commands f s) all b));
+}
+
+-- a run that ends between two lines
+pub ends_here : {p : Params} {start now : Disk} {engine : EngineView} {commands : List Command} {script todo : List (List ℕ)} {refusing : Bool}
+    → Going p start now engine commands script todo refusing → IsRun p start now commands script
+ends_here g = record {
+  says = record { bytes = flat_map said_line g.replies; since = g.said_is; story = (told_whole (λ reply. ⊤) (story_of g)).story };
+  moments = g.moments;
+}
+
+-- a run that ends while a line is answered
+pub ends_in_line : {p : Params} {start now new : Disk} {engine after : EngineView} {commands : List Command} {script todo : List (List ℕ)} {refusing : Bool} {result : Result Bool Stop} {stop : Stop} (line : List ℕ)
+    (g : Going p start now engine commands script (line ∷ todo) refusing) → Passes start now → result ≡ Err stop → Answering p now new engine after (commands ++ g.acc) line result → IsRun p start new commands script
+ends_in_line {p} {start} {now} {new} {engine} {after} {commands} {script} {todo} {refusing} {result} {stop} line g time is a = record {
+  says = ⊎_elim
+      (λ (quiet : new.said ≡ now.said). record { bytes = flat_map said_line g.replies; since = quiet ∙ g.said_is; story = (told_whole (λ reply. ⊤) (story_of g)).story })
+      (λ (part : IsPartly p now.said (commands ++ g.acc) line new.said). record {
+        bytes = flat_map said_line g.replies ++ take part.count (said_line part.reply);
+        since = part.said_is ∙ ap (λ (l : List ℕ). l ++ take part.count (said_line part.reply)) g.said_is ∙ append_assoc start.said (flat_map said_line g.replies) _;
+        story = (told_partly (λ reply. ⊤) line part.reply part.added part.count (story_of g) part.replies tt).story;
+      })
+      (subst (λ (r : Result Bool Stop). OnErr r ((new.said ≡ now.said) ⊎ IsPartly p now.said (commands ++ g.acc) line new.said)) is a.partly);
+  moments = moments_more line g time a;
+}
+
+-- a run that ends in the last force
+pub ends_in_force : {p : Params} {start now new : Disk} {engine : EngineView} {commands : List Command} {script todo : List (List ℕ)} {refusing : Bool}
+    (g : Going p start now engine commands script todo refusing) → Passes start now → new.said ≡ now.said
+    → (now.tells_moments → LeavesOnly now new (Between p now engine.forced (commands ++ g.acc))) → IsRun p start new commands script
+ends_in_force {p} {start} {now} {new} {engine} {commands} {script} g time quiet moments = record {
+  says = record { bytes = flat_map said_line g.replies; since = quiet ∙ g.said_is; story = (told_whole (λ reply. ⊤) (story_of g)).story };
+  moments = λ told. runs_on start now new (Moment p commands script start.said) (g.moments told)
+      (weaker now new (Between p now engine.forced (commands ++ g.acc)) (Moment p commands script start.said) (moments (time.moments_told.0 told)) (between_moment g));
+}
+
+tells : (refusing any : Bool) → refusing ≡ any → (status_after (Ok refusing) ≡ DoneWithRefusals) ↔ (any ≡ true)
+tells true any is = (λ e. sym is, λ e. refl)
+tells false any is = (λ e. cc, λ e. cc (e, is))
+
+-- the end of a whole run
+pub completes : {p : Params} {start now new : Disk} {engine after : EngineView} {commands : List Command} {script todo : List (List ℕ)} {refusing : Bool}
+    (g : Going p start now engine commands script todo refusing) → todo ≡ [] → new.said ≡ now.said → after.forced ≡ length (commands ++ g.acc) → Holds p new after (commands ++ g.acc)
+    → IsComplete p start new commands script (status_after (Ok refusing))
+completes {p} {start} {now} {new} {engine} {after} {commands} {script} {todo} {refusing} g none quiet all holds =
+    let whole : take after.forced (commands ++ g.acc) ≡ commands ++ g.acc = take_all after.forced (commands ++ g.acc) (omega (arith, all)) in
+    record {
+      replies = g.replies;
+      acc = g.acc;
+      answers = story_end (story_of g) none;
+      said_is = quiet ∙ g.said_is;
+      stands = (
+        subst (λ (l : List Command). Stands p new.reads l) whole holds.now,
+        λ told f s left. subst (λ (l : List Command). Stands p f l) whole (holds.images told f s left),
+      );
+      refusals = tells refusing (list_any is_refusing g.replies) g.kind;
+    }
+
+pub goes_to : {p : Params} {start now : Disk} {engine : EngineView} {commands : List Command} {script todo : List (List ℕ)} {refusing : Bool} (line : List ℕ) (rest : List (List ℕ))
+    → Going p start now engine commands script todo refusing → todo ≡ line ∷ rest → Going p start now engine commands script (line ∷ rest) refusing
+goes_to {p} {start} {now} {engine} {commands} {script} {todo} {refusing} line rest g is = subst (λ (l : List (List ℕ)). Going p start now engine commands script l refusing) is g
+
+-- the moments while the answer is found and said
+found_moments : {p : Params} {old mid new : Disk} {before after : EngineView} {commands : List Command} {line : List ℕ} {reply : Reply}
+    → (old.tells_moments → LeavesOnly old mid (Between p old before.forced commands)) → Passes old mid → IsFound p old mid before after commands line reply
+    → Runs Same (SaysFront (said_line reply)) mid new → old.tells_moments → LeavesOnly old new (LineMoment p old before.forced commands line)
+found_moments {p} {old} {mid} {new} {before} {after} {commands} {line} {reply} moments time found say told =
+    runs_on old mid new (LineMoment p old before.forced commands line)
+    (weaker old mid (Between p old before.forced commands) (LineMoment p old before.forced commands line) (moments told) (λ f s b. inl b))
+    (first_call mid new (LineMoment p old before.forced commands line) told_now say.time during)
+  where
+    told_now : mid.tells_moments
+    told_now = time.moments_told.0 told
+
+    during : (f : Files) (s : List ℕ) → new.left_since mid.clock f s → LineMoment p old before.forced commands line f s
+    during f s left =
+        let from = say.crash told_now f s left in
+        inr (record {
+          reply = reply;
+          added = found.added;
+          replies = found.replies;
+          tied = subst (λ (x : Files). IsTrueIn p x reply) (sym from.0.2) (found.tied.1 told_now from.0.0 mid.said from.0.1);
+          count = from.1.0;
+          said_is = from.1.2 ∙ ap (λ (l : List ℕ). l ++ take from.1.0 (said_line reply)) found.quiet;
+          kept = after.forced;
+          enough = found.kept.rising;
+          within = found.kept.holds.forced;
+          stands = subst (λ (x : Files). Stands p x (take after.forced (commands ++ found.added))) (sym from.0.2) (found.kept.holds.images told_now from.0.0 mid.said from.0.1);
+          acked = found.acked;
+        })
+
+-- the answer that was found has been said, or a beginning of it
+pub found_said : {p : Params} {old mid new : Disk} {before after : EngineView} {commands : List Command} {line : List ℕ} {reply : Reply} (result : Result Bool Stop)
+    → (old.tells_moments → LeavesOnly old mid (Between p old before.forced commands)) → Passes old mid → IsFound p old mid before after commands line reply
+    → Runs Same (SaysFront (said_line reply)) mid new → (mid.tells_files → OnOk result (new.said ≡ mid.said ++ said_line reply)) → IfOk result (λ kind. kind ≡ is_refusing reply)
+    → Answering p old new before after commands line result
+found_said {reply = reply} (Ok kind) moments time found say all is = record {
+  whole = record {
+    reply = reply;
+    added = found.added;
+    replies = found.replies;
+    said = all found.kept.holds.told ∙ ap (λ (l : List ℕ). l ++ said_line reply) found.quiet;
+    kept = record { holds = holds_stays say found.kept.holds; rising = found.kept.rising };
+    acked = found.acked;
+    kind = is;
+  };
+  partly = tt;
+  moments = found_moments moments time found say;
+}
+found_said {reply = reply} (Err stop) moments time found say all is = record {
+  whole = tt;
+  partly = let front = say.said found.kept.holds.told in
+      inr (record {
+        reply = reply;
+        added = found.added;
+        replies = found.replies;
+        count = front.0;
+        said_is = front.2 ∙ ap (λ (l : List ℕ). l ++ take front.0 (said_line reply)) found.quiet;
+      });
+  moments = found_moments moments time found say;
+}
+
+-- nothing was said of the answer
+pub stops_before : {p : Params} {old new : Disk} {before after : EngineView} {commands : List Command} {line : List ℕ} (result : Result Bool Stop) → IsErr result
+    → (old.tells_moments → LeavesOnly old new (Between p old before.forced commands)) → new.said ≡ old.said → Answering p old new before after commands line result
+stops_before (Ok kind) is moments quiet = absurd (cc is)
+stops_before {p} {old} {new} {before} {after} {commands} {line} (Err stop) is moments quiet = record {
+  whole = tt;
+  partly = inl quiet;
+  moments = λ told. weaker old new (Between p old before.forced commands) (LineMoment p old before.forced commands line) (moments told) (λ f s b. inl b);
+}
+
+-- what is answered without a call
+pub found_at_once : {p : Params} {d : Disk} {engine : EngineView} {commands : List Command} {line : List ℕ} (reply : Reply) → Holds p d engine commands
+    → Replies p commands line reply [] → ((f : Files) → IsTrueIn p f reply) → ((n : ℕ) → reply ≢ forced n) → IsFound p d d engine engine commands line reply
+found_at_once {p} {d} {engine} {commands} reply holds replies tied other = record {
+  added = [];
+  replies = replies;
+  quiet = refl;
+  kept = record { holds = subst (λ (l : List Command). Holds p d engine l) (sym (append-nil commands)) holds; rising = omega arith };
+  tied = (tied d.reads, λ told f s left. tied f);
+  acked = λ n is. absurd (other n is);
+}
+
+-- it is said where it is found
+pub said_at_once : {p : Params} {d new : Disk} {engine : EngineView} {commands : List Command} {line : List ℕ} {reply : Reply} (result : Result Bool Stop)
+    → IsDisk d → IsFound p d d engine engine commands line reply → Holds p d engine commands
+    → Runs Same (SaysFront (said_line reply)) d new → (d.tells_files → OnOk result (new.said ≡ d.said ++ said_line reply)) → IfOk result (λ kind. kind ≡ is_refusing reply)
+    → Answering p d new engine engine commands line result
+said_at_once {d = d} result lawful found holds say all is = found_said result (holds_between lawful holds) (passes_none d) found say all is
+
+pub kept_nil : {p : Params} {d : Disk} {before engine : EngineView} {commands : List Command} → Kept p before d engine commands → Kept p before d engine (commands ++ [])
+kept_nil {p} {d} {before} {engine} {commands} kept = subst (λ (l : List Command). Kept p before d engine l) (sym (append-nil commands)) kept

@@ -1,0 +1,23 @@
+-- Words ask one thing.
+use Rattle.std.proofs.Common.{◌≡◌, List, ℕ, [], get_or, ap, sym, ◌∙◌, subst, arith}
+use Rattle.std.proofs.lemmas.Fmt.{decimal_injective}
+use Rattle.std.specs.Fmt.{decimal}
+use Rattle.formats.specs.declared.params.Params.{Params}
+use Rattle.script_lines.specs.Words.{Asks}
+use Rattle.script_lines.specs.declared.words.Asked.{Asked}
+use Rattle.script_lines.specs.declared.words.Asked.TheVariants.{Init}
+
+same_params : (words : List (List ℕ)) (p q : Params) → Asks words (Init p) → Asks words (Init q) → p ≡ q
+same_params words p q one two =
+    let same = sym one.text ∙ two.text in
+    let a : decimal p.objects ≡ decimal q.objects = ap (λ (l : List (List ℕ)). get_or l 2 []) same in
+    let b : decimal p.cap ≡ decimal q.cap = ap (λ (l : List (List ℕ)). get_or l 3 []) same in
+    let c : decimal p.limit ≡ decimal q.limit = ap (λ (l : List (List ℕ)). get_or l 4 []) same in
+    let x = decimal_injective p.objects q.objects (omega (arith, one.allowed.objects)) (omega (arith, two.allowed.objects)) a in
+    let y = decimal_injective p.cap q.cap (omega (arith, one.allowed.cap)) (omega (arith, two.allowed.cap)) b in
+    let z = decimal_injective p.limit q.limit (omega (arith, one.allowed.limit)) (omega (arith, two.allowed.limit)) c in
+    λ i. record { objects = x i; cap = y i; limit = z i }
+
+-- the words that were read ask for a store with these numbers, and no others
+pub only_params : (words : List (List ℕ)) (asked : Asked) (read params : Params) → asked ≡ Init read → Asks words asked → Asks words (Init params) → read ≡ params
+only_params words asked read params is some asks = same_params words read params (subst (λ (a : Asked). Asks words a) is some) asks

@@ -1,0 +1,80 @@
+use Rattle.std.proofs.Common.{◌++◌, List, ℕ, [], false, refl, sym, subst, arith}
+use Rattle.std.proofs.lemmas.Result.{IfOk-from_err}
+use Rattle.disk_model.specs.Moments.{passes_none, passes_twice}
+use Rattle.script_lines.specs.Grammar.{lines_of}
+use Rattle.script_lines.specs.Reading.{IsLine, Takes}
+use Rattle.redo_shell.specs.Run.{Going}
+use Rattle.redo_shell.proofs.RunLemmas.{opened, goes_to, goes_on, ends_here, ends_in_line, ends_in_force, completes}
+use Rattle.redo_shell.proofs.ScriptLemmas.{takes_on, next_line, ended, too_much, line_stops, line_not_long}
+use Rattle.redo_shell.proofs.script.answer_script.Goals as goal
+
+pub returns-in_err-lines-clause-answers : goal.returns-in_err-lines-clause-answers
+returns-in_err-lines-clause-answers g c = λ p commands holds all told.
+    ends_here (opened (lines_of (g.S.Source.left c.args.input.now)) (g.met.M.Machine.lawful c.args.machine.now) holds all)
+
+pub loop-lines-init : goal.loop-lines-init
+loop-lines-init g c = record {
+  told = λ told. told;
+  time = passes_none (g.M.Machine.disk c.args.machine.now);
+  going = λ p commands holds all told.
+      subst (λ (l : List ℕ). Going p (g.M.Machine.disk c.args.machine.now) (g.M.Machine.disk c.args.machine.now) c.args.engine.now commands (lines_of (g.S.Source.left c.args.input.now)) (lines_of (l ++ g.S.Source.left c.args.input.now)) false)
+      (sym c.in_ok-lines.ensures.0) (opened (lines_of (g.S.Source.left c.args.input.now)) (g.met.M.Machine.lawful c.args.machine.now) holds all);
+  reads = omega arith;
+  takes = λ told. record { bytes = []; front = refl; count = omega (arith, c.in_ok-lines.ensures.1) };
+}
+
+pub returns-in_err-next-clause-answers : goal.returns-in_err-next-clause-answers
+returns-in_err-next-clause-answers g c = λ p commands holds all told. ends_here (c.loop-lines.invariant.going p commands holds all told)
+
+pub returns-in_err-next-clause-too_long : goal.returns-in_err-next-clause-too_long
+returns-in_err-next-clause-too_long g c = λ told long.
+    let all = takes_on (c.loop-lines.invariant.takes told) (c.next.ensures.takes (c.loop-lines.invariant.told told)) in
+    let full = c.in_err-next.ensures.long (cc (too_much c.from_residual-in_err-next.result c.in_err-next.field-0.0 c.from_residual-in_err-next.ensures.1 long)) in
+    subst (λ (n : ℕ). Takes (g.S.Source.left c.args.input.now) (g.S.Source.left c.next.new.input) 0 n) full all
+
+pub returns-in_err-refusing-in_default : goal.returns-in_err-refusing-in_default
+returns-in_err-refusing-in_default g c = record {
+  time = passes_twice (g.M.Machine.disk c.args.machine.now) (g.M.Machine.disk c.loop-lines.machine) (g.M.Machine.disk c.answer_next.new.machine) (g.met.M.Machine.lawful c.answer_next.new.machine) c.loop-lines.invariant.time c.answer_next.ensures.time;
+  answers = λ p commands holds all told.
+      let so_far = c.loop-lines.invariant.going p commands holds all told in
+      let l = next_line c.in_ok-next.next _ _ _ (c.in_ok-next.ensures.next (c.loop-lines.invariant.told told)) c.in_default.not-End in
+      let here = goes_to l.0 _ so_far l.2 in
+      let is_line = subst (λ (s : List ℕ). IsLine c.in_ok-next.next s l.0) (sym c.line.ensures) l.1 in
+      ends_in_line l.0 here c.loop-lines.invariant.time c.in_err-refusing-in_default.was (c.answer_next.ensures.answers p (commands ++ here.acc) l.0 is_line here.holds);
+  complete = λ p commands holds all told. IfOk-from_err c.from_residual-in_err-refusing-in_default.result _ c.from_residual-in_err-refusing-in_default.ensures.0;
+  cause = line_stops c.from_residual-in_err-refusing-in_default.result c.answer_next.result c.in_err-refusing-in_default.field-0.0 (g.M.Machine.disk c.args.machine.now) (g.M.Machine.disk c.loop-lines.machine) (g.M.Machine.disk c.answer_next.new.machine)
+      (g.S.Source.faults c.args.input.now) (g.S.Source.faults c.next.new.input) c.from_residual-in_err-refusing-in_default.ensures.1 c.in_err-refusing-in_default.was c.loop-lines.invariant.time c.answer_next.ensures.cause;
+  too_long = λ told long. absurd (line_not_long c.from_residual-in_err-refusing-in_default.result c.answer_next.result c.in_err-refusing-in_default.field-0.0 (g.M.Machine.disk c.loop-lines.machine) (g.M.Machine.disk c.answer_next.new.machine)
+      c.from_residual-in_err-refusing-in_default.ensures.1 c.in_err-refusing-in_default.was c.answer_next.ensures.cause long);
+}
+
+pub loop-lines-preserved : goal.loop-lines-preserved
+loop-lines-preserved g c = record {
+  told = λ told. c.next.ensures.told (c.loop-lines.invariant.told told);
+  time = passes_twice (g.M.Machine.disk c.args.machine.now) (g.M.Machine.disk c.loop-lines.machine) (g.M.Machine.disk c.answer_next.new.machine) (g.met.M.Machine.lawful c.answer_next.new.machine) c.loop-lines.invariant.time c.answer_next.ensures.time;
+  going = λ p commands holds all told.
+      let so_far = c.loop-lines.invariant.going p commands holds all told in
+      let l = next_line c.in_ok-next.next _ _ _ (c.in_ok-next.ensures.next (c.loop-lines.invariant.told told)) c.in_default.not-End in
+      let here = goes_to l.0 _ so_far l.2 in
+      let is_line = subst (λ (s : List ℕ). IsLine c.in_ok-next.next s l.0) (sym c.line.ensures) l.1 in
+      goes_on l.0 here c.loop-lines.invariant.time c.in_ok-refusing-in_default.was (c.answer_next.ensures.answers p (commands ++ here.acc) l.0 is_line here.holds);
+  reads = omega (arith, c.loop-lines.invariant.reads, c.next.ensures.later);
+  takes = λ told. takes_on (c.loop-lines.invariant.takes told) (c.next.ensures.takes (c.loop-lines.invariant.told told));
+}
+
+pub returns-in_err-force-clause-answers : goal.returns-in_err-force-clause-answers
+returns-in_err-force-clause-answers g c = λ p commands holds all told.
+    let so_far = c.loop-lines.invariant.going p commands holds all told in
+    ends_in_force so_far c.loop-lines.invariant.time (c.force.ensures.quiet so_far.holds.told) (c.force.ensures.moments p (commands ++ so_far.acc) so_far.holds)
+
+pub returns-clause-answers : goal.returns-clause-answers
+returns-clause-answers g c = λ p commands holds all told.
+    let so_far = c.loop-lines.invariant.going p commands holds all told in
+    ends_in_force so_far c.loop-lines.invariant.time (c.force.ensures.quiet so_far.holds.told) (c.force.ensures.moments p (commands ++ so_far.acc) so_far.holds)
+
+pub returns-clause-complete : goal.returns-clause-complete
+returns-clause-complete g c = λ p commands holds all told.
+    let so_far = c.loop-lines.invariant.going p commands holds all told in
+    let over = ended c.in_ok-next.next _ _ _ (c.in_ok-next.ensures.next (c.loop-lines.invariant.told told)) c.in-End.is in
+    let forced = c.in_ok-force.ensures.ok p (commands ++ so_far.acc) so_far.holds in
+    completes so_far over (c.force.ensures.quiet so_far.holds.told) forced.1 forced.2.holds

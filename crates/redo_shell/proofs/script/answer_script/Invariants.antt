@@ -1,0 +1,22 @@
+use Rattle.std.proofs.Common.{◌≡◌, ◌≤◌, ◌++◌, List, length}
+use Rattle.disk_model.specs.Disk.{Passes}
+use Rattle.formats.specs.declared.params.Params.{Params}
+use Rattle.script_lines.specs.Grammar.{lines_of}
+use Rattle.script_lines.specs.Reading.{Takes, still_to_give}
+use Rattle.store_engine.specs.Store.{Command}
+use Rattle.store_engine.specs.Engine.{Holds}
+use Rattle.redo_shell.specs.Run.{Going}
+use Rattle.redo_shell.proofs.script.answer_script.Given as goal
+
+abbrev pub invariant-loop-lines : goal.invariant-loop-lines
+invariant-loop-lines g l = record {
+  told : g.S.Source.tells l.fn.input → g.S.Source.tells l.input;
+  time : Passes (g.M.Machine.disk l.fn.machine) (g.M.Machine.disk l.machine);
+  going : (p : Params) (commands : List Command) → Holds p (g.M.Machine.disk l.fn.machine) l.fn.engine commands → l.fn.engine.forced ≡ length commands → g.S.Source.tells l.fn.input →
+      Going p (g.M.Machine.disk l.fn.machine) (g.M.Machine.disk l.machine) l.engine commands (lines_of (g.S.Source.left l.fn.input)) (lines_of (l.lines.ahead ++ g.S.Source.left l.input)) l.refusing;
+  reads : g.S.Source.faults l.fn.input ≤ g.S.Source.faults l.input;
+  takes : g.S.Source.tells l.fn.input → Takes (g.S.Source.left l.fn.input) (g.S.Source.left l.input) 0 l.lines.taken;
+}
+
+abbrev pub decreases-loop-lines : goal.decreases-loop-lines
+decreases-loop-lines g l = still_to_give l.lines

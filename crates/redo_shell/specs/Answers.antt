@@ -1,0 +1,59 @@
+-- What is said while a script is answered, and what the files stand for meanwhile.
+use Rattle.std.specs.Prelude.{◌≡◌, ⊤, ℕ, ◌≤◌, ◌⊎◌, ◌++◌, List, [], ◌∷◌, length, take, Contains}
+use Rattle.std.specs.List.{flat_map}
+use Rattle.disk_model.specs.Disk.{Files}
+use Rattle.formats.specs.declared.params.Params.{Params}
+use Rattle.script_lines.specs.Replies.{Reply, forced, text_of, said_line}
+use Rattle.store_engine.specs.Store.{Command, Stands}
+use Rattle.redo_shell.specs.Replies.{Replies, IsTrueIn}
+
+-- The lines get these answers, one after the other, and add these commands.
+abbrev pub Answers : Params → List Command → List (List ℕ) → List Reply → List Command → Type 0
+Answers p commands [] [] acc = acc ≡ []
+Answers p commands (line ∷ lines) (reply ∷ replies) acc =
+    (added : List Command) × (more : List Command) × Replies p commands line reply added
+    × Answers p (commands ++ added) lines replies more × (acc ≡ added ++ more)
+Answers p commands [] (reply ∷ replies) acc = ⊥
+Answers p commands (line ∷ lines) [] acc = ⊥
+
+-- an answer to the first of these lines has begun, and adds these commands
+pub record Begun (p : Params) (tie : Reply → Type 0) (commands : List Command) (lines : List (List ℕ)) (part : List ℕ) (added : List Command) : Type 0 where
+  pub line : List ℕ
+  pub rest : List (List ℕ)
+  pub reply : Reply
+  pub count : ℕ
+  pub next : lines ≡ line ∷ rest
+  pub replies : Replies p commands line reply added
+  pub begun : part ≡ take count (text_of reply)
+  pub tied : tie reply
+
+-- Bytes said in answer to a script: the whole answers to its first lines, and perhaps the beginning of the next.
+pub record Said (p : Params) (tie : Reply → Type 0) (commands : List Command) (script : List (List ℕ)) (said : List ℕ) : Type 0 where
+  pub lines : List (List ℕ)
+  pub todo : List (List ℕ)
+  pub replies : List Reply
+  pub acc : List Command
+  pub part : List ℕ
+  pub added : List Command
+  pub script_is : script ≡ lines ++ todo
+  pub said_is : said ≡ flat_map said_line replies ++ part
+  pub answers : Answers p commands lines replies acc
+  pub work : ((part ≡ []) × (added ≡ [])) ⊎ Begun p tie (commands ++ acc) todo part added
+
+-- What a crash may leave beside these bytes: files that stand for the commands and for a beginning of those that
+-- the script has added, no shorter than any `forced` that was said.
+pub record Moment (p : Params) (commands : List Command) (script : List (List ℕ)) (before : List ℕ) (files : Files) (said : List ℕ) : Type 0 where
+  pub bytes : List ℕ
+  pub since : said ≡ before ++ bytes
+  pub story : Said p (IsTrueIn p files) commands script bytes
+  pub kept : ℕ
+  pub all_before : length commands ≤ kept
+  pub no_more : kept ≤ length (commands ++ story.acc ++ story.added)
+  pub stands : Stands p files (take kept (commands ++ story.acc ++ story.added))
+  pub acked : (n : ℕ) → Contains story.replies (forced n) → n ≤ kept
+
+-- between these, what was said is answers to the lines of a script, one after the other
+pub record SaysAnswers (p : Params) (commands : List Command) (script : List (List ℕ)) (before after : List ℕ) : Type 0 where
+  pub bytes : List ℕ
+  pub since : after ≡ before ++ bytes
+  pub story : Said p (λ reply. ⊤) commands script bytes

@@ -1,0 +1,5 @@
+pub mod Replies
+pub mod Answers
+pub mod Status
+pub mod Notices
+pub mod Run

@@ -1,0 +1,31 @@
+-- What the program says besides answers: one line before it ends.
+use Rattle.std.specs.Prelude.{ℕ, List, [], ◌∷◌, ◌++◌, codes}
+use Rattle.std.specs.Fmt.{decimal}
+use Rattle.disk_model.specs.declared.machine.FileNo.{FileNo}
+use Rattle.disk_model.specs.declared.machine.FileNo.TheVariants.{Objects, LogA, LogB}
+
+-- a text and a newline
+abbrev pub with_newline : List ℕ → List ℕ
+with_newline text = text ++ 10 ∷ []
+
+-- the files are no store
+abbrev pub not_a_store : List ℕ
+not_a_store = with_newline (codes "not a store")
+
+-- there is a store already
+abbrev pub already_a_store : List ℕ
+already_a_store = with_newline (codes "already a store")
+
+-- the words ask nothing
+abbrev pub usage : List ℕ
+usage = with_newline (codes "usage: redo init N CAP LIMIT | run | dump | demo --seed S --steps T")
+
+-- the name of a file
+abbrev pub name_of_file : FileNo → List ℕ
+name_of_file Objects = codes "objects"
+name_of_file LogA = codes "log_a"
+name_of_file LogB = codes "log_b"
+
+-- a file breaks its format at a place
+abbrev pub damaged : FileNo → ℕ → List ℕ
+damaged file place = with_newline (codes "damaged " ++ name_of_file file ++ 32 ∷ decimal place)

@@ -1,0 +1,41 @@
+-- When a line gets an answer, as a plain map would answer it.
+use Rattle.std.specs.Prelude.{◌≡◌, ℕ, ◌+◌, ◌^◌, ◌<◌, ◌≤◌, ◌⊎◌, ⊤, Bool, true, false, List, [], ◌∷◌, length, None, Some}
+use Rattle.oper_core.specs.declared.refusal.Refusal.TheVariants.{NoObject}
+use Rattle.disk_model.specs.Disk.{Files}
+use Rattle.formats.specs.Image.{EndsAt, NextIs}
+use Rattle.formats.specs.declared.params.Params.{Params}
+use Rattle.script_lines.specs.Grammar.{IsPut, IsGet, IsForce, IsBad}
+use Rattle.script_lines.specs.Replies.{Reply, ok, value, forced, bad, refused, full, end}
+use Rattle.store_engine.specs.Store.{Command, meaning_in, state_of, refusal_after, record_length}
+
+-- the line asks for this command
+abbrev pub AsksCommand : List ℕ → Command → Type 0
+AsksCommand line op = IsPut line op.object op.value
+
+-- the line gets this answer after the commands, and adds these
+abbrev pub Replies : Params → List Command → List ℕ → Reply → List Command → Type 0
+Replies p commands line ok added = (op : Command) × AsksCommand line op × (refusal_after p commands op ≡ None) × (added ≡ op ∷ [])
+Replies p commands line (value bytes) added = (object : ℕ) × IsGet line object × (object < p.objects) × (bytes ≡ state_of p commands object) × (added ≡ [])
+Replies p commands line (forced n) added = IsForce line × (n ≡ length commands) × (added ≡ [])
+Replies p commands line bad added = IsBad line × (added ≡ [])
+Replies p commands line (refused why) added =
+    (((op : Command) × AsksCommand line op × (refusal_after p commands op ≡ Some why))
+    ⊎ ((object : ℕ) × IsGet line object × (p.objects ≤ object) × (why ≡ NoObject))) × (added ≡ [])
+Replies p commands line (full used need limit) added =
+    ((op : Command) × AsksCommand line op × (refusal_after p commands op ≡ None) × (need ≡ record_length p op + 5))
+    × (limit ≡ p.limit) × (limit < used + need) × (added ≡ [])
+Replies p commands line (end number) added =
+    ((op : Command) × AsksCommand line op × (refusal_after p commands op ≡ None)) × (number ≡ 2 ^ 62) × (added ≡ [])
+
+-- what an answer says of each image of its moment
+abbrev pub IsTrueIn : Params → Files → Reply → Type 0
+IsTrueIn p files (full used need limit) = EndsAt files used
+IsTrueIn p files (end number) = NextIs (meaning_in p) files number
+IsTrueIn p files reply = ⊤
+
+-- an answer that the status tells of
+abbrev pub is_refusing : Reply → Bool
+is_refusing ok = false
+is_refusing (value bytes) = false
+is_refusing (forced n) = false
+is_refusing reply = true

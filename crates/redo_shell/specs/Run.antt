@@ -1,0 +1,110 @@
+-- One line's answer, and a whole run.
+use Rattle.std.specs.Prelude.{◌≡◌, ℕ, ◌≤◌, ◌⊎◌, ◌↔◌, ⊤, ◌++◌, List, length, take, Contains, Bool, true, Result, IfOk, OnErr}
+use Rattle.std.specs.List.{flat_map, list_any}
+use Rattle.disk_model.specs.Disk.{Files, Disk, LeavesOnly, Rises}
+use Rattle.formats.specs.declared.params.Params.{Params}
+use Rattle.script_lines.specs.Replies.{Reply, forced, said_line}
+use Rattle.store_engine.specs.Store.{Command, Stands}
+use Rattle.store_engine.specs.Engine.{EngineView, Holds, Kept, Between, InEachImage}
+use Rattle.redo_shell.specs.Replies.{Replies, IsTrueIn, is_refusing}
+use Rattle.redo_shell.specs.Answers.{Answers, Moment, SaysAnswers}
+use Rattle.redo_shell.specs.declared.status.Status.{Status}
+use Rattle.redo_shell.specs.declared.status.Status.TheVariants.{DoneWithRefusals}
+use Rattle.redo_shell.specs.declared.stop.Stop.{Stop}
+use Rattle.redo_shell.specs.declared.stop.Stop.TheVariants.{DiskFault, ReadFault, SayFault, Memory, TooLong}
+
+-- a line was answered
+pub record IsAnswered (p : Params) (old new : Disk) (before after : EngineView) (commands : List Command) (line : List ℕ) (refusing : Bool) : Type 0 where
+  pub reply : Reply
+  pub added : List Command
+  pub replies : Replies p commands line reply added
+  pub said : new.said ≡ old.said ++ said_line reply
+  pub kept : Kept p before new after (commands ++ added)
+  pub acked : (n : ℕ) → reply ≡ forced n → n ≤ after.forced
+  pub kind : refusing ≡ is_refusing reply
+
+-- the bytes said while a line is answered: a beginning of its answer
+pub record IsPartly (p : Params) (old : List ℕ) (commands : List Command) (line : List ℕ) (new : List ℕ) : Type 0 where
+  pub reply : Reply
+  pub added : List Command
+  pub replies : Replies p commands line reply added
+  pub count : ℕ
+  pub said_is : new ≡ old ++ take count (said_line reply)
+
+-- a moment while an answer is said
+pub record During (p : Params) (old : Disk) (least : ℕ) (commands : List Command) (line : List ℕ) (files : Files) (said : List ℕ) : Type 0 where
+  pub reply : Reply
+  pub added : List Command
+  pub replies : Replies p commands line reply added
+  pub tied : IsTrueIn p files reply
+  pub count : ℕ
+  pub said_is : said ≡ old.said ++ take count (said_line reply)
+  pub kept : ℕ
+  pub enough : least ≤ kept
+  pub within : kept ≤ length (commands ++ added)
+  pub stands : Stands p files (take kept (commands ++ added))
+  pub acked : (n : ℕ) → reply ≡ forced n → n ≤ kept
+
+-- a moment while a line is answered
+abbrev pub LineMoment : Params → Disk → ℕ → List Command → List ℕ → Files → List ℕ → Type 0
+LineMoment p old least commands line files said =
+    Between p old least commands files said ⊎ During p old least commands line files said
+
+-- a run so far, from a start with these commands: the answers to the lines that were taken
+pub record Going (p : Params) (start now : Disk) (engine : EngineView) (commands : List Command) (script todo : List (List ℕ)) (refusing : Bool) : Type 0 where
+  pub lines : List (List ℕ)
+  pub replies : List Reply
+  pub acc : List Command
+  pub script_is : script ≡ lines ++ todo
+  pub said_is : now.said ≡ start.said ++ flat_map said_line replies
+  pub answers : Answers p commands lines replies acc
+  pub holds : Holds p now engine (commands ++ acc)
+  pub all_before : length commands ≤ engine.forced
+  pub acked : (n : ℕ) → Contains replies (forced n) → n ≤ engine.forced
+  pub kind : refusing ≡ list_any is_refusing replies
+  pub moments : start.tells_moments → LeavesOnly start now (Moment p commands script start.said)
+
+-- a whole run: each line is answered, the files stand for all that was added, and the status tells of refusals
+pub record IsComplete (p : Params) (start now : Disk) (commands : List Command) (script : List (List ℕ)) (status : Status) : Type 0 where
+  pub replies : List Reply
+  pub acc : List Command
+  pub answers : Answers p commands script replies acc
+  pub said_is : now.said ≡ start.said ++ flat_map said_line replies
+  pub stands : InEachImage now (λ files. Stands p files (commands ++ acc))
+  pub refusals : (status ≡ DoneWithRefusals) ↔ (list_any is_refusing replies ≡ true)
+
+-- the answer to a line is found and not said yet: what it adds is done, and it is true in each image
+pub record IsFound (p : Params) (old now : Disk) (before after : EngineView) (commands : List Command) (line : List ℕ) (reply : Reply) : Type 0 where
+  pub added : List Command
+  pub replies : Replies p commands line reply added
+  pub quiet : now.said ≡ old.said
+  pub kept : Kept p before now after (commands ++ added)
+  pub tied : InEachImage now (λ files. IsTrueIn p files reply)
+  pub acked : (n : ℕ) → reply ≡ forced n → n ≤ after.forced
+
+-- what ends a run while a line is answered has its cause
+abbrev pub IsCaused : Stop → Disk → Disk → Type 0
+IsCaused DiskFault old new = Rises old.disk_faults new.disk_faults
+IsCaused SayFault old new = Rises old.say_faults new.say_faults
+IsCaused ReadFault old new = ⊥
+IsCaused Memory old new = ⊤
+IsCaused TooLong old new = ⊥
+
+-- what ends a run early has its cause
+abbrev pub IsStopped : Stop → Disk → Disk → ℕ → ℕ → Type 0
+IsStopped DiskFault old new reads_before reads_now = Rises old.disk_faults new.disk_faults
+IsStopped ReadFault old new reads_before reads_now = Rises reads_before reads_now
+IsStopped SayFault old new reads_before reads_now = Rises old.say_faults new.say_faults
+IsStopped Memory old new reads_before reads_now = ⊤
+IsStopped TooLong old new reads_before reads_now = ⊤
+
+-- a line was answered, or a beginning of its answer was said, or nothing
+pub record Answering (p : Params) (old new : Disk) (before after : EngineView) (commands : List Command) (line : List ℕ) (result : Result Bool Stop) : Type 0 where
+  pub whole : IfOk result (IsAnswered p old new before after commands line)
+  pub partly : OnErr result ((new.said ≡ old.said) ⊎ IsPartly p old.said commands line new.said)
+  pub moments : old.tells_moments → LeavesOnly old new (LineMoment p old before.forced commands line)
+
+-- a script was answered, or a beginning of it
+pub record IsRun (p : Params) (start now : Disk) (commands : List Command) (script : List (List ℕ)) : Type 0 where
+  pub says : SaysAnswers p commands script start.said now.said
+  pub moments : start.tells_moments → LeavesOnly start now (Moment p commands script start.said)

@@ -1,0 +1,68 @@
+// A line is answered.
+ghost use Rattle.std.specs.Prelude.{List, ℕ, IfErr};
+ghost use Rattle.disk_model.specs.Disk.{Passes};
+ghost use Rattle.formats.specs.declared.params.Params.{Params};
+ghost use Rattle.script_lines.specs.Reading.{IsLine};
+ghost use Rattle.store_engine.specs.Store.{Command};
+ghost use Rattle.store_engine.specs.Engine.{Holds};
+ghost use Rattle.redo_shell.specs.Run.{Answering, IsCaused};
+
+use crate::answers::{force_answer, get_answer, put_answer};
+use crate::say::say_answer;
+use crate::stop::Stop;
+use disk_model::Machine;
+use op_meaning::Put;
+use oper_core::ByteList;
+use script_lines::{Answer, Line, Next, hex_bytes, parse_line};
+use std::alloc::Global;
+use store_engine::Engine;
+
+/// Answers a line. It tells whether the answer is a refusal. Fails where the disk or the output does, and by want of
+/// memory.
+fn answer_line<M: Machine>(
+    alloc: Global,
+    engine: &mut Engine,
+    machine: &mut M,
+    line: &[u8],
+) -> Result<bool, Stop>
+    ensures time { Passes (M.disk machine.old) (M.disk machine.new) }
+    ensures answers { (p : Params) (commands : List Command) → Holds p (M.disk machine.old) engine.old commands →
+        Answering p (M.disk machine.old) (M.disk machine.new) engine.old engine.new commands line.now result }
+    ensures cause { IfErr result (λ stop. IsCaused stop (M.disk machine.old) (M.disk machine.new)) }
+{
+    let Ok(asked) = parse_line(line) else {
+        return say_answer(alloc, machine, &Answer::Bad);
+    };
+    match asked {
+        Line::Put { object, hex } => {
+            let value = ByteList::new(hex_bytes(alloc, hex)?);
+            let answer = put_answer(engine, machine, Put::new(object, value))?;
+            say_answer(alloc, machine, &answer)
+        }
+        Line::Get { object } => say_answer(alloc, machine, &get_answer(engine, object)),
+        Line::Force => {
+            let answer = force_answer(engine, machine)?;
+            say_answer(alloc, machine, &answer)
+        }
+    }
+}
+
+/// Answers the line that a reader has found, whose bytes are these where it is not too long.
+pub fn answer_next<M: Machine>(
+    alloc: Global,
+    engine: &mut Engine,
+    machine: &mut M,
+    next: Next,
+    bytes: &[u8],
+) -> Result<bool, Stop>
+    ensures time { Passes (M.disk machine.old) (M.disk machine.new) }
+    ensures answers { (p : Params) (commands : List Command) (line : List ℕ) → IsLine next bytes.now line → Holds p (M.disk machine.old) engine.old commands →
+        Answering p (M.disk machine.old) (M.disk machine.new) engine.old engine.new commands line result }
+    ensures cause { IfErr result (λ stop. IsCaused stop (M.disk machine.old) (M.disk machine.new)) }
+{
+    match next {
+        Next::Line => answer_line(alloc, engine, machine, bytes),
+        Next::Long => say_answer(alloc, machine, &Answer::Bad),
+        Next::End => Ok(false),
+    }
+}

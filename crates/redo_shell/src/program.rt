@@ -1,0 +1,85 @@
+// The program.
+ghost use Rattle.std.specs.Prelude.{◌≡◌, ◌≢◌, ◌^◌, ◌⊎◌, ◌++◌, [], List, ℕ, map, string_bytes};
+ghost use Rattle.disk_model.specs.Disk.{Rises, Passes, LeavesOnly, IsSettled};
+ghost use Rattle.disk_model.specs.declared.machine.FileNo.{FileNo};
+ghost use Rattle.disk_model.specs.declared.machine.FileNo.TheVariants.{Objects};
+ghost use Rattle.formats.specs.Bytes.{IsShutAt};
+ghost use Rattle.formats.specs.Image.{BeginsStore, IsDamaged};
+ghost use Rattle.formats.specs.declared.params.Params.{Params};
+ghost use Rattle.op_meaning.specs.Put.{put_meaning};
+ghost use Rattle.script_lines.specs.Grammar.{lines_of};
+ghost use Rattle.script_lines.specs.Reading.{Takes};
+ghost use Rattle.script_lines.specs.Words.{Asks};
+ghost use Rattle.script_lines.specs.declared.words.Asked.{Asked};
+ghost use Rattle.script_lines.specs.declared.words.Asked.TheVariants.{Init, Run};
+ghost use Rattle.store_engine.specs.Store.{Command, Stands};
+ghost use Rattle.store_engine.specs.Engine.{Opens, InEachImage, IsNew};
+ghost use Rattle.redo_shell.specs.Answers.{Moment, SaysAnswers};
+ghost use Rattle.redo_shell.specs.Notices.{not_a_store, already_a_store, damaged, usage};
+ghost use Rattle.redo_shell.specs.Run.{IsComplete};
+ghost use Rattle.redo_shell.specs.Status.{IsOfRun, IsOfInit};
+
+use crate::init::init;
+use crate::run::run;
+use crate::say::end_with;
+use crate::status::Status;
+use disk_model::{Machine, Source};
+use script_lines::{Asked, read_words};
+use std::alloc::Global;
+
+/// What is said where the words ask nothing.
+const USAGE: &[u8] = b"usage: redo init N CAP LIMIT | run | dump | demo --seed S --steps T\n";
+
+/// The program: does what the words ask, the program's name first, with the files of the machine, its output, and the
+/// script that the source gives.
+pub fn top<M: Machine, S: Source>(
+    alloc: Global,
+    words: &[String],
+    machine: &mut M,
+    input: &mut S,
+) -> Status
+    ensures time { Passes (M.disk machine.old) (M.disk machine.new) }
+    // `run`, on files that stand for commands: whatever a crash at any moment leaves stands for these and a beginning of
+    // those that the script has added, no shorter than any number that was said to be forced, and what was said is the
+    // answers to the script's lines.
+    ensures run_moments { (p : Params) (commands : List Command) → Asks (map string_bytes words.now) Run → Opens p (M.disk machine.old) commands →
+        S.tells input.old → (M.disk machine.old).tells_moments →
+        LeavesOnly (M.disk machine.old) (M.disk machine.new) (Moment p commands (lines_of (S.left input.old)) (M.disk machine.old).said) }
+    // What was said is the answers to the script's lines, one after the other, whatever the status.
+    ensures run_answers { (p : Params) (commands : List Command) → Asks (map string_bytes words.now) Run → Opens p (M.disk machine.old) commands →
+        S.tells input.old → SaysAnswers p commands (lines_of (S.left input.old)) (M.disk machine.old).said (M.disk machine.new).said }
+    // With status 0 or 1 the whole script is answered, and the files stand for all of it.
+    ensures run_complete { (p : Params) (commands : List Command) → Asks (map string_bytes words.now) Run → Opens p (M.disk machine.old) commands →
+        S.tells input.old → (result ≡ Status.Done) ⊎ (result ≡ Status.DoneWithRefusals) →
+        IsComplete p (M.disk machine.old) (M.disk machine.new) commands (lines_of (S.left input.old)) result }
+    ensures run_store { (p : Params) (commands : List Command) → Asks (map string_bytes words.now) Run → Opens p (M.disk machine.old) commands →
+        (result ≢ Status.NotAStore) × (result ≢ Status.Damaged) }
+    ensures run_status { Asks (map string_bytes words.now) Run → IsOfRun result }
+    // `init` leaves files that stand for no commands.
+    ensures init_done { (params : Params) → Asks (map string_bytes words.now) (Init params) → (M.disk machine.old).tells_files → IsSettled (M.disk machine.old) →
+        result ≡ Status.Done → InEachImage (M.disk machine.new) (λ files. Stands params files []) }
+    // At each moment of it there is no store, or one without commands, and nothing is said.
+    ensures init_moments { (params : Params) → Asks (map string_bytes words.now) (Init params) → (M.disk machine.old).tells_moments → IsSettled (M.disk machine.old) →
+        (BeginsStore ((M.disk machine.old).reads Objects) → ⊥) →
+        LeavesOnly (M.disk machine.old) (M.disk machine.new) (λ files said. IsNew params files × (said ≡ (M.disk machine.old).said)) }
+    ensures init_status { (params : Params) → Asks (map string_bytes words.now) (Init params) → IsOfInit result }
+    ensures usage { result ≡ Status.Usage → (asked : Asked) → Asks (map string_bytes words.now) asked → ⊥ }
+    ensures usage_said { (M.disk machine.old).tells_files → result ≡ Status.Usage → (M.disk machine.new).said ≡ (M.disk machine.old).said ++ usage }
+    ensures usage_status { ((asked : Asked) → Asks (map string_bytes words.now) asked → ⊥) → (result ≡ Status.Usage) ⊎ (result ≡ Status.SayFault) }
+    ensures no_store { (M.disk machine.old).tells_files → result ≡ Status.NotAStore → IsShutAt 0 ((M.disk machine.old).reads Objects)
+        × ((M.disk machine.new).said ≡ (M.disk machine.old).said ++ not_a_store) }
+    ensures damaged { (M.disk machine.old).tells_files → result ≡ Status.Damaged → (file : FileNo) × (place : ℕ)
+        × IsDamaged put_meaning (M.disk machine.old).reads file place × ((M.disk machine.new).said ≡ (M.disk machine.old).said ++ damaged file place) }
+    ensures already { (M.disk machine.old).tells_files → result ≡ Status.AlreadyStore → BeginsStore ((M.disk machine.old).reads Objects)
+        × ((M.disk machine.new).reads ≡ (M.disk machine.old).reads) × ((M.disk machine.new).said ≡ (M.disk machine.old).said ++ already_a_store) }
+    ensures disk_fault { result ≡ Status.DiskFault → Rises (M.disk machine.old).disk_faults (M.disk machine.new).disk_faults }
+    ensures read_fault { result ≡ Status.ReadFault → Rises (S.faults input.old) (S.faults input.new) }
+    ensures say_fault { result ≡ Status.SayFault → Rises (M.disk machine.old).say_faults (M.disk machine.new).say_faults }
+    ensures too_long { S.tells input.old → result ≡ Status.TooLong → Takes (S.left input.old) (S.left input.new) 0 (2 ^ 40) }
+{
+    match read_words(words) {
+        Some(Asked::Run) => run(alloc, machine, input),
+        Some(Asked::Init(params)) => init(machine, params),
+        None => end_with(machine, USAGE, Status::Usage),
+    }
+}

@@ -1,0 +1,44 @@
+// A script is answered, line by line.
+ghost use Rattle.std.specs.Prelude.{◌≡◌, ◌^◌, List, ℕ, length, Ok, IfOk, IfErr, IsErrOf};
+ghost use Rattle.disk_model.specs.Disk.{Passes};
+ghost use Rattle.formats.specs.declared.params.Params.{Params};
+ghost use Rattle.script_lines.specs.Grammar.{lines_of};
+ghost use Rattle.script_lines.specs.Reading.{Takes};
+ghost use Rattle.store_engine.specs.Store.{Command};
+ghost use Rattle.store_engine.specs.Engine.{Holds};
+ghost use Rattle.redo_shell.specs.Status.{status_after};
+ghost use Rattle.redo_shell.specs.Run.{IsRun, IsComplete, IsStopped};
+
+use crate::line::answer_next;
+use crate::stop::Stop;
+use disk_model::{Machine, Source};
+use script_lines::{LineReader, Next};
+use std::alloc::Global;
+use store_engine::Engine;
+
+/// Answers the lines of a script, and forces the log at its end. It tells whether some answer was a refusal.
+pub fn answer_script<M: Machine, S: Source>(
+    alloc: Global,
+    engine: &mut Engine,
+    machine: &mut M,
+    input: &mut S,
+) -> Result<bool, Stop>
+    ensures time { Passes (M.disk machine.old) (M.disk machine.new) }
+    ensures answers { (p : Params) (commands : List Command) → Holds p (M.disk machine.old) engine.old commands → engine.old.forced ≡ length commands → S.tells input.old →
+        IsRun p (M.disk machine.old) (M.disk machine.new) commands (lines_of (S.left input.old)) }
+    ensures complete { (p : Params) (commands : List Command) → Holds p (M.disk machine.old) engine.old commands → engine.old.forced ≡ length commands → S.tells input.old →
+        IfOk result (λ refusing. IsComplete p (M.disk machine.old) (M.disk machine.new) commands (lines_of (S.left input.old)) (status_after (Ok refusing))) }
+    ensures cause { IfErr result (λ stop. IsStopped stop (M.disk machine.old) (M.disk machine.new) (S.faults input.old) (S.faults input.new)) }
+    ensures too_long { S.tells input.old → IsErrOf result Stop.TooLong → Takes (S.left input.old) (S.left input.new) 0 (2 ^ 40) }
+{
+    let mut lines = LineReader::new(alloc)?;
+    let mut refusing = false;
+    loop {
+        match lines.next(input)? {
+            Next::End => break,
+            next => refusing |= answer_next(alloc, engine, machine, next, lines.line())?,
+        }
+    }
+    engine.force(machine)?;
+    Ok(refusing)
+}

@@ -1,0 +1,60 @@
+ghost use Rattle.std.specs.Prelude.{◌≡◌};
+ghost use Rattle.redo_shell.specs.Status.{status_after as status_of_end};
+
+use crate::stop::Stop;
+
+/// How the program ends.
+#[derive(Clone, Copy, Debug, PartialEq, Eq)]
+pub enum Status {
+    /// Everything was done, and no answer was a refusal.
+    Done,
+    /// Everything was done, and some answer was `bad`, `refused`, `full` or `end`.
+    DoneWithRefusals,
+    /// The words ask for nothing that the program knows.
+    Usage,
+    /// The files are no store.
+    NotAStore,
+    /// There is a store already.
+    AlreadyStore,
+    /// The files break their format.
+    Damaged,
+    /// The disk failed.
+    DiskFault,
+    /// The input failed.
+    ReadFault,
+    /// The output failed.
+    SayFault,
+    /// Want of memory.
+    Memory,
+    /// More than 2^40 bytes of input.
+    TooLong,
+}
+
+impl Status {
+    /// The number that the process ends with.
+    pub fn number(self) -> u8 {
+        match self {
+            Status::Done => 0,
+            Status::DoneWithRefusals => 1,
+            Status::Usage => 2,
+            Status::NotAStore | Status::AlreadyStore => 3,
+            Status::Damaged => 4,
+            Status::DiskFault => 5,
+            Status::ReadFault => 6,
+            Status::SayFault => 7,
+            Status::Memory => 8,
+            Status::TooLong => 9,
+        }
+    }
+}
+
+/// The status of a run, by whether some answer was a refusal, or by why it ended early.
+pub fn status_after(outcome: Result<bool, Stop>) -> Status
+    ensures { result ≡ status_of_end outcome }
+{
+    match outcome {
+        Ok(true) => Status::DoneWithRefusals,
+        Ok(false) => Status::Done,
+        Err(stop) => stop.status(),
+    }
+}

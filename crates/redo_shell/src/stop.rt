@@ -1,0 +1,75 @@
+ghost use Rattle.std.specs.Prelude.{◌≡◌};
+ghost use Rattle.redo_shell.specs.Status.{status_of, stop_of_read, stop_of_force};
+ghost use Rattle.redo_shell.specs.declared.stop.Stop.TheVariants.{Memory as OutOfMemory};
+
+use crate::status::Status;
+use oper_core::Memory;
+use script_lines::ReadError;
+use store_engine::ForceErr;
+use thiserror::Error;
+
+/// Why a run ends before its script does.
+#[derive(Clone, Copy, Debug, PartialEq, Eq, Error)]
+pub enum Stop {
+    /// The disk failed.
+    #[error("the disk failed")]
+    DiskFault,
+    /// The input failed.
+    #[error("the input failed")]
+    ReadFault,
+    /// The output failed.
+    #[error("the output failed")]
+    SayFault,
+    /// Want of memory.
+    #[error("out of memory")]
+    Memory,
+    /// More than 2^40 bytes of input.
+    #[error("the input is too long")]
+    TooLong,
+}
+
+impl Stop {
+    /// The status that tells of it.
+    pub fn status(self) -> Status
+        ensures { result ≡ status_of self }
+    {
+        match self {
+            Stop::DiskFault => Status::DiskFault,
+            Stop::ReadFault => Status::ReadFault,
+            Stop::SayFault => Status::SayFault,
+            Stop::Memory => Status::Memory,
+            Stop::TooLong => Status::TooLong,
+        }
+    }
+}
+
+impl From<Memory> for Stop {
+    ghost from_gives = { λ _ stop. stop ≡ OutOfMemory };
+
+    fn from(_: Memory) -> Self {
+        Stop::Memory
+    }
+}
+
+impl From<ReadError> for Stop {
+    ghost from_gives = { λ error stop. stop ≡ stop_of_read error };
+
+    fn from(error: ReadError) -> Self {
+        match error {
+            ReadError::ReadFault => Stop::ReadFault,
+            ReadError::TooLong => Stop::TooLong,
+            ReadError::Memory => Stop::Memory,
+        }
+    }
+}
+
+impl From<ForceErr> for Stop {
+    ghost from_gives = { λ error stop. stop ≡ stop_of_force error };
+
+    fn from(error: ForceErr) -> Self {
+        match error {
+            ForceErr::DiskFault => Stop::DiskFault,
+            ForceErr::Memory => Stop::Memory,
+        }
+    }
+}

@@ -1,0 +1,175 @@
+-- What an engine that carries commands stands for, and what a force makes of it.
+use Rattle.std.proofs.Common.{◌≡◌, ◌≤◌, ⊎_elim, ◌⊎◌, inl, inr, ℕ, ◌+◌, List, [], ◌∷◌, ◌++◌, length, take, drop, refl, sym, ap, ◌∙◌, subst, arith, length-append, append_assoc}
+use Rattle.std.specs.Prelude.{Some, slice_get}
+use Rattle.std.proofs.lemmas.List.{append-nil, take_at, take_all}
+use Rattle.std.proofs.lemmas.Option.{slice_get-get_or}
+use Rattle.disk_model.specs.Disk.{Files, Disk, IsDisk, Runs, Same, Any, In, IsSettled, LeavesOnly}
+use Rattle.disk_model.specs.Moments.{started, weaker}
+use Rattle.disk_model.specs.declared.machine.FileNo.{FileNo}
+use Rattle.disk_model.specs.declared.machine.FileNo.TheVariants.{Objects, LogA, LogB}
+use Rattle.formats.specs.Log.{Header, IsShutLog}
+use Rattle.formats.specs.Objects.{IsObjectsFile, bounds_of}
+use Rattle.formats.specs.Records.{commands_of, IsRecordLog}
+use Rattle.formats.specs.declared.params.Params.{Params}
+use Rattle.formats.specs.declared.record.Record.{Record}
+use Rattle.formats.specs.declared.record.Record.TheVariants.{Command as Numbered}
+use Rattle.oper_core.specs.declared.bounds.Bounds.{Bounds}
+use Rattle.op_meaning.specs.Put.{put_meaning}
+use Rattle.log_records.specs.RecordLog.{RecordLogView, Keeps, HoldsRecords, IsForcedPartly}
+use Rattle.store_engine.specs.Store.{Command, meaning_in, Stands}
+use Rattle.store_engine.specs.Engine.{EngineView, view_of, AreParts, IsMapOf, Carries, Holds, Between, Kept}
+
+pub commands-append : {O : Type 0} (xs ys : List (Record O)) → commands_of (xs ++ ys) ≡ commands_of xs ++ commands_of ys
+commands-append [] ys = refl
+commands-append {O} (Numbered n op ∷ xs) ys = ap (λ (l : List O). op ∷ l) (commands-append xs ys)
+
+module _ (p : Params) where
+  -- files with these parts stand for the commands of the records
+  pub stands_by : (files : Files) (header : Header) (records : List (Record Command)) → header.base ≡ 1 → header.commands ≡ 0
+      → HoldsRecords (meaning_in p) header records (files LogA) → IsObjectsFile p (files Objects) → IsShutLog (files LogB) → Stands p files (commands_of records)
+  stands_by files header records base none_before held objects other = record {
+    objects = objects;
+    log = record {
+      header = header;
+      groups = held.groups;
+      log = held.log;
+      base = base;
+      none_before = none_before;
+      commands_are = ap (λ (l : List (Record Command)). commands_of l) (sym held.records_are);
+    };
+    other = other;
+  }
+
+  module _ (d : Disk) (engine : EngineView) (commands : List Command) (c : Carries p d engine commands) where
+    pub parts_are : commands ≡ commands_of c.stable ++ commands_of c.pending
+    parts_are = c.commands_are ∙ commands-append c.stable c.pending
+
+    pub forced_is : engine.forced ≡ length (commands_of c.stable)
+    forced_is = let k = c.log in omega (arith, c.forced, k.forced_are, c.none_before)
+
+    pub accepted_is : engine.accepted ≡ length commands
+    accepted_is = let k = c.log in omega (arith, c.accepted, k.accepted_are, c.none_before, ap (λ (l : List Command). length l) c.commands_are)
+
+    pub lengths : length commands ≡ length (commands_of c.stable) + length (commands_of c.pending)
+    lengths = ap (λ (l : List Command). length l) parts_are ∙ length-append (commands_of c.stable) (commands_of c.pending)
+
+    pub within : engine.forced ≤ length commands
+    within = omega (arith, forced_is, lengths)
+
+    pub taken : take engine.forced commands ≡ commands_of c.stable
+    taken = ap (λ (l : List Command). take engine.forced l) parts_are ∙ take_at (commands_of c.stable) (commands_of c.pending) engine.forced (sym forced_is)
+
+    abbrev pub held_stable : HoldsRecords (meaning_in p) engine.log.log.header c.stable (d.reads LogA)
+    held_stable = record {
+      groups = c.log.groups;
+      log = subst (λ (f : FileNo). IsRecordLog (meaning_in p) engine.log.log.header c.log.groups (d.reads f)) c.active c.log.file;
+      records_are = c.log.stable_are;
+    }
+
+    stands_now : Stands p d.reads (take engine.forced commands)
+    stands_now = subst (λ (l : List Command). Stands p d.reads l) (sym taken) (stands_by d.reads engine.log.log.header c.stable c.base c.none_before held_stable c.objects c.other)
+
+    pub image_is : d.tells_moments → (files : Files) (said : List ℕ) → d.left_since d.clock files said → files ≡ d.reads
+    image_is told files said left = λ i file. c.log.settled file told files said left i
+
+    map_is : IsMapOf p engine.map commands
+    map_is = record {
+      size = c.values.size;
+      each = λ x below. let size = c.values.size in
+          slice_get-get_or engine.map x [] (omega (arith, size, below)) ∙ ap (λ (v : List ℕ). Some v) (c.values.each x);
+    }
+
+    -- an engine that carries commands stands for them
+    pub make_holds : Holds p d engine commands
+    make_holds = record {
+      told = c.told;
+      params = c.params;
+      accepted = accepted_is;
+      forced = within;
+      now = stands_now;
+      images = λ told files said left. subst (λ (f : Files). Stands p f (take engine.forced commands)) (sym (image_is told files said left)) stands_now;
+      map_is = map_is;
+      carried = c;
+    }
+
+    -- what a crash within a force leaves
+    partly : (new : Disk) (files : Files) (said : List ℕ) → IsForcedPartly (meaning_in p) d engine.log c.stable c.pending files said → Between p d engine.forced commands files said
+    partly new files said is =
+        let each = subst (λ (f : FileNo). In f (λ (old new' : List ℕ). HoldsRecords (meaning_in p) engine.log.log.header c.stable new' ⊎ HoldsRecords (meaning_in p) engine.log.log.header (c.stable ++ c.pending) new') d.reads files) c.active is.each_file in
+        let objects = subst (λ (l : List ℕ). IsObjectsFile p l) (sym (each.others Objects (λ e. cc))) c.objects in
+        let other = subst (λ (l : List ℕ). IsShutLog l) (sym (each.others LogB (λ e. cc))) c.other in
+        ⊎_elim
+        (λ (held : HoldsRecords (meaning_in p) engine.log.log.header c.stable (files LogA)). record {
+          quiet = is.nothing_said;
+          kept = engine.forced;
+          enough = omega arith;
+          within = within;
+          stands = subst (λ (l : List Command). Stands p files l) (sym taken) (stands_by files engine.log.log.header c.stable c.base c.none_before held objects other);
+        })
+        (λ (held : HoldsRecords (meaning_in p) engine.log.log.header (c.stable ++ c.pending) (files LogA)). record {
+          quiet = is.nothing_said;
+          kept = length commands;
+          enough = within;
+          within = omega arith;
+          stands = subst (λ (l : List Command). Stands p files l) (sym c.commands_are ∙ sym (take_all (length commands) commands (omega arith)))
+              (stands_by files engine.log.log.header (c.stable ++ c.pending) c.base c.none_before held objects other);
+        })
+        each.changed
+
+    pub force_between : (new : Disk) → LeavesOnly d new (IsForcedPartly (meaning_in p) d engine.log c.stable c.pending) → LeavesOnly d new (Between p d engine.forced commands)
+    force_between new leaves = weaker d new (IsForcedPartly (meaning_in p) d engine.log c.stable c.pending) (Between p d engine.forced commands) leaves (partly new)
+
+  -- no call leaves what there is
+  pub between_here : (d : Disk) (engine : EngineView) (commands : List Command) → IsDisk d → Holds p d engine commands → d.tells_moments → LeavesOnly d d (Between p d engine.forced commands)
+  between_here d engine commands lawful h told = started d (Between p d engine.forced commands) (λ files said left. record {
+    quiet = lawful.said_now told files said left;
+    kept = engine.forced;
+    enough = omega arith;
+    within = h.forced;
+    stands = h.images told files said left;
+  })
+
+  module _ (old new : Disk) (q : Params) (map : List (List ℕ)) (log after : RecordLogView) (engine : EngineView) (commands : List Command)
+      (same : view_of q map log ≡ engine) (parts : AreParts q map log) (h : Holds p old engine commands) where
+    inside : Carries p old (view_of q map log) commands
+    inside = subst (λ (e : EngineView). Carries p old e commands) (sym same) h.carried
+
+    pub own_bounds : log.bounds ≡ bounds_of p
+    own_bounds = parts.bounds ∙ ap (λ (x : Params). bounds_of x) inside.params
+
+    -- after a force all commands are stable
+    pub forced_all : Runs (In log.log.active Any) Same old new
+        → ((stable pending : List (Record Command)) → Keeps (put_meaning log.bounds) old log stable pending → Keeps (put_meaning log.bounds) new after (stable ++ pending) [])
+        → after.log.active ≡ log.log.active → after.log.header ≡ log.log.header
+        → (after.forced ≡ length commands) × (after.forced ≡ length commands) × Kept p engine new (view_of q map after) commands
+    forced_all runs keeps active header =
+        let c = inside in
+        let acknowledged = subst (λ (b : Bounds). (stable pending : List (Record Command)) → Keeps (put_meaning b) old log stable pending → Keeps (put_meaning b) new after (stable ++ pending) []) own_bounds keeps in
+        let reads = subst (λ (f : FileNo). In f Any old.reads new.reads) c.active (runs.reads c.told) in
+        let carried : Carries p new (view_of q map after) commands = record {
+          told = runs.time.files_told.0 c.told;
+          params = c.params;
+          stable = c.stable ++ c.pending;
+          pending = [];
+          log = acknowledged c.stable c.pending c.log;
+          commands_are = c.commands_are ∙ ap (λ (l : List (Record Command)). commands_of l) (sym (append-nil (c.stable ++ c.pending)));
+          active = active ∙ c.active;
+          base = ap (λ (x : Header). x.base) header ∙ c.base;
+          none_before = ap (λ (x : Header). x.commands) header ∙ c.none_before;
+          accepted = refl;
+          forced = refl;
+          objects = subst (λ (l : List ℕ). IsObjectsFile p l) (sym (reads.others Objects (λ e. cc))) c.objects;
+          other = subst (λ (l : List ℕ). IsShutLog l) (sym (reads.others LogB (λ e. cc))) c.other;
+          values = c.values;
+        } in
+        let all : after.forced ≡ length commands = forced_is new (view_of q map after) commands carried ∙ ap (λ (l : List Command). length l) (sym c.commands_are) in
+        let before = h.forced in
+        (all, all, record { holds = make_holds new (view_of q map after) commands carried; rising = omega (arith, all, before) })
+
+    -- a crash within it leaves the commands that were stable, or all
+    pub forced_between : ((stable pending : List (Record Command)) → Keeps (put_meaning log.bounds) old log stable pending → LeavesOnly old new (IsForcedPartly (put_meaning log.bounds) old log stable pending))
+        → LeavesOnly old new (Between p old engine.forced commands)
+    forced_between leaves =
+        let c = inside in
+        let own = subst (λ (b : Bounds). (stable pending : List (Record Command)) → Keeps (put_meaning b) old log stable pending → LeavesOnly old new (IsForcedPartly (put_meaning b) old log stable pending)) own_bounds leaves in
+        subst (λ (e : EngineView). LeavesOnly old new (Between p old e.forced commands)) same (force_between old (view_of q map log) commands c new (own c.stable c.pending c.log))

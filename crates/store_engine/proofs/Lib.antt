@@ -1,0 +1,5 @@
+pub mod ReplayLemmas
+pub mod Holding
+pub mod Opened
+pub mod Executed
+pub mod LaidOut

@@ -1,0 +1,17 @@
+use Rattle.std.proofs.lemmas.Result.{IfOk-weaker}
+use Rattle.store_engine.specs.Opening.{IsRead}
+use Rattle.store_engine.proofs.Opened.{read_holds, open_between}
+use Rattle.store_engine.proofs.engine.Engine.restart.Goals as goal
+
+pub returns-clause-ok : goal.returns-clause-ok
+returns-clause-ok g c p commands opens =
+    let old = g.M.Machine.disk c.args.machine.now in
+    let new = g.M.Machine.disk c.load.new.machine in
+    IfOk-weaker c.load.result (IsRead old.reads new) _ (λ engine is. read_holds p old new engine commands opens c.load.ensures.kept is) (c.load.ensures.read opens.told)
+
+pub returns-clause-moments : goal.returns-clause-moments
+returns-clause-moments g c p commands opens told =
+    open_between p (g.M.Machine.disk c.args.machine.now) (g.M.Machine.disk c.load.new.machine) commands opens c.load.ensures.kept told
+
+pub returns-clause-whole : goal.returns-clause-whole
+returns-clause-whole g c p commands opens = c.load.ensures.whole opens.told p commands opens.stands

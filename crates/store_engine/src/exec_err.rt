@@ -1,0 +1,42 @@
+ghost use Rattle.std.specs.Prelude.{◌≡◌};
+ghost use Rattle.store_engine.specs.declared.exec_err.ExecErr.TheVariants.{DiskFault, Memory as OutOfMemory};
+
+use crate::force_err::ForceErr;
+use oper_core::Refusal;
+use thiserror::Error;
+
+/// Why a command was not done.
+#[derive(Debug, Drop, Error)]
+pub enum ExecErr {
+    /// It is refused on the values as they are.
+    #[error("refused: {0}")]
+    Refused(Refusal),
+    /// The log has no room for its record.
+    #[error("the log is full: {used} bytes are used, {need} more are needed, the limit is {limit}")]
+    LogFull { used: u64, need: u64, limit: u64 },
+    /// No record may have this number.
+    #[error("no record may have the number {number}")]
+    LsnEnd { number: u64 },
+    /// The disk failed, and the engine is not used again.
+    #[error("the disk failed")]
+    DiskFault,
+    /// Want of memory.
+    #[error("out of memory")]
+    Memory,
+}
+
+impl From<ForceErr> for ExecErr {
+    ghost from_gives = { λ _ e. e ≡ DiskFault };
+
+    fn from(_: ForceErr) -> Self {
+        ExecErr::DiskFault
+    }
+}
+
+impl From<oper_core::Memory> for ExecErr {
+    ghost from_gives = { λ _ e. e ≡ OutOfMemory };
+
+    fn from(_: oper_core::Memory) -> Self {
+        ExecErr::Memory
+    }
+}

@@ -1,0 +1,25 @@
+//! The engine: commands on a store's objects, logged before they count, and replayed when the files are opened.
+//!
+//! The one contract is [`Engine`]: engine and files stand for the commands that were accepted, the files for those that
+//! are forced, and a crash at any moment of a call leaves a store with no fewer. The crate stands on log_records for the
+//! log, on stable_objects for the objects file, on oper_core and op_meaning for what a command means, on formats for what
+//! the files are, and on disk_model for the machine.
+#![tactic(auto)]
+
+mod engine;
+mod exec_err;
+mod executing;
+mod force_err;
+mod forcing;
+mod init_err;
+mod making;
+mod opening;
+mod replay;
+mod restart_err;
+
+pub use engine::Engine;
+pub use exec_err::ExecErr;
+pub use force_err::ForceErr;
+pub use init_err::InitErr;
+pub use replay::{made, redo, replayed};
+pub use restart_err::RestartErr;
