@@ -16,6 +16,8 @@ mod making;
 mod opening;
 mod replay;
 mod restart_err;
+#[cfg(test)]
+mod tests;
 
 pub use engine::Engine;
 pub use exec_err::ExecErr;
