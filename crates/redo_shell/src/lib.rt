@@ -17,6 +17,8 @@ mod say;
 mod script;
 mod status;
 mod stop;
+#[cfg(test)]
+mod tests;
 
 pub use program::top;
 pub use status::Status;
