@@ -1,5 +1,5 @@
 // The disk model in memory: three files and what was said, with a record of the calls.
-ghost use Rattle.std.specs.Prelude.{◌≡◌, ◌<◌, ◌≤◌, ◌+◌, ◌++◌, [], length, IfOk, IsTrue, ◌↔◌};
+ghost use Rattle.std.specs.Prelude.{◌≡◌, ◌<◌, ◌≤◌, ◌+◌, ◌++◌, [], ◌∷◌, length, IfOk, IsTrue, ◌↔◌};
 ghost use Rattle.disk_model.specs.Record.{Matches, changed};
 ghost use Rattle.disk_model.specs.Recorded.{calls_of, first_of, reads_of, synced_of, bound_of, size_in, HasSameLimits, Takes, IsEmpty};
 ghost use Rattle.std.proofs.Props.{props};
@@ -24,6 +24,7 @@ pub struct MemDisk {
 impl MemDisk {
     ghost use Rattle.disk_model.specs.declared.machine.FileNo.{FileNo};
     ghost use Rattle.disk_model.specs.Disk.{Runs, Stays, Same, In, Torn, Holds, SaysFront, IsSettled, IsSettledIn};
+    ghost use Rattle.disk_model.specs.Record.{Write, Sync, Say};
     ghost use Rattle.disk_model.specs.Store.{recorded, state_of, left_after};
 
     pub fn new(
@@ -84,6 +85,8 @@ impl MemDisk {
         requires room { length self.old.calls.pool.bytes.items + length bytes.now ≤ self.old.calls.pool.bound }
         ensures runs { Runs (In file (Torn at (length bytes.now))) Same (recorded self.old) (recorded self.new) }
         ensures written { In file (Holds at bytes.now) (recorded self.old).reads (recorded self.new).reads }
+        ensures calls { calls_of self.new.calls ≡ calls_of self.old.calls ++ Write file at bytes.now ∷ [] }
+        ensures first { first_of self.new.files ≡ first_of self.old.files }
         ensures takes { Takes (length bytes.now) self.old.calls self.new.calls }
         ensures bounds { (other : FileNo) → bound_of self.new.files other ≡ bound_of self.old.files other }
     {
@@ -95,6 +98,8 @@ impl MemDisk {
         requires { length self.old.calls.entries.items < self.old.calls.limit }
         ensures kept { Stays (recorded self.old) (recorded self.new) }
         ensures settled { IsSettledIn file (recorded self.new) }
+        ensures calls { calls_of self.new.calls ≡ calls_of self.old.calls ++ Sync file ∷ [] }
+        ensures first { first_of self.new.files ≡ first_of self.old.files }
         ensures takes { Takes 0 self.old.calls self.new.calls }
         ensures bounds { (other : FileNo) → bound_of self.new.files other ≡ bound_of self.old.files other }
     {
@@ -107,6 +112,8 @@ impl MemDisk {
         requires room { length self.old.calls.pool.bytes.items + length bytes.now ≤ self.old.calls.pool.bound }
         ensures runs { Runs Same (SaysFront bytes.now) (recorded self.old) (recorded self.new) }
         ensures all { (recorded self.new).said ≡ (recorded self.old).said ++ bytes.now }
+        ensures calls { calls_of self.new.calls ≡ calls_of self.old.calls ++ Say bytes.now ∷ [] }
+        ensures first { first_of self.new.files ≡ first_of self.old.files }
         ensures takes { Takes (length bytes.now) self.old.calls self.new.calls }
         ensures bounds { (other : FileNo) → bound_of self.new.files other ≡ bound_of self.old.files other }
     {
