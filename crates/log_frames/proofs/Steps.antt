@@ -1,10 +1,11 @@
 -- The two steps of a force.
 use Rattle.std.proofs.Common.{◌≡◌, ◌≢◌, ◌<◌, ◌≤◌, ◌^◌, inl, ⊎_elim, inr, ℕ, ◌+◌, List, [], ◌∷◌, ◌++◌, length, sym, ◌∙◌, subst, arith, length-append}
 use Rattle.disk_model.specs.Disk.{Files, Disk, Passes, Steps, Same, In, Torn, Holds, Any, IsSettled, LeavesOnly, Runs}
-use Rattle.disk_model.specs.Moments.{first_call, goes_on, from_reads, runs_wider}
+use Rattle.disk_model.specs.Moments.{first_call, goes_on, from_reads, runs_twice, runs_wider}
 use Rattle.disk_model.specs.declared.machine.FileNo.{FileNo}
 use Rattle.formats.specs.Log.{Header, header_bytes, blocks, IsLog, IsWholeLog}
-use Rattle.log_frames.specs.Forcing.{frame, with_block, IsLogAt, IsOneOf}
+use Rattle.log_frames.specs.LogView.{LogView}
+use Rattle.log_frames.specs.Forcing.{frame, with_block, IsAtRest, IsBeforeOrAfter, IsLogAt, IsOneOf}
 use Rattle.log_frames.specs.Laws.{length-header_bytes, all_push}
 use Rattle.log_frames.proofs.Bytes.{with_block-some, torn_behind, held_behind, torn_gate, held_gate, opened, either, next_place}
 
@@ -90,7 +91,7 @@ module _ (old : Disk) (file : FileNo) (gate : ℕ) (header : Header) (payloads :
         nothing_said = from.1 ∙ said;
       }
 
-  pub leaves_opening : (mid new : Disk) (n : ℕ) → old.tells_moments → Passes old mid → Steps (In file (Torn (gate + 1) n)) Same old mid → mid.said ≡ old.said
+  leaves_opening : (mid new : Disk) (n : ℕ) → old.tells_moments → Passes old mid → Steps (In file (Torn (gate + 1) n)) Same old mid → mid.said ≡ old.said
       → IsStaged old mid file header payloads payload → Passes mid new → Steps (In file (Torn gate 1)) Same mid new → LeavesOnly old new P
   leaves_opening mid new n told time goes said is time_after goes_after =
       let mid_told = time.moments_told.0 told in
@@ -101,14 +102,33 @@ module _ (old : Disk) (file : FileNo) (gate : ℕ) (header : Header) (payloads :
   staged_by mid bytes is settles written =
       staged mid (settles f.rests.settled) (subst (λ (b : List ℕ). In file (Holds (gate + 1) b) old.reads mid.reads) is written)
 
-  -- both writes, whether the second is done or not
-  pub leaves_both : (mid new : Disk) (n : ℕ) → old.tells_moments → Runs (In file (Torn (gate + 1) n)) Same old mid → Runs (In file (Torn gate 1)) Same mid new
-      → IsStaged old mid file header payloads payload → LeavesOnly old new P
-  leaves_both mid new n told first second is = leaves_opening mid new n told first.time first.crash (first.said (first.begins.telling told)) is second.time second.crash
-
 -- any change of one file, then any other
 pub any_twice : (file : FileNo) (a b c : Files) → In file Any a b → In file Any b c → In file Any a c
 any_twice file a b c x y = record { changed = tt; others = λ other is_other. y.others other is_other ∙ x.others other is_other }
 
 pub any_change : (file : FileNo) (old new : Disk) (change : List ℕ → List ℕ → Type 0) → Runs (In file change) Same old new → Runs (In file Any) Same old new
 any_change file old new change run = runs_wider old new (In file change) (In file Any) (λ a b is. record { changed = tt; others = is.others }) run
+
+-- two changes of one file
+pub changed_twice : (old mid new : Disk) (file : FileNo) (one two : List ℕ → List ℕ → Type 0) → Runs (In file one) Same old mid → Runs (In file two) Same mid new → Runs (In file Any) Same old new
+changed_twice old mid new file one two first second = runs_twice old mid new (In file Any) (any_twice file) (any_change file old mid one first) (any_change file mid new two second)
+
+-- the frame is written and kept; whether the gate is opened or not, a crash leaves the payloads with the new one or without
+pub block_moments : (old mid new : Disk) (file : FileNo) (gate : ℕ) (bytes : List ℕ) → Runs (In file (Torn (gate + 1) (length bytes))) Same old mid
+    → (old.tells_files → In file (Holds (gate + 1) bytes) old.reads mid.reads) → (IsSettled old → IsSettled mid) → Runs (In file (Torn gate 1)) Same mid new
+    → old.tells_moments → (header : Header) (payloads : List (List ℕ)) (payload : List ℕ) → 0 < length payload → length payload ≤ 2 ^ 30 → bytes ≡ frame payload → IsLogAt old file gate header payloads
+    → LeavesOnly old new (IsOneOf old file header payloads payload)
+block_moments old mid new file gate bytes first written settles second told header payloads payload some short is rests =
+    let f : IsForce old file gate header payloads payload = record { some = some; short = short; rests = rests } in
+    let files_told = first.begins.telling told in
+    let is_staged = staged_by old file gate header payloads payload f mid bytes is settles (written files_told) in
+    leaves_opening old file gate header payloads payload f mid new (length bytes) told first.time first.crash (first.said files_told) is_staged second.time second.crash
+
+-- what the writing of a block leaves is what a force leaves
+pub force_moments : (old new : Disk) (inside seen : LogView) (bytes : List ℕ) → inside ≡ seen → bytes ≡ frame inside.pending → 0 < length inside.pending → length inside.pending ≤ 2 ^ 30
+    → ((header : Header) (payloads : List (List ℕ)) (payload : List ℕ) → 0 < length payload → length payload ≤ 2 ^ 30 → bytes ≡ frame payload → IsLogAt old inside.active inside.end header payloads
+    → LeavesOnly old new (IsOneOf old inside.active header payloads payload))
+    → (payloads : List (List ℕ)) → IsAtRest old seen payloads → LeavesOnly old new (IsBeforeOrAfter old seen payloads)
+force_moments old new inside seen bytes same sealed some short moments =
+    subst (λ (v : LogView). (payloads : List (List ℕ)) → IsAtRest old v payloads → LeavesOnly old new (IsBeforeOrAfter old v payloads)) same
+    (λ payloads rests. moments inside.header payloads inside.pending some short sealed rests)

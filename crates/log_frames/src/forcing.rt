@@ -1,6 +1,6 @@
 // A block is written behind a closed gate, and counts once the gate is open.
-ghost use Rattle.std.specs.Prelude.{◌≡◌, ◌<◌, ◌≤◌, ◌+◌, ◌^◌, [], List, ℕ, length, drop, vec_capacity, OnOk, OnErr, IfErr};
-ghost use Rattle.disk_model.specs.Disk.{Rises, Runs, LeavesOnly, In, Any, Same};
+ghost use Rattle.std.specs.Prelude.{◌≡◌, ◌<◌, ◌≤◌, ◌+◌, ◌^◌, [], ◌∷◌, List, ℕ, length, drop, vec_capacity, OnOk, OnErr, IfErr};
+ghost use Rattle.disk_model.specs.Disk.{Rises, Runs, LeavesOnly, In, Any, Same, Torn, Holds, IsSettled};
 ghost use Rattle.formats.specs.Log.{Header};
 ghost use Rattle.log_frames.specs.LogView.{used_of};
 ghost use Rattle.log_frames.specs.Forcing.{IsAtRest, IsBeforeOrAfter, IsLogAt, IsOneOf, with_block, frame};
@@ -23,6 +23,34 @@ fn seal(buffer: &mut Vec<u8>)
     buffer.push_reserved(CLOSED);
 }
 
+// Writes what stands behind a closed gate, and syncs it.
+fn write_frame<M: Machine>(
+    machine: &mut M,
+    file: FileNo,
+    gate: u64,
+    bytes: &[u8],
+) -> Result<(), LogErr>
+    requires { gate < 2 ^ 62 }
+    ensures runs { Runs (In file (Torn (gate + 1) (length bytes.now))) Same (M.disk machine.old) (M.disk machine.new) }
+    ensures written { (M.disk machine.old).tells_files → OnOk result (In file (Holds (gate + 1) bytes.now) (M.disk machine.old).reads (M.disk machine.new).reads) }
+    ensures settled { IsSettled (M.disk machine.old) → OnOk result (IsSettled (M.disk machine.new)) }
+    ensures cause { IfErr result (λ e. (e ≡ LogErr.DiskFault) × Rises (M.disk machine.old).disk_faults (M.disk machine.new).disk_faults) }
+{
+    write_through(machine, file, gate + 1, bytes)?;
+    Ok(())
+}
+
+// Opens a gate, and syncs it.
+fn open_gate<M: Machine>(machine: &mut M, file: FileNo, gate: u64) -> Result<(), LogErr>
+    ensures runs { Runs (In file (Torn gate 1)) Same (M.disk machine.old) (M.disk machine.new) }
+    ensures written { (M.disk machine.old).tells_files → OnOk result (In file (Holds gate (1 ∷ [])) (M.disk machine.old).reads (M.disk machine.new).reads) }
+    ensures settled { IsSettled (M.disk machine.old) → OnOk result (IsSettled (M.disk machine.new)) }
+    ensures cause { IfErr result (λ e. (e ≡ LogErr.DiskFault) × Rises (M.disk machine.old).disk_faults (M.disk machine.new).disk_faults) }
+{
+    write_through(machine, file, gate, &[OPEN])?;
+    Ok(())
+}
+
 // Writes what stands behind a closed gate, and then opens the gate.
 fn write_block<M: Machine>(
     machine: &mut M,
@@ -40,8 +68,8 @@ fn write_block<M: Machine>(
         → OnOk result (IsLogAt (M.disk machine.new) file (gate + length bytes.now) header (with_block payloads payload)) }
     ensures cause { IfErr result (λ e. (e ≡ LogErr.DiskFault) × Rises (M.disk machine.old).disk_faults (M.disk machine.new).disk_faults) }
 {
-    write_through(machine, file, gate + 1, bytes)?;
-    write_through(machine, file, gate, &[OPEN])?;
+    write_frame(machine, file, gate, bytes)?;
+    open_gate(machine, file, gate)?;
     Ok(())
 }
 

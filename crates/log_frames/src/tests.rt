@@ -6,6 +6,15 @@ use std::test::Fail;
 
 const NEW_LOG: [u8; 34] = *b"\x01RDOLOG01\x01\0\0\0\0\0\0\0\x01\0\0\0\0\0\0\0\0\0\0\0\0\0\0\0\0";
 
+const CRASHES: [Crash; 6] = [
+    Crash::Old,
+    Crash::New,
+    Crash::Fill(0),
+    Crash::Fill(1),
+    Crash::Fill(7),
+    Crash::Fill(255),
+];
+
 fn empty_store(alloc: Global) -> Result<MemMachine, AllocError> {
     MemMachine::new(alloc, [64, 64, 64], 64, 512, Vec::new(alloc))
 }
@@ -39,6 +48,18 @@ fn add(rt: &impl Abort, log: &mut LogFile, payload: &[u8]) -> Result<(), Fail> {
     assert!(rt; payload.len() < 1 << 20);
     log.push(payload);
     Ok(())
+}
+
+// Whether a force that is stopped after some calls answers Ok, and how many blocks are there after a crash.
+fn stopped(rt: &(impl Abort + AllocGlobal), calls: u64, how: Crash) -> Result<(bool, usize), Fail> {
+    let mut machine = new_store(rt.alloc())?;
+    let mut log = LogFile::load(rt.alloc(), &mut machine)?;
+    add(rt, &mut log, b"abc")?;
+    let mut fuse = Fuse::new(machine, calls);
+    let is_ok = log.force(&mut fuse).is_ok();
+    let mut left = fuse.into_inner().crash(how);
+    let found = LogFile::load(rt.alloc(), &mut left)?.payloads(rt.alloc(), &mut left)?;
+    Ok((is_ok, found.len()))
 }
 
 #[test]
@@ -79,29 +100,17 @@ fn forced_payloads_are_read_back(rt: HostRuntime) -> Result<(), Fail> {
 
 #[test]
 fn a_stopped_force_is_whole_or_absent(rt: HostRuntime) -> Result<(), Fail> {
-    for (calls, how, blocks) in [
-        (0, Crash::New, 0),
-        (1, Crash::Old, 0),
-        (1, Crash::New, 0),
-        (1, Crash::Fill(1), 0),
-        (2, Crash::Old, 0),
-        (2, Crash::New, 0),
-        (3, Crash::Old, 0),
-        (3, Crash::New, 1),
-        (3, Crash::Fill(1), 1),
-        (3, Crash::Fill(7), 0),
-        (4, Crash::Old, 1),
-        (4, Crash::New, 1),
+    for (calls, after) in [
+        (0, [0, 0, 0, 0, 0, 0]),
+        (1, [0, 0, 0, 0, 0, 0]),
+        (2, [0, 0, 0, 0, 0, 0]),
+        (3, [0, 1, 0, 1, 0, 0]),
+        (4, [1, 1, 1, 1, 1, 1]),
     ] {
-        let mut machine = new_store(rt.alloc())?;
-        let mut log = LogFile::load(rt.alloc(), &mut machine)?;
-        add(&rt, &mut log, b"abc")?;
-        let mut fuse = Fuse::new(machine, calls);
-        let answer = log.force(&mut fuse);
-        assert_eq!(rt; answer.is_ok(), calls == 4, "after {calls} calls");
-        let mut left = fuse.into_inner().crash(how);
-        let found = LogFile::load(rt.alloc(), &mut left)?.payloads(rt.alloc(), &mut left)?;
-        assert_eq!(rt; found.len(), blocks, "after {calls} calls, {how:?}");
+        for (how, blocks) in CRASHES.iter().zip(after) {
+            let left = stopped(&rt, calls, *how)?;
+            assert_eq!(rt; left, (calls == 4, blocks), "after {calls} calls, {how:?}");
+        }
     }
     Ok(())
 }

@@ -1,8 +1,8 @@
 -- What a loaded log holds, and why a load fails.
 use Rattle.std.proofs.Common.{◌≡◌, ℕ, ◌+◌, ◌-◌, ◌^◌, ◌<◌, List, [], ◌∷◌, ◌++◌, length, map, min, refl, sym, ap, ◌∙◌, subst, arith, append_assoc, length-append, Result, Ok, Err}
-use Rattle.std.specs.Prelude.{All, IfErr, IfOk}
+use Rattle.std.specs.Prelude.{All, IfErr, IfOk, nat_le}
 use Rattle.std.proofs.lemmas.List.{append-nil, map-append}
-use Rattle.std.proofs.lemmas.List.Elements.{All-cons, All-nil}
+use Rattle.std.proofs.lemmas.List.Elements.{All-cons, All-nil, All-filter}
 use Rattle.disk_model.specs.Disk.{Files, Disk, Stays, Rises}
 use Rattle.disk_model.specs.Moments.{stays_settled}
 use Rattle.disk_model.specs.declared.machine.FileNo.{FileNo}
@@ -18,7 +18,7 @@ use Rattle.log_frames.specs.Laws.{length-block, no_log_fault}
 use Rattle.log_frames.specs.Reading.{placed, placed_from}
 use Rattle.log_frames.specs.declared.log_err.LogErr.{LogErr}
 use Rattle.log_frames.specs.declared.payload.Payload.{Payload}
-use Rattle.log_records.specs.RecordLog.{RecordLogView, Keeps, IsLoaded}
+use Rattle.log_records.specs.RecordLog.{RecordLogView, Keeps, IsLoaded, number_of, from_number}
 use Rattle.log_records.specs.Loading.{bytes_of, AreGroups, IsBrokenIn, IsLoadFault, in_blocks, in_record}
 use Rattle.log_records.specs.RecordLaws.{AreRecords-behind, numbered_append}
 use Rattle.log_records.specs.Uniqueness.{one_grouping, no_record_fault}
@@ -141,3 +141,7 @@ module _ {O : Type 0} (m : Meaning O) where
       ∙ one_grouping m lawful log.log.header.base log.log.header.base so.groups keeps.groups so.numbered keeps.file.numbered
       (sym so.bytes_are ∙ bytes_placed 33 (map (payload_of m) keeps.groups))
       ∙ keeps.stable_are
+
+  -- the records from a number on are of the grammar, as all are
+  pub from_in_grammar : (from : ℕ) (found kept : List (Record O)) → kept ≡ from_number from found → All (IsRecord m) found → All (IsRecord m) kept
+  from_in_grammar from found kept is all = subst (λ (l : List (Record O)). All (IsRecord m) l) (sym is) (All-filter (λ r. nat_le from (number_of r)) (IsRecord m) found all)

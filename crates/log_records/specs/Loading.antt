@@ -5,10 +5,12 @@ use Rattle.formats.specs.Records.{record_code, payload_of, records_of, AreRecord
 use Rattle.formats.specs.declared.record.Record.{Record}
 use Rattle.log_frames.specs.declared.payload.Payload.{Payload}
 use Rattle.log_frames.specs.Reading.{IsLogFault}
-use Rattle.disk_model.specs.Disk.{Files}
+use Rattle.disk_model.specs.Disk.{Files, Disk}
 use Rattle.disk_model.specs.declared.machine.FileNo.{FileNo}
 use Rattle.disk_model.specs.declared.machine.FileNo.TheVariants.{LogA}
+use Rattle.formats.specs.Log.{IsWholeLog}
 use Rattle.formats.specs.Image.{IsRecordFault}
+use Rattle.log_frames.specs.LogView.{LogView}
 
 -- the bytes are these records, numbered from this number on
 pub record AreBytesOf {O : Type 0} (m : Meaning O) (next : ℕ) (bytes : List ℕ) (records : List (Record O)) : Type 0 where
@@ -57,3 +59,9 @@ AllFit payloads = All (λ p. p.place + length p.bytes < 2 ^ 64) payloads
 pub data IsLoadFault {O : Type 0} (m : Meaning O) (files : Files) : FileNo → ℕ → Type 0 where
   in_blocks : (file : FileNo) (place : ℕ) → IsLogFault files file place → IsLoadFault m files file place
   in_record : (place : ℕ) → IsRecordFault m (files LogA) place → IsLoadFault m files LogA place
+
+-- The log's records are told to be damaged in this file at this place: it is the log's file, and where that is a log
+-- with this header, a record of it breaks its format there.
+abbrev pub IsTailFault : {O : Type 0} → Meaning O → Disk → LogView → FileNo → ℕ → Type 0
+IsTailFault m d log file place =
+    (file ≡ log.active) × (d.tells_files → (payloads : List (List ℕ)) → IsWholeLog log.header payloads (d.reads log.active) → IsRecordFault m (d.reads log.active) place)

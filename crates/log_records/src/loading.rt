@@ -3,13 +3,12 @@ ghost use Rattle.std.specs.Prelude.{◌≡◌, ◌≤◌, ◌<◌, ◌+◌, ◌-
 ghost use Rattle.disk_model.specs.Disk.{Rises, Stays};
 ghost use Rattle.disk_model.specs.declared.machine.FileNo.TheVariants.{LogA, LogB};
 ghost use Rattle.formats.specs.Log.{Header, IsShutLog, IsWholeLog};
-ghost use Rattle.formats.specs.Image.{IsRecordFault};
 ghost use Rattle.formats.specs.Records.{record_code, HasNumber, IsRecord, IsRecordLog};
 ghost use Rattle.formats.specs.declared.record.Record.{Record};
 ghost use Rattle.log_frames.specs.Reading.{FailsBy, TellsDamage, placed};
 ghost use Rattle.log_records.specs.Codec.{StartsWithRecord};
 ghost use Rattle.log_records.specs.RecordLog.{IsLoaded};
-ghost use Rattle.log_records.specs.Loading.{AreBytesOf, IsBrokenAt, AreGroups, IsBrokenIn, AllFit, IsLoadFault};
+ghost use Rattle.log_records.specs.Loading.{AreBytesOf, IsBrokenAt, AreGroups, IsBrokenIn, AllFit, IsLoadFault, IsTailFault};
 
 use crate::RecordLog;
 use crate::codec::decode;
@@ -22,8 +21,8 @@ use std::marker::PhantomData;
 
 const LAST_NUMBER: u64 = (1 << 62) - 1;
 
-// The number and the operation of a command's record.
-fn command_in<O: Oper>(record: &Record<O>) -> (u64, &O)
+/// The number and the operation of a command's record.
+pub fn command_in<O: Oper>(record: &Record<O>) -> (u64, &O)
     ensures { «record».now ≡ Record.Command result.0 result.1.now }
 {
     match record {
@@ -123,8 +122,7 @@ pub fn stable_records<O: Oper, M: Machine>(
         → IfOk result (λ found. AreGroups (O.meaning b) log.now.header.base (placed payloads) found.items) }
     ensures grammar { IfOk result (λ found. All (IsRecord (O.meaning b)) found.items) }
     ensures cause { IfErr result (FailsBy (Rises (M.disk m.old).disk_faults (M.disk m.new).disk_faults)
-        (λ file place. (file ≡ log.now.active) × ((M.disk m.old).tells_files → (payloads : List (List ℕ)) → IsWholeLog log.now.header payloads ((M.disk m.old).reads log.now.active)
-        → IsRecordFault (O.meaning b) ((M.disk m.old).reads log.now.active) place))) }
+        (IsTailFault (O.meaning b) (M.disk m.old) log.now)) }
 {
     let payloads = log.payloads(alloc, m)?;
     all_records(alloc, b, log.active(), payloads.as_slice(), log.base())

@@ -5,10 +5,10 @@ use Rattle.std.proofs.lemmas.Result.{err_from_is_err_and}
 use Rattle.disk_model.specs.Disk.{Files, read_of}
 use Rattle.disk_model.specs.Moments.{stays_here, stays_twice}
 use Rattle.formats.specs.Bytes.{IsShutAt}
-use Rattle.formats.specs.Image.{IsBlockFault}
-use Rattle.log_frames.specs.Reading.{fails_on, FoundAt, IsBroken, IsBlockHead}
+use Rattle.log_frames.specs.Reading.{FoundAt, IsBlockHead}
 use Rattle.log_frames.specs.declared.payload.Payload.{Payload}
-use Rattle.log_frames.proofs.ReadTo.{Finds, finds_none, finds_more, finds_all, block_fault}
+use Rattle.log_frames.proofs.Causes.{at_gate}
+use Rattle.log_frames.proofs.ReadTo.{Finds, finds_none, finds_more, finds_all}
 use Rattle.log_frames.proofs.payloads.read_payloads.Goals as goal
 
 pub loop-found-init : goal.loop-found-init
@@ -50,20 +50,9 @@ loop-found-preserved g c =
 
 pub returns-in_err-len-clause-cause : goal.returns-in_err-len-clause-cause
 returns-in_err-len-clause-cause g c =
-    let old = g.M.Machine.disk c.args.machine.now in
-    let mid = g.M.Machine.disk c.loop-found.machine in
     let inv = c.loop-found.invariant in
     let p = err_from_is_err_and c.from_residual.result c.from_residual.ensures.1 in
-    rw (p.1, p.2) (fails_on _ _ _ _ c.in_err-len.field-0.0 (λ risen below. omega (arith, risen below, inv.kept.time.disk_faults))
-    (λ f place there. (
-      there.0,
-      λ told size.
-          let same = inv.kept.reads told in
-          let found = inv.so_far told size in
-          let broken = there.2 (inv.kept.time.files_told.0 told) (size ∙ ap (λ (f : Files). length (f c.args.file)) (sym same)) in
-          subst (λ (n : ℕ). IsBlockFault (old.reads c.args.file) n) (sym there.1) (block_fault (old.reads c.args.file) c.loop-found.gate found.payloads found.read (subst (λ (f : Files). IsBroken c.loop-found.gate (f c.args.file)) same broken)),
-    ))
-    c.in_err-len.ensures.cause)
+    rw (p.1, p.2) (at_gate (g.M.Machine.disk c.args.machine.now) (g.M.Machine.disk c.loop-found.machine) (g.M.Machine.disk c.open_block.new.machine) c.args.file c.args.size c.loop-found.gate c.in_err-len.field-0.0 inv.kept (λ told size. let found = inv.so_far told size in (found.payloads, found.read)) c.in_err-len.ensures.cause)
 
 pub returns-clause-all : goal.returns-clause-all
 returns-clause-all g c told size header payloads is =

@@ -4,9 +4,9 @@ use Rattle.disk_model.specs.Moments.{stays_here, stays_twice}
 use Rattle.std.specs.Prelude.{IfSome}
 use Rattle.std.proofs.lemmas.Result.{err_from_is_err_and}
 use Rattle.formats.specs.Bytes.{IsShutAt}
-use Rattle.formats.specs.Image.{IsBlockFault}
-use Rattle.log_frames.specs.Reading.{fails_on, FoundAt, IsBroken}
-use Rattle.log_frames.proofs.ReadTo.{read_none, read_more, block_fault}
+use Rattle.log_frames.specs.Reading.{FoundAt}
+use Rattle.log_frames.proofs.Causes.{at_gate}
+use Rattle.log_frames.proofs.ReadTo.{read_none, read_more}
 use Rattle.log_frames.proofs.reading.first_closed.Goals as goal
 
 pub loop-len-init : goal.loop-len-init
@@ -37,20 +37,9 @@ loop-len-preserved g c =
 
 pub returns-in_err-len-clause-cause : goal.returns-in_err-len-clause-cause
 returns-in_err-len-clause-cause g c =
-    let old = g.M.Machine.disk c.args.machine.now in
-    let mid = g.M.Machine.disk c.loop-len.machine in
     let inv = c.loop-len.invariant in
     let p = err_from_is_err_and c.from_residual.result c.from_residual.ensures.1 in
-    rw (p.1, p.2) (fails_on _ _ _ _ c.in_err-len.field-0.0 (λ risen below. omega (arith, risen below, inv.kept.time.disk_faults))
-    (λ f place there. (
-      there.0,
-      λ told size.
-          let same = inv.kept.reads told in
-          let read = inv.so_far told size in
-          let broken = there.2 (inv.kept.time.files_told.0 told) (size ∙ ap (λ (f : Files). length (f c.args.file)) (sym same)) in
-          subst (λ (n : ℕ). IsBlockFault (old.reads c.args.file) n) (sym there.1) (block_fault (old.reads c.args.file) c.loop-len.gate read.0 read.1 (subst (λ (f : Files). IsBroken c.loop-len.gate (f c.args.file)) same broken)),
-    ))
-    c.in_err-len.ensures.cause)
+    rw (p.1, p.2) (at_gate (g.M.Machine.disk c.args.machine.now) (g.M.Machine.disk c.loop-len.machine) (g.M.Machine.disk c.open_block.new.machine) c.args.file c.args.size c.loop-len.gate c.in_err-len.field-0.0 inv.kept inv.so_far c.in_err-len.ensures.cause)
 
 pub returns-clause-end : goal.returns-clause-end
 returns-clause-end g c told size =

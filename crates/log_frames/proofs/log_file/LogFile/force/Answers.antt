@@ -1,29 +1,19 @@
 use Rattle.std.proofs.Common.{◌≡◌, ◌<◌, ◌≤◌, ◌^◌, ◌∙◌, ◌+◌, ℕ, List, length, drop, subst, ap, arith, length-drop}
-use Rattle.disk_model.specs.Disk.{LeavesOnly}
 use Rattle.formats.specs.Log.{Header}
 use Rattle.log_frames.specs.LogView.{LogView}
-use Rattle.log_frames.specs.Forcing.{IsAtRest, IsBeforeOrAfter, IsLogAt, with_block}
+use Rattle.log_frames.specs.Forcing.{IsAtRest, IsLogAt, with_block}
+use Rattle.log_frames.proofs.Steps.{force_moments}
 use Rattle.log_frames.proofs.log_file.LogFile.force.Goals as goal
 
 pub returns-in_err-written-clause-any_moment : goal.returns-in_err-written-clause-any_moment
 returns-in_err-written-clause-any_moment g c told =
-    let old = g.M.Machine.disk c.args.machine.now in
-    let new = g.M.Machine.disk c.write_block-written.new.machine in
-    let waits = drop 4 c.self.inside.buffer.items in
-    let some : 0 < length waits = omega (arith, length-drop 4 c.self.inside.buffer.items) in
-    let short : length waits ≤ 2 ^ 30 = omega (arith, length-drop 4 c.self.inside.buffer.items) in
-    subst (λ (log : LogView). (payloads : List (List ℕ)) → IsAtRest old log payloads → LeavesOnly old new (IsBeforeOrAfter old log payloads)) c.self.view_is
-    (λ payloads rests. c.write_block-written.ensures.any_moment told _ payloads waits some short (c.deref.ensures.value ∙ c.seal.ensures.sealed) rests)
+    let long = length-drop 4 c.self.inside.buffer.items in
+    force_moments _ _ _ _ c.deref.result.now c.self.view_is (c.deref.ensures.value ∙ c.seal.ensures.sealed) (omega (arith, long)) (omega (arith, long)) (c.write_block-written.ensures.any_moment told)
 
 pub returns-clause-any_moment : goal.returns-clause-any_moment
 returns-clause-any_moment g c told =
-    let old = g.M.Machine.disk c.args.machine.now in
-    let new = g.M.Machine.disk c.write_block-written.new.machine in
-    let waits = drop 4 c.self.inside.buffer.items in
-    let some : 0 < length waits = omega (arith, length-drop 4 c.self.inside.buffer.items) in
-    let short : length waits ≤ 2 ^ 30 = omega (arith, length-drop 4 c.self.inside.buffer.items) in
-    subst (λ (log : LogView). (payloads : List (List ℕ)) → IsAtRest old log payloads → LeavesOnly old new (IsBeforeOrAfter old log payloads)) c.self.view_is
-    (λ payloads rests. c.write_block-written.ensures.any_moment told _ payloads waits some short (c.deref.ensures.value ∙ c.seal.ensures.sealed) rests)
+    let long = length-drop 4 c.self.inside.buffer.items in
+    force_moments _ _ _ _ c.deref.result.now c.self.view_is (c.deref.ensures.value ∙ c.seal.ensures.sealed) (omega (arith, long)) (omega (arith, long)) (c.write_block-written.ensures.any_moment told)
 
 pub returns-clause-acknowledged : goal.returns-clause-acknowledged
 returns-clause-acknowledged g c told =

@@ -1,6 +1,9 @@
 use Rattle.std.proofs.Common.{map, sym, subst}
+use Rattle.std.specs.Prelude.{IfErr}
+use Rattle.disk_model.specs.Disk.{Rises}
 use Rattle.formats.specs.Records.{payload_of}
-use Rattle.log_frames.specs.Reading.{none_told}
+use Rattle.log_frames.specs.Reading.{FailsBy, none_told}
+use Rattle.log_records.specs.Loading.{IsTailFault}
 use Rattle.log_records.specs.RecordLog.{RecordLogView, Keeps}
 use Rattle.log_records.specs.Uniqueness.{no_record_fault}
 use Rattle.log_records.proofs.LoadLemmas.{map_ok, map_err, found_stable}
@@ -24,3 +27,9 @@ returns-clause-undamaged g c = λ told stable pending keeps.
     map_err c.stable_records.result (λ e fails. none_told _ _ e
     (λ f place there. no_record_fault m lawful _ k.groups (d.reads c.self.inside.log.active) place k.file (there.1 told (map (payload_of m) k.groups) k.file.log)) fails)
     c.stable_records.ensures.cause
+
+pub returns-clause-cause : goal.returns-clause-cause
+returns-clause-cause g c =
+    let old = g.M.Machine.disk c.args.m.now in
+    let new = g.M.Machine.disk c.stable_records.new.m in
+    subst (λ (v : RecordLogView). IfErr c.stable_records.result (FailsBy (Rises old.disk_faults new.disk_faults) (IsTailFault (g.O.Oper.meaning v.bounds) old v.log))) c.self.view_is c.stable_records.ensures.cause
