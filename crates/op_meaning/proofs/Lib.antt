@@ -1,1 +1,3 @@
+pub mod ReadNumbers
 pub mod Reading
+pub mod RecordLemmas

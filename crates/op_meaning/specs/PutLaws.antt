@@ -1,34 +1,30 @@
 -- What every put of the grammar meets.
-use Rattle.std.proofs.Common.{◌≡◌, ◌≤◌, ◌<◌, ℕ, ◌^◌, Bool, true, false, None, List, [], ◌∷◌, ◌++◌, length, take, drop, refl, sym, ap, ◌∙◌, arith, append_assoc}
-use Rattle.std.specs.Prelude.{IsTrue, nat_eq, nat_lt, nat_le}
+use Rattle.std.proofs.Common.{◌≡◌, ◌≤◌, ◌<◌, ℕ, ◌^◌, List, [], ◌∷◌, ◌++◌, length, take, drop, refl, sym, ap, ◌∙◌, arith, append_assoc}
+use Rattle.std.specs.Prelude.{nat_eq, nat_lt, nat_le}
 use Rattle.std.specs.List.{IsDistinct}
-use Rattle.std.proofs.lemmas.List.Elements.{All-cons, All-nil}
 use Rattle.std.proofs.lemmas.Bool.{le-leb, leb-true, lt-ltb, ltb-true}
 use Rattle.std.proofs.lemmas.List.{take_at}
 use Rattle.byteorder.specs.Endian.{little_bytes}
 use Rattle.oper_core.specs.LittleEndian.{little_bytes-split}
-use Rattle.oper_core.specs.Meaning.{HasBounds, IsInGrammar, IsLawful, IsSmall, or_else, unless}
+use Rattle.oper_core.specs.Meaning.{HasBounds, IsInGrammar, IsLawful, IsSmall, unless}
 use Rattle.oper_core.specs.declared.bounds.Bounds.{Bounds}
-use Rattle.oper_core.specs.declared.refusal.Refusal.{Refusal}
 use Rattle.oper_core.specs.declared.refusal.Refusal.TheVariants.{NoObject, TooLarge}
 use Rattle.op_meaning.specs.declared.put.Put.{Put}
 use Rattle.op_meaning.specs.Put.{put_code, put_meaning}
+use Rattle.op_meaning.specs.SharedLaws.{one_apart, one_below, one_short, or_else-none, unless-none}
 
 -- a put is in the grammar where there is its object, and its value is not too long
 pub record IsPut (b : Bounds) (op : Put) : Type 0 where
   pub object : op.object < b.objects
   pub short : length op.value ≤ b.cap
 
--- no test fails where nothing is refused
-both_true : (first second : Bool) (r s : Refusal) → or_else (unless first r) (unless second s) ≡ None → IsTrue first × IsTrue second
-both_true true true r s e = (refl, refl)
-both_true true false r s e = cc
-both_true false second r s e = cc
-
 pub put_from_grammar : (b : Bounds) (op : Put) → IsInGrammar (put_meaning b) op → IsPut b op
 put_from_grammar b op e =
-    let tests = both_true (nat_lt op.object b.objects) (nat_le (length op.value) b.cap) NoObject TooLarge e in
-    record { object = ltb-true op.object b.objects tests.0; short = leb-true (length op.value) b.cap tests.1 }
+    let tests = or_else-none (unless (nat_lt op.object b.objects) NoObject) (unless (nat_le (length op.value) b.cap) TooLarge) e in
+    record {
+      object = ltb-true op.object b.objects (unless-none _ _ tests.0);
+      short = leb-true (length op.value) b.cap (unless-none _ _ tests.1);
+    }
 
 pub grammar_from_put : (b : Bounds) (op : Put) → IsPut b op → IsInGrammar (put_meaning b) op
 grammar_from_put b op put = rw (lt-ltb op.object b.objects put.object, le-leb (length op.value) b.cap put.short) refl
@@ -51,14 +47,10 @@ same_put first second rest more object object' long long' same =
     ∙ take_at second.value more (length first.value) (sym lengths.0) in
     λ i. record { object = objects.0 i; value = values i }
 
--- a list of no object, and of one, names none twice
+-- a list of no object names none twice
 none_apart : IsDistinct nat_eq []
 unfolding IsDistinct
 none_apart = tt
-
-one_apart : (x : ℕ) → IsDistinct nat_eq (x ∷ [])
-unfolding IsDistinct
-one_apart x = (tt, tt)
 
 -- its meaning is that under these bounds
 pub put_bounded : (b : Bounds) → HasBounds b (put_meaning b)
@@ -69,10 +61,9 @@ put_lawful b small = record {
   writes_some = λ op e. omega arith;
   reads_below = λ op e k d h. absurd (omega arith);
   reads_apart = λ op e. none_apart;
-  writes_below = λ op e. All-cons (λ x. x < b.objects) op.object [] (put_from_grammar b op e).object (All-nil (λ x. x < b.objects));
+  writes_below = λ op e. one_below b.objects op.object (put_from_grammar b op e).object;
   writes_apart = λ op e. one_apart op.object;
-  made = λ op values e fits.
-      (refl, All-cons (λ v. length v ≤ b.cap) op.value [] (put_from_grammar b op e).short (All-nil (λ v. length v ≤ b.cap)));
+  made = λ op values e fits. (refl, one_short b.cap op.value (put_from_grammar b op e).short);
   encodable = λ op e. let put = put_from_grammar b op e in let cap = small.cap in lt-ltb (length op.value) (2 ^ 32) (omega arith);
   one_code = λ first second bytes one two.
       let p = put_from_grammar b first one.in_grammar in

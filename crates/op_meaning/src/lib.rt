@@ -4,8 +4,22 @@
 //! and on byteorder for the numbers in the codes.
 #![tactic(auto)]
 
+mod append;
+mod copy;
+mod cut;
+mod numbers;
+mod objects;
+mod order;
 mod put;
+mod sort;
+mod swap;
 #[cfg(test)]
 mod tests;
 
+pub use append::Append;
+pub use copy::Copy;
+pub use cut::Cut;
+pub use order::in_order_is_the_sorted_permutation;
 pub use put::Put;
+pub use sort::Sort;
+pub use swap::Swap;

@@ -1,5 +1,5 @@
-ghost use Rattle.std.specs.Prelude.{◌≡◌};
-ghost use Rattle.op_meaning.specs.Put.{put_meaning};
+ghost use Rattle.std.specs.Prelude.{◌≡◌, length};
+ghost use Rattle.op_meaning.specs.Put.{put_code, put_meaning};
 ghost use Rattle.op_meaning.specs.PutLaws.{put_bounded, put_lawful};
 
 use byteorder::{ByteOrder, LittleEndian};
@@ -39,6 +39,13 @@ impl Put {
         ensures { result.now ≡ self.now.value }
     {
         self.value.as_slice()
+    }
+
+    /// How many bytes its code has.
+    pub fn code_length(&self) -> u64
+        ensures { result ≡ length (put_code self.now) }
+    {
+        (HEAD_BYTES + self.value().len()) as u64
     }
 }
 

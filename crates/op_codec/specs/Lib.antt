@@ -1,0 +1,2 @@
+pub mod AllOps
+pub mod AllOpsLaws

@@ -1,0 +1,62 @@
+ghost use Rattle.op_meaning.specs.Table.{swap_meaning};
+ghost use Rattle.op_meaning.specs.TableLaws.{swap_bounded, swap_lawful};
+
+use crate::numbers::{TWO_NUMBERS, two_numbers, write_numbers};
+use crate::objects::{both, told_apart};
+use oper_core::{Bounds, Memory, Objs, Oper, Refusal, Values};
+use std::alloc::Global;
+
+const TAG: u8 = 6;
+
+/// Exchanges the values of two objects.
+#[derive(Drop)]
+pub struct Swap {
+    pub first: u32,
+    pub second: u32,
+}
+
+impl Oper for Swap {
+    ghost meaning = { swap_meaning };
+
+    fn reads(&self) -> Objs {
+        both(self.first, self.second)
+    }
+
+    fn writes(&self) -> Objs {
+        both(self.first, self.second)
+    }
+
+    fn shape(&self, b: Bounds) -> Result<(), Refusal> {
+        told_apart(b, self.first, self.second)
+    }
+
+    fn check(&self, _b: Bounds, _values: &Values) -> Result<(), Refusal> {
+        Ok(())
+    }
+
+    fn apply(&self, alloc: Global, _b: Bounds, values: &Values) -> Result<Values, Memory> {
+        let mut made = Values::new(alloc);
+        made.push(values.get(1))?;
+        made.push(values.get(0))?;
+        Ok(made)
+    }
+
+    fn encode(&self, out: &mut Vec<u8>) -> Result<(), Memory> {
+        write_numbers(out, TAG, &[self.first, self.second])
+    }
+
+    fn decode(_alloc: Global, b: Bounds, bytes: &[u8]) -> Result<Option<(Self, usize)>, Memory> {
+        let Some((first, second)) = two_numbers(TAG, bytes) else {
+            return Ok(None);
+        };
+        let op = Swap { first, second };
+        if op.shape(b).is_err() {
+            return Ok(None);
+        }
+        Ok(Some((op, TWO_NUMBERS)))
+    }
+
+    ghost bounded = { swap_bounded };
+
+    ghost lawful = { swap_lawful };
+}
