@@ -1,7 +1,9 @@
+pub mod FieldLemmas
+pub mod FormLemmas
 pub mod HexLemmas
 pub mod LineLemmas
 pub mod NumberLemmas
 pub mod OneLemmas
-pub mod ParseLemmas
 pub mod PlaceLemmas
+pub mod ReplyLemmas
 pub mod WordLemmas

@@ -1,10 +1,9 @@
 -- A line asks for one thing.
-use Rattle.std.proofs.Common.{◌≡◌, ◌+◌, ◌*◌, ◌^◌, ◌<◌, ◌++◌, List, ℕ, [], ◌∷◌, Some, length, drop, get_or, refl, sym, ◌∙◌, ap, subst, arith, codes, ⊎_elim}
+use Rattle.std.proofs.Common.{◌≡◌, ◌+◌, ◌*◌, ◌<◌, List, ℕ, [], ◌∷◌, length, Some, refl, sym, ◌∙◌, ap, subst, arith, codes, ⊎_elim}
 use Rattle.std.proofs.lemmas.Fmt.{decimal_injective}
-use Rattle.std.specs.Fmt.{decimal}
-use Rattle.script_lines.specs.Grammar.{IsPut, IsGet, IsForce, IsHex, IsHexOf, none, byte, hex_digit}
+use Rattle.script_lines.specs.Grammar.{IsHex, IsHexOf, none, byte, hex_digit, AsksFor, AreOf, Request, put, copy, append, cut, sort, swap, get, force, skip, number, hex, Says, SayAll, fields_of, without_return}
 use Rattle.script_lines.proofs.HexLemmas.{one_left}
-use Rattle.script_lines.proofs.ParseLemmas.{found_behind, parts_of, same_rest, other_word, other_force}
+use Rattle.script_lines.proofs.FormLemmas.{tag, form_told}
 
 no_bytes : {bytes : List ℕ} → IsHexOf [] bytes → bytes ≡ []
 no_bytes none = refl
@@ -43,27 +42,52 @@ hex_one text x y p q =
     (λ (h : (0 < length text) × IsHexOf text x). ⊎_elim (λ (e : (text ≡ codes "-") × (y ≡ [])). absurd (dash_is_none text x e.0 h.1)) (λ (k : (0 < length text) × IsHexOf text y). hex_of_one text x y h.1 k.1) q)
     p
 
-pub put_one : (line : List ℕ) (a b : ℕ) (x y : List ℕ) → IsPut line a x → IsPut line b y → (a ≡ b) × (x ≡ y)
-put_one line a b x y p q =
-    let text = decimal a ++ 32 ∷ p.hex in
-    let other : text ≡ decimal b ++ 32 ∷ q.hex = same_rest (sym p.fields.text ∙ q.fields.text) in
-    let place = found_behind text a p.hex p.fields.small refl in
-    let mine = parts_of text a p.hex (length (decimal a)) p.fields.small refl place in
-    let theirs = parts_of text b q.hex (length (decimal a)) q.fields.small other place in
-    let small : (a < 2 ^ 64) × (b < 2 ^ 64) = (omega (arith, p.fields.small), omega (arith, q.fields.small)) in
-    let hex_same : q.hex ≡ p.hex = sym theirs.1 ∙ mine.1 in
-    (decimal_injective a b small.0 small.1 (sym mine.0 ∙ theirs.0), hex_one p.hex x y p.value (subst (λ (h : List ℕ). IsHex h y) hex_same q.value))
+number_one : (text : List ℕ) (m n : ℕ) → Says (number m) text → Says (number n) text → m ≡ n
+number_one text m n p q = decimal_injective m n (omega (arith, p.1)) (omega (arith, q.1)) (sym p.0 ∙ q.0)
 
-pub get_one : (line : List ℕ) (a b : ℕ) → IsGet line a → IsGet line b → a ≡ b
-get_one line a b p q =
-    let small : (a < 2 ^ 64) × (b < 2 ^ 64) = (omega (arith, p.small), omega (arith, q.small)) in
-    decimal_injective a b small.0 small.1 (ap (λ (l : List ℕ). drop 4 l) (sym p.text ∙ q.text))
+get_one : (fields : List (List ℕ)) (x y : ℕ) → SayAll (number x ∷ []) fields → SayAll (number y ∷ []) fields → get x ≡ get y
+get_one [] x y p q = absurd p
+get_one (a ∷ fields) x y p q = ap get (number_one a x y p.0 q.0)
 
-pub put_or_get : (line : List ℕ) (a b : ℕ) (x : List ℕ) → IsPut line a x → IsGet line b → ⊥
-put_or_get line a b x p q = other_word (sym p.fields.text ∙ q.text)
+put_one : (fields : List (List ℕ)) (x y : ℕ) (u v : List ℕ) → SayAll (number x ∷ hex u ∷ []) fields → SayAll (number y ∷ hex v ∷ []) fields → put x u ≡ put y v
+put_one [] x y u v p q = absurd p
+put_one (a ∷ []) x y u v p q = absurd p.1
+put_one (a ∷ b ∷ fields) x y u v p q = let s = number_one a x y p.0 q.0 in let t = hex_one b u v p.1.0 q.1.0 in cc
 
-pub put_or_force : (line : List ℕ) (a : ℕ) (x : List ℕ) → IsPut line a x → IsForce line → ⊥
-put_or_force line a x p q = other_force (sym p.fields.text ∙ q)
+two_one : {w x y z : ℕ} (fields : List (List ℕ)) (form : ℕ → ℕ → Request) → SayAll (number w ∷ number x ∷ []) fields → SayAll (number y ∷ number z ∷ []) fields → form w x ≡ form y z
+two_one [] form p q = absurd p
+two_one (a ∷ []) form p q = absurd p.1
+two_one {w} {x} {y} {z} (a ∷ b ∷ fields) form p q = let s = number_one a w y p.0 q.0 in let t = number_one b x z p.1.0 q.1.0 in cc
 
-pub get_or_force : (line : List ℕ) (a : ℕ) → IsGet line a → IsForce line → ⊥
-get_or_force line a p q = omega (arith, ap (λ (l : List ℕ). get_or l 0 0) (sym p.text ∙ q))
+three_one : {u v w x y z : ℕ} (fields : List (List ℕ)) (form : ℕ → ℕ → ℕ → Request) → SayAll (number u ∷ number v ∷ number w ∷ []) fields → SayAll (number x ∷ number y ∷ number z ∷ []) fields
+    → form u v w ≡ form x y z
+three_one [] form p q = absurd p
+three_one (a ∷ []) form p q = absurd p.1
+three_one (a ∷ b ∷ []) form p q = absurd p.1.1
+three_one {u} {v} {w} {x} {y} {z} (a ∷ b ∷ c ∷ fields) form p q =
+    let r = number_one a u x p.0 q.0 in let s = number_one b v y p.1.0 q.1.0 in let t = number_one c w z p.1.1.0 q.1.1.0 in cc
+
+-- no field asks for nothing
+none_skips : (a : Request) → AreOf a [] → a ≡ skip
+none_skips skip p = refl
+none_skips a p = absurd p
+
+-- fields behind one first field ask one thing
+same_one : (a b : Request) (word : List ℕ) (fields : List (List ℕ)) → tag a ≡ tag b → AreOf a (word ∷ fields) → AreOf b (word ∷ fields) → a ≡ b
+same_one (put x u) (put y v) word fields same p q = put_one fields x y u v p.1 q.1
+same_one (copy w x) (copy y z) word fields same p q = two_one fields copy p.1 q.1
+same_one (append w x) (append y z) word fields same p q = two_one fields append p.1 q.1
+same_one (cut u v w) (cut x y z) word fields same p q = three_one fields cut p.1 q.1
+same_one (sort u v w) (sort x y z) word fields same p q = three_one fields sort p.1 q.1
+same_one (swap w x) (swap y z) word fields same p q = two_one fields swap p.1 q.1
+same_one (get x) (get y) word fields same p q = get_one fields x y p.1 q.1
+same_one force force word fields same p q = refl
+same_one skip skip word fields same p q = refl
+same_one a b word fields same p q = absurd (omega (arith, same))
+
+fields_one : (fields : List (List ℕ)) (a b : Request) → AreOf a fields → AreOf b fields → a ≡ b
+fields_one [] a b p q = none_skips a p ∙ sym (none_skips b q)
+fields_one (word ∷ fields) a b p q = same_one a b word fields (sym (form_told a word fields p) ∙ form_told b word fields q) p q
+
+pub line_one : (line : List ℕ) (a b : Request) → AsksFor line a → AsksFor line b → a ≡ b
+line_one line a b p q = fields_one (fields_of (without_return line)) a b p.fields q.fields

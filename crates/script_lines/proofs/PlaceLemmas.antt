@@ -25,11 +25,11 @@ at_mark mark (b ∷ text) i is within = elim (cases_eq b mark) [
       subst (λ (k : ℕ). b ∷ text ≡ take k (b ∷ text) ++ mark ∷ drop (suc k) (b ∷ text)) next (ap (λ (l : List ℕ). b ∷ l) (at_mark mark text _ refl (omega (arith, next))))
 ]
 
-split_some : (b : Bool) (n i : ℕ) → (cond b (Some n) None) ≡ Some i → (n ≡ i) × (b ≡ true)
+pub split_some : (b : Bool) (n i : ℕ) → (cond b (Some n) None) ≡ Some i → (n ≡ i) × (b ≡ true)
 split_some true n i is = (cc, refl)
 split_some false n i is = absurd cc
 
-split_none : (b : Bool) (n : ℕ) → (cond b (Some n) None) ≡ None → b ≡ false
+pub split_none : (b : Bool) (n : ℕ) → (cond b (Some n) None) ≡ None → b ≡ false
 split_none true n is = absurd cc
 split_none false n is = refl
 

@@ -1,18 +1,39 @@
--- The lines of a script, and what each form of line is.
-use Rattle.std.specs.Prelude.{◌≡◌, ℕ, ◌+◌, ◌*◌, ◌-◌, ◌^◌, ◌<◌, ◌≤◌, ◌⊎◌, ◌++◌, List, [], ◌∷◌, Option, Some, None, codes, if◌then◌else◌, ◌==◌, nat_le, nat_lt, length}
+-- The lines of a script, and what each may ask.
+use Rattle.std.specs.Prelude.{◌≡◌, ⊤, ℕ, ◌+◌, ◌*◌, ◌-◌, ◌^◌, ◌<◌, ◌≤◌, ◌⊎◌, ◌++◌, List, [], ◌∷◌, Option, Some, None, codes, if◌then◌else◌, ◌==◌, nat_le, nat_lt, length}
 use Rattle.std.specs.Fmt.{decimal}
 use Rattle.script_lines.specs.declared.line.Line.{Line}
-use Rattle.script_lines.specs.declared.line.Line.TheVariants.{Put, Get, Force}
+use Rattle.script_lines.specs.declared.line.Line.TheVariants.{Put, Copy, Append, Cut, Sort, Swap, Get, Force, Skip}
 
--- one byte more in front of the first line
+-- one byte more in front of the first text
 abbrev pub before_first : ℕ → List (List ℕ) → List (List ℕ)
 before_first byte [] = (byte ∷ []) ∷ []
-before_first byte (line ∷ lines) = (byte ∷ line) ∷ lines
+before_first byte (text ∷ texts) = (byte ∷ text) ∷ texts
 
 -- a line ends by byte 10 or by the end; a last line of no bytes is no line
 abbrev pub lines_of : List ℕ → List (List ℕ)
 lines_of [] = []
 lines_of (byte ∷ rest) = if byte == 10 then [] ∷ lines_of rest else before_first byte (lines_of rest)
+
+-- a text cut at each space
+abbrev pub pieces_of : List ℕ → List (List ℕ)
+pieces_of [] = [] ∷ []
+pieces_of (byte ∷ rest) = if byte == 32 then [] ∷ pieces_of rest else before_first byte (pieces_of rest)
+
+-- those that are not empty
+abbrev pub filled : List (List ℕ) → List (List ℕ)
+filled [] = []
+filled ([] ∷ texts) = filled texts
+filled ((byte ∷ text) ∷ texts) = (byte ∷ text) ∷ filled texts
+
+-- the fields of a text: the pieces that its spaces part, but for empty ones
+abbrev pub fields_of : List ℕ → List (List ℕ)
+fields_of text = filled (pieces_of text)
+
+-- a line without the byte 13 that may stand at its end
+abbrev pub without_return : List ℕ → List ℕ
+without_return [] = []
+without_return (byte ∷ []) = if byte == 13 then [] else byte ∷ []
+without_return (byte ∷ next ∷ rest) = byte ∷ without_return (next ∷ rest)
 
 -- the value of a hexadecimal digit of either case
 abbrev pub hex_digit : ℕ → Option ℕ
@@ -35,40 +56,101 @@ pub data IsHexOf : List ℕ → List ℕ → Type 0 where
 abbrev pub IsHex : List ℕ → List ℕ → Type 0
 IsHex text bytes = ((text ≡ codes "-") × (bytes ≡ [])) ⊎ ((0 < length text) × IsHexOf text bytes)
 
+-- what a line may ask
+pub data Request : Type 0 where
+  -- the object gets these bytes
+  put : ℕ → List ℕ → Request
+  -- the first object's value goes to the second
+  copy : ℕ → ℕ → Request
+  -- the first object's value is added to the second's
+  append : ℕ → ℕ → Request
+  -- the first object keeps so many bytes, the third number, and the second gets its others
+  cut : ℕ → ℕ → ℕ → Request
+  -- the second object gets the first's records in order, each of so many bytes, the third number
+  sort : ℕ → ℕ → ℕ → Request
+  -- the two objects' values are exchanged
+  swap : ℕ → ℕ → Request
+  -- the value of the object is told
+  get : ℕ → Request
+  -- all commands are made stable
+  force : Request
+  -- nothing, and there is no answer
+  skip : Request
+
+-- what a field may say
+pub data Field : Type 0 where
+  word : List ℕ → Field
+  number : ℕ → Field
+  hex : List ℕ → Field
+
+-- the fields of a line that asks this
+abbrev pub form_of : Request → List Field
+form_of (put x bytes) = word (codes "put") ∷ number x ∷ hex bytes ∷ []
+form_of (copy x y) = word (codes "copy") ∷ number x ∷ number y ∷ []
+form_of (append x y) = word (codes "append") ∷ number x ∷ number y ∷ []
+form_of (cut x y place) = word (codes "cut") ∷ number x ∷ number y ∷ number place ∷ []
+form_of (sort x y width) = word (codes "sort") ∷ number x ∷ number y ∷ number width ∷ []
+form_of (swap x y) = word (codes "swap") ∷ number x ∷ number y ∷ []
+form_of (get x) = word (codes "get") ∷ number x ∷ []
+form_of force = word (codes "force") ∷ []
+form_of skip = []
+
+-- a text says what the field is to say
+abbrev pub Says : Field → List ℕ → Type 0
+Says (word w) text = text ≡ w
+Says (number n) text = (text ≡ decimal n) × (n < 2 ^ 32)
+Says (hex bytes) text = IsHex text bytes
+
+-- the texts say the fields, one each
+abbrev pub SayAll : List Field → List (List ℕ) → Type 0
+SayAll [] [] = ⊤
+SayAll [] (text ∷ texts) = ⊥
+SayAll (field ∷ fields) [] = ⊥
+SayAll (field ∷ fields) (text ∷ texts) = Says field text × SayAll fields texts
+
+-- no field, or a comment
+abbrev pub IsSkipped : List (List ℕ) → Type 0
+IsSkipped [] = ⊤
+IsSkipped (first ∷ others) = (comment : List ℕ) × (first ≡ codes "#" ++ comment)
+
+-- the fields ask this
+abbrev pub AreOf : Request → List (List ℕ) → Type 0
+AreOf skip fields = IsSkipped fields
+AreOf request fields = SayAll (form_of request) fields
+
 -- a line has at most so many bytes
 abbrev pub IsShort : List ℕ → Type 0
 IsShort line = length line ≤ 40000
 
--- `put`, an object and these digits, parted by one space each
-pub record IsPutOf (line : List ℕ) (object : ℕ) (hex : List ℕ) : Type 0 where
+-- the line asks this
+pub record AsksFor (line : List ℕ) (request : Request) : Type 0 where
   pub short : IsShort line
-  pub text : line ≡ codes "put " ++ decimal object ++ 32 ∷ hex
-  pub small : object < 2 ^ 32
+  pub fields : AreOf request (fields_of (without_return line))
 
--- the line asks that the object gets these bytes
-pub record IsPut (line : List ℕ) (object : ℕ) (bytes : List ℕ) : Type 0 where
-  pub hex : List ℕ
-  pub fields : IsPutOf line object hex
-  pub value : IsHex hex bytes
+-- the line asks nothing
+abbrev pub IsBad : List ℕ → Type 0
+IsBad line = (request : Request) → AsksFor line request → ⊥
 
--- the line asks for the value of the object
-pub record IsGet (line : List ℕ) (object : ℕ) : Type 0 where
-  pub short : IsShort line
-  pub text : line ≡ codes "get " ++ decimal object
-  pub small : object < 2 ^ 32
+-- the fields were taken apart: they ask this. The bytes of a put are still in hexadecimal.
+abbrev pub IsAsked : List (List ℕ) → Line → Type 0
+IsAsked fields (Put object digits) = ((bytes : List ℕ) × IsHex digits.now bytes) × ((bytes : List ℕ) → IsHex digits.now bytes → AreOf (put object bytes) fields)
+IsAsked fields (Copy from to) = AreOf (copy from to) fields
+IsAsked fields (Append from to) = AreOf (append from to) fields
+IsAsked fields (Cut from to place) = AreOf (cut from to place) fields
+IsAsked fields (Sort from to width) = AreOf (sort from to width) fields
+IsAsked fields (Swap first second) = AreOf (swap first second) fields
+IsAsked fields (Get object) = AreOf (get object) fields
+IsAsked fields Force = AreOf force fields
+IsAsked fields Skip = AreOf skip fields
 
--- the line asks that all commands are made stable
-abbrev pub IsForce : List ℕ → Type 0
-IsForce line = line ≡ codes "force"
-
--- a line that is none of these
-pub record IsBad (line : List ℕ) : Type 0 where
-  pub put : (object : ℕ) (bytes : List ℕ) → IsPut line object bytes → ⊥
-  pub get : (object : ℕ) → IsGet line object → ⊥
-  pub force : IsForce line → ⊥
-
--- a line that was taken apart
+-- a line that was taken apart: it asks this. The bytes of a put are still in hexadecimal.
 abbrev pub IsParsed : List ℕ → Line → Type 0
-IsParsed line (Put object hex) = IsPutOf line object hex.now × ((bytes : List ℕ) × IsHex hex.now bytes)
-IsParsed line (Get object) = IsGet line object
-IsParsed line Force = IsForce line
+IsParsed line (Put object digits) = ((bytes : List ℕ) × IsHex digits.now bytes) × ((bytes : List ℕ) → IsHex digits.now bytes → AsksFor line (put object bytes))
+IsParsed line (Copy from to) = AsksFor line (copy from to)
+IsParsed line (Append from to) = AsksFor line (append from to)
+IsParsed line (Cut from to place) = AsksFor line (cut from to place)
+IsParsed line (Sort from to width) = AsksFor line (sort from to width)
+IsParsed line (Swap first second) = AsksFor line (swap first second)
+IsParsed line (Get object) = AsksFor line (get object)
+IsParsed line Force = AsksFor line force
+IsParsed line Skip = AsksFor line skip

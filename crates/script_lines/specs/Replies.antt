@@ -1,13 +1,13 @@
--- The replies to lines, and their texts.
-use Rattle.std.specs.Prelude.{ℕ, ◌+◌, ◌/◌, ◌%◌, ◌++◌, List, [], ◌∷◌, codes, if◌then◌else◌, nat_lt}
+-- The replies to lines, what a dump says, and the texts.
+use Rattle.std.specs.Prelude.{⊤, ℕ, ◌<◌, ◌^◌, ◌+◌, ◌/◌, ◌%◌, ◌++◌, List, [], ◌∷◌, codes, if◌then◌else◌, nat_lt}
 use Rattle.std.specs.List.{flat_map}
 use Rattle.std.specs.Fmt.{decimal}
 use Rattle.oper_core.specs.declared.refusal.Refusal.{Refusal}
 use Rattle.oper_core.specs.declared.refusal.Refusal.TheVariants.{NoObject, Same, BadPlace, BadWidth, NotApp, NoInput, NotNode, NoKey, NodeFull, TooLarge}
 use Rattle.script_lines.specs.declared.answer.Answer.{Answer}
-use Rattle.script_lines.specs.declared.answer.Answer.TheVariants.{Done, Value, Forced, Bad, Refused, Full, End}
+use Rattle.script_lines.specs.declared.answer.Answer.TheVariants.{Done, Value, Forced, Bad, Refused, Full, End, Object, Commands}
 
--- what a line may be told
+-- what a line may be told, and the lines of a dump
 pub data Reply : Type 0 where
   ok : Reply
   value : List ℕ → Reply
@@ -18,6 +18,12 @@ pub data Reply : Type 0 where
   full : ℕ → ℕ → ℕ → Reply
   -- the number that no record may have
   end : ℕ → Reply
+  -- an object of a dump, and its value
+  object_value : ℕ → List ℕ → Reply
+  -- how many commands a dumped store was given
+  command_count : ℕ → Reply
+  -- nothing: the line is skipped
+  silence : Reply
 
 -- the reply that an answer of the program is
 abbrev pub reply_of : Answer → Reply
@@ -28,6 +34,8 @@ reply_of Bad = bad
 reply_of (Refused refusal) = refused refusal
 reply_of (Full used need limit) = full used need limit
 reply_of (End number) = end number
+reply_of (Object object bytes) = object_value object bytes.now
+reply_of (Commands n) = command_count n
 
 -- a lower-case hexadecimal digit
 abbrev pub hex_glyph : ℕ → ℕ
@@ -64,7 +72,20 @@ text_of bad = codes "bad"
 text_of (refused refusal) = codes "refused " ++ name_of refusal
 text_of (full used need limit) = codes "full " ++ decimal used ++ 32 ∷ decimal need ++ 32 ∷ decimal limit
 text_of (end number) = codes "end " ++ decimal number
+text_of (object_value object bytes) = decimal object ++ 32 ∷ hex_text bytes
+text_of (command_count n) = codes "commands " ++ decimal n
+text_of silence = []
 
--- a reply's text and a newline
+-- the numbers of a reply have at most 64 bits
+abbrev pub HasSmallNumbers : Reply → Type 0
+HasSmallNumbers (forced n) = n < 2 ^ 64
+HasSmallNumbers (full used need limit) = (used < 2 ^ 64) × (need < 2 ^ 64) × (limit < 2 ^ 64)
+HasSmallNumbers (end number) = number < 2 ^ 64
+HasSmallNumbers (object_value object bytes) = object < 2 ^ 64
+HasSmallNumbers (command_count n) = n < 2 ^ 64
+HasSmallNumbers reply = ⊤
+
+-- a reply's text and a newline, or nothing
 abbrev pub said_line : Reply → List ℕ
+said_line silence = []
 said_line reply = text_of reply ++ 10 ∷ []

@@ -1,12 +1,12 @@
-ghost use Rattle.std.specs.Prelude.{◌≡◌, ◌++◌, OnOk, IfOk};
+ghost use Rattle.std.specs.Prelude.{◌≡◌, ◌++◌, ◌∷◌, OnOk, IfOk};
 ghost use Rattle.std.specs.Fmt.{decimal};
-ghost use Rattle.script_lines.specs.Replies.{reply_of, text_of, said_line, name_of};
+ghost use Rattle.script_lines.specs.Replies.{reply_of, text_of, said_line, name_of, hex_text};
 
 use crate::hex::push_hex;
 use oper_core::{Memory, Refusal};
 use std::alloc::Global;
 
-/// What a line is answered.
+/// What a line is answered, and what a dump says line by line.
 #[derive(Clone, Copy, Debug, Drop)]
 pub enum Answer<'a> {
     /// A command was done: `ok`.
@@ -23,6 +23,10 @@ pub enum Answer<'a> {
     Full { used: u64, need: u64, limit: u64 },
     /// No record number is left: `end number`.
     End { number: u64 },
+    /// An object of a dump, and its value in lower-case hexadecimal: `X HEX`.
+    Object { object: u32, value: &'a [u8] },
+    /// So many commands were given to the dumped store: `commands n`.
+    Commands(u64),
 }
 
 /// The name of a refusal.
@@ -52,6 +56,27 @@ fn push_number(alloc: Global, text: &mut Vec<u8>, number: u64) -> Result<(), Mem
     Ok(())
 }
 
+/// Adds the bytes in hexadecimal, or `-` where there are none.
+fn push_value(text: &mut Vec<u8>, bytes: &[u8]) -> Result<(), Memory>
+    ensures { OnOk result (text.new.items ≡ text.old.items ++ hex_text bytes.now) }
+{
+    if bytes.is_empty() {
+        text.push(b'-')?;
+        return Ok(());
+    }
+    push_hex(text, bytes)?;
+    Ok(())
+}
+
+/// Adds a word, and a number in digits behind a space.
+fn push_counted(alloc: Global, text: &mut Vec<u8>, word: &[u8], number: u64) -> Result<(), Memory>
+    ensures { OnOk result (text.new.items ≡ text.old.items ++ word.now ++ 32 ∷ decimal number) }
+{
+    text.extend_from_slice(word)?;
+    text.push(b' ')?;
+    push_number(alloc, text, number)
+}
+
 /// The text of an answer, without a newline.
 #[tactic(auto, unfolding(crate::specs::Replies::text_of))]
 pub fn answer_text(alloc: Global, answer: &Answer<'_>) -> Result<Vec<u8>, Memory>
@@ -60,29 +85,27 @@ pub fn answer_text(alloc: Global, answer: &Answer<'_>) -> Result<Vec<u8>, Memory
     let mut text = Vec::new(alloc);
     match answer {
         Answer::Done => text.extend_from_slice(b"ok")?,
-        Answer::Value([]) => text.extend_from_slice(b"-")?,
-        Answer::Value(bytes) => push_hex(&mut text, bytes)?,
-        Answer::Forced(number) => {
-            text.extend_from_slice(b"forced ")?;
-            push_number(alloc, &mut text, *number)?;
-        }
+        Answer::Value(bytes) => push_value(&mut text, bytes)?,
+        Answer::Forced(count) => push_counted(alloc, &mut text, b"forced", *count)?,
         Answer::Bad => text.extend_from_slice(b"bad")?,
         Answer::Refused(refusal) => {
             text.extend_from_slice(b"refused ")?;
             text.extend_from_slice(refusal_name(*refusal))?;
         }
         Answer::Full { used, need, limit } => {
-            text.extend_from_slice(b"full ")?;
-            push_number(alloc, &mut text, *used)?;
+            push_counted(alloc, &mut text, b"full", *used)?;
             text.push(b' ')?;
             push_number(alloc, &mut text, *need)?;
             text.push(b' ')?;
             push_number(alloc, &mut text, *limit)?;
         }
-        Answer::End { number } => {
-            text.extend_from_slice(b"end ")?;
-            push_number(alloc, &mut text, *number)?;
+        Answer::End { number } => push_counted(alloc, &mut text, b"end", *number)?,
+        Answer::Object { object, value } => {
+            push_number(alloc, &mut text, u64::from(*object))?;
+            text.push(b' ')?;
+            push_value(&mut text, value)?;
         }
+        Answer::Commands(count) => push_counted(alloc, &mut text, b"commands", *count)?,
     }
     Ok(text)
 }

@@ -1,12 +1,15 @@
-//! The lines of a script and the answers to them, the words of the command line, and a reader of lines.
+//! The lines of a script and the answers to them, the lines of a dump, the words of the command line, and a reader of
+//! lines.
 //!
-//! The one contract is the grammar of `specs/`, a relation on bytes: a line is parsed exactly where it is in the
-//! grammar, an answer is exactly the text of its reply, and the reader gives exactly the lines of its source, one after
-//! the other. The crate stands on oper_core, whose refusals an answer names, on formats, whose limits the words are
-//! held to, and on the source of disk_model.
+//! The one contract is the grammar of `specs/`, a relation between a line's bytes and what they ask: a line is parsed
+//! exactly where it asks something, which is then one thing; an answer is exactly the text of its reply, and no other
+//! reply has this text; the reader gives exactly the lines of its source, one after the other. The
+//! crate stands on oper_core, whose refusals an answer names, on formats, whose limits the words are held to, and on the
+//! source of disk_model.
 #![tactic(auto)]
 
 mod answer;
+mod fields;
 mod hex;
 mod laws;
 mod line;
@@ -20,7 +23,7 @@ mod words;
 
 pub use answer::{Answer, answer_line, answer_text};
 pub use hex::hex_bytes;
-pub use laws::a_line_asks_one_thing;
+pub use laws::{a_line_asks_one_thing, a_text_says_one_thing};
 pub use line::{Bad, Line, MAX_LINE, parse_line};
 pub use next::Next;
 pub use read_error::ReadError;

@@ -1,9 +1,7 @@
-ghost use Rattle.std.specs.Prelude.{position, ◌==◌, ◌++◌, ◌∷◌, ◌≡◌, ◌≢◌, ◌<◌, ◌^◌, List, ℕ, IfOk, OnErr, IfSome, IfNone};
-ghost use Rattle.std.specs.Fmt.{decimal};
-ghost use Rattle.script_lines.specs.Grammar.{IsParsed, IsBad, IsHex};
+ghost use Rattle.std.specs.Prelude.{◌≡◌, ◌∷◌, IfOk, OnErr, IfSome, IfNone};
+ghost use Rattle.script_lines.specs.Grammar.{IsParsed, IsAsked, IsBad, Request, AreOf, fields_of, without_return};
 
-use crate::hex::is_hex;
-use crate::number::read_number;
+use crate::fields::{next_field, no_field, object_and_hex, one_number, three_numbers, two_numbers};
 use thiserror::Error;
 
 /// The most bytes that a line may have, its newline not counted.
@@ -14,10 +12,22 @@ pub const MAX_LINE: usize = 40000;
 pub enum Line<'a> {
     /// `put X HEX`: the object gets these bytes, still in hexadecimal.
     Put { object: u32, hex: &'a [u8] },
-    /// `get X`: the value of the object.
+    /// `copy X Y`: the value of `from` goes to `to`.
+    Copy { from: u32, to: u32 },
+    /// `append X Y`: the value of `from` is added at the end of that of `to`.
+    Append { from: u32, to: u32 },
+    /// `cut X Y K`: `from` keeps its first `place` bytes, and `to` gets the others.
+    Cut { from: u32, to: u32, place: u32 },
+    /// `sort X Y W`: `to` gets the records of `from`, each of `width` bytes, in order.
+    Sort { from: u32, to: u32, width: u32 },
+    /// `swap X Y`: the two values are exchanged.
+    Swap { first: u32, second: u32 },
+    /// `get X`: the value of the object is told.
     Get { object: u32 },
     /// `force`: all commands so far are made stable.
     Force,
+    /// A line without fields, or a comment: it gets no answer.
+    Skip,
 }
 
 /// The line is outside the grammar.
@@ -25,31 +35,39 @@ pub enum Line<'a> {
 #[error("bad")]
 pub struct Bad;
 
-/// What follows a word.
-fn after_word<'a>(line: &'a [u8], word: &[u8]) -> Option<&'a [u8]>
-    ensures some { IfSome result (λ rest. line.now ≡ word.now ++ rest.now) }
-    ensures none { IfNone result ((rest : List ℕ) → line.now ≢ word.now ++ rest) }
+/// A line without the byte 13 that may stand at its end.
+fn without_return(line: &[u8]) -> &[u8]
+    ensures { result.now ≡ without_return line.now }
 {
-    line.strip_prefix(word)
+    match line {
+        [text @ .., b'\r'] => text,
+        _ => line,
+    }
 }
 
-/// The place of the first space.
-fn space_in(text: &[u8]) -> Option<usize>
-    ensures { result ≡ position (λ byte. byte == 32) text.now }
+/// What a line asks whose first field is this word, the others being in the rest.
+fn line_of<'a>(word: &[u8], rest: &'a [u8]) -> Option<Line<'a>>
+    ensures some { IfSome result (IsAsked (word.now ∷ fields_of rest.now)) }
+    ensures none { IfNone result ((request : Request) → AreOf request (word.now ∷ fields_of rest.now) → ⊥) }
 {
-    text.iter().position(|byte| *byte == b' ')
-}
-
-/// The number and the digits of a `put`.
-fn put_fields(text: &[u8]) -> Option<(u32, &[u8])>
-    ensures some { IfSome result (λ fields. (text.now ≡ decimal fields.0 ++ 32 ∷ fields.1.now) × ((bytes : List ℕ) × IsHex fields.1.now bytes)) }
-    ensures none { IfNone result ((object : ℕ) (hex bytes : List ℕ) → object < 2 ^ 32 → IsHex hex bytes → text.now ≢ decimal object ++ 32 ∷ hex) }
-{
-    let space = space_in(text)?;
-    let object = read_number(&text[..space])?;
-    let hex = &text[space + 1..];
-    if is_hex(hex) {
-        Some((object, hex))
+    if word.starts_with(b"#") {
+        Some(Line::Skip)
+    } else if word == b"put".as_slice() {
+        object_and_hex(rest).map(|(object, hex)| Line::Put { object, hex })
+    } else if word == b"copy".as_slice() {
+        two_numbers(rest).map(|(from, to)| Line::Copy { from, to })
+    } else if word == b"append".as_slice() {
+        two_numbers(rest).map(|(from, to)| Line::Append { from, to })
+    } else if word == b"cut".as_slice() {
+        three_numbers(rest).map(|(from, to, place)| Line::Cut { from, to, place })
+    } else if word == b"sort".as_slice() {
+        three_numbers(rest).map(|(from, to, width)| Line::Sort { from, to, width })
+    } else if word == b"swap".as_slice() {
+        two_numbers(rest).map(|(first, second)| Line::Swap { first, second })
+    } else if word == b"get".as_slice() {
+        one_number(rest).map(|object| Line::Get { object })
+    } else if word == b"force".as_slice() {
+        no_field(rest).map(|()| Line::Force)
     } else {
         None
     }
@@ -63,20 +81,8 @@ pub fn parse_line(line: &[u8]) -> Result<Line<'_>, Bad>
     if line.len() > MAX_LINE {
         return Err(Bad);
     }
-    if let Some(rest) = after_word(line, b"put ") {
-        return match put_fields(rest) {
-            Some((object, hex)) => Ok(Line::Put { object, hex }),
-            None => Err(Bad),
-        };
+    match next_field(without_return(line)) {
+        Some((word, rest)) => line_of(word, rest).ok_or(Bad),
+        None => Ok(Line::Skip),
     }
-    if let Some(rest) = after_word(line, b"get ") {
-        return match read_number(rest) {
-            Some(object) => Ok(Line::Get { object }),
-            None => Err(Bad),
-        };
-    }
-    if line == b"force".as_slice() {
-        return Ok(Line::Force);
-    }
-    Err(Bad)
 }

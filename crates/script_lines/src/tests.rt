@@ -10,41 +10,59 @@ use oper_core::Refusal;
 use std::alloc::Global;
 use std::test::Fail;
 
-#[test]
-fn lines_are_parsed(rt: HostRuntime) {
-    let good: [(&[u8], Line<'_>); 6] = [
+fn put(object: u32, hex: &'static [u8]) -> Line<'static> {
+    Line::Put { object, hex }
+}
+
+fn cut(from: u32, to: u32, place: u32) -> Line<'static> {
+    Line::Cut { from, to, place }
+}
+
+fn sort(from: u32, to: u32, width: u32) -> Line<'static> {
+    Line::Sort { from, to, width }
+}
+
+fn good_lines() -> [(&'static [u8], Line<'static>); 28] {
+    [
+        (b"put 0 aa", put(0, b"aa")),
+        (b"put 4294967295 00FfA9", put(4294967295, b"00FfA9")),
+        (b"put 10 -", put(10, b"-")),
+        (b"copy 0 1", Line::Copy { from: 0, to: 1 }),
+        (b"copy 3 3", Line::Copy { from: 3, to: 3 }),
+        (b"append 7 12", Line::Append { from: 7, to: 12 }),
+        (b"cut 0 1 4294967295", cut(0, 1, 4294967295)),
+        (b"sort 5 6 0", sort(5, 6, 0)),
         (
-            b"put 0 aa",
-            Line::Put {
-                object: 0,
-                hex: b"aa",
-            },
-        ),
-        (
-            b"put 4294967295 00FfA9",
-            Line::Put {
-                object: 4294967295,
-                hex: b"00FfA9",
-            },
-        ),
-        (
-            b"put 10 -",
-            Line::Put {
-                object: 10,
-                hex: b"-",
+            b"swap 2 1",
+            Line::Swap {
+                first: 2,
+                second: 1,
             },
         ),
         (b"get 0", Line::Get { object: 0 }),
         (b"get 4294967295", Line::Get { object: 4294967295 }),
         (b"force", Line::Force),
-    ];
-    for (line, want) in good {
-        assert_eq!(rt; parse_line(line), Ok(want));
-    }
-    let bad: [&[u8]; 39] = [
-        b"",
-        b"# x",
-        b" ",
+        (b"  put   0  aa ", put(0, b"aa")),
+        (b"put 0 aa\r", put(0, b"aa")),
+        (b"put 0 aa  \r", put(0, b"aa")),
+        (b" force ", Line::Force),
+        (b"force\r", Line::Force),
+        (b"cut  10 20  30", cut(10, 20, 30)),
+        (b"", Line::Skip),
+        (b" ", Line::Skip),
+        (b"     ", Line::Skip),
+        (b"\r", Line::Skip),
+        (b"  \r", Line::Skip),
+        (b"#", Line::Skip),
+        (b"# x", Line::Skip),
+        (b"#put 0 aa", Line::Skip),
+        (b"  # put 0 1 2 3 4 5", Line::Skip),
+        (b"#\r\r", Line::Skip),
+    ]
+}
+
+fn bad_lines() -> [&'static [u8]; 53] {
+    [
         b"put",
         b"put 0",
         b"put 0 ",
@@ -55,36 +73,80 @@ fn lines_are_parsed(rt: HostRuntime) {
         b"put 0 -a",
         b"put 00 aa",
         b"put 01 aa",
-        b"put  0 aa",
-        b"put 0  aa",
-        b"put 0 aa ",
-        b" put 0 aa",
-        b"put 0 aa\r",
-        b"put 0 aa bb",
         b"put x aa",
         b"put 4294967296 aa",
+        b"put 0 aa bb",
+        b"put 0 aa # x",
+        b"put # aa",
+        b"put 0 aa\r\r",
+        b"\rput 0 aa",
+        b"put 0\raa",
         b"PUT 0 aa",
+        b"Put 0 aa",
         b"put\t0 aa",
+        b"put0 aa",
+        b"copy",
+        b"copy 0",
+        b"copy 00 1",
+        b"copy 0 01",
+        b"copy 0 1 2",
+        b"copy 0 -",
+        b"append 0",
+        b"append 0 1 2",
+        b"cut 0 1",
+        b"cut 0 1 2 3",
+        b"cut 0 1 x",
+        b"sort 0 1",
+        b"Sort 0 1 1",
+        b"sort 0 1 2 3",
+        b"swap 0",
+        b"swap 0 1 2",
+        b"swap 0 4294967296",
         b"get",
-        b"get ",
         b"get 00",
-        b"get 0 ",
         b"get 0 1",
         b"get -1",
         b"get +1",
-        b"get 4294967296",
         b"get 18446744073709551616",
-        b"Get 0",
-        b"force ",
         b"force 1",
         b"Force",
         b"forced",
-        b"copy 0 1",
+        b"forc",
         b"dump",
-    ];
-    for line in bad {
+        b"x # y",
+        b"\x00",
+        b"\r ",
+    ]
+}
+
+#[test]
+fn lines_are_parsed(rt: HostRuntime) {
+    for (line, want) in good_lines() {
+        assert_eq!(rt; parse_line(line), Ok(want), "{line:?}");
+    }
+    for line in bad_lines() {
         assert_eq!(rt; parse_line(line), Err(Bad), "{line:?}");
     }
+}
+
+fn is_skipped(line: &[u8]) -> bool {
+    matches!(parse_line(line), Ok(Line::Skip))
+}
+
+fn is_bad(line: &[u8]) -> bool {
+    matches!(parse_line(line), Err(Bad))
+}
+
+#[test]
+fn the_longest_line(rt: HostRuntime) -> Result<(), Fail> {
+    let mut line = vec![in rt.alloc(); b' '; 40000]?;
+    assert!(rt; is_skipped(line.as_slice()));
+    line[0] = b'#';
+    line[39999] = b'\r';
+    assert!(rt; is_skipped(line.as_slice()));
+    line.push(b' ')?;
+    assert!(rt; is_bad(line.as_slice()));
+    Ok(())
 }
 
 #[test]
@@ -104,6 +166,10 @@ fn hex_is_read(rt: HostRuntime) -> Result<(), Fail> {
     Ok(())
 }
 
+fn object(object: u32, value: &'static [u8]) -> Answer<'static> {
+    Answer::Object { object, value }
+}
+
 #[test]
 fn answers_have_their_texts(rt: HostRuntime) -> Result<(), Fail> {
     let full = Answer::Full {
@@ -114,7 +180,7 @@ fn answers_have_their_texts(rt: HostRuntime) -> Result<(), Fail> {
     let end = Answer::End {
         number: 4611686018427387904,
     };
-    let cases: [(Answer<'_>, &[u8]); 18] = [
+    let cases: [(Answer<'_>, &[u8]); 22] = [
         (Answer::Done, b"ok"),
         (Answer::Value(&[]), b"-"),
         (Answer::Value(&[0x00, 0x9a, 0xff]), b"009aff"),
@@ -136,6 +202,10 @@ fn answers_have_their_texts(rt: HostRuntime) -> Result<(), Fail> {
         (Answer::Refused(Refusal::TooLarge), b"refused TooLarge"),
         (full, b"full 5248 902 6144"),
         (end, b"end 4611686018427387904"),
+        (object(0, &[0xaa]), b"0 aa"),
+        (object(4294967295, &[0x0f, 0xf0]), b"4294967295 0ff0"),
+        (object(1, &[]), b"1 -"),
+        (Answer::Commands(1), b"commands 1"),
     ];
     for (answer, want) in cases {
         assert_eq!(rt; answer_text(rt.alloc(), &answer)?.as_slice(), want);
@@ -165,8 +235,11 @@ fn words_are_read(rt: HostRuntime) -> Result<(), Fail> {
         cap: 16,
         limit: 4128,
     };
-    let cases: [(&[&str], Option<Asked>); 20] = [
+    let cases: [(&[&str], Option<Asked>); 23] = [
         (&["redo", "run"], Some(Asked::Run)),
+        (&["redo", "dump"], Some(Asked::Dump)),
+        (&["redo", "dump", "run"], None),
+        (&["redo", "Dump"], None),
         (
             &["redo", "init", "1", "16", "4128"],
             Some(Asked::Init(least)),

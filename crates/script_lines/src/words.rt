@@ -15,6 +15,8 @@ pub enum Asked {
     Init(Params),
     /// `run`: a script is answered.
     Run,
+    /// `dump`: the objects that are not empty are told, and the number of commands.
+    Dump,
 }
 
 /// Whether a store may have these limits.
@@ -52,6 +54,7 @@ pub fn read_words(words: &[String]) -> Option<Asked>
 {
     match words {
         [_, form] if form.as_str() == "run" => Some(Asked::Run),
+        [_, form] if form.as_str() == "dump" => Some(Asked::Dump),
         [_, form, objects, cap, limit] if form.as_str() == "init" => {
             let params = read_params(objects.as_bytes(), cap.as_bytes(), limit.as_bytes())?;
             Some(Asked::Init(params))

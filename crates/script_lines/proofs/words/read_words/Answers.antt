@@ -8,6 +8,13 @@ returns-in-len2-clause-some c =
     let word : string_bytes c.form-item.result ≡ codes "run" = search rules in
     record { name = string_bytes (get_or c.args.words.now 0 c.form-item.result); text = two ∙ ap (λ (l : List ℕ). string_bytes (get_or c.args.words.now 0 c.form-item.result) ∷ l ∷ []) word; allowed = tt }
 
+pub returns-in-len2-2-clause-some : goal.returns-in-len2-2-clause-some
+returns-in-len2-2-clause-some c =
+    let form = c.form-item-then-words-lt3.result in
+    let two = of_two string_bytes c.args.words.now form (omega (arith, c.in-len2.len_at_least, c.in-len2.len_below)) c.form-item-then-words-lt3.is in
+    let word : string_bytes form ≡ codes "dump" = search rules in
+    record { name = string_bytes (get_or c.args.words.now 0 form); text = two ∙ ap (λ (l : List ℕ). string_bytes (get_or c.args.words.now 0 form) ∷ l ∷ []) word; allowed = tt }
+
 pub returns-in_ok-params-in-len5-clause-some : goal.returns-in_ok-params-in-len5-clause-some
 returns-in_ok-params-in-len5-clause-some c =
     let form = c.form-item-then-words-lt6.result in
