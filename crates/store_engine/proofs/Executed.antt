@@ -1,43 +1,38 @@
 -- What the execution of a command makes of an engine.
-use Rattle.std.proofs.Common.{◌≡◌, ◌≤◌, ◌<◌, ℕ, ◌+◌, ◌-◌, ◌^◌, None, Some, Bool, false, is_err, Result, Ok, Err, List, [], ◌∷◌, ◌++◌, length, map, take, fold, refl, sym, ap, ◌∙◌, subst, arith, length-append, append_assoc}
-use Rattle.std.specs.Prelude.{All, OnOk}
+use Rattle.std.proofs.Common.{◌≡◌, ◌≢◌, ◌⊎◌, inl, inr, ⊎_elim, ◌≤◌, ◌<◌, ℕ, ◌+◌, ◌-◌, ◌^◌, None, true, false, is_err, Result, Ok, Err, List, [], ◌∷◌, ◌++◌, length, drop, refl, sym, ap, ◌∙◌, subst, arith, length-append, append_assoc}
+use Rattle.std.specs.Prelude.{OnOk, OnErr, IfOk, IfErr}
 use Rattle.std.proofs.lemmas.List.{append-nil}
-use Rattle.std.proofs.lemmas.List.Elements.{All-cons, All-nil}
 use Rattle.std.proofs.lemmas.List.Sums.{fold-append}
 use Rattle.disk_model.specs.Disk.{Files, Disk}
-use Rattle.disk_model.specs.declared.machine.FileNo.{FileNo}
 use Rattle.oper_core.specs.LittleEndian.{length-little_bytes}
 use Rattle.oper_core.specs.State.{State, start, listed, with_values}
-use Rattle.oper_core.specs.Meaning.{Meaning, IsInGrammar, after, or_else}
+use Rattle.oper_core.specs.Meaning.{Meaning, IsInGrammar, after, read_values, refusal_of}
 use Rattle.oper_core.specs.declared.bounds.Bounds.{Bounds}
 use Rattle.oper_core.specs.declared.refusal.Refusal.{Refusal}
-use Rattle.op_meaning.specs.Put.{put_code, put_meaning}
-use Rattle.formats.specs.Log.{Header, end_of}
+use Rattle.op_codec.specs.AllOps.{all_meaning}
 use Rattle.formats.specs.Image.{EndsAt, NextIs}
-use Rattle.formats.specs.Records.{record_code, payload_of, records_of, commands_of, AreRecords}
+use Rattle.formats.specs.Records.{record_code, commands_of, AreRecords}
 use Rattle.formats.specs.declared.params.Params.{Params}
 use Rattle.formats.specs.declared.record.Record.{Record}
 use Rattle.formats.specs.declared.record.Record.TheVariants.{Command as Numbered}
-use Rattle.log_frames.specs.LogView.{LogView, used_of, end_with, growth_of}
+use Rattle.log_frames.specs.LogView.{used_of, end_with, growth_of}
 use Rattle.log_records.specs.RecordLog.{RecordLogView, Keeps}
 use Rattle.log_records.specs.RecordLaws.{keeps_append}
-use Rattle.store_engine.specs.Engine.{EngineView, view_of, AreParts, Carries, Holds, Kept, InEachImage, IsFull, IsAtEnd, TookIn, IsAsBefore}
+use Rattle.store_engine.specs.Engine.{EngineView, view_of, AreParts, Carries, Holds, Kept, InEachImage, IsFull, IsAtEnd, TookIn, IsAsBefore, LogLength, something_waits, log_length, grown, forced_length, HasPlace, LacksPlace, Fits, HasCause, Lengthens, refusal_in}
+use Rattle.store_engine.specs.declared.exec_err.ExecErr.{ExecErr}
+use Rattle.store_engine.specs.declared.exec_err.ExecErr.TheVariants.{Refused, LogFull, LsnEnd, DiskFault, Memory}
 use Rattle.store_engine.specs.Replay.{IsListing}
 use Rattle.store_engine.specs.Store.{Command, meaning_in, record_length, refusal_after, state_of}
 use Rattle.store_engine.proofs.ReplayLemmas.{lists_itself, after_listing}
+use Rattle.store_engine.proofs.Admitted.{in_grammar}
 use Rattle.store_engine.proofs.Opened.{lawful_in}
-use Rattle.store_engine.proofs.Holding.{commands-append, forced_is, accepted_is, lengths, held_stable, image_is, make_holds}
+use Rattle.store_engine.proofs.Holding.{commands-append, commands_length, accepted_is, none_waits, ends_here, held_stable, image_is, make_holds}
 
--- a command of the grammar is not refused, and any other is by its shape
-pub no_refusal : (p : Params) (commands : List Command) (op : Command) → IsInGrammar (meaning_in p) op → refusal_after p commands op ≡ None
-no_refusal p commands op grammar = ap (λ r. or_else r None) grammar
-
-pub refusal_is : (p : Params) (commands : List Command) (op : Command) (r : Refusal) → (meaning_in p).shape op ≡ Some r → refusal_after p commands op ≡ Some r
-refusal_is p commands op r shape = ap (λ x. or_else x None) shape
-
--- how long a record is
-pub code_length : (op : Command) → length (put_code op) ≡ 9 + length op.value
-code_length op = simp (length-append, length-little_bytes) (omega arith)
+-- the map of an engine that stands for commands refuses what is refused after them
+pub same_refusal : (p : Params) (d : Disk) (engine : EngineView) (commands : List Command) (op : Command) → Carries p d engine commands → refusal_in engine op ≡ refusal_after p commands op
+same_refusal p d engine commands op c =
+    let same : listed engine.map ≡ state_of p commands = λ i x. c.values.each x i in
+    ap (λ (q : Params). refusal_of (meaning_in q) (listed engine.map) op) c.params ∙ ap (λ (s : State). refusal_of (meaning_in p) s op) same
 
 pub record_code_length : (p : Params) (n : ℕ) (op : Command) → length (record_code (meaning_in p) (Numbered n op)) ≡ record_length p op
 record_code_length p n op = simp (length-append, length-little_bytes) (omega arith)
@@ -51,14 +46,6 @@ place_fits end (byte ∷ bytes) n limit fits some = omega arith
 pub place_over : (pending : List ℕ) (used n limit : ℕ) → limit - used < growth_of pending n → limit < used + (n + 5)
 place_over [] used n limit over = omega arith
 place_over (byte ∷ bytes) used n limit over = omega arith
-
-commands_length : {O : Type 0} (records : List (Record O)) → length (commands_of records) ≡ length records
-commands_length [] = refl
-commands_length (Numbered n op ∷ records) = let rest = commands_length records in omega (arith, rest)
-
-none_left : {O : Type 0} (records : List (Record O)) → length (commands_of records) ≡ 0 → records ≡ []
-none_left [] none = refl
-none_left (Numbered n op ∷ records) none = absurd (omega (arith, none))
 
 numbers_end : {O : Type 0} (m : Meaning O) (next : ℕ) (records : List (Record O)) → AreRecords m next records → next ≤ 2 ^ 62 → next + length records ≤ 2 ^ 62
 numbers_end m next [] are low = omega arith
@@ -77,20 +64,12 @@ module _ (p : Params) (d : Disk) (engine : EngineView) (commands : List Command)
       omega (arith, k.next_is, numbers_end (meaning_in p) engine.log.log.header.base (c.stable ++ c.pending) k.numbered (omega (arith, base)))
 
   module _ (all : engine.forced ≡ length commands) where
-    none_waits : c.pending ≡ []
-    none_waits = none_left c.pending (omega (arith, all, forced_is p d engine commands c, lengths p d engine commands c))
-
     in_each : (P : Files → Type 0) → P d.reads → InEachImage d P
     in_each P here = (here, λ told files said left. subst P (sym (image_is p d engine commands c told files said left)) here)
 
     -- the place where the log ends
     pub ends_at : InEachImage d (λ files. EndsAt files (used_of engine.log.log))
-    ends_at = in_each (λ files. EndsAt files (used_of engine.log.log)) (record {
-      header = engine.log.log.header;
-      payloads = map (payload_of (meaning_in p)) c.log.groups;
-      log = (held_stable p d engine commands c).log.log;
-      here = ap (λ (l : List ℕ). end_with engine.log.log.end l) (c.log.pending_are ∙ ap (λ (l : List (Record Command)). payload_of (meaning_in p) l) none_waits) ∙ c.log.place;
-    })
+    ends_at = in_each (λ files. EndsAt files (used_of engine.log.log)) (ends_here p d engine commands c all).0
 
     -- the number after its last record
     pub next_is : InEachImage d (λ files. NextIs (meaning_in p) files engine.log.next)
@@ -99,15 +78,15 @@ module _ (p : Params) (d : Disk) (engine : EngineView) (commands : List Command)
       groups = c.log.groups;
       log = (held_stable p d engine commands c).log;
       here = c.log.next_is ∙ ap (λ (l : List (Record Command)). engine.log.log.header.base + length l)
-          (ap (λ (l : List (Record Command)). c.stable ++ l) none_waits ∙ append-nil c.stable ∙ sym c.log.stable_are);
+          (ap (λ (l : List (Record Command)). c.stable ++ l) (none_waits p d engine commands c all) ∙ append-nil c.stable ∙ sym c.log.stable_are);
     })
 
 module _ (p : Params) (d : Disk) (before engine : EngineView) (commands : List Command) where
   -- the log is full
-  pub is_full : (op : Command) (used need limit : ℕ) → engine.forced ≡ length commands → Kept p before d engine commands → IsInGrammar (meaning_in p) op
+  pub is_full : (op : Command) (used need limit : ℕ) → engine.forced ≡ length commands → Kept p before d engine commands → refusal_after p commands op ≡ None
       → used ≡ used_of engine.log.log → need ≡ record_length p op + 5 → limit ≡ p.limit → limit < used + need → IsFull p d engine commands op used need limit
-  is_full op used need limit all kept grammar place asked bound over = record {
-    accepted = no_refusal p commands op grammar;
+  is_full op used need limit all kept accepted place asked bound over = record {
+    accepted = accepted;
     all = all;
     asked = asked;
     bound = bound;
@@ -116,15 +95,15 @@ module _ (p : Params) (d : Disk) (before engine : EngineView) (commands : List C
   }
 
   -- the numbers are used up
-  pub is_at_end : (op : Command) (number : ℕ) → engine.forced ≡ length commands → Kept p before d engine commands → IsInGrammar (meaning_in p) op
+  pub is_at_end : (op : Command) (number : ℕ) → engine.forced ≡ length commands → Kept p before d engine commands → refusal_after p commands op ≡ None
       → number ≡ engine.log.next → 2 ^ 62 ≤ before.log.next → (old : Disk) → Carries p old before commands → IsAtEnd p d engine commands op number
-  is_at_end op number all kept grammar here high old carried =
+  is_at_end op number all kept accepted here high old carried =
       let c = kept.holds.carried in
       let now = next_number p d engine commands c in
       let was = next_number p old before commands carried in
       let low = next_low p d engine commands c in
       record {
-        accepted = no_refusal p commands op grammar;
+        accepted = accepted;
         all = all;
         last = omega (arith, here, now, was, low, high);
         next = subst (λ (n : ℕ). InEachImage d (λ files. NextIs (meaning_in p) files n)) (sym here) (next_is p d engine commands c all);
@@ -208,14 +187,84 @@ pub on_ok : {T E : Type 0} (r : Result T E) (P : Type 0) → is_err r ≡ false 
 on_ok (Ok x) P fine here = here
 on_ok (Err e) P fine here = cc
 
--- one object that there is
-pub one_below : (x n : ℕ) (objects : List ℕ) → objects ≡ x ∷ [] → x < n → All (λ y. y < n) objects
-one_below x n objects is below = subst (λ (l : List ℕ). All (λ y. y < n) l) (sym is) (All-cons (λ y. y < n) x [] below (All-nil (λ y. y < n)))
+-- the two ways to say how long a log is with a record more
+grown_is : (used : ℕ) (pending : List ℕ) (n : ℕ) → grown (record { used = used; waits = something_waits pending }) n ≡ used + growth_of pending n
+grown_is used [] n = refl
+grown_is used (byte ∷ bytes) n = refl
+
+module _ (p : Params) (d : Disk) (engine : EngineView) (commands : List Command) (h : Holds p d engine commands) (op : Command) (accepted : refusal_after p commands op ≡ None) where
+  grows : grown (log_length engine) (record_length p op) ≡ used_of engine.log.log + growth_of engine.log.log.pending (record_length engine.params op)
+  grows = grown_is (used_of engine.log.log) engine.log.log.pending (record_length p op)
+      ∙ ap (λ (x : Params). used_of engine.log.log + growth_of engine.log.log.pending (record_length x op)) (sym h.params)
+
+  limit_is : engine.params.limit ≡ p.limit
+  limit_is = ap (λ (x : Params). x.limit) h.params
+
+  past : engine.params.limit < used_of engine.log.log + growth_of engine.log.log.pending (record_length engine.params op) → p.limit < grown (log_length engine) (record_length p op)
+  past over = omega (arith, over, grows, limit_is)
+
+  fits : used_of engine.log.log + growth_of engine.log.log.pending (record_length engine.params op) ≤ engine.params.limit → Fits p (log_length engine) op
+  fits room = omega (arith, room, grows, limit_is)
+
+  number_is : engine.log.next ≡ 1 + length commands
+  number_is = next_number p d engine commands h.carried
+
+  -- a command without a place
+  pub lacks_cause : (e : ExecErr) → LacksPlace engine op e → HasCause p commands (log_length engine) op (Err e)
+  lacks_cause (Refused refusal) lacks = absurd lacks
+  lacks_cause (LogFull used need limit) lacks = (accepted, past lacks.0, lacks.1)
+  lacks_cause (LsnEnd number) lacks = (accepted, fits lacks.0, omega (arith, lacks.1, number_is))
+  lacks_cause DiskFault lacks = (accepted, ⊎_elim (λ over. inl (past over)) (λ high. inr (omega (arith, high, number_is))) lacks)
+  lacks_cause Memory lacks = absurd lacks
+
+  -- and one with a place
+  pub place_cause : (result : Result ℕ ExecErr) → HasPlace engine op → IfErr result (λ e. e ≡ Memory) → HasCause p commands (log_length engine) op result
+  place_cause (Ok n) has only = let number = has.number in (accepted, fits has.room, omega (arith, number, number_is))
+  place_cause (Err e) has only = subst (λ (x : ExecErr). HasCause p commands (log_length engine) op (Err x)) (sym only) tt
+
+-- the length of the log with a record that is not empty
+lengthened : (end : ℕ) (pending : List ℕ) (first : ℕ) (rest : List ℕ) (n : ℕ) → length (first ∷ rest) ≡ n
+    → (end_with end (pending ++ first ∷ rest) ≡ grown (record { used = end_with end pending; waits = something_waits pending }) n) × (something_waits (pending ++ first ∷ rest) ≡ true)
+lengthened end [] first rest n long = (omega (arith, long), refl)
+lengthened end (byte ∷ bytes) first rest n long = (omega (arith, long, length-append bytes (first ∷ rest)), refl)
+
+module _ (p : Params) (before engine : EngineView) (op : Command) (same : before.params ≡ p) where
+  longer : TookIn op before engine → log_length engine ≡ record { used = grown (log_length before) (record_length p op); waits = true }
+  longer t =
+      let code = record_code (meaning_in before.params) (Numbered before.log.next op) in
+      let long : length code ≡ record_length p op = record_code_length before.params before.log.next op ∙ ap (λ (x : Params). record_length x op) same in
+      let is = lengthened before.log.log.end before.log.log.pending 1 (drop 1 code) (record_length p op) long in
+      let whole : log_length engine ≡ record { used = end_with before.log.log.end (before.log.log.pending ++ code); waits = something_waits (before.log.log.pending ++ code) }
+      = ap (λ (v : RecordLogView). record { used = used_of v.log; waits = something_waits v.log.pending }) t.log in
+      whole ∙ (λ i. record { used = is.0 i; waits = is.1 i })
+
+  -- how long it is after a command was taken in
+  pub taken_length : (result : Result ℕ ExecErr) → IfOk result (λ n. (n ≡ engine.accepted) × TookIn op before engine) → IfErr result (λ e. e ≡ Memory) → OnErr result (IsAsBefore before engine)
+      → Lengthens p (log_length before) op result (log_length engine)
+  taken_length (Ok n) took only kept = longer took.1
+  taken_length (Err e) took only kept =
+      subst (λ (x : ExecErr). Lengthens p (log_length before) op (Err x) (log_length engine)) (sym only) (ap (λ (v : RecordLogView). record { used = used_of v.log; waits = something_waits v.log.pending }) kept.log)
+
+-- and where it was not admitted
+pub same_length : (p : Params) (log : LogLength) (op : Command) (e : ExecErr) → (e ≡ Memory) ⊎ ((r : Refusal) × (e ≡ Refused r)) → Lengthens p log op (Err e) log
+same_length p log op e why = ⊎_elim
+    (λ (is : e ≡ Memory). subst (λ (x : ExecErr). Lengthens p log op (Err x) log) (sym is) refl)
+    (λ (is : (r : Refusal) × (e ≡ Refused r)). subst (λ (x : ExecErr). Lengthens p log op (Err x) log) (sym is.1) refl)
+    why
+
+-- and where it got no place
+pub seen_length : (p : Params) (before : EngineView) (old new : LogLength) (op : Command) (e : ExecErr) → LacksPlace before op e → (e ≢ DiskFault → new ≡ forced_length old) → Lengthens p old op (Err e) new
+seen_length p before old new op (Refused refusal) lacks emptied = absurd lacks
+seen_length p before old new op (LogFull used need limit) lacks emptied = emptied (λ is. cc)
+seen_length p before old new op (LsnEnd number) lacks emptied = emptied (λ is. cc)
+seen_length p before old new op DiskFault lacks emptied = tt
+seen_length p before old new op Memory lacks emptied = absurd lacks
 
 module _ (q : Params) (map' new values : List (List ℕ)) (log after' : RecordLogView) (n : ℕ) (op : Command) (parts : AreParts q map' log) (grammar : IsInGrammar (meaning_in q) op)
-    (values_are : values ≡ op.value ∷ []) (size : length new ≡ length map') (set : (x : ℕ) → listed new x ≡ with_values (listed map') (op.object ∷ []) values x)
+    (values_are : values ≡ (meaning_in q).effect op (read_values (meaning_in q) (listed map') op)) (size : length new ≡ length map')
+    (set : (x : ℕ) → listed new x ≡ with_values (listed map') ((meaning_in q).writes op) values x)
     (is : after' ≡ record log {
-      log = record log.log { pending = log.log.pending ++ record_code (put_meaning log.bounds) (Numbered n op); room = after'.log.room };
+      log = record log.log { pending = log.log.pending ++ record_code (all_meaning log.bounds) (Numbered n op); room = after'.log.room };
       next = log.next + 1;
       accepted = log.accepted + 1;
     }) where
@@ -236,15 +285,14 @@ module _ (q : Params) (map' new values : List (List ℕ)) (log after' : RecordLo
     accepted = refl;
     forced = refl;
     log = is ∙ ap (λ (code : List ℕ). record log { log = record log.log { pending = log.log.pending ++ code; room = after'.log.room }; next = log.next + 1; accepted = log.accepted + 1 })
-        (ap (λ (b : Bounds). record_code (put_meaning b) (Numbered n op)) parts.bounds ∙ ap (λ (k : ℕ). record_code (meaning_in q) (Numbered k op)) number);
+        (ap (λ (b : Bounds). record_code (all_meaning b) (Numbered n op)) parts.bounds ∙ ap (λ (k : ℕ). record_code (meaning_in q) (Numbered k op)) number);
     values = lists_after;
   })
 
 -- a command that was taken in is executed
 pub executed : (p : Params) (old new : Disk) (before between engine : EngineView) (commands : List Command) (op : Command) (n : ℕ) → new ≡ old → between ≡ before → Holds p old before commands
-    → IsInGrammar (meaning_in before.params) op → before.log.next < 2 ^ 62 → (n ≡ engine.accepted) × TookIn op between engine
+    → refusal_in before op ≡ None → before.log.next < 2 ^ 62 → (n ≡ engine.accepted) × TookIn op between engine
     → (refusal_after p commands op ≡ None) × (n ≡ length commands + 1) × Kept p before new engine (commands ++ op ∷ [])
-executed p old new before between engine commands op n same_disk same h grammar number t =
-    let taken = took_in p old before engine commands h op grammar number (subst (λ (e : EngineView). TookIn op e engine) same t.1) in
-    let mine = subst (λ (x : Params). IsInGrammar (meaning_in x) op) h.params grammar in
-    (no_refusal p commands op mine, t.0 ∙ taken.0, subst (λ (d : Disk). Kept p before d engine (commands ++ op ∷ [])) (sym same_disk) taken.1)
+executed p old new before between engine commands op n same_disk same h accepted number t =
+    let taken = took_in p old before engine commands h op (in_grammar before op accepted) number (subst (λ (e : EngineView). TookIn op e engine) same t.1) in
+    (sym (same_refusal p old before commands op h.carried) ∙ accepted, t.0 ∙ taken.0, subst (λ (d : Disk). Kept p before d engine (commands ++ op ∷ [])) (sym same_disk) taken.1)

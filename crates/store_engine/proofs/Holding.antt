@@ -1,27 +1,37 @@
 -- What an engine that carries commands stands for, and what a force makes of it.
-use Rattle.std.proofs.Common.{◌≡◌, ◌≤◌, ⊎_elim, ◌⊎◌, inl, inr, ℕ, ◌+◌, List, [], ◌∷◌, ◌++◌, length, take, drop, refl, sym, ap, ◌∙◌, subst, arith, length-append, append_assoc}
-use Rattle.std.specs.Prelude.{Some, slice_get}
+use Rattle.std.proofs.Common.{◌≡◌, ◌≤◌, ⊎_elim, ◌⊎◌, ℕ, ◌+◌, List, [], ◌∷◌, ◌++◌, length, map, false, take, refl, sym, ap, ◌∙◌, subst, arith, length-append}
+use Rattle.std.specs.Prelude.{Some}
 use Rattle.std.proofs.lemmas.List.{append-nil, take_at, take_all}
 use Rattle.std.proofs.lemmas.Option.{slice_get-get_or}
-use Rattle.disk_model.specs.Disk.{Files, Disk, IsDisk, Runs, Same, Any, In, IsSettled, LeavesOnly}
+use Rattle.disk_model.specs.Disk.{Files, Disk, IsDisk, Runs, Same, Any, In, LeavesOnly}
 use Rattle.disk_model.specs.Moments.{started, weaker}
 use Rattle.disk_model.specs.declared.machine.FileNo.{FileNo}
 use Rattle.disk_model.specs.declared.machine.FileNo.TheVariants.{Objects, LogA, LogB}
 use Rattle.formats.specs.Log.{Header, IsShutLog}
 use Rattle.formats.specs.Objects.{IsObjectsFile, bounds_of}
-use Rattle.formats.specs.Records.{commands_of, IsRecordLog}
+use Rattle.formats.specs.Image.{EndsAt}
+use Rattle.formats.specs.Records.{payload_of, commands_of, IsRecordLog}
+use Rattle.log_frames.specs.LogView.{end_with}
 use Rattle.formats.specs.declared.params.Params.{Params}
 use Rattle.formats.specs.declared.record.Record.{Record}
 use Rattle.formats.specs.declared.record.Record.TheVariants.{Command as Numbered}
 use Rattle.oper_core.specs.declared.bounds.Bounds.{Bounds}
-use Rattle.op_meaning.specs.Put.{put_meaning}
+use Rattle.op_codec.specs.AllOps.{all_meaning}
 use Rattle.log_records.specs.RecordLog.{RecordLogView, Keeps, HoldsRecords, IsForcedPartly}
 use Rattle.store_engine.specs.Store.{Command, meaning_in, Stands}
-use Rattle.store_engine.specs.Engine.{EngineView, view_of, AreParts, IsMapOf, Carries, Holds, Between, Kept}
+use Rattle.store_engine.specs.Engine.{EngineView, view_of, AreParts, IsMapOf, Carries, Holds, Between, Kept, something_waits, log_length}
 
 pub commands-append : {O : Type 0} (xs ys : List (Record O)) → commands_of (xs ++ ys) ≡ commands_of xs ++ commands_of ys
 commands-append [] ys = refl
 commands-append {O} (Numbered n op ∷ xs) ys = ap (λ (l : List O). op ∷ l) (commands-append xs ys)
+
+pub commands_length : {O : Type 0} (records : List (Record O)) → length (commands_of records) ≡ length records
+commands_length [] = refl
+commands_length (Numbered n op ∷ records) = let rest = commands_length records in omega (arith, rest)
+
+none_left : {O : Type 0} (records : List (Record O)) → length (commands_of records) ≡ 0 → records ≡ []
+none_left [] none = refl
+none_left (Numbered n op ∷ records) none = absurd (omega (arith, none))
 
 module _ (p : Params) where
   -- files with these parts stand for the commands of the records
@@ -79,6 +89,22 @@ module _ (p : Params) where
           slice_get-get_or engine.map x [] (omega (arith, size, below)) ∙ ap (λ (v : List ℕ). Some v) (c.values.each x);
     }
 
+    pub none_waits : engine.forced ≡ length commands → c.pending ≡ []
+    none_waits all = none_left c.pending (omega (arith, all, forced_is, lengths))
+
+    -- where all are forced, the log ends where the engine says
+    pub ends_here : engine.forced ≡ length commands → EndsAt d.reads (log_length engine).used × ((log_length engine).waits ≡ false)
+    ends_here all =
+        let empty : engine.log.log.pending ≡ [] = c.log.pending_are ∙ ap (λ (l : List (Record Command)). payload_of (meaning_in p) l) (none_waits all) in (
+          record {
+            header = engine.log.log.header;
+            payloads = map (payload_of (meaning_in p)) c.log.groups;
+            log = held_stable.log.log;
+            here = ap (λ (l : List ℕ). end_with engine.log.log.end l) empty ∙ c.log.place;
+          },
+          ap (λ (l : List ℕ). something_waits l) empty,
+        )
+
     -- an engine that carries commands stands for them
     pub make_holds : Holds p d engine commands
     make_holds = record {
@@ -89,6 +115,7 @@ module _ (p : Params) where
       now = stands_now;
       images = λ told files said left. subst (λ (f : Files). Stands p f (take engine.forced commands)) (sym (image_is told files said left)) stands_now;
       map_is = map_is;
+      ends = ends_here;
       carried = c;
     }
 
@@ -139,12 +166,12 @@ module _ (p : Params) where
 
     -- after a force all commands are stable
     pub forced_all : Runs (In log.log.active Any) Same old new
-        → ((stable pending : List (Record Command)) → Keeps (put_meaning log.bounds) old log stable pending → Keeps (put_meaning log.bounds) new after (stable ++ pending) [])
+        → ((stable pending : List (Record Command)) → Keeps (all_meaning log.bounds) old log stable pending → Keeps (all_meaning log.bounds) new after (stable ++ pending) [])
         → after.log.active ≡ log.log.active → after.log.header ≡ log.log.header
         → (after.forced ≡ length commands) × (after.forced ≡ length commands) × Kept p engine new (view_of q map after) commands
     forced_all runs keeps active header =
         let c = inside in
-        let acknowledged = subst (λ (b : Bounds). (stable pending : List (Record Command)) → Keeps (put_meaning b) old log stable pending → Keeps (put_meaning b) new after (stable ++ pending) []) own_bounds keeps in
+        let acknowledged = subst (λ (b : Bounds). (stable pending : List (Record Command)) → Keeps (all_meaning b) old log stable pending → Keeps (all_meaning b) new after (stable ++ pending) []) own_bounds keeps in
         let reads = subst (λ (f : FileNo). In f Any old.reads new.reads) c.active (runs.reads c.told) in
         let carried : Carries p new (view_of q map after) commands = record {
           told = runs.time.files_told.0 c.told;
@@ -167,9 +194,9 @@ module _ (p : Params) where
         (all, all, record { holds = make_holds new (view_of q map after) commands carried; rising = omega (arith, all, before) })
 
     -- a crash within it leaves the commands that were stable, or all
-    pub forced_between : ((stable pending : List (Record Command)) → Keeps (put_meaning log.bounds) old log stable pending → LeavesOnly old new (IsForcedPartly (put_meaning log.bounds) old log stable pending))
+    pub forced_between : ((stable pending : List (Record Command)) → Keeps (all_meaning log.bounds) old log stable pending → LeavesOnly old new (IsForcedPartly (all_meaning log.bounds) old log stable pending))
         → LeavesOnly old new (Between p old engine.forced commands)
     forced_between leaves =
         let c = inside in
-        let own = subst (λ (b : Bounds). (stable pending : List (Record Command)) → Keeps (put_meaning b) old log stable pending → LeavesOnly old new (IsForcedPartly (put_meaning b) old log stable pending)) own_bounds leaves in
+        let own = subst (λ (b : Bounds). (stable pending : List (Record Command)) → Keeps (all_meaning b) old log stable pending → LeavesOnly old new (IsForcedPartly (all_meaning b) old log stable pending)) own_bounds leaves in
         subst (λ (e : EngineView). LeavesOnly old new (Between p old e.forced commands)) same (force_between old (view_of q map log) commands c new (own c.stable c.pending c.log))

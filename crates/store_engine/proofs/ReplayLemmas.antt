@@ -1,13 +1,13 @@
 -- What an operation makes of a listed state.
-use Rattle.std.proofs.Common.{◌≡◌, ℕ, zero, suc, ◌≤◌, ◌<◌, ◌==◌, Bool, true, false, if◌then◌else◌, List, [], ◌∷◌, ◌++◌, length, map, take, fold, get_or, refl, sym, ap, ◌∙◌, subst, arith, ◌+◌, add-one}
+use Rattle.std.proofs.Common.{◌≡◌, ℕ, ◌≤◌, ◌<◌, ◌==◌, true, false, if◌then◌else◌, List, [], ◌∷◌, length, map, take, fold, get_or, refl, sym, ap, ◌∙◌, subst, arith, ◌+◌, add-one}
 use Rattle.std.proofs.Math.Seq.{take-suc}
 use Rattle.std.proofs.lemmas.List.Sums.{fold-append}
 use Rattle.std.specs.Prelude.{All}
 use Rattle.std.proofs.lemmas.List.{length-map}
 use Rattle.std.proofs.lemmas.List.Elements.{All-head, All-tail, All-map}
-use Rattle.oper_core.specs.State.{State, start, listed, with_values, value_for, is_among}
-use Rattle.oper_core.specs.Meaning.{Meaning, IsLawful, IsInGrammar, FitsReads, after, state_after, read_values}
-use Rattle.formats.specs.Records.{IsRecord, AreRecords, commands_of}
+use Rattle.oper_core.specs.State.{State, listed, with_values, value_for, is_among}
+use Rattle.oper_core.specs.Meaning.{Meaning, IsLawful, IsInGrammar, FitsReads, after, read_values}
+use Rattle.formats.specs.Records.{commands_of}
 use Rattle.formats.specs.declared.record.Record.{Record}
 use Rattle.formats.specs.declared.record.Record.TheVariants.{Command}
 use Rattle.store_engine.specs.Replay.{IsListing, after_record}

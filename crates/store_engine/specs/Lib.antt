@@ -2,3 +2,5 @@ pub mod Engine
 pub mod Opening
 pub mod Replay
 pub mod Store
+pub mod ImageLaws
+pub mod Uniqueness

@@ -11,7 +11,7 @@ use Rattle.log_frames.specs.declared.log_err.LogErr.{LogErr}
 use Rattle.log_frames.specs.declared.log_err.LogErr.TheVariants as of_log
 use Rattle.stable_objects.specs.declared.slot_err.SlotErr.{SlotErr}
 use Rattle.stable_objects.specs.declared.slot_err.SlotErr.TheVariants as of_slots
-use Rattle.log_records.specs.RecordLog.{RecordLogView, Keeps}
+use Rattle.log_records.specs.RecordLog.{Keeps}
 use Rattle.store_engine.specs.Engine.{EngineView}
 use Rattle.store_engine.specs.Replay.{IsListing}
 use Rattle.store_engine.specs.Store.{Command, meaning_in, state_of}

@@ -3,7 +3,7 @@ ghost use Rattle.formats.specs.Objects.{bounds_of};
 
 use formats::Params;
 use log_records::RecordLog;
-use op_meaning::Put;
+use op_codec::AllOps;
 use oper_core::{Bounds, State};
 use std::alloc::Global;
 use std::marker::Model;
@@ -14,7 +14,7 @@ pub struct Engine {
     pub(crate) alloc: Global,
     pub(crate) params: Params,
     pub(crate) state: State,
-    pub(crate) log: RecordLog<Put>,
+    pub(crate) log: RecordLog<AllOps>,
 }
 
 impl Model for Engine {
@@ -36,6 +36,20 @@ impl Engine {
             objects: self.params.objects,
             cap: self.params.cap,
         }
+    }
+
+    /// How many objects the store has, how many bytes each may hold, and how long the log may be.
+    pub fn params(&self) -> Params
+        ensures { result ≡ self.now.params }
+    {
+        self.params
+    }
+
+    /// How many commands were accepted since the store was made.
+    pub fn accepted(&self) -> u64
+        ensures { result ≡ self.now.accepted }
+    {
+        self.log.accepted()
     }
 
     /// The value of an object, none exactly where there is no such object.

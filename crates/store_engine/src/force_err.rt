@@ -6,7 +6,4 @@ pub enum ForceErr {
     /// The disk failed, and the engine is not used again.
     #[error("the disk failed")]
     DiskFault,
-    /// Want of memory.
-    #[error("out of memory")]
-    Memory,
 }

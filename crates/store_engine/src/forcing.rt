@@ -1,9 +1,9 @@
 // Every command becomes stable.
-ghost use Rattle.std.specs.Prelude.{◌≡◌, List, length, OnOk, IfOk, IfErr, IsErrOf};
+ghost use Rattle.std.specs.Prelude.{◌≡◌, List, length, OnOk, IfOk, IsErr};
 ghost use Rattle.disk_model.specs.Disk.{Rises, Passes, LeavesOnly};
 ghost use Rattle.formats.specs.declared.params.Params.{Params};
 ghost use Rattle.log_frames.specs.LogView.{used_of};
-ghost use Rattle.store_engine.specs.Engine.{Holds, Kept, Between};
+ghost use Rattle.store_engine.specs.Engine.{Holds, Kept, Between, log_length, forced_length};
 ghost use Rattle.store_engine.specs.Store.{Command};
 
 use crate::Engine;
@@ -18,10 +18,10 @@ impl Engine {
         ensures ok { (p : Params) (commands : List Command) → Holds p (M.disk machine.old) self.old commands →
             IfOk result (λ n. (n ≡ length commands) × (self.new.forced ≡ length commands) × Kept p self.old (M.disk machine.new) self.new commands) }
         ensures place { OnOk result (used_of self.new.log.log ≡ used_of self.old.log.log) }
+        ensures emptied { OnOk result (log_length self.new ≡ forced_length (log_length self.old)) }
         ensures moments { (p : Params) (commands : List Command) → Holds p (M.disk machine.old) self.old commands → (M.disk machine.old).tells_moments →
             LeavesOnly (M.disk machine.old) (M.disk machine.new) (Between p (M.disk machine.old) self.old.forced commands) }
-        ensures only { IfErr result (λ e. e ≡ ForceErr.DiskFault) }
-        ensures fault { IsErrOf result ForceErr.DiskFault → Rises (M.disk machine.old).disk_faults (M.disk machine.new).disk_faults }
+        ensures cause { IsErr result → Rises (M.disk machine.old).disk_faults (M.disk machine.new).disk_faults }
     {
         match self.log.force(machine) {
             Ok(()) => Ok(self.log.forced()),

@@ -13,9 +13,6 @@ pub enum InitErr {
     /// The disk failed.
     #[error("the disk failed")]
     DiskFault,
-    /// Want of memory.
-    #[error("out of memory")]
-    Memory,
 }
 
 impl From<Failed> for InitErr {

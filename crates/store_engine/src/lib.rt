@@ -2,7 +2,7 @@
 //!
 //! The one contract is [`Engine`]: engine and files stand for the commands that were accepted, the files for those that
 //! are forced, and a crash at any moment of a call leaves a store with no fewer. The crate stands on log_records for the
-//! log, on stable_objects for the objects file, on oper_core and op_meaning for what a command means, on formats for what
+//! log, on stable_objects for the objects file, on oper_core and op_codec for what a command means, on formats for what
 //! the files are, and on disk_model for the machine.
 #![tactic(auto)]
 
@@ -18,6 +18,7 @@ mod replay;
 mod restart_err;
 #[cfg(test)]
 mod tests;
+mod uniqueness;
 
 pub use engine::Engine;
 pub use exec_err::ExecErr;
@@ -25,3 +26,4 @@ pub use force_err::ForceErr;
 pub use init_err::InitErr;
 pub use replay::{made, redo, replayed};
 pub use restart_err::RestartErr;
+pub use uniqueness::one_state;

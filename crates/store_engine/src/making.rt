@@ -1,6 +1,6 @@
 // A new store is laid out.
-ghost use Rattle.std.specs.Prelude.{◌≡◌, ◌≢◌, [], OnOk, IfErr, IsErrOf};
-ghost use Rattle.disk_model.specs.Disk.{Rises, Passes, LeavesOnly, IsSettled};
+ghost use Rattle.std.specs.Prelude.{◌≡◌, [], OnOk, IsErrOf};
+ghost use Rattle.disk_model.specs.Disk.{Rises, Passes, Stays, LeavesOnly, IsSettled};
 ghost use Rattle.disk_model.specs.declared.machine.FileNo.TheVariants.{Objects};
 ghost use Rattle.formats.specs.Objects.{IsInRange};
 ghost use Rattle.formats.specs.Image.{BeginsStore};
@@ -12,7 +12,7 @@ use crate::init_err::InitErr;
 use disk_model::Machine;
 use formats::Params;
 use log_records::RecordLog;
-use op_meaning::Put;
+use op_codec::AllOps;
 use oper_core::Bounds;
 use stable_objects::Slots;
 
@@ -24,17 +24,17 @@ impl Engine {
         ensures quiet { (M.disk machine.old).tells_files → (M.disk machine.new).said ≡ (M.disk machine.old).said }
         ensures ok { (M.disk machine.old).tells_files → IsSettled (M.disk machine.old) → OnOk result (InEachImage (M.disk machine.new) (λ files. Stands params files [])) }
         ensures already { (M.disk machine.old).tells_files → IsErrOf result InitErr.AlreadyStore → BeginsStore ((M.disk machine.old).reads Objects) }
-        ensures same { (M.disk machine.old).tells_files → IsErrOf result InitErr.AlreadyStore → (M.disk machine.new).reads ≡ (M.disk machine.old).reads }
+        ensures kept { (M.disk machine.old).tells_files → BeginsStore ((M.disk machine.old).reads Objects) → Stays (M.disk machine.old) (M.disk machine.new) }
         ensures moments { (M.disk machine.old).tells_moments → IsSettled (M.disk machine.old) → (BeginsStore ((M.disk machine.old).reads Objects) → ⊥) →
             LeavesOnly (M.disk machine.old) (M.disk machine.new) (λ files said. IsNew params files × (said ≡ (M.disk machine.old).said)) }
-        ensures only { IfErr result (λ e. e ≢ InitErr.Memory) }
+        ensures fresh { (M.disk machine.old).tells_files → OnOk result (BeginsStore ((M.disk machine.old).reads Objects) → ⊥) }
         ensures fault { IsErrOf result InitErr.DiskFault → Rises (M.disk machine.old).disk_faults (M.disk machine.new).disk_faults }
     {
         if Slots::begins(machine)? {
             return Err(InitErr::AlreadyStore);
         }
         Slots::shut(machine)?;
-        if RecordLog::<Put>::create(machine).is_err() {
+        if RecordLog::<AllOps>::create(machine).is_err() {
             return Err(InitErr::DiskFault);
         }
         let bounds = Bounds {

@@ -1,7 +1,8 @@
 // What no clause says: that calls succeed, and worked numbers.
-use crate::{Engine, ExecErr, InitErr, RestartErr};
+use crate::{Engine, ExecErr, InitErr, RestartErr, one_state};
 use disk_model::{Crash, FileNo, Fuse, Machine, MemMachine};
 use formats::Params;
+use op_codec::AllOps;
 use op_meaning::Put;
 use oper_core::{ByteList, Refusal};
 use std::alloc::Global;
@@ -13,41 +14,117 @@ const PARAMS: Params = Params {
     limit: 4128,
 };
 
-fn new_store(alloc: Global) -> Result<MemMachine, Fail> {
+const SIXTEEN: &[u8] = b"sixteen bytes ..";
+
+fn new_files(alloc: Global) -> Result<MemMachine, Fail> {
     let mut machine = MemMachine::new(alloc, [512, 8192, 16], 400, 16384, Vec::new(alloc))?;
     Engine::init(&mut machine, PARAMS)?;
     Ok(machine)
 }
 
-fn put(alloc: Global, object: u32, value: &[u8]) -> Result<Put, Fail> {
-    Ok(Put::new(object, ByteList::new(value.to_vec(alloc)?)))
+// A store in use, on its machine.
+#[derive(Drop)]
+struct Store {
+    alloc: Global,
+    machine: MemMachine,
+    engine: Engine,
+}
+
+impl Store {
+    // A store of 4 objects without commands.
+    fn new(alloc: Global) -> Result<Store, Fail> {
+        Store::open(alloc, new_files(alloc)?)
+    }
+
+    fn open(alloc: Global, mut machine: MemMachine) -> Result<Store, Fail> {
+        let engine = Engine::restart(alloc, &mut machine)?;
+        Ok(Store {
+            alloc,
+            machine,
+            engine,
+        })
+    }
+
+    // Gives a value to an object. It tells the number of commands, or why the command is refused.
+    fn exec(&mut self, object: u32, value: &[u8]) -> Result<Result<u64, ExecErr>, Fail> {
+        let value = ByteList::new(value.to_vec(self.alloc)?);
+        Ok(
+            self.engine
+                .exec(&mut self.machine, AllOps::Put(Put::new(object, value))),
+        )
+    }
+
+    // Gives a value to an object, and tells the number of commands.
+    fn put(&mut self, object: u32, value: &[u8]) -> Result<u64, Fail> {
+        Ok(self.exec(object, value)??)
+    }
+
+    fn force(&mut self) -> Result<u64, Fail> {
+        Ok(self.engine.force(&mut self.machine)?)
+    }
+
+    // Forces, stopped after so many calls, and opens what a crash leaves. It tells whether the force was whole.
+    fn stopped_force(mut self, calls: u64, how: Crash) -> Result<(bool, Store), Fail> {
+        let mut fuse = Fuse::new(self.machine, calls);
+        let whole = self.engine.force(&mut fuse).is_ok();
+        let again = Store::open(self.alloc, fuse.into_inner().crash(how))?;
+        Ok((whole, again))
+    }
+
+    // Opens what a crash leaves.
+    fn after_crash(self, how: Crash) -> Result<Store, Fail> {
+        Store::open(self.alloc, self.machine.crash(how))
+    }
+
+    // Whether an object has this value, or is none where the value is none.
+    fn holds(&self, object: u32, value: Option<&[u8]>) -> bool {
+        self.engine.get(object) == value
+    }
+}
+
+// Puts and forces, then one put that no force follows: the numbers of the calls.
+fn put_force_put(store: &mut Store) -> Result<[u64; 5], Fail> {
+    Ok([
+        store.force()?,
+        store.put(3, b"first")?,
+        store.put(0, b"")?,
+        store.force()?,
+        store.put(3, b"second")?,
+    ])
+}
+
+// Those calls and a crash. It tells their numbers, and whether the last value was there before the crash.
+fn crashed(alloc: Global, how: Crash) -> Result<([u64; 5], bool, Store), Fail> {
+    let mut store = Store::new(alloc)?;
+    let numbers = put_force_put(&mut store)?;
+    let second = store.holds(3, Some(b"second"));
+    Ok((numbers, second, store.after_crash(how)?))
 }
 
 #[test]
 fn forced_commands_are_there_after_a_crash(rt: HostRuntime) -> Result<(), Fail> {
-    let alloc = rt.alloc();
+    one_state::<AllOps>();
     for how in [Crash::Old, Crash::New] {
-        let mut machine = new_store(alloc)?;
-        let mut engine = Engine::restart(alloc, &mut machine)?;
-        assert_eq!(rt; engine.force(&mut machine)?, 0);
-        assert_eq!(rt; engine.exec(&mut machine, put(alloc, 3, b"first")?)?, 1);
-        assert_eq!(rt; engine.exec(&mut machine, put(alloc, 0, b"")?)?, 2);
-        assert_eq!(rt; engine.force(&mut machine)?, 2);
-        assert_eq!(rt; engine.exec(&mut machine, put(alloc, 3, b"second")?)?, 3);
-        assert_eq!(rt; engine.get(3), Some(b"second".as_slice()));
-        let mut left = machine.crash(how);
-        let mut again = Engine::restart(alloc, &mut left)?;
-        assert_eq!(rt; again.get(3), Some(b"first".as_slice()));
-        assert_eq!(rt; again.get(0), Some(b"".as_slice()));
-        assert_eq!(rt; again.get(4), None);
-        assert_eq!(rt; again.exec(&mut left, put(alloc, 1, b"third")?)?, 3);
+        let (numbers, second, mut again) = crashed(rt.alloc(), how)?;
+        assert!(rt; numbers == [0, 1, 2, 2, 3] && second);
+        assert!(rt; again.holds(3, Some(b"first")) && again.holds(0, Some(b"")));
+        assert!(rt; again.holds(4, None));
+        assert!(rt; again.put(1, b"third")? == 3);
     }
     Ok(())
 }
 
+// A put of an object, and a force that is stopped after so many of its four calls. It tells whether the force was
+// whole, and whether the object has this value after a crash.
+fn stopped(alloc: Global, calls: u64, how: Crash, value: &[u8]) -> Result<(bool, bool), Fail> {
+    let mut store = Store::new(alloc)?;
+    store.put(2, b"value")?;
+    let (whole, again) = store.stopped_force(calls, how)?;
+    Ok((whole, again.holds(2, Some(value))))
+}
+
 #[test]
 fn a_stopped_force_leaves_all_or_none(rt: HostRuntime) -> Result<(), Fail> {
-    let alloc = rt.alloc();
     for (calls, how, value) in [
         (0, Crash::New, b"".as_slice()),
         (1, Crash::New, b""),
@@ -56,32 +133,26 @@ fn a_stopped_force_leaves_all_or_none(rt: HostRuntime) -> Result<(), Fail> {
         (3, Crash::New, b"value"),
         (4, Crash::Old, b"value"),
     ] {
-        let mut machine = new_store(alloc)?;
-        let mut engine = Engine::restart(alloc, &mut machine)?;
-        engine.exec(&mut machine, put(alloc, 2, b"value")?)?;
-        let mut fuse = Fuse::new(machine, calls);
-        assert_eq!(rt;
-            engine.force(&mut fuse).is_ok(),
-            calls == 4,
-            "after {calls}"
-        );
-        let mut left = fuse.into_inner().crash(how);
-        let again = Engine::restart(alloc, &mut left)?;
-        assert_eq!(rt; again.get(2), Some(value), "after {calls}");
+        let (whole, there) = stopped(rt.alloc(), calls, how, value)?;
+        assert!(rt; there && whole == (calls == 4), "after {calls}");
     }
     Ok(())
 }
 
+// Puts 120 values: then the log has no room for one more. It tells whether the commands were counted.
+fn fill(store: &mut Store) -> Result<bool, Fail> {
+    let mut counted = true;
+    for count in 0..120 {
+        counted &= store.put(0, SIXTEEN)? == count + 1;
+    }
+    Ok(counted)
+}
+
 #[test]
 fn a_full_log_is_forced(rt: HostRuntime) -> Result<(), Fail> {
-    let alloc = rt.alloc();
-    let mut machine = new_store(alloc)?;
-    let mut engine = Engine::restart(alloc, &mut machine)?;
-    for count in 0..120 {
-        let number = engine.exec(&mut machine, put(alloc, 0, b"sixteen bytes ..")?)?;
-        assert_eq!(rt; number, count + 1);
-    }
-    let full = engine.exec(&mut machine, put(alloc, 1, b"sixteen bytes ..")?);
+    let mut store = Store::new(rt.alloc())?;
+    assert!(rt; fill(&mut store)?);
+    let full = store.exec(1, SIXTEEN)?;
     assert!(rt;
         matches!(
             full,
@@ -92,52 +163,61 @@ fn a_full_log_is_forced(rt: HostRuntime) -> Result<(), Fail> {
             })
         )
     );
-    let mut left = machine.crash(Crash::Old);
-    let again = Engine::restart(alloc, &mut left)?;
-    assert_eq!(rt; again.get(0), Some(b"sixteen bytes ..".as_slice()));
-    assert_eq!(rt; again.get(1), Some(b"".as_slice()));
+    let again = store.after_crash(Crash::Old)?;
+    assert!(rt; again.holds(0, Some(SIXTEEN)));
+    assert!(rt; again.holds(1, Some(b"")));
     Ok(())
 }
 
 #[test]
 fn says_why_a_command_is_refused(rt: HostRuntime) -> Result<(), Fail> {
-    let alloc = rt.alloc();
-    let mut machine = new_store(alloc)?;
-    let mut engine = Engine::restart(alloc, &mut machine)?;
-    let absent = engine.exec(&mut machine, put(alloc, 4, b"")?);
+    let mut store = Store::new(rt.alloc())?;
+    let absent = store.exec(4, b"")?;
     assert!(rt; matches!(absent, Err(ExecErr::Refused(Refusal::NoObject))));
-    let long = engine.exec(&mut machine, put(alloc, 3, b"seventeen bytes .")?);
+    let long = store.exec(3, b"seventeen bytes .")?;
     assert!(rt; matches!(long, Err(ExecErr::Refused(Refusal::TooLarge))));
     Ok(())
 }
 
+// Why a store is not opened.
+fn not_opened<M: Machine>(alloc: Global, machine: &mut M) -> Option<RestartErr> {
+    Engine::restart(alloc, machine).err()
+}
+
+// Why a store is not made.
+fn not_made<M: Machine>(machine: &mut M) -> Option<InitErr> {
+    Engine::init(machine, PARAMS).err()
+}
+
 #[test]
-fn says_why_a_store_is_not_opened_or_made(rt: HostRuntime) -> Result<(), Fail> {
+fn says_why_a_store_is_not_opened(rt: HostRuntime) -> Result<(), Fail> {
     let alloc = rt.alloc();
     let mut empty = MemMachine::new(alloc, [512, 8192, 16], 400, 16384, Vec::new(alloc))?;
-    let none = Engine::restart(alloc, &mut empty);
-    assert!(rt; matches!(none, Err(RestartErr::NotAStore)));
-    let mut machine = new_store(alloc)?;
-    let twice = Engine::init(&mut machine, PARAMS);
-    assert!(rt; matches!(twice, Err(InitErr::AlreadyStore)));
+    let none = not_opened(alloc, &mut empty);
+    assert!(rt; matches!(none, Some(RestartErr::NotAStore)));
+    let mut machine = new_files(alloc)?;
     machine.write_at(FileNo::LogA, 0, &[0])?;
-    let damaged = Engine::restart(alloc, &mut machine);
+    let damaged = not_opened(alloc, &mut machine);
     assert!(rt;
         matches!(
             damaged,
-            Err(RestartErr::Damaged {
+            Some(RestartErr::Damaged {
                 file: FileNo::LogA,
                 place: 0
             })
         )
     );
-    let mut fuse = Fuse::new(machine, 0);
-    assert!(rt;
-        matches!(
-            Engine::restart(alloc, &mut fuse),
-            Err(RestartErr::DiskFault)
-        )
-    );
-    assert!(rt; matches!(Engine::init(&mut fuse, PARAMS), Err(InitErr::DiskFault)));
+    let failed = not_opened(alloc, &mut Fuse::new(machine, 0));
+    assert!(rt; matches!(failed, Some(RestartErr::DiskFault)));
+    Ok(())
+}
+
+#[test]
+fn says_why_a_store_is_not_made(rt: HostRuntime) -> Result<(), Fail> {
+    let mut machine = new_files(rt.alloc())?;
+    let twice = not_made(&mut machine);
+    assert!(rt; matches!(twice, Some(InitErr::AlreadyStore)));
+    let failed = not_made(&mut Fuse::new(machine, 0));
+    assert!(rt; matches!(failed, Some(InitErr::DiskFault)));
     Ok(())
 }

@@ -1,5 +1,5 @@
 use Rattle.store_engine.proofs.ReplayLemmas.{read_fit}
-use Rattle.std.proofs.Common.{◌≡◌, ◌∙◌, ap, map}
+use Rattle.std.proofs.Common.{◌∙◌, ap, map}
 use Rattle.oper_core.specs.State.{listed}
 use Rattle.store_engine.proofs.replay.made.Goals as goal
 

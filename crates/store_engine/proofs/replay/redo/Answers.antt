@@ -1,4 +1,4 @@
-use Rattle.std.proofs.Common.{◌≡◌, ◌∙◌, ap, sym, subst, arith, length, ℕ, List}
+use Rattle.std.proofs.Common.{◌∙◌, ap, sym, arith, length, ℕ, List}
 use Rattle.oper_core.specs.State.{listed, with_values}
 use Rattle.oper_core.specs.Meaning.{IsSmall}
 use Rattle.store_engine.proofs.ReplayLemmas.{made_count, after_listing}

@@ -1,9 +1,6 @@
-use Rattle.std.proofs.Common.{◌≡◌, ◌∙◌, ap, sym, subst, arith, length, ℕ, List, [], ◌∷◌, fold, take}
+use Rattle.std.proofs.Common.{◌≡◌, ◌∙◌, ap, sym, subst, fold, take}
 use Rattle.std.proofs.lemmas.List.{take_all}
 use Rattle.oper_core.specs.State.{State, start}
-use Rattle.oper_core.specs.Meaning.{state_after}
-use Rattle.formats.specs.Records.{commands_of}
-use Rattle.formats.specs.declared.record.Record.{Record}
 use Rattle.store_engine.specs.Replay.{IsListing, after_record}
 use Rattle.store_engine.proofs.ReplayLemmas.{fold_records, fold_next}
 use Rattle.store_engine.proofs.replay.replayed.Goals as goal

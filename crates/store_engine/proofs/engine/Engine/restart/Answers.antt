@@ -1,6 +1,7 @@
 use Rattle.std.proofs.lemmas.Result.{IfOk-weaker}
+use Rattle.store_engine.specs.ImageLaws.{well_formed}
 use Rattle.store_engine.specs.Opening.{IsRead}
-use Rattle.store_engine.proofs.Opened.{read_holds, open_between}
+use Rattle.store_engine.proofs.Opened.{read_holds, open_between, read_well_formed}
 use Rattle.store_engine.proofs.engine.Engine.restart.Goals as goal
 
 pub returns-clause-ok : goal.returns-clause-ok
@@ -14,4 +15,10 @@ returns-clause-moments g c p commands opens told =
     open_between p (g.M.Machine.disk c.args.machine.now) (g.M.Machine.disk c.load.new.machine) commands opens c.load.ensures.kept told
 
 pub returns-clause-whole : goal.returns-clause-whole
-returns-clause-whole g c p commands opens = c.load.ensures.whole opens.told p commands opens.stands
+returns-clause-whole g c p commands opens = c.load.ensures.whole opens.told (well_formed opens.stands)
+
+pub returns-clause-read : goal.returns-clause-read
+returns-clause-read g c told = read_well_formed (g.M.Machine.disk c.args.machine.now).reads (g.M.Machine.disk c.load.new.machine) c.load.result (c.load.ensures.read told)
+
+pub returns-clause-undamaged : goal.returns-clause-undamaged
+returns-clause-undamaged g c told image = c.load.ensures.whole told image

@@ -1,0 +1,16 @@
+-- Laws of images that meet their format.
+use Rattle.std.specs.Prelude.{List}
+use Rattle.disk_model.specs.Disk.{Files}
+use Rattle.disk_model.specs.declared.machine.FileNo.TheVariants.{Objects}
+use Rattle.formats.specs.Bytes.{IsOpenAt}
+use Rattle.formats.specs.declared.params.Params.{Params}
+use Rattle.stable_objects.specs.Laws.{gate_is_open}
+use Rattle.store_engine.specs.Store.{Command, Stands, IsWellFormed}
+
+-- files that stand for commands meet their format
+pub well_formed : {p : Params} {files : Files} {commands : List Command} → Stands p files commands → IsWellFormed files
+well_formed {p} stands = record { params = p; header = stands.log.header; groups = stands.log.groups; objects = stands.objects; log = stands.log.log; other = stands.other }
+
+-- where files meet it, their gate is open
+pub opens_gate : {files : Files} → IsWellFormed files → IsOpenAt 0 (files Objects)
+opens_gate {files} image = gate_is_open image.params (files Objects) image.objects
