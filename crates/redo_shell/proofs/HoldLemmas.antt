@@ -4,12 +4,13 @@ use Rattle.std.proofs.lemmas.List.{take_all}
 use Rattle.disk_model.specs.Disk.{Files, Disk, IsDisk, Runs, Same, IsSettled, LeavesOnly, Rises}
 use Rattle.disk_model.specs.Moments.{started}
 use Rattle.disk_model.specs.declared.machine.FileNo.TheVariants.{Objects, LogB}
+use Rattle.formats.specs.Image.{EndsAt}
 use Rattle.formats.specs.Log.{IsShutLog}
 use Rattle.formats.specs.Objects.{IsObjectsFile}
 use Rattle.formats.specs.Records.{IsRecordLog}
 use Rattle.formats.specs.declared.params.Params.{Params}
 use Rattle.store_engine.specs.Store.{Command, meaning_in, Stands}
-use Rattle.store_engine.specs.Engine.{EngineView, Opens, Carries, Holds, Between, InEachImage}
+use Rattle.store_engine.specs.Engine.{EngineView, Opens, Carries, Holds, Between, InEachImage, log_length}
 
 -- what is true of each image stays so
 pub each_stays : {d new : Disk} {says : List ℕ → List ℕ → Type 0} {P : Files → Type 0} → Runs Same says d new → d.tells_files → InEachImage d P → InEachImage new P
@@ -73,6 +74,7 @@ holds_stays {p} {d} {new} {engine} {commands} run holds =
       now = each.0;
       images = each.1;
       map_is = holds.map_is;
+      ends = λ all. let here = holds.ends all in (subst (λ (f : Files). EndsAt f (log_length engine).used) (sym (run.reads holds.told)) here.0, here.1);
       carried = carries_stays run holds.carried;
     }
 

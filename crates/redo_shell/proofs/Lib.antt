@@ -1,7 +1,12 @@
 pub mod HoldLemmas
 pub mod StoryLemmas
+pub mod TrueLemmas
 pub mod RunLemmas
 pub mod LineLemmas
 pub mod ScriptLemmas
 pub mod OpenLemmas
 pub mod WordLemmas
+pub mod ExactLemmas
+pub mod DumpLemmas
+pub mod KeepLemmas
+pub mod CauseLemmas

@@ -1,34 +1,61 @@
 -- What a line asks, from the line as it was taken apart.
-use Rattle.std.proofs.Common.{◌≡◌, ◌<◌, List, ℕ, length, ap, sym, subst, Bor, arith}
-use Rattle.script_lines.specs.Grammar.{IsParsed, IsPut, IsGet, IsForce, IsHex, IsBad}
+use Rattle.std.proofs.Common.{◌≡◌, List, ℕ, sym, subst, Bor, Err}
+use Rattle.script_lines.specs.Grammar.{IsParsed, Request, put, copy, append, cut, sort, swap, get, force, skip, AsksFor, IsHex, IsBad}
+use Rattle.script_lines.specs.GrammarLaws.{long_is_bad}
+use Rattle.formats.specs.declared.params.Params.{Params}
+use Rattle.store_engine.specs.Store.{Command}
+use Rattle.store_engine.specs.Engine.{LogLength, HasCause, Lengthens}
+use Rattle.store_engine.specs.declared.exec_err.ExecErr.{ExecErr}
 use Rattle.script_lines.specs.Reading.{IsLine}
 use Rattle.script_lines.specs.declared.next.Next.{Next}
 use Rattle.script_lines.specs.declared.next.Next.TheVariants.{Line as Short, Long}
 use Rattle.script_lines.specs.declared.line.Line.{Line}
-use Rattle.script_lines.specs.declared.line.Line.TheVariants.{Put, Get, Force}
+use Rattle.script_lines.specs.declared.line.Line.TheVariants.{Put, Copy, Append, Cut, Sort, Swap, Get, Force, Skip}
 
-pub get_parsed : (line : List ℕ) (asked : Line) (object : ℕ) → asked ≡ Get object → IsParsed line asked → IsGet line object
-get_parsed line asked object is parsed = subst (λ (a : Line). IsParsed line a) is parsed
+module _ (line : List ℕ) (asked : Line) (parsed : IsParsed line asked) where
+  -- a line of this form asks this
+  as_form : (form : Line) → asked ≡ form → IsParsed line form
+  as_form form is = subst (λ (a : Line). IsParsed line a) is parsed
 
-pub force_parsed : (line : List ℕ) (asked : Line) → asked ≡ Force → IsParsed line asked → IsForce line
-force_parsed line asked is parsed = subst (λ (a : Line). IsParsed line a) is parsed
+  pub put_parsed : (object given : ℕ) (hex : Bor (List ℕ)) (bytes value : List ℕ) → asked ≡ Put object hex → IsHex hex.now bytes → given ≡ object → value ≡ bytes → AsksFor line (put given value)
+  put_parsed object given hex bytes value is digits same_object same_value =
+      let asks = (as_form (Put object hex) is).1 bytes digits in
+      subst (λ (x : ℕ). AsksFor line (put x value)) (sym same_object) (subst (λ (v : List ℕ). AsksFor line (put object v)) (sym same_value) asks)
 
-pub put_parsed : (line : List ℕ) (asked : Line) (object : ℕ) (hex : Bor (List ℕ)) (bytes : List ℕ) → asked ≡ Put object hex → IsParsed line asked → IsHex hex.now bytes → IsPut line object bytes
-put_parsed line asked object hex bytes is parsed value =
-    let put = subst (λ (a : Line). IsParsed line a) is parsed in
-    record { hex = hex.now; fields = put.0; value = value }
+  pub copy_parsed : (from to : ℕ) → asked ≡ Copy from to → AsksFor line (copy from to)
+  copy_parsed from to is = as_form (Copy from to) is
 
--- the command of a line, by its parts
-pub asks_command : (line : List ℕ) (object given : ℕ) (bytes value : List ℕ) → IsPut line object bytes → given ≡ object → value ≡ bytes → IsPut line given value
-asks_command line object given bytes value put same_object same_value =
-    subst (λ (x : ℕ). IsPut line x value) (sym same_object) (subst (λ (v : List ℕ). IsPut line object v) (sym same_value) put)
+  pub append_parsed : (from to : ℕ) → asked ≡ Append from to → AsksFor line (append from to)
+  append_parsed from to is = as_form (Append from to) is
 
-too_long : (line : List ℕ) → 40000 < length line → IsBad line
-too_long line long = record { put = λ object bytes is. omega (arith, long, is.fields.short); get = λ object is. omega (arith, long, is.short); force = λ is. omega (arith, long, ap length is) }
+  pub cut_parsed : (from to place : ℕ) → asked ≡ Cut from to place → AsksFor line (cut from to place)
+  cut_parsed from to place is = as_form (Cut from to place) is
+
+  pub sort_parsed : (from to width : ℕ) → asked ≡ Sort from to width → AsksFor line (sort from to width)
+  sort_parsed from to width is = as_form (Sort from to width) is
+
+  pub swap_parsed : (first second : ℕ) → asked ≡ Swap first second → AsksFor line (swap first second)
+  swap_parsed first second is = as_form (Swap first second) is
+
+  pub get_parsed : (object : ℕ) → asked ≡ Get object → AsksFor line (get object)
+  get_parsed object is = as_form (Get object) is
+
+  pub force_parsed : asked ≡ Force → AsksFor line force
+  force_parsed is = as_form Force is
+
+  pub skip_parsed : asked ≡ Skip → AsksFor line skip
+  skip_parsed is = as_form Skip is
 
 -- what a reader has found
 pub found_line : (next : Next) (stored line : List ℕ) → next ≡ Short → IsLine next stored line → line ≡ stored
 found_line next stored line is found = let here = subst (λ (n : Next). IsLine n stored line) is found in here.0
 
 pub found_long : (next : Next) (stored line : List ℕ) → next ≡ Long → IsLine next stored line → IsBad line
-found_long next stored line is found = too_long line (subst (λ (n : Next). IsLine n stored line) is found)
+found_long next stored line is found = long_is_bad line (subst (λ (n : Next). IsLine n stored line) is found)
+
+-- why a command failed, and how long the log is then, by the error that came
+pub caused : (p : Params) (commands : List Command) (log : LogLength) (op : Command) {e same : ExecErr} → HasCause p commands log op (Err e) → e ≡ same → HasCause p commands log op (Err same)
+caused p commands log op cause is = subst (λ (x : ExecErr). HasCause p commands log op (Err x)) is cause
+
+pub after : (p : Params) (old new : LogLength) (op : Command) {e same : ExecErr} → Lengthens p old op (Err e) new → e ≡ same → Lengthens p old op (Err same) new
+after p old new op lengthens is = subst (λ (x : ExecErr). Lengthens p old op (Err x) new) is lengthens

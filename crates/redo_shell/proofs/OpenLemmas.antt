@@ -1,16 +1,17 @@
 -- A run from before the store was opened.
-use Rattle.std.proofs.Common.{◌≡◌, ◌⊎◌, ⊎_elim, ◌++◌, List, ℕ, [], length, ap, ◌∙◌, sym, subst, Bool, Result, Ok, Err, IfOk}
+use Rattle.std.proofs.Common.{◌≡◌, ◌⊎◌, ⊎_elim, ◌++◌, List, ℕ, [], length, ap, ◌∙◌, sym, subst, arith, Bool, Result, Ok, Err, IfOk}
 use Rattle.std.specs.Prelude.{⊤}
 use Rattle.std.proofs.lemmas.List.{append-nil}
 use Rattle.std.specs.List.{flat_map}
-use Rattle.disk_model.specs.Disk.{Disk, Passes, LeavesOnly}
-use Rattle.disk_model.specs.Moments.{runs_on, weaker}
+use Rattle.disk_model.specs.Disk.{Files, Disk, Passes, LeavesOnly}
+use Rattle.disk_model.specs.Moments.{first_call, runs_on, weaker}
 use Rattle.disk_model.specs.declared.machine.FileNo.{FileNo}
+use Rattle.formats.specs.Image.{EndsAt}
 use Rattle.formats.specs.declared.params.Params.{Params}
-use Rattle.script_lines.specs.Replies.{said_line}
+use Rattle.script_lines.specs.Replies.{Reply, said_line}
 use Rattle.store_engine.specs.Store.{Command}
 use Rattle.store_engine.specs.Engine.{Between, IsNoDamage}
-use Rattle.redo_shell.specs.Answers.{Moment, SaysAnswers}
+use Rattle.redo_shell.specs.Answers.{Moment, TrueWithin, with_begun, SaysTruly}
 use Rattle.redo_shell.specs.Status.{status_of, status_after}
 use Rattle.store_engine.specs.declared.restart_err.RestartErr.{RestartErr}
 use Rattle.store_engine.specs.declared.restart_err.RestartErr.TheVariants.{Damaged}
@@ -20,14 +21,18 @@ use Rattle.redo_shell.specs.declared.stop.Stop.{Stop}
 use Rattle.redo_shell.specs.declared.stop.Stop.TheVariants.{DiskFault, ReadFault, SayFault, Memory, TooLong}
 use Rattle.redo_shell.specs.Run.{IsRun, IsComplete}
 use Rattle.redo_shell.proofs.StoryLemmas.{story_start, told_whole}
+use Rattle.redo_shell.proofs.TrueLemmas.{none_begun}
 use Rattle.redo_shell.proofs.RunLemmas.{first_moment}
 
 -- while the store is opened, nothing is said
 pub opening_moments : {p : Params} {start mid : Disk} {commands : List Command} (script : List (List ℕ)) → LeavesOnly start mid (Between p start (length commands) commands) → LeavesOnly start mid (Moment p commands script start.said)
 opening_moments {p} {start} {mid} {commands} script opening = weaker start mid (Between p start (length commands) commands) (Moment p commands script start.said) opening (first_moment script)
 
-pub says_nothing : {p : Params} {commands : List Command} (script : List (List ℕ)) {before after : List ℕ} → after ≡ before → SaysAnswers p commands script before after
-says_nothing {p} {commands} script {before} {after} quiet = record { bytes = []; since = quiet ∙ sym (append-nil before); story = (told_whole (λ reply. ⊤) (story_start p commands script)).story }
+pub says_nothing : {p : Params} {commands : List Command} (script : List (List ℕ)) {old new : Disk} → Passes old new → new.said ≡ old.said → SaysTruly p commands script old new
+says_nothing {p} {commands} script {old} {new} time quiet = let none = told_whole (λ reply. ⊤) (story_start p commands script) in record {
+  says = record { bytes = []; since = quiet ∙ sym (append-nil old.said); story = none.story };
+  truly = λ told. subst (λ (l : List Reply). LeavesOnly old new (TrueWithin p old.said l)) (sym none.with_last) (first_call old new (TrueWithin p old.said []) told time (λ files said left. tt));
+}
 
 -- then the script is answered
 pub run_moments : {p : Params} {start mid new : Disk} {commands : List Command} (script : List (List ℕ)) → Passes start mid → mid.said ≡ start.said → LeavesOnly start mid (Between p start (length commands) commands)
@@ -36,17 +41,33 @@ run_moments {p} {start} {mid} {new} {commands} script time quiet opening run tol
     runs_on start mid new (Moment p commands script start.said) (opening_moments script opening)
     (subst (λ (s : List ℕ). LeavesOnly mid new (Moment p commands script s)) quiet (run.moments (time.moments_told.0 told)))
 
-pub run_says : {p : Params} {mid new : Disk} {commands : List Command} {script : List (List ℕ)} {before : List ℕ} → mid.said ≡ before → IsRun p mid new commands script → SaysAnswers p commands script before new.said
-run_says {p} {mid} {new} {commands} {script} {before} quiet run = subst (λ (s : List ℕ). SaysAnswers p commands script s new.said) quiet run.says
+pub run_says : {p : Params} {start mid new : Disk} {commands : List Command} {script : List (List ℕ)} → Passes start mid → mid.said ≡ start.said → (start.tells_moments → LeavesOnly start mid (Between p start (length commands) commands))
+    → IsRun p mid new commands script → SaysTruly p commands script start new
+run_says {p} {start} {mid} {new} {commands} {script} time quiet opening run =
+    let truth = run.says in
+    let story = truth.says.story in
+    let replies = with_begun story.replies story.work in
+    record {
+      says = record { bytes = truth.says.bytes; since = truth.says.since ∙ ap (λ (l : List ℕ). l ++ truth.says.bytes) quiet; story = story };
+      truly = λ told. runs_on start mid new (TrueWithin p start.said replies)
+          (weaker start mid (Between p start (length commands) commands) (TrueWithin p start.said replies) (opening told) (λ files said b. none_begun p start.said replies files said (omega (arith, ap length b.quiet))))
+          (subst (λ (s : List ℕ). LeavesOnly mid new (TrueWithin p s replies)) quiet (truth.truly (time.moments_told.0 told)));
+    }
 
-complete_from : {p : Params} {start mid new : Disk} {commands : List Command} {script : List (List ℕ)} {status : Status} → mid.said ≡ start.said → IsComplete p mid new commands script status → IsComplete p start new commands script status
-complete_from quiet all = record {
+complete_from : {p : Params} {start mid new : Disk} {commands : List Command} {script : List (List ℕ)} {status : Status} → mid.said ≡ start.said → mid.reads ≡ start.reads → IsComplete p mid new commands script status → IsComplete p start new commands script status
+complete_from quiet same all = record {
   replies = all.replies;
   acc = all.acc;
   answers = all.answers;
   said_is = all.said_is ∙ ap (λ (l : List ℕ). l ++ flat_map said_line all.replies) quiet;
   stands = all.stands;
   refusals = all.refusals;
+  first = all.first;
+  ends = subst (λ (f : Files). EndsAt f all.first.used) same all.ends;
+  none_waits = all.none_waits;
+  last = all.last;
+  lengths = all.lengths;
+  ends_last = all.ends_last;
 }
 
 -- a status that tells of an early end is none of a whole run
@@ -57,10 +78,10 @@ not_early SayFault is = ⊎_elim (λ (e : status_of SayFault ≡ Done). cc) (λ 
 not_early Memory is = ⊎_elim (λ (e : status_of Memory ≡ Done). cc) (λ (e : status_of Memory ≡ DoneWithRefusals). cc) is
 not_early TooLong is = ⊎_elim (λ (e : status_of TooLong ≡ Done). cc) (λ (e : status_of TooLong ≡ DoneWithRefusals). cc) is
 
-pub run_completes : {p : Params} (start mid new : Disk) {commands : List Command} {script : List (List ℕ)} (outcome : Result Bool Stop) (status : Status) → status ≡ status_after outcome → mid.said ≡ start.said
+pub run_completes : {p : Params} (start mid new : Disk) {commands : List Command} {script : List (List ℕ)} (outcome : Result Bool Stop) (status : Status) → status ≡ status_after outcome → mid.said ≡ start.said → mid.reads ≡ start.reads
     → IfOk outcome (λ refusing. IsComplete p mid new commands script (status_after (Ok refusing))) → (status ≡ Done) ⊎ (status ≡ DoneWithRefusals) → IsComplete p start new commands script status
-run_completes {p} start mid new {commands} {script} (Ok refusing) status is quiet all done = subst (λ (s : Status). IsComplete p start new commands script s) (sym is) (complete_from quiet all)
-run_completes start mid new (Err stop) status is quiet all done = absurd (not_early stop (subst (λ (s : Status). (s ≡ Done) ⊎ (s ≡ DoneWithRefusals)) is done))
+run_completes {p} start mid new {commands} {script} (Ok refusing) status is quiet same all done = subst (λ (s : Status). IsComplete p start new commands script s) (sym is) (complete_from quiet same all)
+run_completes start mid new (Err stop) status is quiet same all done = absurd (not_early stop (subst (λ (s : Status). (s ≡ Done) ⊎ (s ≡ DoneWithRefusals)) is done))
 
 -- on files that stand nothing is damaged
 pub no_damage : (error : RestartErr) {file : FileNo} {place : ℕ} → error ≡ Damaged file place → IsNoDamage error → ⊥

@@ -1,26 +1,30 @@
 -- How a run's moments go on from line to line.
-use Rattle.std.proofs.Common.{◌≡◌, ◌≢◌, ◌⊎◌, inl, inr, ⊎_elim, ◌≤◌, ◌++◌, ◌||◌, ◌↔◌, List, ℕ, [], ◌∷◌, length, take, append_assoc, refl, ap, ◌∙◌, sym, subst, arith, Bool, true, false, Contains, Result, Ok, Err, IfOk, OnOk, OnErr, IsErr}
+use Rattle.std.proofs.Common.{◌≡◌, ◌≢◌, ◌⊎◌, inl, inr, ⊎_elim, ◌≤◌, ◌++◌, ◌||◌, ◌↔◌, List, ℕ, [], ◌∷◌, length, take, length-append, append_assoc, refl, ap, ◌∙◌, sym, subst, arith, Bool, true, false, Contains, Result, Ok, Err, IfOk, OnOk, OnErr, IsErr}
 use Rattle.std.specs.Prelude.{⊤}
 use Rattle.std.proofs.lemmas.List.{append-nil, take_all}
 use Rattle.std.proofs.lemmas.List.Folds.{list_any-append}
 use Rattle.std.specs.List.{flat_map, list_any}
 use Rattle.disk_model.specs.Disk.{Files, Disk, IsDisk, Passes, Runs, Same, SaysFront, LeavesOnly}
 use Rattle.disk_model.specs.Moments.{passes_none, first_call, runs_on, weaker}
+use Rattle.formats.specs.Image.{EndsAt}
 use Rattle.formats.specs.declared.params.Params.{Params}
-use Rattle.script_lines.specs.Replies.{Reply, forced, said_line}
+use Rattle.script_lines.specs.Grammar.{AsksFor, skip}
+use Rattle.script_lines.specs.Replies.{Reply, forced, silence, said_line}
 use Rattle.store_engine.specs.Store.{Command, Stands}
-use Rattle.store_engine.specs.Engine.{EngineView, Holds, Kept, Between}
+use Rattle.store_engine.specs.Engine.{EngineView, Holds, Kept, Between, LogLength, log_length, forced_length}
 use Rattle.redo_shell.specs.Replies.{Replies, IsTrueIn, is_refusing}
-use Rattle.redo_shell.specs.Answers.{Moment}
+use Rattle.redo_shell.specs.Lengths.{GoesBy, AllGoBy}
+use Rattle.redo_shell.specs.Answers.{Moment, TrueWithin, SaysTruly}
 use Rattle.redo_shell.specs.Status.{status_after}
 use Rattle.redo_shell.specs.declared.status.Status.TheVariants.{DoneWithRefusals}
 use Rattle.redo_shell.specs.declared.stop.Stop.{Stop}
-use Rattle.redo_shell.specs.Run.{IsAnswered, IsPartly, During, LineMoment, Going, IsComplete, IsFound, Answering, IsRun}
+use Rattle.redo_shell.specs.Run.{IsTrueSaying, IsTrueSoFar, IsAnswered, IsPartly, During, LineMoment, Going, IsComplete, IsFound, Answering, IsRun}
 use Rattle.redo_shell.proofs.HoldLemmas.{holds_stays, holds_between}
-use Rattle.redo_shell.proofs.StoryLemmas.{Story, Told, story_start, story_more, story_end, said_more, spoken_more, told_whole, told_partly}
+use Rattle.redo_shell.proofs.TrueLemmas.{truly_on, truly_quiet, line_behind, found_truly}
+use Rattle.redo_shell.proofs.StoryLemmas.{goes_by_more, Story, Told, story_start, story_more, story_end, said_more, spoken_more, told_whole, told_partly}
 
 -- the story so far
-story_of : {p : Params} {start now : Disk} {engine : EngineView} {commands : List Command} {script todo : List (List ℕ)} {refusing : Bool}
+abbrev story_of : {p : Params} {start now : Disk} {engine : EngineView} {commands : List Command} {script todo : List (List ℕ)} {refusing : Bool}
     → (g : Going p start now engine commands script todo refusing) → Story p commands script todo g.replies g.acc
 story_of g = record { lines = g.lines; script_is = g.script_is; answers = g.answers }
 
@@ -99,6 +103,12 @@ goes_on {p} {start} {now} {new} {engine} {after} {commands} {script} {todo} {ref
       acked = acked_more g.replies whole.reply engine.forced after.forced g.acked whole.kept.rising whole.acked;
       kind = kind_more refusing kind g.replies whole.reply g.kind whole.kind;
       moments = moments_more line g time a;
+      truly = λ told. subst (λ (l : List ℕ). LeavesOnly start new (IsTrueSoFar p start.said (g.replies ++ whole.reply ∷ []) l)) (sym whole.said)
+          (truly_on whole.reply (g.truly told) g.said_is (whole.truly (time.moments_told.0 told)));
+      first = g.first;
+      ends = g.ends;
+      none_waits = g.none_waits;
+      lengths = goes_by_more p g.first (log_length engine) (log_length after) g.lines g.replies line whole.reply g.lengths whole.length_is;
     }
 
 -- the start of a run, of which nothing is said yet
@@ -125,37 +135,63 @@ opened {p} {start} {engine} {commands} script lawful holds all = record {
   kind = refl;
   moments = λ told. weaker start start (Between p start engine.forced commands) (Moment p commands script start.said) (holds_between lawful holds told)
       (λ f s b. first_moment script f s (subst (λ (n : ℕ). Between p start n commands f s) all b));
+  truly = λ told. weaker start start (Between p start engine.forced commands) (IsTrueSoFar p start.said [] start.said) (holds_between lawful holds told)
+      (λ f s b. record { true_within = tt; no_longer = omega (arith, ap length b.quiet) });
+  first = log_length engine;
+  ends = (holds.ends all).0;
+  none_waits = (holds.ends all).1;
+  lengths = refl;
 }
 
 -- a run that ends between two lines
 pub ends_here : {p : Params} {start now : Disk} {engine : EngineView} {commands : List Command} {script todo : List (List ℕ)} {refusing : Bool}
     → Going p start now engine commands script todo refusing → IsRun p start now commands script
-ends_here g = record {
-  says = record { bytes = flat_map said_line g.replies; since = g.said_is; story = (told_whole (λ reply. ⊤) (story_of g)).story };
+ends_here {p} {start} {now} g = let all = told_whole (λ reply. ⊤) (story_of g) in record {
+  says = record {
+    says = record { bytes = flat_map said_line g.replies; since = g.said_is; story = all.story };
+    truly = λ told. subst (λ (l : List Reply). LeavesOnly start now (TrueWithin p start.said l)) (sym all.with_last) (weaker start now (IsTrueSoFar p start.said g.replies now.said) (TrueWithin p start.said g.replies) (g.truly told) (λ files said t. t.true_within));
+  };
   moments = g.moments;
 }
 
 -- a run that ends while a line is answered
 pub ends_in_line : {p : Params} {start now new : Disk} {engine after : EngineView} {commands : List Command} {script todo : List (List ℕ)} {refusing : Bool} {result : Result Bool Stop} {stop : Stop} (line : List ℕ)
     (g : Going p start now engine commands script (line ∷ todo) refusing) → Passes start now → result ≡ Err stop → Answering p now new engine after (commands ++ g.acc) line result → IsRun p start new commands script
-ends_in_line {p} {start} {now} {new} {engine} {after} {commands} {script} {todo} {refusing} {result} {stop} line g time is a = record {
+ends_in_line {p} {start} {now} {new} {engine} {after} {commands} {script} {todo} {refusing} {result} {stop} line g time is a = let all = told_whole (λ reply. ⊤) (story_of g) in record {
   says = ⊎_elim
-      (λ (quiet : new.said ≡ now.said). record { bytes = flat_map said_line g.replies; since = quiet ∙ g.said_is; story = (told_whole (λ reply. ⊤) (story_of g)).story })
-      (λ (part : IsPartly p now.said (commands ++ g.acc) line new.said). record {
-        bytes = flat_map said_line g.replies ++ take part.count (said_line part.reply);
-        since = part.said_is ∙ ap (λ (l : List ℕ). l ++ take part.count (said_line part.reply)) g.said_is ∙ append_assoc start.said (flat_map said_line g.replies) _;
-        story = (told_partly (λ reply. ⊤) line part.reply part.added part.count (story_of g) part.replies tt).story;
+      (λ (quiet : new.said ≡ now.said). record {
+        says = record { bytes = flat_map said_line g.replies; since = quiet ∙ g.said_is; story = all.story };
+        truly = λ told. subst (λ (l : List Reply). LeavesOnly start new (TrueWithin p start.said l)) (sym all.with_last) (truly_quiet (g.truly told) g.said_is (a.moments (time.moments_told.0 told)) line_behind);
       })
-      (subst (λ (r : Result Bool Stop). OnErr r ((new.said ≡ now.said) ⊎ IsPartly p now.said (commands ++ g.acc) line new.said)) is a.partly);
+      (λ (part : IsPartly p now new (commands ++ g.acc) line). begun part)
+      (subst (λ (r : Result Bool Stop). OnErr r ((new.said ≡ now.said) ⊎ IsPartly p now new (commands ++ g.acc) line)) is a.partly);
   moments = moments_more line g time a;
 }
+  where
+    begun : IsPartly p now new (commands ++ g.acc) line → SaysTruly p commands script start new
+    begun part =
+        let told_part = told_partly (λ reply. ⊤) line part.reply part.added part.count (story_of g) part.replies tt in
+        record {
+          says = record {
+            bytes = flat_map said_line g.replies ++ take part.count (said_line part.reply);
+            since = part.said_is ∙ ap (λ (l : List ℕ). l ++ take part.count (said_line part.reply)) g.said_is ∙ append_assoc start.said (flat_map said_line g.replies) _;
+            story = told_part.story;
+          };
+          truly = λ told. subst (λ (l : List Reply). LeavesOnly start new (TrueWithin p start.said l)) (sym told_part.with_last)
+              (weaker start new (IsTrueSoFar p start.said (g.replies ++ part.reply ∷ []) (now.said ++ said_line part.reply)) (TrueWithin p start.said (g.replies ++ part.reply ∷ []))
+              (truly_on part.reply (g.truly told) g.said_is (part.truly (time.moments_told.0 told))) (λ files said t. t.true_within));
+        }
 
 -- a run that ends in the last force
 pub ends_in_force : {p : Params} {start now new : Disk} {engine : EngineView} {commands : List Command} {script todo : List (List ℕ)} {refusing : Bool}
     (g : Going p start now engine commands script todo refusing) → Passes start now → new.said ≡ now.said
     → (now.tells_moments → LeavesOnly now new (Between p now engine.forced (commands ++ g.acc))) → IsRun p start new commands script
-ends_in_force {p} {start} {now} {new} {engine} {commands} {script} g time quiet moments = record {
-  says = record { bytes = flat_map said_line g.replies; since = quiet ∙ g.said_is; story = (told_whole (λ reply. ⊤) (story_of g)).story };
+ends_in_force {p} {start} {now} {new} {engine} {commands} {script} g time quiet moments = let all = told_whole (λ reply. ⊤) (story_of g) in record {
+  says = record {
+    says = record { bytes = flat_map said_line g.replies; since = quiet ∙ g.said_is; story = all.story };
+    truly = λ told. subst (λ (l : List Reply). LeavesOnly start new (TrueWithin p start.said l)) (sym all.with_last)
+        (truly_quiet (g.truly told) g.said_is (moments (time.moments_told.0 told)) (λ files said b. omega (arith, ap length b.quiet)));
+  };
   moments = λ told. runs_on start now new (Moment p commands script start.said) (g.moments told)
       (weaker now new (Between p now engine.forced (commands ++ g.acc)) (Moment p commands script start.said) (moments (time.moments_told.0 told)) (between_moment g));
 }
@@ -167,8 +203,8 @@ tells false any is = (λ e. cc, λ e. cc (e, is))
 -- the end of a whole run
 pub completes : {p : Params} {start now new : Disk} {engine after : EngineView} {commands : List Command} {script todo : List (List ℕ)} {refusing : Bool}
     (g : Going p start now engine commands script todo refusing) → todo ≡ [] → new.said ≡ now.said → after.forced ≡ length (commands ++ g.acc) → Holds p new after (commands ++ g.acc)
-    → IsComplete p start new commands script (status_after (Ok refusing))
-completes {p} {start} {now} {new} {engine} {after} {commands} {script} {todo} {refusing} g none quiet all holds =
+    → log_length after ≡ forced_length (log_length engine) → IsComplete p start new commands script (status_after (Ok refusing))
+completes {p} {start} {now} {new} {engine} {after} {commands} {script} {todo} {refusing} g none quiet all holds emptied =
     let whole : take after.forced (commands ++ g.acc) ≡ commands ++ g.acc = take_all after.forced (commands ++ g.acc) (omega (arith, all)) in
     record {
       replies = g.replies;
@@ -180,6 +216,12 @@ completes {p} {start} {now} {new} {engine} {after} {commands} {script} {todo} {r
         λ told f s left. subst (λ (l : List Command). Stands p f l) whole (holds.images told f s left),
       );
       refusals = tells refusing (list_any is_refusing g.replies) g.kind;
+      first = g.first;
+      ends = g.ends;
+      none_waits = g.none_waits;
+      last = log_length engine;
+      ends_last = subst (λ (l : LogLength). EndsAt new.reads l.used) emptied (holds.ends all).0;
+      lengths = subst (λ (l : List (List ℕ)). AllGoBy p g.first l g.replies (log_length engine)) (sym (g.script_is ∙ ap (λ (l : List (List ℕ)). g.lines ++ l) none ∙ append-nil g.lines)) g.lengths;
     }
 
 pub goes_to : {p : Params} {start now : Disk} {engine : EngineView} {commands : List Command} {script todo : List (List ℕ)} {refusing : Bool} (line : List ℕ) (rest : List (List ℕ))
@@ -229,6 +271,8 @@ found_said {reply = reply} (Ok kind) moments time found say all is = record {
     kept = record { holds = holds_stays say found.kept.holds; rising = found.kept.rising };
     acked = found.acked;
     kind = is;
+    truly = found_truly moments time found say;
+    length_is = found.length_is;
   };
   partly = tt;
   moments = found_moments moments time found say;
@@ -242,6 +286,7 @@ found_said {reply = reply} (Err stop) moments time found say all is = record {
         replies = found.replies;
         count = front.0;
         said_is = front.2 ∙ ap (λ (l : List ℕ). l ++ take front.0 (said_line reply)) found.quiet;
+        truly = found_truly moments time found say;
       });
   moments = found_moments moments time found say;
 }
@@ -258,14 +303,15 @@ stops_before {p} {old} {new} {before} {after} {commands} {line} (Err stop) is mo
 
 -- what is answered without a call
 pub found_at_once : {p : Params} {d : Disk} {engine : EngineView} {commands : List Command} {line : List ℕ} (reply : Reply) → Holds p d engine commands
-    → Replies p commands line reply [] → ((f : Files) → IsTrueIn p f reply) → ((n : ℕ) → reply ≢ forced n) → IsFound p d d engine engine commands line reply
-found_at_once {p} {d} {engine} {commands} reply holds replies tied other = record {
+    → Replies p commands line reply [] → ((f : Files) → IsTrueIn p f reply) → ((n : ℕ) → reply ≢ forced n) → ((log : LogLength) → GoesBy p log line reply log) → IsFound p d d engine engine commands line reply
+found_at_once {p} {d} {engine} {commands} reply holds replies tied other lengths = record {
   added = [];
   replies = replies;
   quiet = refl;
   kept = record { holds = subst (λ (l : List Command). Holds p d engine l) (sym (append-nil commands)) holds; rising = omega arith };
   tied = (tied d.reads, λ told f s left. tied f);
   acked = λ n is. absurd (other n is);
+  length_is = lengths (log_length engine);
 }
 
 -- it is said where it is found
@@ -277,3 +323,26 @@ said_at_once {d = d} result lawful found holds say all is = found_said result (h
 
 pub kept_nil : {p : Params} {d : Disk} {before engine : EngineView} {commands : List Command} → Kept p before d engine commands → Kept p before d engine (commands ++ [])
 kept_nil {p} {d} {before} {engine} {commands} kept = subst (λ (l : List Command). Kept p before d engine l) (sym (append-nil commands)) kept
+
+-- a line that is skipped
+pub skipped : {p : Params} {d : Disk} {engine : EngineView} {commands : List Command} {line : List ℕ} → IsDisk d → Holds p d engine commands → AsksFor line skip
+    → Answering p d d engine engine commands line (Ok false)
+skipped {p} {d} {engine} {commands} {line} lawful holds asks = record {
+  whole = record {
+    reply = silence;
+    added = [];
+    replies = (asks, refl);
+    said = sym (append-nil d.said);
+    kept = kept_nil (record { holds = holds; rising = omega arith });
+    acked = λ n is. cc;
+    kind = refl;
+    length_is = refl;
+    truly = λ told. weaker d d (Between p d engine.forced commands) (IsTrueSaying p d.said silence) (holds_between lawful holds told) (λ files said b. record {
+      true_in = λ e. tt;
+      no_shorter = omega (arith, ap length b.quiet);
+      no_longer = omega (arith, ap length b.quiet, length-append d.said []);
+    });
+  };
+  partly = tt;
+  moments = λ told. weaker d d (Between p d engine.forced commands) (LineMoment p d engine.forced commands line) (holds_between lawful holds told) (λ f s b. inl b);
+}

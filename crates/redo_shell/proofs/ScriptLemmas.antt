@@ -1,8 +1,8 @@
 -- The end of a script's run, and what was taken off its source.
-use Rattle.std.proofs.Common.{◌≡◌, ◌≢◌, ◌++◌, List, ℕ, [], ◌∷◌, length-append, append_assoc, refl, sym, ◌∙◌, ap, subst, arith, Bool, Result, Ok, Err, IfErr}
+use Rattle.std.proofs.Common.{◌≡◌, ◌≢◌, ◌++◌, List, ℕ, [], ◌∷◌, length-append, append_assoc, refl, sym, ◌∙◌, ap, subst, arith, ◌<◌, ◌≤◌, ◌^◌, ◌==◌, if◌then◌else◌, true, false, length, Bool, Result, Ok, Err, IfErr}
 use Rattle.std.specs.Result.{IsErrAnd, IsErrOf}
 use Rattle.disk_model.specs.Disk.{Disk, Passes}
-use Rattle.script_lines.specs.Grammar.{lines_of}
+use Rattle.script_lines.specs.Grammar.{lines_of, before_first}
 use Rattle.script_lines.specs.Reading.{Takes, IsNext, IsLine}
 use Rattle.script_lines.specs.declared.next.Next.{Next}
 use Rattle.script_lines.specs.declared.next.Next.TheVariants.{Line, Long, End}
@@ -63,3 +63,36 @@ line_not_long (Err stop) answered why mid new is was cause long =
     let here = subst (λ (r : Result Bool Stop). IfErr r (λ s. IsCaused s mid new)) was cause in
     let same : why ≡ TooLong = cc (sym is, long) in
     subst (λ (s : Stop). IsCaused s mid new) same here
+
+some_line : (b : Bool) (line : List ℕ) (lines others : List (List ℕ)) → (others ≡ [] → ⊥) → (if b then line ∷ lines else others) ≡ [] → ⊥
+some_line true line lines others some none = cc
+some_line false line lines others some none = some none
+
+some_first : (byte : ℕ) (lines : List (List ℕ)) → before_first byte lines ≡ [] → ⊥
+some_first byte [] none = cc
+some_first byte (line ∷ lines) none = cc
+
+-- where no line is left, no byte is
+no_bytes : (bytes : List ℕ) → lines_of bytes ≡ [] → bytes ≡ []
+no_bytes [] none = refl
+no_bytes (byte ∷ rest) none = absurd (some_line (byte == 10) [] (lines_of rest) (before_first byte (lines_of rest)) (some_first byte (lines_of rest)) none)
+
+nothing_behind : (front back : List ℕ) → front ++ back ≡ [] → back ≡ []
+nothing_behind [] back none = none
+nothing_behind (byte ∷ front) back none = cc
+
+-- at the end of the input all of it was taken
+pub input_end : (next : Next) (stored old ahead start left : List ℕ) (taken : ℕ) → IsNext next stored old (ahead ++ left) → next ≡ End → Takes start left 0 taken → taken < 2 ^ 40
+    → (left ≡ []) × (length start < 2 ^ 40)
+input_end Line stored old ahead start left taken is end takes few = cc
+input_end Long stored old ahead start left taken is end takes few = cc
+input_end End stored old ahead start left taken is end takes few =
+    let none = nothing_behind ahead left (no_bytes (ahead ++ left) is.1) in
+    (none, omega (arith, few, takes.count, ap (λ (l : List ℕ). length l) takes.front, length-append takes.bytes left, ap (λ (l : List ℕ). length l) none))
+
+-- where so many bytes were taken off, there were so many
+pub enough_taken : {old new : List ℕ} {n : ℕ} → Takes old new 0 n → n ≤ length old
+enough_taken {old} {new} {n} takes = omega (arith, takes.count, ap (λ (l : List ℕ). length l) takes.front, length-append takes.bytes new)
+
+pub not_so_few : {n most : ℕ} → n < most → most ≤ n → ⊥
+not_so_few few enough = omega (arith, few, enough)

@@ -5,10 +5,12 @@ use Rattle.std.proofs.lemmas.List.Elements.{Contains-append_left, Contains-appen
 use Rattle.std.proofs.lemmas.List.Concat.{flat_map-append}
 use Rattle.std.specs.List.{flat_map}
 use Rattle.formats.specs.declared.params.Params.{Params}
-use Rattle.script_lines.specs.Replies.{Reply, forced, text_of, said_line}
+use Rattle.script_lines.specs.Replies.{Reply, ok, value, forced, bad, refused, full, end, object_value, command_count, silence, text_of, said_line}
 use Rattle.store_engine.specs.Store.{Command}
+use Rattle.store_engine.specs.Engine.{LogLength}
 use Rattle.redo_shell.specs.Replies.{Replies}
-use Rattle.redo_shell.specs.Answers.{Answers, Said}
+use Rattle.redo_shell.specs.Lengths.{GoesBy, AllGoBy}
+use Rattle.redo_shell.specs.Answers.{Answers, Said, with_begun}
 
 -- the first lines of a script, and the answers to them
 pub record Story (p : Params) (commands : List Command) (script todo : List (List ℕ)) (replies : List Reply) (acc : List Command) : Type 0 where
@@ -21,13 +23,14 @@ pub record Told (p : Params) (tie : Reply → Type 0) (commands : List Command) 
   pub story : Said p tie commands script said
   pub all : commands ++ story.acc ++ story.added ≡ commands ++ acc
   pub spoken : (n : ℕ) → Contains story.replies (forced n) → Contains replies (forced n)
+  pub with_last : with_begun story.replies story.work ≡ replies
 
 only_one : {X : Type 0} (r x : X) → Contains (r ∷ []) x → r ≡ x
 only_one r x (zero, small, is) = is
 only_one r x (suc k, small, is) = absurd (omega arith)
 
 -- one line more
-answers_more : (p : Params) (commands : List Command) (lines : List (List ℕ)) (replies : List Reply) (acc : List Command) (line : List ℕ) (reply : Reply) (added : List Command)
+pub answers_more : (p : Params) (commands : List Command) (lines : List (List ℕ)) (replies : List Reply) (acc : List Command) (line : List ℕ) (reply : Reply) (added : List Command)
     → Answers p commands lines replies acc → Replies p (commands ++ acc) line reply added
     → Answers p commands (lines ++ line ∷ []) (replies ++ reply ∷ []) (acc ++ added)
 answers_more p commands [] [] acc line reply added none here = (
@@ -52,7 +55,7 @@ answers_more p commands (l ∷ lines) [] acc line reply added none here = absurd
 pub story_start : (p : Params) (commands : List Command) (script : List (List ℕ)) → Story p commands script script [] []
 story_start p commands script = record { lines = []; script_is = refl; answers = refl }
 
-pub story_more : {p : Params} {commands : List Command} {script todo : List (List ℕ)} {replies : List Reply} {acc : List Command} (line : List ℕ) (reply : Reply) (added : List Command)
+abbrev pub story_more : {p : Params} {commands : List Command} {script todo : List (List ℕ)} {replies : List Reply} {acc : List Command} (line : List ℕ) (reply : Reply) (added : List Command)
     → Story p commands script (line ∷ todo) replies acc → Replies p (commands ++ acc) line reply added → Story p commands script todo (replies ++ reply ∷ []) (acc ++ added)
 story_more {p} {commands} {script} {todo} {replies} {acc} line reply added s here = record {
   lines = s.lines ++ line ∷ [];
@@ -90,12 +93,29 @@ told_whole {p} tie {commands} {script} {todo} {replies} {acc} s = record {
   };
   all = append-nil (commands ++ acc);
   spoken = λ n has. has;
+  with_last = refl;
 }
 
 le_or_lt : (a b : ℕ) → (a ≤ b) ⊎ (b < a)
 le_or_lt zero b = inl (omega arith)
 le_or_lt (suc a) zero = inr (omega arith)
 le_or_lt (suc a) (suc b) = ⊎_elim (λ (h : a ≤ b). inl (omega arith)) (λ (h : b < a). inr (omega arith)) (le_or_lt a b)
+
+within_text : (text : List ℕ) (count : ℕ) → count < length (text ++ 10 ∷ []) → take count (text ++ 10 ∷ []) ≡ take count text
+within_text text count less = take-append-le count text (10 ∷ []) (omega (arith, less, length-append text (10 ∷ [])))
+
+-- what is said of a reply and is not all of it is a beginning of its text
+beginning : (reply : Reply) (count : ℕ) → count < length (said_line reply) → take count (said_line reply) ≡ take count (text_of reply)
+beginning ok count less = within_text (text_of ok) count less
+beginning (value bytes) count less = within_text (text_of (value bytes)) count less
+beginning (forced n) count less = within_text (text_of (forced n)) count less
+beginning bad count less = within_text (text_of bad) count less
+beginning (refused why) count less = within_text (text_of (refused why)) count less
+beginning (full used need limit) count less = within_text (text_of (full used need limit)) count less
+beginning (end number) count less = within_text (text_of (end number)) count less
+beginning (object_value object bytes) count less = within_text (text_of (object_value object bytes)) count less
+beginning (command_count n) count less = within_text (text_of (command_count n)) count less
+beginning silence count less = absurd (omega arith)
 
 -- a beginning of the next answer was said, or all of it
 pub told_partly : {p : Params} (tie : Reply → Type 0) {commands : List Command} {script todo : List (List ℕ)} {replies : List Reply} {acc : List Command} (line : List ℕ) (reply : Reply) (added : List Command) (count : ℕ)
@@ -106,7 +126,6 @@ told_partly {p} tie {commands} {script} {todo} {replies} {acc} line reply added 
   where
     part : count < length (said_line reply) → Told p tie commands script (replies ++ reply ∷ []) (acc ++ added) (flat_map said_line replies ++ take count (said_line reply))
     part less =
-        let short : count ≤ length (text_of reply) = omega (arith, less, length-append (text_of reply) (10 ∷ [])) in
         record {
           story = record {
             lines = s.lines;
@@ -118,10 +137,11 @@ told_partly {p} tie {commands} {script} {todo} {replies} {acc} line reply added 
             script_is = s.script_is;
             said_is = refl;
             answers = s.answers;
-            work = inr (record { line = line; rest = todo; reply = reply; count = count; next = refl; replies = here; begun = take-append-le count (text_of reply) (10 ∷ []) short; tied = tied });
+            work = inr (record { line = line; rest = todo; reply = reply; count = count; next = refl; replies = here; begun = beginning reply count less; tied = tied });
           };
           all = append_assoc commands acc added;
           spoken = λ n has. Contains-append_left replies (reply ∷ []) (forced n) has;
+          with_last = refl;
         }
 
     whole : length (said_line reply) ≤ count → Told p tie commands script (replies ++ reply ∷ []) (acc ++ added) (flat_map said_line replies ++ take count (said_line reply))
@@ -129,3 +149,11 @@ told_partly {p} tie {commands} {script} {todo} {replies} {acc} line reply added 
         let same : flat_map said_line (replies ++ reply ∷ []) ≡ flat_map said_line replies ++ take count (said_line reply)
         = said_more replies reply ∙ ap (λ (l : List ℕ). flat_map said_line replies ++ l) (sym (take_all count (said_line reply) all)) in
         subst (λ (l : List ℕ). Told p tie commands script (replies ++ reply ∷ []) (acc ++ added) l) same (told_whole tie (story_more line reply added s here))
+
+-- the log's length goes on with an answer more
+pub goes_by_more : (p : Params) (first mid last : LogLength) (lines : List (List ℕ)) (replies : List Reply) (line : List ℕ) (reply : Reply) → AllGoBy p first lines replies mid → GoesBy p mid line reply last
+    → AllGoBy p first (lines ++ line ∷ []) (replies ++ reply ∷ []) last
+goes_by_more p first mid last [] [] line reply so_far here = (last, subst (λ (m : LogLength). GoesBy p m line reply last) so_far here, refl)
+goes_by_more p first mid last (l ∷ lines) (r ∷ replies) line reply (next, one, rest) here = (next, one, goes_by_more p next mid last lines replies line reply rest here)
+goes_by_more p first mid last [] (r ∷ replies) line reply so_far here = absurd so_far
+goes_by_more p first mid last (l ∷ lines) [] line reply so_far here = absurd so_far

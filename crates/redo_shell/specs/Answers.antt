@@ -1,7 +1,8 @@
 -- What is said while a script is answered, and what the files stand for meanwhile.
-use Rattle.std.specs.Prelude.{◌≡◌, ⊤, ℕ, ◌≤◌, ◌⊎◌, ◌++◌, List, [], ◌∷◌, length, take, Contains}
+use Rattle.std.specs.Prelude.{◌≡◌, ⊤, ℕ, ◌<◌, ◌≤◌, ◌⊎◌, ◌++◌, List, [], ◌∷◌, length, take, Contains}
+use Rattle.std.proofs.Common.{inl, inr}
 use Rattle.std.specs.List.{flat_map}
-use Rattle.disk_model.specs.Disk.{Files}
+use Rattle.disk_model.specs.Disk.{Files, Disk, LeavesOnly}
 use Rattle.formats.specs.declared.params.Params.{Params}
 use Rattle.script_lines.specs.Replies.{Reply, forced, text_of, said_line}
 use Rattle.store_engine.specs.Store.{Command, Stands}
@@ -57,3 +58,26 @@ pub record SaysAnswers (p : Params) (commands : List Command) (script : List (Li
   pub bytes : List ℕ
   pub since : after ≡ before ++ bytes
   pub story : Said p (λ reply. ⊤) commands script bytes
+
+-- the bytes said end inside an answer that stands behind these bytes: they have its first byte, and not its newline
+pub record EndsInside (before : List ℕ) (reply : Reply) (said : List ℕ) : Type 0 where
+  pub count : ℕ
+  pub some : 0 < count
+  pub within : count ≤ length (text_of reply)
+  pub said_is : said ≡ before ++ take count (text_of reply)
+
+-- each of these answers, said behind these bytes, is true of the files if the bytes said end inside it
+abbrev pub TrueWithin : Params → List ℕ → List Reply → Files → List ℕ → Type 0
+TrueWithin p before [] files said = ⊤
+TrueWithin p before (reply ∷ replies) files said = (EndsInside before reply said → IsTrueIn p files reply) × TrueWithin p (before ++ said_line reply) replies files said
+
+-- these answers, and the one that was begun
+abbrev pub with_begun : {none : Type 0} {p : Params} {tie : Reply → Type 0} {commands added : List Command} {lines : List (List ℕ)} {part : List ℕ} → List Reply → none ⊎ Begun p tie commands lines part added → List Reply
+with_begun replies (inl whole) = replies
+with_begun replies (inr begun) = replies ++ begun.reply ∷ []
+
+-- What was said in a run is answers to the lines of a script, and each of them, the last one begun too, is true of every
+-- image of each moment at which the bytes said end inside it.
+pub record SaysTruly (p : Params) (commands : List Command) (script : List (List ℕ)) (old new : Disk) : Type 0 where
+  pub says : SaysAnswers p commands script old.said new.said
+  pub truly : old.tells_moments → LeavesOnly old new (TrueWithin p old.said (with_begun says.story.replies says.story.work))

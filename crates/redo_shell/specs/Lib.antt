@@ -1,5 +1,9 @@
 pub mod Replies
 pub mod Answers
+pub mod Lengths
 pub mod Status
 pub mod Notices
 pub mod Run
+pub mod Exactly
+pub mod Dump
+pub mod Keeps

@@ -4,28 +4,41 @@ use Rattle.oper_core.specs.declared.refusal.Refusal.TheVariants.{NoObject}
 use Rattle.disk_model.specs.Disk.{Files}
 use Rattle.formats.specs.Image.{EndsAt, NextIs}
 use Rattle.formats.specs.declared.params.Params.{Params}
-use Rattle.script_lines.specs.Grammar.{IsPut, IsGet, IsForce, IsBad}
-use Rattle.script_lines.specs.Replies.{Reply, ok, value, forced, bad, refused, full, end}
+use Rattle.op_codec.specs.declared.all_ops.AllOps.TheVariants.{Put, Copy, Append, Cut, Sort, Swap}
+use Rattle.script_lines.specs.Grammar.{Request, put, copy, append, cut, sort, swap, get, force, skip, AsksFor, IsBad}
+use Rattle.script_lines.specs.Replies.{Reply, ok, value, forced, bad, refused, full, end, object_value, command_count, silence}
 use Rattle.store_engine.specs.Store.{Command, meaning_in, state_of, refusal_after, record_length}
+
+-- the request for a command
+abbrev pub request_for : Command → Request
+request_for (Put op) = put op.object op.value
+request_for (Copy op) = copy op.from op.to
+request_for (Append op) = append op.from op.to
+request_for (Cut op) = cut op.from op.to op.place
+request_for (Sort op) = sort op.from op.to op.width
+request_for (Swap op) = swap op.first op.second
 
 -- the line asks for this command
 abbrev pub AsksCommand : List ℕ → Command → Type 0
-AsksCommand line op = IsPut line op.object op.value
+AsksCommand line op = AsksFor line (request_for op)
 
 -- the line gets this answer after the commands, and adds these
 abbrev pub Replies : Params → List Command → List ℕ → Reply → List Command → Type 0
-Replies p commands line ok added = (op : Command) × AsksCommand line op × (refusal_after p commands op ≡ None) × (added ≡ op ∷ [])
-Replies p commands line (value bytes) added = (object : ℕ) × IsGet line object × (object < p.objects) × (bytes ≡ state_of p commands object) × (added ≡ [])
-Replies p commands line (forced n) added = IsForce line × (n ≡ length commands) × (added ≡ [])
+Replies p commands line ok added = (op : Command) × AsksCommand line op × (refusal_after p commands op ≡ None) × (length commands + 1 < 2 ^ 62) × (added ≡ op ∷ [])
+Replies p commands line (value bytes) added = (object : ℕ) × AsksFor line (get object) × (object < p.objects) × (bytes ≡ state_of p commands object) × (added ≡ [])
+Replies p commands line (forced n) added = AsksFor line force × (n ≡ length commands) × (added ≡ [])
 Replies p commands line bad added = IsBad line × (added ≡ [])
 Replies p commands line (refused why) added =
     (((op : Command) × AsksCommand line op × (refusal_after p commands op ≡ Some why))
-    ⊎ ((object : ℕ) × IsGet line object × (p.objects ≤ object) × (why ≡ NoObject))) × (added ≡ [])
+    ⊎ ((object : ℕ) × AsksFor line (get object) × (p.objects ≤ object) × (why ≡ NoObject))) × (added ≡ [])
 Replies p commands line (full used need limit) added =
     ((op : Command) × AsksCommand line op × (refusal_after p commands op ≡ None) × (need ≡ record_length p op + 5))
     × (limit ≡ p.limit) × (limit < used + need) × (added ≡ [])
 Replies p commands line (end number) added =
-    ((op : Command) × AsksCommand line op × (refusal_after p commands op ≡ None)) × (number ≡ 2 ^ 62) × (added ≡ [])
+    ((op : Command) × AsksCommand line op × (refusal_after p commands op ≡ None)) × (number ≡ 2 ^ 62) × (2 ^ 62 ≤ length commands + 1) × (added ≡ [])
+Replies p commands line silence added = AsksFor line skip × (added ≡ [])
+Replies p commands line (object_value object bytes) added = ⊥
+Replies p commands line (command_count n) added = ⊥
 
 -- what an answer says of each image of its moment
 abbrev pub IsTrueIn : Params → Files → Reply → Type 0
@@ -38,4 +51,7 @@ abbrev pub is_refusing : Reply → Bool
 is_refusing ok = false
 is_refusing (value bytes) = false
 is_refusing (forced n) = false
+is_refusing (object_value object bytes) = false
+is_refusing (command_count n) = false
+is_refusing silence = false
 is_refusing reply = true

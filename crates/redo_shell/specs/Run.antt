@@ -1,17 +1,30 @@
 -- One line's answer, and a whole run.
-use Rattle.std.specs.Prelude.{◌≡◌, ℕ, ◌≤◌, ◌⊎◌, ◌↔◌, ⊤, ◌++◌, List, length, take, Contains, Bool, true, Result, IfOk, OnErr}
+use Rattle.std.specs.Prelude.{◌≡◌, ℕ, ◌≤◌, ◌⊎◌, ◌↔◌, ⊤, ◌++◌, List, length, take, Contains, Bool, true, false, Result, IfOk, OnErr}
 use Rattle.std.specs.List.{flat_map, list_any}
 use Rattle.disk_model.specs.Disk.{Files, Disk, LeavesOnly, Rises}
+use Rattle.formats.specs.Image.{EndsAt}
 use Rattle.formats.specs.declared.params.Params.{Params}
 use Rattle.script_lines.specs.Replies.{Reply, forced, said_line}
 use Rattle.store_engine.specs.Store.{Command, Stands}
-use Rattle.store_engine.specs.Engine.{EngineView, Holds, Kept, Between, InEachImage}
+use Rattle.store_engine.specs.Engine.{EngineView, Holds, Kept, Between, InEachImage, LogLength, log_length}
 use Rattle.redo_shell.specs.Replies.{Replies, IsTrueIn, is_refusing}
-use Rattle.redo_shell.specs.Answers.{Answers, Moment, SaysAnswers}
+use Rattle.redo_shell.specs.Answers.{Answers, Moment, EndsInside, TrueWithin, SaysTruly}
+use Rattle.redo_shell.specs.Lengths.{GoesBy, AllGoBy}
 use Rattle.redo_shell.specs.declared.status.Status.{Status}
 use Rattle.redo_shell.specs.declared.status.Status.TheVariants.{DoneWithRefusals}
 use Rattle.redo_shell.specs.declared.stop.Stop.{Stop}
 use Rattle.redo_shell.specs.declared.stop.Stop.TheVariants.{DiskFault, ReadFault, SayFault, Memory, TooLong}
+
+-- a moment while this answer is found and said behind these bytes: it is true where the bytes said end inside it
+pub record IsTrueSaying (p : Params) (before : List ℕ) (reply : Reply) (files : Files) (said : List ℕ) : Type 0 where
+  pub true_in : EndsInside before reply said → IsTrueIn p files reply
+  pub no_shorter : length before ≤ length said
+  pub no_longer : length said ≤ length (before ++ said_line reply)
+
+-- a moment of a run that has said these answers behind these bytes, and no more than these
+pub record IsTrueSoFar (p : Params) (before : List ℕ) (replies : List Reply) (now : List ℕ) (files : Files) (said : List ℕ) : Type 0 where
+  pub true_within : TrueWithin p before replies files said
+  pub no_longer : length said ≤ length now
 
 -- a line was answered
 pub record IsAnswered (p : Params) (old new : Disk) (before after : EngineView) (commands : List Command) (line : List ℕ) (refusing : Bool) : Type 0 where
@@ -22,14 +35,17 @@ pub record IsAnswered (p : Params) (old new : Disk) (before after : EngineView) 
   pub kept : Kept p before new after (commands ++ added)
   pub acked : (n : ℕ) → reply ≡ forced n → n ≤ after.forced
   pub kind : refusing ≡ is_refusing reply
+  pub truly : old.tells_moments → LeavesOnly old new (IsTrueSaying p old.said reply)
+  pub length_is : GoesBy p (log_length before) line reply (log_length after)
 
 -- the bytes said while a line is answered: a beginning of its answer
-pub record IsPartly (p : Params) (old : List ℕ) (commands : List Command) (line : List ℕ) (new : List ℕ) : Type 0 where
+pub record IsPartly (p : Params) (old new : Disk) (commands : List Command) (line : List ℕ) : Type 0 where
   pub reply : Reply
   pub added : List Command
   pub replies : Replies p commands line reply added
   pub count : ℕ
-  pub said_is : new ≡ old ++ take count (said_line reply)
+  pub said_is : new.said ≡ old.said ++ take count (said_line reply)
+  pub truly : old.tells_moments → LeavesOnly old new (IsTrueSaying p old.said reply)
 
 -- a moment while an answer is said
 pub record During (p : Params) (old : Disk) (least : ℕ) (commands : List Command) (line : List ℕ) (files : Files) (said : List ℕ) : Type 0 where
@@ -63,8 +79,14 @@ pub record Going (p : Params) (start now : Disk) (engine : EngineView) (commands
   pub acked : (n : ℕ) → Contains replies (forced n) → n ≤ engine.forced
   pub kind : refusing ≡ list_any is_refusing replies
   pub moments : start.tells_moments → LeavesOnly start now (Moment p commands script start.said)
+  pub truly : start.tells_moments → LeavesOnly start now (IsTrueSoFar p start.said replies now.said)
+  pub first : LogLength
+  pub ends : EndsAt start.reads first.used
+  pub none_waits : first.waits ≡ false
+  pub lengths : AllGoBy p first lines replies (log_length engine)
 
--- a whole run: each line is answered, the files stand for all that was added, and the status tells of refusals
+-- A whole run: each line is answered, the files stand for all that was added, and the status tells of refusals. The
+-- lengths of the log go from its end in the files at the start, with each answer.
 pub record IsComplete (p : Params) (start now : Disk) (commands : List Command) (script : List (List ℕ)) (status : Status) : Type 0 where
   pub replies : List Reply
   pub acc : List Command
@@ -72,6 +94,12 @@ pub record IsComplete (p : Params) (start now : Disk) (commands : List Command) 
   pub said_is : now.said ≡ start.said ++ flat_map said_line replies
   pub stands : InEachImage now (λ files. Stands p files (commands ++ acc))
   pub refusals : (status ≡ DoneWithRefusals) ↔ (list_any is_refusing replies ≡ true)
+  pub first : LogLength
+  pub ends : EndsAt start.reads first.used
+  pub none_waits : first.waits ≡ false
+  pub last : LogLength
+  pub lengths : AllGoBy p first script replies last
+  pub ends_last : EndsAt now.reads last.used
 
 -- the answer to a line is found and not said yet: what it adds is done, and it is true in each image
 pub record IsFound (p : Params) (old now : Disk) (before after : EngineView) (commands : List Command) (line : List ℕ) (reply : Reply) : Type 0 where
@@ -80,6 +108,7 @@ pub record IsFound (p : Params) (old now : Disk) (before after : EngineView) (co
   pub quiet : now.said ≡ old.said
   pub kept : Kept p before now after (commands ++ added)
   pub tied : InEachImage now (λ files. IsTrueIn p files reply)
+  pub length_is : GoesBy p (log_length before) line reply (log_length after)
   pub acked : (n : ℕ) → reply ≡ forced n → n ≤ after.forced
 
 -- what ends a run while a line is answered has its cause
@@ -101,10 +130,10 @@ IsStopped TooLong old new reads_before reads_now = ⊤
 -- a line was answered, or a beginning of its answer was said, or nothing
 pub record Answering (p : Params) (old new : Disk) (before after : EngineView) (commands : List Command) (line : List ℕ) (result : Result Bool Stop) : Type 0 where
   pub whole : IfOk result (IsAnswered p old new before after commands line)
-  pub partly : OnErr result ((new.said ≡ old.said) ⊎ IsPartly p old.said commands line new.said)
+  pub partly : OnErr result ((new.said ≡ old.said) ⊎ IsPartly p old new commands line)
   pub moments : old.tells_moments → LeavesOnly old new (LineMoment p old before.forced commands line)
 
 -- a script was answered, or a beginning of it
 pub record IsRun (p : Params) (start now : Disk) (commands : List Command) (script : List (List ℕ)) : Type 0 where
-  pub says : SaysAnswers p commands script start.said now.said
+  pub says : SaysTruly p commands script start now
   pub moments : start.tells_moments → LeavesOnly start now (Moment p commands script start.said)

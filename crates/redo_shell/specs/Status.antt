@@ -1,24 +1,31 @@
 -- How a run ends, and the status that tells of it.
-use Rattle.std.specs.Prelude.{⊤, Bool, true, false, Result, Ok, Err}
+use Rattle.std.specs.Prelude.{⊤, ℕ, Bool, true, false, Result, Ok, Err}
 use Rattle.script_lines.specs.declared.read_error.ReadError.{ReadError}
 use Rattle.script_lines.specs.declared.read_error.ReadError.TheVariants.{ReadFault as ReadFailed, TooLong as ReadTooMuch, Memory as NoMemoryToRead}
-use Rattle.store_engine.specs.declared.force_err.ForceErr.{ForceErr}
-use Rattle.store_engine.specs.declared.force_err.ForceErr.TheVariants.{DiskFault as ForceFailed, Memory as NoMemoryToForce}
 use Rattle.redo_shell.specs.declared.stop.Stop.{Stop}
 use Rattle.redo_shell.specs.declared.stop.Stop.TheVariants.{DiskFault, ReadFault, SayFault, Memory, TooLong}
 use Rattle.redo_shell.specs.declared.status.Status.{Status}
-use Rattle.redo_shell.specs.declared.status.Status.TheVariants.{Done, DoneWithRefusals, Usage, AlreadyStore, DiskFault as DiskFailed, ReadFault as InputFailed, SayFault as OutputFailed, Memory as OutOfMemory, TooLong as InputTooLong}
+use Rattle.redo_shell.specs.declared.status.Status.TheVariants.{Done, DoneWithRefusals, Usage, NotAStore, AlreadyStore, Damaged, DiskFault as DiskFailed, ReadFault as InputFailed, SayFault as OutputFailed, Memory as OutOfMemory, TooLong as InputTooLong}
+
+-- the number that the process ends with
+abbrev pub number_of : Status → ℕ
+number_of Done = 0
+number_of DoneWithRefusals = 1
+number_of Usage = 2
+number_of NotAStore = 3
+number_of AlreadyStore = 3
+number_of Damaged = 4
+number_of DiskFailed = 5
+number_of InputFailed = 6
+number_of OutputFailed = 7
+number_of OutOfMemory = 8
+number_of InputTooLong = 9
 
 -- why a run ends where no line could be read
 abbrev pub stop_of_read : ReadError → Stop
 stop_of_read ReadFailed = ReadFault
 stop_of_read ReadTooMuch = TooLong
 stop_of_read NoMemoryToRead = Memory
-
--- why a run ends where the log could not be forced
-abbrev pub stop_of_force : ForceErr → Stop
-stop_of_force ForceFailed = DiskFault
-stop_of_force NoMemoryToForce = Memory
 
 -- the status of a run that ends before its script does
 abbrev pub status_of : Stop → Status
@@ -40,11 +47,27 @@ IsOfRun Usage = ⊥
 IsOfRun AlreadyStore = ⊥
 IsOfRun status = ⊤
 
+-- a dump may end with this status
+abbrev pub IsOfDump : Status → Type 0
+IsOfDump DoneWithRefusals = ⊥
+IsOfDump Usage = ⊥
+IsOfDump AlreadyStore = ⊥
+IsOfDump InputFailed = ⊥
+IsOfDump InputTooLong = ⊥
+IsOfDump status = ⊤
+
 -- a layout may end with this status
 abbrev pub IsOfInit : Status → Type 0
 IsOfInit Done = ⊤
 IsOfInit AlreadyStore = ⊤
 IsOfInit DiskFailed = ⊤
 IsOfInit OutputFailed = ⊤
-IsOfInit OutOfMemory = ⊤
 IsOfInit status = ⊥
+
+-- a run ends with this status only where it has opened the store
+abbrev pub IsOfStore : Status → Type 0
+IsOfStore Done = ⊤
+IsOfStore DoneWithRefusals = ⊤
+IsOfStore InputFailed = ⊤
+IsOfStore InputTooLong = ⊤
+IsOfStore status = ⊥

@@ -6,6 +6,7 @@ ghost use Rattle.formats.specs.Objects.{IsInRange};
 ghost use Rattle.formats.specs.Image.{BeginsStore};
 ghost use Rattle.store_engine.specs.Store.{Stands};
 ghost use Rattle.store_engine.specs.Engine.{InEachImage, IsNew};
+ghost use Rattle.redo_shell.specs.Keeps.{KeepsFiles};
 ghost use Rattle.redo_shell.specs.Notices.{already_a_store};
 ghost use Rattle.redo_shell.specs.Status.{IsOfInit};
 
@@ -23,8 +24,10 @@ pub fn init<M: Machine>(machine: &mut M, params: Params) -> Status
         InEachImage (M.disk machine.new) (λ files. Stands params files []) }
     ensures moments { (M.disk machine.old).tells_moments → IsSettled (M.disk machine.old) → (BeginsStore ((M.disk machine.old).reads Objects) → ⊥) →
         LeavesOnly (M.disk machine.old) (M.disk machine.new) (λ files said. IsNew params files × (said ≡ (M.disk machine.old).said)) }
+    ensures keeps { (M.disk machine.old).tells_files → BeginsStore ((M.disk machine.old).reads Objects) → KeepsFiles (M.disk machine.old) (M.disk machine.new) }
     ensures already { (M.disk machine.old).tells_files → result ≡ Status.AlreadyStore → BeginsStore ((M.disk machine.old).reads Objects)
         × ((M.disk machine.new).reads ≡ (M.disk machine.old).reads) × ((M.disk machine.new).said ≡ (M.disk machine.old).said ++ already_a_store) }
+    ensures fresh { (M.disk machine.old).tells_files → result ≡ Status.Done → BeginsStore ((M.disk machine.old).reads Objects) → ⊥ }
     ensures status { IsOfInit result }
     ensures disk_fault { result ≡ Status.DiskFault → Rises (M.disk machine.old).disk_faults (M.disk machine.new).disk_faults }
     ensures say_fault { result ≡ Status.SayFault → Rises (M.disk machine.old).say_faults (M.disk machine.new).say_faults }
@@ -35,6 +38,5 @@ pub fn init<M: Machine>(machine: &mut M, params: Params) -> Status
             end_with(machine, b"already a store\n", Status::AlreadyStore)
         }
         Err(InitErr::DiskFault) => Status::DiskFault,
-        Err(InitErr::Memory) => Status::Memory,
     }
 }

@@ -3,13 +3,17 @@
 //! The one contract is that of [`top`]: run on files that stand for a list of commands, it says what a plain map would
 //! answer to the script, and whatever a crash leaves of the files at any moment stands for that list and a beginning of
 //! the commands that the script has added, no shorter than any number that was said to be forced. The crate stands on
-//! store_engine for the store, on script_lines for lines, answers and words, on op_meaning for the operation that a line
-//! asks for, on formats for what files stand for, and on the machine and the source of disk_model.
+//! store_engine for the store, on script_lines for lines, answers and words, on op_codec and op_meaning for the operation that
+//! a line asks for, on formats for what files stand for, and on the machine and the source of disk_model.
 #![tactic(auto)]
 
+#[cfg(test)]
+mod answer_rows;
 mod answers;
 mod damage;
+mod dump;
 mod init;
+mod laws;
 mod line;
 mod program;
 mod run;
@@ -20,5 +24,6 @@ mod stop;
 #[cfg(test)]
 mod tests;
 
+pub use laws::a_line_gets_the_answer_of_its_cause;
 pub use program::top;
 pub use status::Status;

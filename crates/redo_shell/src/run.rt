@@ -1,20 +1,20 @@
 // A script is run on a store.
-ghost use Rattle.std.specs.Prelude.{◌≡◌, ◌≢◌, ◌^◌, ◌⊎◌, ◌++◌, List, ℕ};
+ghost use Rattle.std.specs.Prelude.{◌≡◌, ◌≢◌, ◌^◌, ◌⊎◌, ◌++◌, ◌<◌, [], List, ℕ, length};
 ghost use Rattle.disk_model.specs.Disk.{Rises, Passes, LeavesOnly};
 ghost use Rattle.disk_model.specs.declared.machine.FileNo.{FileNo};
 ghost use Rattle.disk_model.specs.declared.machine.FileNo.TheVariants.{Objects};
 ghost use Rattle.formats.specs.Bytes.{IsShutAt};
 ghost use Rattle.formats.specs.Image.{IsDamaged};
 ghost use Rattle.formats.specs.declared.params.Params.{Params};
-ghost use Rattle.op_meaning.specs.Put.{put_meaning};
+ghost use Rattle.op_codec.specs.AllOps.{all_meaning};
 ghost use Rattle.script_lines.specs.Grammar.{lines_of};
 ghost use Rattle.script_lines.specs.Reading.{Takes};
-ghost use Rattle.store_engine.specs.Store.{Command};
+ghost use Rattle.store_engine.specs.Store.{Command, IsWellFormed};
 ghost use Rattle.store_engine.specs.Engine.{Opens};
-ghost use Rattle.redo_shell.specs.Answers.{Moment, SaysAnswers};
+ghost use Rattle.redo_shell.specs.Answers.{Moment, SaysTruly};
 ghost use Rattle.redo_shell.specs.Notices.{not_a_store, damaged};
 ghost use Rattle.redo_shell.specs.Run.{IsComplete};
-ghost use Rattle.redo_shell.specs.Status.{IsOfRun};
+ghost use Rattle.redo_shell.specs.Status.{IsOfRun, IsOfStore};
 
 use crate::damage::end_damaged;
 use crate::say::end_with;
@@ -31,16 +31,17 @@ pub fn run<M: Machine, S: Source>(alloc: Global, machine: &mut M, input: &mut S)
     ensures moments { (p : Params) (commands : List Command) → Opens p (M.disk machine.old) commands → S.tells input.old → (M.disk machine.old).tells_moments →
         LeavesOnly (M.disk machine.old) (M.disk machine.new) (Moment p commands (lines_of (S.left input.old)) (M.disk machine.old).said) }
     ensures answers { (p : Params) (commands : List Command) → Opens p (M.disk machine.old) commands → S.tells input.old →
-        SaysAnswers p commands (lines_of (S.left input.old)) (M.disk machine.old).said (M.disk machine.new).said }
+        SaysTruly p commands (lines_of (S.left input.old)) (M.disk machine.old) (M.disk machine.new) }
     ensures complete { (p : Params) (commands : List Command) → Opens p (M.disk machine.old) commands → S.tells input.old →
         (result ≡ Status.Done) ⊎ (result ≡ Status.DoneWithRefusals) →
         IsComplete p (M.disk machine.old) (M.disk machine.new) commands (lines_of (S.left input.old)) result }
-    ensures store { (p : Params) (commands : List Command) → Opens p (M.disk machine.old) commands →
-        (result ≢ Status.NotAStore) × (result ≢ Status.Damaged) }
+    ensures input { S.tells input.old → (result ≡ Status.Done) ⊎ (result ≡ Status.DoneWithRefusals) → (S.left input.new ≡ []) × (length (S.left input.old) < 2 ^ 40) }
+    ensures opened { (M.disk machine.old).tells_files → IsOfStore result → IsWellFormed (M.disk machine.old).reads }
+    ensures store { (M.disk machine.old).tells_files → IsWellFormed (M.disk machine.old).reads → (result ≢ Status.NotAStore) × (result ≢ Status.Damaged) }
     ensures no_store { (M.disk machine.old).tells_files → result ≡ Status.NotAStore → IsShutAt 0 ((M.disk machine.old).reads Objects)
-        × ((M.disk machine.new).said ≡ (M.disk machine.old).said ++ not_a_store) }
+        × ((M.disk machine.new).reads ≡ (M.disk machine.old).reads) × ((M.disk machine.new).said ≡ (M.disk machine.old).said ++ not_a_store) }
     ensures damaged { (M.disk machine.old).tells_files → result ≡ Status.Damaged → (file : FileNo) × (place : ℕ)
-        × IsDamaged put_meaning (M.disk machine.old).reads file place × ((M.disk machine.new).said ≡ (M.disk machine.old).said ++ damaged file place) }
+        × IsDamaged all_meaning (M.disk machine.old).reads file place × ((M.disk machine.new).reads ≡ (M.disk machine.old).reads) × ((M.disk machine.new).said ≡ (M.disk machine.old).said ++ damaged file place) }
     ensures status { IsOfRun result }
     ensures disk_fault { result ≡ Status.DiskFault → Rises (M.disk machine.old).disk_faults (M.disk machine.new).disk_faults }
     ensures read_fault { result ≡ Status.ReadFault → Rises (S.faults input.old) (S.faults input.new) }

@@ -1,5 +1,5 @@
 // A script is answered, line by line.
-ghost use Rattle.std.specs.Prelude.{◌≡◌, ◌^◌, List, ℕ, length, Ok, IfOk, IfErr, IsErrOf};
+ghost use Rattle.std.specs.Prelude.{◌≡◌, ◌<◌, ◌^◌, [], List, ℕ, length, Ok, IfOk, IfErr, IsErrOf};
 ghost use Rattle.disk_model.specs.Disk.{Passes};
 ghost use Rattle.formats.specs.declared.params.Params.{Params};
 ghost use Rattle.script_lines.specs.Grammar.{lines_of};
@@ -28,6 +28,7 @@ pub fn answer_script<M: Machine, S: Source>(
         IsRun p (M.disk machine.old) (M.disk machine.new) commands (lines_of (S.left input.old)) }
     ensures complete { (p : Params) (commands : List Command) → Holds p (M.disk machine.old) engine.old commands → engine.old.forced ≡ length commands → S.tells input.old →
         IfOk result (λ refusing. IsComplete p (M.disk machine.old) (M.disk machine.new) commands (lines_of (S.left input.old)) (status_after (Ok refusing))) }
+    ensures input { S.tells input.old → IfOk result (λ _. (S.left input.new ≡ []) × (length (S.left input.old) < 2 ^ 40)) }
     ensures cause { IfErr result (λ stop. IsStopped stop (M.disk machine.old) (M.disk machine.new) (S.faults input.old) (S.faults input.new)) }
     ensures too_long { S.tells input.old → IsErrOf result Stop.TooLong → Takes (S.left input.old) (S.left input.new) 0 (2 ^ 40) }
 {

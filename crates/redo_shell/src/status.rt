@@ -1,5 +1,5 @@
 ghost use Rattle.std.specs.Prelude.{◌≡◌};
-ghost use Rattle.redo_shell.specs.Status.{status_after as status_of_end};
+ghost use Rattle.redo_shell.specs.Status.{number_of, status_after as status_of_end};
 
 use crate::stop::Stop;
 
@@ -32,7 +32,9 @@ pub enum Status {
 
 impl Status {
     /// The number that the process ends with.
-    pub fn number(self) -> u8 {
+    pub fn number(self) -> u8
+        ensures { result ≡ number_of self }
+    {
         match self {
             Status::Done => 0,
             Status::DoneWithRefusals => 1,

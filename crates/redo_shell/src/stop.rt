@@ -1,6 +1,6 @@
 ghost use Rattle.std.specs.Prelude.{◌≡◌};
-ghost use Rattle.redo_shell.specs.Status.{status_of, stop_of_read, stop_of_force};
-ghost use Rattle.redo_shell.specs.declared.stop.Stop.TheVariants.{Memory as OutOfMemory};
+ghost use Rattle.redo_shell.specs.Status.{status_of, stop_of_read};
+ghost use Rattle.redo_shell.specs.declared.stop.Stop.TheVariants.{DiskFault as DiskFailed, Memory as OutOfMemory};
 
 use crate::status::Status;
 use oper_core::Memory;
@@ -64,12 +64,9 @@ impl From<ReadError> for Stop {
 }
 
 impl From<ForceErr> for Stop {
-    ghost from_gives = { λ error stop. stop ≡ stop_of_force error };
+    ghost from_gives = { λ _ stop. stop ≡ DiskFailed };
 
-    fn from(error: ForceErr) -> Self {
-        match error {
-            ForceErr::DiskFault => Stop::DiskFault,
-            ForceErr::Memory => Stop::Memory,
-        }
+    fn from(_: ForceErr) -> Self {
+        Stop::DiskFault
     }
 }

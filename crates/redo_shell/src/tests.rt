@@ -4,6 +4,9 @@ use disk_model::{Crash, FileNo, Fuse, Machine, MemMachine, MemSource};
 use std::alloc::{AllocError, Global};
 use std::test::Fail;
 
+mod plain;
+mod stops;
+
 const NEW_LOG: [u8; 34] = *b"\x01RDOLOG01\x01\0\0\0\0\0\0\0\x01\0\0\0\0\0\0\0\0\0\0\0\0\0\0\0\0";
 
 fn empty_folder(alloc: Global) -> Result<MemMachine, AllocError> {
@@ -30,11 +33,35 @@ fn run<M: Machine>(
     Ok(top(alloc, &words, machine, &mut source))
 }
 
+// Runs the program, and tells whether it ends with this status and these bytes are all that was said.
+fn says(
+    alloc: Global,
+    machine: &mut MemMachine,
+    line: &str,
+    input: &[u8],
+    wanted: (Status, &[u8]),
+) -> Result<bool, Fail> {
+    let status = run(alloc, machine, line, input)?;
+    Ok(status == wanted.0 && machine.said() == wanted.1)
+}
+
 // A machine with a store of 8 objects, after a crash without loss: so nothing is said yet.
 fn new_store(alloc: Global) -> Result<MemMachine, Fail> {
     let mut machine = empty_folder(alloc)?;
     run(alloc, &mut machine, "redo init 8 64 65536", b"")?;
     Ok(machine.crash(Crash::New))
+}
+
+// Whether the next run, after a crash that loses what was not synced, says this value of object 0.
+fn next_says(alloc: Global, machine: MemMachine, value: &[u8]) -> Result<bool, Fail> {
+    let mut later = machine.crash(Crash::Old);
+    says(
+        alloc,
+        &mut later,
+        "redo run",
+        b"get 0",
+        (Status::Done, value),
+    )
 }
 
 #[test]
@@ -48,36 +75,39 @@ fn a_new_store_has_these_bytes(rt: HostRuntime) -> Result<(), Fail> {
     Ok(())
 }
 
+// A store with one forced put, and whether the run said what it should.
+fn one_put(alloc: Global) -> Result<(MemMachine, bool), Fail> {
+    let mut machine = new_store(alloc)?;
+    let script = b"put 0 aa\nget 0\nforce\n";
+    let wanted = (Status::Done, b"ok\naa\nforced 1\n".as_slice());
+    let said = says(alloc, &mut machine, "redo run", script, wanted)?;
+    Ok((machine, said))
+}
+
 #[test]
 fn a_put_is_read_forced_and_read_again(rt: HostRuntime) -> Result<(), Fail> {
-    let alloc = rt.alloc();
-    let mut machine = new_store(alloc)?;
-    let status = run(alloc, &mut machine, "redo run", b"put 0 aa\nget 0\nforce\n")?;
-    assert_eq!(rt; status, Status::Done);
-    assert_eq!(rt; machine.said(), b"ok\naa\nforced 1\n".as_slice());
+    let (machine, said) = one_put(rt.alloc())?;
+    assert!(rt; said);
     let log = machine.bytes(FileNo::LogA);
     assert!(rt; log.starts_with(NEW_LOG.as_slice().strip_suffix(b"\0").ok_or("no gate")?));
     assert!(rt; log.ends_with(b"\x01\x13\0\0\0\x01\x01\0\0\0\0\0\0\0\x01\0\0\0\0\x01\0\0\0\xaa\0"));
-    let mut later = machine.crash(Crash::Old);
-    let status = run(alloc, &mut later, "redo run", b"get 0\n")?;
-    assert_eq!(rt; status, Status::Done);
-    assert_eq!(rt; later.said(), b"aa\n".as_slice());
+    assert!(rt; next_says(rt.alloc(), machine, b"aa\n")?);
     Ok(())
+}
+
+// The run of one put without a force, stopped after so many calls.
+fn stopped_put(alloc: Global, calls: u64) -> Result<MemMachine, Fail> {
+    let mut stopped = Fuse::new(new_store(alloc)?, calls);
+    run(alloc, &mut stopped, "redo run", b"put 0 aa")?;
+    Ok(stopped.into_inner())
 }
 
 #[test]
 fn the_end_of_the_input_forces(rt: HostRuntime) -> Result<(), Fail> {
-    let alloc = rt.alloc();
-    let mut machine = new_store(alloc)?;
-    run(alloc, &mut machine, "redo run", b"put 0 aa")?;
-    let mut later = machine.crash(Crash::Old);
-    run(alloc, &mut later, "redo run", b"get 0")?;
-    assert_eq!(rt; later.said(), b"aa\n".as_slice());
-    let mut stopped = Fuse::new(new_store(alloc)?, 8);
-    run(alloc, &mut stopped, "redo run", b"put 0 aa")?;
-    let mut later = stopped.into_inner().crash(Crash::Old);
-    run(alloc, &mut later, "redo run", b"get 0")?;
-    assert_eq!(rt; later.said(), b"-\n".as_slice());
+    let whole = stopped_put(rt.alloc(), 400)?;
+    assert!(rt; next_says(rt.alloc(), whole, b"aa\n")?);
+    let stopped = stopped_put(rt.alloc(), 8)?;
+    assert!(rt; next_says(rt.alloc(), stopped, b"-\n")?);
     Ok(())
 }
 
@@ -85,23 +115,15 @@ fn the_end_of_the_input_forces(rt: HostRuntime) -> Result<(), Fail> {
 fn wrong_lines_are_bad(rt: HostRuntime) -> Result<(), Fail> {
     let alloc = rt.alloc();
     let mut machine = new_store(alloc)?;
-    let status = run(
-        alloc,
-        &mut machine,
-        "redo run",
-        b"put 0\nput 0 a\nget 00\n\n# \nput 0 AA\nget 8\n",
-    )?;
-    assert_eq!(rt; status, Status::DoneWithRefusals);
-    assert_eq!(rt;
-        machine.said(),
-        b"bad\nbad\nbad\nbad\nbad\nok\nrefused NoObject\n".as_slice()
-    );
+    let script = b"put 0\nput 0 a\nget 00\n\n# \nput 0 AA\nget 8\n";
+    let wanted = b"bad\nbad\nbad\nok\nrefused NoObject\n";
+    let wanted = (Status::DoneWithRefusals, wanted.as_slice());
+    assert!(rt; says(alloc, &mut machine, "redo run", script, wanted)?);
     let mut long = b"get 0".to_vec(alloc)?;
-    long.resize(40001, b'0')?;
+    long.resize(40001, b' ')?;
     let mut machine = machine.crash(Crash::New);
-    let status = run(alloc, &mut machine, "redo run", long.as_slice())?;
-    assert_eq!(rt; status, Status::DoneWithRefusals);
-    assert_eq!(rt; machine.said(), b"bad\n".as_slice());
+    let wanted = (Status::DoneWithRefusals, b"bad\n".as_slice());
+    assert!(rt; says(alloc, &mut machine, "redo run", &long, wanted)?);
     Ok(())
 }
 
@@ -109,30 +131,34 @@ fn wrong_lines_are_bad(rt: HostRuntime) -> Result<(), Fail> {
 fn a_store_is_not_made_twice(rt: HostRuntime) -> Result<(), Fail> {
     let alloc = rt.alloc();
     let mut machine = new_store(alloc)?;
-    let status = run(alloc, &mut machine, "redo init 2 16 8192", b"")?;
-    assert_eq!(rt; status, Status::AlreadyStore);
-    assert_eq!(rt; machine.said(), b"already a store\n".as_slice());
-    assert_eq!(rt; machine.bytes(FileNo::Objects).len(), 1188);
-    let mut nothing = empty_folder(alloc)?;
-    let status = run(alloc, &mut nothing, "redo run", b"get 0\n")?;
-    assert_eq!(rt; status, Status::NotAStore);
-    assert_eq!(rt; nothing.said(), b"not a store\n".as_slice());
+    let wanted = (Status::AlreadyStore, b"already a store\n".as_slice());
+    assert!(rt; says(alloc, &mut machine, "redo init 2 16 8192", b"", wanted)?);
+    assert!(rt; machine.bytes(FileNo::Objects).len() == 1188);
     Ok(())
 }
 
 #[test]
-fn other_words_get_the_usage(rt: HostRuntime) -> Result<(), Fail> {
+fn no_store_is_run(rt: HostRuntime) -> Result<(), Fail> {
     let alloc = rt.alloc();
+    let mut nothing = empty_folder(alloc)?;
+    let wanted = (Status::NotAStore, b"not a store\n".as_slice());
+    assert!(rt; says(alloc, &mut nothing, "redo run", b"get 0\n", wanted)?);
+    Ok(())
+}
+
+// Whether these words get the usage line, and no file.
+fn gets_the_usage(alloc: Global, line: &str) -> Result<bool, Fail> {
+    let mut machine = empty_folder(alloc)?;
+    let status = run(alloc, &mut machine, line, b"")?;
+    let usage = b"usage: redo init N CAP LIMIT | run";
+    let said = machine.said().starts_with(usage);
+    Ok(status == Status::Usage && said && machine.bytes(FileNo::Objects).is_empty())
+}
+
+#[test]
+fn other_words_get_the_usage(rt: HostRuntime) -> Result<(), Fail> {
     for line in ["redo init 8 64 4223", "redo fly", "redo", "redo --help"] {
-        let mut machine = empty_folder(alloc)?;
-        let status = run(alloc, &mut machine, line, b"")?;
-        assert_eq!(rt; status, Status::Usage, "{line}");
-        assert!(rt;
-            machine
-                .said()
-                .starts_with(b"usage: redo init N CAP LIMIT | run")
-        );
-        assert_eq!(rt; machine.bytes(FileNo::Objects), b"".as_slice());
+        assert!(rt; gets_the_usage(rt.alloc(), line)?, "{line}");
     }
     Ok(())
 }
@@ -148,7 +174,7 @@ fn a_full_log_says_where_it_ends(rt: HostRuntime) -> Result<(), Fail> {
         script.extend_from_slice(b"put 0 -\n")?;
     }
     let status = run(alloc, &mut machine, "redo run", script.as_slice())?;
-    assert_eq!(rt; status, Status::DoneWithRefusals);
+    assert!(rt; status == Status::DoneWithRefusals);
     assert!(rt; machine.said().ends_with(b"ok\nfull 4214 23 4224\n"));
     Ok(())
 }

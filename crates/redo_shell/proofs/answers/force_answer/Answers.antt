@@ -11,5 +11,6 @@ returns-clause-found g c = λ p commands line holds is_force.
       quiet = c.force.ensures.quiet holds.told;
       kept = kept_nil ok.2;
       tied = (tt, λ told f s left. tt);
+      length_is = c.in_ok-count.ensures.emptied;
       acked = λ n is. let same : c.in_ok-count.count ≡ n = cc in omega (arith, same, ok.0, ok.1);
     }

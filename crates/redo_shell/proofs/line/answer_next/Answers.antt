@@ -12,5 +12,5 @@ returns-in-Line-clause-answers g c = λ p commands line is holds.
 
 pub returns-in-Long-clause-answers : goal.returns-in-Long-clause-answers
 returns-in-Long-clause-answers g c = λ p commands line is holds.
-    let found = found_at_once {line = line} bad holds (found_long c.args.next c.args.bytes.now line c.in-Long.is is, refl) (λ f. tt) (λ n is. cc) in
+    let found = found_at_once {line = line} bad holds (found_long c.args.next c.args.bytes.now line c.in-Long.is is, refl) (λ f. tt) (λ n is. cc) (λ log. refl) in
     said_at_once c.say_answer.result (g.met.M.Machine.lawful c.args.machine.now) found holds c.say_answer.ensures.runs c.say_answer.ensures.all c.say_answer.ensures.kind

@@ -1,11 +1,11 @@
-use Rattle.std.proofs.Common.{◌++◌, List, ℕ, [], false, refl, sym, subst, arith}
+use Rattle.std.proofs.Common.{◌++◌, ◌∙◌, List, ℕ, [], Ok, false, refl, ap, sym, subst, arith}
 use Rattle.std.proofs.lemmas.Result.{IfOk-from_err}
 use Rattle.disk_model.specs.Moments.{passes_none, passes_twice}
 use Rattle.script_lines.specs.Grammar.{lines_of}
 use Rattle.script_lines.specs.Reading.{IsLine, Takes}
 use Rattle.redo_shell.specs.Run.{Going}
 use Rattle.redo_shell.proofs.RunLemmas.{opened, goes_to, goes_on, ends_here, ends_in_line, ends_in_force, completes}
-use Rattle.redo_shell.proofs.ScriptLemmas.{takes_on, next_line, ended, too_much, line_stops, line_not_long}
+use Rattle.redo_shell.proofs.ScriptLemmas.{takes_on, next_line, ended, input_end, too_much, line_stops, line_not_long}
 use Rattle.redo_shell.proofs.script.answer_script.Goals as goal
 
 pub returns-in_err-lines-clause-answers : goal.returns-in_err-lines-clause-answers
@@ -42,6 +42,7 @@ returns-in_err-refusing-in_default g c = record {
       let is_line = subst (λ (s : List ℕ). IsLine c.in_ok-next.next s l.0) (sym c.line.ensures) l.1 in
       ends_in_line l.0 here c.loop-lines.invariant.time c.in_err-refusing-in_default.was (c.answer_next.ensures.answers p (commands ++ here.acc) l.0 is_line here.holds);
   complete = λ p commands holds all told. IfOk-from_err c.from_residual-in_err-refusing-in_default.result _ c.from_residual-in_err-refusing-in_default.ensures.0;
+  input = λ told. IfOk-from_err c.from_residual-in_err-refusing-in_default.result _ c.from_residual-in_err-refusing-in_default.ensures.0;
   cause = line_stops c.from_residual-in_err-refusing-in_default.result c.answer_next.result c.in_err-refusing-in_default.field-0.0 (g.M.Machine.disk c.args.machine.now) (g.M.Machine.disk c.loop-lines.machine) (g.M.Machine.disk c.answer_next.new.machine)
       (g.S.Source.faults c.args.input.now) (g.S.Source.faults c.next.new.input) c.from_residual-in_err-refusing-in_default.ensures.1 c.in_err-refusing-in_default.was c.loop-lines.invariant.time c.answer_next.ensures.cause;
   too_long = λ told long. absurd (line_not_long c.from_residual-in_err-refusing-in_default.result c.answer_next.result c.in_err-refusing-in_default.field-0.0 (g.M.Machine.disk c.loop-lines.machine) (g.M.Machine.disk c.answer_next.new.machine)
@@ -77,4 +78,10 @@ returns-clause-complete g c = λ p commands holds all told.
     let so_far = c.loop-lines.invariant.going p commands holds all told in
     let over = ended c.in_ok-next.next _ _ _ (c.in_ok-next.ensures.next (c.loop-lines.invariant.told told)) c.in-End.is in
     let forced = c.in_ok-force.ensures.ok p (commands ++ so_far.acc) so_far.holds in
-    completes so_far over (c.force.ensures.quiet so_far.holds.told) forced.1 forced.2.holds
+    completes so_far over (c.force.ensures.quiet so_far.holds.told) forced.1 forced.2.holds c.in_ok-force.ensures.emptied
+
+pub returns-clause-input : goal.returns-clause-input
+returns-clause-input g c = λ told.
+    let here = c.loop-lines.invariant.told told in
+    input_end c.in_ok-next.next _ _ c.next.new.self.ahead (g.S.Source.left c.args.input.now) (g.S.Source.left c.next.new.input) c.next.new.self.taken (c.in_ok-next.ensures.next here) c.in-End.is
+    (takes_on (c.loop-lines.invariant.takes told) (c.next.ensures.takes here)) (c.next.ensures.before (c.in_ok-next.was ∙ ap (λ n. Ok n) c.in-End.is))

@@ -1,0 +1,227 @@
+-- Which answer a line gets, by what it asks.
+use Rattle.std.proofs.Common.{◌≡◌, ◌≢◌, ◌⊎◌, ⊎_elim, ◌↔◌, ◌<◌, ◌≤◌, List, ℕ, [], length, None, Some, refl, sym, ap, ◌∙◌, subst, arith}
+use Rattle.formats.specs.declared.params.Params.{Params}
+use Rattle.oper_core.specs.declared.refusal.Refusal.{Refusal}
+use Rattle.oper_core.specs.declared.refusal.Refusal.TheVariants.{NoObject}
+use Rattle.op_codec.specs.declared.all_ops.AllOps.TheVariants.{Put, Copy, Append, Cut, Sort, Swap}
+use Rattle.script_lines.specs.Grammar.{Request, put, copy, append, cut, sort, swap, get, force, skip, AsksFor, IsBad}
+use Rattle.script_lines.specs.Replies.{Reply, ok, value, forced, bad, refused, full, end, object_value, command_count, silence}
+use Rattle.store_engine.specs.Store.{Command, refusal_after, state_of}
+use Rattle.redo_shell.specs.Replies.{request_for, AsksCommand, Replies}
+
+-- the kinds of request told apart by a number, and what they ask
+abbrev kind : Request → ℕ
+kind (put x bytes) = 0
+kind (copy x y) = 1
+kind (append x y) = 2
+kind (cut x y place) = 3
+kind (sort x y width) = 4
+kind (swap x y) = 5
+kind (get x) = 6
+kind force = 7
+kind skip = 8
+
+abbrev first_of : Request → ℕ
+first_of (put x bytes) = x
+first_of (copy x y) = x
+first_of (append x y) = x
+first_of (cut x y place) = x
+first_of (sort x y width) = x
+first_of (swap x y) = x
+first_of (get x) = x
+first_of force = 0
+first_of skip = 0
+
+abbrev second_of : Request → ℕ
+second_of (put x bytes) = 0
+second_of (copy x y) = y
+second_of (append x y) = y
+second_of (cut x y place) = y
+second_of (sort x y width) = y
+second_of (swap x y) = y
+second_of (get x) = 0
+second_of force = 0
+second_of skip = 0
+
+abbrev third_of : Request → ℕ
+third_of (put x bytes) = 0
+third_of (copy x y) = 0
+third_of (append x y) = 0
+third_of (cut x y place) = place
+third_of (sort x y width) = width
+third_of (swap x y) = 0
+third_of (get x) = 0
+third_of force = 0
+third_of skip = 0
+
+abbrev bytes_of : Request → List ℕ
+bytes_of (put x bytes) = bytes
+bytes_of (copy x y) = []
+bytes_of (append x y) = []
+bytes_of (cut x y place) = []
+bytes_of (sort x y width) = []
+bytes_of (swap x y) = []
+bytes_of (get x) = []
+bytes_of force = []
+bytes_of skip = []
+
+command_kind : (op : Command) → kind (request_for op) < 6
+command_kind (Put op) = omega arith
+command_kind (Copy op) = omega arith
+command_kind (Append op) = omega arith
+command_kind (Cut op) = omega arith
+command_kind (Sort op) = omega arith
+command_kind (Swap op) = omega arith
+
+-- a request is for one command
+same_command : (a b : Command) → request_for a ≡ request_for b → a ≡ b
+same_command (Put a) (Put b) same = λ i. Put (record { object = first_of (same i); value = bytes_of (same i) })
+same_command (Copy a) (Copy b) same = λ i. Copy (record { from = first_of (same i); to = second_of (same i) })
+same_command (Append a) (Append b) same = λ i. Append (record { from = first_of (same i); to = second_of (same i) })
+same_command (Cut a) (Cut b) same = λ i. Cut (record { from = first_of (same i); to = second_of (same i); place = third_of (same i) })
+same_command (Sort a) (Sort b) same = λ i. Sort (record { from = first_of (same i); to = second_of (same i); width = third_of (same i) })
+same_command (Swap a) (Swap b) same = λ i. Swap (record { first = first_of (same i); second = second_of (same i) })
+same_command a b same = let like = ap kind same in absurd (omega (arith, like))
+
+module _ (p : Params) (commands : List Command) (line : List ℕ) where
+  -- the line asks for a command that gets this refusal, or for an object that there is not
+  abbrev IsRefused : Refusal → Type 0
+  IsRefused why = ((op : Command) × AsksCommand line op × (refusal_after p commands op ≡ Some why)) ⊎ ((object : ℕ) × AsksFor line (get object) × (p.objects ≤ object) × (why ≡ NoObject))
+
+  asks_some : (why : Refusal) → IsRefused why → IsBad line → ⊥
+  asks_some why is none = ⊎_elim
+      (λ (c : (op : Command) × AsksCommand line op × (refusal_after p commands op ≡ Some why)). none (request_for c.0) c.1)
+      (λ (g : (object : ℕ) × AsksFor line (get object) × (p.objects ≤ object) × (why ≡ NoObject)). none (get g.0) g.1)
+      is
+
+  pub bad_exactly : (reply : Reply) (added : List Command) → Replies p commands line reply added → (reply ≡ bad) ↔ IsBad line
+  bad_exactly ok added is = (λ e. cc, λ none. absurd (none (request_for is.0) is.1))
+  bad_exactly (value bytes) added is = (λ e. cc, λ none. absurd (none (get is.0) is.1))
+  bad_exactly (forced n) added is = (λ e. cc, λ none. absurd (none force is.0))
+  bad_exactly bad added is = (λ e. is.0, λ none. refl)
+  bad_exactly (refused why) added is = (λ e. cc, λ none. absurd (asks_some why is.0 none))
+  bad_exactly (full used need limit) added is = (λ e. cc, λ none. absurd (none (request_for is.0.0) is.0.1))
+  bad_exactly (end number) added is = (λ e. cc, λ none. absurd (none (request_for is.0.0) is.0.1))
+  bad_exactly silence added is = (λ e. cc, λ none. absurd (none skip is.0))
+  bad_exactly (object_value object bytes) added is = absurd is
+  bad_exactly (command_count n) added is = absurd is
+
+  module _ (one : (a b : Request) → AsksFor line a → AsksFor line b → a ≡ b) where
+    -- requests of two kinds are not both asked
+    clash : (a b : Request) → AsksFor line a → AsksFor line b → kind a ≢ kind b → ⊥
+    clash a b x y other = other (ap kind (one a b x y))
+
+    not_get : (op : Command) (object : ℕ) → AsksCommand line op → AsksFor line (get object) → ⊥
+    not_get op object asks get_asked = clash (request_for op) (get object) asks get_asked (λ e. let low = command_kind op in omega (arith, e, low))
+
+    not_force : (op : Command) → AsksCommand line op → AsksFor line force → ⊥
+    not_force op asks force_asked = clash (request_for op) force asks force_asked (λ e. let low = command_kind op in omega (arith, e, low))
+
+    not_skip : (op : Command) → AsksCommand line op → AsksFor line skip → ⊥
+    not_skip op asks skip_asked = clash (request_for op) skip asks skip_asked (λ e. let low = command_kind op in omega (arith, e, low))
+
+    get_force : (object : ℕ) → AsksFor line (get object) → AsksFor line force → ⊥
+    get_force object asked other = clash (get object) force asked other (λ e. omega (arith, e))
+
+    get_skip : (object : ℕ) → AsksFor line (get object) → AsksFor line skip → ⊥
+    get_skip object asked other = clash (get object) skip asked other (λ e. omega (arith, e))
+
+    force_skip : AsksFor line force → AsksFor line skip → ⊥
+    force_skip asked other = clash force skip asked other (λ e. omega (arith, e))
+
+    same_object : (a b : ℕ) → AsksFor line (get a) → AsksFor line (get b) → a ≡ b
+    same_object a b x y = ap first_of (one (get a) (get b) x y)
+
+    one_command : (a b : Command) → AsksCommand line a → AsksCommand line b → a ≡ b
+    one_command a b x y = same_command a b (one (request_for a) (request_for b) x y)
+
+    not_refused : (a b : Command) (why : Refusal) → AsksCommand line a → AsksCommand line b → refusal_after p commands a ≡ None → refusal_after p commands b ≡ Some why → ⊥
+    not_refused a b why x y none some =
+        let same = subst (λ (op : Command). refusal_after p commands op ≡ None) (one_command a b x y) none in
+        cc (same, some)
+
+    same_refusal : (op : Command) (other : Refusal) → AsksCommand line op → IsRefused other → refusal_after p commands op ≡ Some other
+    same_refusal op other asks is = ⊎_elim
+        (λ (c : (a : Command) × AsksCommand line a × (refusal_after p commands a ≡ Some other)). subst (λ (x : Command). refusal_after p commands x ≡ Some other) (one_command c.0 op c.1 asks) c.2)
+        (λ (g : (object : ℕ) × AsksFor line (get object) × (p.objects ≤ object) × (other ≡ NoObject)). absurd (not_get op g.0 asks g.1))
+        is
+
+    pub refused_exactly : (reply : Reply) (added : List Command) (op : Command) (why : Refusal) → Replies p commands line reply added → AsksCommand line op → (reply ≡ refused why) ↔ (refusal_after p commands op ≡ Some why)
+    refused_exactly ok added op why is asks = (λ e. cc, λ some. absurd (not_refused is.0 op why is.1 asks is.2 some))
+    refused_exactly (value bytes) added op why is asks = absurd (not_get op is.0 asks is.1)
+    refused_exactly (forced n) added op why is asks = absurd (not_force op asks is.0)
+    refused_exactly bad added op why is asks = absurd (is.0 (request_for op) asks)
+    refused_exactly (refused other) added op why is asks =
+        let mine = same_refusal op other asks is.0 in
+        (λ e. cc (e, mine), λ some. cc (some, mine))
+    refused_exactly (full used need limit) added op why is asks = (λ e. cc, λ some. absurd (not_refused is.0.0 op why is.0.1 asks is.0.2 some))
+    refused_exactly (end number) added op why is asks = (λ e. cc, λ some. absurd (not_refused is.0.0 op why is.0.1 asks is.0.2 some))
+    refused_exactly silence added op why is asks = absurd (not_skip op asks is.0)
+    refused_exactly (object_value object bytes) added op why is asks = absurd is
+    refused_exactly (command_count n) added op why is asks = absurd is
+
+    no_such : (object : ℕ) (why : Refusal) → AsksFor line (get object) → IsRefused why → (p.objects ≤ object) × (why ≡ NoObject)
+    no_such object why asks is = ⊎_elim
+        (λ (c : (a : Command) × AsksCommand line a × (refusal_after p commands a ≡ Some why)). absurd (not_get c.0 object c.1 asks))
+        (λ (g : (x : ℕ) × AsksFor line (get x) × (p.objects ≤ x) × (why ≡ NoObject)). (subst (λ (x : ℕ). p.objects ≤ x) (same_object g.0 object g.1 asks) g.2, g.3))
+        is
+
+    pub no_object_exactly : (reply : Reply) (added : List Command) (object : ℕ) → Replies p commands line reply added → AsksFor line (get object) → (reply ≡ refused NoObject) ↔ (p.objects ≤ object)
+    no_object_exactly ok added object is asks = absurd (not_get is.0 object is.1 asks)
+    no_object_exactly (value bytes) added object is asks = (λ e. cc, λ high. absurd (omega (arith, high, is.2, same_object is.0 object is.1 asks)))
+    no_object_exactly (forced n) added object is asks = absurd (get_force object asks is.0)
+    no_object_exactly bad added object is asks = absurd (is.0 (get object) asks)
+    no_object_exactly (refused why) added object is asks = let here = no_such object why asks is.0 in (λ e. here.0, λ high. ap (λ (w : Refusal). refused w) here.1)
+    no_object_exactly (full used need limit) added object is asks = absurd (not_get is.0.0 object is.0.1 asks)
+    no_object_exactly (end number) added object is asks = absurd (not_get is.0.0 object is.0.1 asks)
+    no_object_exactly silence added object is asks = absurd (get_skip object asks is.0)
+    no_object_exactly (object_value x bytes) added object is asks = absurd is
+    no_object_exactly (command_count n) added object is asks = absurd is
+
+    pub value_exactly : (reply : Reply) (added : List Command) (object : ℕ) → Replies p commands line reply added → AsksFor line (get object) → object < p.objects → reply ≡ value (state_of p commands object)
+    value_exactly ok added object is asks low = absurd (not_get is.0 object is.1 asks)
+    value_exactly (value bytes) added object is asks low = ap (λ (v : List ℕ). value v) (is.3 ∙ ap (λ (x : ℕ). state_of p commands x) (same_object is.0 object is.1 asks))
+    value_exactly (forced n) added object is asks low = absurd (get_force object asks is.0)
+    value_exactly bad added object is asks low = absurd (is.0 (get object) asks)
+    value_exactly (refused why) added object is asks low = let here = no_such object why asks is.0 in absurd (omega (arith, low, here.0))
+    value_exactly (full used need limit) added object is asks low = absurd (not_get is.0.0 object is.0.1 asks)
+    value_exactly (end number) added object is asks low = absurd (not_get is.0.0 object is.0.1 asks)
+    value_exactly silence added object is asks low = absurd (get_skip object asks is.0)
+    value_exactly (object_value x bytes) added object is asks low = absurd is
+    value_exactly (command_count n) added object is asks low = absurd is
+
+    not_forced : (why : Refusal) → AsksFor line force → IsRefused why → ⊥
+    not_forced why asks is = ⊎_elim
+        (λ (c : (a : Command) × AsksCommand line a × (refusal_after p commands a ≡ Some why)). not_force c.0 c.1 asks)
+        (λ (g : (x : ℕ) × AsksFor line (get x) × (p.objects ≤ x) × (why ≡ NoObject)). get_force g.0 g.1 asks)
+        is
+
+    pub forced_exactly : (reply : Reply) (added : List Command) → Replies p commands line reply added → AsksFor line force → reply ≡ forced (length commands)
+    forced_exactly ok added is asks = absurd (not_force is.0 is.1 asks)
+    forced_exactly (value bytes) added is asks = absurd (get_force is.0 is.1 asks)
+    forced_exactly (forced n) added is asks = ap (λ (k : ℕ). forced k) is.1
+    forced_exactly bad added is asks = absurd (is.0 force asks)
+    forced_exactly (refused why) added is asks = absurd (not_forced why asks is.0)
+    forced_exactly (full used need limit) added is asks = absurd (not_force is.0.0 is.0.1 asks)
+    forced_exactly (end number) added is asks = absurd (not_force is.0.0 is.0.1 asks)
+    forced_exactly silence added is asks = absurd (force_skip asks is.0)
+    forced_exactly (object_value object bytes) added is asks = absurd is
+    forced_exactly (command_count n) added is asks = absurd is
+
+    not_skipped : (why : Refusal) → AsksFor line skip → IsRefused why → ⊥
+    not_skipped why asks is = ⊎_elim
+        (λ (c : (a : Command) × AsksCommand line a × (refusal_after p commands a ≡ Some why)). not_skip c.0 c.1 asks)
+        (λ (g : (x : ℕ) × AsksFor line (get x) × (p.objects ≤ x) × (why ≡ NoObject)). get_skip g.0 g.1 asks)
+        is
+
+    pub silence_exactly : (reply : Reply) (added : List Command) → Replies p commands line reply added → AsksFor line skip → reply ≡ silence
+    silence_exactly ok added is asks = absurd (not_skip is.0 is.1 asks)
+    silence_exactly (value bytes) added is asks = absurd (get_skip is.0 is.1 asks)
+    silence_exactly (forced n) added is asks = absurd (force_skip is.0 asks)
+    silence_exactly bad added is asks = absurd (is.0 skip asks)
+    silence_exactly (refused why) added is asks = absurd (not_skipped why asks is.0)
+    silence_exactly (full used need limit) added is asks = absurd (not_skip is.0.0 is.0.1 asks)
+    silence_exactly (end number) added is asks = absurd (not_skip is.0.0 is.0.1 asks)
+    silence_exactly silence added is asks = refl
+    silence_exactly (object_value object bytes) added is asks = absurd is
+    silence_exactly (command_count n) added is asks = absurd is

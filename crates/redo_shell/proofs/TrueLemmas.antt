@@ -1,0 +1,132 @@
+-- What the answers of a run say of each moment's images.
+use Rattle.std.proofs.Common.{◌≡◌, ◌⊎◌, ⊎_elim, ◌≤◌, ◌<◌, ◌++◌, List, ℕ, [], ◌∷◌, length, take, length-append, length-take, append_assoc, ap, ◌∙◌, sym, subst, arith, refl}
+use Rattle.std.proofs.lemmas.List.{append-nil}
+use Rattle.std.specs.List.{flat_map}
+use Rattle.disk_model.specs.Disk.{Files, Disk, Passes, Runs, Same, SaysFront, LeavesOnly}
+use Rattle.disk_model.specs.Moments.{first_call, runs_on, weaker}
+use Rattle.formats.specs.declared.params.Params.{Params}
+use Rattle.script_lines.specs.Replies.{Reply, ok, value, forced, bad, refused, full, end, object_value, command_count, silence, text_of, said_line}
+use Rattle.store_engine.specs.Store.{Command}
+use Rattle.store_engine.specs.Engine.{EngineView, Between}
+use Rattle.redo_shell.specs.Replies.{IsTrueIn}
+use Rattle.redo_shell.specs.Answers.{EndsInside, TrueWithin}
+use Rattle.redo_shell.specs.Run.{IsTrueSaying, IsTrueSoFar, IsFound, During, LineMoment}
+
+newline_behind : (text : List ℕ) (count : ℕ) → count ≤ length text → count < length (text ++ 10 ∷ [])
+newline_behind text count within = omega (arith, within, length-append text (10 ∷ []))
+
+none_of_silence : length (text_of silence) ≡ 0
+unfolding text_of
+none_of_silence = refl
+
+-- some bytes of a reply's text are not all that is said of it
+within_line : (reply : Reply) (count : ℕ) → 0 < count → count ≤ length (text_of reply) → count < length (said_line reply)
+within_line ok count some within = newline_behind (text_of ok) count within
+within_line (value bytes) count some within = newline_behind (text_of (value bytes)) count within
+within_line (forced n) count some within = newline_behind (text_of (forced n)) count within
+within_line bad count some within = newline_behind (text_of bad) count within
+within_line (refused why) count some within = newline_behind (text_of (refused why)) count within
+within_line (full used need limit) count some within = newline_behind (text_of (full used need limit)) count within
+within_line (end number) count some within = newline_behind (text_of (end number)) count within
+within_line (object_value object bytes) count some within = newline_behind (text_of (object_value object bytes)) count within
+within_line (command_count n) count some within = newline_behind (text_of (command_count n)) count within
+within_line silence count some within = absurd (omega (arith, some, within, none_of_silence))
+
+-- how many bytes are said where they end inside an answer
+ends_behind : {before : List ℕ} {reply : Reply} {said : List ℕ} → EndsInside before reply said → length before < length said
+ends_behind {before} {reply} {said} e =
+    let some = e.some in
+    let within = e.within in
+    omega (arith, ap length e.said_is, length-append before (take e.count (text_of reply)), length-take e.count (text_of reply), some, within)
+
+ends_before : {before : List ℕ} {reply : Reply} {said : List ℕ} → EndsInside before reply said → length said < length (before ++ said_line reply)
+ends_before {before} {reply} {said} e =
+    let within = within_line reply e.count e.some e.within in
+    omega (arith, ap length e.said_is, length-append before (take e.count (text_of reply)), length-take e.count (text_of reply), length-append before (said_line reply), within)
+
+-- no answer has begun
+pub none_begun : (p : Params) (before : List ℕ) (replies : List Reply) (files : Files) (said : List ℕ) → length said ≤ length before → TrueWithin p before replies files said
+none_begun p before [] files said short = tt
+none_begun p before (reply ∷ replies) files said short = (
+  λ e. absurd (omega (arith, ends_behind e, short)),
+  none_begun p (before ++ said_line reply) replies files said (omega (arith, short, length-append before (said_line reply))),
+)
+
+-- all of them were said
+pub all_said : (p : Params) (before : List ℕ) (replies : List Reply) (files : Files) (said : List ℕ) → length (before ++ flat_map said_line replies) ≤ length said → TrueWithin p before replies files said
+all_said p before [] files said long = tt
+all_said p before (reply ∷ replies) files said long =
+    let same : length ((before ++ said_line reply) ++ flat_map said_line replies) ≡ length (before ++ (said_line reply ++ flat_map said_line replies)) = ap length (append_assoc before (said_line reply) (flat_map said_line replies)) in
+    let more : length ((before ++ said_line reply) ++ flat_map said_line replies) ≤ length said = omega (arith, long, same) in (
+      λ e. absurd (omega (arith, ends_before e, more, length-append (before ++ said_line reply) (flat_map said_line replies))),
+      all_said p (before ++ said_line reply) replies files said more,
+    )
+
+-- one answer more
+true_more : (p : Params) (before : List ℕ) (replies : List Reply) (reply : Reply) (files : Files) (said : List ℕ) → TrueWithin p before replies files said
+    → (EndsInside (before ++ flat_map said_line replies) reply said → IsTrueIn p files reply) → TrueWithin p before (replies ++ reply ∷ []) files said
+true_more p before [] reply files said within here = (λ e. here (subst (λ (l : List ℕ). EndsInside l reply said) (sym (append-nil before)) e), tt)
+true_more p before (r ∷ replies) reply files said within here = (
+  within.0,
+  true_more p (before ++ said_line r) replies reply files said within.1 (λ e. here (subst (λ (l : List ℕ). EndsInside l reply said) (append_assoc before (said_line r) (flat_map said_line replies)) e)),
+)
+
+-- the run goes on by an answer
+pub truly_on : {p : Params} {start now new : Disk} {replies : List Reply} (reply : Reply) → LeavesOnly start now (IsTrueSoFar p start.said replies now.said) → now.said ≡ start.said ++ flat_map said_line replies
+    → LeavesOnly now new (IsTrueSaying p now.said reply) → LeavesOnly start new (IsTrueSoFar p start.said (replies ++ reply ∷ []) (now.said ++ said_line reply))
+truly_on {p} {start} {now} {new} {replies} reply so_far said_is saying =
+    runs_on start now new (IsTrueSoFar p start.said (replies ++ reply ∷ []) (now.said ++ said_line reply))
+    (weaker start now (IsTrueSoFar p start.said replies now.said) (IsTrueSoFar p start.said (replies ++ reply ∷ []) (now.said ++ said_line reply)) so_far (λ files said t.
+    let short = t.no_longer in
+    record {
+      true_within = true_more p start.said replies reply files said t.true_within (λ e. absurd (omega (arith, ends_behind e, short, ap length said_is)));
+      no_longer = omega (arith, short, length-append now.said (said_line reply));
+    }))
+    (weaker now new (IsTrueSaying p now.said reply) (IsTrueSoFar p start.said (replies ++ reply ∷ []) (now.said ++ said_line reply)) saying (λ files said s.
+    let long = s.no_shorter in
+    record {
+      true_within = true_more p start.said replies reply files said (all_said p start.said replies files said (omega (arith, long, ap length said_is)))
+          (λ e. s.true_in (subst (λ (l : List ℕ). EndsInside l reply said) (sym said_is) e));
+      no_longer = s.no_longer;
+    }))
+
+-- or says nothing more
+pub truly_quiet : {p : Params} {start now new : Disk} {replies : List Reply} → LeavesOnly start now (IsTrueSoFar p start.said replies now.said) → now.said ≡ start.said ++ flat_map said_line replies
+    → {P : Files → List ℕ → Type 0} → LeavesOnly now new P → ((files : Files) (said : List ℕ) → P files said → length now.said ≤ length said) → LeavesOnly start new (TrueWithin p start.said replies)
+truly_quiet {p} {start} {now} {new} {replies} so_far said_is {P} leaves long =
+    runs_on start now new (TrueWithin p start.said replies)
+    (weaker start now (IsTrueSoFar p start.said replies now.said) (TrueWithin p start.said replies) so_far (λ files said t. t.true_within))
+    (weaker now new P (TrueWithin p start.said replies) leaves (λ files said here. all_said p start.said replies files said (omega (arith, long files said here, ap length said_is))))
+
+-- a moment of a line comes after those of the lines before
+pub line_behind : {p : Params} {d : Disk} {least : ℕ} {commands : List Command} {line : List ℕ} (files : Files) (said : List ℕ) → LineMoment p d least commands line files said → length d.said ≤ length said
+line_behind {p} {d} {least} {commands} {line} files said m = ⊎_elim
+    (λ (b : Between p d least commands files said). omega (arith, ap length b.quiet))
+    (λ (e : During p d least commands line files said). omega (arith, ap length e.said_is, length-append d.said (take e.count (said_line e.reply))))
+    m
+
+-- the moments while an answer is found and said
+pub found_truly : {p : Params} {old mid new : Disk} {before after : EngineView} {commands : List Command} {line : List ℕ} {reply : Reply}
+    → (old.tells_moments → LeavesOnly old mid (Between p old before.forced commands)) → Passes old mid → IsFound p old mid before after commands line reply
+    → Runs Same (SaysFront (said_line reply)) mid new → old.tells_moments → LeavesOnly old new (IsTrueSaying p old.said reply)
+found_truly {p} {old} {mid} {new} {before} {after} {commands} {line} {reply} moments time found say told =
+    runs_on old mid new (IsTrueSaying p old.said reply)
+    (weaker old mid (Between p old before.forced commands) (IsTrueSaying p old.said reply) (moments told) (λ files said b. record {
+      true_in = λ e. absurd (omega (arith, ends_behind e, ap length b.quiet));
+      no_shorter = omega (arith, ap length b.quiet);
+      no_longer = omega (arith, ap length b.quiet, length-append old.said (said_line reply));
+    }))
+    (first_call mid new (IsTrueSaying p old.said reply) told_now say.time during)
+  where
+    told_now : mid.tells_moments
+    told_now = time.moments_told.0 told
+
+    during : (files : Files) (said : List ℕ) → new.left_since mid.clock files said → IsTrueSaying p old.said reply files said
+    during files said left =
+        let from = say.crash told_now files said left in
+        let long = length-append mid.said (take from.1.0 (said_line reply)) in
+        record {
+          true_in = λ e. subst (λ (x : Files). IsTrueIn p x reply) (sym from.0.2) (found.tied.1 told_now from.0.0 mid.said from.0.1);
+          no_shorter = omega (arith, ap length from.1.2, long, ap length found.quiet);
+          no_longer = omega (arith, ap length from.1.2, long, ap length found.quiet, length-append old.said (said_line reply), length-take from.1.0 (said_line reply));
+        }

@@ -1,0 +1,20 @@
+use Rattle.redo_shell.proofs.CauseLemmas.{bad_exactly, refused_exactly, no_object_exactly, value_exactly, forced_exactly, silence_exactly}
+use Rattle.redo_shell.proofs.laws.a_line_gets_the_answer_of_its_cause.Goals as goal
+
+pub returns-clause-bad : goal.returns-clause-bad
+returns-clause-bad c = λ p commands line reply added. bad_exactly p commands line reply added
+
+pub returns-clause-refused : goal.returns-clause-refused
+returns-clause-refused c = λ p commands line reply added op why. refused_exactly p commands line (c.a_line_asks_one_thing.ensures line) reply added op why
+
+pub returns-clause-no_object : goal.returns-clause-no_object
+returns-clause-no_object c = λ p commands line reply added object. no_object_exactly p commands line (c.a_line_asks_one_thing.ensures line) reply added object
+
+pub returns-clause-value : goal.returns-clause-value
+returns-clause-value c = λ p commands line reply added object. value_exactly p commands line (c.a_line_asks_one_thing.ensures line) reply added object
+
+pub returns-clause-forced : goal.returns-clause-forced
+returns-clause-forced c = λ p commands line reply added. forced_exactly p commands line (c.a_line_asks_one_thing.ensures line) reply added
+
+pub returns-clause-silence : goal.returns-clause-silence
+returns-clause-silence c = λ p commands line reply added. silence_exactly p commands line (c.a_line_asks_one_thing.ensures line) reply added

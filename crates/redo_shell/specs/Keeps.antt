@@ -1,0 +1,8 @@
+-- Calls that leave the files as they are.
+use Rattle.std.specs.Prelude.{◌≡◌, ℕ, List}
+use Rattle.disk_model.specs.Disk.{Disk, LeavesOnly}
+
+-- the files read as before, and whatever a crash at any moment leaves of them a crash at the start could have left
+pub record KeepsFiles (old new : Disk) : Type 0 where
+  pub reads : old.tells_files → new.reads ≡ old.reads
+  pub images : old.tells_moments → LeavesOnly old new (λ files said. old.left_since old.clock files old.said)
