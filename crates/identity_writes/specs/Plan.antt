@@ -1,0 +1,17 @@
+-- Which object is kept.
+use Rattle.std.specs.Prelude.{◌≡◌, ◌<◌, ◌≤◌, ℕ, List, Some, All, length, slice_get, slice_index}
+
+-- x is one of the objects, no value is longer than that of x, and no object with a value as long has a lesser number;
+-- the lengths of the values stand in the order of the objects
+pub record IsKept (objects lengths : List ℕ) (x : ℕ) : Type 0 where
+  pub place : ℕ
+  pub here : slice_get objects place ≡ Some x
+  pub longest : All (λ n. n ≤ slice_index lengths place) lengths
+  pub least : (other : ℕ) → other < length objects → slice_index lengths other ≡ slice_index lengths place
+      → x ≤ slice_index objects other
+
+-- no length is greater than that at the place, and each before it is less
+pub record IsFirstLongest (lengths : List ℕ) (place : ℕ) : Type 0 where
+  pub there : place < length lengths
+  pub longest : All (λ n. n ≤ slice_index lengths place) lengths
+  pub first : (k : ℕ) → k < place → slice_index lengths k < slice_index lengths place

@@ -1,0 +1,41 @@
+use crate::{ObjectList, plan};
+use std::test::Fail;
+
+#[test]
+fn the_longest_is_kept(rt: HostRuntime) -> Result<(), Fail> {
+    for (objects, lengths, keep, log) in [
+        ([].as_slice(), [].as_slice(), None, [].as_slice()),
+        ([7].as_slice(), [0].as_slice(), Some(7), [].as_slice()),
+        (
+            [1, 4, 9].as_slice(),
+            [2, 5, 3].as_slice(),
+            Some(4),
+            [1, 9].as_slice(),
+        ),
+        (
+            [1, 4, 9].as_slice(),
+            [5, 2, 5].as_slice(),
+            Some(1),
+            [4, 9].as_slice(),
+        ),
+        (
+            [0, 2, 3, 4095].as_slice(),
+            [0, 1, 1, 16384].as_slice(),
+            Some(4095),
+            [0, 2, 3].as_slice(),
+        ),
+    ] {
+        let found = plan(rt.alloc(), objects, lengths)?;
+        assert_eq!(rt; found.keep, keep);
+        assert_eq!(rt; found.log.as_slice(), log);
+    }
+    Ok(())
+}
+
+#[test]
+fn a_list_gives_its_objects_back(rt: HostRuntime) -> Result<(), Fail> {
+    let list = ObjectList::new([3, 1].to_vec(rt.alloc())?);
+    assert_eq!(rt; list.as_slice(), [3, 1].as_slice());
+    assert_eq!(rt; list.into_vec().as_slice(), [3, 1].as_slice());
+    Ok(())
+}

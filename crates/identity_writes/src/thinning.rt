@@ -1,0 +1,44 @@
+ghost use Rattle.std.specs.Prelude.{◌≡◌, ◌++◌, ◌↔◌, [], length, IfOk, IfSome, IfNone, IsNone, option_to_list};
+ghost use Rattle.std.specs.List.Sorted.{IsPermutation, IsStrictlyIncreasing};
+ghost use Rattle.identity_writes.specs.Plan.{IsKept, IsFirstLongest};
+
+use crate::{ObjectList, Plan};
+use oper_core::Memory;
+use std::alloc::Global;
+
+/// Keeps the object with the longest value, of several such the one with the least number, and logs the others,
+/// rising. `lengths` has the length of each object's value, in the order of the objects.
+pub fn plan(alloc: Global, objects: &[u32], lengths: &[u32]) -> Result<Plan, Memory>
+    requires rising { IsStrictlyIncreasing objects.now }
+    requires beside { length lengths.now ≡ length objects.now }
+    ensures keep { IfOk result (λ plan. IfSome plan.keep (IsKept objects.now lengths.now)) }
+    ensures none { IfOk result (λ plan. IsNone plan.keep ↔ (objects.now ≡ [])) }
+    ensures rising { IfOk result (λ plan. IsStrictlyIncreasing plan.log) }
+
+    // What is kept and what is logged are the objects, each once.
+    ensures together { IfOk result (λ plan. IsPermutation objects.now (option_to_list plan.keep ++ plan.log)) }
+{
+    let mut others = Vec::from_slice(alloc, objects)?;
+    match first_longest(lengths) {
+        Some(place) => {
+            let keep = Some(others.remove(place));
+            Ok(Plan {
+                keep,
+                log: ObjectList::new(others),
+            })
+        }
+        None => Ok(Plan {
+            keep: None,
+            log: ObjectList::new(others),
+        }),
+    }
+}
+
+/// The first place of the greatest length; none exactly where there is no length.
+fn first_longest(lengths: &[u32]) -> Option<usize>
+    ensures some { IfSome result (IsFirstLongest lengths.now) }
+    ensures none { IfNone result (lengths.now ≡ []) }
+{
+    let longest = lengths.iter().max()?;
+    lengths.iter().position(|n| n == longest)
+}
