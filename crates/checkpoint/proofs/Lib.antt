@@ -1,0 +1,3 @@
+mod Reading
+mod Starting
+mod Writing

@@ -1,0 +1,3 @@
+pub mod RedoStarts
+pub mod Codec
+pub mod CodecLaws
