@@ -1,0 +1,7 @@
+pub mod Copied
+pub mod OneByOne
+pub mod PlaceLemmas
+pub mod SplitLemmas
+pub mod Outcomes
+pub mod LawLemmas
+pub mod Fitting

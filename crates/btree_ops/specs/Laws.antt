@@ -1,0 +1,49 @@
+-- What splits, puts and deletes keep.
+use Rattle.std.specs.Prelude.{◌≡◌, ◌≢◌, ℕ, Option, List, ◌∷◌, ◌++◌, All, if◌then◌else◌}
+use Rattle.std.proofs.Common.{Less}
+use Rattle.std.specs.Ordering.{eq_by_cmp}
+use Rattle.std.specs.FinMap.Entries.{find}
+use Rattle.btree_ops.specs.Entries.{byte_order, short_field, AreEntries}
+use Rattle.btree_ops.specs.Node.{leaf, inner, IsNode}
+use Rattle.btree_ops.specs.declared.halves.Halves.{Halves}
+
+-- the keys of the first are below the key, and those of the others are not
+pub record StandApart {X : Type 0} (lower : List (List ℕ × X)) (key : List ℕ) (upper : List (List ℕ × X)) : Type 0 where
+  pub below : All (λ e. byte_order e.0 key ≡ Less) lower
+  pub above : All (λ e. byte_order e.0 key ≢ Less) upper
+
+-- the halves of a leaf are leaves that together have its pairs, each on its side of the separator
+pub record SplitsLeaf (pairs : List (List ℕ × List ℕ)) (h : Halves) : Type 0 where
+  pub lower : List (List ℕ × List ℕ)
+  pub upper : List (List ℕ × List ℕ)
+  pub left : h.left ≡ leaf lower
+  pub right : h.right ≡ leaf upper
+  pub all : pairs ≡ lower ++ upper
+  pub apart : StandApart lower h.separator upper
+  pub left_entries : AreEntries short_field lower
+  pub right_entries : AreEntries short_field upper
+
+-- the halves of an inner node are inner nodes that have its children in their order, and its separators but the middle one
+pub record SplitsInner (first : ℕ) (branches : List (List ℕ × ℕ)) (h : Halves) : Type 0 where
+  pub lower : List (List ℕ × ℕ)
+  pub middle : ℕ
+  pub upper : List (List ℕ × ℕ)
+  pub left : h.left ≡ inner first lower
+  pub right : h.right ≡ inner middle upper
+  pub all : branches ≡ lower ++ (h.separator, middle) ∷ upper
+  pub apart : StandApart lower h.separator upper
+  pub left_node : IsNode (inner first lower)
+  pub right_node : IsNode (inner middle upper)
+
+-- one map has this value at the key, and is the other at all others
+abbrev pub IsUpdate : {X : Type 0} → List ℕ → Option X → List (List ℕ × X) → List (List ℕ × X) → Type 0
+IsUpdate {X} key value old new = (q : List ℕ) → find byte_order q new ≡ (if eq_by_cmp byte_order q key then value else find byte_order q old)
+
+-- the branches with one more, directly behind the first that leads to the child
+pub record IsBehindBranch (child : ℕ) (new : List ℕ × ℕ) (branches after : List (List ℕ × ℕ)) : Type 0 where
+  pub before : List (List ℕ × ℕ)
+  pub key : List ℕ
+  pub behind : List (List ℕ × ℕ)
+  pub old : branches ≡ before ++ (key, child) ∷ behind
+  pub others : All (λ b. b.1 ≢ child) before
+  pub more : after ≡ before ++ (key, child) ∷ new ∷ behind

@@ -1,0 +1,66 @@
+ghost use Rattle.std.specs.Prelude.{◌≡◌, ◌++◌, IfOk, IfSome, IfNone};
+ghost use Rattle.btree_ops.specs.Node.{node_code, node_in, IsNode};
+ghost use Rattle.btree_ops.specs.NodeLaws.{IsNodeOf};
+ghost use Rattle.btree_ops.specs.declared.node.Node.{Node};
+
+use crate::{Short, reading, writing};
+use arrayvec::ArrayVec;
+use oper_core::Memory;
+use std::alloc::Global;
+
+/// The most entries of a node.
+pub const MOST_ENTRIES: usize = 7;
+
+/// Keys that rise strictly, each with its value.
+pub type Pairs = ArrayVec<(Short, Short), 7>;
+
+/// Separators, each with the child to its right.
+pub type Branches = ArrayVec<(Short, u32), 7>;
+
+/// A node of a B-tree.
+#[derive(Drop)]
+pub enum Node {
+    /// Pairs of a key and a value.
+    Leaf(Pairs),
+    /// The first child, and separators, each with the child to its right. A key below the first separator stands
+    /// under the first child, any other under the child of the last separator that is not above it.
+    Inner(u32, Branches),
+}
+
+impl Node {
+    /// The node that the bytes are, exactly where they are one.
+    pub fn read(bytes: &[u8]) -> Option<Self>
+        ensures value { result ≡ node_in bytes.now }
+        ensures some { IfSome result (λ node. IsNodeOf bytes.now node) }
+        ensures none { IfNone result ((node : Node) → IsNode node → bytes.now ≡ node_code node → ⊥) }
+    {
+        reading::read_node(bytes)
+    }
+
+    /// Its bytes.
+    pub fn bytes(&self, alloc: Global) -> Result<Vec<u8>, Memory>
+        ensures { IfOk result (λ out. out.items ≡ node_code self.now) }
+    {
+        let mut out = Vec::new(alloc);
+        match self {
+            Node::Leaf(pairs) => {
+                out.push(LEAF)?;
+                out.push(pairs.len() as u8)?;
+                writing::write_pairs(pairs.as_slice(), &mut out)?;
+            }
+            Node::Inner(first, branches) => {
+                out.push(INNER)?;
+                out.push(branches.len() as u8)?;
+                out.extend_from_slice(&first.to_le_bytes())?;
+                writing::write_branches(branches.as_slice(), &mut out)?;
+            }
+        }
+        Ok(out)
+    }
+}
+
+/// The kind of a leaf.
+pub(crate) const LEAF: u8 = 1;
+
+/// The kind of an inner node.
+pub(crate) const INNER: u8 = 2;
