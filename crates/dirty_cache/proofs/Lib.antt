@@ -1,0 +1,4 @@
+mod Counts
+mod Lookups
+mod Put
+mod Same

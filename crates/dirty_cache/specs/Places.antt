@@ -1,0 +1,14 @@
+-- The places for dirty entries: pairs of an object and an entry, or none.
+use Rattle.std.specs.Prelude.{ℕ, List, Option, nat_eq}
+use Rattle.std.specs.List.{sum_by}
+use Rattle.std.specs.Map.{lookup, values_of}
+use Rattle.std.specs.Option.{option_flatten, option_len}
+use Rattle.dirty_cache.specs.declared.entry.Entry.{Entry}
+
+-- the entry in the place of x
+abbrev pub entry_at : List (ℕ × Option Entry) → ℕ → Option Entry
+entry_at places x = option_flatten (lookup (nat_eq x) places)
+
+-- how many places hold an entry
+abbrev pub count_of : List (ℕ × Option Entry) → ℕ
+count_of places = sum_by option_len (values_of places)

@@ -1,0 +1,8 @@
+use oper_core::ByteList;
+
+/// An object's identifier, the number of the record that wrote it last, and its value.
+#[derive(Drop)]
+pub struct Entry {
+    pub lsn: u64,
+    pub bytes: ByteList,
+}
