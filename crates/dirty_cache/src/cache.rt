@@ -143,8 +143,8 @@ impl Cache {
         self.dirty.entry(x).is_some()
     }
 
-    /// The object's entry, if it is cached.
-    fn entry(&self, x: u32) -> Option<&Entry>
+    /// The entry of an object, if it is cached. The order of the clean objects stays as it is.
+    pub fn entry(&self, x: u32) -> Option<&Entry>
         ensures value { option_copied result ≡ held self.now x }
     {
         match self.dirty.entry(x) {

@@ -1,12 +1,12 @@
 -- Which answer a line gets, by what it asks.
-use Rattle.std.proofs.Common.{◌≡◌, ◌≢◌, ◌⊎◌, ⊎_elim, ◌↔◌, ◌<◌, ◌≤◌, List, ℕ, [], length, None, Some, refl, sym, ap, ◌∙◌, subst, arith}
+use Rattle.std.proofs.Common.{◌≡◌, ◌≢◌, ◌⊎◌, ⊎_elim, ◌↔◌, ◌<◌, ◌≤◌, List, ℕ, [], length, None, Some, refl, ap, ◌∙◌, subst, arith}
 use Rattle.formats.specs.declared.params.Params.{Params}
 use Rattle.oper_core.specs.declared.refusal.Refusal.{Refusal}
 use Rattle.oper_core.specs.declared.refusal.Refusal.TheVariants.{NoObject}
 use Rattle.op_codec.specs.declared.all_ops.AllOps.TheVariants.{Put, Copy, Append, Cut, Sort, Swap}
 use Rattle.script_lines.specs.Grammar.{Request, put, copy, append, cut, sort, swap, get, force, skip, AsksFor, IsBad}
 use Rattle.script_lines.specs.Replies.{Reply, ok, value, forced, bad, refused, full, end, object_value, command_count, silence}
-use Rattle.store_engine.specs.Store.{Command, refusal_after, state_of}
+use Rattle.redo_shell.specs.Store.{Command, refusal_after, state_of}
 use Rattle.redo_shell.specs.Replies.{request_for, AsksCommand, Replies}
 
 -- the kinds of request told apart by a number, and what they ask

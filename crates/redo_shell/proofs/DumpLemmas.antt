@@ -1,23 +1,17 @@
 -- What a dump says, row by row, and what its moments leave.
-use Rattle.std.proofs.Common.{◌≡◌, ◌≤◌, ◌<◌, ◌++◌, List, ℕ, [], ◌∷◌, Some, length, take, sym, ap, ◌∙◌, subst, arith}
-use Rattle.std.specs.Prelude.{slice_get}
-use Rattle.std.proofs.lemmas.List.{append-nil, get_or_past, take_all}
-use Rattle.std.proofs.lemmas.Option.{get_or_from_slice_get}
+use Rattle.std.proofs.Common.{◌≡◌, ◌<◌, ◌+◌, ◌++◌, List, ℕ, suc, [], ◌∷◌, length, take, sym, ap, ◌∙◌, subst, arith}
+use Rattle.std.proofs.lemmas.List.{append-nil, take_all}
+use Rattle.std.proofs.lemmas.List.Concat.{flat_map-append}
 use Rattle.std.specs.List.{flat_map}
-use Rattle.disk_model.specs.Disk.{Files, Disk, Passes, Runs, Same, SaysFront, LeavesOnly}
+use Rattle.disk_model.specs.Disk.{Files, Disk, Passes, Runs, Stays, Same, SaysFront, LeavesOnly}
 use Rattle.disk_model.specs.Moments.{first_call, runs_on, weaker}
 use Rattle.formats.specs.declared.params.Params.{Params}
-use Rattle.oper_core.specs.State.{State, listed}
-use Rattle.script_lines.specs.Replies.{object_value, said_line}
-use Rattle.store_engine.specs.Store.{Command, Stands, state_of}
-use Rattle.store_engine.specs.Engine.{EngineView, Holds, Between}
-use Rattle.redo_shell.specs.Dump.{row_of, table_of, dump_of, DumpMoment}
-
-pub value_there : (map' : List (List ℕ)) (x : ℕ) (value : List ℕ) → slice_get map' x ≡ Some value → value ≡ listed map' x
-value_there map' x value is = sym (get_or_from_slice_get map' x value [] is)
-
-pub no_value : (map' : List (List ℕ)) (x : ℕ) → length map' ≤ x → [] ≡ listed map' x
-no_value map' x past = sym (get_or_past map' x [] past)
+use Rattle.oper_core.specs.State.{State}
+use Rattle.script_lines.specs.Replies.{object_value, command_count, said_line}
+use Rattle.store_engine.specs.Engine.{EngineView}
+use Rattle.redo_shell.specs.Store.{Command, Stands, state_of, Holds, Between}
+use Rattle.redo_shell.specs.Dump.{row_of, rows_below, dump_of, DumpMoment}
+use Rattle.redo_shell.proofs.HoldLemmas.{holds_stays, stays_between}
 
 -- an object that is empty has no row, and any other one
 pub no_row : (x : ℕ) (value text : List ℕ) → length value ≡ 0 → text ≡ text ++ flat_map said_line (row_of x value)
@@ -28,13 +22,24 @@ pub some_row : (x : ℕ) (value text row new : List ℕ) → 0 < length value �
 some_row x [] text row new some is more = absurd (omega (arith, some))
 some_row x (byte ∷ bytes) text row new some is more = more ∙ ap (λ (l : List ℕ). text ++ l) (is ∙ sym (append-nil (said_line (object_value x (byte ∷ bytes)))))
 
--- the table of an engine that stands for commands is their dump
-pub own_table : (p : Params) (d : Disk) (engine : EngineView) (commands : List Command) → Holds p d engine commands → table_of (listed engine.map) engine.params.objects engine.accepted ≡ dump_of p commands
-own_table p d engine commands h =
-    let state : listed engine.map ≡ state_of p commands = λ i x. h.carried.values.each x i in
-    ap (λ (q : Params). table_of (listed engine.map) q.objects engine.accepted) h.params
-    ∙ ap (λ (n : ℕ). table_of (listed engine.map) p.objects n) h.accepted
-    ∙ ap (λ (s : State). table_of s p.objects (length commands)) state
+-- the row of a value that is the object's
+pub row_of_value : (s : State) (x : ℕ) (text value new : List ℕ) → new ≡ text ++ flat_map said_line (row_of x value) → value ≡ s x → new ≡ text ++ flat_map said_line (row_of x (s x))
+row_of_value s x text value new more is = more ∙ ap (λ (v : List ℕ). text ++ flat_map said_line (row_of x v)) is
+
+-- the rows so far, with that of the next object
+pub rows_more : (s : State) (x : ℕ) (text new : List ℕ) → text ≡ flat_map said_line (rows_below s x) → new ≡ text ++ flat_map said_line (row_of x (s x)) → new ≡ flat_map said_line (rows_below s (x + 1))
+rows_more s x text new so_far more =
+    let next : suc x ≡ x + 1 = omega arith in
+    subst (λ (n : ℕ). new ≡ flat_map said_line (rows_below s n)) next (more ∙ ap (λ (l : List ℕ). l ++ flat_map said_line (row_of x (s x))) so_far ∙ sym (flat_map-append said_line (rows_below s x) (row_of x (s x))))
+
+-- all rows, and the number of commands
+pub whole_table : (p : Params) (commands : List Command) (objects accepted : ℕ) (text row new : List ℕ) → objects ≡ p.objects → accepted ≡ length commands → text ≡ flat_map said_line (rows_below (state_of p commands) objects)
+    → row ≡ said_line (command_count accepted) → new ≡ text ++ row → new ≡ dump_of p commands
+whole_table p commands objects accepted text row new all count rows is more =
+    more
+    ∙ ap (λ (l : List ℕ). text ++ l) (is ∙ ap (λ (n : ℕ). said_line (command_count n)) count ∙ sym (append-nil (said_line (command_count (length commands)))))
+    ∙ ap (λ (l : List ℕ). l ++ flat_map said_line (command_count (length commands) ∷ [])) (rows ∙ ap (λ (n : ℕ). flat_map said_line (rows_below (state_of p commands) n)) all)
+    ∙ sym (flat_map-append said_line (rows_below (state_of p commands) p.objects) (command_count (length commands) ∷ []))
 
 -- while the store is opened nothing is said
 pub dump_opens : (p : Params) (old mid : Disk) (commands : List Command) → LeavesOnly old mid (Between p old (length commands) commands) → LeavesOnly old mid (DumpMoment p commands old.said)
@@ -46,26 +51,38 @@ dump_opens p old mid commands opening = weaker old mid (Between p old (length co
       said_is = b.quiet ∙ sym (append-nil old.said);
     })
 
+-- while an open store is read nothing is said
+pub dump_reads : (p : Params) (old mid : Disk) (engine : EngineView) (commands : List Command) → Stays old mid → Holds p old engine commands → engine.forced ≡ length commands → old.tells_moments
+    → LeavesOnly old mid (DumpMoment p commands old.said)
+dump_reads p old mid engine commands run h all told = dump_opens p old mid commands (subst (λ (n : ℕ). LeavesOnly old mid (Between p old n commands)) all (stays_between run h told))
+
 -- then the table is said
-pub dump_says : (p : Params) (old mid new : Disk) (engine : EngineView) (commands : List Command) (text : List ℕ) → Passes old mid → mid.said ≡ old.said
-    → LeavesOnly old mid (Between p old (length commands) commands) → Holds p mid engine commands → engine.forced ≡ length commands → text ≡ dump_of p commands
+pub dump_says : (p : Params) (old mid new : Disk) (engine : EngineView) (commands : List Command) (text : List ℕ) → Stays old mid → Holds p old engine commands → engine.forced ≡ length commands → text ≡ dump_of p commands
     → Runs Same (SaysFront text) mid new → old.tells_moments → LeavesOnly old new (DumpMoment p commands old.said)
-dump_says p old mid new engine commands text time quiet opening h all is say told =
-    runs_on old mid new (DumpMoment p commands old.said) (dump_opens p old mid commands opening)
+dump_says p old mid new engine commands text run h all is say told =
+    runs_on old mid new (DumpMoment p commands old.said) (dump_reads p old mid engine commands run h all told)
     (first_call mid new (DumpMoment p commands old.said) told_now say.time during)
   where
     told_now : mid.tells_moments
-    told_now = time.moments_told.0 told
+    told_now = run.time.moments_told.0 told
 
     during : (files : Files) (said : List ℕ) → new.left_since mid.clock files said → DumpMoment p commands old.said files said
     during files said left =
         let from = say.crash told_now files said left in
+        let here = holds_stays run h in
         record {
           stands = subst (λ (l : List Command). Stands p files l) (take_all engine.forced commands (omega (arith, all)))
-              (subst (λ (x : Files). Stands p x (take engine.forced commands)) (sym from.0.2) (h.images told_now from.0.0 mid.said from.0.1));
+              (subst (λ (x : Files). Stands p x (take engine.forced commands)) (sym from.0.2) (here.images told_now from.0.0 mid.said from.0.1));
           count = from.1.0;
-          said_is = from.1.2 ∙ ap (λ (l : List ℕ). l ++ take from.1.0 text) quiet ∙ ap (λ (l : List ℕ). old.said ++ take from.1.0 l) is;
+          said_is = from.1.2 ∙ ap (λ (l : List ℕ). l ++ take from.1.0 text) (run.said h.told) ∙ ap (λ (l : List ℕ). old.said ++ take from.1.0 l) is;
         }
+
+-- a dump from before the store was opened
+pub dump_from : (p : Params) (old mid new : Disk) (commands : List Command) → Passes old mid → mid.said ≡ old.said → LeavesOnly old mid (Between p old (length commands) commands)
+    → (mid.tells_moments → LeavesOnly mid new (DumpMoment p commands mid.said)) → old.tells_moments → LeavesOnly old new (DumpMoment p commands old.said)
+dump_from p old mid new commands time quiet opening dumping told =
+    runs_on old mid new (DumpMoment p commands old.said) (dump_opens p old mid commands opening)
+    (subst (λ (s : List ℕ). LeavesOnly mid new (DumpMoment p commands s)) quiet (dumping (time.moments_told.0 told)))
 
 -- a beginning of it was said
 pub dump_begun : (p : Params) (old mid new : Disk) (commands : List Command) (text : List ℕ) → mid.said ≡ old.said → text ≡ dump_of p commands → SaysFront text mid.said new.said

@@ -1,16 +1,16 @@
 -- Engine and files that stand for commands, over calls that write nothing.
-use Rattle.std.proofs.Common.{◌≡◌, ◌≤◌, List, ℕ, length, take, sym, ap, ◌∙◌, subst, arith}
-use Rattle.std.proofs.lemmas.List.{take_all}
-use Rattle.disk_model.specs.Disk.{Files, Disk, IsDisk, Runs, Same, IsSettled, LeavesOnly, Rises}
-use Rattle.disk_model.specs.Moments.{started}
+use Rattle.std.proofs.Common.{◌≡◌, ◌≤◌, List, ℕ, take, sym, ap, ◌∙◌, subst, arith}
+use Rattle.disk_model.specs.Disk.{Files, Disk, IsDisk, Runs, Stays, Same, IsSettled, LeavesOnly, Rises}
+use Rattle.disk_model.specs.Moments.{started, first_call}
 use Rattle.disk_model.specs.declared.machine.FileNo.TheVariants.{Objects, LogB}
 use Rattle.formats.specs.Image.{EndsAt}
 use Rattle.formats.specs.Log.{IsShutLog}
-use Rattle.formats.specs.Objects.{IsObjectsFile}
+use Rattle.formats.specs.Objects.{AreSlotsShut}
 use Rattle.formats.specs.Records.{IsRecordLog}
 use Rattle.formats.specs.declared.params.Params.{Params}
-use Rattle.store_engine.specs.Store.{Command, meaning_in, Stands}
-use Rattle.store_engine.specs.Engine.{EngineView, Opens, Carries, Holds, Between, InEachImage, log_length}
+use Rattle.redo_shell.specs.Store.{Command, meaning_in, state_of, Stands, IsMapOf, Carries, Holds, Between}
+use Rattle.store_engine.specs.Laid.{IsLaidOn, values_in}
+use Rattle.store_engine.specs.Engine.{EngineView, InEachImage, log_length}
 
 -- what is true of each image stays so
 pub each_stays : {d new : Disk} {says : List ℕ → List ℕ → Type 0} {P : Files → Type 0} → Runs Same says d new → d.tells_files → InEachImage d P → InEachImage new P
@@ -28,6 +28,10 @@ still_settled {d} {new} {says} run told settled file told_new f s left =
     let told_old = run.time.moments_told.1 told_new in
     let from = run.crash told_old f s (run.ends.among d.clock new.clock f s run.time.later (omega arith) left) in
     ap (λ (g : Files). g file) from.0.2 ∙ settled file told_old from.0.0 d.said from.0.1 ∙ sym (ap (λ (g : Files). g file) (run.reads told))
+
+-- the map stays over files that do
+map_stays : (p : Params) (d new : Disk) (engine : EngineView) (commands : List Command) → new.reads ≡ d.reads → IsMapOf p d engine commands → IsMapOf p new engine commands
+map_stays p d new engine commands same map' x below = subst (λ (f : Files). values_in engine.objects (f Objects) x ≡ state_of p commands x) (sym same) (map' x below)
 
 -- the records stay where they are
 carries_stays : {p : Params} {d new : Disk} {engine : EngineView} {commands : List Command} {says : List ℕ → List ℕ → Type 0} → Runs Same says d new → Carries p d engine commands → Carries p new engine commands
@@ -57,9 +61,11 @@ carries_stays {p} {d} {new} {engine} {commands} {says} run c =
       none_before = c.none_before;
       accepted = c.accepted;
       forced = c.forced;
-      objects = subst (λ (f : Files). IsObjectsFile p (f Objects)) same c.objects;
+      laid = subst (λ (f : Files). IsLaidOn engine.objects (f Objects)) same c.laid;
+      shut = subst (λ (f : Files). AreSlotsShut p (f Objects)) same c.shut;
       other = subst (λ (f : Files). IsShutLog (f LogB)) same c.other;
-      values = c.values;
+      values = map_stays p d new engine commands (run.reads c.told) c.values;
+      unbroken = c.unbroken;
     }
 
 -- engine and files stand for the same commands after a call that writes no file
@@ -73,7 +79,7 @@ holds_stays {p} {d} {new} {engine} {commands} run holds =
       forced = holds.forced;
       now = each.0;
       images = each.1;
-      map_is = holds.map_is;
+      map_is = map_stays p d new engine commands (run.reads holds.told) holds.map_is;
       ends = λ all. let here = holds.ends all in (subst (λ (f : Files). EndsAt f (log_length engine).used) (sym (run.reads holds.told)) here.0, here.1);
       carried = carries_stays run holds.carried;
     }
@@ -87,6 +93,18 @@ holds_between {p} {d} {engine} {commands} lawful holds told = started d (Between
   within = holds.forced;
   stands = holds.images told f s left;
 })
+
+-- calls that change nothing leave what is forced
+pub stays_between : {p : Params} {d new : Disk} {engine : EngineView} {commands : List Command} → Stays d new → Holds p d engine commands → d.tells_moments → LeavesOnly d new (Between p d engine.forced commands)
+stays_between {p} {d} {new} {engine} {commands} run holds told = first_call d new (Between p d engine.forced commands) told run.time (λ f s left.
+    let from = run.crash told f s left in
+    record {
+      quiet = from.1;
+      kept = engine.forced;
+      enough = omega arith;
+      within = holds.forced;
+      stands = subst (λ (x : Files). Stands p x (take engine.forced commands)) (sym from.0.2) (holds.images told from.0.0 d.said from.0.1);
+    })
 
 -- a count that rose in a part of a call rose in the call
 pub rises_within : (a b c d : ℕ) → a ≤ b → c ≤ d → Rises b c → Rises a d

@@ -1,6 +1,6 @@
 -- Calls that leave the files as they are, one after the other.
-use Rattle.std.proofs.Common.{◌≡◌, List, ℕ, sym, subst, ◌∙◌, arith}
-use Rattle.disk_model.specs.Disk.{Files, Disk, IsDisk, Passes, Runs, Stays, Same, LeavesOnly}
+use Rattle.std.proofs.Common.{List, ℕ, sym, subst, ◌∙◌, arith}
+use Rattle.disk_model.specs.Disk.{Files, Disk, IsDisk, Runs, Stays, Same}
 use Rattle.disk_model.specs.Moments.{first_call, runs_on, weaker, stays_here}
 use Rattle.redo_shell.specs.Keeps.{KeepsFiles}
 

@@ -1,10 +1,10 @@
 -- What a line asks, from the line as it was taken apart.
 use Rattle.std.proofs.Common.{◌≡◌, List, ℕ, sym, subst, Bor, Err}
-use Rattle.script_lines.specs.Grammar.{IsParsed, Request, put, copy, append, cut, sort, swap, get, force, skip, AsksFor, IsHex, IsBad}
+use Rattle.script_lines.specs.Grammar.{IsParsed, put, copy, append, cut, sort, swap, get, force, skip, AsksFor, IsHex, IsBad}
 use Rattle.script_lines.specs.GrammarLaws.{long_is_bad}
 use Rattle.formats.specs.declared.params.Params.{Params}
-use Rattle.store_engine.specs.Store.{Command}
-use Rattle.store_engine.specs.Engine.{LogLength, HasCause, Lengthens}
+use Rattle.redo_shell.specs.Store.{Command, HasCause, Lengthens}
+use Rattle.store_engine.specs.Engine.{LogLength}
 use Rattle.store_engine.specs.declared.exec_err.ExecErr.{ExecErr}
 use Rattle.script_lines.specs.Reading.{IsLine}
 use Rattle.script_lines.specs.declared.next.Next.{Next}

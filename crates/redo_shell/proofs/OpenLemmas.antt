@@ -5,20 +5,16 @@ use Rattle.std.proofs.lemmas.List.{append-nil}
 use Rattle.std.specs.List.{flat_map}
 use Rattle.disk_model.specs.Disk.{Files, Disk, Passes, LeavesOnly}
 use Rattle.disk_model.specs.Moments.{first_call, runs_on, weaker}
-use Rattle.disk_model.specs.declared.machine.FileNo.{FileNo}
 use Rattle.formats.specs.Image.{EndsAt}
 use Rattle.formats.specs.declared.params.Params.{Params}
 use Rattle.script_lines.specs.Replies.{Reply, said_line}
-use Rattle.store_engine.specs.Store.{Command}
-use Rattle.store_engine.specs.Engine.{Between, IsNoDamage}
+use Rattle.redo_shell.specs.Store.{Command, Between}
 use Rattle.redo_shell.specs.Answers.{Moment, TrueWithin, with_begun, SaysTruly}
 use Rattle.redo_shell.specs.Status.{status_of, status_after}
-use Rattle.store_engine.specs.declared.restart_err.RestartErr.{RestartErr}
-use Rattle.store_engine.specs.declared.restart_err.RestartErr.TheVariants.{Damaged}
 use Rattle.redo_shell.specs.declared.status.Status.{Status}
 use Rattle.redo_shell.specs.declared.status.Status.TheVariants.{Done, DoneWithRefusals}
 use Rattle.redo_shell.specs.declared.stop.Stop.{Stop}
-use Rattle.redo_shell.specs.declared.stop.Stop.TheVariants.{DiskFault, ReadFault, SayFault, Memory, TooLong}
+use Rattle.redo_shell.specs.declared.stop.Stop.TheVariants.{DiskFault, Damaged as SlotDamaged, ReadFault, SayFault, Memory, TooLong}
 use Rattle.redo_shell.specs.Run.{IsRun, IsComplete}
 use Rattle.redo_shell.proofs.StoryLemmas.{story_start, told_whole}
 use Rattle.redo_shell.proofs.TrueLemmas.{none_begun}
@@ -54,7 +50,7 @@ run_says {p} {start} {mid} {new} {commands} {script} time quiet opening run =
           (subst (λ (s : List ℕ). LeavesOnly mid new (TrueWithin p s replies)) quiet (truth.truly (time.moments_told.0 told)));
     }
 
-complete_from : {p : Params} {start mid new : Disk} {commands : List Command} {script : List (List ℕ)} {status : Status} → mid.said ≡ start.said → mid.reads ≡ start.reads → IsComplete p mid new commands script status → IsComplete p start new commands script status
+pub complete_from : {p : Params} {start mid new : Disk} {commands : List Command} {script : List (List ℕ)} {status : Status} → mid.said ≡ start.said → mid.reads ≡ start.reads → IsComplete p mid new commands script status → IsComplete p start new commands script status
 complete_from quiet same all = record {
   replies = all.replies;
   acc = all.acc;
@@ -73,6 +69,7 @@ complete_from quiet same all = record {
 -- a status that tells of an early end is none of a whole run
 not_early : (stop : Stop) → (status_of stop ≡ Done) ⊎ (status_of stop ≡ DoneWithRefusals) → ⊥
 not_early DiskFault is = ⊎_elim (λ (e : status_of DiskFault ≡ Done). cc) (λ (e : status_of DiskFault ≡ DoneWithRefusals). cc) is
+not_early (SlotDamaged file place) is = ⊎_elim (λ (e : status_of (SlotDamaged file place) ≡ Done). cc) (λ (e : status_of (SlotDamaged file place) ≡ DoneWithRefusals). cc) is
 not_early ReadFault is = ⊎_elim (λ (e : status_of ReadFault ≡ Done). cc) (λ (e : status_of ReadFault ≡ DoneWithRefusals). cc) is
 not_early SayFault is = ⊎_elim (λ (e : status_of SayFault ≡ Done). cc) (λ (e : status_of SayFault ≡ DoneWithRefusals). cc) is
 not_early Memory is = ⊎_elim (λ (e : status_of Memory ≡ Done). cc) (λ (e : status_of Memory ≡ DoneWithRefusals). cc) is
@@ -82,7 +79,3 @@ pub run_completes : {p : Params} (start mid new : Disk) {commands : List Command
     → IfOk outcome (λ refusing. IsComplete p mid new commands script (status_after (Ok refusing))) → (status ≡ Done) ⊎ (status ≡ DoneWithRefusals) → IsComplete p start new commands script status
 run_completes {p} start mid new {commands} {script} (Ok refusing) status is quiet same all done = subst (λ (s : Status). IsComplete p start new commands script s) (sym is) (complete_from quiet same all)
 run_completes start mid new (Err stop) status is quiet same all done = absurd (not_early stop (subst (λ (s : Status). (s ≡ Done) ⊎ (s ≡ DoneWithRefusals)) is done))
-
--- on files that stand nothing is damaged
-pub no_damage : (error : RestartErr) {file : FileNo} {place : ℕ} → error ≡ Damaged file place → IsNoDamage error → ⊥
-no_damage error is none = subst IsNoDamage is none

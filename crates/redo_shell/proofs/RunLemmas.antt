@@ -1,5 +1,5 @@
 -- How a run's moments go on from line to line.
-use Rattle.std.proofs.Common.{◌≡◌, ◌≢◌, ◌⊎◌, inl, inr, ⊎_elim, ◌≤◌, ◌++◌, ◌||◌, ◌↔◌, List, ℕ, [], ◌∷◌, length, take, length-append, append_assoc, refl, ap, ◌∙◌, sym, subst, arith, Bool, true, false, Contains, Result, Ok, Err, IfOk, OnOk, OnErr, IsErr}
+use Rattle.std.proofs.Common.{◌≡◌, ◌≢◌, ◌⊎◌, inl, inr, ⊎_elim, ◌≤◌, ◌<◌, ◌++◌, ◌||◌, ◌↔◌, List, ℕ, [], ◌∷◌, length, take, length-append, append_assoc, refl, ap, ◌∙◌, sym, subst, arith, Bool, true, false, Contains, Result, Ok, Err, IfOk, OnOk, OnErr, IsErr}
 use Rattle.std.specs.Prelude.{⊤}
 use Rattle.std.proofs.lemmas.List.{append-nil, take_all}
 use Rattle.std.proofs.lemmas.List.Folds.{list_any-append}
@@ -8,10 +8,11 @@ use Rattle.disk_model.specs.Disk.{Files, Disk, IsDisk, Passes, Runs, Same, SaysF
 use Rattle.disk_model.specs.Moments.{passes_none, first_call, runs_on, weaker}
 use Rattle.formats.specs.Image.{EndsAt}
 use Rattle.formats.specs.declared.params.Params.{Params}
-use Rattle.script_lines.specs.Grammar.{AsksFor, skip}
-use Rattle.script_lines.specs.Replies.{Reply, forced, silence, said_line}
-use Rattle.store_engine.specs.Store.{Command, Stands}
-use Rattle.store_engine.specs.Engine.{EngineView, Holds, Kept, Between, LogLength, log_length, forced_length}
+use Rattle.oper_core.specs.declared.refusal.Refusal.TheVariants.{NoObject}
+use Rattle.script_lines.specs.Grammar.{AsksFor, get, skip}
+use Rattle.script_lines.specs.Replies.{Reply, value, forced, refused, silence, said_line}
+use Rattle.store_engine.specs.Engine.{EngineView, LogLength, log_length, forced_length}
+use Rattle.redo_shell.specs.Store.{Command, state_of, Stands, Holds, Kept, Between}
 use Rattle.redo_shell.specs.Replies.{Replies, IsTrueIn, is_refusing}
 use Rattle.redo_shell.specs.Lengths.{GoesBy, AllGoBy}
 use Rattle.redo_shell.specs.Answers.{Moment, TrueWithin, SaysTruly}
@@ -314,15 +315,41 @@ found_at_once {p} {d} {engine} {commands} reply holds replies tied other lengths
   length_is = lengths (log_length engine);
 }
 
+pub kept_nil : {p : Params} {d : Disk} {before engine : EngineView} {commands : List Command} → Kept p before d engine commands → Kept p before d engine (commands ++ [])
+kept_nil {p} {d} {before} {engine} {commands} kept = subst (λ (l : List Command). Kept p before d engine l) (sym (append-nil commands)) kept
+
+-- the value that was fetched
+pub found_value : {p : Params} {old mid : Disk} {before after : EngineView} {commands : List Command} {line : List ℕ} (object : ℕ) (bytes : List ℕ) → AsksFor line (get object) → object < p.objects
+    → bytes ≡ state_of p commands object → mid.said ≡ old.said → Kept p before mid after commands → log_length after ≡ log_length before → IsFound p old mid before after commands line (value bytes)
+found_value object bytes asks there is quiet kept same = record {
+  added = [];
+  replies = (object, asks, there, is, refl);
+  quiet = quiet;
+  kept = kept_nil kept;
+  tied = (tt, λ told f s left. tt);
+  acked = λ n is. cc;
+  length_is = same;
+}
+
+-- or there is no such object
+pub found_none : {p : Params} {old mid : Disk} {before after : EngineView} {commands : List Command} {line : List ℕ} (object : ℕ) → AsksFor line (get object) → p.objects ≤ object
+    → mid.said ≡ old.said → Kept p before mid after commands → log_length after ≡ log_length before → IsFound p old mid before after commands line (refused NoObject)
+found_none object asks past quiet kept same = record {
+  added = [];
+  replies = (inr (object, asks, past, refl), refl);
+  quiet = quiet;
+  kept = kept_nil kept;
+  tied = (tt, λ told f s left. tt);
+  acked = λ n is. cc;
+  length_is = same;
+}
+
 -- it is said where it is found
 pub said_at_once : {p : Params} {d new : Disk} {engine : EngineView} {commands : List Command} {line : List ℕ} {reply : Reply} (result : Result Bool Stop)
     → IsDisk d → IsFound p d d engine engine commands line reply → Holds p d engine commands
     → Runs Same (SaysFront (said_line reply)) d new → (d.tells_files → OnOk result (new.said ≡ d.said ++ said_line reply)) → IfOk result (λ kind. kind ≡ is_refusing reply)
     → Answering p d new engine engine commands line result
 said_at_once {d = d} result lawful found holds say all is = found_said result (holds_between lawful holds) (passes_none d) found say all is
-
-pub kept_nil : {p : Params} {d : Disk} {before engine : EngineView} {commands : List Command} → Kept p before d engine commands → Kept p before d engine (commands ++ [])
-kept_nil {p} {d} {before} {engine} {commands} kept = subst (λ (l : List Command). Kept p before d engine l) (sym (append-nil commands)) kept
 
 -- a line that is skipped
 pub skipped : {p : Params} {d : Disk} {engine : EngineView} {commands : List Command} {line : List ℕ} → IsDisk d → Holds p d engine commands → AsksFor line skip

@@ -9,9 +9,9 @@ use Rattle.script_lines.specs.declared.next.Next.TheVariants.{Line, Long, End}
 use Rattle.script_lines.specs.declared.read_error.ReadError.{ReadError}
 use Rattle.script_lines.specs.declared.read_error.ReadError.TheVariants.{ReadFault as ReadFailed, TooLong as ReadTooMuch, Memory as NoMemoryToRead}
 use Rattle.redo_shell.specs.declared.stop.Stop.{Stop}
-use Rattle.redo_shell.specs.declared.stop.Stop.TheVariants.{DiskFault, ReadFault, SayFault, Memory, TooLong}
+use Rattle.redo_shell.specs.declared.stop.Stop.TheVariants.{DiskFault, Damaged, ReadFault, SayFault, Memory, TooLong}
 use Rattle.redo_shell.specs.Status.{stop_of_read}
-use Rattle.redo_shell.specs.Run.{IsCaused, IsStopped}
+use Rattle.redo_shell.specs.Run.{IsCaused, IsStopped, IsUndamaged}
 use Rattle.redo_shell.proofs.HoldLemmas.{rises_within}
 
 -- two takings in a row are one
@@ -43,6 +43,7 @@ too_much (Err stop) NoMemoryToRead is long = cc
 
 stopped_line : (stop : Stop) (old mid new : Disk) (before now : ℕ) → Passes old mid → IsCaused stop mid new → IsStopped stop old new before now
 stopped_line DiskFault old mid new before now time cause = rises_within old.disk_faults mid.disk_faults new.disk_faults new.disk_faults time.disk_faults (omega arith) cause
+stopped_line (Damaged file place) old mid new before now time cause = tt
 stopped_line ReadFault old mid new before now time cause = absurd cause
 stopped_line SayFault old mid new before now time cause = rises_within old.say_faults mid.say_faults new.say_faults new.say_faults time.say_faults (omega arith) cause
 stopped_line Memory old mid new before now time cause = tt
@@ -63,6 +64,11 @@ line_not_long (Err stop) answered why mid new is was cause long =
     let here = subst (λ (r : Result Bool Stop). IfErr r (λ s. IsCaused s mid new)) was cause in
     let same : why ≡ TooLong = cc (sym is, long) in
     subst (λ (s : Stop). IsCaused s mid new) same here
+
+-- nor for a damaged slot
+pub line_undamaged : (result answered : Result Bool Stop) (why : Stop) → IsErrAnd result (λ stop. stop ≡ why) → answered ≡ Err why → IfErr answered IsUndamaged → IfErr result IsUndamaged
+line_undamaged (Ok refusing) answered why is was none = tt
+line_undamaged (Err stop) answered why is was none = subst IsUndamaged (sym is) (subst (λ (r : Result Bool Stop). IfErr r IsUndamaged) was none)
 
 some_line : (b : Bool) (line : List ℕ) (lines others : List (List ℕ)) → (others ≡ [] → ⊥) → (if b then line ∷ lines else others) ≡ [] → ⊥
 some_line true line lines others some none = cc

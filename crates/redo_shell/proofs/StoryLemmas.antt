@@ -6,8 +6,8 @@ use Rattle.std.proofs.lemmas.List.Concat.{flat_map-append}
 use Rattle.std.specs.List.{flat_map}
 use Rattle.formats.specs.declared.params.Params.{Params}
 use Rattle.script_lines.specs.Replies.{Reply, ok, value, forced, bad, refused, full, end, object_value, command_count, silence, text_of, said_line}
-use Rattle.store_engine.specs.Store.{Command}
 use Rattle.store_engine.specs.Engine.{LogLength}
+use Rattle.redo_shell.specs.Store.{Command}
 use Rattle.redo_shell.specs.Replies.{Replies}
 use Rattle.redo_shell.specs.Lengths.{GoesBy, AllGoBy}
 use Rattle.redo_shell.specs.Answers.{Answers, Said, with_begun}

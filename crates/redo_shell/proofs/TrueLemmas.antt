@@ -1,13 +1,13 @@
 -- What the answers of a run say of each moment's images.
-use Rattle.std.proofs.Common.{◌≡◌, ◌⊎◌, ⊎_elim, ◌≤◌, ◌<◌, ◌++◌, List, ℕ, [], ◌∷◌, length, take, length-append, length-take, append_assoc, ap, ◌∙◌, sym, subst, arith, refl}
+use Rattle.std.proofs.Common.{◌≡◌, ⊎_elim, ◌≤◌, ◌<◌, ◌++◌, List, ℕ, [], ◌∷◌, length, take, length-append, length-take, append_assoc, ap, sym, subst, arith, refl}
 use Rattle.std.proofs.lemmas.List.{append-nil}
 use Rattle.std.specs.List.{flat_map}
 use Rattle.disk_model.specs.Disk.{Files, Disk, Passes, Runs, Same, SaysFront, LeavesOnly}
 use Rattle.disk_model.specs.Moments.{first_call, runs_on, weaker}
 use Rattle.formats.specs.declared.params.Params.{Params}
 use Rattle.script_lines.specs.Replies.{Reply, ok, value, forced, bad, refused, full, end, object_value, command_count, silence, text_of, said_line}
-use Rattle.store_engine.specs.Store.{Command}
-use Rattle.store_engine.specs.Engine.{EngineView, Between}
+use Rattle.store_engine.specs.Engine.{EngineView}
+use Rattle.redo_shell.specs.Store.{Command, Between}
 use Rattle.redo_shell.specs.Replies.{IsTrueIn}
 use Rattle.redo_shell.specs.Answers.{EndsInside, TrueWithin}
 use Rattle.redo_shell.specs.Run.{IsTrueSaying, IsTrueSoFar, IsFound, During, LineMoment}

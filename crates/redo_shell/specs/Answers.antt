@@ -5,7 +5,7 @@ use Rattle.std.specs.List.{flat_map}
 use Rattle.disk_model.specs.Disk.{Files, Disk, LeavesOnly}
 use Rattle.formats.specs.declared.params.Params.{Params}
 use Rattle.script_lines.specs.Replies.{Reply, forced, text_of, said_line}
-use Rattle.store_engine.specs.Store.{Command, Stands}
+use Rattle.redo_shell.specs.Store.{Command, Stands}
 use Rattle.redo_shell.specs.Replies.{Replies, IsTrueIn}
 
 -- The lines get these answers, one after the other, and add these commands.

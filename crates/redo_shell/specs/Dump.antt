@@ -5,7 +5,7 @@ use Rattle.disk_model.specs.Disk.{Files}
 use Rattle.formats.specs.declared.params.Params.{Params}
 use Rattle.oper_core.specs.State.{State}
 use Rattle.script_lines.specs.Replies.{Reply, object_value, command_count, said_line}
-use Rattle.store_engine.specs.Store.{Command, Stands, state_of}
+use Rattle.redo_shell.specs.Store.{Command, Stands, state_of}
 
 -- the row of an object: none where it is empty
 abbrev pub row_of : ℕ → List ℕ → List Reply

@@ -1,5 +1,5 @@
 -- Calls that leave the files as they are.
-use Rattle.std.specs.Prelude.{◌≡◌, ℕ, List}
+use Rattle.std.specs.Prelude.{◌≡◌}
 use Rattle.disk_model.specs.Disk.{Disk, LeavesOnly}
 
 -- the files read as before, and whatever a crash at any moment leaves of them a crash at the start could have left

@@ -2,8 +2,8 @@
 use Rattle.std.specs.Prelude.{◌≡◌, ◌<◌, ℕ, List, [], ◌∷◌, true}
 use Rattle.formats.specs.declared.params.Params.{Params}
 use Rattle.script_lines.specs.Replies.{Reply, ok, forced, full, end}
-use Rattle.store_engine.specs.Store.{Command, record_length}
-use Rattle.store_engine.specs.Engine.{LogLength, grown, forced_length, Fits}
+use Rattle.store_engine.specs.Engine.{LogLength, grown, forced_length}
+use Rattle.redo_shell.specs.Store.{Command, record_length, Fits}
 use Rattle.redo_shell.specs.Replies.{AsksCommand}
 
 -- What an answer says of a log of the old length, and the new length: `ok` comes where the command's record fits, and it

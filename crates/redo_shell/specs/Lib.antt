@@ -1,3 +1,4 @@
+pub mod Store
 pub mod Replies
 pub mod Answers
 pub mod Lengths

@@ -7,7 +7,7 @@ use Rattle.formats.specs.declared.params.Params.{Params}
 use Rattle.op_codec.specs.declared.all_ops.AllOps.TheVariants.{Put, Copy, Append, Cut, Sort, Swap}
 use Rattle.script_lines.specs.Grammar.{Request, put, copy, append, cut, sort, swap, get, force, skip, AsksFor, IsBad}
 use Rattle.script_lines.specs.Replies.{Reply, ok, value, forced, bad, refused, full, end, object_value, command_count, silence}
-use Rattle.store_engine.specs.Store.{Command, meaning_in, state_of, refusal_after, record_length}
+use Rattle.redo_shell.specs.Store.{Command, meaning_in, state_of, refusal_after, record_length}
 
 -- the request for a command
 abbrev pub request_for : Command → Request

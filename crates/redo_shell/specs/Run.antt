@@ -5,15 +5,15 @@ use Rattle.disk_model.specs.Disk.{Files, Disk, LeavesOnly, Rises}
 use Rattle.formats.specs.Image.{EndsAt}
 use Rattle.formats.specs.declared.params.Params.{Params}
 use Rattle.script_lines.specs.Replies.{Reply, forced, said_line}
-use Rattle.store_engine.specs.Store.{Command, Stands}
-use Rattle.store_engine.specs.Engine.{EngineView, Holds, Kept, Between, InEachImage, LogLength, log_length}
+use Rattle.store_engine.specs.Engine.{EngineView, InEachImage, LogLength, log_length}
+use Rattle.redo_shell.specs.Store.{Command, Stands, Holds, Kept, Between}
 use Rattle.redo_shell.specs.Replies.{Replies, IsTrueIn, is_refusing}
 use Rattle.redo_shell.specs.Answers.{Answers, Moment, EndsInside, TrueWithin, SaysTruly}
 use Rattle.redo_shell.specs.Lengths.{GoesBy, AllGoBy}
 use Rattle.redo_shell.specs.declared.status.Status.{Status}
 use Rattle.redo_shell.specs.declared.status.Status.TheVariants.{DoneWithRefusals}
 use Rattle.redo_shell.specs.declared.stop.Stop.{Stop}
-use Rattle.redo_shell.specs.declared.stop.Stop.TheVariants.{DiskFault, ReadFault, SayFault, Memory, TooLong}
+use Rattle.redo_shell.specs.declared.stop.Stop.TheVariants.{DiskFault, Damaged, ReadFault, SayFault, Memory, TooLong}
 
 -- a moment while this answer is found and said behind these bytes: it is true where the bytes said end inside it
 pub record IsTrueSaying (p : Params) (before : List ℕ) (reply : Reply) (files : Files) (said : List ℕ) : Type 0 where
@@ -111,9 +111,15 @@ pub record IsFound (p : Params) (old now : Disk) (before after : EngineView) (co
   pub length_is : GoesBy p (log_length before) line reply (log_length after)
   pub acked : (n : ℕ) → reply ≡ forced n → n ≤ after.forced
 
+-- no slot that was read broke its format
+abbrev pub IsUndamaged : Stop → Type 0
+IsUndamaged (Damaged file place) = ⊥
+IsUndamaged stop = ⊤
+
 -- what ends a run while a line is answered has its cause
 abbrev pub IsCaused : Stop → Disk → Disk → Type 0
 IsCaused DiskFault old new = Rises old.disk_faults new.disk_faults
+IsCaused (Damaged file place) old new = ⊤
 IsCaused SayFault old new = Rises old.say_faults new.say_faults
 IsCaused ReadFault old new = ⊥
 IsCaused Memory old new = ⊤
@@ -122,6 +128,7 @@ IsCaused TooLong old new = ⊥
 -- what ends a run early has its cause
 abbrev pub IsStopped : Stop → Disk → Disk → ℕ → ℕ → Type 0
 IsStopped DiskFault old new reads_before reads_now = Rises old.disk_faults new.disk_faults
+IsStopped (Damaged file place) old new reads_before reads_now = ⊤
 IsStopped ReadFault old new reads_before reads_now = Rises reads_before reads_now
 IsStopped SayFault old new reads_before reads_now = Rises old.say_faults new.say_faults
 IsStopped Memory old new reads_before reads_now = ⊤

@@ -3,7 +3,7 @@ use Rattle.std.specs.Prelude.{⊤, ℕ, Bool, true, false, Result, Ok, Err}
 use Rattle.script_lines.specs.declared.read_error.ReadError.{ReadError}
 use Rattle.script_lines.specs.declared.read_error.ReadError.TheVariants.{ReadFault as ReadFailed, TooLong as ReadTooMuch, Memory as NoMemoryToRead}
 use Rattle.redo_shell.specs.declared.stop.Stop.{Stop}
-use Rattle.redo_shell.specs.declared.stop.Stop.TheVariants.{DiskFault, ReadFault, SayFault, Memory, TooLong}
+use Rattle.redo_shell.specs.declared.stop.Stop.TheVariants.{DiskFault, Damaged as SlotDamaged, ReadFault, SayFault, Memory, TooLong}
 use Rattle.redo_shell.specs.declared.status.Status.{Status}
 use Rattle.redo_shell.specs.declared.status.Status.TheVariants.{Done, DoneWithRefusals, Usage, NotAStore, AlreadyStore, Damaged, DiskFault as DiskFailed, ReadFault as InputFailed, SayFault as OutputFailed, Memory as OutOfMemory, TooLong as InputTooLong}
 
@@ -30,6 +30,7 @@ stop_of_read NoMemoryToRead = Memory
 -- the status of a run that ends before its script does
 abbrev pub status_of : Stop → Status
 status_of DiskFault = DiskFailed
+status_of (SlotDamaged file place) = Damaged
 status_of ReadFault = InputFailed
 status_of SayFault = OutputFailed
 status_of Memory = OutOfMemory
@@ -71,3 +72,12 @@ IsOfStore DoneWithRefusals = ⊤
 IsOfStore InputFailed = ⊤
 IsOfStore InputTooLong = ⊤
 IsOfStore status = ⊥
+
+-- where a store is not opened, the program ends with this status
+abbrev pub IsOfUnopened : Status → Type 0
+IsOfUnopened NotAStore = ⊤
+IsOfUnopened Damaged = ⊤
+IsOfUnopened DiskFailed = ⊤
+IsOfUnopened OutputFailed = ⊤
+IsOfUnopened OutOfMemory = ⊤
+IsOfUnopened status = ⊥

@@ -1,40 +1,34 @@
 // A store is told: its objects that are not empty, and how many commands it was given.
-ghost use Rattle.std.specs.Prelude.{◌≡◌, ◌≢◌, ◌++◌, List, ℕ, length, take, OnOk, IfOk};
+ghost use Rattle.std.specs.Prelude.{◌≡◌, ◌≢◌, ◌<◌, ◌++◌, false, List, ℕ, length, take, OnOk, IfOk, IfErr};
 ghost use Rattle.std.specs.List.{flat_map};
-ghost use Rattle.disk_model.specs.Disk.{Rises, Passes, LeavesOnly};
+ghost use Rattle.disk_model.specs.Disk.{Rises, Passes, Stays, LeavesOnly};
 ghost use Rattle.disk_model.specs.declared.machine.FileNo.{FileNo};
 ghost use Rattle.disk_model.specs.declared.machine.FileNo.TheVariants.{Objects};
 ghost use Rattle.formats.specs.Bytes.{IsShutAt};
 ghost use Rattle.formats.specs.Image.{IsDamaged};
 ghost use Rattle.formats.specs.declared.params.Params.{Params};
 ghost use Rattle.op_codec.specs.AllOps.{all_meaning};
-ghost use Rattle.oper_core.specs.State.{listed};
-ghost use Rattle.script_lines.specs.Replies.{said_line};
-ghost use Rattle.store_engine.specs.Store.{Command, IsWellFormed};
-ghost use Rattle.store_engine.specs.Engine.{Opens};
-ghost use Rattle.redo_shell.specs.Dump.{row_of, table_of, dump_of, DumpMoment};
+ghost use Rattle.script_lines.specs.Replies.{command_count, said_line};
+ghost use Rattle.store_engine.specs.Engine.{IsAttached};
+ghost use Rattle.redo_shell.specs.Store.{Command, IsWellFormed, Opens, Holds, state_of};
+ghost use Rattle.redo_shell.specs.Dump.{row_of, dump_of, DumpMoment};
 ghost use Rattle.redo_shell.specs.Keeps.{KeepsFiles};
 ghost use Rattle.redo_shell.specs.Notices.{not_a_store, damaged};
+ghost use Rattle.redo_shell.specs.Run.{IsCaused, IsUndamaged};
 ghost use Rattle.redo_shell.specs.Status.{IsOfDump, IsOfStore};
 
 use crate::damage::end_damaged;
+use crate::fetching::fetched;
+use crate::opening::open_store;
 use crate::say::end_with;
 use crate::status::Status;
+use crate::stop::Stop;
 use disk_model::Machine;
+use op_codec::AllOps;
 use oper_core::Memory;
 use script_lines::{Answer, answer_line};
 use std::alloc::Global;
-use store_engine::{Engine, RestartErr};
-
-/// The value of an object; no bytes where there is no such object.
-fn value_of(engine: &Engine, object: u32) -> &[u8]
-    ensures { result.now ≡ listed engine.now.map object }
-{
-    match engine.get(object) {
-        Some(value) => value,
-        None => &[],
-    }
-}
+use store_engine::Engine;
 
 /// Adds the row of an object that is not empty.
 fn push_row(alloc: Global, table: &mut Vec<u8>, object: u32, value: &[u8]) -> Result<(), Memory>
@@ -48,17 +42,83 @@ fn push_row(alloc: Global, table: &mut Vec<u8>, object: u32, value: &[u8]) -> Re
     Ok(())
 }
 
+/// Adds the number of commands.
+fn push_count(alloc: Global, table: &mut Vec<u8>, commands: u64) -> Result<(), Memory>
+    ensures { OnOk result (table.new.items ≡ table.old.items ++ said_line (command_count commands)) }
+{
+    let count = answer_line(alloc, &Answer::Commands(commands))?;
+    table.extend_from_slice(count.as_slice())?;
+    Ok(())
+}
+
+/// Adds the row of an object of the store, if it is not empty.
+fn push_object<M: Machine>(
+    alloc: Global,
+    engine: &mut Engine<AllOps>,
+    machine: &mut M,
+    object: u32,
+    table: &mut Vec<u8>,
+) -> Result<(), Stop>
+    requires { engine.old.broken ≡ false }
+    ensures kept { Stays (M.disk machine.old) (M.disk machine.new) }
+    ensures row { (p : Params) (commands : List Command) → Holds p (M.disk machine.old) engine.old commands → object < p.objects →
+        OnOk result (table.new.items ≡ table.old.items ++ flat_map said_line (row_of object (state_of p commands object))) }
+    ensures holds { (p : Params) (commands : List Command) → Holds p (M.disk machine.old) engine.old commands → OnOk result (Holds p (M.disk machine.new) engine.new commands) }
+    ensures cause { IfErr result (λ stop. IsCaused stop (M.disk machine.old) (M.disk machine.new)) }
+    ensures undamaged { (M.disk machine.old).tells_files → IsAttached (M.disk machine.old) engine.old → IfErr result IsUndamaged }
+    ensures attached { IsAttached (M.disk machine.old) engine.old → IsAttached (M.disk machine.new) engine.new }
+    ensures unbroken { OnOk result (engine.new.broken ≡ false) }
+{
+    if fetched(engine, machine, object)? {
+        push_row(alloc, table, object, engine.get(object))?;
+    }
+    Ok(())
+}
+
 /// A row for each object that is not empty, rising, and the number of commands.
-fn table(alloc: Global, engine: &Engine) -> Result<Vec<u8>, Memory>
-    ensures { IfOk result (λ table. table.items ≡ table_of (listed engine.now.map) engine.now.params.objects engine.now.accepted) }
+fn table<M: Machine>(
+    alloc: Global,
+    engine: &mut Engine<AllOps>,
+    machine: &mut M,
+) -> Result<Vec<u8>, Stop>
+    requires { engine.old.broken ≡ false }
+    ensures kept { Stays (M.disk machine.old) (M.disk machine.new) }
+    ensures rows { (p : Params) (commands : List Command) → Holds p (M.disk machine.old) engine.old commands →
+        IfOk result (λ table. table.items ≡ dump_of p commands) }
+    ensures cause { IfErr result (λ stop. IsCaused stop (M.disk machine.old) (M.disk machine.new)) }
+    ensures undamaged { (M.disk machine.old).tells_files → IsAttached (M.disk machine.old) engine.old → IfErr result IsUndamaged }
+    ensures attached { IsAttached (M.disk machine.old) engine.old → IsAttached (M.disk machine.new) engine.new }
 {
     let mut table = Vec::new(alloc);
     for object in 0..engine.params().objects {
-        push_row(alloc, &mut table, object, value_of(engine, object))?;
+        push_object(alloc, engine, machine, object, &mut table)?;
     }
-    let count = answer_line(alloc, &Answer::Commands(engine.accepted()))?;
-    table.extend_from_slice(count.as_slice())?;
+    push_count(alloc, &mut table, engine.accepted())?;
     Ok(table)
+}
+
+/// Says the table of an open store. Where a slot breaks its format it says a line.
+fn dump_open<M: Machine>(alloc: Global, engine: &mut Engine<AllOps>, machine: &mut M) -> Status
+    requires { engine.old.broken ≡ false }
+    ensures time { Passes (M.disk machine.old) (M.disk machine.new) }
+    ensures moments { (p : Params) (commands : List Command) → Holds p (M.disk machine.old) engine.old commands → engine.old.forced ≡ length commands → (M.disk machine.old).tells_moments →
+        LeavesOnly (M.disk machine.old) (M.disk machine.new) (DumpMoment p commands (M.disk machine.old).said) }
+    ensures said { (p : Params) (commands : List Command) → Holds p (M.disk machine.old) engine.old commands →
+        (count : ℕ) × ((M.disk machine.new).said ≡ (M.disk machine.old).said ++ take count (dump_of p commands)) }
+    ensures all { (p : Params) (commands : List Command) → Holds p (M.disk machine.old) engine.old commands → result ≡ Status.Done →
+        (M.disk machine.new).said ≡ (M.disk machine.old).said ++ dump_of p commands }
+    ensures keeps { KeepsFiles (M.disk machine.old) (M.disk machine.new) }
+    // No slot of the files that were opened is damaged.
+    ensures store { (M.disk machine.old).tells_files → IsAttached (M.disk machine.old) engine.old → (result ≢ Status.NotAStore) × (result ≢ Status.Damaged) }
+    ensures status { IsOfDump result }
+    ensures disk_fault { result ≡ Status.DiskFault → Rises (M.disk machine.old).disk_faults (M.disk machine.new).disk_faults }
+    ensures say_fault { result ≡ Status.SayFault → Rises (M.disk machine.old).say_faults (M.disk machine.new).say_faults }
+{
+    match table(alloc, engine, machine) {
+        Ok(table) => end_with(machine, table.as_slice(), Status::Done),
+        Err(Stop::Damaged { file, place }) => end_damaged(alloc, machine, file, place),
+        Err(stop) => stop.status(),
+    }
 }
 
 /// Opens the store and says its table. Where there is no store to open it says a line.
@@ -81,14 +141,8 @@ pub fn dump<M: Machine>(alloc: Global, machine: &mut M) -> Status
     ensures disk_fault { result ≡ Status.DiskFault → Rises (M.disk machine.old).disk_faults (M.disk machine.new).disk_faults }
     ensures say_fault { result ≡ Status.SayFault → Rises (M.disk machine.old).say_faults (M.disk machine.new).say_faults }
 {
-    match Engine::restart(alloc, machine) {
-        Ok(engine) => match table(alloc, &engine) {
-            Ok(table) => end_with(machine, table.as_slice(), Status::Done),
-            Err(Memory) => Status::Memory,
-        },
-        Err(RestartErr::NotAStore) => end_with(machine, b"not a store\n", Status::NotAStore),
-        Err(RestartErr::Damaged { file, place }) => end_damaged(alloc, machine, file, place),
-        Err(RestartErr::DiskFault) => Status::DiskFault,
-        Err(RestartErr::Memory) => Status::Memory,
+    match open_store(alloc, machine) {
+        Ok(mut engine) => dump_open(alloc, &mut engine, machine),
+        Err(status) => status,
     }
 }

@@ -4,8 +4,8 @@ ghost use Rattle.disk_model.specs.Disk.{Rises, Passes, LeavesOnly, IsSettled};
 ghost use Rattle.disk_model.specs.declared.machine.FileNo.TheVariants.{Objects};
 ghost use Rattle.formats.specs.Objects.{IsInRange};
 ghost use Rattle.formats.specs.Image.{BeginsStore};
-ghost use Rattle.store_engine.specs.Store.{Stands};
-ghost use Rattle.store_engine.specs.Engine.{InEachImage, IsNew};
+ghost use Rattle.store_engine.specs.Engine.{InEachImage};
+ghost use Rattle.redo_shell.specs.Store.{Stands, IsNew};
 ghost use Rattle.redo_shell.specs.Keeps.{KeepsFiles};
 ghost use Rattle.redo_shell.specs.Notices.{already_a_store};
 ghost use Rattle.redo_shell.specs.Status.{IsOfInit};
@@ -14,6 +14,7 @@ use crate::say::end_with;
 use crate::status::Status;
 use disk_model::Machine;
 use formats::Params;
+use op_codec::AllOps;
 use store_engine::{Engine, InitErr};
 
 /// Lays out a store without commands, and says a line where there is a store already.
@@ -32,7 +33,7 @@ pub fn init<M: Machine>(machine: &mut M, params: Params) -> Status
     ensures disk_fault { result ≡ Status.DiskFault → Rises (M.disk machine.old).disk_faults (M.disk machine.new).disk_faults }
     ensures say_fault { result ≡ Status.SayFault → Rises (M.disk machine.old).say_faults (M.disk machine.new).say_faults }
 {
-    match Engine::init(machine, params) {
+    match Engine::<AllOps>::init(machine, params) {
         Ok(()) => Status::Done,
         Err(InitErr::AlreadyStore) => {
             end_with(machine, b"already a store\n", Status::AlreadyStore)

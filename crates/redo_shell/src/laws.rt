@@ -5,7 +5,7 @@ ghost use Rattle.oper_core.specs.declared.refusal.Refusal.{Refusal as Why};
 ghost use Rattle.oper_core.specs.declared.refusal.Refusal.TheVariants.{NoObject};
 ghost use Rattle.script_lines.specs.Grammar.{AsksFor, IsBad, get, force, skip};
 ghost use Rattle.script_lines.specs.Replies.{Reply, bad, value, refused, forced, silence};
-ghost use Rattle.store_engine.specs.Store.{Command, refusal_after, state_of};
+ghost use Rattle.redo_shell.specs.Store.{Command, refusal_after, state_of};
 ghost use Rattle.redo_shell.specs.Replies.{AsksCommand, Replies};
 
 use script_lines::a_line_asks_one_thing;

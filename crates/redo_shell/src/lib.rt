@@ -3,8 +3,8 @@
 //! The one contract is that of [`top`]: run on files that stand for a list of commands, it says what a plain map would
 //! answer to the script, and whatever a crash leaves of the files at any moment stands for that list and a beginning of
 //! the commands that the script has added, no shorter than any number that was said to be forced. The crate stands on
-//! store_engine for the store, on script_lines for lines, answers and words, on op_codec and op_meaning for the operation that
-//! a line asks for, on formats for what files stand for, and on the machine and the source of disk_model.
+//! store_engine for the store, on script_lines for lines, answers and words, on op_codec and op_meaning for the operation
+//! that a line asks for, on formats for what files stand for, and on the machine and the source of disk_model.
 #![tactic(auto)]
 
 #[cfg(test)]
@@ -12,9 +12,11 @@ mod answer_rows;
 mod answers;
 mod damage;
 mod dump;
+mod fetching;
 mod init;
 mod laws;
 mod line;
+mod opening;
 mod program;
 mod run;
 mod say;

@@ -1,20 +1,22 @@
 // A line is answered.
-ghost use Rattle.std.specs.Prelude.{List, ℕ, IfErr};
+ghost use Rattle.std.specs.Prelude.{◌≡◌, false, List, ℕ, OnOk, IfErr};
 ghost use Rattle.disk_model.specs.Disk.{Passes};
 ghost use Rattle.formats.specs.declared.params.Params.{Params};
+ghost use Rattle.script_lines.specs.Grammar.{AsksFor, get};
 ghost use Rattle.script_lines.specs.Reading.{IsLine};
-ghost use Rattle.store_engine.specs.Store.{Command};
-ghost use Rattle.store_engine.specs.Engine.{Holds};
+ghost use Rattle.store_engine.specs.Engine.{IsAttached};
+ghost use Rattle.redo_shell.specs.Store.{Command, Holds};
 ghost use Rattle.redo_shell.specs.Replies.{AsksCommand};
-ghost use Rattle.redo_shell.specs.Run.{Answering, IsCaused};
+ghost use Rattle.redo_shell.specs.Run.{Answering, IsCaused, IsUndamaged};
 
-use crate::answers::{command_answer, force_answer, get_answer};
+use crate::answers::{command_answer, force_answer};
+use crate::fetching::fetched;
 use crate::say::say_answer;
 use crate::stop::Stop;
 use disk_model::Machine;
 use op_codec::AllOps;
 use op_meaning::{Append, Copy, Cut, Put, Sort, Swap};
-use oper_core::ByteList;
+use oper_core::{ByteList, Refusal};
 use script_lines::{Answer, Line, Next, hex_bytes, parse_line};
 use std::alloc::Global;
 use store_engine::Engine;
@@ -22,31 +24,61 @@ use store_engine::Engine;
 /// Runs the command that a line asks for, and says its answer. It tells whether the answer is a refusal.
 fn run_command<M: Machine>(
     alloc: Global,
-    engine: &mut Engine,
+    engine: &mut Engine<AllOps>,
     machine: &mut M,
     op: AllOps,
 ) -> Result<bool, Stop>
+    requires { engine.old.broken ≡ false }
     ensures time { Passes (M.disk machine.old) (M.disk machine.new) }
     ensures answers { (p : Params) (commands : List Command) (line : List ℕ) → Holds p (M.disk machine.old) engine.old commands → AsksCommand line op →
         Answering p (M.disk machine.old) (M.disk machine.new) engine.old engine.new commands line result }
     ensures cause { IfErr result (λ stop. IsCaused stop (M.disk machine.old) (M.disk machine.new)) }
+    ensures undamaged { (M.disk machine.old).tells_files → IsAttached (M.disk machine.old) engine.old → IfErr result IsUndamaged }
+    ensures attached { IsAttached (M.disk machine.old) engine.old → IsAttached (M.disk machine.new) engine.new }
+    ensures unbroken { OnOk result (engine.new.broken ≡ false) }
 {
     let answer = command_answer(engine, machine, op)?;
     say_answer(alloc, machine, &answer)
+}
+
+/// Answers the question for an object's value. It tells whether the answer is a refusal.
+fn say_value<M: Machine>(
+    alloc: Global,
+    engine: &mut Engine<AllOps>,
+    machine: &mut M,
+    object: u32,
+) -> Result<bool, Stop>
+    requires { engine.old.broken ≡ false }
+    ensures time { Passes (M.disk machine.old) (M.disk machine.new) }
+    ensures answers { (p : Params) (commands : List Command) (line : List ℕ) → Holds p (M.disk machine.old) engine.old commands → AsksFor line (get object) →
+        Answering p (M.disk machine.old) (M.disk machine.new) engine.old engine.new commands line result }
+    ensures cause { IfErr result (λ stop. IsCaused stop (M.disk machine.old) (M.disk machine.new)) }
+    ensures undamaged { (M.disk machine.old).tells_files → IsAttached (M.disk machine.old) engine.old → IfErr result IsUndamaged }
+    ensures attached { IsAttached (M.disk machine.old) engine.old → IsAttached (M.disk machine.new) engine.new }
+    ensures unbroken { OnOk result (engine.new.broken ≡ false) }
+{
+    if fetched(engine, machine, object)? {
+        return say_answer(alloc, machine, &Answer::Value(engine.get(object)));
+    }
+    say_answer(alloc, machine, &Answer::Refused(Refusal::NoObject))
 }
 
 /// Answers a line. It tells whether the answer is a refusal. Fails where the disk or the output does, and by want of
 /// memory.
 fn answer_line<M: Machine>(
     alloc: Global,
-    engine: &mut Engine,
+    engine: &mut Engine<AllOps>,
     machine: &mut M,
     line: &[u8],
 ) -> Result<bool, Stop>
+    requires { engine.old.broken ≡ false }
     ensures time { Passes (M.disk machine.old) (M.disk machine.new) }
     ensures answers { (p : Params) (commands : List Command) → Holds p (M.disk machine.old) engine.old commands →
         Answering p (M.disk machine.old) (M.disk machine.new) engine.old engine.new commands line.now result }
     ensures cause { IfErr result (λ stop. IsCaused stop (M.disk machine.old) (M.disk machine.new)) }
+    ensures undamaged { (M.disk machine.old).tells_files → IsAttached (M.disk machine.old) engine.old → IfErr result IsUndamaged }
+    ensures attached { IsAttached (M.disk machine.old) engine.old → IsAttached (M.disk machine.new) engine.new }
+    ensures unbroken { OnOk result (engine.new.broken ≡ false) }
 {
     let Ok(asked) = parse_line(line) else {
         return say_answer(alloc, machine, &Answer::Bad);
@@ -76,7 +108,7 @@ fn answer_line<M: Machine>(
         Line::Swap { first, second } => {
             run_command(alloc, engine, machine, AllOps::Swap(Swap { first, second }))
         }
-        Line::Get { object } => say_answer(alloc, machine, &get_answer(engine, object)),
+        Line::Get { object } => say_value(alloc, engine, machine, object),
         Line::Force => {
             let answer = force_answer(engine, machine)?;
             say_answer(alloc, machine, &answer)
@@ -88,15 +120,19 @@ fn answer_line<M: Machine>(
 /// Answers the line that a reader has found, whose bytes are these where it is not too long.
 pub fn answer_next<M: Machine>(
     alloc: Global,
-    engine: &mut Engine,
+    engine: &mut Engine<AllOps>,
     machine: &mut M,
     next: Next,
     bytes: &[u8],
 ) -> Result<bool, Stop>
+    requires { engine.old.broken ≡ false }
     ensures time { Passes (M.disk machine.old) (M.disk machine.new) }
     ensures answers { (p : Params) (commands : List Command) (line : List ℕ) → IsLine next bytes.now line → Holds p (M.disk machine.old) engine.old commands →
         Answering p (M.disk machine.old) (M.disk machine.new) engine.old engine.new commands line result }
     ensures cause { IfErr result (λ stop. IsCaused stop (M.disk machine.old) (M.disk machine.new)) }
+    ensures undamaged { (M.disk machine.old).tells_files → IsAttached (M.disk machine.old) engine.old → IfErr result IsUndamaged }
+    ensures attached { IsAttached (M.disk machine.old) engine.old → IsAttached (M.disk machine.new) engine.new }
+    ensures unbroken { OnOk result (engine.new.broken ≡ false) }
 {
     match next {
         Next::Line => answer_line(alloc, engine, machine, bytes),

@@ -1,5 +1,5 @@
 // A script is run on a store.
-ghost use Rattle.std.specs.Prelude.{◌≡◌, ◌≢◌, ◌^◌, ◌⊎◌, ◌++◌, ◌<◌, [], List, ℕ, length};
+ghost use Rattle.std.specs.Prelude.{◌≡◌, ◌≢◌, ◌^◌, ◌⊎◌, ◌++◌, ◌<◌, [], false, List, ℕ, length};
 ghost use Rattle.disk_model.specs.Disk.{Rises, Passes, LeavesOnly};
 ghost use Rattle.disk_model.specs.declared.machine.FileNo.{FileNo};
 ghost use Rattle.disk_model.specs.declared.machine.FileNo.TheVariants.{Objects};
@@ -9,20 +9,53 @@ ghost use Rattle.formats.specs.declared.params.Params.{Params};
 ghost use Rattle.op_codec.specs.AllOps.{all_meaning};
 ghost use Rattle.script_lines.specs.Grammar.{lines_of};
 ghost use Rattle.script_lines.specs.Reading.{Takes};
-ghost use Rattle.store_engine.specs.Store.{Command, IsWellFormed};
-ghost use Rattle.store_engine.specs.Engine.{Opens};
+ghost use Rattle.store_engine.specs.Engine.{IsAttached};
+ghost use Rattle.redo_shell.specs.Store.{Command, IsWellFormed, Opens, Holds};
 ghost use Rattle.redo_shell.specs.Answers.{Moment, SaysTruly};
 ghost use Rattle.redo_shell.specs.Notices.{not_a_store, damaged};
-ghost use Rattle.redo_shell.specs.Run.{IsComplete};
+ghost use Rattle.redo_shell.specs.Run.{IsRun, IsComplete};
 ghost use Rattle.redo_shell.specs.Status.{IsOfRun, IsOfStore};
 
 use crate::damage::end_damaged;
-use crate::say::end_with;
+use crate::opening::open_store;
 use crate::script::answer_script;
 use crate::status::{Status, status_after};
+use crate::stop::Stop;
 use disk_model::{Machine, Source};
+use op_codec::AllOps;
 use std::alloc::Global;
-use store_engine::{Engine, RestartErr};
+use store_engine::Engine;
+
+/// Answers the lines of a script on an open store, and forces the log at its end. Where a slot breaks its format it says
+/// a line.
+fn run_open<M: Machine, S: Source>(
+    alloc: Global,
+    engine: &mut Engine<AllOps>,
+    machine: &mut M,
+    input: &mut S,
+) -> Status
+    requires { engine.old.broken ≡ false }
+    ensures time { Passes (M.disk machine.old) (M.disk machine.new) }
+    ensures answers { (p : Params) (commands : List Command) → Holds p (M.disk machine.old) engine.old commands → engine.old.forced ≡ length commands → S.tells input.old →
+        IsRun p (M.disk machine.old) (M.disk machine.new) commands (lines_of (S.left input.old)) }
+    ensures complete { (p : Params) (commands : List Command) → Holds p (M.disk machine.old) engine.old commands → engine.old.forced ≡ length commands → S.tells input.old →
+        (result ≡ Status.Done) ⊎ (result ≡ Status.DoneWithRefusals) →
+        IsComplete p (M.disk machine.old) (M.disk machine.new) commands (lines_of (S.left input.old)) result }
+    ensures input { S.tells input.old → (result ≡ Status.Done) ⊎ (result ≡ Status.DoneWithRefusals) → (S.left input.new ≡ []) × (length (S.left input.old) < 2 ^ 40) }
+    // No slot of the files that were opened is damaged.
+    ensures store { (M.disk machine.old).tells_files → IsAttached (M.disk machine.old) engine.old → (result ≢ Status.NotAStore) × (result ≢ Status.Damaged) }
+    ensures status { IsOfRun result }
+    ensures disk_fault { result ≡ Status.DiskFault → Rises (M.disk machine.old).disk_faults (M.disk machine.new).disk_faults }
+    ensures read_fault { result ≡ Status.ReadFault → Rises (S.faults input.old) (S.faults input.new) }
+    ensures say_fault { result ≡ Status.SayFault → Rises (M.disk machine.old).say_faults (M.disk machine.new).say_faults }
+    ensures too_long { S.tells input.old → result ≡ Status.TooLong → Takes (S.left input.old) (S.left input.new) 0 (2 ^ 40) }
+{
+    let outcome = answer_script(alloc, engine, machine, input);
+    match outcome {
+        Err(Stop::Damaged { file, place }) => end_damaged(alloc, machine, file, place),
+        _ => status_after(outcome),
+    }
+}
 
 /// Opens the store, answers the lines of a script, and forces the log at its end. Where there is no store to open it
 /// says a line.
@@ -48,11 +81,8 @@ pub fn run<M: Machine, S: Source>(alloc: Global, machine: &mut M, input: &mut S)
     ensures say_fault { result ≡ Status.SayFault → Rises (M.disk machine.old).say_faults (M.disk machine.new).say_faults }
     ensures too_long { S.tells input.old → result ≡ Status.TooLong → Takes (S.left input.old) (S.left input.new) 0 (2 ^ 40) }
 {
-    match Engine::restart(alloc, machine) {
-        Ok(mut engine) => status_after(answer_script(alloc, &mut engine, machine, input)),
-        Err(RestartErr::NotAStore) => end_with(machine, b"not a store\n", Status::NotAStore),
-        Err(RestartErr::Damaged { file, place }) => end_damaged(alloc, machine, file, place),
-        Err(RestartErr::DiskFault) => Status::DiskFault,
-        Err(RestartErr::Memory) => Status::Memory,
+    match open_store(alloc, machine) {
+        Ok(mut engine) => run_open(alloc, &mut engine, machine, input),
+        Err(status) => status,
     }
 }

@@ -3,7 +3,7 @@ ghost use Rattle.std.specs.Prelude.{◌≡◌, ◌≢◌, ◌⊎◌, ◌++◌, O
 ghost use Rattle.disk_model.specs.Disk.{Rises, Runs, Same, SaysFront};
 ghost use Rattle.script_lines.specs.Replies.{reply_of, said_line};
 ghost use Rattle.redo_shell.specs.Replies.{is_refusing};
-ghost use Rattle.redo_shell.specs.Run.{IsCaused};
+ghost use Rattle.redo_shell.specs.Run.{IsCaused, IsUndamaged};
 
 use crate::status::Status;
 use crate::stop::Stop;
@@ -32,6 +32,7 @@ pub fn say_answer<M: Machine>(
     ensures all { (M.disk machine.old).tells_files → OnOk result ((M.disk machine.new).said ≡ (M.disk machine.old).said ++ said_line (reply_of answer.now)) }
     ensures kind { IfOk result (λ refusing. refusing ≡ is_refusing (reply_of answer.now)) }
     ensures cause { IfErr result (λ stop. IsCaused stop (M.disk machine.old) (M.disk machine.new)) }
+    ensures undamaged { IfErr result IsUndamaged }
 {
     let line = answer_line(alloc, answer)?;
     match machine.say(line.as_slice()) {

@@ -1,17 +1,18 @@
 // A script is answered, line by line.
-ghost use Rattle.std.specs.Prelude.{◌≡◌, ◌<◌, ◌^◌, [], List, ℕ, length, Ok, IfOk, IfErr, IsErrOf};
+ghost use Rattle.std.specs.Prelude.{◌≡◌, ◌<◌, ◌^◌, [], false, List, ℕ, length, Ok, IfOk, IfErr, IsErrOf};
 ghost use Rattle.disk_model.specs.Disk.{Passes};
 ghost use Rattle.formats.specs.declared.params.Params.{Params};
 ghost use Rattle.script_lines.specs.Grammar.{lines_of};
 ghost use Rattle.script_lines.specs.Reading.{Takes};
-ghost use Rattle.store_engine.specs.Store.{Command};
-ghost use Rattle.store_engine.specs.Engine.{Holds};
+ghost use Rattle.store_engine.specs.Engine.{IsAttached};
+ghost use Rattle.redo_shell.specs.Store.{Command, Holds};
 ghost use Rattle.redo_shell.specs.Status.{status_after};
-ghost use Rattle.redo_shell.specs.Run.{IsRun, IsComplete, IsStopped};
+ghost use Rattle.redo_shell.specs.Run.{IsRun, IsComplete, IsStopped, IsUndamaged};
 
 use crate::line::answer_next;
 use crate::stop::Stop;
 use disk_model::{Machine, Source};
+use op_codec::AllOps;
 use script_lines::{LineReader, Next};
 use std::alloc::Global;
 use store_engine::Engine;
@@ -19,10 +20,11 @@ use store_engine::Engine;
 /// Answers the lines of a script, and forces the log at its end. It tells whether some answer was a refusal.
 pub fn answer_script<M: Machine, S: Source>(
     alloc: Global,
-    engine: &mut Engine,
+    engine: &mut Engine<AllOps>,
     machine: &mut M,
     input: &mut S,
 ) -> Result<bool, Stop>
+    requires { engine.old.broken ≡ false }
     ensures time { Passes (M.disk machine.old) (M.disk machine.new) }
     ensures answers { (p : Params) (commands : List Command) → Holds p (M.disk machine.old) engine.old commands → engine.old.forced ≡ length commands → S.tells input.old →
         IsRun p (M.disk machine.old) (M.disk machine.new) commands (lines_of (S.left input.old)) }
@@ -30,6 +32,8 @@ pub fn answer_script<M: Machine, S: Source>(
         IfOk result (λ refusing. IsComplete p (M.disk machine.old) (M.disk machine.new) commands (lines_of (S.left input.old)) (status_after (Ok refusing))) }
     ensures input { S.tells input.old → IfOk result (λ _. (S.left input.new ≡ []) × (length (S.left input.old) < 2 ^ 40)) }
     ensures cause { IfErr result (λ stop. IsStopped stop (M.disk machine.old) (M.disk machine.new) (S.faults input.old) (S.faults input.new)) }
+    ensures undamaged { (M.disk machine.old).tells_files → IsAttached (M.disk machine.old) engine.old → IfErr result IsUndamaged }
+    ensures attached { IsAttached (M.disk machine.old) engine.old → IsAttached (M.disk machine.new) engine.new }
     ensures too_long { S.tells input.old → IsErrOf result Stop.TooLong → Takes (S.left input.old) (S.left input.new) 0 (2 ^ 40) }
 {
     let mut lines = LineReader::new(alloc)?;

@@ -3,6 +3,7 @@ ghost use Rattle.redo_shell.specs.Status.{status_of, stop_of_read};
 ghost use Rattle.redo_shell.specs.declared.stop.Stop.TheVariants.{DiskFault as DiskFailed, Memory as OutOfMemory};
 
 use crate::status::Status;
+use disk_model::FileNo;
 use oper_core::Memory;
 use script_lines::ReadError;
 use store_engine::ForceErr;
@@ -14,6 +15,9 @@ pub enum Stop {
     /// The disk failed.
     #[error("the disk failed")]
     DiskFault,
+    /// The slot that was read breaks its format, in this file at this place.
+    #[error("{file:?} is damaged at {place}")]
+    Damaged { file: FileNo, place: u64 },
     /// The input failed.
     #[error("the input failed")]
     ReadFault,
@@ -35,6 +39,7 @@ impl Stop {
     {
         match self {
             Stop::DiskFault => Status::DiskFault,
+            Stop::Damaged { .. } => Status::Damaged,
             Stop::ReadFault => Status::ReadFault,
             Stop::SayFault => Status::SayFault,
             Stop::Memory => Status::Memory,

@@ -1,5 +1,5 @@
 -- What the bytes that were read say of the file.
-use Rattle.std.proofs.Common.{◌≡◌, ◌≢◌, ◌<◌, ◌≤◌, ◌+◌, ◌-◌, ◌*◌, ◌/◌, ◌%◌, ℕ, List, [], ◌∷◌, ◌++◌, length, get_or, take, drop, replicate, refl, sym, ◌∙◌, ap, subst, arith, take-append-drop, length-take, length-drop}
+use Rattle.std.proofs.Common.{◌≡◌, ◌≢◌, ◌<◌, ◌≤◌, ◌+◌, ◌-◌, ◌*◌, ℕ, List, [], ◌∷◌, ◌++◌, length, get_or, take, drop, replicate, refl, sym, ◌∙◌, ap, subst, arith, take-append-drop, length-take, length-drop}
 use Rattle.std.specs.Prelude.{codes, Bool, true, false, not, IsTrue, ◌↔◌}
 use Rattle.std.specs.Str.{bytes_eq}
 use Rattle.std.proofs.lemmas.Slice.Eq.{bytes_eq-Decides}
@@ -9,12 +9,12 @@ use Rattle.byteorder.specs.Endian.{little_bytes, little_number}
 use Rattle.oper_core.specs.LittleEndian.{little_bytes-little_number}
 use Rattle.disk_model.specs.Disk.{Files, Disk, Stays, Rises, read_of}
 use Rattle.disk_model.specs.declared.machine.FileNo.TheVariants.{Objects}
-use Rattle.formats.specs.Bytes.{byte_at, number_at, IsOpenAt, IsShutAt}
-use Rattle.formats.specs.Objects.{IsInRange, IsObjectsFile, objects_fields, last_slot, slot_place}
-use Rattle.formats.specs.Image.{params_in, IsWithin, IsObjectsFault, magic, objects, cap, limit, cut, slot}
+use Rattle.formats.specs.Bytes.{byte_at, number_at, IsShutAt}
+use Rattle.formats.specs.Objects.{IsInRange, IsObjectsFile, objects_fields, last_slot}
+use Rattle.formats.specs.Image.{params_in, IsWithin, IsObjectsFault, magic, objects, cap, limit, cut, identifier, long, twice}
 use Rattle.formats.specs.declared.params.Params.{Params}
 use Rattle.stable_objects.specs.SlotGates.{slot_gate}
-use Rattle.stable_objects.specs.Reading.{filled_up, FailsBy, FailsAt, HasHeader, HasOpenSlot, IsHeaderFault, IsDamagedAt, IsDiskFault}
+use Rattle.stable_objects.specs.Reading.{filled_up, FailsBy, FailsAt, HasHeader, IsHeaderFault, IsDamagedAt, IsNoDamage, fails_on}
 use Rattle.stable_objects.specs.Laws.{length-objects_fields, params_of_header, gate_is_open, no_fault}
 use Rattle.stable_objects.specs.declared.slot_err.SlotErr.{SlotErr}
 use Rattle.stable_objects.specs.declared.slot_err.SlotErr.TheVariants.{NotAStore, DiskFault, Damaged, Memory}
@@ -39,10 +39,10 @@ params_read file =
 -- where the file has the magic, so has what was read
 magic_read : (file : List ℕ) → take 8 (drop 1 file) ≡ codes "RDOOBJ01" → take 8 (drop 1 (filled_up 21 (read_of file 0 21))) ≡ codes "RDOOBJ01"
 magic_read file is =
-    let long : 9 ≤ length file = omega (arith, ap length is, length-take 8 (drop 1 file), length-drop 1 file) in
+    let nine_there : 9 ≤ length file = omega (arith, ap length is, length-take 8 (drop 1 file), length-drop 1 file) in
     let head = filled_up 21 (read_of file 0 21) in
     let nine : take 9 head ≡ take 9 file =
-    take-append-le 9 (take 21 file) (replicate (21 - length (take 21 file)) 0) (omega (arith, long, length-take 21 file)) ∙ take-take 9 21 file (omega arith) in
+    take-append-le 9 (take 21 file) (replicate (21 - length (take 21 file)) 0) (omega (arith, nine_there, length-take 21 file)) ∙ take-take 9 21 file (omega arith) in
     sym (drop-take 1 8 head) ∙ ap (λ (l : List ℕ). drop 1 l) nine ∙ drop-take 1 8 file ∙ is
 
 -- a fault that the header shows is one of the file
@@ -53,7 +53,9 @@ fault_read file place some within (cap wrong) = cap (subst (λ (n : ℕ). IsWith
 fault_read file place some within (limit wrong) =
     limit (subst (λ (q : Params). IsWithin (2 * q.cap + 4096) 536870912 q.limit → ⊥) (params_read file) wrong)
 fault_read file place some within (cut in_range short) = absurd (omega (arith, some))
-fault_read file place some within (slot x s in_range below two is_open) = absurd (omega (arith, within))
+fault_read file place some within (identifier x s in_range slot wrong) = absurd (omega (arith, within))
+fault_read file place some within (long x s in_range slot wrong) = absurd (omega (arith, within))
+fault_read file place some within (twice x in_range first second same) = absurd (omega (arith, within))
 
 pub damaged_read : (file head : List ℕ) (place : ℕ) → head ≡ filled_up 21 (read_of file 0 21) → IsHeaderFault head place → IsDamagedAt file place
 damaged_read file head place is fault =
@@ -68,12 +70,12 @@ shut_read file head is shut is_open = shut (ap (λ (l : List ℕ). get_or l 0 0)
 
 -- a number read from the rest of a header
 pub number_slice : (head : List ℕ) (at : ℕ) → length head ≡ 21 → at + 4 ≤ 21 → little_number 4 (take (length head - at) (drop at head)) ≡ number_at 4 at head
-number_slice head at long within = little_from-take 0 4 (length head - at) (drop at head) (omega (arith, long))
+number_slice head at whole within = little_from-take 0 4 (length head - at) (drop at head) (omega (arith, whole))
 
 -- what the bytes of a header are, from the last number to the first
 header_bytes : (head : List ℕ) → length head ≡ 21 → get_or head 0 0 ≡ 1 → take 8 (drop 1 head) ≡ codes "RDOOBJ01" → ((i : ℕ) → get_or head i 0 < 256) → head ≡ 1 ∷ objects_fields (params_in head)
-header_bytes [] long first name small = absurd (omega arith)
-header_bytes (gate ∷ rest) long first name small =
+header_bytes [] whole first name small = absurd (omega arith)
+header_bytes (gate ∷ rest) whole first name small =
     let head : List ℕ = gate ∷ rest in
     let p = params_in head in
     let number : (at : ℕ) → at + 4 ≤ 21 → take 4 (drop at head) ≡ little_bytes 4 (number_at 4 at head) =
@@ -90,9 +92,9 @@ header_bytes (gate ∷ rest) long first name small =
 
 pub header_fields : (head : List ℕ) (p : Params) → length head ≡ 21 → get_or head 0 0 ≡ 1 → take 8 (drop 1 head) ≡ codes "RDOOBJ01" → ((i : ℕ) → get_or head i 0 < 256)
     → p.objects ≡ number_at 4 9 head → p.cap ≡ number_at 4 13 head → p.limit ≡ number_at 4 17 head → head ≡ 1 ∷ objects_fields p
-header_fields head p long first name small first_number second_number third_number =
+header_fields head p whole first name small first_number second_number third_number =
     let same : params_in head ≡ p = λ i. record { objects = sym first_number i; cap = sym second_number i; limit = sym third_number i } in
-    header_bytes head long first name small ∙ ap (λ (q : Params). 1 ∷ objects_fields q) same
+    header_bytes head whole first name small ∙ ap (λ (q : Params). 1 ∷ objects_fields q) same
 
 -- what a test of two lists says
 pub differ : (xs ys : List ℕ) (b : Bool) → b ≡ not (bytes_eq xs ys) → b ≡ true → xs ≢ ys
@@ -132,38 +134,18 @@ cut_short p file head is in_range fields short =
 pub last_gate : (p : Params) → IsInRange p → slot_gate p.cap (2 * p.objects - 1) ≡ last_slot p
 last_gate p in_range = let same : 2 * p.objects - 1 ≡ 2 * (p.objects - 1) + 1 = omega (arith, in_range.some) in ap (λ (k : ℕ). slot_gate p.cap k) same
 
--- a slot is open
-pub open_slot : (p : Params) (file : List ℕ) (place : ℕ) → HasHeader p file → HasOpenSlot p file place → IsDamagedAt file place
-open_slot p file place head is =
-    let same : p ≡ params_in file = sym (params_of_header p file head.header head.in_range) in
-    let here : HasOpenSlot (params_in file) file place = subst (λ (q : Params). HasOpenSlot q file place) same is in
-    let k = here.slot in
-    let halves : k ≡ 2 * (k / 2) + k % 2 = omega arith in
-    let spot : place ≡ slot_place (number_at 4 13 file) (k / 2) (k % 2) = here.here ∙ ap (λ (j : ℕ). slot_gate (number_at 4 13 file) j) halves in
-    record {
-      gate = sym (get_or-take 21 file 0 0 (omega arith)) ∙ ap (λ (l : List ℕ). get_or l 0 0) head.header;
-      fault = subst (λ (n : ℕ). IsObjectsFault file n) (sym spot)
-          (slot (k / 2) (k % 2) (subst IsInRange same head.in_range) (omega (arith, here.below)) (omega arith) (subst (λ (n : ℕ). IsOpenAt n file) spot here.open_gate));
-    }
-
--- an open slot, or a fault, that was met behind the header
-pub behind_header : (old mid new : Disk) (p : Params) (e : SlotErr) → Stays old mid → (old.tells_files → HasHeader p (old.reads Objects))
-    → FailsBy (Rises mid.disk_faults new.disk_faults) ⊥ (FailsAt (λ place. mid.tells_files → HasOpenSlot p (mid.reads Objects) place)) e
-    → FailsBy (Rises old.disk_faults new.disk_faults) (old.tells_files → IsShutAt 0 (old.reads Objects)) (FailsAt (λ place. old.tells_files → IsDamagedAt (old.reads Objects) place)) e
-behind_header old mid new p NotAStore stays header fails = absurd fails
-behind_header old mid new p DiskFault stays header fails = λ below. omega (arith, fails below, stays.time.disk_faults)
-behind_header old mid new p (Damaged number place) stays header fails = (
-  fails.0,
-  λ told.
-      let met : HasOpenSlot p (old.reads Objects) place = subst (λ (f : Files). HasOpenSlot p (f Objects) place) (stays.reads told) (fails.1 (stays.time.files_told.0 told)) in
-      open_slot p (old.reads Objects) place (header told) met,
-)
-behind_header old mid new p Memory stays header fails = fails
-
--- over a whole file, only the disk fails
+-- over a whole file, only the disk or the memory fails
 pub only_the_disk : (rises told : Type 0) (file : List ℕ) (p : Params) (e : SlotErr) → told → IsObjectsFile p file
-    → FailsBy rises (told → IsShutAt 0 file) (FailsAt (λ place. told → IsDamagedAt file place)) e → IsDiskFault e
-only_the_disk rises told file p NotAStore is_told is fails = absurd (fails is_told (gate_is_open p file is))
-only_the_disk rises told file p DiskFault is_told is fails = refl
-only_the_disk rises told file p (Damaged number place) is_told is fails = absurd (no_fault p file place is (fails.1 is_told).fault)
-only_the_disk rises told file p Memory is_told is fails = absurd fails
+    → FailsBy rises (told → IsShutAt 0 file) (FailsAt (λ place. told → IsDamagedAt file place)) e → IsNoDamage e
+only_the_disk rises told file p NotAStore is_told is fails = fails is_told (gate_is_open p file is)
+only_the_disk rises told file p DiskFault is_told is fails = tt
+only_the_disk rises told file p (Damaged number place) is_told is fails = no_fault p file place is (fails.1 is_told).fault
+only_the_disk rises told file p Memory is_told is fails = tt
+
+-- why a call failed behind calls that changed nothing, for a caller who knows more of the fault
+pub moved : (old mid new : Disk) (shut shut' : Type 0) (P Q : List ℕ → ℕ → Type 0) (e : SlotErr) → Stays old mid → (shut → shut') → (old.tells_files → (place : ℕ) → P (old.reads Objects) place → Q (old.reads Objects) place)
+    → FailsBy (Rises mid.disk_faults new.disk_faults) shut (FailsAt (λ place. mid.tells_files → P (mid.reads Objects) place)) e
+    → FailsBy (Rises old.disk_faults new.disk_faults) shut' (FailsAt (λ place. old.tells_files → Q (old.reads Objects) place)) e
+moved old mid new shut shut' P Q e stays closed more fails = fails_on _ _ shut shut' _ _ e (λ risen below. let rose = risen below in omega (arith, rose, stays.time.disk_faults)) closed
+    (λ file place there. (there.0, λ told. more told place (subst (λ (f : Files). P (f Objects) place) (stays.reads told) (there.1 (stays.time.files_told.0 told)))))
+    fails

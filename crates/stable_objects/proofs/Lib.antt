@@ -1,3 +1,12 @@
 pub mod Bytes
 pub mod Found
+pub mod HeadBytes
+pub mod Late
 pub mod Made
+pub mod ValueBytes
+pub mod Outside
+pub mod Put
+pub mod Places
+pub mod Cells
+pub mod Changed
+pub mod Replaced

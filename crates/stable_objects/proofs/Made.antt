@@ -6,10 +6,10 @@ use Rattle.disk_model.specs.Disk.{Files, Disk, Runs, Stays, Same, In, Torn, Hold
 use Rattle.disk_model.specs.Moments.{runs_twice, runs_wider, runs_join, runs_then_stays, stays_settled, settled_again, from_reads, first_call, goes_on}
 use Rattle.disk_model.specs.declared.machine.FileNo.TheVariants.{Objects}
 use Rattle.formats.specs.Bytes.{byte_at, IsShutAt}
-use Rattle.formats.specs.Objects.{IsInRange, IsObjectsFile, objects_fields, slot_place}
+use Rattle.formats.specs.Objects.{IsInRange, AreSlotsShut, objects_fields, slot_place}
 use Rattle.formats.specs.declared.params.Params.{Params}
 use Rattle.stable_objects.specs.SlotGates.{slot_gate}
-use Rattle.stable_objects.specs.Making.{KeepsGate, HasShutSlots, IsPrepared, IsShut, IsShutOrWhole}
+use Rattle.stable_objects.specs.Making.{KeepsGate, HasShutSlots, IsPrepared, IsShut, IsNewFile, IsShutOrWhole}
 use Rattle.stable_objects.specs.Laws.{length-objects_fields}
 use Rattle.stable_objects.proofs.Bytes.{written_long, byte_before, byte_after, byte_written, written_read, held_first, torn_first, byte_behind}
 
@@ -84,16 +84,24 @@ header_written p old new shut holds = subst (λ (l : List ℕ). IsPrepared p l) 
 })
 
 -- with the gate open, the whole file
-pub opened : (p : Params) (old new : List ℕ) → IsInRange p → IsPrepared p old → new ≡ 1 ∷ drop 1 old → IsObjectsFile p new
-opened p old new in_range prepared is = subst (λ (l : List ℕ). IsObjectsFile p l) (sym is) (record {
-  header = ap (λ (l : List ℕ). 1 ∷ l) prepared.fields;
-  in_range = in_range;
-  whole = omega (arith, length-drop 1 old, prepared.slots.whole);
-  slots = λ x s below two is_open. prepared.slots.slots x s below two (sym (byte_behind 1 old (slot_place p.cap x s) (omega arith)) ∙ is_open);
-})
+pub opened : (p : Params) (old new : List ℕ) → IsInRange p → IsPrepared p old → new ≡ 1 ∷ drop 1 old → IsNewFile p new
+opened p old new in_range prepared is = subst (λ (l : List ℕ). IsNewFile p l) (sym is) (
+    let shut : AreSlotsShut p (1 ∷ drop 1 old) = λ x s below two is_open. prepared.slots.slots x s below two (sym (byte_behind 1 old (slot_place p.cap x s) (omega arith)) ∙ is_open) in
+    record {
+      whole = record {
+        header = ap (λ (l : List ℕ). 1 ∷ l) prepared.fields;
+        in_range = in_range;
+        whole = omega (arith, length-drop 1 old, prepared.slots.whole);
+        slots = record {
+          each = λ x s below two is_open. absurd (shut x s below two is_open);
+          apart = λ x below first second same. shut x 0 below (omega arith) first;
+        };
+      };
+      shut = shut;
+    })
 
 -- whatever the gate is
-pub shut_or_whole : (p : Params) (old new : List ℕ) → IsInRange p → IsPrepared p old → Torn 0 1 old new → IsShutAt 0 new ⊎ IsObjectsFile p new
+pub shut_or_whole : (p : Params) (old new : List ℕ) → IsInRange p → IsPrepared p old → Torn 0 1 old new → IsShutAt 0 new ⊎ IsNewFile p new
 shut_or_whole p old new in_range prepared torn =
     let is = torn_first old new (omega (arith, prepared.slots.whole)) torn in
     elim (cases_eq (get_or new 0 0) 1) [

@@ -6,7 +6,7 @@ use Rattle.byteorder.specs.Endian.{little_bytes, little_number}
 use Rattle.oper_core.specs.LittleEndian.{length-little_bytes, little_number-little_bytes}
 use Rattle.formats.specs.Bytes.{number_at, IsOpenAt}
 use Rattle.formats.specs.Objects.{IsInRange, IsObjectsFile, objects_fields}
-use Rattle.formats.specs.Image.{BeginsStore, params_in, IsObjectsFault, magic, objects, cap, limit, cut, slot}
+use Rattle.formats.specs.Image.{BeginsStore, params_in, IsObjectsFault, magic, objects, cap, limit, cut, identifier, long, twice}
 use Rattle.formats.specs.declared.params.Params.{Params}
 
 -- the fields of a header are 20 bytes
@@ -90,7 +90,10 @@ nowhere file place is (objects wrong) = wrong (is.in_range.some, is.in_range.obj
 nowhere file place is (cap wrong) = wrong (is.in_range.low, is.in_range.cap)
 nowhere file place is (limit wrong) = wrong (is.in_range.least, is.in_range.limit)
 nowhere file place is (cut in_range short) = omega (arith, short, is.whole)
-nowhere file place is (slot x s in_range below two open_gate) = is.slots x s below two open_gate
+nowhere file place is (identifier x s in_range slot wrong) =
+    let whole = is.slots.each x s slot.below slot.two slot.open_gate in wrong (whole.some, omega (arith, whole.numbered))
+nowhere file place is (long x s in_range slot wrong) = let whole = is.slots.each x s slot.below slot.two slot.open_gate in wrong whole.short whole.within
+nowhere file place is (twice x in_range first second same) = is.slots.apart x first.below first.open_gate second.open_gate same
 
 -- an objects file breaks its format nowhere
 pub no_fault : (p : Params) (file : List ℕ) (place : ℕ) → IsObjectsFile p file → IsObjectsFault file place → ⊥

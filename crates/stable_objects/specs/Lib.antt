@@ -1,5 +1,8 @@
 pub mod SlotGates
 pub mod SlotsView
+pub mod Heads
 pub mod Reading
 pub mod Making
 pub mod Laws
+pub mod SlotLaws
+pub mod Replacing

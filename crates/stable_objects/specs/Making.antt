@@ -30,8 +30,13 @@ pub record IsPrepared (p : Params) (file : List ℕ) : Type 0 where
   pub fields : read_of file 1 20 ≡ objects_fields p
   pub slots : HasShutSlots p file
 
--- The objects gate is closed, or the objects file is whole. The other files are as they were, and nothing was said.
+-- a new store's objects file: it is whole, and every slot is closed
+pub record IsNewFile (p : Params) (file : List ℕ) : Type 0 where
+  pub whole : IsObjectsFile p file
+  pub shut : AreSlotsShut p file
+
+-- The objects gate is closed, or the objects file is that of a new store. The other files are as they were, and nothing was said.
 pub record IsShutOrWhole (old : Disk) (p : Params) (files : Files) (bytes : List ℕ) : Type 0 where
-  pub objects : IsShutAt 0 (files Objects) ⊎ IsObjectsFile p (files Objects)
+  pub objects : IsShutAt 0 (files Objects) ⊎ IsNewFile p (files Objects)
   pub others : OthersStay Objects old.reads files
   pub silent : bytes ≡ old.said

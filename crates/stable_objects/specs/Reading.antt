@@ -1,30 +1,31 @@
 -- What a reader of the objects file finds, and why it fails.
-use Rattle.std.specs.Prelude.{◌≡◌, ◌<◌, ◌-◌, ◌*◌, ℕ, List, ◌∷◌, ◌++◌, length, take, replicate}
+use Rattle.std.specs.Prelude.{◌≡◌, ◌<◌, ◌≤◌, ◌+◌, ◌-◌, ⊤, ℕ, List, ◌∷◌, ◌++◌, length, take, replicate}
 use Rattle.disk_model.specs.declared.machine.FileNo.{FileNo}
 use Rattle.disk_model.specs.declared.machine.FileNo.TheVariants.{Objects}
 use Rattle.formats.specs.Bytes.{IsOpenAt}
-use Rattle.formats.specs.Objects.{IsInRange, last_slot, objects_fields}
+use Rattle.formats.specs.Objects.{IsInRange, last_slot, objects_fields, length_at}
 use Rattle.formats.specs.Image.{IsObjectsFault}
 use Rattle.formats.specs.declared.params.Params.{Params}
-use Rattle.stable_objects.specs.SlotGates.{slot_gate}
 use Rattle.stable_objects.specs.declared.slot_err.SlotErr.{SlotErr}
 use Rattle.stable_objects.specs.declared.slot_err.SlotErr.TheVariants.{NotAStore, DiskFault, Damaged, Memory}
 
--- Why loading fails: by a fault of the disk, which then counts it, since the objects gate is closed, or by a fault in
--- the file. It takes no memory.
+-- Why a call that reads fails: by a fault of the disk, which then counts it, since the objects gate is closed, by a
+-- fault in the file, or for want of memory.
 abbrev pub FailsBy : Type 0 → Type 0 → (FileNo → ℕ → Type 0) → SlotErr → Type 0
 FailsBy rises shut fault NotAStore = shut
 FailsBy rises shut fault DiskFault = rises
 FailsBy rises shut fault (Damaged file place) = fault file place
-FailsBy rises shut fault Memory = ⊥
+FailsBy rises shut fault Memory = ⊤
 
 -- a fault in the objects file
 abbrev pub FailsAt : (ℕ → Type 0) → FileNo → ℕ → Type 0
 FailsAt fault file place = (file ≡ Objects) × fault place
 
--- the disk failed
-abbrev pub IsDiskFault : SlotErr → Type 0
-IsDiskFault e = e ≡ DiskFault
+-- it is neither no store nor damaged: the disk failed, or memory was refused
+abbrev pub IsNoDamage : SlotErr → Type 0
+IsNoDamage NotAStore = ⊥
+IsNoDamage (Damaged file place) = ⊥
+IsNoDamage e = ⊤
 
 -- the objects gate is open, and the file breaks its format at this place
 pub record IsDamagedAt (file : List ℕ) (place : ℕ) : Type 0 where
@@ -43,12 +44,10 @@ pub record HasHeader (p : Params) (file : List ℕ) : Type 0 where
   pub in_range : IsInRange p
   pub whole : last_slot p < length file
 
--- this is the place of a slot gate, and it is open
-pub record HasOpenSlot (p : Params) (file : List ℕ) (place : ℕ) : Type 0 where
-  pub slot : ℕ
-  pub below : slot < 2 * p.objects
-  pub here : place ≡ slot_gate p.cap slot
-  pub open_gate : IsOpenAt place file
+-- the place behind a slot's identifier, where its length stands; the value is longer than CAP, or not within the file
+pub record IsLongValue (cap place : ℕ) (file : List ℕ) (at : ℕ) : Type 0 where
+  pub here : at ≡ place + 9
+  pub long : length_at place file ≤ cap → (0 < length_at place file → place + 13 + length_at place file ≤ length file) → ⊥
 
 -- n bytes of which these are the first, the others 0
 abbrev pub filled_up : ℕ → List ℕ → List ℕ

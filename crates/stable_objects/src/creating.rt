@@ -2,8 +2,8 @@
 ghost use Rattle.std.specs.Prelude.{◌≡◌, OnOk, IsErr};
 ghost use Rattle.disk_model.specs.Disk.{Rises, Runs, In, Any, Same, IsSettled, LeavesOnly};
 ghost use Rattle.disk_model.specs.declared.machine.FileNo.TheVariants.{Objects};
-ghost use Rattle.formats.specs.Objects.{IsInRange, IsObjectsFile, objects_fields};
-ghost use Rattle.stable_objects.specs.Making.{params_with, KeepsGate, HasShutSlots, IsPrepared, IsShut, IsShutOrWhole};
+ghost use Rattle.formats.specs.Objects.{IsInRange, objects_fields};
+ghost use Rattle.stable_objects.specs.Making.{params_with, KeepsGate, HasShutSlots, IsPrepared, IsShut, IsNewFile, IsShutOrWhole};
 
 use crate::Slots;
 use crate::layout::{CLOSED, MAGIC, MAGIC_PLACE, OPEN, gate_place};
@@ -57,7 +57,7 @@ impl Slots {
     pub fn create<M: Machine>(machine: &mut M, bounds: Bounds, limit: u32) -> Result<(), Failed>
         requires { IsInRange (params_with bounds limit) }
         ensures runs { Runs (In Objects Any) Same (M.disk machine.old) (M.disk machine.new) }
-        ensures made { (M.disk machine.old).tells_files → OnOk result (IsObjectsFile (params_with bounds limit) ((M.disk machine.new).reads Objects)) }
+        ensures made { (M.disk machine.old).tells_files → OnOk result (IsNewFile (params_with bounds limit) ((M.disk machine.new).reads Objects)) }
         ensures settled { IsSettled (M.disk machine.old) → OnOk result (IsSettled (M.disk machine.new)) }
 
         // A crash at any moment of the call leaves the gate closed, or the whole file.

@@ -1,5 +1,6 @@
 // Where things stand in the objects file.
-ghost use Rattle.std.specs.Prelude.{◌≡◌, ◌≤◌};
+ghost use Rattle.std.specs.Prelude.{◌≡◌, ◌≤◌, ◌<◌};
+ghost use Rattle.formats.specs.Objects.{slot_place};
 ghost use Rattle.stable_objects.specs.SlotGates.{slot_gate};
 
 pub const OPEN: u8 = 1;
@@ -24,6 +25,9 @@ pub const FIRST_SLOT: u64 = 32;
 // A slot's gate, its identifier and its length.
 pub const SLOT_HEAD_BYTES: u64 = 13;
 
+// The greatest number that a record may have.
+pub const LAST_NUMBER: u64 = (1 << 62) - 1;
+
 pub const MAX_OBJECTS: u32 = 4096;
 
 pub const MIN_CAP: u32 = 16;
@@ -42,4 +46,14 @@ pub fn gate_place(cap: u32, slot: u32) -> u64
     ensures { result ≡ slot_gate cap slot }
 {
     FIRST_SLOT + slot as u64 * (SLOT_HEAD_BYTES + cap as u64)
+}
+
+/// The place of the gate of slot 0 or 1 of an object.
+pub fn place_of(cap: u32, object: u32, slot: u32) -> u64
+    requires cap { cap ≤ 16384 }
+    requires object { object < 4096 }
+    requires slot { slot < 2 }
+    ensures { result ≡ slot_place cap object slot }
+{
+    gate_place(cap, 2 * object + slot)
 }

@@ -1,20 +1,26 @@
 //! The objects file: a header, and two slots for each object.
 //!
-//! The one contract is [`Slots::create`]: a crash at any moment of it leaves the objects gate closed or the whole file of
-//! a new store. The crate stands on disk_model, whose machines it reads and writes, and on formats, which says what the
-//! bytes of the file are.
+//! An object's identifier and value stand in one of its slots; a new pair goes into the other, whose gate is opened
+//! last. So the one contract is that of `Slots::replace`: a crash at any moment of it leaves the old pair or the new one.
+//! The crate stands on disk_model, whose machines it reads and writes, and on formats, which says what the bytes of the
+//! file are.
 #![tactic(auto)]
 
 mod creating;
+mod heads;
 mod layout;
 mod loading;
 mod opening;
 mod reading;
+mod replacing;
 mod slot_err;
 mod slots;
+mod value;
 
 pub use slot_err::SlotErr;
 pub use slots::Slots;
 
+#[cfg(test)]
+mod replacing_tests;
 #[cfg(test)]
 mod tests;

@@ -1,22 +1,25 @@
-// Reads and checks the header and the slot gates.
-ghost use Rattle.std.specs.Prelude.{◌≡◌, ◌∷◌, ◌<◌, length, OnOk, IfOk, IfErr};
+// Reads and checks the header, and loads the slots.
+ghost use Rattle.std.specs.Prelude.{◌≡◌, ◌∷◌, ◌<◌, length, IfOk, IfErr};
 ghost use Rattle.disk_model.specs.Disk.{Rises, Stays};
 ghost use Rattle.disk_model.specs.declared.machine.FileNo.TheVariants.{Objects};
 ghost use Rattle.formats.specs.Bytes.{IsShutAt};
-ghost use Rattle.formats.specs.Image.{IsObjectsFault};
-ghost use Rattle.formats.specs.Objects.{IsInRange, IsObjectsFile, AreSlotsShut, objects_fields};
+ghost use Rattle.formats.specs.Objects.{IsInRange, IsObjectsFile, objects_fields};
 ghost use Rattle.formats.specs.declared.params.Params.{Params as Numbers};
-ghost use Rattle.stable_objects.specs.Reading.{FailsBy, FailsAt, HasHeader, HasOpenSlot, IsHeaderFault, IsDamagedAt, IsDiskFault};
+ghost use Rattle.stable_objects.specs.SlotsView.{AreOf};
+ghost use Rattle.stable_objects.specs.Reading.{FailsBy, FailsAt, HasHeader, IsHeaderFault, IsDamagedAt, IsNoDamage};
 
+use crate::heads::read_heads;
 use crate::layout::{
     CAP_PLACE, HEADER_BYTES, LEAST_ROOM, LIMIT_PLACE, MAGIC, MAGIC_PLACE, MAX_CAP, MAX_LIMIT,
     MAX_OBJECTS, MIN_CAP, OBJECTS_PLACE, OPEN, gate_place,
 };
-use crate::reading::{is_open, read_at};
+use crate::reading::read_at;
+use crate::slot_err::damaged_at;
 use crate::{SlotErr, Slots};
 use byteorder::{ByteOrder, LittleEndian};
 use disk_model::{FileNo, Machine};
 use formats::Params;
+use std::alloc::Global;
 
 // What the bytes of a header say.
 fn parse_header(head: &[u8]) -> Result<Params, SlotErr>
@@ -24,31 +27,23 @@ fn parse_header(head: &[u8]) -> Result<Params, SlotErr>
     ensures ok { IfOk result (λ p. IsInRange p × (head.now ≡ 1 ∷ objects_fields p)) }
     ensures cause { IfErr result (FailsBy ⊥ (IsShutAt 0 head.now) (FailsAt (IsHeaderFault head.now))) }
 {
-    let damaged_at = |place: u64| -> Result<Params, SlotErr>
-        ensures { result ≡ Err (SlotErr.Damaged Objects place) }
-    {
-        Err(SlotErr::Damaged {
-            file: FileNo::Objects,
-            place,
-        })
-    };
     if head[0] != OPEN {
         return Err(SlotErr::NotAStore);
     }
     if head[1..9] != MAGIC[..] {
-        return damaged_at(MAGIC_PLACE);
+        return Err(damaged_at(MAGIC_PLACE));
     }
     let objects = LittleEndian::read_u32(&head[9..]);
     if objects == 0 || objects > MAX_OBJECTS {
-        return damaged_at(OBJECTS_PLACE);
+        return Err(damaged_at(OBJECTS_PLACE));
     }
     let cap = LittleEndian::read_u32(&head[13..]);
     if cap < MIN_CAP || cap > MAX_CAP {
-        return damaged_at(CAP_PLACE);
+        return Err(damaged_at(CAP_PLACE));
     }
     let limit = LittleEndian::read_u32(&head[17..]);
     if limit < 2 * cap + LEAST_ROOM || limit > MAX_LIMIT {
-        return damaged_at(LIMIT_PLACE);
+        return Err(damaged_at(LIMIT_PLACE));
     }
     Ok(Params {
         objects,
@@ -71,50 +66,27 @@ fn read_header<M: Machine>(machine: &mut M) -> Result<Params, SlotErr>
     let params = parse_header(&head)?;
     let size = machine.size(FileNo::Objects)?;
     if size <= gate_place(params.cap, 2 * params.objects - 1) {
-        return Err(SlotErr::Damaged {
-            file: FileNo::Objects,
-            place: 0,
-        });
+        return Err(damaged_at(0));
     }
     Ok(params)
 }
 
-// Sees that every slot gate is closed.
-fn see_shut<M: Machine>(machine: &mut M, params: Params) -> Result<(), SlotErr>
-    requires { IsInRange params }
-    ensures kept { Stays (M.disk machine.old) (M.disk machine.new) }
-    ensures shut { (M.disk machine.old).tells_files → OnOk result (AreSlotsShut params ((M.disk machine.old).reads Objects)) }
-    ensures cause { IfErr result (FailsBy (Rises (M.disk machine.old).disk_faults (M.disk machine.new).disk_faults) ⊥
-        (FailsAt (λ place. (M.disk machine.old).tells_files → HasOpenSlot params ((M.disk machine.old).reads Objects) place))) }
-{
-    for slot in 0..2 * params.objects {
-        let place = gate_place(params.cap, slot);
-        if is_open(machine, place)? {
-            return Err(SlotErr::Damaged {
-                file: FileNo::Objects,
-                place,
-            });
-        }
-    }
-    Ok(())
-}
-
 impl Slots {
-    /// The slots of the store in the objects file.
+    /// The slots of the store in the objects file. The head of each slot is read once.
     ///
-    /// It answers `NotAStore` where the objects gate is not open, `Damaged` where the file breaks its format or a slot
-    /// is open, and `DiskFault` where the device fails. It takes no memory, so `Memory` never comes.
-    pub fn load<M: Machine>(machine: &mut M) -> Result<Slots, SlotErr>
+    /// It answers `NotAStore` where the objects gate is not open, `Damaged` where the file breaks its format,
+    /// `DiskFault` where the device fails, and `Memory`.
+    pub fn load<M: Machine>(alloc: Global, machine: &mut M) -> Result<Slots, SlotErr>
         ensures kept { Stays (M.disk machine.old) (M.disk machine.new) }
-        ensures in_range { IfOk result (λ s. IsInRange s.params) }
-        ensures read { (M.disk machine.old).tells_files → IfOk result (λ s. IsObjectsFile s.params ((M.disk machine.old).reads Objects)) }
+        ensures read { (M.disk machine.old).tells_files → IfOk result (λ s. AreOf s ((M.disk machine.old).reads Objects)) }
         ensures cause { IfErr result (FailsBy (Rises (M.disk machine.old).disk_faults (M.disk machine.new).disk_faults)
             ((M.disk machine.old).tells_files → IsShutAt 0 ((M.disk machine.old).reads Objects))
             (FailsAt (λ place. (M.disk machine.old).tells_files → IsDamagedAt ((M.disk machine.old).reads Objects) place))) }
-        ensures whole { (M.disk machine.old).tells_files → (p : Numbers) → IsObjectsFile p ((M.disk machine.old).reads Objects) → IfErr result IsDiskFault }
+        ensures whole { (M.disk machine.old).tells_files → (p : Numbers) → IsObjectsFile p ((M.disk machine.old).reads Objects) → IfErr result IsNoDamage }
     {
         let params = read_header(machine)?;
-        see_shut(machine, params)?;
-        Ok(Slots { params })
+        let size = machine.size(FileNo::Objects)?;
+        let heads = read_heads(alloc, machine, params, size)?;
+        Ok(Slots { params, heads })
     }
 }

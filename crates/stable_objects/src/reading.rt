@@ -1,11 +1,9 @@
 // Reads the objects file.
-ghost use Rattle.std.specs.Prelude.{◌≡◌, ◌<◌, ◌↔◌, ◌^◌, ℕ, length, slice_index, OnOk, IfOk, IsErr, IsTrue};
+ghost use Rattle.std.specs.Prelude.{◌≡◌, ◌<◌, ℕ, length, slice_index, OnOk, IsErr};
 ghost use Rattle.disk_model.specs.Disk.{Rises, Stays, read_of};
 ghost use Rattle.disk_model.specs.declared.machine.FileNo.TheVariants.{Objects};
-ghost use Rattle.formats.specs.Bytes.{IsOpenAt};
 ghost use Rattle.stable_objects.specs.Reading.{filled_up};
 
-use crate::layout::OPEN;
 use disk_model::{Failed, FileNo, Machine};
 
 /// Reads from a place on. A byte past the file's end counts as 0.
@@ -18,15 +16,4 @@ pub fn read_at<M: Machine>(machine: &mut M, place: u64, into: &mut [u8]) -> Resu
     let read = machine.read(FileNo::Objects, place, into)?;
     into[read..].fill(0);
     Ok(())
-}
-
-/// Whether the gate at a place is open.
-pub fn is_open<M: Machine>(machine: &mut M, place: u64) -> Result<bool, Failed>
-    ensures kept { Stays (M.disk machine.old) (M.disk machine.new) }
-    ensures open { (M.disk machine.old).tells_files → IfOk result (λ b. IsTrue b ↔ IsOpenAt place ((M.disk machine.old).reads Objects)) }
-    ensures cause { IsErr result → Rises (M.disk machine.old).disk_faults (M.disk machine.new).disk_faults }
-{
-    let mut gate = [0; 1];
-    read_at(machine, place, &mut gate)?;
-    Ok(gate[0] == OPEN)
 }

@@ -1,22 +1,38 @@
-ghost use Rattle.std.specs.Prelude.{◌≡◌};
-ghost use Rattle.formats.specs.Objects.{bounds_of};
+ghost use Rattle.std.specs.Prelude.{◌≡◌, ◌<◌, ◌≤◌, ◌+◌, ◌*◌, ℕ, IfSome, IfNone, nat_le, position};
+ghost use Rattle.formats.specs.Objects.{bounds_of, slot_place};
+ghost use Rattle.stable_objects.specs.SlotsView.{id_in, holder_in, IsLate};
 
+use crate::layout::gate_place;
 use formats::Params;
 use oper_core::Bounds;
 use std::marker::Model;
 
 /// The slots of a store whose objects file is whole.
+///
+/// Each object has two. The open one with the greater identifier holds its value; with none open the object is empty and
+/// has the identifier 0.
 #[derive(Drop)]
 pub struct Slots {
     pub(crate) params: Params,
+    /// The identifier in each slot, two for each object, 0 where the slot is closed.
+    pub(crate) heads: Vec<u64>,
 }
 
 impl Model for Slots {
-    ghost use Rattle.stable_objects.specs.SlotsView.{SlotsView};
+    ghost use Rattle.stable_objects.specs.SlotsView.{SlotsView, AreHeads};
 
     ghost Value = { SlotsView };
 
-    ghost view = { λ s. record { params = s.params } };
+    ghost view = { λ s. record { params = s.params; heads = s.heads.items } };
+
+    ghost invariant = { λ s. AreHeads s.params s.heads.items };
+}
+
+// Which of these identifiers is the first that is `next` or more.
+fn first_late(heads: &[u64], next: u64) -> Option<usize>
+    ensures { result ≡ position (λ id. nat_le next id) heads.now }
+{
+    heads.iter().position(|id| *id >= next)
 }
 
 impl Slots {
@@ -42,5 +58,39 @@ impl Slots {
         ensures { result ≡ self.now.params.limit }
     {
         self.params.limit
+    }
+
+    /// The identifier of an object: the number of the record whose value its slot holds, 0 where none is open.
+    pub fn id(&self, object: u32) -> u64
+        requires { object < self.now.params.objects }
+        ensures { result ≡ id_in self.now object }
+    {
+        self.heads[self.holder(object)]
+    }
+
+    /// Which of all slots holds an object: of its two the one with the greater identifier, the first where both are
+    /// closed.
+    pub(crate) fn holder(&self, object: u32) -> usize
+        requires { object < self.now.params.objects }
+        ensures { result ≡ 2 * object + holder_in self.now object }
+    {
+        let first = 2 * object as usize;
+        if self.heads[first] < self.heads[first + 1] {
+            first + 1
+        } else {
+            first
+        }
+    }
+
+    /// The place of the first identifier, in the order of the file, of an open slot that is `next` or more; none exactly
+    /// where there is none.
+    pub fn first_at(&self, next: u64) -> Option<u64>
+        requires { 0 < next }
+        ensures some { IfSome result (λ place. (x : ℕ) × (s : ℕ) × IsLate self.now next x s × (place ≡ slot_place self.now.params.cap x s + 1)
+            × ((y t : ℕ) → IsLate self.now next y t → 2 * x + s ≤ 2 * y + t)) }
+        ensures none { IfNone result ((x s : ℕ) → IsLate self.now next x s → ⊥) }
+    {
+        let slot = first_late(&self.heads, next)?;
+        Some(gate_place(self.params.cap, slot as u32) + 1)
     }
 }

@@ -1,85 +1,107 @@
--- What an engine's map refuses of an operation, and the values that it reads.
-use Rattle.std.proofs.Common.{◌≡◌, ◌<◌, ◌≤◌, ◌+◌, ℕ, Option, None, Some, List, length, map, refl, sym, ap, ◌∙◌, subst, arith}
-use Rattle.std.specs.Prelude.{All}
-use Rattle.oper_core.specs.State.{listed}
-use Rattle.oper_core.specs.Meaning.{IsInGrammar, FitsReads, or_else, read_values}
+-- What an operation reads and writes in a store, and what refuses it.
+use Rattle.std.proofs.Common.{◌≡◌, ◌<◌, ◌≤◌, ℕ, List, [], ◌∷◌, length, map, refl, sym, ap, ◌∙◌, subst, arith}
+use Rattle.std.specs.Prelude.{All, Option, None, Some}
+use Rattle.std.proofs.lemmas.List.Elements.{All-head, All-tail}
+use Rattle.disk_model.specs.Disk.{Disk}
+use Rattle.disk_model.specs.declared.machine.FileNo.TheVariants.{Objects}
+use Rattle.oper_core.specs.State.{State}
+use Rattle.oper_core.specs.Meaning.{Meaning, HasBounds, IsSmall, IsLawful, IsInGrammar, FitsReads, or_else, read_values, refusal_of}
 use Rattle.oper_core.specs.declared.bounds.Bounds.{Bounds}
 use Rattle.oper_core.specs.declared.refusal.Refusal.{Refusal}
-use Rattle.op_codec.specs.AllOps.{all_meaning}
-use Rattle.op_codec.specs.AllOpsLaws.{all_short}
-use Rattle.formats.specs.Objects.{bounds_of}
+use Rattle.formats.specs.Objects.{IsInRange, bounds_of}
 use Rattle.formats.specs.declared.params.Params.{Params}
-use Rattle.log_records.specs.RecordLog.{RecordLogView}
-use Rattle.store_engine.specs.Engine.{EngineView, view_of, AreParts, Admits, refusal_in}
-use Rattle.store_engine.specs.Store.{Command, meaning_in}
-use Rattle.store_engine.proofs.Opened.{lawful_in}
-use Rattle.store_engine.proofs.ReplayLemmas.{read_fit}
+use Rattle.store_engine.specs.Laid.{Laid, values_in}
+use Rattle.store_engine.specs.Store.{meaning_in, state_of, refusal_after}
+use Rattle.store_engine.specs.Engine.{EngineView, params_of, Carries}
 
-first_none : (first second : Option Refusal) → or_else first second ≡ None → first ≡ None
-first_none None second none = refl
-first_none (Some r) second none = cc
+pub small_bounds : (p : Params) → IsInRange p → IsSmall (bounds_of p)
+small_bounds p range =
+    let objects = range.objects in
+    let cap = range.cap in
+    record { objects = omega arith; cap = omega arith }
 
--- what is not refused is in the grammar
-pub in_grammar : (engine : EngineView) (op : Command) → refusal_in engine op ≡ None → IsInGrammar (meaning_in engine.params) op
-in_grammar engine op accepted = first_none _ _ accepted
+or_same : (first one other : Option Refusal) → (first ≡ None → one ≡ other) → or_else first one ≡ or_else first other
+or_same None one other same = same refl
+or_same (Some r) one other same = refl
 
-module _ (q : Params) (map' : List (List ℕ)) (log : RecordLogView) (engine : EngineView) (op : Command) (same : view_of q map' log ≡ engine) where
-  -- an operation that is admitted is in the grammar of the engine's parts
-  pub own_grammar : (values : List (List ℕ)) → Admits engine op values → IsInGrammar (meaning_in q) op
-  own_grammar values admits = subst (λ (e : EngineView). IsInGrammar (meaning_in e.params) op) (sym same) (in_grammar engine op admits.accepted)
+or_none : (first second : Option Refusal) → first ≡ None → or_else first second ≡ second
+or_none first second none = ap (λ (o : Option Refusal). or_else o second) none
 
-  module _ (b : Bounds) (own : b ≡ bounds_of engine.params) where
-    -- the engine's bounds are those of its parts
-    pub own_bounds : b ≡ bounds_of q
-    own_bounds = own ∙ ap (λ (e : EngineView). bounds_of e.params) (sym same)
+-- two states with the same values at these objects
+same_values : (n : ℕ) (objects : List ℕ) (one other : State) → All (λ x. x < n) objects → ((x : ℕ) → x < n → one x ≡ other x) → map one objects ≡ map other objects
+same_values n [] one other below same = refl
+same_values n (x ∷ objects) one other below same =
+    let first = same x (All-head (λ y. y < n) x objects below) in
+    let rest = same_values n objects one other (All-tail (λ y. y < n) x objects below) same in
+    λ i. first i ∷ rest i
 
-    -- what an admitted operation makes of the values that it reads
-    pub made_is : (values made : List (List ℕ)) → Admits engine op values → made ≡ (all_meaning b).effect op values → made ≡ (meaning_in q).effect op (read_values (meaning_in q) (listed map') op)
-    made_is values made admits is =
-        let mine = subst (λ (e : EngineView). Admits e op values) (sym same) admits in
-        is ∙ ap (λ (x : Bounds). (all_meaning x).effect op values) own_bounds ∙ ap (λ (l : List (List ℕ)). (meaning_in q).effect op l) mine.read
+module _ {O : Type 0} (meaning : Bounds → Meaning O) where
+  module _ (p : Params) (b : Bounds) (own : b ≡ bounds_of p) (op : O) where
+    -- the values that an operation reads of a store's objects
+    pub own_read : (file : List ℕ) (laid now : Laid) (objects : List ℕ) (values : List (List ℕ)) → laid ≡ now → objects ≡ (meaning b).reads op → values ≡ map (values_in laid file) objects
+        → values ≡ read_values (meaning_in meaning p) (values_in now file) op
+    own_read file laid now objects values same are read =
+        read ∙ ap (map (values_in laid file)) (are ∙ ap (λ (x : Bounds). (meaning x).reads op) own)
+        ∙ ap (λ (l : Laid). map (values_in l file) ((meaning_in meaning p).reads op)) same
 
-    module _ (parts : AreParts q map' log) (shape : (all_meaning b).shape op ≡ None) where
-      in_shape : IsInGrammar (meaning_in q) op
-      in_shape = subst (λ (x : Bounds). (all_meaning x).shape op ≡ None) own_bounds shape
+    -- what its check says of them is what refuses it
+    pub refused_by_check : (s : State) (values : List (List ℕ)) (answer : Option Refusal) → (meaning b).shape op ≡ None → values ≡ read_values (meaning_in meaning p) s op
+        → (meaning b).check op values ≡ answer → refusal_of (meaning_in meaning p) s op ≡ answer
+    refused_by_check s values answer shape read is =
+        or_none ((meaning_in meaning p).shape op) ((meaning_in meaning p).check op (read_values (meaning_in meaning p) s op)) (subst (λ (x : Bounds). (meaning x).shape op ≡ None) own shape)
+        ∙ ap (λ (l : List (List ℕ)). (meaning_in meaning p).check op l) (sym read) ∙ subst (λ (x : Bounds). (meaning x).check op values ≡ answer) own is
 
-      -- the objects that it reads are there
-      pub reads_there : (objects : List ℕ) → objects ≡ (all_meaning b).reads op → All (λ x. x < length map') objects
-      reads_there objects are =
-          let below = (lawful_in q parts.in_range).reads_below op in_shape in
-          let mine : objects ≡ (meaning_in q).reads op = are ∙ ap (λ (x : Bounds). (all_meaning x).reads op) own_bounds in
-          subst (λ (l : List ℕ). All (λ x. x < length map') l) (sym mine) (subst (λ (n : ℕ). All (λ x. x < n) ((meaning_in q).reads op)) (sym parts.values.size) below)
+  module _ (bounded : (b : Bounds) → HasBounds b (meaning b)) (lawful : (b : Bounds) → IsSmall b → IsLawful (meaning b)) where
+    module _ (p : Params) (range : IsInRange p) (op : O) (grammar : IsInGrammar (meaning_in meaning p) op) where
+      abbrev law : IsLawful (meaning_in meaning p)
+      law = lawful (bounds_of p) (small_bounds p range)
 
-      module _ (objects : List ℕ) (values : List (List ℕ)) (are : objects ≡ (all_meaning b).reads op) (read : values ≡ map (listed map') objects) where
-        own_read : values ≡ read_values (meaning_in q) (listed map') op
-        own_read = read ∙ ap (map (listed map')) (are ∙ ap (λ (x : Bounds). (all_meaning x).reads op) own_bounds)
+      objects_are : (meaning_in meaning p).objects ≡ p.objects
+      objects_are = (bounded (bounds_of p)).objects
 
-        -- their values are as many, and none is too long
-        pub values_fit : FitsReads (all_meaning b) op values
-        values_fit = subst (λ (x : Bounds). FitsReads (all_meaning x) op values) (sym own_bounds) (read_fit (meaning_in q) (listed map') map' values op parts.values own_read)
+      cap_is : (meaning_in meaning p).cap ≡ p.cap
+      cap_is = (bounded (bounds_of p)).cap
 
-        -- the map refuses what the operation's own check refuses
-        pub refusal_is : refusal_in engine op ≡ (all_meaning b).check op values
-        refusal_is =
-            subst (λ (e : EngineView). refusal_in e op ≡ (all_meaning b).check op values) same
-            (ap (λ (r : Option Refusal). or_else r ((meaning_in q).check op (read_values (meaning_in q) (listed map') op))) in_shape
-            ∙ ap (λ (l : List (List ℕ)). (meaning_in q).check op l) (sym own_read) ∙ ap (λ (x : Bounds). (all_meaning x).check op values) (sym own_bounds))
+      -- the objects that it reads, and those that it writes, are there
+      pub reads_below : All (λ x. x < p.objects) ((meaning_in meaning p).reads op)
+      reads_below = subst (λ (n : ℕ). All (λ x. x < n) ((meaning_in meaning p).reads op)) objects_are (law.reads_below op grammar)
 
-        pub admits : (all_meaning b).check op values ≡ None → Admits engine op values
-        admits none = record {
-          accepted = refusal_is ∙ none;
-          read = subst (λ (e : EngineView). values ≡ read_values (meaning_in e.params) (listed e.map) op) same own_read;
-        }
+      pub reads_there : (objects : List ℕ) → objects ≡ (meaning_in meaning p).reads op → All (λ x. x < p.objects) objects
+      reads_there objects are = subst (λ (l : List ℕ). All (λ x. x < p.objects) l) (sym are) reads_below
 
-    -- the map refuses what the operation's shape refuses
-    pub shape_refused : (r : Refusal) → (all_meaning b).shape op ≡ Some r → refusal_in engine op ≡ Some r
-    shape_refused r is =
-        subst (λ (e : EngineView). refusal_in e op ≡ Some r) same
-        (ap (λ (x : Option Refusal). or_else x ((meaning_in q).check op (read_values (meaning_in q) (listed map') op))) (subst (λ (x : Bounds). (all_meaning x).shape op ≡ Some r) own_bounds is))
+      pub writes_there : (objects : List ℕ) → objects ≡ (meaning_in meaning p).writes op → All (λ x. x < p.objects) objects
+      writes_there objects are = subst (λ (l : List ℕ). All (λ x. x < p.objects) l) (sym are)
+          (subst (λ (n : ℕ). All (λ x. x < n) ((meaning_in meaning p).writes op)) objects_are (law.writes_below op grammar))
 
--- the code of an operation that is not refused is short
-pub short_code : (q : Params) (map' : List (List ℕ)) (log : RecordLogView) (engine : EngineView) (op : Command) → view_of q map' log ≡ engine → AreParts q map' log → refusal_in engine op ≡ None → length ((meaning_in q).code op) ≤ 13 + 16384
-short_code q map' log engine op same parts accepted =
-    let cap = parts.in_range.cap in
-    let short = all_short (bounds_of q) op (in_grammar (view_of q map' log) op (subst (λ (e : EngineView). refusal_in e op ≡ None) (sym same) accepted)) in
-    omega (arith, cap, short)
+      -- the values read are as many, and none is too long
+      pub values_fit : (objects : List ℕ) (values : List (List ℕ)) → objects ≡ (meaning_in meaning p).reads op → length values ≡ length objects → All (λ v. length v ≤ p.cap) values
+          → FitsReads (meaning_in meaning p) op values
+      values_fit objects values are count short = record {
+        count = count ∙ ap (λ (l : List ℕ). length l) are;
+        short = subst (λ (n : ℕ). All (λ v. length v ≤ n) values) (sym cap_is) short;
+      }
+
+      -- and so are those that it makes
+      pub made_count : (read made : List (List ℕ)) (objects : List ℕ) → FitsReads (meaning_in meaning p) op read → made ≡ (meaning_in meaning p).effect op read
+          → objects ≡ (meaning_in meaning p).writes op → length made ≡ length objects
+      made_count read made objects fits is are =
+          ap (λ (l : List (List ℕ)). length l) is ∙ (law.made op read grammar fits).0 ∙ ap (λ (l : List ℕ). length l) (sym are)
+
+      pub made_short : (read made : List (List ℕ)) → FitsReads (meaning_in meaning p) op read → made ≡ (meaning_in meaning p).effect op read → All (λ v. length v ≤ p.cap) made
+      made_short read made fits is = subst (λ (n : ℕ). All (λ v. length v ≤ n) made) cap_is
+          (subst (λ (l : List (List ℕ)). All (λ v. length v ≤ (meaning_in meaning p).cap) l) (sym is) (law.made op read grammar fits).1)
+
+    module _ (p : Params) (d : Disk) (engine : EngineView) (commands : List O) (c : Carries meaning p d engine commands) where
+      in_range : IsInRange p
+      in_range = subst (λ (q : Params). IsInRange q) c.params c.laid.slots.whole.in_range
+
+      -- an operation reads what it reads in the state after the commands
+      pub same_read : (op : O) → IsInGrammar (meaning_in meaning p) op
+          → read_values (meaning_in meaning p) (values_in engine.objects (d.reads Objects)) op ≡ read_values (meaning_in meaning p) (state_of meaning p commands) op
+      same_read op grammar = same_values p.objects ((meaning_in meaning p).reads op) (values_in engine.objects (d.reads Objects)) (state_of meaning p commands) (reads_below p in_range op grammar) c.values
+
+      -- and is refused as it is there
+      pub same_refusal : (op : O) → refusal_of (meaning_in meaning (params_of engine)) (values_in engine.objects (d.reads Objects)) op ≡ refusal_after meaning p commands op
+      same_refusal op =
+          ap (λ (q : Params). refusal_of (meaning_in meaning q) (values_in engine.objects (d.reads Objects)) op) c.params
+          ∙ or_same ((meaning_in meaning p).shape op) _ _ (λ grammar. ap (λ (l : List (List ℕ)). (meaning_in meaning p).check op l) (same_read op grammar))

@@ -1,226 +1,55 @@
 -- What the execution of a command makes of an engine.
-use Rattle.std.proofs.Common.{◌≡◌, ◌≢◌, ◌⊎◌, inl, inr, ⊎_elim, ◌≤◌, ◌<◌, ℕ, ◌+◌, ◌-◌, ◌^◌, None, true, false, is_err, Result, Ok, Err, List, [], ◌∷◌, ◌++◌, length, drop, refl, sym, ap, ◌∙◌, subst, arith, length-append, append_assoc}
-use Rattle.std.specs.Prelude.{OnOk, OnErr, IfOk, IfErr}
+use Rattle.std.proofs.Common.{◌≡◌, ◌≢◌, ◌⊎◌, inl, inr, ⊎_elim, ◌≤◌, ◌<◌, ℕ, ◌+◌, ◌^◌, Bool, true, false, Result, Ok, Err, List, [], ◌∷◌, ◌++◌, length, drop, refl, sym, ap, ◌∙◌, subst, arith, length-append, append_assoc}
+use Rattle.std.specs.Prelude.{Option, None, Some, OnErr, IfOk, IfErr, if◌then◌else◌}
 use Rattle.std.proofs.lemmas.List.{append-nil}
 use Rattle.std.proofs.lemmas.List.Sums.{fold-append}
 use Rattle.disk_model.specs.Disk.{Files, Disk}
+use Rattle.disk_model.specs.declared.machine.FileNo.TheVariants.{Objects}
 use Rattle.oper_core.specs.LittleEndian.{length-little_bytes}
-use Rattle.oper_core.specs.State.{State, start, listed, with_values}
-use Rattle.oper_core.specs.Meaning.{Meaning, IsInGrammar, after, read_values, refusal_of}
+use Rattle.oper_core.specs.State.{State, start, with_values, value_for, is_among}
+use Rattle.oper_core.specs.Meaning.{Meaning, IsInGrammar, after, read_values}
 use Rattle.oper_core.specs.declared.bounds.Bounds.{Bounds}
 use Rattle.oper_core.specs.declared.refusal.Refusal.{Refusal}
-use Rattle.op_codec.specs.AllOps.{all_meaning}
 use Rattle.formats.specs.Image.{EndsAt, NextIs}
+use Rattle.formats.specs.Objects.{IsInRange, Cell, cell_of}
 use Rattle.formats.specs.Records.{record_code, commands_of, AreRecords}
 use Rattle.formats.specs.declared.params.Params.{Params}
 use Rattle.formats.specs.declared.record.Record.{Record}
-use Rattle.formats.specs.declared.record.Record.TheVariants.{Command as Numbered}
+use Rattle.formats.specs.declared.record.Record.TheVariants.{Command}
+use Rattle.stable_objects.specs.SlotsView.{SlotsView}
+use Rattle.dirty_cache.specs.Contents.{held}
+use Rattle.dirty_cache.specs.declared.entry.Entry.{Entry}
 use Rattle.log_frames.specs.LogView.{used_of, end_with, growth_of}
-use Rattle.log_records.specs.RecordLog.{RecordLogView, Keeps}
+use Rattle.log_records.specs.RecordLog.{RecordLogView}
 use Rattle.log_records.specs.RecordLaws.{keeps_append}
-use Rattle.store_engine.specs.Engine.{EngineView, view_of, AreParts, Carries, Holds, Kept, InEachImage, IsFull, IsAtEnd, TookIn, IsAsBefore, LogLength, something_waits, log_length, grown, forced_length, HasPlace, LacksPlace, Fits, HasCause, Lengthens, refusal_in}
+use Rattle.store_engine.specs.Laid.{Laid, cell_or, values_in, with_entries}
+use Rattle.store_engine.specs.Store.{meaning_in, record_length, refusal_after, state_of}
+use Rattle.store_engine.specs.Engine.{EngineView, view_of, params_of, AreParts, Carries, Holds, Kept, InEachImage, IsFull, IsAtEnd, TookIn, IsSameMap, LogLength, something_waits, log_length, grown, forced_length, HasPlace, LacksPlace, Fits, HasCause, Lengthens}
 use Rattle.store_engine.specs.declared.exec_err.ExecErr.{ExecErr}
-use Rattle.store_engine.specs.declared.exec_err.ExecErr.TheVariants.{Refused, LogFull, LsnEnd, DiskFault, Memory}
-use Rattle.store_engine.specs.Replay.{IsListing}
-use Rattle.store_engine.specs.Store.{Command, meaning_in, record_length, refusal_after, state_of}
-use Rattle.store_engine.proofs.ReplayLemmas.{lists_itself, after_listing}
-use Rattle.store_engine.proofs.Admitted.{in_grammar}
-use Rattle.store_engine.proofs.Opened.{lawful_in}
+use Rattle.store_engine.specs.declared.exec_err.ExecErr.TheVariants.{Refused, LogFull, LsnEnd, DiskFault, Damaged, Memory}
 use Rattle.store_engine.proofs.Holding.{commands-append, commands_length, accepted_is, none_waits, ends_here, held_stable, image_is, make_holds}
-
--- the map of an engine that stands for commands refuses what is refused after them
-pub same_refusal : (p : Params) (d : Disk) (engine : EngineView) (commands : List Command) (op : Command) → Carries p d engine commands → refusal_in engine op ≡ refusal_after p commands op
-same_refusal p d engine commands op c =
-    let same : listed engine.map ≡ state_of p commands = λ i x. c.values.each x i in
-    ap (λ (q : Params). refusal_of (meaning_in q) (listed engine.map) op) c.params ∙ ap (λ (s : State). refusal_of (meaning_in p) s op) same
-
-pub record_code_length : (p : Params) (n : ℕ) (op : Command) → length (record_code (meaning_in p) (Numbered n op)) ≡ record_length p op
-record_code_length p n op = simp (length-append, length-little_bytes) (omega arith)
-
--- where the growth is within what the limit leaves, the record has a place
-pub place_fits : (end : ℕ) (pending : List ℕ) (n limit : ℕ) → growth_of pending n ≤ limit - end_with end pending → 0 < n → end + 5 + length pending + n ≤ limit
-place_fits end [] n limit fits some = omega arith
-place_fits end (byte ∷ bytes) n limit fits some = omega arith
-
--- and where it is not, the log with a block of its own is past the limit
-pub place_over : (pending : List ℕ) (used n limit : ℕ) → limit - used < growth_of pending n → limit < used + (n + 5)
-place_over [] used n limit over = omega arith
-place_over (byte ∷ bytes) used n limit over = omega arith
 
 numbers_end : {O : Type 0} (m : Meaning O) (next : ℕ) (records : List (Record O)) → AreRecords m next records → next ≤ 2 ^ 62 → next + length records ≤ 2 ^ 62
 numbers_end m next [] are low = omega arith
-numbers_end m next (Numbered n op ∷ records) are low =
+numbers_end m next (Command n op ∷ records) are low =
     let number = are.1 in
     let rest = numbers_end m (next + 1) records are.2 (omega (arith, number.0, number.1)) in
     omega (arith, rest)
 
-module _ (p : Params) (d : Disk) (engine : EngineView) (commands : List Command) (c : Carries p d engine commands) where
-  -- the number of the next record
-  pub next_number : engine.log.next ≡ 1 + length commands
-  next_number = let k = c.log in omega (arith, k.next_is, c.base, commands_length (c.stable ++ c.pending), ap (λ (l : List Command). length l) c.commands_are)
-
-  pub next_low : engine.log.next ≤ 2 ^ 62
-  next_low = let k = c.log in let base = c.base in
-      omega (arith, k.next_is, numbers_end (meaning_in p) engine.log.log.header.base (c.stable ++ c.pending) k.numbered (omega (arith, base)))
-
-  module _ (all : engine.forced ≡ length commands) where
-    in_each : (P : Files → Type 0) → P d.reads → InEachImage d P
-    in_each P here = (here, λ told files said left. subst P (sym (image_is p d engine commands c told files said left)) here)
-
-    -- the place where the log ends
-    pub ends_at : InEachImage d (λ files. EndsAt files (used_of engine.log.log))
-    ends_at = in_each (λ files. EndsAt files (used_of engine.log.log)) (ends_here p d engine commands c all).0
-
-    -- the number after its last record
-    pub next_is : InEachImage d (λ files. NextIs (meaning_in p) files engine.log.next)
-    next_is = in_each (λ files. NextIs (meaning_in p) files engine.log.next) (record {
-      header = engine.log.log.header;
-      groups = c.log.groups;
-      log = (held_stable p d engine commands c).log;
-      here = c.log.next_is ∙ ap (λ (l : List (Record Command)). engine.log.log.header.base + length l)
-          (ap (λ (l : List (Record Command)). c.stable ++ l) (none_waits p d engine commands c all) ∙ append-nil c.stable ∙ sym c.log.stable_are);
-    })
-
-module _ (p : Params) (d : Disk) (before engine : EngineView) (commands : List Command) where
-  -- the log is full
-  pub is_full : (op : Command) (used need limit : ℕ) → engine.forced ≡ length commands → Kept p before d engine commands → refusal_after p commands op ≡ None
-      → used ≡ used_of engine.log.log → need ≡ record_length p op + 5 → limit ≡ p.limit → limit < used + need → IsFull p d engine commands op used need limit
-  is_full op used need limit all kept accepted place asked bound over = record {
-    accepted = accepted;
-    all = all;
-    asked = asked;
-    bound = bound;
-    over = over;
-    place = subst (λ (n : ℕ). InEachImage d (λ files. EndsAt files n)) (sym place) (ends_at p d engine commands kept.holds.carried all);
-  }
-
-  -- the numbers are used up
-  pub is_at_end : (op : Command) (number : ℕ) → engine.forced ≡ length commands → Kept p before d engine commands → refusal_after p commands op ≡ None
-      → number ≡ engine.log.next → 2 ^ 62 ≤ before.log.next → (old : Disk) → Carries p old before commands → IsAtEnd p d engine commands op number
-  is_at_end op number all kept accepted here high old carried =
-      let c = kept.holds.carried in
-      let now = next_number p d engine commands c in
-      let was = next_number p old before commands carried in
-      let low = next_low p d engine commands c in
-      record {
-        accepted = accepted;
-        all = all;
-        last = omega (arith, here, now, was, low, high);
-        next = subst (λ (n : ℕ). InEachImage d (λ files. NextIs (meaning_in p) files n)) (sym here) (next_is p d engine commands c all);
-      }
-
-module _ (p : Params) (d : Disk) (before engine : EngineView) (commands : List Command) (h : Holds p d before commands) where
-  -- the command's record waits, and its values are in the map
-  pub took_in : (op : Command) → IsInGrammar (meaning_in before.params) op → before.log.next < 2 ^ 62 → TookIn op before engine
-      → (engine.accepted ≡ length commands + 1) × Kept p before d engine (commands ++ op ∷ [])
-  took_in op grammar number t =
-      let c = h.carried in
-      let new = Numbered before.log.next op in
-      let commands_are : commands ++ op ∷ [] ≡ commands_of (c.stable ++ (c.pending ++ new ∷ [])) =
-      ap (λ (l : List Command). l ++ op ∷ []) c.commands_are ∙ sym (commands-append (c.stable ++ c.pending) (new ∷ []))
-      ∙ ap (λ (l : List (Record Command)). commands_of l) (append_assoc c.stable c.pending (new ∷ [])) in
-      let mine = subst (λ (x : Params). IsInGrammar (meaning_in x) op) c.params grammar in
-      let waits : engine.log.log.pending ≡ before.log.log.pending ++ record_code (meaning_in p) new =
-      ap (λ (v : RecordLogView). v.log.pending) t.log ∙ ap (λ (x : Params). before.log.log.pending ++ record_code (meaning_in x) new) c.params in
-      let listed_after = subst (λ (x : Params). IsListing (meaning_in x) (state_of p commands) before.map → IsListing (meaning_in x) (after (meaning_in x) (state_of p commands) op) engine.map)
-      c.params (t.values (state_of p commands)) c.values in
-      let carried : Carries p d engine (commands ++ op ∷ []) = record {
-        told = c.told;
-        params = t.params ∙ c.params;
-        stable = c.stable;
-        pending = c.pending ++ new ∷ [];
-        log = keeps_append (meaning_in p) d before.log engine.log c.stable c.pending new c.log (omega arith, mine) (refl, number)
-            (ap (λ (v : RecordLogView). v.log.active) t.log) (ap (λ (v : RecordLogView). v.log.header) t.log) (ap (λ (v : RecordLogView). v.log.end) t.log) waits
-            (ap (λ (v : RecordLogView). v.next) t.log) (ap (λ (v : RecordLogView). v.accepted) t.log) (ap (λ (v : RecordLogView). v.forced) t.log);
-        commands_are = commands_are;
-        active = ap (λ (v : RecordLogView). v.log.active) t.log ∙ c.active;
-        base = ap (λ (v : RecordLogView). v.log.header.base) t.log ∙ c.base;
-        none_before = ap (λ (v : RecordLogView). v.log.header.commands) t.log ∙ c.none_before;
-        accepted = t.accepted;
-        forced = t.forced;
-        objects = c.objects;
-        other = c.other;
-        values = subst (λ (s : State). IsListing (meaning_in p) s engine.map) (sym (fold-append (after (meaning_in p)) start commands (op ∷ []))) listed_after;
-      } in
-      let as_many : engine.forced ≡ before.forced = t.forced ∙ ap (λ (v : RecordLogView). v.forced) t.log ∙ sym c.forced in
-      (accepted_is p d engine (commands ++ op ∷ []) carried ∙ length-append commands (op ∷ []), record { holds = make_holds p d engine (commands ++ op ∷ []) carried; rising = omega (arith, as_many) })
-
-  with_room : (log : RecordLogView) (stable pending : List (Record Command)) (room : ℕ) → Keeps (meaning_in p) d log stable pending → Keeps (meaning_in p) d (record log { log = record log.log { room = room } }) stable pending
-  with_room log stable pending room k = record {
-    settled = k.settled;
-    groups = k.groups;
-    file = k.file;
-    stable_are = k.stable_are;
-    place = k.place;
-    pending_are = k.pending_are;
-    numbered = k.numbered;
-    next_is = k.next_is;
-    accepted_are = k.accepted_are;
-    forced_are = k.forced_are;
-  }
-
-  -- where nothing but the room changed, all is as before
-  pub as_before : IsAsBefore before engine → Kept p before d engine commands
-  as_before b =
-      let c = h.carried in
-      let carried : Carries p d engine commands = record {
-        told = c.told;
-        params = b.params ∙ c.params;
-        stable = c.stable;
-        pending = c.pending;
-        log = subst (λ (v : RecordLogView). Keeps (meaning_in p) d v c.stable c.pending) (sym b.log) (with_room before.log c.stable c.pending engine.log.log.room c.log);
-        commands_are = c.commands_are;
-        active = ap (λ (v : RecordLogView). v.log.active) b.log ∙ c.active;
-        base = ap (λ (v : RecordLogView). v.log.header.base) b.log ∙ c.base;
-        none_before = ap (λ (v : RecordLogView). v.log.header.commands) b.log ∙ c.none_before;
-        accepted = b.accepted;
-        forced = b.forced;
-        objects = c.objects;
-        other = c.other;
-        values = subst (λ (l : List (List ℕ)). IsListing (meaning_in p) (state_of p commands) l) (sym b.map) c.values;
-      } in
-      let as_many : engine.forced ≡ before.forced = b.forced ∙ ap (λ (v : RecordLogView). v.forced) b.log ∙ sym c.forced in
-      record { holds = make_holds p d engine commands carried; rising = omega (arith, as_many) }
-
--- where a call did not fail, its clause on success holds
-pub on_ok : {T E : Type 0} (r : Result T E) (P : Type 0) → is_err r ≡ false → OnOk r P → P
-on_ok (Ok x) P fine here = here
-on_ok (Err e) P fine here = cc
+-- what is cached with new entries, laid over a slot
+with_value : (b : Bool) (entry : Entry) (old : Option Entry) (cell : Cell) (value : List ℕ) → (cell_or old cell).value ≡ value
+    → (cell_or (if b then Some entry else old) cell).value ≡ (if b then entry.bytes else value)
+with_value true entry old cell value same = refl
+with_value false entry old cell value same = same
 
 -- the two ways to say how long a log is with a record more
 grown_is : (used : ℕ) (pending : List ℕ) (n : ℕ) → grown (record { used = used; waits = something_waits pending }) n ≡ used + growth_of pending n
 grown_is used [] n = refl
 grown_is used (byte ∷ bytes) n = refl
 
-module _ (p : Params) (d : Disk) (engine : EngineView) (commands : List Command) (h : Holds p d engine commands) (op : Command) (accepted : refusal_after p commands op ≡ None) where
-  grows : grown (log_length engine) (record_length p op) ≡ used_of engine.log.log + growth_of engine.log.log.pending (record_length engine.params op)
-  grows = grown_is (used_of engine.log.log) engine.log.log.pending (record_length p op)
-      ∙ ap (λ (x : Params). used_of engine.log.log + growth_of engine.log.log.pending (record_length x op)) (sym h.params)
-
-  limit_is : engine.params.limit ≡ p.limit
-  limit_is = ap (λ (x : Params). x.limit) h.params
-
-  past : engine.params.limit < used_of engine.log.log + growth_of engine.log.log.pending (record_length engine.params op) → p.limit < grown (log_length engine) (record_length p op)
-  past over = omega (arith, over, grows, limit_is)
-
-  fits : used_of engine.log.log + growth_of engine.log.log.pending (record_length engine.params op) ≤ engine.params.limit → Fits p (log_length engine) op
-  fits room = omega (arith, room, grows, limit_is)
-
-  number_is : engine.log.next ≡ 1 + length commands
-  number_is = next_number p d engine commands h.carried
-
-  -- a command without a place
-  pub lacks_cause : (e : ExecErr) → LacksPlace engine op e → HasCause p commands (log_length engine) op (Err e)
-  lacks_cause (Refused refusal) lacks = absurd lacks
-  lacks_cause (LogFull used need limit) lacks = (accepted, past lacks.0, lacks.1)
-  lacks_cause (LsnEnd number) lacks = (accepted, fits lacks.0, omega (arith, lacks.1, number_is))
-  lacks_cause DiskFault lacks = (accepted, ⊎_elim (λ over. inl (past over)) (λ high. inr (omega (arith, high, number_is))) lacks)
-  lacks_cause Memory lacks = absurd lacks
-
-  -- and one with a place
-  pub place_cause : (result : Result ℕ ExecErr) → HasPlace engine op → IfErr result (λ e. e ≡ Memory) → HasCause p commands (log_length engine) op result
-  place_cause (Ok n) has only = let number = has.number in (accepted, fits has.room, omega (arith, number, number_is))
-  place_cause (Err e) has only = subst (λ (x : ExecErr). HasCause p commands (log_length engine) op (Err x)) (sym only) tt
+growth_most : (pending : List ℕ) (n : ℕ) → growth_of pending n ≤ n + 5
+growth_most [] n = omega arith
+growth_most (byte ∷ bytes) n = omega arith
 
 -- the length of the log with a record that is not empty
 lengthened : (end : ℕ) (pending : List ℕ) (first : ℕ) (rest : List ℕ) (n : ℕ) → length (first ∷ rest) ≡ n
@@ -228,71 +57,211 @@ lengthened : (end : ℕ) (pending : List ℕ) (first : ℕ) (rest : List ℕ) (n
 lengthened end [] first rest n long = (omega (arith, long), refl)
 lengthened end (byte ∷ bytes) first rest n long = (omega (arith, long, length-append bytes (first ∷ rest)), refl)
 
-module _ (p : Params) (before engine : EngineView) (op : Command) (same : before.params ≡ p) where
-  longer : TookIn op before engine → log_length engine ≡ record { used = grown (log_length before) (record_length p op); waits = true }
-  longer t =
-      let code = record_code (meaning_in before.params) (Numbered before.log.next op) in
-      let long : length code ≡ record_length p op = record_code_length before.params before.log.next op ∙ ap (λ (x : Params). record_length x op) same in
-      let is = lengthened before.log.log.end before.log.log.pending 1 (drop 1 code) (record_length p op) long in
-      let whole : log_length engine ≡ record { used = end_with before.log.log.end (before.log.log.pending ++ code); waits = something_waits (before.log.log.pending ++ code) }
-      = ap (λ (v : RecordLogView). record { used = used_of v.log; waits = something_waits v.log.pending }) t.log in
-      whole ∙ (λ i. record { used = is.0 i; waits = is.1 i })
+-- what is cached is no matter of the log
+pub same_length : (d : Disk) (before engine : EngineView) → IsSameMap d before engine → log_length engine ≡ log_length before
+same_length d before engine same = ap (λ (v : RecordLogView). record { used = used_of v.log; waits = something_waits v.log.pending }) same.log
 
-  -- how long it is after a command was taken in
-  pub taken_length : (result : Result ℕ ExecErr) → IfOk result (λ n. (n ≡ engine.accepted) × TookIn op before engine) → IfErr result (λ e. e ≡ Memory) → OnErr result (IsAsBefore before engine)
-      → Lengthens p (log_length before) op result (log_length engine)
-  taken_length (Ok n) took only kept = longer took.1
-  taken_length (Err e) took only kept =
-      subst (λ (x : ExecErr). Lengthens p (log_length before) op (Err x) (log_length engine)) (sym only) (ap (λ (v : RecordLogView). record { used = used_of v.log; waits = something_waits v.log.pending }) kept.log)
+module _ {O : Type 0} (meaning : Bounds → Meaning O) where
+  pub record_code_length : (p : Params) (n : ℕ) (op : O) → length (record_code (meaning_in meaning p) (Command n op)) ≡ record_length meaning p op
+  record_code_length p n op = simp (length-append, length-little_bytes) (omega arith)
 
--- and where it was not admitted
-pub same_length : (p : Params) (log : LogLength) (op : Command) (e : ExecErr) → (e ≡ Memory) ⊎ ((r : Refusal) × (e ≡ Refused r)) → Lengthens p log op (Err e) log
-same_length p log op e why = ⊎_elim
-    (λ (is : e ≡ Memory). subst (λ (x : ExecErr). Lengthens p log op (Err x) log) (sym is) refl)
-    (λ (is : (r : Refusal) × (e ≡ Refused r)). subst (λ (x : ExecErr). Lengthens p log op (Err x) log) (sym is.1) refl)
-    why
+  -- where the record has a place within the limit, the log takes it
+  module _ (objects : Laid) (log : RecordLogView) (broken : Bool) (engine : EngineView) (op : O) (n : ℕ) (same : view_of objects log broken ≡ engine) (parts : AreParts objects log)
+      (range : IsInRange (params_of engine))
+      (place : engine.log.log.end + 5 + length engine.log.log.pending + record_length meaning (params_of engine) op ≤ (params_of engine).limit) where
+    placed : log.log.end + 5 + length log.log.pending + length (record_code (meaning log.bounds) (Command n op)) ≤ 536870912
+    placed =
+        let here = subst (λ (e : EngineView). e.log.log.end + 5 + length e.log.log.pending + record_length meaning (params_of e) op ≤ (params_of e).limit) (sym same) place in
+        let limit = subst (λ (e : EngineView). (params_of e).limit ≤ 536870912) (sym same) range.limit in
+        let long : length (record_code (meaning log.bounds) (Command n op)) ≡ record_length meaning objects.slots.params op
+        = ap (λ (b : Bounds). length (record_code (meaning b) (Command n op))) parts ∙ record_code_length objects.slots.params n op in
+        omega (arith, here, limit, long)
 
--- and where it got no place
-pub seen_length : (p : Params) (before : EngineView) (old new : LogLength) (op : Command) (e : ExecErr) → LacksPlace before op e → (e ≢ DiskFault → new ≡ forced_length old) → Lengthens p old op (Err e) new
-seen_length p before old new op (Refused refusal) lacks emptied = absurd lacks
-seen_length p before old new op (LogFull used need limit) lacks emptied = emptied (λ is. cc)
-seen_length p before old new op (LsnEnd number) lacks emptied = emptied (λ is. cc)
-seen_length p before old new op DiskFault lacks emptied = tt
-seen_length p before old new op Memory lacks emptied = absurd lacks
+    pub append_short : length log.log.pending + length (record_code (meaning log.bounds) (Command n op)) ≤ 2 ^ 30
+    append_short = omega (arith, placed)
 
-module _ (q : Params) (map' new values : List (List ℕ)) (log after' : RecordLogView) (n : ℕ) (op : Command) (parts : AreParts q map' log) (grammar : IsInGrammar (meaning_in q) op)
-    (values_are : values ≡ (meaning_in q).effect op (read_values (meaning_in q) (listed map') op)) (size : length new ≡ length map')
-    (set : (x : ℕ) → listed new x ≡ with_values (listed map') ((meaning_in q).writes op) values x)
-    (is : after' ≡ record log {
-      log = record log.log { pending = log.log.pending ++ record_code (all_meaning log.bounds) (Numbered n op); room = after'.log.room };
-      next = log.next + 1;
-      accepted = log.accepted + 1;
-    }) where
-  lists_after : (s : State) → IsListing (meaning_in q) s map' → IsListing (meaning_in q) (after (meaning_in q) s op) new
-  lists_after s lists = after_listing (meaning_in q) s map' new values op (lawful_in q parts.in_range) grammar lists values_are size set
+    pub append_place : log.log.end + 5 + length log.log.pending + length (record_code (meaning log.bounds) (Command n op)) < 2 ^ 49
+    append_place = omega (arith, placed)
 
-  -- the parts with the operation's record and values
-  pub parts_after : AreParts q new after'
-  parts_after = record {
-    in_range = parts.in_range;
-    bounds = ap (λ (v : RecordLogView). v.bounds) is ∙ parts.bounds;
-    values = lists_itself (meaning_in q) (after (meaning_in q) (listed map') op) new (lists_after (listed map') parts.values);
-  }
+  module _ (p : Params) (d : Disk) (engine : EngineView) (commands : List O) (c : Carries meaning p d engine commands) where
+    -- the number of the next record
+    pub next_number : engine.log.next ≡ 1 + length commands
+    next_number = let k = c.log in omega (arith, k.next_is, c.base, commands_length (c.stable ++ c.pending), ap (λ (l : List O). length l) c.commands_are)
 
-  pub took : (engine : EngineView) → view_of q map' log ≡ engine → n ≡ log.next → TookIn op engine (view_of q new after')
-  took engine same number = subst (λ (e : EngineView). TookIn op e (view_of q new after')) same (record {
-    params = refl;
-    accepted = refl;
-    forced = refl;
-    log = is ∙ ap (λ (code : List ℕ). record log { log = record log.log { pending = log.log.pending ++ code; room = after'.log.room }; next = log.next + 1; accepted = log.accepted + 1 })
-        (ap (λ (b : Bounds). record_code (all_meaning b) (Numbered n op)) parts.bounds ∙ ap (λ (k : ℕ). record_code (meaning_in q) (Numbered k op)) number);
-    values = lists_after;
-  })
+    pub next_low : engine.log.next ≤ 2 ^ 62
+    next_low = let k = c.log in let base = c.base in
+        omega (arith, k.next_is, numbers_end (meaning_in meaning p) engine.log.log.header.base (c.stable ++ c.pending) k.numbered (omega (arith, base)))
 
--- a command that was taken in is executed
-pub executed : (p : Params) (old new : Disk) (before between engine : EngineView) (commands : List Command) (op : Command) (n : ℕ) → new ≡ old → between ≡ before → Holds p old before commands
-    → refusal_in before op ≡ None → before.log.next < 2 ^ 62 → (n ≡ engine.accepted) × TookIn op between engine
-    → (refusal_after p commands op ≡ None) × (n ≡ length commands + 1) × Kept p before new engine (commands ++ op ∷ [])
-executed p old new before between engine commands op n same_disk same h accepted number t =
-    let taken = took_in p old before engine commands h op (in_grammar before op accepted) number (subst (λ (e : EngineView). TookIn op e engine) same t.1) in
-    (sym (same_refusal p old before commands op h.carried) ∙ accepted, t.0 ∙ taken.0, subst (λ (d : Disk). Kept p before d engine (commands ++ op ∷ [])) (sym same_disk) taken.1)
+    module _ (all : engine.forced ≡ length commands) where
+      in_each : (P : Files → Type 0) → P d.reads → InEachImage d P
+      in_each P here = (here, λ told files said left. subst P (sym (image_is meaning p d engine commands c told files said left)) here)
+
+      -- the place where the log ends
+      pub ends_at : InEachImage d (λ files. EndsAt files (used_of engine.log.log))
+      ends_at = in_each (λ files. EndsAt files (used_of engine.log.log)) (ends_here meaning p d engine commands c all).0
+
+      -- the number after its last record
+      pub next_is : InEachImage d (λ files. NextIs (meaning_in meaning p) files engine.log.next)
+      next_is = in_each (λ files. NextIs (meaning_in meaning p) files engine.log.next) (record {
+        header = engine.log.log.header;
+        groups = c.log.groups;
+        log = (held_stable meaning p d engine commands c).log;
+        here = c.log.next_is ∙ ap (λ (l : List (Record O)). engine.log.log.header.base + length l)
+            (ap (λ (l : List (Record O)). c.stable ++ l) (none_waits meaning p d engine commands c all) ∙ append-nil c.stable ∙ sym c.log.stable_are);
+      })
+
+  pub kept_twice : (p : Params) (mid new : Disk) (before between engine : EngineView) (some all : List O) → Kept meaning p before mid between some → Kept meaning p between new engine all
+      → Kept meaning p before new engine all
+  kept_twice p mid new before between engine some all first second =
+      let one = first.rising in
+      let two = second.rising in
+      record { holds = second.holds; rising = omega (arith, one, two) }
+
+  -- A command whose record of n bytes gets no place after these commands. Before is the engine that stands for them, and
+  -- engine the one after the force.
+  module _ (p : Params) (old : Disk) (before : EngineView) (commands : List O) (h : Holds meaning p old before commands) (op : O) (accepted : refusal_after meaning p commands op ≡ None)
+      (n : ℕ) (long : n ≡ record_length meaning (params_of before) op) where
+    long_is : n ≡ record_length meaning p op
+    long_is = long ∙ ap (λ (q : Params). record_length meaning q op) h.params
+
+    limit_is : (params_of before).limit ≡ p.limit
+    limit_is = ap (λ (q : Params). q.limit) h.params
+
+    grows : grown (log_length before) (record_length meaning p op) ≡ used_of before.log.log + growth_of before.log.log.pending n
+    grows = grown_is (used_of before.log.log) before.log.log.pending (record_length meaning p op)
+        ∙ ap (λ (k : ℕ). used_of before.log.log + growth_of before.log.log.pending k) (sym long_is)
+
+    number_is : before.log.next ≡ 1 + length commands
+    number_is = next_number p old before commands h.carried
+
+    past : (params_of before).limit < used_of before.log.log + growth_of before.log.log.pending n → p.limit < grown (log_length before) (record_length meaning p op)
+    past over = omega (arith, over, grows, limit_is)
+
+    fits : used_of before.log.log + growth_of before.log.log.pending n ≤ (params_of before).limit → Fits meaning p (log_length before) op
+    fits room = omega (arith, room, grows, limit_is)
+
+    -- why it gets none
+    pub lacks_cause : (e : ExecErr) → LacksPlace before n e → HasCause meaning p commands (log_length before) op (Err e)
+    lacks_cause (Refused refusal) lacks = absurd lacks
+    lacks_cause (LogFull used need limit) lacks = (accepted, past lacks.0, lacks.1)
+    lacks_cause (LsnEnd number) lacks = (accepted, fits lacks.0, omega (arith, lacks.1, number_is))
+    lacks_cause DiskFault lacks = (accepted, ⊎_elim (λ over. inl (past over)) (λ high. inr (omega (arith, high, number_is))) lacks)
+    lacks_cause (Damaged file place) lacks = absurd lacks
+    lacks_cause Memory lacks = absurd lacks
+
+    -- and one with a place
+    pub place_cause : (result : Result ℕ ExecErr) → HasPlace before n → IfErr result (λ e. e ≡ Memory) → HasCause meaning p commands (log_length before) op result
+    place_cause (Ok k) has only = let number = has.number in (accepted, fits has.room, omega (arith, number, number_is))
+    place_cause (Err e) has only = subst (λ (x : ExecErr). HasCause meaning p commands (log_length before) op (Err x)) (sym only) tt
+
+    module _ (new : Disk) (engine : EngineView) (all : engine.forced ≡ length commands) (kept : Kept meaning p before new engine commands) where
+      -- the log is full
+      pub is_full : (used need limit : ℕ) → LacksPlace before n (LogFull used need limit) → log_length engine ≡ forced_length (log_length before) → IsFull meaning p new engine commands op used need limit
+      is_full used need limit lacks emptied =
+          let over = lacks.0 in
+          let place : used ≡ used_of engine.log.log = lacks.1 ∙ sym (ap (λ (l : LogLength). l.used) emptied) in
+          record {
+            accepted = accepted;
+            all = all;
+            asked = lacks.2 ∙ ap (λ (k : ℕ). k + 5) long_is;
+            bound = lacks.3 ∙ limit_is;
+            over = omega (arith, over, lacks.1, lacks.2, lacks.3, growth_most before.log.log.pending n);
+            place = subst (λ (k : ℕ). InEachImage new (λ files. EndsAt files k)) (sym place) (ends_at p new engine commands kept.holds.carried all);
+          }
+
+      -- the numbers are used up
+      pub is_at_end : (number : ℕ) → LacksPlace before n (LsnEnd number) → IsAtEnd meaning p new engine commands op number
+      is_at_end number lacks =
+          let c = kept.holds.carried in
+          let now = next_number p new engine commands c in
+          let low = next_low p new engine commands c in
+          let here : number ≡ engine.log.next = omega (arith, lacks.2, now, number_is) in
+          record {
+            accepted = accepted;
+            all = all;
+            last = omega (arith, here, now, number_is, low, lacks.1);
+            next = subst (λ (k : ℕ). InEachImage new (λ files. NextIs (meaning_in meaning p) files k)) (sym here) (next_is p new engine commands c all);
+          }
+
+  -- how long the log is where the command got no place
+  pub seen_length : (p : Params) (before : EngineView) (n : ℕ) (old new : LogLength) (op : O) (e : ExecErr) → LacksPlace before n e → (e ≢ DiskFault → new ≡ forced_length old) → Lengthens meaning p old op (Err e) new
+  seen_length p before n old new op (Refused refusal) lacks emptied = absurd lacks
+  seen_length p before n old new op (LogFull used need limit) lacks emptied = emptied (λ is. cc)
+  seen_length p before n old new op (LsnEnd number) lacks emptied = emptied (λ is. cc)
+  seen_length p before n old new op DiskFault lacks emptied = tt
+  seen_length p before n old new op (Damaged file place) lacks emptied = absurd lacks
+  seen_length p before n old new op Memory lacks emptied = absurd lacks
+
+  -- where it was not admitted
+  pub refused_length : (p : Params) (log : LogLength) (op : O) (e : ExecErr) → (e ≡ Memory) ⊎ ((r : Refusal) × (e ≡ Refused r)) → Lengthens meaning p log op (Err e) log
+  refused_length p log op e why = ⊎_elim
+      (λ (is : e ≡ Memory). subst (λ (x : ExecErr). Lengthens meaning p log op (Err x) log) (sym is) refl)
+      (λ (is : (r : Refusal) × (e ≡ Refused r)). subst (λ (x : ExecErr). Lengthens meaning p log op (Err x) log) (sym is.1) refl)
+      why
+
+  -- where it was taken in, or memory was refused
+  module _ (p : Params) (before engine : EngineView) (op : O) (values : List (List ℕ)) (same : params_of before ≡ p) where
+    longer : TookIn meaning op values before engine → log_length engine ≡ record { used = grown (log_length before) (record_length meaning p op); waits = true }
+    longer t =
+        let code = record_code (meaning_in meaning (params_of before)) (Command before.log.next op) in
+        let long : length code ≡ record_length meaning p op = record_code_length (params_of before) before.log.next op ∙ ap (λ (x : Params). record_length meaning x op) same in
+        let is = lengthened before.log.log.end before.log.log.pending 1 (drop 1 code) (record_length meaning p op) long in
+        let whole : log_length engine ≡ record { used = end_with before.log.log.end (before.log.log.pending ++ code); waits = something_waits (before.log.log.pending ++ code) }
+        = ap (λ (v : RecordLogView). record { used = used_of v.log; waits = something_waits v.log.pending }) t.log in
+        whole ∙ (λ i. record { used = is.0 i; waits = is.1 i })
+
+    pub taken_length : (result : Result ℕ ExecErr) → IfOk result (λ n. (n ≡ engine.accepted) × TookIn meaning op values before engine) → IfErr result (λ e. e ≡ Memory)
+        → OnErr result (engine ≡ record before { log = record before.log { log = record before.log.log { room = engine.log.log.room } } })
+        → Lengthens meaning p (log_length before) op result (log_length engine)
+    taken_length (Ok n) took only kept = longer took.1
+    taken_length (Err e) took only kept =
+        subst (λ (x : ExecErr). Lengthens meaning p (log_length before) op (Err x) (log_length engine)) (sym only)
+        (ap (λ (v : EngineView). record { used = used_of v.log.log; waits = something_waits v.log.log.pending }) kept)
+
+  -- the command's record waits, and its values are cached
+  module _ (p : Params) (d : Disk) (before engine : EngineView) (commands : List O) (h : Holds meaning p d before commands) (op : O) (values : List (List ℕ))
+      (read : values ≡ read_values (meaning_in meaning p) (state_of meaning p commands) op) (t : TookIn meaning op values before engine) where
+    value_after : (x : ℕ) → x < p.objects → values_in engine.objects (d.reads Objects) x ≡ after (meaning_in meaning p) (state_of meaning p commands) op x
+    value_after x below =
+        let m = meaning_in meaning p in
+        let entries : held engine.objects.cache x ≡ with_entries (held before.objects.cache) before.log.next (m.writes op) (m.effect op values) x
+        = t.entries x ∙ ap (λ (q : Params). with_entries (held before.objects.cache) before.log.next ((meaning_in meaning q).writes op) ((meaning_in meaning q).effect op values) x) h.params in
+        let cell = cell_of (params_of before).cap x (d.reads Objects) in
+        ap (λ (s : SlotsView). (cell_or (held engine.objects.cache x) (cell_of s.params.cap x (d.reads Objects))).value) t.slots
+        ∙ ap (λ (e : Option Entry). (cell_or e cell).value) entries
+        ∙ with_value (is_among x (m.writes op)) (record { lsn = before.log.next; bytes = value_for x (m.writes op) (m.effect op values) }) (held before.objects.cache x) cell (state_of meaning p commands x) (h.map_is x below)
+        ∙ ap (λ (l : List (List ℕ)). with_values (state_of meaning p commands) (m.writes op) (m.effect op l) x) read
+
+    pub took_in : IsInGrammar (meaning_in meaning p) op → before.log.next < 2 ^ 62 → (engine.accepted ≡ length commands + 1) × Kept meaning p before d engine (commands ++ op ∷ [])
+    took_in grammar number =
+        let c = h.carried in
+        let new = Command before.log.next op in
+        let commands_are : commands ++ op ∷ [] ≡ commands_of (c.stable ++ (c.pending ++ new ∷ [])) =
+        ap (λ (l : List O). l ++ op ∷ []) c.commands_are ∙ sym (commands-append (c.stable ++ c.pending) (new ∷ []))
+        ∙ ap (λ (l : List (Record O)). commands_of l) (append_assoc c.stable c.pending (new ∷ [])) in
+        let waits : engine.log.log.pending ≡ before.log.log.pending ++ record_code (meaning_in meaning p) new =
+        ap (λ (v : RecordLogView). v.log.pending) t.log ∙ ap (λ (x : Params). before.log.log.pending ++ record_code (meaning_in meaning x) new) c.params in
+        let carried : Carries meaning p d engine (commands ++ op ∷ []) = record {
+          told = c.told;
+          params = ap (λ (s : SlotsView). s.params) t.slots ∙ c.params;
+          stable = c.stable;
+          pending = c.pending ++ new ∷ [];
+          log = keeps_append (meaning_in meaning p) d before.log engine.log c.stable c.pending new c.log (omega (arith, number), grammar) (refl, number)
+              (ap (λ (v : RecordLogView). v.log.active) t.log) (ap (λ (v : RecordLogView). v.log.header) t.log) (ap (λ (v : RecordLogView). v.log.end) t.log) waits
+              (ap (λ (v : RecordLogView). v.next) t.log) (ap (λ (v : RecordLogView). v.accepted) t.log) (ap (λ (v : RecordLogView). v.forced) t.log);
+          commands_are = commands_are;
+          active = ap (λ (v : RecordLogView). v.log.active) t.log ∙ c.active;
+          base = ap (λ (v : RecordLogView). v.log.header.base) t.log ∙ c.base;
+          none_before = ap (λ (v : RecordLogView). v.log.header.commands) t.log ∙ c.none_before;
+          accepted = t.accepted;
+          forced = t.forced;
+          laid = t.laid (d.reads Objects) c.laid;
+          shut = c.shut;
+          other = c.other;
+          values = λ x below. value_after x below ∙ ap (λ (s : State). s x) (sym (fold-append (after (meaning_in meaning p)) start commands (op ∷ [])));
+          unbroken = t.broken ∙ c.unbroken;
+        } in
+        let as_many : engine.forced ≡ before.forced = t.forced ∙ ap (λ (v : RecordLogView). v.forced) t.log ∙ sym c.forced in (
+          accepted_is meaning p d engine (commands ++ op ∷ []) carried ∙ length-append commands (op ∷ []),
+          record { holds = make_holds meaning p d engine (commands ++ op ∷ []) carried; rising = omega (arith, as_many) },
+        )

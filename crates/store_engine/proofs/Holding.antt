@@ -1,56 +1,66 @@
 -- What an engine that carries commands stands for, and what a force makes of it.
-use Rattle.std.proofs.Common.{◌≡◌, ◌≤◌, ⊎_elim, ◌⊎◌, ℕ, ◌+◌, List, [], ◌∷◌, ◌++◌, length, map, false, take, refl, sym, ap, ◌∙◌, subst, arith, length-append}
-use Rattle.std.specs.Prelude.{Some}
+use Rattle.std.proofs.Common.{◌≡◌, ◌≤◌, ⊎_elim, ◌⊎◌, ℕ, ◌+◌, Bool, List, [], ◌∷◌, ◌++◌, length, map, false, take, refl, sym, ap, ◌∙◌, subst, arith, length-append}
 use Rattle.std.proofs.lemmas.List.{append-nil, take_at, take_all}
-use Rattle.std.proofs.lemmas.Option.{slice_get-get_or}
 use Rattle.disk_model.specs.Disk.{Files, Disk, IsDisk, Runs, Same, Any, In, LeavesOnly}
 use Rattle.disk_model.specs.Moments.{started, weaker}
 use Rattle.disk_model.specs.declared.machine.FileNo.{FileNo}
 use Rattle.disk_model.specs.declared.machine.FileNo.TheVariants.{Objects, LogA, LogB}
+use Rattle.oper_core.specs.Meaning.{Meaning}
+use Rattle.oper_core.specs.declared.bounds.Bounds.{Bounds}
 use Rattle.formats.specs.Log.{Header, IsShutLog}
-use Rattle.formats.specs.Objects.{IsObjectsFile, bounds_of}
+use Rattle.formats.specs.Objects.{IsObjectsFile, AreSlotsShut, bounds_of}
 use Rattle.formats.specs.Image.{EndsAt}
 use Rattle.formats.specs.Records.{payload_of, commands_of, IsRecordLog}
-use Rattle.log_frames.specs.LogView.{end_with}
 use Rattle.formats.specs.declared.params.Params.{Params}
 use Rattle.formats.specs.declared.record.Record.{Record}
-use Rattle.formats.specs.declared.record.Record.TheVariants.{Command as Numbered}
-use Rattle.oper_core.specs.declared.bounds.Bounds.{Bounds}
-use Rattle.op_codec.specs.AllOps.{all_meaning}
+use Rattle.formats.specs.declared.record.Record.TheVariants.{Command}
+use Rattle.log_frames.specs.LogView.{end_with}
 use Rattle.log_records.specs.RecordLog.{RecordLogView, Keeps, HoldsRecords, IsForcedPartly}
-use Rattle.store_engine.specs.Store.{Command, meaning_in, Stands}
-use Rattle.store_engine.specs.Engine.{EngineView, view_of, AreParts, IsMapOf, Carries, Holds, Between, Kept, something_waits, log_length}
+use Rattle.store_engine.specs.Laid.{Laid, IsLaidOn, values_in}
+use Rattle.store_engine.specs.Store.{meaning_in, state_of, Stands}
+use Rattle.store_engine.specs.Engine.{EngineView, view_of, AreParts, IsAttached, Carries, Holds, Between, Kept, something_waits, log_length}
 
 pub commands-append : {O : Type 0} (xs ys : List (Record O)) → commands_of (xs ++ ys) ≡ commands_of xs ++ commands_of ys
 commands-append [] ys = refl
-commands-append {O} (Numbered n op ∷ xs) ys = ap (λ (l : List O). op ∷ l) (commands-append xs ys)
+commands-append {O} (Command n op ∷ xs) ys = ap (λ (l : List O). op ∷ l) (commands-append xs ys)
 
 pub commands_length : {O : Type 0} (records : List (Record O)) → length (commands_of records) ≡ length records
 commands_length [] = refl
-commands_length (Numbered n op ∷ records) = let rest = commands_length records in omega (arith, rest)
+commands_length (Command n op ∷ records) = let rest = commands_length records in omega (arith, rest)
 
 none_left : {O : Type 0} (records : List (Record O)) → length (commands_of records) ≡ 0 → records ≡ []
 none_left [] none = refl
-none_left (Numbered n op ∷ records) none = absurd (omega (arith, none))
+none_left (Command n op ∷ records) none = absurd (omega (arith, none))
 
-module _ (p : Params) where
+-- a call that changes the active log alone leaves the engine on its files
+pub attached_after : (old new : Disk) (objects : Laid) (log after : RecordLogView) (broken broken' : Bool) → Runs (In log.log.active Any) Same old new
+    → after.log.active ≡ log.log.active → IsAttached old (view_of objects log broken) → IsAttached new (view_of objects after broken')
+attached_after old new objects log after broken broken' runs same attached told_new =
+    let told = runs.time.files_told.1 told_new in
+    let is = attached told in
+    let kept = (runs.reads told).others Objects (λ e. is.1 (sym e)) in
+    (subst (λ (f : List ℕ). IsLaidOn objects f) (sym kept) is.0, λ e. is.1 (sym same ∙ e))
+
+module _ {O : Type 0} (meaning : Bounds → Meaning O) (p : Params) where
   -- files with these parts stand for the commands of the records
-  pub stands_by : (files : Files) (header : Header) (records : List (Record Command)) → header.base ≡ 1 → header.commands ≡ 0
-      → HoldsRecords (meaning_in p) header records (files LogA) → IsObjectsFile p (files Objects) → IsShutLog (files LogB) → Stands p files (commands_of records)
-  stands_by files header records base none_before held objects other = record {
+  pub stands_by : (files : Files) (header : Header) (records : List (Record O)) → header.base ≡ 1 → header.commands ≡ 0
+      → HoldsRecords (meaning_in meaning p) header records (files LogA) → IsObjectsFile p (files Objects) → AreSlotsShut p (files Objects) → IsShutLog (files LogB)
+      → Stands meaning p files (commands_of records)
+  stands_by files header records base none_before held objects shut other = record {
     objects = objects;
+    shut = shut;
     log = record {
       header = header;
       groups = held.groups;
       log = held.log;
       base = base;
       none_before = none_before;
-      commands_are = ap (λ (l : List (Record Command)). commands_of l) (sym held.records_are);
+      commands_are = ap (λ (l : List (Record O)). commands_of l) (sym held.records_are);
     };
     other = other;
   }
 
-  module _ (d : Disk) (engine : EngineView) (commands : List Command) (c : Carries p d engine commands) where
+  module _ (d : Disk) (engine : EngineView) (commands : List O) (c : Carries meaning p d engine commands) where
     pub parts_are : commands ≡ commands_of c.stable ++ commands_of c.pending
     parts_are = c.commands_are ∙ commands-append c.stable c.pending
 
@@ -58,36 +68,33 @@ module _ (p : Params) where
     forced_is = let k = c.log in omega (arith, c.forced, k.forced_are, c.none_before)
 
     pub accepted_is : engine.accepted ≡ length commands
-    accepted_is = let k = c.log in omega (arith, c.accepted, k.accepted_are, c.none_before, ap (λ (l : List Command). length l) c.commands_are)
+    accepted_is = let k = c.log in omega (arith, c.accepted, k.accepted_are, c.none_before, ap (λ (l : List O). length l) c.commands_are)
 
     pub lengths : length commands ≡ length (commands_of c.stable) + length (commands_of c.pending)
-    lengths = ap (λ (l : List Command). length l) parts_are ∙ length-append (commands_of c.stable) (commands_of c.pending)
+    lengths = ap (λ (l : List O). length l) parts_are ∙ length-append (commands_of c.stable) (commands_of c.pending)
 
     pub within : engine.forced ≤ length commands
     within = omega (arith, forced_is, lengths)
 
     pub taken : take engine.forced commands ≡ commands_of c.stable
-    taken = ap (λ (l : List Command). take engine.forced l) parts_are ∙ take_at (commands_of c.stable) (commands_of c.pending) engine.forced (sym forced_is)
+    taken = ap (λ (l : List O). take engine.forced l) parts_are ∙ take_at (commands_of c.stable) (commands_of c.pending) engine.forced (sym forced_is)
 
-    abbrev pub held_stable : HoldsRecords (meaning_in p) engine.log.log.header c.stable (d.reads LogA)
+    -- the slots stand in the objects file of the store
+    pub whole : IsObjectsFile p (d.reads Objects)
+    whole = subst (λ (x : Params). IsObjectsFile x (d.reads Objects)) c.params c.laid.slots.whole
+
+    abbrev pub held_stable : HoldsRecords (meaning_in meaning p) engine.log.log.header c.stable (d.reads LogA)
     held_stable = record {
       groups = c.log.groups;
-      log = subst (λ (f : FileNo). IsRecordLog (meaning_in p) engine.log.log.header c.log.groups (d.reads f)) c.active c.log.file;
+      log = subst (λ (f : FileNo). IsRecordLog (meaning_in meaning p) engine.log.log.header c.log.groups (d.reads f)) c.active c.log.file;
       records_are = c.log.stable_are;
     }
 
-    stands_now : Stands p d.reads (take engine.forced commands)
-    stands_now = subst (λ (l : List Command). Stands p d.reads l) (sym taken) (stands_by d.reads engine.log.log.header c.stable c.base c.none_before held_stable c.objects c.other)
+    stands_now : Stands meaning p d.reads (take engine.forced commands)
+    stands_now = subst (λ (l : List O). Stands meaning p d.reads l) (sym taken) (stands_by d.reads engine.log.log.header c.stable c.base c.none_before held_stable whole c.shut c.other)
 
     pub image_is : d.tells_moments → (files : Files) (said : List ℕ) → d.left_since d.clock files said → files ≡ d.reads
     image_is told files said left = λ i file. c.log.settled file told files said left i
-
-    map_is : IsMapOf p engine.map commands
-    map_is = record {
-      size = c.values.size;
-      each = λ x below. let size = c.values.size in
-          slice_get-get_or engine.map x [] (omega (arith, size, below)) ∙ ap (λ (v : List ℕ). Some v) (c.values.each x);
-    }
 
     pub none_waits : engine.forced ≡ length commands → c.pending ≡ []
     none_waits all = none_left c.pending (omega (arith, all, forced_is, lengths))
@@ -95,10 +102,10 @@ module _ (p : Params) where
     -- where all are forced, the log ends where the engine says
     pub ends_here : engine.forced ≡ length commands → EndsAt d.reads (log_length engine).used × ((log_length engine).waits ≡ false)
     ends_here all =
-        let empty : engine.log.log.pending ≡ [] = c.log.pending_are ∙ ap (λ (l : List (Record Command)). payload_of (meaning_in p) l) (none_waits all) in (
+        let empty : engine.log.log.pending ≡ [] = c.log.pending_are ∙ ap (λ (l : List (Record O)). payload_of (meaning_in meaning p) l) (none_waits all) in (
           record {
             header = engine.log.log.header;
-            payloads = map (payload_of (meaning_in p)) c.log.groups;
+            payloads = map (payload_of (meaning_in meaning p)) c.log.groups;
             log = held_stable.log.log;
             here = ap (λ (l : List ℕ). end_with engine.log.log.end l) empty ∙ c.log.place;
           },
@@ -106,49 +113,51 @@ module _ (p : Params) where
         )
 
     -- an engine that carries commands stands for them
-    pub make_holds : Holds p d engine commands
+    pub make_holds : Holds meaning p d engine commands
     make_holds = record {
       told = c.told;
       params = c.params;
       accepted = accepted_is;
       forced = within;
       now = stands_now;
-      images = λ told files said left. subst (λ (f : Files). Stands p f (take engine.forced commands)) (sym (image_is told files said left)) stands_now;
-      map_is = map_is;
+      images = λ told files said left. subst (λ (f : Files). Stands meaning p f (take engine.forced commands)) (sym (image_is told files said left)) stands_now;
+      map_is = c.values;
       ends = ends_here;
       carried = c;
     }
 
     -- what a crash within a force leaves
-    partly : (new : Disk) (files : Files) (said : List ℕ) → IsForcedPartly (meaning_in p) d engine.log c.stable c.pending files said → Between p d engine.forced commands files said
-    partly new files said is =
-        let each = subst (λ (f : FileNo). In f (λ (old new' : List ℕ). HoldsRecords (meaning_in p) engine.log.log.header c.stable new' ⊎ HoldsRecords (meaning_in p) engine.log.log.header (c.stable ++ c.pending) new') d.reads files) c.active is.each_file in
-        let objects = subst (λ (l : List ℕ). IsObjectsFile p l) (sym (each.others Objects (λ e. cc))) c.objects in
+    partly : (files : Files) (said : List ℕ) → IsForcedPartly (meaning_in meaning p) d engine.log c.stable c.pending files said → Between meaning p d engine.forced commands files said
+    partly files said is =
+        let each = subst (λ (f : FileNo). In f (λ (old new' : List ℕ). HoldsRecords (meaning_in meaning p) engine.log.log.header c.stable new' ⊎ HoldsRecords (meaning_in meaning p) engine.log.log.header (c.stable ++ c.pending) new') d.reads files) c.active is.each_file in
+        let same = sym (each.others Objects (λ e. cc)) in
+        let objects = subst (λ (l : List ℕ). IsObjectsFile p l) same whole in
+        let shut = subst (λ (l : List ℕ). AreSlotsShut p l) same c.shut in
         let other = subst (λ (l : List ℕ). IsShutLog l) (sym (each.others LogB (λ e. cc))) c.other in
         ⊎_elim
-        (λ (held : HoldsRecords (meaning_in p) engine.log.log.header c.stable (files LogA)). record {
+        (λ (held : HoldsRecords (meaning_in meaning p) engine.log.log.header c.stable (files LogA)). record {
           quiet = is.nothing_said;
           kept = engine.forced;
           enough = omega arith;
           within = within;
-          stands = subst (λ (l : List Command). Stands p files l) (sym taken) (stands_by files engine.log.log.header c.stable c.base c.none_before held objects other);
+          stands = subst (λ (l : List O). Stands meaning p files l) (sym taken) (stands_by files engine.log.log.header c.stable c.base c.none_before held objects shut other);
         })
-        (λ (held : HoldsRecords (meaning_in p) engine.log.log.header (c.stable ++ c.pending) (files LogA)). record {
+        (λ (held : HoldsRecords (meaning_in meaning p) engine.log.log.header (c.stable ++ c.pending) (files LogA)). record {
           quiet = is.nothing_said;
           kept = length commands;
           enough = within;
           within = omega arith;
-          stands = subst (λ (l : List Command). Stands p files l) (sym c.commands_are ∙ sym (take_all (length commands) commands (omega arith)))
-              (stands_by files engine.log.log.header (c.stable ++ c.pending) c.base c.none_before held objects other);
+          stands = subst (λ (l : List O). Stands meaning p files l) (sym c.commands_are ∙ sym (take_all (length commands) commands (omega arith)))
+              (stands_by files engine.log.log.header (c.stable ++ c.pending) c.base c.none_before held objects shut other);
         })
         each.changed
 
-    pub force_between : (new : Disk) → LeavesOnly d new (IsForcedPartly (meaning_in p) d engine.log c.stable c.pending) → LeavesOnly d new (Between p d engine.forced commands)
-    force_between new leaves = weaker d new (IsForcedPartly (meaning_in p) d engine.log c.stable c.pending) (Between p d engine.forced commands) leaves (partly new)
+    pub force_between : (new : Disk) → LeavesOnly d new (IsForcedPartly (meaning_in meaning p) d engine.log c.stable c.pending) → LeavesOnly d new (Between meaning p d engine.forced commands)
+    force_between new leaves = weaker d new (IsForcedPartly (meaning_in meaning p) d engine.log c.stable c.pending) (Between meaning p d engine.forced commands) leaves partly
 
   -- no call leaves what there is
-  pub between_here : (d : Disk) (engine : EngineView) (commands : List Command) → IsDisk d → Holds p d engine commands → d.tells_moments → LeavesOnly d d (Between p d engine.forced commands)
-  between_here d engine commands lawful h told = started d (Between p d engine.forced commands) (λ files said left. record {
+  pub between_here : (d : Disk) (engine : EngineView) (commands : List O) → IsDisk d → Holds meaning p d engine commands → d.tells_moments → LeavesOnly d d (Between meaning p d engine.forced commands)
+  between_here d engine commands lawful h told = started d (Between meaning p d engine.forced commands) (λ files said left. record {
     quiet = lawful.said_now told files said left;
     kept = engine.forced;
     enough = omega arith;
@@ -156,47 +165,50 @@ module _ (p : Params) where
     stands = h.images told files said left;
   })
 
-  module _ (old new : Disk) (q : Params) (map : List (List ℕ)) (log after : RecordLogView) (engine : EngineView) (commands : List Command)
-      (same : view_of q map log ≡ engine) (parts : AreParts q map log) (h : Holds p old engine commands) where
-    inside : Carries p old (view_of q map log) commands
-    inside = subst (λ (e : EngineView). Carries p old e commands) (sym same) h.carried
+  module _ (old new : Disk) (objects : Laid) (log after : RecordLogView) (broken : Bool) (engine : EngineView) (commands : List O)
+      (same : view_of objects log broken ≡ engine) (parts : AreParts objects log) (h : Holds meaning p old engine commands) where
+    inside : Carries meaning p old (view_of objects log broken) commands
+    inside = subst (λ (e : EngineView). Carries meaning p old e commands) (sym same) h.carried
 
     pub own_bounds : log.bounds ≡ bounds_of p
-    own_bounds = parts.bounds ∙ ap (λ (x : Params). bounds_of x) inside.params
+    own_bounds = parts ∙ ap (λ (x : Params). bounds_of x) inside.params
 
     -- after a force all commands are stable
     pub forced_all : Runs (In log.log.active Any) Same old new
-        → ((stable pending : List (Record Command)) → Keeps (all_meaning log.bounds) old log stable pending → Keeps (all_meaning log.bounds) new after (stable ++ pending) [])
+        → ((stable pending : List (Record O)) → Keeps (meaning log.bounds) old log stable pending → Keeps (meaning log.bounds) new after (stable ++ pending) [])
         → after.log.active ≡ log.log.active → after.log.header ≡ log.log.header
-        → (after.forced ≡ length commands) × (after.forced ≡ length commands) × Kept p engine new (view_of q map after) commands
+        → (after.forced ≡ length commands) × (after.forced ≡ length commands) × Kept meaning p engine new (view_of objects after broken) commands
     forced_all runs keeps active header =
         let c = inside in
-        let acknowledged = subst (λ (b : Bounds). (stable pending : List (Record Command)) → Keeps (all_meaning b) old log stable pending → Keeps (all_meaning b) new after (stable ++ pending) []) own_bounds keeps in
+        let acknowledged = subst (λ (b : Bounds). (stable pending : List (Record O)) → Keeps (meaning b) old log stable pending → Keeps (meaning b) new after (stable ++ pending) []) own_bounds keeps in
         let reads = subst (λ (f : FileNo). In f Any old.reads new.reads) c.active (runs.reads c.told) in
-        let carried : Carries p new (view_of q map after) commands = record {
+        let kept = sym (reads.others Objects (λ e. cc)) in
+        let carried : Carries meaning p new (view_of objects after broken) commands = record {
           told = runs.time.files_told.0 c.told;
           params = c.params;
           stable = c.stable ++ c.pending;
           pending = [];
           log = acknowledged c.stable c.pending c.log;
-          commands_are = c.commands_are ∙ ap (λ (l : List (Record Command)). commands_of l) (sym (append-nil (c.stable ++ c.pending)));
+          commands_are = c.commands_are ∙ ap (λ (l : List (Record O)). commands_of l) (sym (append-nil (c.stable ++ c.pending)));
           active = active ∙ c.active;
           base = ap (λ (x : Header). x.base) header ∙ c.base;
           none_before = ap (λ (x : Header). x.commands) header ∙ c.none_before;
           accepted = refl;
           forced = refl;
-          objects = subst (λ (l : List ℕ). IsObjectsFile p l) (sym (reads.others Objects (λ e. cc))) c.objects;
+          laid = subst (λ (l : List ℕ). IsLaidOn objects l) kept c.laid;
+          shut = subst (λ (l : List ℕ). AreSlotsShut p l) kept c.shut;
           other = subst (λ (l : List ℕ). IsShutLog l) (sym (reads.others LogB (λ e. cc))) c.other;
-          values = c.values;
+          values = λ x below. subst (λ (l : List ℕ). values_in objects l x ≡ state_of meaning p commands x) kept (c.values x below);
+          unbroken = c.unbroken;
         } in
-        let all : after.forced ≡ length commands = forced_is new (view_of q map after) commands carried ∙ ap (λ (l : List Command). length l) (sym c.commands_are) in
+        let all : after.forced ≡ length commands = forced_is new (view_of objects after broken) commands carried ∙ ap (λ (l : List O). length l) (sym c.commands_are) in
         let before = h.forced in
-        (all, all, record { holds = make_holds new (view_of q map after) commands carried; rising = omega (arith, all, before) })
+        (all, all, record { holds = make_holds new (view_of objects after broken) commands carried; rising = omega (arith, all, before) })
 
     -- a crash within it leaves the commands that were stable, or all
-    pub forced_between : ((stable pending : List (Record Command)) → Keeps (all_meaning log.bounds) old log stable pending → LeavesOnly old new (IsForcedPartly (all_meaning log.bounds) old log stable pending))
-        → LeavesOnly old new (Between p old engine.forced commands)
+    pub forced_between : ((stable pending : List (Record O)) → Keeps (meaning log.bounds) old log stable pending → LeavesOnly old new (IsForcedPartly (meaning log.bounds) old log stable pending))
+        → LeavesOnly old new (Between meaning p old engine.forced commands)
     forced_between leaves =
         let c = inside in
-        let own = subst (λ (b : Bounds). (stable pending : List (Record Command)) → Keeps (all_meaning b) old log stable pending → LeavesOnly old new (IsForcedPartly (all_meaning b) old log stable pending)) own_bounds leaves in
-        subst (λ (e : EngineView). LeavesOnly old new (Between p old e.forced commands)) same (force_between old (view_of q map log) commands c new (own c.stable c.pending c.log))
+        let own = subst (λ (b : Bounds). (stable pending : List (Record O)) → Keeps (meaning b) old log stable pending → LeavesOnly old new (IsForcedPartly (meaning b) old log stable pending)) own_bounds leaves in
+        subst (λ (e : EngineView). LeavesOnly old new (Between meaning p old e.forced commands)) same (force_between old (view_of objects log broken) commands c new (own c.stable c.pending c.log))

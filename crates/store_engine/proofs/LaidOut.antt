@@ -1,5 +1,5 @@
 -- What the laying out of a store leaves at each moment.
-use Rattle.std.proofs.Common.{◌≡◌, inl, inr, ℕ, List, [], ◌∷◌, length, get_or, take, drop, refl, sym, ◌∙◌, ap, subst, arith, length-take}
+use Rattle.std.proofs.Common.{OnOk, Result, Ok, Err, is_err, false, ◌≡◌, inl, inr, ℕ, List, [], ◌∷◌, length, get_or, take, drop, refl, sym, ◌∙◌, ap, subst, arith, length-take}
 use Rattle.std.specs.Prelude.{codes}
 use Rattle.std.proofs.lemmas.List.{get_or-take}
 use Rattle.std.proofs.lemmas.Bool.{cases_eq}
@@ -8,11 +8,12 @@ use Rattle.disk_model.specs.Moments.{first_call, goes_on, runs_on, weaker, from_
 use Rattle.disk_model.specs.declared.machine.FileNo.TheVariants.{Objects, LogA, LogB}
 use Rattle.formats.specs.Bytes.{IsShutAt}
 use Rattle.formats.specs.Log.{new_header, IsWholeLog, IsShutLog}
-use Rattle.formats.specs.Objects.{IsObjectsFile}
 use Rattle.formats.specs.Image.{BeginsStore}
+use Rattle.oper_core.specs.Meaning.{Meaning}
+use Rattle.oper_core.specs.declared.bounds.Bounds.{Bounds}
 use Rattle.formats.specs.declared.params.Params.{Params}
 use Rattle.log_frames.specs.Creating.{LogsAlone}
-use Rattle.stable_objects.specs.Making.{IsShut, IsShutOrWhole}
+use Rattle.stable_objects.specs.Making.{IsShut, IsNewFile, IsShutOrWhole}
 use Rattle.store_engine.specs.Engine.{InEachImage, IsNew}
 use Rattle.store_engine.specs.Store.{Stands}
 
@@ -36,92 +37,99 @@ torn_begins (gate ∷ rest) (gate' ∷ rest') none idle torn begins =
       | inr shut ↦ none (subst (λ (l : List ℕ). BeginsStore l) (idle (record { some = omega arith; shut = shut })) begins)
     ]
 
--- files with these parts are a store without commands
-pub stands_new : (p : Params) (files : Files) → IsObjectsFile p (files Objects) → IsWholeLog new_header [] (files LogA) → IsShutLog (files LogB) → Stands p files []
-stands_new p files objects log other = record {
-  objects = objects;
-  log = record { header = new_header; groups = []; log = record { log = log; numbered = tt }; base = refl; none_before = refl; commands_are = refl };
-  other = other;
-}
-
--- so far no store is there, or one without commands
-abbrev pub NewSoFar : Params → Disk → Files → List ℕ → Type 0
-NewSoFar p old files said = IsNew p files × (said ≡ old.said)
-
-module _ (p : Params) (old first : Disk) (told : old.tells_moments) (settled : IsSettled old) (none : BeginsStore (old.reads Objects) → ⊥) (kept : Stays old first) where
-  looked : LeavesOnly old first (NewSoFar p old)
-  looked = first_call old first (NewSoFar p old) told kept.time (λ files said left.
-      let from = from_reads old first Same Same told settled kept.crash files said left in
-      (inl (λ begins. none (subst (λ (f : Files). BeginsStore (f Objects)) from.0 begins)), from.1))
-
-  tells : old.tells_files
-  tells = kept.begins.telling told
-
-  settled_first : IsSettled first
-  settled_first file = stays_settled old first file kept (settled file)
-
-  -- while the gate is closed
-  pub shutting : (second : Disk) → Runs (In Objects (Torn 0 1)) Same first second → (first.tells_files → IsShut (first.reads Objects) → Stays first second) → LeavesOnly old second (NewSoFar p old)
-  shutting second run idle =
-      let told_first = kept.time.moments_told.0 told in
-      let none_first = λ (begins : BeginsStore (first.reads Objects)). none (subst (λ (f : Files). BeginsStore (f Objects)) (kept.reads tells) begins) in
-      goes_on old first second (NewSoFar p old) told_first looked run.time (λ files said left.
-      let from = from_reads first second (In Objects (Torn 0 1)) Same told_first settled_first run.crash files said left in
-      let same = λ (shut : IsShut (first.reads Objects)).
-      ap (λ (f : Files). f Objects) (from_reads first second Same Same told_first settled_first (idle (kept.time.files_told.0 tells) shut).crash files said left).0 in
-      (inl (torn_begins (first.reads Objects) (files Objects) none_first same from.0.changed), from.1 ∙ kept.said tells))
-
-  module _ (second third : Disk) (run : Runs (In Objects (Torn 0 1)) Same first second) (idle : first.tells_files → IsShut (first.reads Objects) → Stays first second)
-      (settles : IsSettled first → IsSettled second) (shuts : first.tells_files → IsShut (second.reads Objects)) (logs : Runs LogsAlone Same second third) where
-    tells_second : second.tells_files
-    tells_second = run.time.files_told.0 (kept.time.files_told.0 tells)
-
-    told_second : second.tells_moments
-    told_second = run.time.moments_told.0 (kept.time.moments_told.0 told)
-
-    shut : IsShut (second.reads Objects)
-    shut = shuts (kept.time.files_told.0 tells)
-
-    said_second : second.said ≡ old.said
-    said_second = run.said (kept.time.files_told.0 tells) ∙ kept.said tells
-
-    -- while the logs are made
-    pub logging : LeavesOnly old third (NewSoFar p old)
-    logging = goes_on old second third (NewSoFar p old) told_second (shutting second run idle) logs.time (λ files said left.
-        let from = from_reads second third LogsAlone Same told_second (settles settled_first) logs.crash files said left in
-        let same : files Objects ≡ second.reads Objects = from.0 in
-        (inl (shut_begins (files Objects) (subst (λ (l : List ℕ). IsShutAt 0 l) (sym same) shut.shut)), from.1 ∙ said_second))
-
-    new_or_none : (files : Files) (said : List ℕ) → IsShutOrWhole third p files said → IsWholeLog new_header [] (third.reads LogA) → IsShutLog (third.reads LogB) → NewSoFar p old files said
-    new_or_none files said is log_a log_b =
-        let silent : said ≡ old.said = is.silent ∙ logs.said tells_second ∙ said_second in elim is.objects [
-          | inl closed ↦ (inl (shut_begins (files Objects) closed), silent)
-          | inr whole ↦ (
-            inr (stands_new p files whole (subst (λ (l : List ℕ). IsWholeLog new_header [] l) (sym (is.others LogA (λ e. cc))) log_a) (subst (λ (l : List ℕ). IsShutLog l) (sym (is.others LogB (λ e. cc))) log_b)),
-            silent,
-          )
-        ]
-
-    -- while the objects are made
-    pub laying_out : (fourth : Disk) → (second.tells_files → IsWholeLog new_header [] (third.reads LogA) × IsShutLog (third.reads LogB)) → (IsSettled second → IsSettled third)
-        → (third.tells_moments → IsSettled third → IsShut (third.reads Objects) → LeavesOnly third fourth (IsShutOrWhole third p)) → LeavesOnly old fourth (NewSoFar p old)
-    laying_out fourth made settles_third leaves =
-        let same : third.reads Objects ≡ second.reads Objects = logs.reads tells_second in
-        let shut_third = subst (λ (l : List ℕ). IsShut l) (sym same) shut in
-        runs_on old third fourth (NewSoFar p old) logging
-        (weaker third fourth (IsShutOrWhole third p) (NewSoFar p old) (leaves (logs.time.moments_told.0 told_second) (settles_third (settles settled_first)) shut_third)
-        (λ files said is. new_or_none files said is (made tells_second).0 (made tells_second).1))
-
--- a store that is laid out is there after each crash
-pub laid_out : (p : Params) (third fourth : Disk) → third.tells_files → IsSettled fourth → Runs (In Objects Any) Same third fourth → IsObjectsFile p (fourth.reads Objects)
-    → IsWholeLog new_header [] (third.reads LogA) → IsShutLog (third.reads LogB) → InEachImage fourth (λ files. Stands p files [])
-laid_out p third fourth told_third settled run objects log_a log_b =
-    let reads = run.reads told_third in
-    let here = stands_new p fourth.reads objects (subst (λ (l : List ℕ). IsWholeLog new_header [] l) (sym (reads.others LogA (λ e. cc))) log_a) (subst (λ (l : List ℕ). IsShutLog l) (sym (reads.others LogB (λ e. cc))) log_b) in
-    let image_is : fourth.tells_moments → (files : Files) (said : List ℕ) → fourth.left_since fourth.clock files said → files ≡ fourth.reads = λ told files said left i file. settled file told files said left i in
-    (here, λ told files said left. subst (λ (f : Files). Stands p f []) (sym (image_is told files said left)) here)
-
 -- the calls in a row
 pub in_a_row : (old first second third : Disk) → Stays old first → Runs (In Objects (Torn 0 1)) Same first second → Runs LogsAlone Same second third → Passes old third
 in_a_row old first second third kept run logs =
     passes_twice old second third logs.ends (passes_twice old first second run.ends kept.time run.time) logs.time
+
+-- where a call did not fail, its clause on success holds
+pub on_ok : {T E : Type 0} (r : Result T E) (P : Type 0) → is_err r ≡ false → OnOk r P → P
+on_ok (Ok x) P fine here = here
+on_ok (Err e) P fine here = cc
+
+module _ {O : Type 0} (meaning : Bounds → Meaning O) (p : Params) where
+  -- files with these parts are a store without commands
+  pub stands_new : (files : Files) → IsNewFile p (files Objects) → IsWholeLog new_header [] (files LogA) → IsShutLog (files LogB) → Stands meaning p files []
+  stands_new files objects log other = record {
+    objects = objects.whole;
+    shut = objects.shut;
+    log = record { header = new_header; groups = []; log = record { log = log; numbered = tt }; base = refl; none_before = refl; commands_are = refl };
+    other = other;
+  }
+
+  -- so far no store is there, or one without commands
+  abbrev pub NewSoFar : Disk → Files → List ℕ → Type 0
+  NewSoFar old files said = IsNew meaning p files × (said ≡ old.said)
+
+  module _ (old first : Disk) (told : old.tells_moments) (settled : IsSettled old) (none : BeginsStore (old.reads Objects) → ⊥) (kept : Stays old first) where
+    looked : LeavesOnly old first (NewSoFar old)
+    looked = first_call old first (NewSoFar old) told kept.time (λ files said left.
+        let from = from_reads old first Same Same told settled kept.crash files said left in
+        (inl (λ begins. none (subst (λ (f : Files). BeginsStore (f Objects)) from.0 begins)), from.1))
+
+    tells : old.tells_files
+    tells = kept.begins.telling told
+
+    settled_first : IsSettled first
+    settled_first file = stays_settled old first file kept (settled file)
+
+    -- while the gate is closed
+    pub shutting : (second : Disk) → Runs (In Objects (Torn 0 1)) Same first second → (first.tells_files → IsShut (first.reads Objects) → Stays first second) → LeavesOnly old second (NewSoFar old)
+    shutting second run idle =
+        let told_first = kept.time.moments_told.0 told in
+        let none_first = λ (begins : BeginsStore (first.reads Objects)). none (subst (λ (f : Files). BeginsStore (f Objects)) (kept.reads tells) begins) in
+        goes_on old first second (NewSoFar old) told_first looked run.time (λ files said left.
+        let from = from_reads first second (In Objects (Torn 0 1)) Same told_first settled_first run.crash files said left in
+        let same = λ (shut : IsShut (first.reads Objects)).
+        ap (λ (f : Files). f Objects) (from_reads first second Same Same told_first settled_first (idle (kept.time.files_told.0 tells) shut).crash files said left).0 in
+        (inl (torn_begins (first.reads Objects) (files Objects) none_first same from.0.changed), from.1 ∙ kept.said tells))
+
+    module _ (second third : Disk) (run : Runs (In Objects (Torn 0 1)) Same first second) (idle : first.tells_files → IsShut (first.reads Objects) → Stays first second)
+        (settles : IsSettled first → IsSettled second) (shuts : first.tells_files → IsShut (second.reads Objects)) (logs : Runs LogsAlone Same second third) where
+      tells_second : second.tells_files
+      tells_second = run.time.files_told.0 (kept.time.files_told.0 tells)
+
+      told_second : second.tells_moments
+      told_second = run.time.moments_told.0 (kept.time.moments_told.0 told)
+
+      shut : IsShut (second.reads Objects)
+      shut = shuts (kept.time.files_told.0 tells)
+
+      said_second : second.said ≡ old.said
+      said_second = run.said (kept.time.files_told.0 tells) ∙ kept.said tells
+
+      -- while the logs are made
+      pub logging : LeavesOnly old third (NewSoFar old)
+      logging = goes_on old second third (NewSoFar old) told_second (shutting second run idle) logs.time (λ files said left.
+          let from = from_reads second third LogsAlone Same told_second (settles settled_first) logs.crash files said left in
+          let same : files Objects ≡ second.reads Objects = from.0 in
+          (inl (shut_begins (files Objects) (subst (λ (l : List ℕ). IsShutAt 0 l) (sym same) shut.shut)), from.1 ∙ said_second))
+
+      new_or_none : (files : Files) (said : List ℕ) → IsShutOrWhole third p files said → IsWholeLog new_header [] (third.reads LogA) → IsShutLog (third.reads LogB) → NewSoFar old files said
+      new_or_none files said is log_a log_b =
+          let silent : said ≡ old.said = is.silent ∙ logs.said tells_second ∙ said_second in elim is.objects [
+            | inl closed ↦ (inl (shut_begins (files Objects) closed), silent)
+            | inr whole ↦ (
+              inr (stands_new files whole (subst (λ (l : List ℕ). IsWholeLog new_header [] l) (sym (is.others LogA (λ e. cc))) log_a) (subst (λ (l : List ℕ). IsShutLog l) (sym (is.others LogB (λ e. cc))) log_b)),
+              silent,
+            )
+          ]
+
+      -- while the objects are made
+      pub laying_out : (fourth : Disk) → (second.tells_files → IsWholeLog new_header [] (third.reads LogA) × IsShutLog (third.reads LogB)) → (IsSettled second → IsSettled third)
+          → (third.tells_moments → IsSettled third → IsShut (third.reads Objects) → LeavesOnly third fourth (IsShutOrWhole third p)) → LeavesOnly old fourth (NewSoFar old)
+      laying_out fourth made settles_third leaves =
+          let same : third.reads Objects ≡ second.reads Objects = logs.reads tells_second in
+          let shut_third = subst (λ (l : List ℕ). IsShut l) (sym same) shut in
+          runs_on old third fourth (NewSoFar old) logging
+          (weaker third fourth (IsShutOrWhole third p) (NewSoFar old) (leaves (logs.time.moments_told.0 told_second) (settles_third (settles settled_first)) shut_third)
+          (λ files said is. new_or_none files said is (made tells_second).0 (made tells_second).1))
+
+  -- a store that is laid out is there after each crash
+  pub laid_out : (third fourth : Disk) → third.tells_files → IsSettled fourth → Runs (In Objects Any) Same third fourth → IsNewFile p (fourth.reads Objects)
+      → IsWholeLog new_header [] (third.reads LogA) → IsShutLog (third.reads LogB) → InEachImage fourth (λ files. Stands meaning p files [])
+  laid_out third fourth told_third settled run objects log_a log_b =
+      let reads = run.reads told_third in
+      let here = stands_new fourth.reads objects (subst (λ (l : List ℕ). IsWholeLog new_header [] l) (sym (reads.others LogA (λ e. cc))) log_a) (subst (λ (l : List ℕ). IsShutLog l) (sym (reads.others LogB (λ e. cc))) log_b) in
+      let image_is : fourth.tells_moments → (files : Files) (said : List ℕ) → fourth.left_since fourth.clock files said → files ≡ fourth.reads = λ told files said left i file. settled file told files said left i in
+      (here, λ told files said left. subst (λ (f : Files). Stands meaning p f []) (sym (image_is told files said left)) here)

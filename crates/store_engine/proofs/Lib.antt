@@ -1,7 +1,13 @@
-pub mod Admitted
-pub mod ReplayLemmas
 pub mod Holding
-pub mod Opened
+pub mod SameMap
+pub mod Admitted
 pub mod Executed
+pub mod Answered
+pub mod LaidLemmas
+pub mod SetLemmas
+pub mod FetchLemmas
+pub mod RedoLemmas
+pub mod RedoneLemmas
+pub mod Opened
 pub mod LaidOut
 pub mod FixedState

@@ -1,34 +1,45 @@
--- What an opening reads, and why it fails.
-use Rattle.std.specs.Prelude.{◌≡◌, ⊤, ℕ, List, []}
-use Rattle.disk_model.specs.Disk.{Files, Disk}
+-- What an opening reads, and why it and the reading of a slot fail.
+use Rattle.std.specs.Prelude.{◌≡◌, ◌<◌, ◌≤◌, ◌+◌, ⊤, false, ℕ, List, [], length, fold}
+use Rattle.disk_model.specs.Disk.{Files, Disk, Rises}
 use Rattle.disk_model.specs.declared.machine.FileNo.{FileNo}
 use Rattle.disk_model.specs.declared.machine.FileNo.TheVariants.{Objects, LogA, LogB}
+use Rattle.oper_core.specs.Meaning.{Meaning}
+use Rattle.oper_core.specs.declared.bounds.Bounds.{Bounds}
+use Rattle.oper_core.specs.declared.refusal.Refusal.TheVariants.{NoObject}
+use Rattle.formats.specs.Bytes.{IsOpenAt}
 use Rattle.formats.specs.Log.{IsShutLog}
-use Rattle.formats.specs.Objects.{IsObjectsFile}
-use Rattle.formats.specs.Records.{records_of, commands_of, IsRecordLog}
+use Rattle.formats.specs.Objects.{cell_of, slot_place, identifier_at}
+use Rattle.formats.specs.Records.{records_of, IsRecordLog}
 use Rattle.formats.specs.declared.record.Record.{Record}
 use Rattle.log_frames.specs.declared.log_err.LogErr.{LogErr}
 use Rattle.log_frames.specs.declared.log_err.LogErr.TheVariants as of_log
 use Rattle.stable_objects.specs.declared.slot_err.SlotErr.{SlotErr}
 use Rattle.stable_objects.specs.declared.slot_err.SlotErr.TheVariants as of_slots
 use Rattle.log_records.specs.RecordLog.{Keeps}
-use Rattle.store_engine.specs.Engine.{EngineView}
-use Rattle.store_engine.specs.Replay.{IsListing}
-use Rattle.store_engine.specs.Store.{Command, meaning_in, state_of}
+use Rattle.store_engine.specs.Engine.{EngineView, IsAttached, params_of}
+use Rattle.store_engine.specs.Laid.{IsLaidOn, cell_in, redone}
+use Rattle.store_engine.specs.Store.{meaning_in}
+use Rattle.store_engine.specs.declared.exec_err.ExecErr.{ExecErr}
+use Rattle.store_engine.specs.declared.exec_err.ExecErr.TheVariants as of_exec
 use Rattle.store_engine.specs.declared.restart_err.RestartErr.{RestartErr}
 use Rattle.store_engine.specs.declared.restart_err.RestartErr.TheVariants.{DiskFault, NotAStore, Damaged, Memory}
 
--- the engine is what these files hold, and the machine is settled
-pub record IsRead (files : Files) (new : Disk) (engine : EngineView) : Type 0 where
-  pub objects : IsObjectsFile engine.params (files Objects)
-  pub groups : List (List (Record Command))
-  pub file : IsRecordLog (meaning_in engine.params) engine.log.log.header groups (files LogA)
+-- The engine is what these files hold, and the machine is settled: its objects are those of the slots, with the log's
+-- records done again.
+pub record IsRead {O : Type 0} (meaning : Bounds → Meaning O) (files : Files) (new : Disk) (engine : EngineView) : Type 0 where
+  pub laid : IsLaidOn engine.objects (files Objects)
+  pub groups : List (List (Record O))
+  pub file : IsRecordLog (meaning_in meaning (params_of engine)) engine.log.log.header groups (files LogA)
   pub other : IsShutLog (files LogB)
+  pub none_late : (x s : ℕ) → x < (params_of engine).objects → s < 2 → IsOpenAt (slot_place (params_of engine).cap x s) (files Objects)
+      → identifier_at (slot_place (params_of engine).cap x s) (files Objects) < engine.log.log.header.base + length (records_of groups)
   pub active : engine.log.log.active ≡ LogA
-  pub log : Keeps (meaning_in engine.params) new engine.log (records_of groups) []
+  pub log : Keeps (meaning_in meaning (params_of engine)) new engine.log (records_of groups) []
   pub accepted : engine.accepted ≡ engine.log.accepted
   pub forced : engine.forced ≡ engine.log.forced
-  pub values : IsListing (meaning_in engine.params) (state_of engine.params (commands_of (records_of groups))) engine.map
+  pub unbroken : engine.broken ≡ false
+  pub cells : (x : ℕ) → x < (params_of engine).objects → cell_in engine.objects (files Objects) x
+      ≡ fold (redone (meaning_in meaning (params_of engine))) (λ y. cell_of (params_of engine).cap y (files Objects)) (records_of groups) x
 
 -- Why an opening fails: by a fault of the disk, which then counts it, since the objects gate is closed, by a fault in
 -- the files, or for want of memory.
@@ -52,3 +63,25 @@ from_slots of_slots.NotAStore = NotAStore
 from_slots of_slots.DiskFault = DiskFault
 from_slots (of_slots.Damaged file place) = Damaged file place
 from_slots of_slots.Memory = Memory
+
+-- and what a call on an engine answers where a slot is not read
+abbrev pub exec_from_slots : SlotErr → ExecErr
+exec_from_slots of_slots.NotAStore = of_exec.Memory
+exec_from_slots of_slots.DiskFault = of_exec.DiskFault
+exec_from_slots (of_slots.Damaged file place) = of_exec.Damaged file place
+exec_from_slots of_slots.Memory = of_exec.Memory
+
+-- Why a command is not admitted: it is refused, or a read of a slot fails: by a fault of the disk, which then counts it,
+-- by damage, which no file has whose slots the engine's are, or for want of memory.
+abbrev pub IsReadFailure : Disk → Disk → EngineView → ExecErr → Type 0
+IsReadFailure old new engine (of_exec.Refused refusal) = ⊤
+IsReadFailure old new engine of_exec.DiskFault = Rises old.disk_faults new.disk_faults
+IsReadFailure old new engine (of_exec.Damaged file place) = old.tells_files → IsAttached old engine → ⊥
+IsReadFailure old new engine (of_exec.LogFull used need limit) = ⊥
+IsReadFailure old new engine (of_exec.LsnEnd number) = ⊥
+IsReadFailure old new engine of_exec.Memory = ⊤
+
+-- Why an object is not fetched: there is none, or else a read of its slot fails.
+abbrev pub IsFailure : Disk → Disk → EngineView → ℕ → ExecErr → Type 0
+IsFailure old new engine object (of_exec.Refused refusal) = (refusal ≡ NoObject) × ((params_of engine).objects ≤ object)
+IsFailure old new engine object e = (object < (params_of engine).objects) × IsReadFailure old new engine e

@@ -1,25 +1,31 @@
 ghost use Rattle.std.specs.Prelude.{◌≡◌};
+ghost use Rattle.store_engine.specs.Opening.{exec_from_slots};
 ghost use Rattle.store_engine.specs.declared.exec_err.ExecErr.TheVariants.{DiskFault, Memory as OutOfMemory};
 
 use crate::force_err::ForceErr;
+use disk_model::FileNo;
 use oper_core::Refusal;
+use stable_objects::SlotErr;
 use thiserror::Error;
 
-/// Why a command was not done.
+/// Why a command was not done, or an object not fetched.
 #[derive(Debug, Drop, Error)]
 pub enum ExecErr {
     /// It is refused on the values as they are.
     #[error("refused: {0}")]
     Refused(Refusal),
+    /// The disk failed, and the engine is not used again.
+    #[error("the disk failed")]
+    DiskFault,
+    /// The slot that was read breaks its format, in this file at this place.
+    #[error("{file:?} is damaged at {place}")]
+    Damaged { file: FileNo, place: u64 },
     /// The log has no room for its record.
     #[error("the log is full: {used} bytes are used, {need} more are needed, the limit is {limit}")]
     LogFull { used: u64, need: u64, limit: u64 },
     /// No record may have this number.
     #[error("no record may have the number {number}")]
     LsnEnd { number: u64 },
-    /// The disk failed, and the engine is not used again.
-    #[error("the disk failed")]
-    DiskFault,
     /// Want of memory.
     #[error("out of memory")]
     Memory,
@@ -38,5 +44,18 @@ impl From<oper_core::Memory> for ExecErr {
 
     fn from(_: oper_core::Memory) -> Self {
         ExecErr::Memory
+    }
+}
+
+impl From<SlotErr> for ExecErr {
+    ghost from_gives = { λ cause e. e ≡ exec_from_slots cause };
+
+    // A slot that is read is one of a store.
+    fn from(cause: SlotErr) -> Self {
+        match cause {
+            SlotErr::DiskFault => ExecErr::DiskFault,
+            SlotErr::Damaged { file, place } => ExecErr::Damaged { file, place },
+            SlotErr::NotAStore | SlotErr::Memory => ExecErr::Memory,
+        }
     }
 }

@@ -1,16 +1,23 @@
-// A command is checked, logged, and done on the values.
-ghost use Rattle.std.specs.Prelude.{◌≡◌, ◌≢◌, ◌⊎◌, ◌<◌, ◌≤◌, ◌+◌, ◌^◌, ◌++◌, [], ◌∷◌, List, ℕ, length, None, Some, OnOk, OnErr, IfOk, IfErr, IsErrOf};
-ghost use Rattle.disk_model.specs.Disk.{Rises, Passes, LeavesOnly};
+// A command is checked, logged, and done on the objects.
+ghost use Rattle.std.specs.Prelude.{◌≡◌, ◌≢◌, ◌⊎◌, ◌<◌, ◌≤◌, ◌+◌, ◌^◌, ◌↔◌, ◌++◌, [], ◌∷◌, All, List, ℕ, true, false, length, None, Some, OnOk, OnErr, IfOk, IfErr, IsErrOf};
+ghost use Rattle.disk_model.specs.Disk.{Rises, Passes, Stays, LeavesOnly};
+ghost use Rattle.disk_model.specs.declared.machine.FileNo.TheVariants.{Objects};
+ghost use Rattle.oper_core.specs.Meaning.{IsInGrammar, IsSmall, FitsReads, refusal_of, read_values};
+ghost use Rattle.oper_core.specs.declared.bounds.Bounds.{Bounds};
 ghost use Rattle.formats.specs.declared.params.Params.{Params};
-ghost use Rattle.store_engine.specs.Engine.{Holds, Kept, Between, IsFull, IsAtEnd, TookIn, IsAsBefore, refusal_in, Admits, HasPlace, LacksPlace, HasCause, Lengthens, log_length, forced_length};
-ghost use Rattle.store_engine.specs.Store.{Command, record_length, refusal_after};
+ghost use Rattle.dirty_cache.specs.Contents.{held, HasRoom};
+ghost use Rattle.stable_objects.specs.SlotsView.{id_in};
+ghost use Rattle.store_engine.specs.Laid.{IsLaidOn, values_in};
+ghost use Rattle.store_engine.specs.Engine.{Holds, Kept, Between, IsReady, IsFull, IsAtEnd, TookIn, IsSameMap, IsAttached, HasPlace, LacksPlace, HasCause, Lengthens, log_length, forced_length, params_of};
+ghost use Rattle.store_engine.specs.Opening.{IsReadFailure};
+ghost use Rattle.store_engine.specs.Store.{meaning_in, record_length, refusal_after};
 
 use crate::Engine;
 use crate::exec_err::ExecErr;
-use disk_model::Machine;
+use disk_model::{FileNo, Machine};
 use formats::Record;
-use op_codec::AllOps;
-use oper_core::{Oper, Refusal, Values};
+use oper_core::{Memory, Oper, Refusal, Values};
+use std::alloc::Global;
 
 // The kind and the number of a record.
 const RECORD_HEAD: u64 = 9;
@@ -20,50 +27,90 @@ const BLOCK_HEAD: u64 = 5;
 
 const LAST_NUMBER: u64 = (1 << 62) - 1;
 
-impl Engine {
-    // The values of the objects that an operation reads, where nothing refuses it on the map.
-    fn admit(&self, op: &AllOps) -> Result<Values, ExecErr>
-        ensures ok { IfOk result (Admits self.now op.now) }
-        ensures refused { (r : Refusal) → IsErrOf result (ExecErr.Refused r) → refusal_in self.now op.now ≡ Some r }
-        ensures only { IfErr result (λ e. (e ≡ ExecErr.Memory) ⊎ ((r : Refusal) × (e ≡ ExecErr.Refused r))) }
+// How many bytes the operation's record has. Its code is made for this alone, before anything changes.
+fn length_of<O: Oper>(alloc: Global, op: &O) -> Result<u64, Memory>
+    requires { (b : Bounds) × IsSmall b × IsInGrammar (O.meaning b) op.now }
+    ensures length { (p : Params) → IfOk result (λ n. n ≡ record_length O.meaning p op.now) }
+    ensures range { IfOk result (λ n. (0 < n) × (n < 2 ^ 63 + 9)) }
+{
+    let mut code = Vec::new(alloc);
+    op.encode(&mut code)?;
+    Ok(RECORD_HEAD + code.len() as u64)
+}
+
+impl<O: Oper> Engine<O> {
+    // The values of the objects that an operation reads, where nothing refuses it on them.
+    fn admit<M: Machine>(&mut self, machine: &mut M, op: &O) -> Result<Values, ExecErr>
+        requires { self.old.broken ≡ false }
+        ensures kept { Stays (M.disk machine.old) (M.disk machine.new) }
+        ensures same { IsErrOf result ExecErr.DiskFault ⊎ IsSameMap (M.disk machine.old) self.old self.new }
+        ensures attached { IsAttached (M.disk machine.old) self.old → IsAttached (M.disk machine.new) self.new }
+        ensures ready { IfOk result (IsReady O.meaning (params_of self.old) op.now) }
+        ensures read { (M.disk machine.old).tells_files → IsLaidOn self.old.objects ((M.disk machine.old).reads Objects) →
+            IfOk result (λ values. values ≡ read_values (meaning_in O.meaning (params_of self.old)) (values_in self.old.objects ((M.disk machine.old).reads Objects)) op.now) }
+        ensures refused { (M.disk machine.old).tells_files → IsLaidOn self.old.objects ((M.disk machine.old).reads Objects) → (r : Refusal) → IsErrOf result (ExecErr.Refused r) →
+            refusal_of (meaning_in O.meaning (params_of self.old)) (values_in self.old.objects ((M.disk machine.old).reads Objects)) op.now ≡ Some r }
+
+        // Where no slot is open it costs no device call.
+        ensures none { ((x : ℕ) → x < (params_of self.old).objects → id_in self.old.objects.slots x ≡ 0) →
+            (machine.new ≡ machine.old) × IfErr result (λ e. (e ≡ ExecErr.Memory) ⊎ ((r : Refusal) × (e ≡ ExecErr.Refused r))) }
+        ensures cause { IfErr result (IsReadFailure (M.disk machine.old) (M.disk machine.new) self.old) }
+        ensures broken { (self.new.broken ≡ true) ↔ IsErrOf result ExecErr.DiskFault }
     {
         let bounds = self.bounds();
         if let Err(refusal) = op.shape(bounds) {
             return Err(ExecErr::Refused(refusal));
         }
-        let values = self.state.values_of(op.reads().as_slice())?;
+        let values = match self.objects.values_of(machine, op.reads().as_slice()) {
+            Ok(values) => values,
+            Err(cause) => return Err(self.failed(cause)),
+        };
         if let Err(refusal) = op.check(bounds, &values) {
             return Err(ExecErr::Refused(refusal));
         }
         Ok(values)
     }
 
-    // Sees that the log has a place and a number for the operation's record. Where it has none, all that waits is
-    // forced.
-    fn see_place<M: Machine>(&mut self, machine: &mut M, op: &AllOps) -> Result<(), ExecErr>
-        requires { refusal_in self.old op.now ≡ None }
+    // Makes the operation's values, and takes all other memory that they need. It answers them with the length of the
+    // operation's record.
+    fn prepare(&mut self, op: &O, values: &Values) -> Result<(Values, u64), Memory>
+        requires { IsReady O.meaning (params_of self.old) op.now values.now }
+        ensures made { IfOk result (λ pair. pair.0 ≡ (meaning_in O.meaning (params_of self.old)).effect op.now values.now) }
+        ensures length { IfOk result (λ pair. pair.1 ≡ record_length O.meaning (params_of self.old) op.now) }
+        ensures range { IfOk result (λ pair. (0 < pair.1) × (pair.1 < 2 ^ 63 + 9)) }
+        ensures room { OnOk result (All (HasRoom self.new.objects.cache) ((meaning_in O.meaning (params_of self.old)).writes op.now)) }
+        ensures same { self.new ≡ record self.old { objects = record self.old.objects { cache = self.new.objects.cache } } }
+        ensures entries { (x : ℕ) → held self.new.objects.cache x ≡ held self.old.objects.cache x }
+        ensures laid { (file : List ℕ) → IsLaidOn self.old.objects file → IsLaidOn self.new.objects file }
+    {
+        let made = op.apply(self.alloc, self.bounds(), values)?;
+        let length = length_of(self.alloc, op)?;
+        self.objects.make_room(op.writes().as_slice())?;
+        Ok((made, length))
+    }
+
+    // Sees that the log has a place and a number for a record of this length. Where it has none, all that waits is forced.
+    fn see_place<M: Machine>(&mut self, machine: &mut M, length: u64) -> Result<(), ExecErr>
+        requires unbroken { self.old.broken ≡ false }
+        requires range { (0 < length) × (length < 2 ^ 63 + 9) }
         ensures time { Passes (M.disk machine.old) (M.disk machine.new) }
         ensures quiet { (M.disk machine.old).tells_files → (M.disk machine.new).said ≡ (M.disk machine.old).said }
         ensures untouched { OnOk result ((machine.new ≡ machine.old) × (self.new ≡ self.old)) }
-        ensures place { OnOk result (self.old.log.log.end + 5 + length self.old.log.log.pending + record_length self.old.params op.now ≤ self.old.params.limit) }
-        ensures number { OnOk result (self.old.log.next < 2 ^ 62) }
-        ensures err { (p : Params) (commands : List Command) → Holds p (M.disk machine.old) self.old commands →
-            IfErr result (λ e. e ≢ ExecErr.DiskFault → Kept p self.old (M.disk machine.new) self.new commands) }
-        ensures refused { (r : Refusal) → IsErrOf result (ExecErr.Refused r) → ⊥ }
-        ensures has { OnOk result (HasPlace self.old op.now) }
-        ensures lacks { IfErr result (LacksPlace self.old op.now) }
+        ensures place { OnOk result (self.old.log.log.end + 5 + Rattle.std.specs.Prelude.length self.old.log.log.pending + length ≤ (params_of self.old).limit) }
+        ensures has { OnOk result (HasPlace self.old length) }
+        ensures lacks { IfErr result (LacksPlace self.old length) }
+        ensures objects { self.new.objects ≡ self.old.objects }
+        ensures forced { (p : Params) (commands : List O) → Holds O.meaning p (M.disk machine.old) self.old commands →
+            IfErr result (λ e. e ≢ ExecErr.DiskFault → (self.new.forced ≡ Rattle.std.specs.Prelude.length commands) × Kept O.meaning p self.old (M.disk machine.new) self.new commands) }
         ensures emptied { IfErr result (λ e. e ≢ ExecErr.DiskFault → log_length self.new ≡ forced_length (log_length self.old)) }
-        ensures full { (p : Params) (commands : List Command) → Holds p (M.disk machine.old) self.old commands →
-            (used need limit : ℕ) → IsErrOf result (ExecErr.LogFull used need limit) → IsFull p (M.disk machine.new) self.new commands op.now used need limit }
-        ensures end { (p : Params) (commands : List Command) → Holds p (M.disk machine.old) self.old commands →
-            (number : ℕ) → IsErrOf result (ExecErr.LsnEnd number) → IsAtEnd p (M.disk machine.new) self.new commands op.now number }
-        ensures moments { (p : Params) (commands : List Command) → Holds p (M.disk machine.old) self.old commands → (M.disk machine.old).tells_moments →
-            LeavesOnly (M.disk machine.old) (M.disk machine.new) (Between p (M.disk machine.old) self.old.forced commands) }
+        ensures moments { (p : Params) (commands : List O) → Holds O.meaning p (M.disk machine.old) self.old commands → (M.disk machine.old).tells_moments →
+            LeavesOnly (M.disk machine.old) (M.disk machine.new) (Between O.meaning p (M.disk machine.old) self.old.forced commands) }
+        ensures attached { IsAttached (M.disk machine.old) self.old → IsAttached (M.disk machine.new) self.new }
+        ensures broken { (self.new.broken ≡ true) ↔ IsErrOf result ExecErr.DiskFault }
         ensures fault { IsErrOf result ExecErr.DiskFault → Rises (M.disk machine.old).disk_faults (M.disk machine.new).disk_faults }
     {
-        let limit = self.params.limit as u64;
-        let length = RECORD_HEAD + op.code_length();
-        if limit.saturating_sub(self.log.used()) < self.log.growth(length) {
+        let limit = self.params().limit as u64;
+        if length > limit || limit.saturating_sub(self.log.used()) < self.log.growth(length) {
             self.force(machine)?;
             return Err(ExecErr::LogFull {
                 used: self.log.used(),
@@ -80,49 +127,59 @@ impl Engine {
         Ok(())
     }
 
-    // Appends the operation's record and does the operation on the values that it reads. Without memory nothing changes
-    // but the room.
-    fn take_in(&mut self, op: AllOps, values: &Values) -> Result<u64, ExecErr>
-        requires admits { Admits self.old op values.now }
+    // Appends the operation's record and gives the objects their values. Without memory nothing changes but the room.
+    fn take_in(&mut self, op: O, values: Values) -> Result<u64, ExecErr>
+        requires grammar { IsInGrammar (meaning_in O.meaning (params_of self.old)) op }
+        requires made { (read : List (List ℕ)) × FitsReads (meaning_in O.meaning (params_of self.old)) op read × (values ≡ (meaning_in O.meaning (params_of self.old)).effect op read) }
+        requires room { All (HasRoom self.old.objects.cache) ((meaning_in O.meaning (params_of self.old)).writes op) }
         requires number { self.old.log.next < 2 ^ 62 }
-        requires place { self.old.log.log.end + 5 + length self.old.log.log.pending + record_length self.old.params op ≤ self.old.params.limit }
-        ensures ok { IfOk result (λ n. (n ≡ self.new.accepted) × TookIn op self.old self.new) }
-        ensures err { OnErr result (IsAsBefore self.old self.new) }
+        requires place { self.old.log.log.end + 5 + length self.old.log.log.pending + record_length O.meaning (params_of self.old) op ≤ (params_of self.old).limit }
+        ensures ok { (read : List (List ℕ)) → values ≡ (meaning_in O.meaning (params_of self.old)).effect op read → IfOk result (λ n. (n ≡ self.new.accepted) × TookIn O.meaning op read self.old self.new) }
+        ensures err { OnErr result (self.new ≡ record self.old { log = record self.old.log { log = record self.old.log.log { room = self.new.log.log.room } } }) }
         ensures only { IfErr result (λ e. e ≡ ExecErr.Memory) }
     {
-        let made = op.apply(self.alloc, self.bounds(), values)?;
+        let _params = self.params();
         let writes = op.writes();
-        let record = Record::Command(self.log.next(), op);
-        if self.log.append(record).is_err() {
+        let number = self.log.next();
+        if self.log.append(Record::Command(number, op)).is_err() {
             return Err(ExecErr::Memory);
         }
-        self.state.set_values(writes.as_slice(), made);
+        self.objects.set_values(number, writes.as_slice(), values);
         Ok(self.log.accepted())
     }
 
     /// Adds a command to the log's buffer and to the map. It answers how many were accepted since the store was made.
-    pub fn exec<M: Machine>(&mut self, machine: &mut M, op: AllOps) -> Result<u64, ExecErr>
+    ///
+    /// The first that applies is answered: `Refused`, on the command alone; `DiskFault`, `Damaged` and `Memory` while the
+    /// objects that it reads are fetched; `Refused`, on their values; `Memory`, before anything changes; `LogFull` and
+    /// `LsnEnd`, after a force; `Memory` for its record. Where it isn't done the map is as it was.
+    pub fn exec<M: Machine>(&mut self, machine: &mut M, op: O) -> Result<u64, ExecErr>
+        requires { self.old.broken ≡ false }
         ensures time { Passes (M.disk machine.old) (M.disk machine.new) }
         ensures quiet { (M.disk machine.old).tells_files → (M.disk machine.new).said ≡ (M.disk machine.old).said }
-        ensures ok { (p : Params) (commands : List Command) → Holds p (M.disk machine.old) self.old commands →
-            IfOk result (λ n. (refusal_after p commands op ≡ None) × (n ≡ length commands + 1) × Kept p self.old (M.disk machine.new) self.new (commands ++ op ∷ [])) }
-        ensures err { (p : Params) (commands : List Command) → Holds p (M.disk machine.old) self.old commands →
-            IfErr result (λ e. e ≢ ExecErr.DiskFault → Kept p self.old (M.disk machine.new) self.new commands) }
+        ensures ok { (p : Params) (commands : List O) → Holds O.meaning p (M.disk machine.old) self.old commands →
+            IfOk result (λ n. (refusal_after O.meaning p commands op ≡ None) × (n ≡ length commands + 1) × Kept O.meaning p self.old (M.disk machine.new) self.new (commands ++ op ∷ [])) }
+        ensures err { (p : Params) (commands : List O) → Holds O.meaning p (M.disk machine.old) self.old commands →
+            IfErr result (λ e. e ≢ ExecErr.DiskFault → Kept O.meaning p self.old (M.disk machine.new) self.new commands) }
         // Each answer comes exactly where its cause holds.
-        ensures exactly { (p : Params) (commands : List Command) → Holds p (M.disk machine.old) self.old commands → HasCause p commands (log_length self.old) op result }
-        ensures lengthens { (p : Params) (commands : List Command) → Holds p (M.disk machine.old) self.old commands → Lengthens p (log_length self.old) op result (log_length self.new) }
-        ensures refused { (p : Params) (commands : List Command) → Holds p (M.disk machine.old) self.old commands →
-            (r : Refusal) → IsErrOf result (ExecErr.Refused r) → refusal_after p commands op ≡ Some r }
-        ensures full { (p : Params) (commands : List Command) → Holds p (M.disk machine.old) self.old commands →
-            (used need limit : ℕ) → IsErrOf result (ExecErr.LogFull used need limit) → IsFull p (M.disk machine.new) self.new commands op used need limit }
-        ensures end { (p : Params) (commands : List Command) → Holds p (M.disk machine.old) self.old commands →
-            (number : ℕ) → IsErrOf result (ExecErr.LsnEnd number) → IsAtEnd p (M.disk machine.new) self.new commands op number }
-        ensures moments { (p : Params) (commands : List Command) → Holds p (M.disk machine.old) self.old commands → (M.disk machine.old).tells_moments →
-            LeavesOnly (M.disk machine.old) (M.disk machine.new) (Between p (M.disk machine.old) self.old.forced commands) }
+        ensures exactly { (p : Params) (commands : List O) → Holds O.meaning p (M.disk machine.old) self.old commands → HasCause O.meaning p commands (log_length self.old) op result }
+        ensures lengthens { (p : Params) (commands : List O) → Holds O.meaning p (M.disk machine.old) self.old commands → Lengthens O.meaning p (log_length self.old) op result (log_length self.new) }
+        ensures refused { (p : Params) (commands : List O) → Holds O.meaning p (M.disk machine.old) self.old commands →
+            (r : Refusal) → IsErrOf result (ExecErr.Refused r) → refusal_after O.meaning p commands op ≡ Some r }
+        ensures full { (p : Params) (commands : List O) → Holds O.meaning p (M.disk machine.old) self.old commands →
+            (used need limit : ℕ) → IsErrOf result (ExecErr.LogFull used need limit) → IsFull O.meaning p (M.disk machine.new) self.new commands op used need limit }
+        ensures end { (p : Params) (commands : List O) → Holds O.meaning p (M.disk machine.old) self.old commands →
+            (number : ℕ) → IsErrOf result (ExecErr.LsnEnd number) → IsAtEnd O.meaning p (M.disk machine.new) self.new commands op number }
+        ensures moments { (p : Params) (commands : List O) → Holds O.meaning p (M.disk machine.old) self.old commands → (M.disk machine.old).tells_moments →
+            LeavesOnly (M.disk machine.old) (M.disk machine.new) (Between O.meaning p (M.disk machine.old) self.old.forced commands) }
+        ensures attached { IsAttached (M.disk machine.old) self.old → IsAttached (M.disk machine.new) self.new }
+        ensures undamaged { (M.disk machine.old).tells_files → IsAttached (M.disk machine.old) self.old → (file : FileNo) (place : ℕ) → IsErrOf result (ExecErr.Damaged file place) → ⊥ }
+        ensures broken { (self.new.broken ≡ true) ↔ IsErrOf result ExecErr.DiskFault }
         ensures fault { IsErrOf result ExecErr.DiskFault → Rises (M.disk machine.old).disk_faults (M.disk machine.new).disk_faults }
     {
-        let values = self.admit(&op)?;
-        self.see_place(machine, &op)?;
-        self.take_in(op, &values)
+        let values = self.admit(machine, &op)?;
+        let (made, length) = self.prepare(&op, &values)?;
+        self.see_place(machine, length)?;
+        self.take_in(op, made)
     }
 }

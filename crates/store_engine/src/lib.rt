@@ -2,10 +2,11 @@
 //!
 //! The one contract is [`Engine`]: engine and files stand for the commands that were accepted, the files for those that
 //! are forced, and a crash at any moment of a call leaves a store with no fewer. The crate stands on log_records for the
-//! log, on stable_objects for the objects file, on oper_core and op_codec for what a command means, on formats for what
-//! the files are, and on disk_model for the machine.
+//! log, on stable_objects for the slots of the objects, on dirty_cache for what is cached of them, on oper_core for what a
+//! command means, on formats for what the files are, and on disk_model for the machine.
 #![tactic(auto)]
 
+mod cached;
 mod engine;
 mod exec_err;
 mod executing;
@@ -13,17 +14,19 @@ mod force_err;
 mod forcing;
 mod init_err;
 mod making;
+mod objects;
 mod opening;
 mod replay;
 mod restart_err;
 #[cfg(test)]
 mod tests;
+mod tuning;
 mod uniqueness;
 
 pub use engine::Engine;
 pub use exec_err::ExecErr;
 pub use force_err::ForceErr;
 pub use init_err::InitErr;
-pub use replay::{made, redo, replayed};
 pub use restart_err::RestartErr;
+pub use tuning::Tuning;
 pub use uniqueness::one_state;

@@ -12,21 +12,20 @@ use crate::init_err::InitErr;
 use disk_model::Machine;
 use formats::Params;
 use log_records::RecordLog;
-use op_codec::AllOps;
-use oper_core::Bounds;
+use oper_core::{Bounds, Oper};
 use stable_objects::Slots;
 
-impl Engine {
+impl<O: Oper> Engine<O> {
     /// Lays out a store without commands.
     pub fn init<M: Machine>(machine: &mut M, params: Params) -> Result<(), InitErr>
         requires { IsInRange params }
         ensures time { Passes (M.disk machine.old) (M.disk machine.new) }
         ensures quiet { (M.disk machine.old).tells_files → (M.disk machine.new).said ≡ (M.disk machine.old).said }
-        ensures ok { (M.disk machine.old).tells_files → IsSettled (M.disk machine.old) → OnOk result (InEachImage (M.disk machine.new) (λ files. Stands params files [])) }
+        ensures ok { (M.disk machine.old).tells_files → IsSettled (M.disk machine.old) → OnOk result (InEachImage (M.disk machine.new) (λ files. Stands O.meaning params files [])) }
         ensures already { (M.disk machine.old).tells_files → IsErrOf result InitErr.AlreadyStore → BeginsStore ((M.disk machine.old).reads Objects) }
         ensures kept { (M.disk machine.old).tells_files → BeginsStore ((M.disk machine.old).reads Objects) → Stays (M.disk machine.old) (M.disk machine.new) }
         ensures moments { (M.disk machine.old).tells_moments → IsSettled (M.disk machine.old) → (BeginsStore ((M.disk machine.old).reads Objects) → ⊥) →
-            LeavesOnly (M.disk machine.old) (M.disk machine.new) (λ files said. IsNew params files × (said ≡ (M.disk machine.old).said)) }
+            LeavesOnly (M.disk machine.old) (M.disk machine.new) (λ files said. IsNew O.meaning params files × (said ≡ (M.disk machine.old).said)) }
         ensures fresh { (M.disk machine.old).tells_files → OnOk result (BeginsStore ((M.disk machine.old).reads Objects) → ⊥) }
         ensures fault { IsErrOf result InitErr.DiskFault → Rises (M.disk machine.old).disk_faults (M.disk machine.new).disk_faults }
     {
@@ -34,7 +33,7 @@ impl Engine {
             return Err(InitErr::AlreadyStore);
         }
         Slots::shut(machine)?;
-        if RecordLog::<AllOps>::create(machine).is_err() {
+        if RecordLog::<O>::create(machine).is_err() {
             return Err(InitErr::DiskFault);
         }
         let bounds = Bounds {

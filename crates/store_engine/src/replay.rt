@@ -1,33 +1,18 @@
-ghost use Rattle.std.specs.Prelude.{◌≡◌, ℕ, All, List, OnOk, IfOk, map};
-ghost use Rattle.oper_core.specs.State.{State as Values_by_object, start, listed};
-ghost use Rattle.oper_core.specs.Meaning.{Meaning, IsInGrammar, after, state_after};
-ghost use Rattle.formats.specs.Records.{IsRecord, commands_of};
-ghost use Rattle.store_engine.specs.Replay.{IsListing, after_record};
+// Records are done again, on objects that may have some of their values already.
+ghost use Rattle.std.specs.Prelude.{◌≡◌, ℕ, ◌<◌, All, List, fold, IfOk, IfErr, OnOk};
+ghost use Rattle.disk_model.specs.Disk.{Rises, Stays};
+ghost use Rattle.disk_model.specs.declared.machine.FileNo.TheVariants.{Objects as ObjectsFile};
+ghost use Rattle.formats.specs.Objects.{bounds_of};
+ghost use Rattle.formats.specs.Records.{IsRecord};
+ghost use Rattle.stable_objects.specs.Reading.{FailsBy};
+ghost use Rattle.stable_objects.specs.SlotsView.{AreOf};
+ghost use Rattle.store_engine.specs.Laid.{IsLaidOn, cell_in, redone};
 
+use crate::objects::Objects;
+use disk_model::Machine;
 use formats::Record;
-use oper_core::{Bounds, Memory, Oper, State, Values};
-use std::alloc::Global;
-
-/// What an operation makes of the state.
-pub fn made<O: Oper>(alloc: Global, b: Bounds, op: &O, state: &State) -> Result<Values, Memory>
-    requires in_grammar { IsInGrammar (O.meaning b) op.now }
-    requires listing { (s : Values_by_object) × IsListing (O.meaning b) s state.now }
-    ensures { IfOk result (λ values. values ≡ (O.meaning b).effect op.now (map (listed state.now) ((O.meaning b).reads op.now))) }
-{
-    let values = state.values_of(op.reads().as_slice())?;
-    op.apply(alloc, b, &values)
-}
-
-/// Does an operation on the state before it.
-pub fn redo<O: Oper>(alloc: Global, b: Bounds, op: &O, state: &mut State) -> Result<(), Memory>
-    requires in_grammar { IsInGrammar (O.meaning b) op.now }
-    requires listing { (s : Values_by_object) × IsListing (O.meaning b) s state.old }
-    ensures { (s : Values_by_object) → IsListing (O.meaning b) s state.old → OnOk result (IsListing (O.meaning b) (after (O.meaning b) s op.now) state.new) }
-{
-    let values = made(alloc, b, op, state)?;
-    state.set_values(op.writes().as_slice(), values);
-    Ok(())
-}
+use oper_core::Oper;
+use stable_objects::SlotErr;
 
 // The operation of a command's record.
 fn command_in<O: Oper>(record: &Record<O>) -> (u64, &O)
@@ -38,29 +23,50 @@ fn command_in<O: Oper>(record: &Record<O>) -> (u64, &O)
     }
 }
 
-/// Does a record's command on the state before it.
-fn redo_record<O: Oper>(
-    alloc: Global,
-    b: Bounds,
+/// Does a record's command again, on each object that it writes whose identifier is below the record's number.
+fn redo_record<O: Oper, M: Machine>(
+    objects: &mut Objects,
+    machine: &mut M,
     record: &Record<O>,
-    state: &mut State,
-) -> Result<(), Memory>
-    requires in_grammar { IsRecord (O.meaning b) «record».now }
-    requires listing { (s : Values_by_object) × IsListing (O.meaning b) s state.old }
-    ensures { (s : Values_by_object) → IsListing (O.meaning b) s state.old → OnOk result (IsListing (O.meaning b) (after_record (O.meaning b) s «record».now) state.new) }
+) -> Result<(), SlotErr>
+    requires { IsRecord (O.meaning (bounds_of objects.old.slots.params)) «record».now }
+    ensures kept { Stays (M.disk machine.old) (M.disk machine.new) }
+    ensures slots { objects.new.slots ≡ objects.old.slots }
+    ensures laid { (M.disk machine.old).tells_files → IsLaidOn objects.old ((M.disk machine.old).reads ObjectsFile) → IsLaidOn objects.new ((M.disk machine.old).reads ObjectsFile) }
+    ensures cells { (M.disk machine.old).tells_files → IsLaidOn objects.old ((M.disk machine.old).reads ObjectsFile) → OnOk result ((x : ℕ) → x < objects.old.slots.params.objects →
+        cell_in objects.new ((M.disk machine.old).reads ObjectsFile) x ≡ redone (O.meaning (bounds_of objects.old.slots.params)) (cell_in objects.old ((M.disk machine.old).reads ObjectsFile)) «record».now x) }
+    ensures cause { IfErr result (FailsBy (Rises (M.disk machine.old).disk_faults (M.disk machine.new).disk_faults) ⊥
+        (λ file place. (file ≡ ObjectsFile) × ((M.disk machine.old).tells_files → AreOf objects.old.slots ((M.disk machine.old).reads ObjectsFile) → ⊥))) }
 {
-    let (_, op) = command_in(record);
-    redo(alloc, b, op, state)
+    let (number, op) = command_in(record);
+    let bounds = objects.slots.bounds();
+    let values = objects.values_of(machine, op.reads().as_slice())?;
+    let made = op.apply(objects.alloc, bounds, &values)?;
+    let writes = op.writes();
+    objects.make_room(writes.as_slice())?;
+    objects.set_newer(number, writes.as_slice(), made);
+    Ok(())
 }
 
-/// The state after all commands of these records, from the empty store.
-pub fn replayed<O: Oper>(alloc: Global, b: Bounds, records: &[Record<O>]) -> Result<State, Memory>
-    requires { All (IsRecord (O.meaning b)) records.now }
-    ensures { IfOk result (IsListing (O.meaning b) (state_after (O.meaning b) (commands_of records.now))) }
+/// Does these records again, one after the other.
+pub fn redo<O: Oper, M: Machine>(
+    objects: &mut Objects,
+    machine: &mut M,
+    records: &[Record<O>],
+) -> Result<(), SlotErr>
+    requires { All (IsRecord (O.meaning (bounds_of objects.old.slots.params))) records.now }
+    ensures kept { Stays (M.disk machine.old) (M.disk machine.new) }
+    ensures slots { objects.new.slots ≡ objects.old.slots }
+    ensures laid { (M.disk machine.old).tells_files → IsLaidOn objects.old ((M.disk machine.old).reads ObjectsFile) → IsLaidOn objects.new ((M.disk machine.old).reads ObjectsFile) }
+    ensures cells { (M.disk machine.old).tells_files → IsLaidOn objects.old ((M.disk machine.old).reads ObjectsFile) → OnOk result ((x : ℕ) → x < objects.old.slots.params.objects →
+        cell_in objects.new ((M.disk machine.old).reads ObjectsFile) x ≡ fold (redone (O.meaning (bounds_of objects.old.slots.params))) (cell_in objects.old ((M.disk machine.old).reads ObjectsFile)) records.now x) }
+    ensures cause { IfErr result (FailsBy (Rises (M.disk machine.old).disk_faults (M.disk machine.new).disk_faults) ⊥
+        (λ file place. (file ≡ ObjectsFile) × ((M.disk machine.old).tells_files → AreOf objects.old.slots ((M.disk machine.old).reads ObjectsFile) → ⊥))) }
 {
-    let mut state = State::new(alloc, b.objects)?;
+    // The objects are looked at for what holds of all of them: there are few.
+    let _ = &objects.alloc;
     for record in records {
-        redo_record(alloc, b, record, &mut state)?;
+        redo_record(objects, machine, record)?;
     }
-    Ok(state)
+    Ok(())
 }

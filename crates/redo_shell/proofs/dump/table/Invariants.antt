@@ -1,9 +1,18 @@
-use Rattle.std.proofs.Common.{◌≡◌}
+use Rattle.std.proofs.Common.{◌≡◌, false, List}
 use Rattle.std.specs.List.{flat_map}
-use Rattle.oper_core.specs.State.{listed}
+use Rattle.disk_model.specs.Disk.{Stays}
+use Rattle.formats.specs.declared.params.Params.{Params}
 use Rattle.script_lines.specs.Replies.{said_line}
+use Rattle.store_engine.specs.Engine.{IsAttached}
+use Rattle.redo_shell.specs.Store.{Command, Holds, state_of}
 use Rattle.redo_shell.specs.Dump.{rows_below}
 use Rattle.redo_shell.proofs.dump.table.Given as goal
 
 abbrev pub invariant-loop-object : goal.invariant-loop-object
-invariant-loop-object l = l.table.items ≡ flat_map said_line (rows_below (listed l.fn.engine.map) l.object)
+invariant-loop-object g l = record {
+  kept : Stays (g.M.Machine.disk l.fn.machine) (g.M.Machine.disk l.machine);
+  unbroken : l.engine.broken ≡ false;
+  attached : IsAttached (g.M.Machine.disk l.fn.machine) l.fn.engine → IsAttached (g.M.Machine.disk l.machine) l.engine;
+  holds : (p : Params) (commands : List Command) → Holds p (g.M.Machine.disk l.fn.machine) l.fn.engine commands → Holds p (g.M.Machine.disk l.machine) l.engine commands;
+  rows : (p : Params) (commands : List Command) → Holds p (g.M.Machine.disk l.fn.machine) l.fn.engine commands → l.table.items ≡ flat_map said_line (rows_below (state_of p commands) l.object);
+}

@@ -1,3 +1,5 @@
+use Rattle.std.proofs.Common.{◌++◌, ◌∙◌, List, ℕ, ap}
+use Rattle.redo_shell.specs.Notices.{already_a_store}
 use Rattle.redo_shell.proofs.KeepLemmas.{keeps_once, keeps_behind}
 use Rattle.redo_shell.proofs.init.init.Goals as goal
 
@@ -11,3 +13,13 @@ returns-in-Err-AlreadyStore-clause-keeps g c = λ told begins.
 
 pub returns-in-Err-DiskFault-clause-keeps : goal.returns-in-Err-DiskFault-clause-keeps
 returns-in-Err-DiskFault-clause-keeps g c = λ told begins. keeps_once (g.M.Machine.disk c.args.machine.now) (g.M.Machine.disk c.init.new.machine) (c.init.ensures.kept told begins)
+
+pub returns-in-Err-AlreadyStore-clause-already : goal.returns-in-Err-AlreadyStore-clause-already
+returns-in-Err-AlreadyStore-clause-already g c = λ told is.
+    let begins = c.in-Err-AlreadyStore.ensures.already told (cc (c.in-Err-AlreadyStore.field-0-is)) in
+    let kept = c.in-Err-AlreadyStore.ensures.kept told begins in
+    let told_now = c.init.ensures.time.files_told.0 told in (
+      begins,
+      c.end_with.ensures.runs.reads told_now ∙ kept.reads told,
+      c.end_with.ensures.all told_now (λ e. cc (is, e)) ∙ ap (λ (l : List ℕ). l ++ already_a_store) (c.init.ensures.quiet told),
+    )

@@ -1,5 +1,6 @@
 use Rattle.std.proofs.Common.{refl, ◌∙◌}
-use Rattle.script_lines.specs.Replies.{reply_of, bad}
+use Rattle.script_lines.specs.Replies.{bad}
+use Rattle.redo_shell.proofs.HoldLemmas.{holds_between}
 use Rattle.redo_shell.proofs.LineLemmas.{put_parsed, copy_parsed, append_parsed, cut_parsed, sort_parsed, swap_parsed, get_parsed, force_parsed, skip_parsed}
 use Rattle.redo_shell.proofs.RunLemmas.{found_at_once, found_said, said_at_once, stops_before, skipped}
 use Rattle.redo_shell.proofs.line.answer_line.Goals as goal
@@ -41,10 +42,7 @@ returns-in_err-answer-in-Force-clause-answers g c = λ p commands holds.
 
 pub returns-in-Get-clause-answers : goal.returns-in-Get-clause-answers
 returns-in-Get-clause-answers g c = λ p commands holds.
-    let get = get_parsed c.args.line.now c.in-Ok.asked c.in-Ok.ensures.ok c.in-Get.object c.in-Get.is in
-    let answer = c.get_answer.ensures in
-    let found = found_at_once {line = c.args.line.now} (reply_of c.get_answer.result) holds (answer.replies p commands c.args.line.now holds.map_is get) (answer.tied p) answer.other (answer.lengths p c.args.line.now) in
-    said_at_once c.say_answer-in-Get.result (g.met.M.Machine.lawful c.args.machine.now) found holds c.say_answer-in-Get.ensures.runs c.say_answer-in-Get.ensures.all c.say_answer-in-Get.ensures.kind
+    c.say_value.ensures.answers p commands c.args.line.now holds (get_parsed c.args.line.now c.in-Ok.asked c.in-Ok.ensures.ok c.in-Get.object c.in-Get.is)
 
 pub returns-in_ok-answer-in-Force-clause-answers : goal.returns-in_ok-answer-in-Force-clause-answers
 returns-in_ok-answer-in-Force-clause-answers g c = λ p commands holds.
@@ -55,3 +53,7 @@ returns-in_ok-answer-in-Force-clause-answers g c = λ p commands holds.
 pub returns-in-Skip-clause-answers : goal.returns-in-Skip-clause-answers
 returns-in-Skip-clause-answers g c = λ p commands holds.
     skipped (g.met.M.Machine.lawful c.args.machine.now) holds (skip_parsed c.args.line.now c.in-Ok.asked c.in-Ok.ensures.ok c.in-Skip.is)
+
+pub returns-in_err-hex_bytes-in-Put-clause-answers : goal.returns-in_err-hex_bytes-in-Put-clause-answers
+returns-in_err-hex_bytes-in-Put-clause-answers g c = λ p commands holds.
+    stops_before c.from_residual.result c.from_residual.ensures.0 (holds_between (g.met.M.Machine.lawful c.args.machine.now) holds) refl

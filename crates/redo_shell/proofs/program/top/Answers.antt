@@ -1,9 +1,10 @@
 use Rattle.std.proofs.Common.{◌≡◌, ⊎_elim, [], subst, map, string_bytes}
 use Rattle.disk_model.specs.Disk.{LeavesOnly}
 use Rattle.formats.specs.declared.params.Params.{Params}
-use Rattle.store_engine.specs.Store.{Stands}
+use Rattle.op_codec.specs.AllOps.{all_meaning}
 use Rattle.store_engine.specs.ImageLaws.{well_formed, opens_gate}
-use Rattle.store_engine.specs.Engine.{InEachImage, IsNew}
+use Rattle.store_engine.specs.Engine.{InEachImage}
+use Rattle.redo_shell.specs.Store.{Stands, IsNew}
 use Rattle.redo_shell.proofs.WordLemmas.{only_params}
 use Rattle.redo_shell.proofs.ScriptLemmas.{enough_taken, not_so_few}
 use Rattle.redo_shell.proofs.ExactLemmas.{calm_run, no_store_exactly, damaged_exactly, whole_run, calm_told, calm_dump, calm_init}
@@ -16,13 +17,16 @@ returns-in-Some-Run-clause-run_moments g c = λ p commands asks opens told telli
 pub returns-in-Some-Run-clause-run_answers : goal.returns-in-Some-Run-clause-run_answers
 returns-in-Some-Run-clause-run_answers g c = λ p commands asks opens told. c.run.ensures.answers p commands opens told
 
+pub returns-in-Some-Run-clause-run_complete : goal.returns-in-Some-Run-clause-run_complete
+returns-in-Some-Run-clause-run_complete g c = λ p commands asks opens told done. c.run.ensures.complete p commands opens told done
+
 pub returns-in-Some-Run-clause-run_store : goal.returns-in-Some-Run-clause-run_store
-returns-in-Some-Run-clause-run_store g c = λ p commands asks opens. c.run.ensures.store opens.told (well_formed opens.stands)
+returns-in-Some-Run-clause-run_store g c = λ p commands asks opens. c.run.ensures.store opens.told (well_formed all_meaning opens.stands)
 
 pub returns-in-Some-Run-clause-exactly_no_store : goal.returns-in-Some-Run-clause-exactly_no_store
 returns-in-Some-Run-clause-exactly_no_store g c = λ asks told calm.
     no_store_exactly c.run.result (calm_run c.run.result calm c.run.ensures.status c.run.ensures.disk_fault c.run.ensures.read_fault c.run.ensures.say_fault)
-    (λ is. (c.run.ensures.no_store told is).0) (λ is. (c.run.ensures.damaged told is).2.gate) (c.run.ensures.opened told) opens_gate
+    (λ is. (c.run.ensures.no_store told is).0) (λ is. (c.run.ensures.damaged told is).2.gate) (c.run.ensures.opened told) (opens_gate all_meaning)
 
 pub returns-in-Some-Run-clause-exactly_damaged : goal.returns-in-Some-Run-clause-exactly_damaged
 returns-in-Some-Run-clause-exactly_damaged g c = λ asks told calm.
@@ -39,7 +43,7 @@ returns-in-Some-Run-clause-exactly_too_long g c = λ asks files image told calm.
 pub returns-in-Some-Run-clause-run_succeeds : goal.returns-in-Some-Run-clause-run_succeeds
 returns-in-Some-Run-clause-run_succeeds g c = λ p commands asks opens told calm few.
     let calm' = calm_run c.run.result calm c.run.ensures.status c.run.ensures.disk_fault c.run.ensures.read_fault c.run.ensures.say_fault in
-    ⊎_elim (λ e. absurd (not_so_few few (enough_taken (c.run.ensures.too_long told e)))) (λ e. e) (whole_run c.run.result calm' (c.run.ensures.store opens.told (well_formed opens.stands)))
+    ⊎_elim (λ e. absurd (not_so_few few (enough_taken (c.run.ensures.too_long told e)))) (λ e. e) (whole_run c.run.result calm' (c.run.ensures.store opens.told (well_formed all_meaning opens.stands)))
 
 pub returns-in-Some-Dump-clause-dump_moments : goal.returns-in-Some-Dump-clause-dump_moments
 returns-in-Some-Dump-clause-dump_moments g c = λ p commands asks opens telling. c.dump.ensures.moments p commands opens telling
@@ -51,12 +55,12 @@ pub returns-in-Some-Dump-clause-dump_all : goal.returns-in-Some-Dump-clause-dump
 returns-in-Some-Dump-clause-dump_all g c = λ p commands asks opens. c.dump.ensures.all p commands opens
 
 pub returns-in-Some-Dump-clause-dump_store : goal.returns-in-Some-Dump-clause-dump_store
-returns-in-Some-Dump-clause-dump_store g c = λ p commands asks opens. c.dump.ensures.store opens.told (well_formed opens.stands)
+returns-in-Some-Dump-clause-dump_store g c = λ p commands asks opens. c.dump.ensures.store opens.told (well_formed all_meaning opens.stands)
 
 pub returns-in-Some-Dump-clause-exactly_no_dump : goal.returns-in-Some-Dump-clause-exactly_no_dump
 returns-in-Some-Dump-clause-exactly_no_dump g c = λ asks told calm.
     no_store_exactly c.dump.result (calm_told c.dump.result calm c.dump.ensures.status c.dump.ensures.disk_fault c.dump.ensures.say_fault)
-    (λ is. (c.dump.ensures.no_store told is).0) (λ is. (c.dump.ensures.damaged told is).2.gate) (c.dump.ensures.opened told) opens_gate
+    (λ is. (c.dump.ensures.no_store told is).0) (λ is. (c.dump.ensures.damaged told is).2.gate) (c.dump.ensures.opened told) (opens_gate all_meaning)
 
 pub returns-in-Some-Dump-clause-exactly_damaged_dump : goal.returns-in-Some-Dump-clause-exactly_damaged_dump
 returns-in-Some-Dump-clause-exactly_damaged_dump g c = λ asks told calm.
@@ -65,7 +69,7 @@ returns-in-Some-Dump-clause-exactly_damaged_dump g c = λ asks told calm.
 
 pub returns-in-Some-Dump-clause-dump_succeeds : goal.returns-in-Some-Dump-clause-dump_succeeds
 returns-in-Some-Dump-clause-dump_succeeds g c = λ p commands asks opens calm.
-    calm_dump c.dump.result calm c.dump.ensures.status c.dump.ensures.disk_fault c.dump.ensures.say_fault (c.dump.ensures.store opens.told (well_formed opens.stands))
+    calm_dump c.dump.result calm c.dump.ensures.status c.dump.ensures.disk_fault c.dump.ensures.say_fault (c.dump.ensures.store opens.told (well_formed all_meaning opens.stands))
 
 pub returns-in-Some-Init-clause-exactly_already : goal.returns-in-Some-Init-clause-exactly_already
 returns-in-Some-Init-clause-exactly_already g c = λ params asks told calm. (

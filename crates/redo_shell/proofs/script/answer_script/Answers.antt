@@ -5,7 +5,7 @@ use Rattle.script_lines.specs.Grammar.{lines_of}
 use Rattle.script_lines.specs.Reading.{IsLine, Takes}
 use Rattle.redo_shell.specs.Run.{Going}
 use Rattle.redo_shell.proofs.RunLemmas.{opened, goes_to, goes_on, ends_here, ends_in_line, ends_in_force, completes}
-use Rattle.redo_shell.proofs.ScriptLemmas.{takes_on, next_line, ended, input_end, too_much, line_stops, line_not_long}
+use Rattle.redo_shell.proofs.ScriptLemmas.{takes_on, next_line, ended, input_end, too_much, line_stops, line_not_long, line_undamaged}
 use Rattle.redo_shell.proofs.script.answer_script.Goals as goal
 
 pub returns-in_err-lines-clause-answers : goal.returns-in_err-lines-clause-answers
@@ -15,6 +15,8 @@ returns-in_err-lines-clause-answers g c = λ p commands holds all told.
 pub loop-lines-init : goal.loop-lines-init
 loop-lines-init g c = record {
   told = λ told. told;
+  unbroken = c.requires;
+  attached = λ attached. attached;
   time = passes_none (g.M.Machine.disk c.args.machine.now);
   going = λ p commands holds all told.
       subst (λ (l : List ℕ). Going p (g.M.Machine.disk c.args.machine.now) (g.M.Machine.disk c.args.machine.now) c.args.engine.now commands (lines_of (g.S.Source.left c.args.input.now)) (lines_of (l ++ g.S.Source.left c.args.input.now)) false)
@@ -45,6 +47,9 @@ returns-in_err-refusing-in_default g c = record {
   input = λ told. IfOk-from_err c.from_residual-in_err-refusing-in_default.result _ c.from_residual-in_err-refusing-in_default.ensures.0;
   cause = line_stops c.from_residual-in_err-refusing-in_default.result c.answer_next.result c.in_err-refusing-in_default.field-0.0 (g.M.Machine.disk c.args.machine.now) (g.M.Machine.disk c.loop-lines.machine) (g.M.Machine.disk c.answer_next.new.machine)
       (g.S.Source.faults c.args.input.now) (g.S.Source.faults c.next.new.input) c.from_residual-in_err-refusing-in_default.ensures.1 c.in_err-refusing-in_default.was c.loop-lines.invariant.time c.answer_next.ensures.cause;
+  undamaged = λ told attached. line_undamaged c.from_residual-in_err-refusing-in_default.result c.answer_next.result c.in_err-refusing-in_default.field-0.0 c.from_residual-in_err-refusing-in_default.ensures.1 c.in_err-refusing-in_default.was
+      (c.answer_next.ensures.undamaged (c.loop-lines.invariant.time.files_told.0 told) (c.loop-lines.invariant.attached attached));
+  attached = λ attached. c.answer_next.ensures.attached (c.loop-lines.invariant.attached attached);
   too_long = λ told long. absurd (line_not_long c.from_residual-in_err-refusing-in_default.result c.answer_next.result c.in_err-refusing-in_default.field-0.0 (g.M.Machine.disk c.loop-lines.machine) (g.M.Machine.disk c.answer_next.new.machine)
       c.from_residual-in_err-refusing-in_default.ensures.1 c.in_err-refusing-in_default.was c.answer_next.ensures.cause long);
 }
@@ -52,6 +57,8 @@ returns-in_err-refusing-in_default g c = record {
 pub loop-lines-preserved : goal.loop-lines-preserved
 loop-lines-preserved g c = record {
   told = λ told. c.next.ensures.told (c.loop-lines.invariant.told told);
+  unbroken = c.in_ok-refusing-in_default.ensures.unbroken;
+  attached = λ attached. c.answer_next.ensures.attached (c.loop-lines.invariant.attached attached);
   time = passes_twice (g.M.Machine.disk c.args.machine.now) (g.M.Machine.disk c.loop-lines.machine) (g.M.Machine.disk c.answer_next.new.machine) (g.met.M.Machine.lawful c.answer_next.new.machine) c.loop-lines.invariant.time c.answer_next.ensures.time;
   going = λ p commands holds all told.
       let so_far = c.loop-lines.invariant.going p commands holds all told in
@@ -85,3 +92,9 @@ returns-clause-input g c = λ told.
     let here = c.loop-lines.invariant.told told in
     input_end c.in_ok-next.next _ _ c.next.new.self.ahead (g.S.Source.left c.args.input.now) (g.S.Source.left c.next.new.input) c.next.new.self.taken (c.in_ok-next.ensures.next here) c.in-End.is
     (takes_on (c.loop-lines.invariant.takes told) (c.next.ensures.takes here)) (c.next.ensures.before (c.in_ok-next.was ∙ ap (λ n. Ok n) c.in-End.is))
+
+pub returns-in_err-force-clause-attached : goal.returns-in_err-force-clause-attached
+returns-in_err-force-clause-attached g c = λ attached. c.force.ensures.attached (c.loop-lines.invariant.attached attached)
+
+pub returns-clause-attached : goal.returns-clause-attached
+returns-clause-attached g c = λ attached. c.force.ensures.attached (c.loop-lines.invariant.attached attached)

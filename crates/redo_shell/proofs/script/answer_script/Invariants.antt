@@ -1,16 +1,18 @@
-use Rattle.std.proofs.Common.{◌≡◌, ◌≤◌, ◌++◌, List, length}
+use Rattle.std.proofs.Common.{◌≡◌, ◌≤◌, ◌++◌, List, length, false}
 use Rattle.disk_model.specs.Disk.{Passes}
 use Rattle.formats.specs.declared.params.Params.{Params}
 use Rattle.script_lines.specs.Grammar.{lines_of}
 use Rattle.script_lines.specs.Reading.{Takes, still_to_give}
-use Rattle.store_engine.specs.Store.{Command}
-use Rattle.store_engine.specs.Engine.{Holds}
+use Rattle.store_engine.specs.Engine.{IsAttached}
+use Rattle.redo_shell.specs.Store.{Command, Holds}
 use Rattle.redo_shell.specs.Run.{Going}
 use Rattle.redo_shell.proofs.script.answer_script.Given as goal
 
 abbrev pub invariant-loop-lines : goal.invariant-loop-lines
 invariant-loop-lines g l = record {
   told : g.S.Source.tells l.fn.input → g.S.Source.tells l.input;
+  unbroken : l.engine.broken ≡ false;
+  attached : IsAttached (g.M.Machine.disk l.fn.machine) l.fn.engine → IsAttached (g.M.Machine.disk l.machine) l.engine;
   time : Passes (g.M.Machine.disk l.fn.machine) (g.M.Machine.disk l.machine);
   going : (p : Params) (commands : List Command) → Holds p (g.M.Machine.disk l.fn.machine) l.fn.engine commands → l.fn.engine.forced ≡ length commands → g.S.Source.tells l.fn.input →
       Going p (g.M.Machine.disk l.fn.machine) (g.M.Machine.disk l.machine) l.engine commands (lines_of (g.S.Source.left l.fn.input)) (lines_of (l.lines.ahead ++ g.S.Source.left l.input)) l.refusing;

@@ -19,7 +19,7 @@ returns-in_err-params-clause-cause g c =
     c.in_err-params.ensures.cause)
 
 pub returns-then-size-gate_place-clause-cause : goal.returns-then-size-gate_place-clause-cause
-returns-then-size-gate_place-clause-cause g c = (
+returns-then-size-gate_place-clause-cause g c = rw c.damaged_at.ensures (
   refl,
   λ told.
       let file = (g.M.Machine.disk c.args.machine.now).reads Objects in

@@ -1,17 +1,39 @@
-use Rattle.std.proofs.Common.{◌∙◌, ap, sym, arith, length, ℕ, List}
-use Rattle.oper_core.specs.State.{listed, with_values}
-use Rattle.oper_core.specs.Meaning.{IsSmall}
-use Rattle.store_engine.proofs.ReplayLemmas.{made_count, after_listing}
+use Rattle.std.proofs.Common.{◌∙◌, ap, sym, subst, fold}
+use Rattle.std.proofs.lemmas.List.{take_all}
+use Rattle.disk_model.specs.Moments.{stays_twice}
+use Rattle.disk_model.specs.declared.machine.FileNo.TheVariants.{Objects}
+use Rattle.formats.specs.Objects.{IsInRange, bounds_of}
+use Rattle.formats.specs.Records.{IsRecord}
+use Rattle.store_engine.specs.Laid.{Laid, cell_in, redone}
+use Rattle.store_engine.proofs.RedoLemmas.{small_bounds, redone_next, laid_then, redo_then}
 use Rattle.store_engine.proofs.replay.redo.Goals as goal
 
-pub set_values-requires-clause-count : goal.set_values-requires-clause-count
-set_values-requires-clause-count g c =
-    let small : IsSmall c.args.b = record { objects = omega arith; cap = omega arith } in
-    made_count (g.O.Oper.meaning c.args.b) c.requires.listing.0 c.args.state.now c.in_ok-values.values c.args.op.now (g.met.O.Oper.lawful c.args.b small) c.requires.in_grammar c.requires.listing.1 c.in_ok-values.ensures
-    ∙ ap length (sym (c.as_slice.ensures.value ∙ c.writes.ensures c.args.b))
+pub loop-record-preserved : goal.loop-record-preserved
+loop-record-preserved g c =
+    let so_far = c.loop-record.invariant in
+    let p = c.args.objects.now.slots.params in
+    let b = bounds_of p in
+    let m = g.O.Oper.meaning b in
+    let i = c.loop-record.record-index in
+    let r = c.record-item.result in
+    let records = c.args.records.now in
+    let lawful = g.met.O.Oper.lawful b (small_bounds p (subst (λ (l : Laid). IsInRange l.slots.params) c.objects.view_is c.objects.invariant.in_range)) in
+    let old = g.M.Machine.disk c.args.machine.now in
+    let mid = g.M.Machine.disk c.loop-record.machine in
+    let meets : IsRecord m r = subst (λ (q : _). IsRecord m q) (sym c.record-item.is) (c.requires i r c.loop-record-test.true) in
+    record {
+      slots = c.redo_record.ensures.slots ∙ so_far.slots;
+      kept = stays_twice old mid (g.M.Machine.disk c.redo_record.new.machine) so_far.kept c.redo_record.ensures.kept;
+      laid = λ told laid. laid_then old mid so_far.kept told c.loop-record.objects c.redo_record.new.objects c.redo_record.ensures.laid (so_far.laid told laid);
+      cells = λ told laid.
+          redone_next m p (g.met.O.Oper.bounded b) lawful records r i (cell_in c.args.objects.now (old.reads Objects)) (cell_in c.loop-record.objects (old.reads Objects)) (cell_in c.redo_record.new.objects (old.reads Objects))
+          c.record-item.is c.loop-record-test.true meets (so_far.cells told laid)
+          (redo_then old mid so_far.kept told g.O.Oper.meaning c.args.objects.now c.loop-record.objects c.redo_record.new.objects so_far.slots r c.in_ok-redo_record.ensures.cells (so_far.laid told laid));
+    }
 
-pub returns : goal.returns
-returns g c = λ s is.
-    let small : IsSmall c.args.b = record { objects = omega arith; cap = omega arith } in
-    after_listing (g.O.Oper.meaning c.args.b) s c.args.state.now c.set_values.new.self c.in_ok-values.values c.args.op.now (g.met.O.Oper.lawful c.args.b small) c.requires.in_grammar is c.in_ok-values.ensures c.set_values.ensures.size
-    (λ x. c.set_values.ensures.set x ∙ ap (λ (l : List ℕ). with_values (listed c.args.state.now) l c.in_ok-values.values x) (c.as_slice.ensures.value ∙ c.writes.ensures c.args.b))
+pub returns-clause-cells : goal.returns-clause-cells
+returns-clause-cells g c = λ told laid x below.
+    let m = g.O.Oper.meaning (bounds_of c.args.objects.now.slots.params) in
+    let file = (g.M.Machine.disk c.args.machine.now).reads Objects in
+    c.loop-record.invariant.cells told laid x below
+    ∙ ap (λ l. fold (redone m) (cell_in c.args.objects.now file) l x) (take_all c.loop-record.record-index c.args.records.now c.loop-record-test.false)

@@ -1,0 +1,34 @@
+use Rattle.std.proofs.Common.{◌++◌, List, ℕ, ap, ◌∙◌}
+use Rattle.redo_shell.proofs.DumpLemmas.{dump_reads, dump_says, dump_begun, dump_quiet}
+use Rattle.redo_shell.proofs.KeepLemmas.{keeps_once, keeps_behind}
+use Rattle.redo_shell.proofs.dump.dump_open.Goals as goal
+
+pub returns-in-Ok-clause-moments : goal.returns-in-Ok-clause-moments
+returns-in-Ok-clause-moments g c = λ p commands holds all telling.
+    dump_says p (g.M.Machine.disk c.args.machine.now) (g.M.Machine.disk c.table.new.machine) (g.M.Machine.disk c.end_with.new.machine) c.args.engine.now commands c.as_slice.result.now
+    c.table.ensures.kept holds all (c.as_slice.ensures.value ∙ c.in-Ok.ensures.rows p commands holds) c.end_with.ensures.runs telling
+
+pub returns-in-Ok-clause-said : goal.returns-in-Ok-clause-said
+returns-in-Ok-clause-said g c = λ p commands holds.
+    dump_begun p (g.M.Machine.disk c.args.machine.now) (g.M.Machine.disk c.table.new.machine) (g.M.Machine.disk c.end_with.new.machine) commands c.as_slice.result.now (c.table.ensures.kept.said holds.told)
+    (c.as_slice.ensures.value ∙ c.in-Ok.ensures.rows p commands holds) (c.end_with.ensures.runs.said (c.table.ensures.kept.time.files_told.0 holds.told))
+
+pub returns-in-Ok-clause-all : goal.returns-in-Ok-clause-all
+returns-in-Ok-clause-all g c = λ p commands holds done.
+    c.end_with.ensures.all (c.table.ensures.kept.time.files_told.0 holds.told) (λ e. cc (done, e)) ∙ ap (λ (l : List ℕ). l ++ c.as_slice.result.now) (c.table.ensures.kept.said holds.told)
+    ∙ ap (λ (l : List ℕ). (g.M.Machine.disk c.args.machine.now).said ++ l) (c.as_slice.ensures.value ∙ c.in-Ok.ensures.rows p commands holds)
+
+pub returns-in-Ok-clause-keeps : goal.returns-in-Ok-clause-keeps
+returns-in-Ok-clause-keeps g c = keeps_behind (g.M.Machine.disk c.args.machine.now) (g.M.Machine.disk c.table.new.machine) (g.M.Machine.disk c.end_with.new.machine) c.table.ensures.kept (keeps_once (g.M.Machine.disk c.table.new.machine) (g.M.Machine.disk c.end_with.new.machine) c.end_with.ensures.runs)
+
+pub returns-in-Err-Damaged-clause-keeps : goal.returns-in-Err-Damaged-clause-keeps
+returns-in-Err-Damaged-clause-keeps g c = keeps_behind (g.M.Machine.disk c.args.machine.now) (g.M.Machine.disk c.table.new.machine) (g.M.Machine.disk c.end_damaged.new.machine) c.table.ensures.kept c.end_damaged.ensures.keeps
+
+pub returns-in-Err-clause-moments : goal.returns-in-Err-clause-moments
+returns-in-Err-clause-moments g c = λ p commands holds all telling. dump_reads p (g.M.Machine.disk c.args.machine.now) (g.M.Machine.disk c.table.new.machine) c.args.engine.now commands c.table.ensures.kept holds all telling
+
+pub returns-in-Err-clause-said : goal.returns-in-Err-clause-said
+returns-in-Err-clause-said g c = λ p commands holds. dump_quiet p (g.M.Machine.disk c.args.machine.now) (g.M.Machine.disk c.table.new.machine) commands (c.table.ensures.kept.said holds.told)
+
+pub returns-in-Err-clause-keeps : goal.returns-in-Err-clause-keeps
+returns-in-Err-clause-keeps g c = keeps_once (g.M.Machine.disk c.args.machine.now) (g.M.Machine.disk c.table.new.machine) c.table.ensures.kept

@@ -1,0 +1,81 @@
+-- The store that the program runs: its operations, and what its engine and its files stand for.
+use Rattle.std.specs.Prelude.{ℕ, List, Option, Result}
+use Rattle.oper_core.specs.State.{State}
+use Rattle.oper_core.specs.Meaning.{Meaning}
+use Rattle.oper_core.specs.declared.refusal.Refusal.{Refusal}
+use Rattle.disk_model.specs.Disk.{Files, Disk}
+use Rattle.formats.specs.declared.params.Params.{Params}
+use Rattle.op_codec.specs.declared.all_ops.AllOps.{AllOps}
+use Rattle.op_codec.specs.AllOps.{all_meaning}
+use Rattle.store_engine.specs.Store as of_store
+use Rattle.store_engine.specs.Engine as of_engine
+use Rattle.store_engine.specs.Engine.{EngineView, LogLength}
+use Rattle.store_engine.specs.declared.exec_err.ExecErr.{ExecErr}
+
+-- the operations of a script's commands
+abbrev pub Command : Type 0
+Command = AllOps
+
+-- what they mean in a store with these numbers
+abbrev pub meaning_in : Params → Meaning Command
+meaning_in p = of_store.meaning_in all_meaning p
+
+-- the values of the objects after the commands
+abbrev pub state_of : Params → List Command → State
+state_of p commands = of_store.state_of all_meaning p commands
+
+-- the first refusal that a command meets after the commands
+abbrev pub refusal_after : Params → List Command → Command → Option Refusal
+refusal_after p commands op = of_store.refusal_after all_meaning p commands op
+
+-- the length of a command's record
+abbrev pub record_length : Params → Command → ℕ
+record_length p op = of_store.record_length all_meaning p op
+
+-- the files meet their format
+abbrev pub IsWellFormed : Files → Type 0
+IsWellFormed files = of_store.IsWellFormed all_meaning files
+
+-- the files stand for the commands
+abbrev pub Stands : Params → Files → List Command → Type 0
+Stands p files commands = of_store.Stands all_meaning p files commands
+
+-- no store is there, or one without commands
+abbrev pub IsNew : Params → Files → Type 0
+IsNew p files = of_engine.IsNew all_meaning p files
+
+-- the machine tells its files and is settled, and they stand for the commands
+abbrev pub Opens : Params → Disk → List Command → Type 0
+Opens p d commands = of_engine.Opens all_meaning p d commands
+
+-- the cache, laid over the slots, is the state after the commands
+abbrev pub IsMapOf : Params → Disk → EngineView → List Command → Type 0
+IsMapOf p d engine commands = of_engine.IsMapOf all_meaning p d engine commands
+
+-- the commands' records are in the log, the other two files are those of a store, and the map has the values
+abbrev pub Carries : Params → Disk → EngineView → List Command → Type 0
+Carries p d engine commands = of_engine.Carries all_meaning p d engine commands
+
+-- engine and files stand for the commands: the files for those that are forced, the map for all
+abbrev pub Holds : Params → Disk → EngineView → List Command → Type 0
+Holds p d engine commands = of_engine.Holds all_meaning p d engine commands
+
+-- an image at a moment of a call on an engine that stands for the commands: at least the forced ones are there
+abbrev pub Between : Params → Disk → ℕ → List Command → Files → List ℕ → Type 0
+Between p old forced commands files said = of_engine.Between all_meaning p old forced commands files said
+
+-- what engine and files stand for after a call: no fewer are forced
+abbrev pub Kept : Params → EngineView → Disk → EngineView → List Command → Type 0
+Kept p before d engine commands = of_engine.Kept all_meaning p before d engine commands
+
+-- a command's record fits in a log of this length
+abbrev pub Fits : Params → LogLength → Command → Type 0
+Fits p log op = of_engine.Fits all_meaning p log op
+
+-- why a command gets its answer after these commands, with a log of this length
+abbrev pub HasCause : Params → List Command → LogLength → Command → Result ℕ ExecErr → Type 0
+HasCause p commands log op result = of_engine.HasCause all_meaning p commands log op result
+
+-- the log's length after a command's answer
+abbrev pub Lengthens : Params → LogLength → Command → Result ℕ ExecErr → LogLength → Type 0
+Lengthens p old op result new = of_engine.Lengthens all_meaning p old op result new

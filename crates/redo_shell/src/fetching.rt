@@ -1,0 +1,43 @@
+// Objects are fetched before their values are told.
+ghost use Rattle.std.specs.Prelude.{◌≡◌, ◌≤◌, ◌<◌, List, ℕ, true, false, OnOk, IfOk, IfErr};
+ghost use Rattle.disk_model.specs.Disk.{Stays};
+ghost use Rattle.formats.specs.declared.params.Params.{Params};
+ghost use Rattle.store_engine.specs.Engine.{IsAttached, IsCached, log_length};
+ghost use Rattle.store_engine.specs.Laid.{values_in};
+ghost use Rattle.redo_shell.specs.Store.{Command, Holds, Kept, state_of};
+ghost use Rattle.redo_shell.specs.Run.{IsCaused, IsUndamaged};
+
+use crate::stop::Stop;
+use disk_model::Machine;
+use op_codec::AllOps;
+use store_engine::{Engine, ExecErr};
+
+/// Sees that an object is cached, so that its value can be told. It tells whether there is such an object.
+pub fn fetched<M: Machine>(
+    engine: &mut Engine<AllOps>,
+    machine: &mut M,
+    object: u32,
+) -> Result<bool, Stop>
+    requires { engine.old.broken ≡ false }
+    ensures kept { Stays (M.disk machine.old) (M.disk machine.new) }
+    ensures cached { IfOk result (λ there. there ≡ true → IsCached engine.new object) }
+    ensures holds { (p : Params) (commands : List Command) → Holds p (M.disk machine.old) engine.old commands → OnOk result (Kept p engine.old (M.disk machine.new) engine.new commands) }
+    ensures value { (p : Params) (commands : List Command) → Holds p (M.disk machine.old) engine.old commands →
+        IfOk result (λ there. there ≡ true → (object < p.objects) × ((file : List ℕ) → values_in engine.new.objects file object ≡ state_of p commands object)) }
+    ensures none { (p : Params) (commands : List Command) → Holds p (M.disk machine.old) engine.old commands → IfOk result (λ there. there ≡ false → p.objects ≤ object) }
+    ensures length { OnOk result (log_length engine.new ≡ log_length engine.old) }
+    ensures cause { IfErr result (λ stop. IsCaused stop (M.disk machine.old) (M.disk machine.new)) }
+    ensures undamaged { (M.disk machine.old).tells_files → IsAttached (M.disk machine.old) engine.old → IfErr result IsUndamaged }
+    ensures attached { IsAttached (M.disk machine.old) engine.old → IsAttached (M.disk machine.new) engine.new }
+    ensures unbroken { OnOk result (engine.new.broken ≡ false) }
+{
+    match engine.fetch(machine, object) {
+        Ok(()) => Ok(true),
+        Err(ExecErr::Refused(_)) => Ok(false),
+        Err(ExecErr::DiskFault) => Err(Stop::DiskFault),
+        Err(ExecErr::Damaged { file, place }) => Err(Stop::Damaged { file, place }),
+        Err(ExecErr::LogFull { .. } | ExecErr::LsnEnd { .. } | ExecErr::Memory) => {
+            Err(Stop::Memory)
+        }
+    }
+}

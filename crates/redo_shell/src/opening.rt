@@ -1,0 +1,76 @@
+// How a store is opened, and what is said where it is not.
+ghost use Rattle.std.specs.Prelude.{◌≡◌, ◌≢◌, ◌++◌, false, List, ℕ, length, OnOk, IfOk, IfErr, IsErrOf};
+ghost use Rattle.disk_model.specs.Disk.{Rises, Passes, Stays, LeavesOnly};
+ghost use Rattle.disk_model.specs.declared.machine.FileNo.{FileNo};
+ghost use Rattle.disk_model.specs.declared.machine.FileNo.TheVariants.{Objects};
+ghost use Rattle.formats.specs.Bytes.{IsShutAt};
+ghost use Rattle.formats.specs.Image.{IsDamaged};
+ghost use Rattle.formats.specs.declared.params.Params.{Params};
+ghost use Rattle.op_codec.specs.AllOps.{all_meaning};
+ghost use Rattle.store_engine.specs.Engine.{IsAttached, IsNoDamage};
+ghost use Rattle.redo_shell.specs.Store.{Command, IsWellFormed, Opens, Holds, Between};
+ghost use Rattle.redo_shell.specs.Keeps.{KeepsFiles};
+ghost use Rattle.redo_shell.specs.Notices.{not_a_store, damaged};
+ghost use Rattle.redo_shell.specs.Status.{IsOfUnopened};
+
+use crate::damage::end_damaged;
+use crate::say::end_with;
+use crate::status::Status;
+use disk_model::Machine;
+use op_codec::AllOps;
+use std::alloc::Global;
+use store_engine::{Engine, RestartErr, Tuning};
+
+// How much of a store the program keeps in memory.
+const TUNING: Tuning = Tuning { clean: 64 };
+
+/// Says why a store was not opened, where there is a line for that, and ends with the status that tells of it, or by want
+/// of memory for the line with that, or where the output fails with that.
+fn end_unopened<M: Machine>(alloc: Global, machine: &mut M, cause: RestartErr) -> Status
+    ensures time { Passes (M.disk machine.old) (M.disk machine.new) }
+    ensures keeps { KeepsFiles (M.disk machine.old) (M.disk machine.new) }
+    ensures no_store { (M.disk machine.old).tells_files → result ≡ Status.NotAStore →
+        (cause ≡ RestartErr.NotAStore) × ((M.disk machine.new).said ≡ (M.disk machine.old).said ++ not_a_store) }
+    ensures damaged { (M.disk machine.old).tells_files → result ≡ Status.Damaged → (file : FileNo) × (place : ℕ) × (cause ≡ RestartErr.Damaged file place)
+        × ((M.disk machine.new).said ≡ (M.disk machine.old).said ++ damaged file place) }
+    // A fault of the disk and want of memory are told by the status alone.
+    ensures quiet { cause ≢ RestartErr.NotAStore → IsNoDamage cause → (machine.new ≡ machine.old) × (result ≢ Status.NotAStore) × (result ≢ Status.Damaged) }
+    ensures status { IsOfUnopened result }
+    ensures disk_fault { result ≡ Status.DiskFault → cause ≡ RestartErr.DiskFault }
+    ensures say_fault { result ≡ Status.SayFault → Rises (M.disk machine.old).say_faults (M.disk machine.new).say_faults }
+{
+    match cause {
+        RestartErr::NotAStore => end_with(machine, b"not a store\n", Status::NotAStore),
+        RestartErr::Damaged { file, place } => end_damaged(alloc, machine, file, place),
+        RestartErr::DiskFault => Status::DiskFault,
+        RestartErr::Memory => Status::Memory,
+    }
+}
+
+/// Opens the store. Where there is none to open it says a line, and answers the status that the program ends with.
+pub fn open_store<M: Machine>(alloc: Global, machine: &mut M) -> Result<Engine<AllOps>, Status>
+    ensures time { Passes (M.disk machine.old) (M.disk machine.new) }
+    ensures keeps { KeepsFiles (M.disk machine.old) (M.disk machine.new) }
+    ensures kept { OnOk result (Stays (M.disk machine.old) (M.disk machine.new)) }
+    ensures ok { (p : Params) (commands : List Command) → Opens p (M.disk machine.old) commands →
+        IfOk result (λ engine. Holds p (M.disk machine.new) engine commands × (engine.forced ≡ length commands)) }
+    ensures moments { (p : Params) (commands : List Command) → Opens p (M.disk machine.old) commands → (M.disk machine.old).tells_moments →
+        LeavesOnly (M.disk machine.old) (M.disk machine.new) (Between p (M.disk machine.old) (length commands) commands) }
+    ensures quiet { (p : Params) (commands : List Command) → Opens p (M.disk machine.old) commands → (M.disk machine.new).said ≡ (M.disk machine.old).said }
+    ensures attached { IfOk result (IsAttached (M.disk machine.new)) }
+    ensures unbroken { IfOk result (λ engine. engine.broken ≡ false) }
+    ensures opened { (M.disk machine.old).tells_files → OnOk result (IsWellFormed (M.disk machine.old).reads) }
+    ensures store { (M.disk machine.old).tells_files → IsWellFormed (M.disk machine.old).reads → IfErr result (λ status. (status ≢ Status.NotAStore) × (status ≢ Status.Damaged)) }
+    ensures no_store { (M.disk machine.old).tells_files → IsErrOf result Status.NotAStore → IsShutAt 0 ((M.disk machine.old).reads Objects)
+        × ((M.disk machine.new).reads ≡ (M.disk machine.old).reads) × ((M.disk machine.new).said ≡ (M.disk machine.old).said ++ not_a_store) }
+    ensures damaged { (M.disk machine.old).tells_files → IsErrOf result Status.Damaged → (file : FileNo) × (place : ℕ)
+        × IsDamaged all_meaning (M.disk machine.old).reads file place × ((M.disk machine.new).reads ≡ (M.disk machine.old).reads) × ((M.disk machine.new).said ≡ (M.disk machine.old).said ++ damaged file place) }
+    ensures status { IfErr result IsOfUnopened }
+    ensures disk_fault { IsErrOf result Status.DiskFault → Rises (M.disk machine.old).disk_faults (M.disk machine.new).disk_faults }
+    ensures say_fault { IsErrOf result Status.SayFault → Rises (M.disk machine.old).say_faults (M.disk machine.new).say_faults }
+{
+    match Engine::restart(alloc, machine, TUNING) {
+        Ok(engine) => Ok(engine),
+        Err(cause) => Err(end_unopened(alloc, machine, cause)),
+    }
+}

@@ -1,0 +1,197 @@
+-- An objects file that changes within one slot.
+use Rattle.std.proofs.Common.{◌≡◌, ◌≢◌, ◌⊎◌, inl, inr, ◌<◌, ◌≤◌, ◌+◌, ◌-◌, ◌*◌, ◌^◌, ℕ, zero, suc, List, length, take, drop, refl, sym, ◌∙◌, ap, subst, arith}
+use Rattle.std.proofs.lemmas.Bool.{cases_eq}
+use Rattle.formats.specs.Bytes.{byte_at, IsOpenAt, IsShutAt}
+use Rattle.formats.specs.Objects.{Cell, IsObjectsFile, AreSlotsWhole, IsWholeSlot, slot_place, identifier_at, length_at, value_at, open_identifier, cell_at, cell_of, objects_fields}
+use Rattle.formats.specs.declared.params.Params.{Params}
+use Rattle.stable_objects.specs.Replacing.{AgreesOutside, IsFilled, OthersKept}
+use Rattle.stable_objects.proofs.Outside.{IsBeside, byte_beside, read_same, number_stays}
+use Rattle.stable_objects.proofs.Places.{places_apart, place_within}
+use Rattle.stable_objects.proofs.Cells.{whole_cell, no_cell, open_cell, shut_cell, greater, cell_is_greater, held_in}
+
+-- a slot holds what it held
+pub record SlotStays (cap place : ℕ) (old new : List ℕ) : Type 0 where
+  pub cell : cell_at place new ≡ cell_at place old
+  pub whole : IsOpenAt place new → IsWholeSlot cap place new
+  pub gate : byte_at place new ≡ byte_at place old
+
+-- an open slot outside the range
+module _ (cap at n place : ℕ) (old new : List ℕ) (agrees : AgreesOutside at n old new) (reach : at ≤ length old) (apart : (place + (13 + cap) ≤ at) ⊎ (at + n ≤ place + 1)) (slot : IsWholeSlot cap place old) where
+  out : (a b : ℕ) → 1 ≤ a → a + b ≤ 13 + cap → IsBeside at n old (place + a) b
+  out a b some short = elim apart [ inl before ↦ inl (omega (arith, before, short), omega (arith, before, short, reach)) | inr behind ↦ inr (omega (arith, behind, some)) ]
+
+  pub numbered_stays : identifier_at place new ≡ identifier_at place old
+  numbered_stays = number_stays at n old new agrees (place + 1) 8 (out 1 8 (omega arith) (omega arith))
+
+  pub long_stays : length_at place new ≡ length_at place old
+  long_stays = number_stays at n old new agrees (place + 9) 4 (out 9 4 (omega arith) (omega arith))
+
+  pub value_stays : value_at place new ≡ value_at place old
+  value_stays =
+      ap (λ (k : ℕ). take k (drop (place + 13) new)) long_stays
+      ∙ read_same at n old new agrees (place + 13) (length_at place old) (out 13 (length_at place old) (omega arith) (omega (arith, slot.short)))
+
+  pub whole_stays : IsWholeSlot cap place new
+  whole_stays = record {
+    some = omega (arith, slot.some, numbered_stays);
+    numbered = omega (arith, slot.numbered, numbered_stays);
+    short = omega (arith, slot.short, long_stays);
+    within = λ some. omega (arith, slot.within (omega (arith, some, long_stays)), long_stays, agrees.no_shorter);
+  }
+
+-- a slot stays that is apart from the one that changes
+pub slot_stays : (cap at place : ℕ) (old new : List ℕ) → AgreesOutside at (13 + cap) old new → at ≤ length old → (place + (13 + cap) ≤ at) ⊎ (at + (13 + cap) ≤ place) → place < length old
+    → (IsOpenAt place old → IsWholeSlot cap place old) → SlotStays cap place old new
+slot_stays cap at place old new agrees reach apart within slot =
+    let here : (place + (13 + cap) ≤ at) ⊎ (at + (13 + cap) ≤ place + 1) = elim apart [ inl before ↦ inl before | inr behind ↦ inr (omega (arith, behind)) ] in
+    let same = byte_beside at (13 + cap) old new agrees place (elim apart [ inl before ↦ inl (omega (arith, before), within) | inr behind ↦ inr behind ]) in
+    record {
+      gate = same;
+      cell = elim (cases_eq (byte_at place old) 1) [
+        | inl is_open ↦
+            let numbered = numbered_stays cap at (13 + cap) place old new agrees reach here (slot is_open) in
+            let value = value_stays cap at (13 + cap) place old new agrees reach here (slot is_open) in
+            let cells : whole_cell place new ≡ whole_cell place old = λ i. record { id = numbered i; value = value i } in
+            open_cell place new (same ∙ is_open) ∙ cells ∙ sym (open_cell place old is_open)
+        | inr shut ↦ shut_cell place new (λ is_open. shut (sym same ∙ is_open)) ∙ sym (shut_cell place old shut)
+      ];
+      whole = λ is_open. whole_stays cap at (13 + cap) place old new agrees reach here (slot (sym same ∙ is_open));
+    }
+
+-- the two slots of an object differ still
+apart_here : (cap x : ℕ) (old new : List ℕ) (s : ℕ) → s < 2 → cell_at (slot_place cap x (1 - s)) new ≡ cell_at (slot_place cap x (1 - s)) old
+    → (IsOpenAt (slot_place cap x s) new → identifier_at (slot_place cap x s) new ≢ open_identifier (slot_place cap x (1 - s)) old)
+    → IsOpenAt (slot_place cap x 0) new → IsOpenAt (slot_place cap x 1) new → identifier_at (slot_place cap x 0) new ≢ identifier_at (slot_place cap x 1) new
+apart_here cap x old new zero two stays other first second same =
+    other first (same ∙ sym (ap (λ (c : Cell). c.id) (open_cell (slot_place cap x 1) new second)) ∙ ap (λ (c : Cell). c.id) stays)
+apart_here cap x old new (suc zero) two stays other first second same =
+    other second (sym same ∙ sym (ap (λ (c : Cell). c.id) (open_cell (slot_place cap x 0) new first)) ∙ ap (λ (c : Cell). c.id) stays)
+apart_here cap x old new (suc (suc s)) two stays other first second same = absurd (omega (arith, two))
+
+-- while its slot is closed, or has a smaller identifier, an object is held by the other
+pub record IsLower (cap place bound : ℕ) (file : List ℕ) : Type 0 where
+  pub slot : IsOpenAt place file → IsWholeSlot cap place file
+  pub less : IsOpenAt place file → identifier_at place file < bound
+
+-- a whole file in which each object has its pair
+pub record IsKept (p : Params) (x : ℕ) (old new : List ℕ) : Type 0 where
+  pub whole : IsObjectsFile p new
+  pub held : cell_of p.cap x new ≡ cell_of p.cap x old
+  pub others : OthersKept p x old new
+
+-- or this object the new one
+pub record IsRenewed (p : Params) (x id : ℕ) (value old new : List ℕ) : Type 0 where
+  pub whole : IsObjectsFile p new
+  pub held : cell_of p.cap x new ≡ record { id = id; value = value }
+  pub others : OthersKept p x old new
+
+module _ (p : Params) (x s : ℕ) (old new : List ℕ) (is : IsObjectsFile p old) (below : x < p.objects) (two : s < 2) (agrees : AgreesOutside (slot_place p.cap x s) (13 + p.cap) old new) where
+  pub each_stays : (y t : ℕ) → y < p.objects → t < 2 → 2 * y + t ≢ 2 * x + s → SlotStays p.cap (slot_place p.cap y t) old new
+  each_stays y t below_y two_t other =
+      slot_stays p.cap (slot_place p.cap x s) (slot_place p.cap y t) old new agrees (omega (arith, place_within p old x s is.whole below two)) (places_apart p.cap x s y t other) (place_within p old y t is.whole below_y two_t) (is.slots.each y t below_y two_t)
+
+  pub other_stays : SlotStays p.cap (slot_place p.cap x (1 - s)) old new
+  other_stays = each_stays x (1 - s) below (omega arith) (λ same. omega (arith, same, two))
+
+  pub others_kept : OthersKept p x old new
+  others_kept y below_y other =
+      let first = (each_stays y 0 below_y (omega arith) (λ same. omega (arith, same, other, two))).cell in
+      let second = (each_stays y 1 below_y (omega arith) (λ same. omega (arith, same, other, two))).cell in
+      let both : greater (cell_at (slot_place p.cap y 0) new) (cell_at (slot_place p.cap y 1) new) ≡ greater (cell_at (slot_place p.cap y 0) old) (cell_at (slot_place p.cap y 1) old) =
+      λ i. greater (first i) (second i) in
+      cell_is_greater p.cap y new ∙ both ∙ sym (cell_is_greater p.cap y old)
+
+  header : take 21 new ≡ take 21 old
+  header = read_same (slot_place p.cap x s) (13 + p.cap) old new agrees 0 21 (inl (omega arith, omega (arith, is.whole)))
+
+  -- the file is whole where the slot is
+  pub whole_file : (IsOpenAt (slot_place p.cap x s) new → IsWholeSlot p.cap (slot_place p.cap x s) new)
+      → (IsOpenAt (slot_place p.cap x s) new → identifier_at (slot_place p.cap x s) new ≢ open_identifier (slot_place p.cap x (1 - s)) old) → IsObjectsFile p new
+  whole_file slot other = record {
+    header = header ∙ is.header;
+    in_range = is.in_range;
+    whole = omega (arith, is.whole, agrees.no_shorter);
+    slots = record {
+      each = λ y t below_y two_t. elim (cases_eq (2 * y + t) (2 * x + s)) [
+        | inl same ↦
+            let places : slot_place p.cap y t ≡ slot_place p.cap x s = ap (λ (k : ℕ). 32 + k * (13 + p.cap)) same in
+            subst (λ (q : ℕ). IsOpenAt q new → IsWholeSlot p.cap q new) (sym places) slot
+        | inr differs ↦ (each_stays y t below_y two_t differs).whole
+      ];
+      apart = λ y below_y. elim (cases_eq y x) [
+        | inl same ↦ subst (λ (z : ℕ). IsOpenAt (slot_place p.cap z 0) new → IsOpenAt (slot_place p.cap z 1) new → identifier_at (slot_place p.cap z 0) new ≢ identifier_at (slot_place p.cap z 1) new)
+            (sym same) (apart_here p.cap x old new s two other_stays.cell other)
+        | inr differs ↦ λ first second alike.
+            let one = each_stays y 0 below_y (omega arith) (λ same. omega (arith, same, differs, two)) in
+            let next = each_stays y 1 below_y (omega arith) (λ same. omega (arith, same, differs, two)) in
+            let id : (q : ℕ) → IsOpenAt q new → SlotStays p.cap q old new → identifier_at q new ≡ identifier_at q old = λ q is_open stays.
+            sym (ap (λ (c : Cell). c.id) (open_cell q new is_open)) ∙ ap (λ (c : Cell). c.id) stays.cell ∙ ap (λ (c : Cell). c.id) (open_cell q old (sym stays.gate ∙ is_open)) in
+            is.slots.apart y below_y (sym one.gate ∙ first) (sym next.gate ∙ second) (sym (id (slot_place p.cap y 0) first one) ∙ alike ∙ id (slot_place p.cap y 1) second next)
+      ];
+    };
+  }
+
+  abbrev there : ℕ
+  there = slot_place p.cap x (1 - s)
+
+  other_id : open_identifier there new ≡ open_identifier there old
+  other_id = ap (λ (c : Cell). c.id) other_stays.cell
+
+  lower_whole : IsLower p.cap (slot_place p.cap x s) (open_identifier there old) new → IsObjectsFile p new
+  lower_whole lower = whole_file lower.slot (λ is_open same. let less = lower.less is_open in omega (arith, less, same))
+
+  no_greater : IsLower p.cap (slot_place p.cap x s) (open_identifier there old) new → open_identifier (slot_place p.cap x s) new ≤ open_identifier there new
+  no_greater lower = elim (cases_eq (byte_at (slot_place p.cap x s) new) 1) [
+    | inl is_open ↦
+        let less = lower.less is_open in
+        let id = ap (λ (c : Cell). c.id) (open_cell (slot_place p.cap x s) new is_open) in
+        omega (arith, less, id, other_id)
+    | inr shut ↦ let none = ap (λ (c : Cell). c.id) (shut_cell (slot_place p.cap x s) new shut) in omega (arith, none)
+  ]
+
+  -- an object keeps its pair while its other slot is closed, or has a smaller identifier
+  pub kept : open_identifier (slot_place p.cap x s) old ≤ open_identifier there old → IsLower p.cap (slot_place p.cap x s) (open_identifier there old) new → IsKept p x old new
+  kept le lower =
+      let whole = lower_whole lower in
+      record {
+        whole = whole;
+        held = held_in p x new whole.slots below s two (no_greater lower) ∙ other_stays.cell ∙ sym (held_in p x old is.slots below s two le);
+        others = others_kept;
+      }
+
+  -- and has the new one once that slot is open
+  pub renewed : (id : ℕ) (value : List ℕ) → open_identifier there old < id → id < 2 ^ 62 → length value ≤ p.cap → IsOpenAt (slot_place p.cap x s) new → IsFilled (slot_place p.cap x s) id value new → IsRenewed p x id value old new
+  renewed id value later numbered short is_open filled =
+      let place = slot_place p.cap x s in
+      let slot : IsWholeSlot p.cap place new = record {
+        some = omega (arith, later, filled.numbered);
+        numbered = omega (arith, numbered, filled.numbered);
+        short = omega (arith, short, filled.long);
+        within = λ some. omega (arith, filled.long, filled.within);
+      } in
+      let whole = whole_file (λ opened. slot) (λ opened same. omega (arith, same, later, filled.numbered)) in
+      let again : 1 - (1 - s) ≡ s = omega (arith, two) in
+      let here = ap (λ (c : Cell). c.id) (open_cell place new is_open) in
+      let le : open_identifier there new ≤ open_identifier place new = omega (arith, here, filled.numbered, other_id, later) in
+      let cells : whole_cell place new ≡ record { id = id; value = value } = λ i. record { id = filled.numbered i; value = filled.stands i } in
+      record {
+        whole = whole;
+        held = held_in p x new whole.slots below (1 - s) (omega arith) (subst (λ (t : ℕ). open_identifier there new ≤ open_identifier (slot_place p.cap x t) new) (sym again) le)
+            ∙ ap (λ (t : ℕ). cell_at (slot_place p.cap x t) new) again
+            ∙ open_cell place new is_open
+            ∙ cells;
+        others = others_kept;
+      }
+
+-- a slot that is closed
+pub shut_lower : (cap place bound : ℕ) (file : List ℕ) → IsShutAt place file → IsLower cap place bound file
+shut_lower cap place bound file shut = record { slot = λ is_open. absurd (shut is_open); less = λ is_open. absurd (shut is_open) }
+
+-- an open one whose gate alone is torn
+pub torn_lower : (cap place bound : ℕ) (old new : List ℕ) → AgreesOutside place 1 old new → place ≤ length old → IsWholeSlot cap place old → identifier_at place old < bound → IsLower cap place bound new
+torn_lower cap place bound old new agrees reach slot less =
+    let numbered = numbered_stays cap place 1 place old new agrees reach (inr (omega arith)) slot in
+    record {
+      slot = λ is_open. whole_stays cap place 1 place old new agrees reach (inr (omega arith)) slot;
+      less = λ is_open. omega (arith, numbered, less);
+    }

@@ -1,0 +1,61 @@
+-- Which slot is the first whose identifier is a number or more.
+use Rattle.std.proofs.Common.{◌≡◌, ◌<◌, ◌≤◌, ◌+◌, ◌*◌, ◌/◌, ◌%◌, ℕ, zero, suc, List, [], ◌∷◌, length, get_or, refl, ◌∙◌, ap, arith, inl, inr, Option, Some, None, position}
+use Rattle.std.specs.Prelude.{Bool, true, false, cond, nat_le, IfNone}
+use Rattle.std.specs.List.{position_or_len}
+use Rattle.std.proofs.lemmas.Bool.{leb-true, leb-false, ltb-false, cases_Bool, cases_lt}
+use Rattle.std.proofs.lemmas.List.Quantifiers.{position-Some}
+use Rattle.formats.specs.Objects.{slot_place}
+use Rattle.stable_objects.specs.SlotGates.{slot_gate}
+use Rattle.stable_objects.specs.SlotsView.{SlotsView, AreHeads, IsLate}
+
+-- the place of the first one, or the length
+abbrev late_from : ℕ → List ℕ → ℕ
+late_from next ids = position_or_len (λ id. nat_le next id) ids
+
+is_here : (next id : ℕ) (ids : List ℕ) → nat_le next id ≡ true → late_from next (id ∷ ids) ≡ 0
+is_here next id ids is = rw is refl
+
+not_here : (next id : ℕ) (ids : List ℕ) → nat_le next id ≡ false → late_from next (id ∷ ids) ≡ 1 + late_from next ids
+not_here next id ids is = rw is refl
+
+-- where there is none, each is below
+all_below : (next : ℕ) (ids : List ℕ) (k : ℕ) → 0 < next → length ids ≤ late_from next ids → get_or ids k 0 < next
+all_below next [] k some past = some
+all_below next (id ∷ ids) zero some past = elim (cases_Bool (nat_le next id)) [
+  | inl late ↦ absurd (omega (arith, past, is_here next id ids late))
+  | inr below ↦ leb-false next id below
+]
+all_below next (id ∷ ids) (suc k) some past = elim (cases_Bool (nat_le next id)) [
+  | inl late ↦ absurd (omega (arith, past, is_here next id ids late))
+  | inr below ↦ all_below next ids k some (omega (arith, past, not_here next id ids below))
+]
+
+not_found : (b : Bool) (n : ℕ) → cond b (Some n) None ≡ None → b ≡ false
+not_found true n is = absurd cc
+not_found false n is = refl
+
+-- no slot has a late number
+pub none_found : (slots : SlotsView) (next : ℕ) → 0 < next → position (λ id. nat_le next id) slots.heads ≡ None → (x s : ℕ) → IsLate slots next x s → ⊥
+none_found slots next some none x s late =
+    let past = ltb-false (late_from next slots.heads) (length slots.heads) (not_found _ _ none) in
+    let below = all_below next slots.heads (2 * x + s) some past in
+    omega (arith, below, late.2)
+
+-- the first slot that has one
+pub found_first : (slots : SlotsView) (next i gate : ℕ) → AreHeads slots.params slots.heads → position (λ id. nat_le next id) slots.heads ≡ Some i → gate ≡ slot_gate slots.params.cap i
+    → (x : ℕ) × (s : ℕ) × IsLate slots next x s × (gate + 1 ≡ slot_place slots.params.cap x s + 1) × ((y t : ℕ) → IsLate slots next y t → 2 * x + s ≤ 2 * y + t)
+found_first slots next i gate are found here_is =
+    let first = position-Some (λ id. nat_le next id) slots.heads i 0 found in
+    let halves : i ≡ 2 * (i / 2) + i % 2 = omega arith in
+    let late = leb-true next (get_or slots.heads i 0) first.1 in
+    let here : next ≤ get_or slots.heads (2 * (i / 2) + i % 2) 0 = omega (arith, late, ap (λ (k : ℕ). get_or slots.heads k 0) halves) in
+    let others : (y t : ℕ) → IsLate slots next y t → 2 * (i / 2) + i % 2 ≤ 2 * y + t = λ y t other. elim (cases_lt (2 * y + t) i) [
+      | inl less ↦ let below = leb-false next (get_or slots.heads (2 * y + t) 0) (first.2 (2 * y + t) less) in absurd (omega (arith, below, other.2))
+      | inr more ↦ omega (arith, more, halves)
+    ] in
+    (i / 2, i % 2, (omega (arith, first.0, are.count, halves), omega arith, here), ap (λ (k : ℕ). k + 1) here_is ∙ ap (λ (k : ℕ). slot_gate slots.params.cap k + 1) halves, others)
+
+-- a fact that holds anyway holds of no answer
+pub none_anyway : (o : Option ℕ) (P : Type 0) → P → IfNone o P
+none_anyway None P p = p
+none_anyway (Some n) P p = tt

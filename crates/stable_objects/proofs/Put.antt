@@ -1,0 +1,93 @@
+-- What the writes that fill a slot and open it leave.
+use Rattle.std.proofs.Common.{◌≡◌, ◌<◌, ◌≤◌, ◌+◌, inl, inr, ℕ, List, [], ◌∷◌, length, sym, ◌∙◌, ap, subst, arith}
+use Rattle.disk_model.specs.Disk.{Files, Disk, Runs, Stays, Same, In, Torn, Holds, Any, IsSettled, IsSettledIn, LeavesOnly}
+use Rattle.disk_model.specs.Moments.{runs_join, runs_wider, runs_then_stays, settled_again, from_reads, first_call, goes_on}
+use Rattle.disk_model.specs.Ranges.{torn_wider, run_apart}
+use Rattle.disk_model.specs.declared.machine.FileNo.TheVariants.{Objects}
+use Rattle.formats.specs.Bytes.{byte_at, IsShutAt}
+use Rattle.stable_objects.specs.Replacing.{AgreesOutside, IsFilled, IsPut, IsHalfPut}
+use Rattle.stable_objects.proofs.Bytes.{byte_written}
+use Rattle.stable_objects.proofs.Outside.{torn_agrees, agrees_wider, agrees_twice, filled_stays}
+
+-- the head alone was written
+pub head_run : (old mid : Disk) (place : ℕ) (head value : List ℕ) → length head ≡ 12 → Runs (In Objects (Torn (place + 1) (length head))) Same old mid → Runs (In Objects (Torn (place + 1) (12 + length value))) Same old mid
+head_run old mid place head value long run = runs_wider old mid (In Objects (Torn (place + 1) (length head))) (In Objects (Torn (place + 1) (12 + length value)))
+    (λ a b is. record { changed = torn_wider (place + 1) (length head) (12 + length value) (a Objects) (b Objects) (omega (arith, long)) is.changed; others = is.others })
+    run
+
+-- the head, and then the value
+pub fill_run : (old mid new : Disk) (place : ℕ) (head value : List ℕ) → length head ≡ 12 → Runs (In Objects (Torn (place + 1) (length head))) Same old mid
+    → Runs (In Objects (Torn (place + 13) (length value))) Same mid new → Runs (In Objects (Torn (place + 1) (12 + length value))) Same old new
+fill_run old mid new place head value long first second =
+    let same : place + 13 ≡ place + 1 + 12 = omega arith in
+    run_apart old mid new Objects (place + 1) (length head) 12 (length value) (12 + length value) (omega (arith, long)) (omega arith) first
+    (subst (λ (at : ℕ). Runs (In Objects (Torn at (length value))) Same mid new) same second)
+
+-- a sync after writes of one file settles all again
+pub sync_settles : (old mid new : Disk) (change : List ℕ → List ℕ → Type 0) → IsSettled old → Runs (In Objects change) Same old mid → Stays mid new → IsSettledIn Objects new → IsSettled new
+sync_settles old mid new change settled first second here =
+    let run = runs_then_stays old mid new (In Objects change) first second in
+    settled_again old new Objects change change run.ends settled run.time run.crash (λ told. run.reads (run.begins.telling told)) here
+
+-- any change of the file
+pub any_run : (old new : Disk) (change : List ℕ → List ℕ → Type 0) → Runs (In Objects change) Same old new → Runs (In Objects Any) Same old new
+any_run old new change run = runs_wider old new (In Objects change) (In Objects Any) (λ a b is. record { changed = tt; others = is.others }) run
+
+-- and another one after it
+pub any_join : (old mid new : Disk) (one two : List ℕ → List ℕ → Type 0) → Runs (In Objects one) Same old mid → Runs (In Objects two) Same mid new → Runs (In Objects Any) Same old new
+any_join old mid new one two first second = runs_join old mid new (In Objects one) (In Objects two) (In Objects Any)
+    (λ a b is. record { changed = tt; others = is.others })
+    (λ a b c x y. record { changed = tt; others = λ other is_other. y.others other is_other ∙ x.others other is_other })
+    first second
+
+module _ (old mid : Disk) (place id : ℕ) (value : List ℕ) (first : Runs (In Objects (Torn (place + 1) (12 + length value))) Same old mid) where
+  -- what is torn behind a gate is torn in its slot
+  behind : (a b : List ℕ) → AgreesOutside (place + 1) (12 + length value) a b → AgreesOutside place (13 + length value) a b
+  behind a b agrees = agrees_wider (place + 1) (12 + length value) place (13 + length value) a b (omega arith) (omega arith) agrees
+
+  -- and so is what is torn of its gate
+  here : (a b : List ℕ) → AgreesOutside place 1 a b → AgreesOutside place (13 + length value) a b
+  here a b agrees = agrees_wider place 1 place (13 + length value) a b (omega arith) (omega arith) agrees
+
+  -- while a slot is filled behind its closed gate
+  pub leaves_filling : old.tells_moments → IsSettled old → place < length (old.reads Objects) → IsShutAt place (old.reads Objects) → LeavesOnly old mid (IsHalfPut old place id value)
+  leaves_filling told settled within shut = first_call old mid (IsHalfPut old place id value) told first.time (λ c s left.
+      let from = from_reads old mid (In Objects (Torn (place + 1) (12 + length value))) Same told settled first.crash c s left in
+      let agrees = torn_agrees (place + 1) (12 + length value) (old.reads Objects) (c Objects) from.0.changed in
+      record {
+        agrees = behind (old.reads Objects) (c Objects) agrees;
+        slot = inl (λ is_open. shut (sym (agrees.before place within (omega arith)) ∙ is_open));
+        other_files = from.0.others;
+        silent = from.1;
+      })
+
+  -- while its gate is opened
+  pub leaves_opening : (new : Disk) → old.tells_moments → IsSettled old → place < length (old.reads Objects) → IsShutAt place (old.reads Objects) → IsSettled mid → IsFilled place id value (mid.reads Objects)
+      → Runs (In Objects (Torn place 1)) Same mid new → LeavesOnly old new (IsHalfPut old place id value)
+  leaves_opening new told settled within shut settled_mid filled second =
+      let told_mid = first.time.moments_told.0 told in
+      let files_told = first.begins.telling told in
+      goes_on old mid new (IsHalfPut old place id value) told_mid (leaves_filling told settled within shut) second.time (λ c s left.
+      let from = from_reads mid new (In Objects (Torn place 1)) Same told_mid settled_mid second.crash c s left in
+      let agrees = torn_agrees place 1 (mid.reads Objects) (c Objects) from.0.changed in
+      record {
+        agrees = agrees_twice place (13 + length value) (old.reads Objects) (mid.reads Objects) (c Objects)
+            (behind (old.reads Objects) (mid.reads Objects) (torn_agrees (place + 1) (12 + length value) (old.reads Objects) (mid.reads Objects) (first.reads files_told).changed))
+            (here (mid.reads Objects) (c Objects) agrees);
+        slot = inr (filled_stays place id value (mid.reads Objects) (c Objects) agrees filled);
+        other_files = λ other is_other. from.0.others other is_other ∙ (first.reads files_told).others other is_other;
+        silent = from.1 ∙ first.said files_told;
+      })
+
+  -- once it is open
+  pub put_done : (new : Disk) → old.tells_files → IsFilled place id value (mid.reads Objects) → Runs (In Objects (Torn place 1)) Same mid new → Holds place (1 ∷ []) (mid.reads Objects) (new.reads Objects)
+      → IsPut place id value (old.reads Objects) (new.reads Objects)
+  put_done new told filled second holds =
+      let agrees = torn_agrees place 1 (mid.reads Objects) (new.reads Objects) (second.reads (first.time.files_told.0 told)).changed in
+      record {
+        agrees = agrees_twice place (13 + length value) (old.reads Objects) (mid.reads Objects) (new.reads Objects)
+            (behind (old.reads Objects) (mid.reads Objects) (torn_agrees (place + 1) (12 + length value) (old.reads Objects) (mid.reads Objects) (first.reads told).changed))
+            (here (mid.reads Objects) (new.reads Objects) agrees);
+        opened = ap (λ (l : List ℕ). byte_at place l) holds ∙ byte_written place 1 (mid.reads Objects);
+        filled = filled_stays place id value (mid.reads Objects) (new.reads Objects) agrees filled;
+      }

@@ -1,0 +1,215 @@
+-- The steps of a replacement, each of them from a settled machine.
+use Rattle.std.proofs.Common.{◌≡◌, ◌≢◌, ◌⊎◌, inl, inr, ⊎_elim, ◌<◌, ◌≤◌, ◌+◌, ◌-◌, ◌*◌, ◌^◌, ℕ, Bool, true, false, if◌then◌else◌, nat_lt, List, length, set, get_or, refl, sym, ◌∙◌, ap, subst, arith}
+use Rattle.std.proofs.lemmas.Bool.{cases_eq, ltb-true, ltb-false}
+use Rattle.std.proofs.lemmas.List.{get_or-set_other, get_or_default, length-set}
+use Rattle.std.proofs.lemmas.Grind.{get_or-set_at}
+use Rattle.disk_model.specs.Disk.{Files, Disk, Runs, Stays, Same, In, Torn, Any, IsSettled, LeavesOnly}
+use Rattle.disk_model.specs.Moments.{from_reads, first_call, runs_on, weaker}
+use Rattle.disk_model.specs.declared.machine.FileNo.TheVariants.{Objects}
+use Rattle.formats.specs.Bytes.{byte_at, IsOpenAt, IsShutAt}
+use Rattle.formats.specs.Objects.{Cell, IsObjectsFile, IsWholeSlot, slot_place, identifier_at, open_identifier, cell_at, cell_of}
+use Rattle.formats.specs.declared.params.Params.{Params}
+use Rattle.stable_objects.specs.SlotsView.{SlotsView, AreOf, AreHeads, head, holder_in, id_in}
+use Rattle.stable_objects.specs.SlotGates.{slot_gate}
+use Rattle.stable_objects.specs.Replacing.{AgreesOutside, IsFilled, IsPut, IsHalfPut, IsOldOrNew, IsReplaced, spare_in}
+use Rattle.stable_objects.proofs.Outside.{torn_agrees, agrees_wider, agrees_twice, agrees_same}
+use Rattle.stable_objects.proofs.Places.{place_within}
+use Rattle.stable_objects.proofs.Cells.{open_cell, shut_cell, closed_where_none, open_where_some, less_where_open}
+use Rattle.stable_objects.proofs.Changed.{IsLower, IsKept, IsRenewed, kept, renewed, shut_lower, torn_lower, each_stays}
+
+-- of two identifiers that of the spare slot is no greater, and the other is the object's
+pub record IsSpare (slots : SlotsView) (x s : ℕ) : Type 0 where
+  pub two : s < 2
+  pub lower : head slots x s ≤ head slots x (1 - s)
+  pub other : head slots x (1 - s) ≤ id_in slots x
+
+spare_of : (slots : SlotsView) (x : ℕ) (b c : Bool) → nat_lt (head slots x 1) (head slots x 0) ≡ b → nat_lt (head slots x 0) (head slots x 1) ≡ c
+    → ((if b then 1 else 0) < 2) × (head slots x (if b then 1 else 0) ≤ head slots x (1 - (if b then 1 else 0))) × (head slots x (1 - (if b then 1 else 0)) ≤ head slots x (if c then 1 else 0))
+spare_of slots x true true first second = let less = ltb-true (head slots x 1) (head slots x 0) first in let more = ltb-true (head slots x 0) (head slots x 1) second in absurd (omega (arith, less, more))
+spare_of slots x true false first second = let less = ltb-true (head slots x 1) (head slots x 0) first in (omega arith, omega (arith, less), omega arith)
+spare_of slots x false true first second = let less = ltb-true (head slots x 0) (head slots x 1) second in (omega arith, omega (arith, less), omega arith)
+spare_of slots x false false first second =
+    let le = ltb-false (head slots x 1) (head slots x 0) first in let more = ltb-false (head slots x 0) (head slots x 1) second in (omega arith, omega (arith, le), omega (arith, more))
+
+pub spare : (slots : SlotsView) (x : ℕ) → IsSpare slots x (spare_in slots x)
+spare slots x =
+    let found = spare_of slots x (nat_lt (head slots x 1) (head slots x 0)) (nat_lt (head slots x 0) (head slots x 1)) refl refl in
+    record { two = found.0; lower = found.1; other = found.2 }
+
+-- what is replaced, in which slot, by what
+pub record IsReplacing (slots : SlotsView) (x s id : ℕ) (value : List ℕ) : Type 0 where
+  pub below : x < slots.params.objects
+  pub spare : IsSpare slots x s
+  pub later : id_in slots x < id
+  pub numbered : id < 2 ^ 62
+  pub short : length value ≤ slots.params.cap
+
+module _ (slots : SlotsView) (x s id : ℕ) (value : List ℕ) (is : IsReplacing slots x s id value) (old : Disk) (of : AreOf slots (old.reads Objects)) where
+  abbrev p : Params
+  p = slots.params
+
+  abbrev place : ℕ
+  place = slot_place slots.params.cap x s
+
+  abbrev other_id : ℕ
+  other_id = open_identifier (slot_place slots.params.cap x (1 - s)) (old.reads Objects)
+
+  abbrev P : Files → List ℕ → Type 0
+  P = IsOldOrNew old slots.params x (record { id = id; value = value })
+
+  here_id : head slots x s ≡ open_identifier place (old.reads Objects)
+  here_id = of.heads x s is.below is.spare.two
+
+  there_id : head slots x (1 - s) ≡ other_id
+  there_id = of.heads x (1 - s) is.below (omega arith)
+
+  no_greater : open_identifier place (old.reads Objects) ≤ other_id
+  no_greater = omega (arith, here_id, there_id, is.spare.lower)
+
+  slot : IsOpenAt place (old.reads Objects) → IsWholeSlot p.cap place (old.reads Objects)
+  slot = of.whole.slots.each x s is.below is.spare.two
+
+  pub within : place < length (old.reads Objects)
+  within = place_within p (old.reads Objects) x s of.whole.whole is.below is.spare.two
+
+  pub shut_where_none : head slots x s ≡ 0 → IsShutAt place (old.reads Objects)
+  shut_where_none none = closed_where_none p.cap place (old.reads Objects) slot (sym here_id ∙ none)
+
+  keeps : (c : Files) (said : List ℕ) → AgreesOutside place (13 + p.cap) (old.reads Objects) (c Objects) → IsLower p.cap place other_id (c Objects) → ((other : _) → other ≢ Objects → c other ≡ old.reads other) → said ≡ old.said → P c said
+  keeps c said agrees lower others silent =
+      let has = kept p x s (old.reads Objects) (c Objects) of.whole is.below is.spare.two agrees no_greater lower in
+      record { whole = has.whole; held = inl has.held; others = has.others; other_files = others; silent = silent }
+
+  renews : (c : Files) (said : List ℕ) → AgreesOutside place (13 + p.cap) (old.reads Objects) (c Objects) → IsOpenAt place (c Objects) → IsFilled place id value (c Objects) → ((other : _) → other ≢ Objects → c other ≡ old.reads other) → said ≡ old.said → P c said
+  renews c said agrees is_open filled others silent =
+      let has = renewed p x s (old.reads Objects) (c Objects) of.whole is.below is.spare.two agrees id value (omega (arith, there_id, is.spare.other, is.later)) is.numbered is.short is_open filled in
+      record { whole = has.whole; held = inr has.held; others = has.others; other_files = others; silent = silent }
+
+  torn_here : (a b : List ℕ) → Torn place 1 a b → AgreesOutside place (13 + p.cap) a b
+  torn_here a b torn = agrees_wider place 1 place (13 + p.cap) a b (omega arith) (omega arith) (torn_agrees place 1 a b torn)
+
+  -- while the slot is closed
+  pub leaves_closing : (mid : Disk) → old.tells_moments → IsSettled old → Runs (In Objects (Torn place 1)) Same old mid → (head slots x s ≡ 0 → Stays old mid) → LeavesOnly old mid P
+  leaves_closing mid told settled run idle = first_call old mid P told run.time (λ c said left. elim (cases_eq (head slots x s) 0) [
+    | inl none ↦
+        let from = from_reads old mid Same Same told settled (idle none).crash c said left in
+        let same : c ≡ old.reads = from.0 in
+        let same_file : c Objects ≡ old.reads Objects = ap (λ (f : Files). f Objects) same in
+        keeps c said (agrees_same place (13 + p.cap) (old.reads Objects) (c Objects) same_file)
+        (shut_lower p.cap place other_id (c Objects) (subst (λ (l : List ℕ). IsShutAt place l) (sym same_file) (shut_where_none none)))
+        (λ other is_other. ap (λ (f : Files). f other) same) from.1
+    | inr some ↦
+        let from = from_reads old mid (In Objects (Torn place 1)) Same told settled run.crash c said left in
+        let there : open_identifier place (old.reads Objects) ≢ 0 = λ none. some (here_id ∙ none) in
+        let is_open = open_where_some place (old.reads Objects) there in
+        let less = less_where_open p x (old.reads Objects) of.whole.slots is.below s is.spare.two no_greater there in
+        let id_here = ap (λ (cell : Cell). cell.id) (open_cell place (old.reads Objects) is_open) in
+        keeps c said (torn_here (old.reads Objects) (c Objects) from.0.changed)
+        (torn_lower p.cap place other_id (old.reads Objects) (c Objects) (torn_agrees place 1 (old.reads Objects) (c Objects) from.0.changed) (omega (arith, within)) (slot is_open) (omega (arith, less, id_here)))
+        from.0.others from.1
+  ])
+
+  put_here : (a b : List ℕ) → AgreesOutside place (13 + length value) a b → AgreesOutside place (13 + p.cap) a b
+  put_here a b agrees = agrees_wider place (13 + length value) place (13 + p.cap) a b (omega arith) (omega (arith, is.short)) agrees
+
+  -- and then filled
+  pub leaves_putting : (mid new : Disk) → old.tells_files → LeavesOnly old mid P → Runs (In Objects (Torn place 1)) Same old mid → LeavesOnly mid new (IsHalfPut mid place id value) → LeavesOnly old new P
+  leaves_putting mid new told so_far first put = runs_on old mid new P so_far (weaker mid new (IsHalfPut mid place id value) P put (λ c said half.
+      let agrees = agrees_twice place (13 + p.cap) (old.reads Objects) (mid.reads Objects) (c Objects) (torn_here (old.reads Objects) (mid.reads Objects) (first.reads told).changed) (put_here (mid.reads Objects) (c Objects) half.agrees) in
+      let others : (other : _) → other ≢ Objects → c other ≡ old.reads other = λ other is_other. half.other_files other is_other ∙ (first.reads told).others other is_other in
+      let silent = half.silent ∙ first.said told in
+      ⊎_elim
+      (λ shut. keeps c said agrees (shut_lower p.cap place other_id (c Objects) shut) others silent)
+      (λ filled. elim (cases_eq (byte_at place (c Objects)) 1) [
+        | inl is_open ↦ renews c said agrees is_open filled others silent
+        | inr shut ↦ keeps c said agrees (shut_lower p.cap place other_id (c Objects) shut) others silent
+      ])
+      half.slot))
+
+  -- the identifiers with the new one
+  abbrev after : SlotsView
+  after = record { params = slots.params; heads = set (set slots.heads (2 * x + s) 0) (2 * x + s) id }
+
+  -- once it is done
+  pub replaced : (mid new : Disk) → old.tells_files → 2 * x + s < length slots.heads → Runs (In Objects (Torn place 1)) Same old mid → IsPut place id value (mid.reads Objects) (new.reads Objects)
+      → AreOf after (new.reads Objects) × IsReplaced slots.params x (record { id = id; value = value }) (old.reads Objects) (new.reads Objects)
+  replaced mid new told room first put =
+      let agrees = agrees_twice place (13 + p.cap) (old.reads Objects) (mid.reads Objects) (new.reads Objects) (torn_here (old.reads Objects) (mid.reads Objects) (first.reads told).changed) (put_here (mid.reads Objects) (new.reads Objects) put.agrees) in
+      let has = renewed p x s (old.reads Objects) (new.reads Objects) of.whole is.below is.spare.two agrees id value (omega (arith, there_id, is.spare.other, is.later)) is.numbered is.short put.opened put.filled in
+      let emptied = set slots.heads (2 * x + s) 0 in (
+        record {
+          whole = has.whole;
+          heads = λ y t below_y two_t. elim (cases_eq (2 * y + t) (2 * x + s)) [
+            | inl same ↦
+                let places : slot_place p.cap y t ≡ place = ap (λ (k : ℕ). 32 + k * (13 + p.cap)) same in
+                get_or-set_at emptied (2 * x + s) (2 * y + t) id 0 same (omega (arith, length-set slots.heads (2 * x + s) 0, room))
+                ∙ sym put.filled.numbered
+                ∙ sym (ap (λ (cell : Cell). cell.id) (open_cell place (new.reads Objects) put.opened))
+                ∙ ap (λ (q : ℕ). open_identifier q (new.reads Objects)) (sym places)
+            | inr other ↦
+                get_or-set_other emptied (2 * x + s) (2 * y + t) id 0 other
+                ∙ get_or-set_other slots.heads (2 * x + s) (2 * y + t) 0 0 other
+                ∙ of.heads y t below_y two_t
+                ∙ sym (ap (λ (cell : Cell). cell.id) (each_stays p x s (old.reads Objects) (new.reads Objects) of.whole is.below is.spare.two agrees y t below_y two_t other).cell)
+          ];
+        },
+        record { held = has.held; others = has.others },
+      )
+
+-- the spare slot has an identifier among those of all slots
+pub slot_room : (inside slots : SlotsView) (x slot : ℕ) → inside ≡ slots → AreHeads inside.params inside.heads → x < slots.params.objects → slot ≡ 2 * x + spare_in slots x → slot < length inside.heads
+slot_room inside slots x slot same heads below slot_is =
+    let count = subst (λ (w : SlotsView). length w.heads ≡ 2 * w.params.objects) same heads.count in
+    let long = ap (λ (w : SlotsView). length w.heads) same in
+    let found = (spare slots x).two in
+    omega (arith, count, long, found, slot_is, below)
+
+-- the same of a call that counts slots through the file, and knows its slots from inside
+module _ (inside slots : SlotsView) (x slot at found id : ℕ) (value : List ℕ) (same : inside ≡ slots) (heads : AreHeads inside.params inside.heads) (below : x < slots.params.objects) (later : id_in slots x < id)
+    (numbered : id < 2 ^ 62) (short : length value ≤ slots.params.cap) (slot_is : slot ≡ 2 * x + spare_in slots x) (at_is : at ≡ slot_gate inside.params.cap slot) (found_is : found ≡ get_or inside.heads slot found)
+    (old mid : Disk) (first : Runs (In Objects (Torn at 1)) Same old mid) (idle : found ≡ 0 → Stays old mid) where
+  replacing : IsReplacing slots x (spare_in slots x) id value
+  replacing = record { below = below; spare = spare slots x; later = later; numbered = numbered; short = short }
+
+  spot_is : at ≡ slot_place slots.params.cap x (spare_in slots x)
+  spot_is =
+      at_is
+      ∙ ap (λ (k : ℕ). 32 + k * (13 + inside.params.cap)) slot_is
+      ∙ ap (λ (w : SlotsView). 32 + (2 * x + spare_in slots x) * (13 + w.params.cap)) same
+
+  head_is : found ≡ head slots x (spare_in slots x)
+  head_is =
+      found_is
+      ∙ get_or_default inside.heads slot found 0 (slot_room inside slots x slot same heads below slot_is)
+      ∙ ap (λ (k : ℕ). get_or inside.heads k 0) slot_is
+      ∙ ap (λ (w : SlotsView). get_or w.heads (2 * x + spare_in slots x) 0) same
+
+  closing : Runs (In Objects (Torn (slot_place slots.params.cap x (spare_in slots x)) 1)) Same old mid
+  closing = subst (λ (q : ℕ). Runs (In Objects (Torn q 1)) Same old mid) spot_is first
+
+  pub closing_moments : old.tells_moments → IsSettled old → AreOf slots (old.reads Objects) → LeavesOnly old mid (IsOldOrNew old slots.params x (record { id = id; value = value }))
+  closing_moments told settled of = leaves_closing slots x (spare_in slots x) id value replacing old of mid told settled closing (λ none. idle (head_is ∙ none))
+
+  pub putting_moments : (new : Disk) → (old.tells_files → (found ≡ 0 → IsShutAt at (old.reads Objects)) → IsShutAt at (mid.reads Objects)) → (IsSettled old → IsSettled mid)
+      → (mid.tells_moments → IsSettled mid → at < length (mid.reads Objects) → IsShutAt at (mid.reads Objects) → LeavesOnly mid new (IsHalfPut mid at id value))
+      → old.tells_moments → IsSettled old → AreOf slots (old.reads Objects) → LeavesOnly old new (IsOldOrNew old slots.params x (record { id = id; value = value }))
+  putting_moments new shuts settles put told settled of =
+      let files_told = first.begins.telling told in
+      let long = (first.reads files_told).changed.no_shorter in
+      let fits = within slots x (spare_in slots x) id value replacing old of in
+      let shut = shuts files_told (λ none. subst (λ (q : ℕ). IsShutAt q (old.reads Objects)) (sym spot_is) (shut_where_none slots x (spare_in slots x) id value replacing old of (sym head_is ∙ none))) in
+      let half = put (first.time.moments_told.0 told) (settles settled) (omega (arith, fits, long, spot_is)) shut in
+      leaves_putting slots x (spare_in slots x) id value replacing old of mid new files_told (closing_moments told settled of) closing
+      (subst (λ (q : ℕ). LeavesOnly mid new (IsHalfPut mid q id value)) spot_is half)
+
+  pub replaced_by : (new : Disk) → old.tells_files → AreOf slots (old.reads Objects) → IsPut at id value (mid.reads Objects) (new.reads Objects)
+      → AreOf (record { params = inside.params; heads = set (set inside.heads slot 0) slot id }) (new.reads Objects) × IsReplaced slots.params x (record { id = id; value = value }) (old.reads Objects) (new.reads Objects)
+  replaced_by new told of put =
+      let room = slot_room inside slots x slot same heads below slot_is in
+      let long = ap (λ (w : SlotsView). length w.heads) same in
+      let has = replaced slots x (spare_in slots x) id value replacing old of mid new told (omega (arith, room, long, slot_is)) closing
+      (subst (λ (q : ℕ). IsPut q id value (mid.reads Objects) (new.reads Objects)) spot_is put) in
+      let views : after slots x (spare_in slots x) id value replacing old of ≡ record { params = inside.params; heads = set (set inside.heads slot 0) slot id } =
+      ap (λ (k : ℕ). record { params = slots.params; heads = set (set slots.heads k 0) k id }) (sym slot_is)
+      ∙ ap (λ (w : SlotsView). record { params = w.params; heads = set (set w.heads slot 0) slot id }) (sym same) in
+      (subst (λ (w : SlotsView). AreOf w (new.reads Objects)) views has.0, has.1)

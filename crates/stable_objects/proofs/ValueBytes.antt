@@ -1,0 +1,59 @@
+-- What the bytes of a value that were read are.
+use Rattle.std.proofs.Common.{◌≡◌, ◌≢◌, ◌<◌, ◌≤◌, ◌+◌, ℕ, List, ◌++◌, length, take, drop, refl, sym, ◌∙◌, ap, subst, arith, length-take, length-drop}
+use Rattle.std.proofs.lemmas.List.{take_at, take_all}
+use Rattle.byteorder.specs.Endian.{little_number}
+use Rattle.disk_model.specs.Disk.{read_of}
+use Rattle.formats.specs.Bytes.{number_at, IsOpenAt}
+use Rattle.formats.specs.Objects.{slot_place, length_at, value_at, holder, cell_of}
+use Rattle.stable_objects.specs.SlotsView.{SlotsView, AreOf, id_in, holder_in}
+use Rattle.stable_objects.specs.Reading.{filled_up, FailsBy, FailsAt, IsLongValue, IsNoDamage}
+use Rattle.stable_objects.specs.declared.slot_err.SlotErr.{SlotErr}
+use Rattle.stable_objects.specs.declared.slot_err.SlotErr.TheVariants.{NotAStore, DiskFault, Damaged, Memory}
+use Rattle.stable_objects.specs.SlotLaws.{open_value, told_is_open, holder_below, holder_is, id_is}
+use Rattle.stable_objects.proofs.HeadBytes.{number_from}
+
+-- the length that was read is the file's
+pub length_read : (file bytes : List ℕ) (place : ℕ) → bytes ≡ filled_up 4 (read_of file (place + 9) 4) → little_number 4 bytes ≡ length_at place file
+length_read file bytes place is =
+    let spot : place + 9 + 0 ≡ place + 9 = omega arith in
+    ap (λ (l : List ℕ). little_number 4 l) is ∙ number_from file (place + 9) 4 0 4 (omega arith) ∙ ap (λ (k : ℕ). number_at 4 k file) spot
+
+-- a read that gave fewer bytes met the file's end
+pub value_cut : (file : List ℕ) (cap place n read : ℕ) → n ≡ length_at place file → read ≡ length (read_of file (place + 13) n) → read < n → IsLongValue cap place file (place + 9)
+value_cut file cap place n read is count less = record {
+  here = refl;
+  long = λ short within. omega (arith, is, count, less, within (omega (arith, is, less)), length-take n (drop (place + 13) file), length-drop (place + 13) file);
+}
+
+-- a read that gave all of them gave the value
+pub value_read : (file into items : List ℕ) (place n len read : ℕ) → n ≡ length_at place file → take read into ≡ read_of file (place + 13) n → length into ≡ n → n ≤ read → len ≡ n
+    → take len (into ++ drop (length into) items) ≡ value_at place file
+value_read file into items place n len read is bytes count le len_is =
+    take_at into (drop (length into) items) len (omega (arith, count, len_is)) ∙ sym (take_all read into (omega (arith, count, le))) ∙ bytes ∙ ap (λ (k : ℕ). take k (drop (place + 13) file)) is
+
+-- the slot that holds an object with an identifier is open
+module _ (slots : SlotsView) (file : List ℕ) (x place : ℕ) (are : AreOf slots file) (below : x < slots.params.objects) (some : id_in slots x ≢ 0) (here : place ≡ slot_place slots.params.cap x (holder_in slots x)) where
+  spot : slot_place slots.params.cap x (holder slots.params.cap x file) ≡ place
+  spot = sym (here ∙ ap (λ (s : ℕ). slot_place slots.params.cap x s) (holder_is slots file x are below))
+
+  is_open : IsOpenAt (slot_place slots.params.cap x (holder slots.params.cap x file)) file
+  is_open = told_is_open (slot_place slots.params.cap x (holder slots.params.cap x file)) file (omega (arith, some, id_is slots file x are below))
+
+  -- what was read is the object's value
+  pub held_value : (bytes : List ℕ) → bytes ≡ value_at place file → bytes ≡ (cell_of slots.params.cap x file).value
+  held_value bytes is =
+      is ∙ ap (λ (k : ℕ). value_at k file) (sym spot) ∙ sym (open_value (slot_place slots.params.cap x (holder slots.params.cap x file)) file is_open)
+
+  -- and it is not too long
+  pub held_short : (at : ℕ) → IsLongValue slots.params.cap place file at → ⊥
+  held_short at wrong =
+      let whole = are.whole.slots.each x (holder slots.params.cap x file) below (holder_below slots.params.cap x file) is_open in
+      let there = subst (λ (k : ℕ). IsLongValue slots.params.cap k file at) (sym spot) wrong in
+      there.long whole.short whole.within
+
+  -- so only the disk fails
+  pub held_fails : (rises told : Type 0) (n : ℕ) (e : SlotErr) → told → n ≡ slots.params.cap → FailsBy rises ⊥ (FailsAt (λ at. told → IsLongValue n place file at)) e → IsNoDamage e
+  held_fails rises told n NotAStore is_told cap fails = fails
+  held_fails rises told n DiskFault is_told cap fails = tt
+  held_fails rises told n (Damaged number at) is_told cap fails = held_short at (subst (λ (k : ℕ). IsLongValue k place file at) cap (fails.1 is_told))
+  held_fails rises told n Memory is_told cap fails = tt

@@ -1,0 +1,24 @@
+use Rattle.std.proofs.Common.{subst}
+use Rattle.std.proofs.lemmas.Result.{err_from_is_err_and}
+use Rattle.disk_model.specs.declared.machine.FileNo.TheVariants.{Objects}
+use Rattle.stable_objects.specs.Heads.{Head, head_at, IsRead, IsHeadFault}
+use Rattle.stable_objects.specs.Reading.{FailsAt, fails_on}
+use Rattle.stable_objects.proofs.HeadBytes.{head_read}
+use Rattle.stable_objects.proofs.heads.read_head.Goals as goal
+
+pub returns-in_err-id-clause-cause : goal.returns-in_err-id-clause-cause
+returns-in_err-id-clause-cause g c =
+    let old = g.M.Machine.disk c.args.machine.now in
+    let a = c.args in
+    let bytes = c.read_at.new.into in
+    let e = err_from_is_err_and c.from_residual-in_err-id.result c.from_residual-in_err-id.ensures.1 in
+    rw (e.1, e.2) (fails_on ⊥ _ ⊥ ⊥ (FailsAt (IsHeadFault a.cap a.place a.size (head_at 0 bytes)))
+    (FailsAt (λ at. old.tells_files → IsHeadFault a.cap a.place a.size (head_at a.place (old.reads Objects)) at)) _ (λ none. absurd none) (λ none. none)
+    (λ file at there. (there.0, λ told. subst (λ (h : Head). IsHeadFault a.cap a.place a.size h at) (head_read (old.reads Objects) bytes a.place (c.in_ok-read_at.ensures.bytes told)) there.1))
+    c.in_err-id.ensures.cause)
+
+pub returns-clause-read : goal.returns-clause-read
+returns-clause-read g c told =
+    let old = g.M.Machine.disk c.args.machine.now in
+    let a = c.args in
+    subst (λ (h : Head). IsRead a.cap a.place a.size h c.in_ok-id.id) (head_read (old.reads Objects) c.read_at.new.into a.place (c.in_ok-read_at.ensures.bytes told)) c.in_ok-id.ensures.read

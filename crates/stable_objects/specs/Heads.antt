@@ -1,0 +1,59 @@
+-- What is read of the slots' heads, and the faults that they show.
+use Rattle.std.specs.Prelude.{◌≡◌, ◌≢◌, ◌<◌, ◌≤◌, ◌+◌, ◌*◌, ◌-◌, ◌^◌, ℕ, nat_eq, if◌then◌else◌, List, slice_index_or}
+use Rattle.formats.specs.Bytes.{byte_at}
+use Rattle.formats.specs.Image.{IsWithin}
+use Rattle.formats.specs.Objects.{identifier_at, length_at, slot_place}
+use Rattle.formats.specs.declared.params.Params.{Params}
+
+-- a slot's gate, its identifier, and the length of its value
+pub record Head : Type 0 where
+  pub gate : ℕ
+  pub identifier : ℕ
+  pub long : ℕ
+
+-- the head that stands at a place
+abbrev pub head_at : ℕ → List ℕ → Head
+head_at place file = record { gate = byte_at place file; identifier = identifier_at place file; long = length_at place file }
+
+-- the slot at this place has the number of a record, and a value within CAP and, where it has some byte, within a file of this size
+pub record Fits (cap place size : ℕ) (h : Head) : Type 0 where
+  pub some : 1 ≤ h.identifier
+  pub numbered : h.identifier < 2 ^ 62
+  pub short : h.long ≤ cap
+  pub within : 0 < h.long → place + 13 + h.long ≤ size
+
+-- a head without a fault has this identifier, 0 where its gate is closed
+pub record IsRead (cap place size : ℕ) (h : Head) (id : ℕ) : Type 0 where
+  pub is : id ≡ (if nat_eq h.gate 1 then h.identifier else 0)
+  pub fits : h.gate ≡ 1 → Fits cap place size h
+
+-- An open slot's head shows a fault at a place of the file: no record's number, or a value that is too long or not
+-- within the file.
+pub data IsHeadFault (cap place size : ℕ) (h : Head) : ℕ → Type 0 where
+  no_number : h.gate ≡ 1 → (IsWithin 1 (2 ^ 62 - 1) h.identifier → ⊥) → IsHeadFault cap place size h (place + 1)
+  too_long : h.gate ≡ 1 → (h.long ≤ cap → (0 < h.long → place + 13 + h.long ≤ size) → ⊥) → IsHeadFault cap place size h (place + 9)
+
+-- the slot s of object x was read so
+abbrev pub IsReadAt : ℕ → ℕ → ℕ → ℕ → List ℕ → ℕ → Type 0
+IsReadAt cap x s size file id = IsRead cap (slot_place cap x s) size (head_at (slot_place cap x s) file) id
+
+-- the heads of both slots of an object were read, and no two open ones have one identifier
+pub record IsPair (cap x size : ℕ) (file : List ℕ) (first second : ℕ) : Type 0 where
+  pub first_read : IsReadAt cap x 0 size file first
+  pub second_read : IsReadAt cap x 1 size file second
+  pub apart : first ≢ 0 → first ≢ second
+
+-- the slots of an object show a fault at a place of the file
+pub data IsPairFault (cap x size : ℕ) (file : List ℕ) : ℕ → Type 0 where
+  in_head : (s place : ℕ) → s < 2 → IsHeadFault cap (slot_place cap x s) size (head_at (slot_place cap x s) file) place → IsPairFault cap x size file place
+  alike : (id : ℕ) → id ≢ 0 → IsReadAt cap x 0 size file id → IsReadAt cap x 1 size file id → IsPairFault cap x size file (slot_place cap x 1 + 1)
+
+-- the heads of the first n objects were read
+abbrev pub ArePairs : ℕ → ℕ → List ℕ → ℕ → List ℕ → Type 0
+ArePairs cap size file n heads = (x : ℕ) → x < n → IsPair cap x size file (slice_index_or heads (2 * x + 0) 0) (slice_index_or heads (2 * x + 1) 0)
+
+-- the slots of some object show a fault at a place of the file
+pub record HasPairFault (p : Params) (size : ℕ) (file : List ℕ) (place : ℕ) : Type 0 where
+  pub x : ℕ
+  pub below : x < p.objects
+  pub fault : IsPairFault p.cap x size file place

@@ -1,0 +1,101 @@
+-- Laws of the slots: what they say of an object is what the file says, and an open slot's number is told.
+use Rattle.std.proofs.Common.{◌≡◌, ◌<◌, ◌≤◌, ◌+◌, ℕ, List, [], length, drop, sym, ◌∙◌, ap, subst, arith, inl, inr, length-take}
+use Rattle.std.specs.Prelude.{Bool, cond, nat_eq, nat_lt}
+use Rattle.std.proofs.lemmas.Bool.{ne_eqb, eq-eqb, cond-true, cond-false, cond_both, cases_eq, cases_lt}
+use Rattle.formats.specs.Bytes.{byte_at, IsOpenAt, IsShutAt}
+use Rattle.formats.specs.Objects.{IsObjectsFile, AreSlotsShut, Cell, open_identifier, identifier_at, length_at, value_at, slot_place, holder, cell_at, cell_of}
+use Rattle.formats.specs.Image.{IsOpenSlot, place_in, params_in}
+use Rattle.formats.specs.declared.params.Params.{Params}
+use Rattle.stable_objects.specs.SlotsView.{SlotsView, AreOf, IsLate, head, id_in, holder_in}
+use Rattle.stable_objects.specs.Laws.{params_of_file}
+
+-- what the slot at a place tells where it is closed, and where it is open
+pub shut_tells : (place : ℕ) (file : List ℕ) → IsShutAt place file → open_identifier place file ≡ 0
+shut_tells place file shut = cond-false (nat_eq (byte_at place file) 1) (identifier_at place file) 0 (ne_eqb (byte_at place file) 1 shut)
+
+pub open_tells : (place : ℕ) (file : List ℕ) → IsOpenAt place file → open_identifier place file ≡ identifier_at place file
+open_tells place file is_open = cond-true (nat_eq (byte_at place file) 1) (identifier_at place file) 0 (eq-eqb (byte_at place file) 1 is_open)
+
+pub shut_value : (place : ℕ) (file : List ℕ) → IsShutAt place file → (cell_at place file).value ≡ []
+shut_value place file shut = cond-false (nat_eq (byte_at place file) 1) (value_at place file) [] (ne_eqb (byte_at place file) 1 shut)
+
+pub open_value : (place : ℕ) (file : List ℕ) → IsOpenAt place file → (cell_at place file).value ≡ value_at place file
+open_value place file is_open = cond-true (nat_eq (byte_at place file) 1) (value_at place file) [] (eq-eqb (byte_at place file) 1 is_open)
+
+-- a slot that tells a number is open
+pub told_is_open : (place : ℕ) (file : List ℕ) → 0 < open_identifier place file → IsOpenAt place file
+told_is_open place file some = elim (cases_eq (byte_at place file) 1) [
+  | inl is_open ↦ is_open
+  | inr shut ↦ absurd (omega (arith, some, shut_tells place file shut))
+]
+
+-- an object has two slots
+one_of_two : (b : Bool) → cond b 1 0 < 2
+one_of_two b = cond_both b 1 0 (λ s. s < 2) (λ is. omega arith) (λ is. omega arith)
+
+pub holder_below : (cap x : ℕ) (file : List ℕ) → holder cap x file < 2
+holder_below cap x file = one_of_two (nat_lt (open_identifier (slot_place cap x 0) file) (open_identifier (slot_place cap x 1) file))
+
+-- the slot that holds an object is that of the file
+pub holder_is : (slots : SlotsView) (file : List ℕ) (x : ℕ) → AreOf slots file → x < slots.params.objects → holder_in slots x ≡ holder slots.params.cap x file
+holder_is slots file x are below =
+    let first = are.heads x 0 below (omega arith) in
+    let second = are.heads x 1 below (omega arith) in
+    ap (λ (n : ℕ). cond (nat_lt n (head slots x 1)) 1 0) first ∙ ap (λ (n : ℕ). cond (nat_lt (open_identifier (slot_place slots.params.cap x 0) file) n) 1 0) second
+
+-- an object's identifier is that of the file
+pub id_is : (slots : SlotsView) (file : List ℕ) (x : ℕ) → AreOf slots file → x < slots.params.objects → id_in slots x ≡ (cell_of slots.params.cap x file).id
+id_is slots file x are below =
+    ap (λ (s : ℕ). head slots x s) (holder_is slots file x are below) ∙ are.heads x (holder slots.params.cap x file) below (holder_below slots.params.cap x file)
+
+-- where all slots are closed, each object has the identifier 0 and no bytes
+pub shut_cells : (p : Params) (file : List ℕ) (x : ℕ) → AreSlotsShut p file → x < p.objects → cell_of p.cap x file ≡ record { id = 0; value = [] }
+shut_cells p file x shut below =
+    let closed = shut x (holder p.cap x file) below (holder_below p.cap x file) in
+    let id = shut_tells (slot_place p.cap x (holder p.cap x file)) file closed in
+    let value = shut_value (slot_place p.cap x (holder p.cap x file)) file closed in
+    λ i. record { id = id i; value = value i }
+
+pub shut_ids : (slots : SlotsView) (file : List ℕ) (x : ℕ) → AreOf slots file → AreSlotsShut slots.params file → x < slots.params.objects → id_in slots x ≡ 0
+shut_ids slots file x are shut below = id_is slots file x are below ∙ ap (λ (c : Cell). c.id) (shut_cells slots.params file x shut below)
+
+-- a value has at most CAP bytes
+pub value_short : (p : Params) (file : List ℕ) (x : ℕ) → IsObjectsFile p file → x < p.objects → length (cell_of p.cap x file).value ≤ p.cap
+value_short p file x is below =
+    let s = holder p.cap x file in
+    let place = slot_place p.cap x s in
+    elim (cases_eq (byte_at place file) 1) [
+      | inl is_open ↦
+          let whole = is.slots.each x s below (holder_below p.cap x file) is_open in
+          omega (arith, ap length (open_value place file is_open), length-take (length_at place file) (drop (place + 13) file), whole.short)
+      | inr shut ↦ omega (arith, ap length (shut_value place file shut))
+    ]
+
+-- with no late slot, each open one has a number below the next
+pub none_late : (slots : SlotsView) (file : List ℕ) (next : ℕ) → AreOf slots file → ((x s : ℕ) → IsLate slots next x s → ⊥)
+    → (x s : ℕ) → x < slots.params.objects → s < 2 → IsOpenAt (slot_place slots.params.cap x s) file → identifier_at (slot_place slots.params.cap x s) file < next
+none_late slots file next are none x s below two is_open =
+    let told : head slots x s ≡ identifier_at (slot_place slots.params.cap x s) file = are.heads x s below two ∙ open_tells (slot_place slots.params.cap x s) file is_open in
+    elim (cases_lt (identifier_at (slot_place slots.params.cap x s) file) next) [
+      | inl less ↦ less
+      | inr late ↦ absurd (none x s (below, two, omega (arith, told, late)))
+    ]
+
+-- a late slot is open, with the next number or a later one
+pub late_slot : (slots : SlotsView) (file : List ℕ) (next x s : ℕ) → AreOf slots file → 0 < next → IsLate slots next x s
+    → IsOpenSlot file x s × (next ≤ identifier_at (place_in file x s) file)
+late_slot slots file next x s are some late =
+    let p = slots.params in
+    let place = slot_place p.cap x s in
+    let tells = are.heads x s late.0 late.1 in
+    let is_open : IsOpenAt place file = told_is_open place file (omega (arith, some, tells, late.2)) in
+    let same : p ≡ params_in file = sym (params_of_file p file are.whole) in
+    let cap : p.cap ≡ (params_in file).cap = ap (λ (q : Params). q.cap) same in
+    let objects : p.objects ≡ (params_in file).objects = ap (λ (q : Params). q.objects) same in (
+      record {
+        below = omega (arith, late.0, objects);
+        two = late.1;
+        open_gate = subst (λ (n : ℕ). IsOpenAt (slot_place n x s) file) cap is_open;
+      },
+      subst (λ (n : ℕ). next ≤ identifier_at (slot_place n x s) file) cap (omega (arith, tells, open_tells place file is_open, late.2)),
+    )

@@ -1,0 +1,100 @@
+// Reads the heads of the slots.
+ghost use Rattle.std.specs.Prelude.{◌≡◌, ◌<◌, ◌≤◌, ◌*◌, ◌^◌, length, IfOk, IfErr};
+ghost use Rattle.disk_model.specs.Disk.{Rises, Stays};
+ghost use Rattle.disk_model.specs.declared.machine.FileNo.TheVariants.{Objects};
+ghost use Rattle.formats.specs.Objects.{IsInRange};
+ghost use Rattle.stable_objects.specs.Heads.{head_at, IsRead, IsHeadFault, IsPair, IsPairFault, ArePairs, HasPairFault};
+ghost use Rattle.stable_objects.specs.Reading.{FailsBy, FailsAt};
+
+use crate::SlotErr;
+use crate::layout::{LAST_NUMBER, OPEN, SLOT_HEAD_BYTES, place_of};
+use crate::reading::read_at;
+use crate::slot_err::damaged_at;
+use byteorder::{ByteOrder, LittleEndian};
+use disk_model::Machine;
+use formats::Params;
+use std::alloc::Global;
+
+// What the bytes of a head say, in a file of this size.
+fn parse_head(head: &[u8], cap: u32, place: u64, size: u64) -> Result<u64, SlotErr>
+    requires long { length head.now ≡ 13 }
+    requires small { place < 2 ^ 32 }
+    ensures read { IfOk result (IsRead cap place size (head_at 0 head.now)) }
+    ensures cause { IfErr result (FailsBy ⊥ ⊥ (FailsAt (IsHeadFault cap place size (head_at 0 head.now)))) }
+{
+    if head[0] != OPEN {
+        return Ok(0);
+    }
+    let id = LittleEndian::read_u64(&head[1..]);
+    if id == 0 || id > LAST_NUMBER {
+        return Err(damaged_at(place + 1));
+    }
+    let long = LittleEndian::read_u32(&head[9..]);
+    if long > cap {
+        return Err(damaged_at(place + 9));
+    }
+    if long != 0 && size < place + SLOT_HEAD_BYTES + long as u64 {
+        return Err(damaged_at(place + 9));
+    }
+    Ok(id)
+}
+
+// The identifier in the slot at a place, 0 where its gate is closed.
+fn read_head<M: Machine>(machine: &mut M, cap: u32, place: u64, size: u64) -> Result<u64, SlotErr>
+    requires { place < 2 ^ 32 }
+    ensures kept { Stays (M.disk machine.old) (M.disk machine.new) }
+    ensures read { (M.disk machine.old).tells_files → IfOk result (IsRead cap place size (head_at place ((M.disk machine.old).reads Objects))) }
+    ensures cause { IfErr result (FailsBy (Rises (M.disk machine.old).disk_faults (M.disk machine.new).disk_faults) ⊥
+        (FailsAt (λ at. (M.disk machine.old).tells_files → IsHeadFault cap place size (head_at place ((M.disk machine.old).reads Objects)) at))) }
+{
+    let mut head = [0; SLOT_HEAD_BYTES as usize];
+    read_at(machine, place, &mut head)?;
+    let id = parse_head(&head, cap, place, size)?;
+    Ok(id)
+}
+
+// The identifiers in the two slots of an object.
+fn read_pair<M: Machine>(
+    machine: &mut M,
+    cap: u32,
+    object: u32,
+    size: u64,
+) -> Result<(u64, u64), SlotErr>
+    requires cap { cap ≤ 16384 }
+    requires object { object < 4096 }
+    ensures kept { Stays (M.disk machine.old) (M.disk machine.new) }
+    ensures read { (M.disk machine.old).tells_files → IfOk result (λ ids. IsPair cap object size ((M.disk machine.old).reads Objects) ids.0 ids.1) }
+    ensures cause { IfErr result (FailsBy (Rises (M.disk machine.old).disk_faults (M.disk machine.new).disk_faults) ⊥
+        (FailsAt (λ at. (M.disk machine.old).tells_files → IsPairFault cap object size ((M.disk machine.old).reads Objects) at))) }
+{
+    let first = read_head(machine, cap, place_of(cap, object, 0), size)?;
+    let place = place_of(cap, object, 1);
+    let second = read_head(machine, cap, place, size)?;
+    if first != 0 && first == second {
+        return Err(damaged_at(place + 1));
+    }
+    Ok((first, second))
+}
+
+/// The identifiers in all slots of a file of this size, two for each object, 0 where a slot is closed.
+pub fn read_heads<M: Machine>(
+    alloc: Global,
+    machine: &mut M,
+    params: Params,
+    size: u64,
+) -> Result<Vec<u64>, SlotErr>
+    requires { IsInRange params }
+    ensures kept { Stays (M.disk machine.old) (M.disk machine.new) }
+    ensures count { IfOk result (λ heads. length heads.items ≡ 2 * params.objects) }
+    ensures read { (M.disk machine.old).tells_files → IfOk result (λ heads. ArePairs params.cap size ((M.disk machine.old).reads Objects) params.objects heads.items) }
+    ensures cause { IfErr result (FailsBy (Rises (M.disk machine.old).disk_faults (M.disk machine.new).disk_faults) ⊥
+        (FailsAt (λ at. (M.disk machine.old).tells_files → HasPairFault params size ((M.disk machine.old).reads Objects) at))) }
+{
+    let mut heads = Vec::with_capacity(alloc, 2 * params.objects as usize)?;
+    for object in 0..params.objects {
+        let (first, second) = read_pair(machine, params.cap, object, size)?;
+        heads.push(first)?;
+        heads.push(second)?;
+    }
+    Ok(heads)
+}

@@ -1,0 +1,84 @@
+// Reads the value of an object.
+ghost use Rattle.std.specs.Prelude.{◌≡◌, ◌<◌, ◌≤◌, ◌^◌, [], length, OnOk, IfOk, IfErr, IsOk};
+ghost use Rattle.disk_model.specs.Disk.{Rises, Stays};
+ghost use Rattle.disk_model.specs.declared.machine.FileNo.TheVariants.{Objects};
+ghost use Rattle.formats.specs.Objects.{slot_place, value_at, cell_of};
+ghost use Rattle.stable_objects.specs.SlotsView.{AreOf, id_in, holder_in};
+ghost use Rattle.stable_objects.specs.Reading.{FailsBy, FailsAt, IsLongValue, IsNoDamage};
+
+use crate::layout::{SLOT_HEAD_BYTES, gate_place};
+use crate::reading::read_at;
+use crate::slot_err::damaged_at;
+use crate::{SlotErr, Slots};
+use byteorder::{ByteOrder, LittleEndian};
+use disk_model::{FileNo, Machine};
+
+// Reads the value in the slot at a place.
+fn read_value<M: Machine>(
+    machine: &mut M,
+    cap: u32,
+    place: u64,
+    into: &mut Vec<u8>,
+) -> Result<(), SlotErr>
+    requires { place < 2 ^ 32 }
+    ensures kept { Stays (M.disk machine.old) (M.disk machine.new) }
+    ensures short { OnOk result (length into.new.items ≤ cap) }
+    ensures value { (M.disk machine.old).tells_files → OnOk result (into.new.items ≡ value_at place ((M.disk machine.old).reads Objects)) }
+    ensures cause { IfErr result (FailsBy (Rises (M.disk machine.old).disk_faults (M.disk machine.new).disk_faults) ⊥
+        (FailsAt (λ at. (M.disk machine.old).tells_files → IsLongValue cap place ((M.disk machine.old).reads Objects) at))) }
+{
+    let mut bytes = [0; 4];
+    read_at(machine, place + 9, &mut bytes)?;
+    let long = LittleEndian::read_u32(&bytes);
+    if long > cap {
+        return Err(damaged_at(place + 9));
+    }
+    into.resize(long as usize, 0)?;
+    let read = machine.read(
+        FileNo::Objects,
+        place + SLOT_HEAD_BYTES,
+        into.as_mut_slice(),
+    )?;
+    if read < long as usize {
+        return Err(damaged_at(place + 9));
+    }
+    Ok(())
+}
+
+impl Slots {
+    /// Reads the value of an object, in place of what was in the vector, and answers its identifier. Where no slot is
+    /// open the device is not called.
+    ///
+    /// It answers `Damaged` where the value in the slot is longer than CAP or not within the file, `DiskFault` where the
+    /// device fails, and `Memory`; then the vector may have lost what it had.
+    pub fn read<M: Machine>(
+        &self,
+        machine: &mut M,
+        object: u32,
+        into: &mut Vec<u8>,
+    ) -> Result<u64, SlotErr>
+        requires { object < self.now.params.objects }
+        ensures kept { Stays (M.disk machine.old) (M.disk machine.new) }
+        ensures id { IfOk result (λ id. id ≡ id_in self.now object) }
+        ensures short { OnOk result (length into.new.items ≤ self.now.params.cap) }
+        ensures value { (M.disk machine.old).tells_files → AreOf self.now ((M.disk machine.old).reads Objects) →
+            OnOk result (into.new.items ≡ (cell_of self.now.params.cap object ((M.disk machine.old).reads Objects)).value) }
+
+        // An object without an open slot costs no call.
+        ensures none { id_in self.now object ≡ 0 → IsOk result × (into.new.items ≡ []) × (machine.new ≡ machine.old) }
+
+        ensures cause { IfErr result (FailsBy (Rises (M.disk machine.old).disk_faults (M.disk machine.new).disk_faults) ⊥
+            (FailsAt (λ place. (M.disk machine.old).tells_files →
+            IsLongValue self.now.params.cap (slot_place self.now.params.cap object (holder_in self.now object)) ((M.disk machine.old).reads Objects) place))) }
+        ensures whole { (M.disk machine.old).tells_files → AreOf self.now ((M.disk machine.old).reads Objects) → IfErr result IsNoDamage }
+    {
+        into.clear();
+        let id = self.id(object);
+        if id == 0 {
+            return Ok(0);
+        }
+        let place = gate_place(self.params.cap, self.holder(object) as u32);
+        read_value(machine, self.params.cap, place, into)?;
+        Ok(id)
+    }
+}

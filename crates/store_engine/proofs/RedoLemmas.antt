@@ -1,0 +1,131 @@
+-- What the redo of a record makes of the objects.
+use Rattle.std.proofs.Common.{◌≡◌, ℕ, ◌<◌, ◌≤◌, ◌+◌, ◌&&◌, nat_eq, nat_lt, Bool, true, false, if◌then◌else◌, List, [], ◌∷◌, length, map, fold, take, get_or, Option, None, Some, refl, sym, ap, ◌∙◌, subst, arith}
+use Rattle.std.specs.Prelude.{All}
+use Rattle.std.specs.List.{IsDistinct}
+use Rattle.std.proofs.lemmas.List.{take_more}
+use Rattle.std.proofs.lemmas.List.Sums.{fold-append}
+use Rattle.disk_model.specs.Disk.{Disk, Files, Stays}
+use Rattle.disk_model.specs.declared.machine.FileNo.TheVariants.{Objects}
+use Rattle.oper_core.specs.declared.bounds.Bounds.{Bounds}
+use Rattle.oper_core.specs.State.{value_for, is_among}
+use Rattle.oper_core.specs.Meaning.{Meaning, IsSmall, IsLawful, IsInGrammar, FitsReads, HasBounds}
+use Rattle.formats.specs.Objects.{IsInRange, Cell, cell_of, bounds_of}
+use Rattle.formats.specs.Records.{IsRecord}
+use Rattle.formats.specs.declared.params.Params.{Params}
+use Rattle.formats.specs.declared.record.Record.{Record}
+use Rattle.formats.specs.declared.record.Record.TheVariants.{Command}
+use Rattle.stable_objects.specs.SlotsView.{SlotsView, id_in}
+use Rattle.stable_objects.specs.SlotLaws.{id_is}
+use Rattle.dirty_cache.specs.Contents.{held}
+use Rattle.dirty_cache.specs.declared.entry.Entry.{Entry}
+use Rattle.store_engine.specs.Laid.{Laid, IsLaidOn, cell_or, cell_in, values_in, lsn_or, id_at, with_newer, redone}
+use Rattle.store_engine.proofs.RedoneLemmas.{map_same}
+
+-- a store's numbers are small
+pub small_bounds : (p : Params) → IsInRange p → IsSmall (bounds_of p)
+small_bounds p range = record { objects = omega (arith, range.objects); cap = omega (arith, range.cap) }
+
+-- a cached pair or another, where it is chosen of two
+chosen_cell : (b : Bool) (e : Entry) (h : Option Entry) (cell : Cell) → cell_or (if b then Some e else h) cell ≡ (if b then record { id = e.lsn; value = e.bytes } else cell_or h cell)
+chosen_cell true e h cell = refl
+chosen_cell false e h cell = refl
+
+id_or : (h : Option Entry) (id : ℕ) (cell : Cell) → id ≡ cell.id → lsn_or h id ≡ (cell_or h cell).id
+id_or None id cell same = same
+id_or (Some e) id cell same = refl
+
+module _ (file : List ℕ) (old next : Laid) (number : ℕ) (objects : List ℕ) (values : List (List ℕ)) (laid : IsLaidOn old file) (slots : next.slots ≡ old.slots) where
+  -- an object's pair, where those with a lower identifier are set
+  pub newer_cell : (x : ℕ) → x < old.slots.params.objects → held next.cache x ≡ with_newer old number objects values x
+      → cell_in next file x ≡ (if is_among x objects && nat_lt (cell_in old file x).id number then record { id = number; value = value_for x objects values } else cell_in old file x)
+  newer_cell x below entries =
+      let cell = cell_of old.slots.params.cap x file in
+      let set : Entry = record { lsn = number; bytes = value_for x objects values } in
+      let at : cell_in next file x ≡ cell_or (with_newer old number objects values x) cell = λ i. cell_or (entries i) (cell_of (slots i).params.cap x file) in
+      at
+      ∙ chosen_cell (is_among x objects && nat_lt (id_at old x) number) set (held old.cache x) cell
+      ∙ ap (λ (id : ℕ). if is_among x objects && nat_lt id number then record { id = number; value = value_for x objects values } else cell_in old file x)
+      (id_or (held old.cache x) (id_in old.slots x) cell (id_is old.slots file x laid.slots below))
+
+-- the values that a record's operation makes fit the objects that it writes
+pub record WritesFit (slots : SlotsView) (writes : List ℕ) (made : List (List ℕ)) : Type 0 where
+  pub below : All (λ x. x < slots.params.objects) writes
+  pub apart : IsDistinct nat_eq writes
+  pub count : length made ≡ length writes
+  pub short : All (λ v. length v ≤ slots.params.cap) made
+
+module _ {O : Type 0} (m : Meaning O) (p : Params) (bounds : HasBounds (bounds_of p) m) (lawful : IsLawful m) where
+  module _ (number : ℕ) (op : O) (record' : Record O) (is : record' ≡ Command number op) (meets : IsRecord m record') where
+    in_grammar : IsInGrammar m op
+    in_grammar = (subst (λ (r : Record O). IsRecord m r) is meets).1
+
+    pub reads_fit : (values : List (List ℕ)) → length values ≡ length (m.reads op) → All (λ v. length v ≤ p.cap) values → FitsReads m op values
+    reads_fit values count short = record { count = count; short = subst (λ (cap : ℕ). All (λ v. length v ≤ cap) values) (sym bounds.cap) short }
+
+    pub writes_fit : (slots : SlotsView) (writes : List ℕ) (values made : List (List ℕ)) → slots.params ≡ p → writes ≡ m.writes op → FitsReads m op values → made ≡ m.effect op values → WritesFit slots writes made
+    writes_fit slots writes values made same writes_are fits made_are =
+        let law = lawful.made op values in_grammar fits in
+        let objects : m.objects ≡ slots.params.objects = bounds.objects ∙ ap (λ (q : Params). q.objects) (sym same) in
+        let cap : m.cap ≡ slots.params.cap = bounds.cap ∙ ap (λ (q : Params). q.cap) (sym same) in
+        record {
+          below = subst (λ (n : ℕ). All (λ x. x < n) writes) objects (subst (λ (l : List ℕ). All (λ x. x < m.objects) l) (sym writes_are) (lawful.writes_below op in_grammar));
+          apart = subst (λ (l : List ℕ). IsDistinct nat_eq l) (sym writes_are) (lawful.writes_apart op in_grammar);
+          count = ap (λ (l : List (List ℕ)). length l) made_are ∙ law.0 ∙ ap (λ (l : List ℕ). length l) (sym writes_are);
+          short = subst (λ (n : ℕ). All (λ v. length v ≤ n) made) cap (subst (λ (l : List (List ℕ)). All (λ v. length v ≤ m.cap) l) (sym made_are) law.1);
+        }
+
+    -- the pair of an object after the redo of a record
+    pub redone_cell : (file : List ℕ) (old mid next : Laid) (writes : List ℕ) (values made : List (List ℕ)) → IsLaidOn mid file → next.slots ≡ mid.slots
+        → values ≡ map (values_in old file) (m.reads op) → made ≡ m.effect op values → writes ≡ m.writes op
+        → (x : ℕ) → x < mid.slots.params.objects → cell_in mid file x ≡ cell_in old file x → held next.cache x ≡ with_newer mid number writes made x
+        → cell_in next file x ≡ redone m (cell_in old file) record' x
+    redone_cell file old mid next writes values made laid slots values_are made_are writes_are x below same entries =
+        newer_cell file mid next number writes made laid slots x below entries
+        ∙ ap (λ (c : Cell). if is_among x writes && nat_lt c.id number then record { id = number; value = value_for x writes made } else c) same
+        ∙ ap (λ (l : List ℕ). if is_among x l && nat_lt (cell_in old file x).id number then record { id = number; value = value_for x l made } else cell_in old file x) writes_are
+        ∙ ap (λ (l : List (List ℕ)). if is_among x (m.writes op) && nat_lt (cell_in old file x).id number then record { id = number; value = value_for x (m.writes op) l } else cell_in old file x)
+        (made_are ∙ ap (λ (l : List (List ℕ)). m.effect op l) values_are)
+        ∙ ap (λ (r : Record O). redone m (cell_in old file) r x) (sym is)
+
+  -- the redo of a record asks for the pairs of the objects that there are alone
+  pub redone_same : (r : Record O) (cells others : ℕ → Cell) → IsRecord m r → ((x : ℕ) → x < p.objects → cells x ≡ others x)
+      → (x : ℕ) → x < p.objects → redone m cells r x ≡ redone m others r x
+  redone_same (Command number op) cells others meets same x below =
+      let all : All (λ y. y < p.objects) (m.reads op) = subst (λ (n : ℕ). All (λ y. y < n) (m.reads op)) bounds.objects (lawful.reads_below op meets.1) in
+      let read : map (λ y. (cells y).value) (m.reads op) ≡ map (λ y. (others y).value) (m.reads op) =
+      map_same (λ y. (cells y).value) (λ y. (others y).value) (m.reads op) p.objects (λ y within. ap (λ (c : Cell). c.value) (same y within)) all in
+      ap (λ (c : Cell). if is_among x (m.writes op) && nat_lt c.id number then record { id = number; value = value_for x (m.writes op) (m.effect op (map (λ y. (cells y).value) (m.reads op))) } else c) (same x below)
+      ∙ ap (λ (l : List (List ℕ)). if is_among x (m.writes op) && nat_lt (others x).id number then record { id = number; value = value_for x (m.writes op) (m.effect op l) } else others x) read
+
+  -- the redo of one record more
+  pub redone_next : (records : List (Record O)) (r : Record O) (i : ℕ) (cells now next : ℕ → Cell) → r ≡ get_or records i r → i < length records → IsRecord m r
+      → ((x : ℕ) → x < p.objects → now x ≡ fold (redone m) cells (take i records) x)
+      → ((x : ℕ) → x < p.objects → next x ≡ redone m now r x)
+      → (x : ℕ) → x < p.objects → next x ≡ fold (redone m) cells (take (i + 1) records) x
+  redone_next records r i cells now next here within meets so_far step x below =
+      let whole : fold (redone m) cells (take (i + 1) records) ≡ redone m (fold (redone m) cells (take i records)) r =
+      ap (λ (l : List (Record O)). fold (redone m) cells l) (take_more records i r within)
+      ∙ fold-append (redone m) cells (take i records) (get_or records i r ∷ [])
+      ∙ ap (λ (q : Record O). redone m (fold (redone m) cells (take i records)) q) (sym here) in
+      step x below
+      ∙ redone_same r now (fold (redone m) cells (take i records)) meets so_far x below
+      ∙ ap (λ (f : ℕ → Cell). f x) (sym whole)
+
+-- a machine that stays reads the same, so what is said of the files that it reads is said of those from before
+module _ (first second : Disk) (stays : Stays first second) (told : first.tells_files) where
+  pub reads_same : second.reads Objects ≡ first.reads Objects
+  reads_same = ap (λ (f : Files). f Objects) (stays.reads told)
+
+  pub laid_then : (mid new : Laid) → (second.tells_files → IsLaidOn mid (second.reads Objects) → IsLaidOn new (second.reads Objects)) → IsLaidOn mid (first.reads Objects) → IsLaidOn new (first.reads Objects)
+  laid_then mid new step laid =
+      subst (λ (file : List ℕ). IsLaidOn new file) reads_same (step (stays.time.files_told.0 told) (subst (λ (file : List ℕ). IsLaidOn mid file) (sym reads_same) laid))
+
+  module _ {O : Type 0} (meaning : Bounds → Meaning O) (old mid new : Laid) (slots : mid.slots ≡ old.slots) (r : Record O) where
+    -- each object is as the redo of the record makes it, from these slots and this file
+    abbrev Redoes : SlotsView → List ℕ → Type 0
+    Redoes s file = (x : ℕ) → x < s.params.objects → cell_in new file x ≡ redone (meaning (bounds_of s.params)) (cell_in mid file) r x
+
+    pub redo_then : (second.tells_files → IsLaidOn mid (second.reads Objects) → Redoes mid.slots (second.reads Objects)) → IsLaidOn mid (first.reads Objects) → Redoes old.slots (first.reads Objects)
+    redo_then step laid =
+        subst (λ (s : SlotsView). Redoes s (first.reads Objects)) slots
+        (subst (λ (file : List ℕ). Redoes mid.slots file) reads_same (step (stays.time.files_told.0 told) (subst (λ (file : List ℕ). IsLaidOn mid file) (sym reads_same) laid)))
