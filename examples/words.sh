@@ -1,0 +1,13 @@
+# The words of the program, and its statuses.
+try() { redo "$@" </dev/null; echo "status $?"; }
+
+try run
+try dump
+try init 8 64 65536
+try init 8 64 65536
+try dump
+try
+try --help
+try init 0 64 65536
+try init 8 064 65536
+try run dump
