@@ -72,30 +72,30 @@ value_short p file x is below =
     ]
 
 -- with no late slot, each open one has a number below the next
-pub none_late : (slots : SlotsView) (file : List ℕ) (next : ℕ) → AreOf slots file → ((x s : ℕ) → IsLate slots next x s → ⊥)
+pub none_late : (slots : SlotsView) (file : List ℕ) (next : ℕ) → AreOf slots file → 0 < next → ((x s : ℕ) → IsLate slots next x s → ⊥)
     → (x s : ℕ) → x < slots.params.objects → s < 2 → IsOpenAt (slot_place slots.params.cap x s) file → identifier_at (slot_place slots.params.cap x s) file < next
-none_late slots file next are none x s below two is_open =
+none_late slots file next are some none x s below two is_open =
     let told : head slots x s ≡ identifier_at (slot_place slots.params.cap x s) file = are.heads x s below two ∙ open_tells (slot_place slots.params.cap x s) file is_open in
     elim (cases_lt (identifier_at (slot_place slots.params.cap x s) file) next) [
       | inl less ↦ less
-      | inr late ↦ absurd (none x s (below, two, omega (arith, told, late)))
+      | inr late ↦ absurd (none x s (omega (arith, told, late, some), below, two, omega (arith, told, late)))
     ]
 
 -- a late slot is open, with the next number or a later one
-pub late_slot : (slots : SlotsView) (file : List ℕ) (next x s : ℕ) → AreOf slots file → 0 < next → IsLate slots next x s
+pub late_slot : (slots : SlotsView) (file : List ℕ) (next x s : ℕ) → AreOf slots file → IsLate slots next x s
     → IsOpenSlot file x s × (next ≤ identifier_at (place_in file x s) file)
-late_slot slots file next x s are some late =
+late_slot slots file next x s are late =
     let p = slots.params in
     let place = slot_place p.cap x s in
-    let tells = are.heads x s late.0 late.1 in
-    let is_open : IsOpenAt place file = told_is_open place file (omega (arith, some, tells, late.2)) in
+    let tells = are.heads x s late.1 late.2 in
+    let is_open : IsOpenAt place file = told_is_open place file (omega (arith, late.0, tells)) in
     let same : p ≡ params_in file = sym (params_of_file p file are.whole) in
     let cap : p.cap ≡ (params_in file).cap = ap (λ (q : Params). q.cap) same in
     let objects : p.objects ≡ (params_in file).objects = ap (λ (q : Params). q.objects) same in (
       record {
-        below = omega (arith, late.0, objects);
-        two = late.1;
+        below = omega (arith, late.1, objects);
+        two = late.2;
         open_gate = subst (λ (n : ℕ). IsOpenAt (slot_place n x s) file) cap is_open;
       },
-      subst (λ (n : ℕ). next ≤ identifier_at (slot_place n x s) file) cap (omega (arith, tells, open_tells place file is_open, late.2)),
+      subst (λ (n : ℕ). next ≤ identifier_at (slot_place n x s) file) cap (omega (arith, tells, open_tells place file is_open, late.3)),
     )

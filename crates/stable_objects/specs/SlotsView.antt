@@ -33,4 +33,4 @@ pub record AreOf (slots : SlotsView) (file : List ℕ) : Type 0 where
 
 -- an open slot has this number or a later one
 abbrev pub IsLate : SlotsView → ℕ → ℕ → ℕ → Type 0
-IsLate slots next x s = (x < slots.params.objects) × (s < 2) × (next ≤ head slots x s)
+IsLate slots next x s = (0 < head slots x s) × (x < slots.params.objects) × (s < 2) × (next ≤ head slots x s)

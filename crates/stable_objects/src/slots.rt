@@ -1,4 +1,4 @@
-ghost use Rattle.std.specs.Prelude.{◌≡◌, ◌<◌, ◌≤◌, ◌+◌, ◌*◌, ℕ, IfSome, IfNone, nat_le, position};
+ghost use Rattle.std.specs.Prelude.{◌≡◌, ◌<◌, ◌≤◌, ◌+◌, ◌*◌, ◌&&◌, ℕ, IfSome, IfNone, nat_lt, nat_le, position};
 ghost use Rattle.formats.specs.Objects.{bounds_of, slot_place};
 ghost use Rattle.stable_objects.specs.SlotsView.{id_in, holder_in, IsLate};
 
@@ -28,11 +28,11 @@ impl Model for Slots {
     ghost invariant = { λ s. AreHeads s.params s.heads.items };
 }
 
-// Which of these identifiers is the first that is `next` or more.
+// Which of these identifiers is the first that is not 0, and is `next` or more.
 fn first_late(heads: &[u64], next: u64) -> Option<usize>
-    ensures { result ≡ position (λ id. nat_le next id) heads.now }
+    ensures { result ≡ position (λ id. nat_lt 0 id && nat_le next id) heads.now }
 {
-    heads.iter().position(|id| *id >= next)
+    heads.iter().position(|id| *id > 0 && *id >= next)
 }
 
 impl Slots {
@@ -85,7 +85,6 @@ impl Slots {
     /// The place of the first identifier, in the order of the file, of an open slot that is `next` or more; none exactly
     /// where there is none.
     pub fn first_at(&self, next: u64) -> Option<u64>
-        requires { 0 < next }
         ensures some { IfSome result (λ place. (x : ℕ) × (s : ℕ) × IsLate self.now next x s × (place ≡ slot_place self.now.params.cap x s + 1)
             × ((y t : ℕ) → IsLate self.now next y t → 2 * x + s ≤ 2 * y + t)) }
         ensures none { IfNone result ((x s : ℕ) → IsLate self.now next x s → ⊥) }

@@ -157,6 +157,7 @@ fn reads_what_an_open_slot_holds(rt: HostRuntime) -> Result<(), Fail> {
     assert!(rt; none.value.is_empty());
     assert_eq!(rt; none.calls, 0);
     let slots = Slots::load(rt.alloc(), &mut machine)?;
+    assert_eq!(rt; slots.first_at(0), Some(572));
     assert_eq!(rt; slots.first_at(5), Some(572));
     assert_eq!(rt; slots.first_at(6), Some(649));
     assert_eq!(rt; slots.first_at(10), None);

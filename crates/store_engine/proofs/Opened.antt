@@ -205,8 +205,7 @@ module _ {O : Type 0} (meaning : Bounds → Meaning O) where
         let laid = has.slots.laid told in
         let read = has.read told in
         let params : params_in file ≡ objects.slots.params = params_of_file objects.slots.params file laid.slots.whole in
-        let some : 0 < next = omega (arith, same, next_is told, read.file.log.in_range.base_low) in
-        let slot = late_slot objects.slots file next at.0 at.1 laid.slots some at.2 in
+        let slot = late_slot objects.slots file next at.0 at.1 laid.slots at.2 in
         record {
           x = at.0;
           s = at.1;
@@ -310,7 +309,7 @@ module _ {O : Type 0} (meaning : Bounds → Meaning O) where
         file = subst (λ (r : Params). IsRecordLog (meaning_in meaning r) view.log.header read.groups (old.reads LogA)) (sym params) read.file;
         other = read.other;
         none_late = subst (λ (r : Params). (x s : ℕ) → x < r.objects → s < 2 → IsOpenAt (slot_place r.cap x s) file → identifier_at (slot_place r.cap x s) file < view.log.header.base + length (records_of read.groups)) (sym params)
-            (λ x s below two is_open. let late = none_late objects.slots file view.next laid.slots none x s below two is_open in omega (arith, late, next));
+            (λ x s below two is_open. let late = none_late objects.slots file view.next laid.slots (omega (arith, next, read.file.log.in_range.base_low)) none x s below two is_open in omega (arith, late, next));
         active = read.active;
         log = subst (λ (r : Params). Keeps (meaning_in meaning r) new view (records_of read.groups) []) (sym params)
             (keeps_on (meaning_in meaning q) last new view (records_of read.groups) (stays_twice last far new more further) told_last read.keeps);

@@ -99,6 +99,20 @@ LacksPlace engine n (Refused refusal) = ⊥
 LacksPlace engine n (Broken file place) = ⊥
 LacksPlace engine n Memory = ⊥
 
+-- a log that is as it was, but for room
+abbrev pub IsSameLog : RecordLogView → RecordLogView → Type 0
+IsSameLog before log = log ≡ record before { log = record before.log { room = log.log.room } }
+
+-- a log of which all that waited is forced
+abbrev pub IsForcedLog : RecordLogView → RecordLogView → Type 0
+IsForcedLog before log = log ≡ record before { log = record before.log { end = used_of before.log; pending = []; room = log.log.room }; forced = before.accepted }
+
+-- the log after a command that was not done: without a place for its record all that waited is forced, else it is as it was
+abbrev pub LogWithout : RecordLogView → RecordLogView → ExecErr → Type 0
+LogWithout before log (LogFull used need limit) = IsForcedLog before log
+LogWithout before log (LsnEnd number) = IsForcedLog before log
+LogWithout before log e = IsSameLog before log
+
 -- this is true of the files and of whatever a crash now leaves of them
 abbrev pub InEachImage : Disk → (Files → Type 0) → Type 0
 InEachImage d P = P d.reads × (d.tells_moments → (files : Files) (said : List ℕ) → d.left_since d.clock files said → P files)
@@ -216,6 +230,14 @@ module _ {O : Type 0} (meaning : Bounds → Meaning O) where
   Lengthens p old op (Err Memory) new = new ≡ old
   Lengthens p old op (Err DiskFault) new = ⊤
 
+  -- the log with a record of the command that waits behind all others
+  abbrev pub IsLogWith : Params → O → RecordLogView → RecordLogView → Type 0
+  IsLogWith p op before log = log ≡ record before {
+    log = record before.log { pending = before.log.pending ++ record_code (meaning_in meaning p) (Command before.next op); room = log.log.room };
+    next = before.next + 1;
+    accepted = before.accepted + 1;
+  }
+
   -- An engine that took an operation in: its record waits with the next number, and each object that it writes is cached
   -- with that number and the value that it makes of the values read.
   pub record TookIn (op : O) (values : List (List ℕ)) (before engine : EngineView) : Type 0 where
@@ -223,11 +245,7 @@ module _ {O : Type 0} (meaning : Bounds → Meaning O) where
     pub accepted : engine.accepted ≡ engine.log.accepted
     pub forced : engine.forced ≡ engine.log.forced
     pub broken : engine.broken ≡ before.broken
-    pub log : engine.log ≡ record before.log {
-      log = record before.log.log { pending = before.log.log.pending ++ record_code (meaning_in meaning (params_of before)) (Command before.log.next op); room = engine.log.log.room };
-      next = before.log.next + 1;
-      accepted = before.log.accepted + 1;
-    }
+    pub log : IsLogWith (params_of before) op before.log engine.log
     pub laid : (file : List ℕ) → IsLaidOn before.objects file → IsLaidOn engine.objects file
     pub entries : (x : ℕ) → held engine.objects.cache x
         ≡ with_entries (held before.objects.cache) before.log.next ((meaning_in meaning (params_of before)).writes op) ((meaning_in meaning (params_of before)).effect op values) x

@@ -1,24 +1,26 @@
 -- What an opening reads, and why it and the reading of a slot fail.
-use Rattle.std.specs.Prelude.{◌≡◌, ◌<◌, ◌≤◌, ◌+◌, ⊤, false, ℕ, List, [], length, fold}
+use Rattle.std.specs.Prelude.{◌≡◌, ◌⊎◌, ◌<◌, ◌≤◌, ◌+◌, ⊤, false, ℕ, List, [], length, fold, None, Some}
 use Rattle.disk_model.specs.Disk.{Files, Disk, Rises}
 use Rattle.disk_model.specs.declared.machine.FileNo.{FileNo}
 use Rattle.disk_model.specs.declared.machine.FileNo.TheVariants.{Objects, LogA, LogB}
-use Rattle.oper_core.specs.Meaning.{Meaning}
+use Rattle.oper_core.specs.Meaning.{Meaning, FitsReads}
 use Rattle.oper_core.specs.declared.bounds.Bounds.{Bounds}
+use Rattle.oper_core.specs.declared.refusal.Refusal.{Refusal}
 use Rattle.oper_core.specs.declared.refusal.Refusal.TheVariants.{NoObject}
 use Rattle.formats.specs.Bytes.{IsOpenAt}
 use Rattle.formats.specs.Log.{IsShutLog}
 use Rattle.formats.specs.Objects.{cell_of, slot_place, identifier_at}
 use Rattle.formats.specs.Records.{records_of, IsRecordLog}
+use Rattle.formats.specs.declared.params.Params.{Params}
 use Rattle.formats.specs.declared.record.Record.{Record}
 use Rattle.log_frames.specs.declared.log_err.LogErr.{LogErr}
 use Rattle.log_frames.specs.declared.log_err.LogErr.TheVariants as of_log
 use Rattle.stable_objects.specs.declared.slot_err.SlotErr.{SlotErr}
 use Rattle.stable_objects.specs.declared.slot_err.SlotErr.TheVariants as of_slots
 use Rattle.log_records.specs.RecordLog.{Keeps}
-use Rattle.store_engine.specs.Engine.{EngineView, IsAttached, params_of}
+use Rattle.store_engine.specs.Engine.{EngineView, IsAttached, IsReady, LacksPlace, params_of}
 use Rattle.store_engine.specs.Laid.{IsLaidOn, cell_in, redone}
-use Rattle.store_engine.specs.Store.{meaning_in}
+use Rattle.store_engine.specs.Store.{meaning_in, record_length}
 use Rattle.store_engine.specs.declared.exec_err.ExecErr.{ExecErr}
 use Rattle.store_engine.specs.declared.exec_err.ExecErr.TheVariants as of_exec
 use Rattle.store_engine.specs.declared.restart_err.RestartErr.{RestartErr}
@@ -71,12 +73,12 @@ exec_from_slots of_slots.DiskFault = of_exec.DiskFault
 exec_from_slots (of_slots.Damaged file place) = of_exec.Damaged file place
 exec_from_slots of_slots.Memory = of_exec.Memory
 
--- Why a command is not admitted: it is refused, or a read of a slot fails: by a fault of the disk, which then counts it,
--- by damage, which no file has whose slots the engine's are, or for want of memory.
+-- Why a slot is not read: by a fault of the disk, which then counts it, by damage of the objects file, which no file has
+-- whose slots the engine's are, or for want of memory. A refusal has its own cause.
 abbrev pub IsReadFailure : Disk → Disk → EngineView → ExecErr → Type 0
 IsReadFailure old new engine (of_exec.Refused refusal) = ⊤
 IsReadFailure old new engine of_exec.DiskFault = Rises old.disk_faults new.disk_faults
-IsReadFailure old new engine (of_exec.Damaged file place) = old.tells_files → IsAttached old engine → ⊥
+IsReadFailure old new engine (of_exec.Damaged file place) = (file ≡ Objects) × (old.tells_files → IsAttached old engine → ⊥)
 IsReadFailure old new engine (of_exec.LogFull used need limit) = ⊥
 IsReadFailure old new engine (of_exec.LsnEnd number) = ⊥
 IsReadFailure old new engine of_exec.Memory = ⊤
@@ -85,3 +87,25 @@ IsReadFailure old new engine of_exec.Memory = ⊤
 abbrev pub IsFailure : Disk → Disk → EngineView → ℕ → ExecErr → Type 0
 IsFailure old new engine object (of_exec.Refused refusal) = (refusal ≡ NoObject) × ((params_of engine).objects ≤ object)
 IsFailure old new engine object e = (object < (params_of engine).objects) × IsReadFailure old new engine e
+
+module _ {O : Type 0} (meaning : Bounds → Meaning O) where
+  -- an operation is refused whatever the values are, or else on some values that it may read
+  abbrev pub IsRefused : Params → O → Refusal → Type 0
+  IsRefused p op r = ((meaning_in meaning p).shape op ≡ Some r)
+      ⊎ ((values : List (List ℕ)) × ((meaning_in meaning p).shape op ≡ None) × FitsReads (meaning_in meaning p) op values × ((meaning_in meaning p).check op values ≡ Some r))
+
+  -- nothing refuses it on some values that it may read
+  abbrev pub IsAdmissible : Params → O → Type 0
+  IsAdmissible p op = (values : List (List ℕ)) × IsReady meaning p op values
+
+  -- Why a command is not admitted: it is refused, or a read of a slot fails.
+  abbrev pub IsAdmitFailure : Disk → Disk → EngineView → O → ExecErr → Type 0
+  IsAdmitFailure old new engine op (of_exec.Refused refusal) = IsRefused (params_of engine) op refusal
+  IsAdmitFailure old new engine op e = IsReadFailure old new engine e
+
+  -- Why a command is not done, on every machine: it gets no place, though some values admit it, or else it is not admitted.
+  -- Where a force fails for it, the disk counts that.
+  abbrev pub IsExecFailure : Disk → Disk → EngineView → O → ExecErr → Type 0
+  IsExecFailure old new engine op (of_exec.LogFull used need limit) = IsAdmissible (params_of engine) op × LacksPlace engine (record_length meaning (params_of engine) op) (of_exec.LogFull used need limit)
+  IsExecFailure old new engine op (of_exec.LsnEnd number) = IsAdmissible (params_of engine) op × LacksPlace engine (record_length meaning (params_of engine) op) (of_exec.LsnEnd number)
+  IsExecFailure old new engine op e = IsAdmitFailure old new engine op e

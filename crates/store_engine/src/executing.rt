@@ -8,13 +8,13 @@ ghost use Rattle.formats.specs.declared.params.Params.{Params};
 ghost use Rattle.dirty_cache.specs.Contents.{held, HasRoom};
 ghost use Rattle.stable_objects.specs.SlotsView.{id_in};
 ghost use Rattle.store_engine.specs.Laid.{IsLaidOn, values_in};
-ghost use Rattle.store_engine.specs.Engine.{Holds, Kept, Between, IsReady, IsFull, IsAtEnd, TookIn, IsSameMap, IsAttached, HasPlace, LacksPlace, HasCause, Lengthens, log_length, forced_length, params_of};
-ghost use Rattle.store_engine.specs.Opening.{IsReadFailure};
+ghost use Rattle.store_engine.specs.Engine.{Holds, Kept, Between, IsReady, IsFull, IsAtEnd, TookIn, IsSameMap, IsAttached, IsSameLog, IsLogWith, LogWithout, HasPlace, LacksPlace, HasCause, Lengthens, log_length, forced_length, params_of};
+ghost use Rattle.store_engine.specs.Opening.{IsAdmissible, IsAdmitFailure, IsExecFailure};
 ghost use Rattle.store_engine.specs.Store.{meaning_in, record_length, refusal_after};
 
 use crate::Engine;
 use crate::exec_err::ExecErr;
-use disk_model::{FileNo, Machine};
+use disk_model::Machine;
 use formats::Record;
 use oper_core::{Memory, Oper, Refusal, Values};
 use std::alloc::Global;
@@ -54,7 +54,8 @@ impl<O: Oper> Engine<O> {
         // Where no slot is open it costs no device call.
         ensures none { ((x : ℕ) → x < (params_of self.old).objects → id_in self.old.objects.slots x ≡ 0) →
             (machine.new ≡ machine.old) × IfErr result (λ e. (e ≡ ExecErr.Memory) ⊎ ((r : Refusal) × (e ≡ ExecErr.Refused r))) }
-        ensures cause { IfErr result (IsReadFailure (M.disk machine.old) (M.disk machine.new) self.old) }
+        ensures cause { IfErr result (IsAdmitFailure O.meaning (M.disk machine.old) (M.disk machine.new) self.old op.now) }
+        ensures log { IsSameLog self.old.log self.new.log }
         ensures broken { (self.new.broken ≡ true) ↔ IsErrOf result ExecErr.DiskFault }
     {
         let bounds = self.bounds();
@@ -99,6 +100,7 @@ impl<O: Oper> Engine<O> {
         ensures place { OnOk result (self.old.log.log.end + 5 + Rattle.std.specs.Prelude.length self.old.log.log.pending + length ≤ (params_of self.old).limit) }
         ensures has { OnOk result (HasPlace self.old length) }
         ensures lacks { IfErr result (LacksPlace self.old length) }
+        ensures log { IfErr result (LogWithout self.old.log self.new.log) }
         ensures objects { self.new.objects ≡ self.old.objects }
         ensures forced { (p : Params) (commands : List O) → Holds O.meaning p (M.disk machine.old) self.old commands →
             IfErr result (λ e. e ≢ ExecErr.DiskFault → (self.new.forced ≡ Rattle.std.specs.Prelude.length commands) × Kept O.meaning p self.old (M.disk machine.new) self.new commands) }
@@ -161,6 +163,15 @@ impl<O: Oper> Engine<O> {
             IfOk result (λ n. (refusal_after O.meaning p commands op ≡ None) × (n ≡ length commands + 1) × Kept O.meaning p self.old (M.disk machine.new) self.new (commands ++ op ∷ [])) }
         ensures err { (p : Params) (commands : List O) → Holds O.meaning p (M.disk machine.old) self.old commands →
             IfErr result (λ e. e ≢ ExecErr.DiskFault → Kept O.meaning p self.old (M.disk machine.new) self.new commands) }
+
+        // What holds on every machine: why a command is not done, that one that is done is admitted and has a place, and what
+        // the log is then. The answer is how many the log has accepted.
+        ensures cause { IfErr result (IsExecFailure O.meaning (M.disk machine.old) (M.disk machine.new) self.old op) }
+        ensures admissible { OnOk result (IsAdmissible O.meaning (params_of self.old) op) }
+        ensures place { OnOk result (HasPlace self.old (record_length O.meaning (params_of self.old) op)) }
+        ensures logged { IfOk result (λ n. (n ≡ self.new.log.accepted) × IsLogWith O.meaning (params_of self.old) op self.old.log self.new.log) }
+        ensures unlogged { IfErr result (LogWithout self.old.log self.new.log) }
+
         // Each answer comes exactly where its cause holds.
         ensures exactly { (p : Params) (commands : List O) → Holds O.meaning p (M.disk machine.old) self.old commands → HasCause O.meaning p commands (log_length self.old) op result }
         ensures lengthens { (p : Params) (commands : List O) → Holds O.meaning p (M.disk machine.old) self.old commands → Lengthens O.meaning p (log_length self.old) op result (log_length self.new) }
@@ -173,9 +184,7 @@ impl<O: Oper> Engine<O> {
         ensures moments { (p : Params) (commands : List O) → Holds O.meaning p (M.disk machine.old) self.old commands → (M.disk machine.old).tells_moments →
             LeavesOnly (M.disk machine.old) (M.disk machine.new) (Between O.meaning p (M.disk machine.old) self.old.forced commands) }
         ensures attached { IsAttached (M.disk machine.old) self.old → IsAttached (M.disk machine.new) self.new }
-        ensures undamaged { (M.disk machine.old).tells_files → IsAttached (M.disk machine.old) self.old → (file : FileNo) (place : ℕ) → IsErrOf result (ExecErr.Damaged file place) → ⊥ }
         ensures broken { (self.new.broken ≡ true) ↔ IsErrOf result ExecErr.DiskFault }
-        ensures fault { IsErrOf result ExecErr.DiskFault → Rises (M.disk machine.old).disk_faults (M.disk machine.new).disk_faults }
     {
         let values = self.admit(machine, &op)?;
         let (made, length) = self.prepare(&op, &values)?;

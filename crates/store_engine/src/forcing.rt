@@ -1,9 +1,9 @@
 // Every command becomes stable.
-ghost use Rattle.std.specs.Prelude.{◌≡◌, ◌↔◌, true, false, List, length, OnOk, IfOk, IsErr};
+ghost use Rattle.std.specs.Prelude.{◌≡◌, ◌↔◌, true, false, List, length, OnOk, OnErr, IfOk, IsErr};
 ghost use Rattle.disk_model.specs.Disk.{Rises, Passes, LeavesOnly};
 ghost use Rattle.formats.specs.declared.params.Params.{Params};
 ghost use Rattle.log_frames.specs.LogView.{used_of};
-ghost use Rattle.store_engine.specs.Engine.{Holds, Kept, Between, IsAttached, log_length, forced_length};
+ghost use Rattle.store_engine.specs.Engine.{Holds, Kept, Between, IsAttached, IsForcedLog, log_length, forced_length};
 
 use crate::Engine;
 use crate::force_err::ForceErr;
@@ -21,6 +21,8 @@ impl<O: Oper> Engine<O> {
         ensures place { OnOk result (used_of self.new.log.log ≡ used_of self.old.log.log) }
         ensures objects { self.new.objects ≡ self.old.objects }
         ensures next { OnOk result (self.new.log.next ≡ self.old.log.next) }
+        ensures log { OnOk result (IsForcedLog self.old.log self.new.log) }
+        ensures unforced { OnErr result (self.new.log ≡ self.old.log) }
         ensures emptied { OnOk result (log_length self.new ≡ forced_length (log_length self.old)) }
         ensures moments { (p : Params) (commands : List O) → Holds O.meaning p (M.disk machine.old) self.old commands → (M.disk machine.old).tells_moments →
             LeavesOnly (M.disk machine.old) (M.disk machine.new) (Between O.meaning p (M.disk machine.old) self.old.forced commands) }

@@ -5,13 +5,14 @@ use Rattle.disk_model.specs.Disk.{Disk, Stays}
 use Rattle.disk_model.specs.Moments.{passes_twice}
 use Rattle.formats.specs.declared.params.Params.{Params}
 use Rattle.store_engine.specs.Store.{meaning_in, record_length, refusal_after}
+use Rattle.store_engine.specs.Opening.{IsAdmissible}
 use Rattle.store_engine.specs.Engine.{EngineView, params_of, IsSameMap, Holds, Kept, TookIn, LogLength, LacksPlace, HasCause, Lengthens, log_length}
 use Rattle.store_engine.specs.declared.exec_err.ExecErr.{ExecErr}
 use Rattle.store_engine.specs.declared.exec_err.ExecErr.TheVariants.{LogFull, LsnEnd, DiskFault}
 use Rattle.store_engine.proofs.SameMap.{all_shut, same_map_kept, same_map_twice, attached_stays}
 use Rattle.store_engine.proofs.Admitted.{same_refusal}
 use Rattle.store_engine.proofs.Executed.{same_length, kept_twice, lacks_cause, place_cause, is_full, is_at_end, taken_length}
-use Rattle.store_engine.proofs.Answered.{fine, unless_failed, err_anyway, on_err, prepared, unlogged, taken_attached, moments_here, moments_after, admit_cause, admit_length, admitted, executed}
+use Rattle.store_engine.proofs.Answered.{fine, ok_anyway, unless_failed, unplaced, err_anyway, on_err, prepared, unlogged, taken_attached, moments_here, moments_after, admit_cause, admit_length, admitted, executed}
 use Rattle.store_engine.proofs.engine.Engine.exec.Given.{Over}
 use Rattle.store_engine.proofs.engine.Engine.exec.Goals.{After-prepare, In_ok-made, After-take_in}
 use Rattle.store_engine.proofs.engine.Engine.exec.Goals as goal
@@ -103,6 +104,13 @@ returns-in_err-see_place-clause-err g c p commands h =
     kept_twice g.O.Oper.meaning p (g.M.Machine.disk c.admit.new.machine) (g.M.Machine.disk c.see_place.new.machine) c.args.self.now c.prepare.new.self c.see_place.new.self commands commands before
     (c.in_err-see_place.ensures.forced p commands before.holds other).1)
 
+pub returns-in_err-see_place-clause-cause : goal.returns-in_err-see_place-clause-cause
+returns-in_err-see_place-clause-cause g c =
+    let q = err_from_is_err_and c.from_residual-in_err-see_place.result c.from_residual-in_err-see_place.ensures.1 in
+    rw (q.1, q.2) (unplaced g.O.Oper.meaning (g.M.Machine.disk c.args.machine.now) (g.M.Machine.disk c.admit.new.machine) (g.M.Machine.disk c.see_place.new.machine) c.args.self.now c.prepare.new.self c.args.op c.in_ok-values.values
+    c.in_ok-made.length c.in_err-see_place.field-0.0 c.admit.ensures.kept (same_map g (goal.at.returns-in_err-see_place-clause-cause g c).After-prepare) c.in_ok-values.ensures.ready
+    (long g (goal.at.returns-in_err-see_place-clause-cause g c).In_ok-made) c.in_err-see_place.ensures.lacks (λ failed. c.in_err-see_place.ensures.fault (λ i. Err (failed i))))
+
 pub returns-in_err-see_place-clause-exactly : goal.returns-in_err-see_place-clause-exactly
 returns-in_err-see_place-clause-exactly g c p commands h =
     let q = err_from_is_err_and c.from_residual-in_err-see_place.result c.from_residual-in_err-see_place.ensures.1 in
@@ -170,6 +178,10 @@ returns-clause-err g c p commands h =
     (subst (λ (d : Disk). Stays old d) (sym (ap (λ m. g.M.Machine.disk m) untouched.0)) c.admit.ensures.kept)
     (same_map_twice old c.args.self.now c.see_place.new.self c.take_in.new.self (subst (λ (e : EngineView). IsSameMap old c.args.self.now e) (sym untouched.1) before)
     (unlogged old c.see_place.new.self c.take_in.new.self is)))
+
+pub returns-clause-admissible : goal.returns-clause-admissible
+returns-clause-admissible g c =
+    ok_anyway c.take_in.result (IsAdmissible g.O.Oper.meaning (params_of c.args.self.now) c.args.op) (c.in_ok-values.values, c.in_ok-values.ensures.ready)
 
 pub returns-clause-exactly : goal.returns-clause-exactly
 returns-clause-exactly g c p commands h =
