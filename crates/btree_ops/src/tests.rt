@@ -1,4 +1,4 @@
-ghost use Rattle.std.specs.Prelude.{◌≡◌, length};
+ghost use Rattle.std.specs.Prelude.{◌≡◌, IfOk, length};
 ghost use Rattle.btree_ops.specs.Operation.{read_by};
 
 use crate::{Node, NodeOp, Short};
@@ -17,6 +17,20 @@ const FULL: &[u8] =
 
 const INNER: &[u8] = b"\x02\x01\x05\0\0\0\x01m\x06\0\0\0";
 
+// What splits make of a leaf of seven pairs, and of an inner node of seven separators.
+const LOWER: &[u8] = b"\x01\x03\x01a\x011\x01b\x012\x01c\x013";
+
+const UPPER: &[u8] = b"\x01\x04\x01d\x014\x01e\x015\x01f\x016\x01g\x017";
+
+const FULL_INNER: &[u8] =
+    b"\x02\x07\x0a\0\0\0\x01a\x01\0\0\0\x01b\x02\0\0\0\x01c\x03\0\0\0\x01d\x04\0\0\0\x01e\x05\0\0\0\x01f\x06\0\0\0\x01g\x07\0\0\0";
+
+const LOWER_INNER: &[u8] = b"\x02\x03\x0a\0\0\0\x01a\x01\0\0\0\x01b\x02\0\0\0\x01c\x03\0\0\0";
+
+const UPPER_INNER: &[u8] = b"\x02\x03\x04\0\0\0\x01e\x05\0\0\0\x01f\x06\0\0\0\x01g\x07\0\0\0";
+
+const ROOT: &[u8] = b"\x02\x01\x02\0\0\0\x01d\x03\0\0\0";
+
 fn bounds(cap: u32) -> Bounds {
     Bounds { objects: 8, cap }
 }
@@ -25,12 +39,35 @@ fn short(text: &[u8]) -> Result<Short, Fail> {
     Ok(Short::new(text).ok_or("not 1 to 32 bytes")?)
 }
 
-fn put(key: &[u8], value: &[u8]) -> Result<NodeOp, Fail> {
+fn put(key: &[u8], value: &[u8]) -> Result<NodeOp, Fail>
+    ensures { IfOk result (λ op. length (read_by op) ≡ 1) }
+{
     Ok(NodeOp::Put {
         object: 7,
         key: short(key)?,
         value: short(value)?,
     })
+}
+
+fn delete(object: u32, key: &[u8]) -> Result<NodeOp, Fail>
+    ensures { IfOk result (λ op. length (read_by op) ≡ 1) }
+{
+    Ok(NodeOp::Delete {
+        object,
+        key: short(key)?,
+    })
+}
+
+fn split_root(root: u32, left: u32, right: u32) -> NodeOp
+    ensures { length (read_by result) ≡ 1 }
+{
+    NodeOp::SplitRoot { root, left, right }
+}
+
+fn split_child(parent: u32, child: u32, new: u32) -> NodeOp
+    ensures { length (read_by result) ≡ 2 }
+{
+    NodeOp::SplitChild { parent, child, new }
 }
 
 // What an operation that reads one object makes of its value.
@@ -91,97 +128,77 @@ fn longest_inner(alloc: Global) -> Result<Vec<u8>, Fail> {
     Ok(out)
 }
 
-// The bytes, and one more.
-fn and_one(alloc: Global, bytes: &[u8]) -> Result<Vec<u8>, Fail> {
-    let mut out = Vec::new(alloc);
-    out.extend_from_slice(bytes)?;
-    out.push(0)?;
-    Ok(out)
+// Bytes that are a node.
+const NODES: [(&[u8], &str); 6] = [
+    (b"\x01\0", "a leaf without pairs"),
+    (PAIR, "a pair"),
+    (FULL, "seven pairs"),
+    (INNER, "a separator"),
+    (
+        b"\x01\x02\x02aa\x01x\x01b\x01y",
+        "a longer key before a greater one",
+    ),
+    (
+        b"\x02\x02\0\0\0\0\x01a\0\0\0\0\x02ab\xff\xff\xff\xff",
+        "equal children",
+    ),
+];
+
+// Bytes that are none.
+const OTHERS: [(&[u8], &str); 15] = [
+    (b"", "nothing"),
+    (b"\x01", "no count"),
+    (b"\0\0", "kind 0"),
+    (b"\x03\x01\x01a\x011", "kind 3"),
+    (b"\x02\0\x05\0\0\0", "an inner node without separators"),
+    (b"\x01\x01\0\x011", "an empty key"),
+    (b"\x01\x01\x01a\0", "an empty value"),
+    (
+        b"\x01\x01\x210123456789abcdef0123456789abcdef0\x011",
+        "a key of 33 bytes",
+    ),
+    (b"\x01\x02\x01a\x011\x01a\x012", "a key twice"),
+    (b"\x01\x02\x01b\x011\x02aa\x012", "keys that fall"),
+    (b"\x01\x01\x01a\x021", "a cut value"),
+    (b"\x01\x02\x01a\x011", "a pair too few"),
+    (b"\x01\x01\x01a\x011\0", "a byte behind"),
+    (b"\x02\x01\x05\0\0\0\x01m\x06\0\0", "a cut child"),
+    (
+        b"\x01\x08\x01a\x011\x01b\x012\x01c\x013\x01d\x014\x01e\x015\x01f\x016\x01g\x017\x01h\x018",
+        "eight pairs",
+    ),
+];
+
+// The bytes are read, and written again as they are.
+fn is_node(rt: &impl Abort, alloc: Global, bytes: &[u8], why: &str) -> Result<(), Fail> {
+    let node = Node::read(bytes).ok_or("no node")?;
+    assert_eq!(rt; node.bytes(alloc)?.as_slice(), bytes, "{why}");
+    Ok(())
 }
 
 #[test]
 fn a_node_is_read_exactly_where_the_bytes_are_one(rt: HostRuntime) -> Result<(), Fail> {
-    let leaf = longest_leaf(rt.alloc())?;
-    let inner = longest_inner(rt.alloc())?;
+    for (bytes, why) in NODES {
+        is_node(&rt, rt.alloc(), bytes, why)?;
+    }
+    for (bytes, why) in OTHERS {
+        assert!(rt; Node::read(bytes).is_none(), "{why}");
+    }
+    Ok(())
+}
+
+#[test]
+fn the_longest_nodes_are_read_whole(rt: HostRuntime) -> Result<(), Fail> {
+    let mut leaf = longest_leaf(rt.alloc())?;
+    let mut inner = longest_inner(rt.alloc())?;
     assert_eq!(rt; leaf.len(), 464);
     assert_eq!(rt; inner.len(), 265);
-    let leaf_and_one = and_one(rt.alloc(), leaf.as_slice())?;
-    let inner_and_one = and_one(rt.alloc(), inner.as_slice())?;
-    for (bytes, is_node, why) in [
-        (leaf.as_slice(), true, "the longest leaf"),
-        (
-            leaf_and_one.as_slice(),
-            false,
-            "a byte behind the longest leaf",
-        ),
-        (inner.as_slice(), true, "the longest inner node"),
-        (
-            inner_and_one.as_slice(),
-            false,
-            "a byte behind the longest inner node",
-        ),
-        (b"\x01\0".as_slice(), true, "a leaf without pairs"),
-        (PAIR, true, "a pair"),
-        (FULL, true, "seven pairs"),
-        (INNER, true, "a separator"),
-        (
-            b"\x01\x02\x02aa\x01x\x01b\x01y".as_slice(),
-            true,
-            "a longer key before a greater one",
-        ),
-        (
-            b"\x02\x02\0\0\0\0\x01a\0\0\0\0\x02ab\xff\xff\xff\xff".as_slice(),
-            true,
-            "equal children",
-        ),
-        (b"".as_slice(), false, "nothing"),
-        (b"\x01".as_slice(), false, "no count"),
-        (b"\0\0".as_slice(), false, "kind 0"),
-        (b"\x03\x01\x01a\x011".as_slice(), false, "kind 3"),
-        (
-            b"\x02\0\x05\0\0\0".as_slice(),
-            false,
-            "an inner node without separators",
-        ),
-        (b"\x01\x01\0\x011".as_slice(), false, "an empty key"),
-        (b"\x01\x01\x01a\0".as_slice(), false, "an empty value"),
-        (
-            b"\x01\x01\x210123456789abcdef0123456789abcdef0\x011".as_slice(),
-            false,
-            "a key of 33 bytes",
-        ),
-        (
-            b"\x01\x02\x01a\x011\x01a\x012".as_slice(),
-            false,
-            "a key twice",
-        ),
-        (
-            b"\x01\x02\x01b\x011\x02aa\x012".as_slice(),
-            false,
-            "keys that fall",
-        ),
-        (b"\x01\x01\x01a\x021".as_slice(), false, "a cut value"),
-        (b"\x01\x02\x01a\x011".as_slice(), false, "a pair too few"),
-        (b"\x01\x01\x01a\x011\0".as_slice(), false, "a byte behind"),
-        (
-            b"\x02\x01\x05\0\0\0\x01m\x06\0\0".as_slice(),
-            false,
-            "a cut child",
-        ),
-        (
-            b"\x01\x08\x01a\x011\x01b\x012\x01c\x013\x01d\x014\x01e\x015\x01f\x016\x01g\x017\x01h\x018".as_slice(),
-            false,
-            "eight pairs",
-        ),
-    ] {
-        match Node::read(bytes) {
-            Some(node) => {
-                assert!(rt; is_node, "{why}");
-                assert_eq!(rt; node.bytes(rt.alloc())?.as_slice(), bytes, "{why}");
-            }
-            None => assert!(rt; !is_node, "{why}"),
-        }
-    }
+    is_node(&rt, rt.alloc(), leaf.as_slice(), "the longest leaf")?;
+    is_node(&rt, rt.alloc(), inner.as_slice(), "the longest inner node")?;
+    leaf.push(0)?;
+    inner.push(0)?;
+    assert!(rt; Node::read(leaf.as_slice()).is_none());
+    assert!(rt; Node::read(inner.as_slice()).is_none());
     Ok(())
 }
 
@@ -192,94 +209,57 @@ fn first(lists: &Vec<ByteList>) -> &[u8] {
     }
 }
 
+// What a put of a key and a value makes of an object's value, or why it is refused.
+const PUTS: [(&[u8], &[u8], &[u8], Result<&[u8], Refusal>); 8] = [
+    (b"", b"a", b"1", Ok(PAIR)),
+    (b"\x01\0", b"a", b"1", Ok(PAIR)),
+    (PAIR, b"c", b"3", Ok(TWO)),
+    (TWO, b"b", b"2", Ok(LOWER)),
+    (TWO, b"c", b"33", Ok(b"\x01\x02\x01a\x011\x01c\x0233")),
+    (FULL, b"h", b"8", Err(Refusal::NodeFull)),
+    (FULL, b"g", b"7", Ok(FULL)),
+    (INNER, b"a", b"1", Err(Refusal::NotNode)),
+];
+
+// What an operation makes of one value is this one, or empty where it is refused.
+fn makes(
+    rt: &impl Abort,
+    alloc: Global,
+    op: &NodeOp,
+    old: &[u8],
+    want: Result<&[u8], Refusal>,
+) -> Result<(), Fail>
+    requires { length (read_by op.now) ≡ 1 }
+{
+    let (check, made) = made_of(alloc, op, 1024, old)?;
+    assert_eq!(rt; check, want.map(|_| ()));
+    assert_eq!(rt; first(&made), want.unwrap_or(b""));
+    Ok(())
+}
+
 #[test]
 fn a_put_goes_to_its_place(rt: HostRuntime) -> Result<(), Fail> {
-    for (old, key, value, refused, new) in [
-        (
-            b"".as_slice(),
-            b"a".as_slice(),
-            b"1".as_slice(),
-            Ok(()),
-            PAIR,
-        ),
-        (
-            b"\x01\0".as_slice(),
-            b"a".as_slice(),
-            b"1".as_slice(),
-            Ok(()),
-            PAIR,
-        ),
-        (PAIR, b"c".as_slice(), b"3".as_slice(), Ok(()), TWO),
-        (
-            TWO,
-            b"b".as_slice(),
-            b"2".as_slice(),
-            Ok(()),
-            b"\x01\x03\x01a\x011\x01b\x012\x01c\x013".as_slice(),
-        ),
-        (
-            TWO,
-            b"c".as_slice(),
-            b"33".as_slice(),
-            Ok(()),
-            b"\x01\x02\x01a\x011\x01c\x0233".as_slice(),
-        ),
-        (
-            FULL,
-            b"h".as_slice(),
-            b"8".as_slice(),
-            Err(Refusal::NodeFull),
-            b"".as_slice(),
-        ),
-        (FULL, b"g".as_slice(), b"7".as_slice(), Ok(()), FULL),
-        (
-            INNER,
-            b"a".as_slice(),
-            b"1".as_slice(),
-            Err(Refusal::NotNode),
-            b"".as_slice(),
-        ),
-    ] {
-        let op = NodeOp::Put {
-            object: 7,
-            key: short(key)?,
-            value: short(value)?,
-        };
-        let (check, made) = made_of(rt.alloc(), &op, 1024, old)?;
-        assert_eq!(rt; check, refused);
-        assert_eq!(rt; first(&made), new);
+    for (old, key, value, want) in PUTS {
+        makes(&rt, rt.alloc(), &put(key, value)?, old, want)?;
     }
-    let op = NodeOp::Put {
-        object: 7,
-        key: short(b"a")?,
-        value: short(b"1")?,
-    };
-    let (check, made) = made_of(rt.alloc(), &op, 1023, b"")?;
+    let (check, made) = made_of(rt.alloc(), &put(b"a", b"1")?, 1023, b"")?;
     assert_eq!(rt; check, Err(Refusal::TooLarge));
     assert_eq!(rt; first(&made), b"".as_slice());
     Ok(())
 }
 
+// What a delete of a key makes.
+const DELETES: [(&[u8], &[u8], Result<&[u8], Refusal>); 4] = [
+    (TWO, b"c", Ok(PAIR)),
+    (PAIR, b"a", Ok(b"\x01\0")),
+    (PAIR, b"b", Err(Refusal::NoKey)),
+    (b"", b"a", Err(Refusal::NotNode)),
+];
+
 #[test]
 fn a_delete_takes_its_pair(rt: HostRuntime) -> Result<(), Fail> {
-    for (old, key, refused, new) in [
-        (TWO, b"c".as_slice(), Ok(()), PAIR),
-        (PAIR, b"a".as_slice(), Ok(()), b"\x01\0".as_slice()),
-        (PAIR, b"b".as_slice(), Err(Refusal::NoKey), b"".as_slice()),
-        (
-            b"".as_slice(),
-            b"a".as_slice(),
-            Err(Refusal::NotNode),
-            b"".as_slice(),
-        ),
-    ] {
-        let op = NodeOp::Delete {
-            object: 7,
-            key: short(key)?,
-        };
-        let (check, made) = made_of(rt.alloc(), &op, 1024, old)?;
-        assert_eq!(rt; check, refused);
-        assert_eq!(rt; first(&made), new);
+    for (old, key, want) in DELETES {
+        makes(&rt, rt.alloc(), &delete(7, key)?, old, want)?;
     }
     Ok(())
 }
@@ -293,26 +273,9 @@ fn are(rt: &impl Abort, made: &Vec<ByteList>, want: &[&[u8]]) -> Result<(), Fail
     Ok(())
 }
 
-const LOWER: &[u8] = b"\x01\x03\x01a\x011\x01b\x012\x01c\x013";
-
-const UPPER: &[u8] = b"\x01\x04\x01d\x014\x01e\x015\x01f\x016\x01g\x017";
-
-const FULL_INNER: &[u8] =
-    b"\x02\x07\x0a\0\0\0\x01a\x01\0\0\0\x01b\x02\0\0\0\x01c\x03\0\0\0\x01d\x04\0\0\0\x01e\x05\0\0\0\x01f\x06\0\0\0\x01g\x07\0\0\0";
-
-const LOWER_INNER: &[u8] = b"\x02\x03\x0a\0\0\0\x01a\x01\0\0\0\x01b\x02\0\0\0\x01c\x03\0\0\0";
-
-const UPPER_INNER: &[u8] = b"\x02\x03\x04\0\0\0\x01e\x05\0\0\0\x01f\x06\0\0\0\x01g\x07\0\0\0";
-
-const ROOT: &[u8] = b"\x02\x01\x02\0\0\0\x01d\x03\0\0\0";
-
 #[test]
 fn a_root_is_split_in_its_middle(rt: HostRuntime) -> Result<(), Fail> {
-    let op = NodeOp::SplitRoot {
-        root: 1,
-        left: 2,
-        right: 3,
-    };
+    let op = split_root(1, 2, 3);
     let (check, made) = made_of(rt.alloc(), &op, 1024, FULL)?;
     assert_eq!(rt; check, Ok(()));
     are(&rt, &made, &[ROOT, LOWER, UPPER])?;
@@ -337,11 +300,7 @@ fn split(
     if parent.len() > 1024 || child.len() > 1024 {
         return Err("too long a value".into());
     }
-    let op = NodeOp::SplitChild {
-        parent: 4,
-        child: 5,
-        new: 7,
-    };
+    let op = split_child(4, 5, 7);
     let mut values = Values::new(alloc);
     values.push(parent)?;
     values.push(child)?;
@@ -350,38 +309,37 @@ fn split(
     Ok((refused, made.into_lists()))
 }
 
+// A parent, and what it is when its child, a leaf of seven pairs, is split.
+const PARENTS: [(&[u8], &[u8]); 3] = [
+    (INNER, b"\x02\x02\x05\0\0\0\x01d\x07\0\0\0\x01m\x06\0\0\0"),
+    (
+        b"\x02\x01\x06\0\0\0\x01c\x05\0\0\0",
+        b"\x02\x02\x06\0\0\0\x01c\x05\0\0\0\x01d\x07\0\0\0",
+    ),
+    // a child that stands twice, and keys that no longer rise
+    (
+        b"\x02\x02\x06\0\0\0\x01m\x05\0\0\0\x01n\x05\0\0\0",
+        b"\x02\x03\x06\0\0\0\x01m\x05\0\0\0\x01d\x07\0\0\0\x01n\x05\0\0\0",
+    ),
+];
+
+// A parent and a child that are not split.
+const UNSPLIT: [(&[u8], &[u8], Refusal); 5] = [
+    (b"\x02\x01\x01\0\0\0\x01m\x06\0\0\0", FULL, Refusal::NotNode),
+    (INNER, TWO, Refusal::NotNode),
+    (PAIR, FULL, Refusal::NotNode),
+    (FULL_INNER, TWO, Refusal::NotNode),
+    (FULL_INNER, FULL, Refusal::NodeFull),
+];
+
 #[test]
 fn a_new_child_stands_behind_the_one_that_is_split(rt: HostRuntime) -> Result<(), Fail> {
-    for (parent, new) in [
-        (
-            INNER,
-            b"\x02\x02\x05\0\0\0\x01d\x07\0\0\0\x01m\x06\0\0\0".as_slice(),
-        ),
-        (
-            b"\x02\x01\x06\0\0\0\x01c\x05\0\0\0".as_slice(),
-            b"\x02\x02\x06\0\0\0\x01c\x05\0\0\0\x01d\x07\0\0\0".as_slice(),
-        ),
-        // a child that stands twice, and keys that no longer rise
-        (
-            b"\x02\x02\x06\0\0\0\x01m\x05\0\0\0\x01n\x05\0\0\0".as_slice(),
-            b"\x02\x03\x06\0\0\0\x01m\x05\0\0\0\x01d\x07\0\0\0\x01n\x05\0\0\0".as_slice(),
-        ),
-    ] {
+    for (parent, new) in PARENTS {
         let (check, made) = split(rt.alloc(), parent, FULL)?;
         assert_eq!(rt; check, Ok(()));
         are(&rt, &made, &[new, LOWER, UPPER])?;
     }
-    for (parent, child, refusal) in [
-        (
-            b"\x02\x01\x01\0\0\0\x01m\x06\0\0\0".as_slice(),
-            FULL,
-            Refusal::NotNode,
-        ),
-        (INNER, TWO, Refusal::NotNode),
-        (PAIR, FULL, Refusal::NotNode),
-        (FULL_INNER, TWO, Refusal::NotNode),
-        (FULL_INNER, FULL, Refusal::NodeFull),
-    ] {
+    for (parent, child, refusal) in UNSPLIT {
         let (check, made) = split(rt.alloc(), parent, child)?;
         assert_eq!(rt; check, Err(refusal));
         are(&rt, &made, &[b"", b"", b""])?;
@@ -393,27 +351,13 @@ fn a_new_child_stands_behind_the_one_that_is_split(rt: HostRuntime) -> Result<()
 fn codes_are_as_worked_and_read_back(rt: HostRuntime) -> Result<(), Fail> {
     for (op, code) in [
         (put(b"a", b"12")?, b"\x0a\x07\0\0\0\x01a\x0212".as_slice()),
+        (delete(6, b"ab")?, b"\x0b\x06\0\0\0\x02ab".as_slice()),
         (
-            NodeOp::Delete {
-                object: 6,
-                key: short(b"ab")?,
-            },
-            b"\x0b\x06\0\0\0\x02ab".as_slice(),
-        ),
-        (
-            NodeOp::SplitChild {
-                parent: 1,
-                child: 2,
-                new: 3,
-            },
+            split_child(1, 2, 3),
             b"\x0c\x01\0\0\0\x02\0\0\0\x03\0\0\0".as_slice(),
         ),
         (
-            NodeOp::SplitRoot {
-                root: 3,
-                left: 2,
-                right: 1,
-            },
+            split_root(3, 2, 1),
             b"\x0d\x03\0\0\0\x02\0\0\0\x01\0\0\0".as_slice(),
         ),
     ] {
@@ -432,31 +376,25 @@ fn codes_are_as_worked_and_read_back(rt: HostRuntime) -> Result<(), Fail> {
     Ok(())
 }
 
+// Bytes that begin with no code.
+const NO_CODES: [(&[u8], &str); 9] = [
+    (b"", "nothing"),
+    (b"\x09\x07\0\0\0\x01a\x0212", "another tag"),
+    (b"\x0a\x08\0\0\0\x01a\x0212", "no such object"),
+    (b"\x0a\x07\0\0\0\0\x0212", "an empty key"),
+    (b"\x0a\x07\0\0\0\x01a\x0312", "a cut value"),
+    (
+        b"\x0b\x06\0\0\0\x210123456789abcdef0123456789abcdef0",
+        "a long key",
+    ),
+    (b"\x0c\x01\0\0\0\x02\0\0\0\x03\0\0", "a cut object"),
+    (b"\x0c\x01\0\0\0\x02\0\0\0\x02\0\0\0", "one object twice"),
+    (b"\x0d\x01\0\0\0\x02\0\0\0\x01\0\0\0", "the root twice"),
+];
+
 #[test]
 fn other_bytes_are_no_code(rt: HostRuntime) -> Result<(), Fail> {
-    for (bytes, why) in [
-        (b"".as_slice(), "nothing"),
-        (b"\x09\x07\0\0\0\x01a\x0212".as_slice(), "another tag"),
-        (b"\x0a\x08\0\0\0\x01a\x0212".as_slice(), "no such object"),
-        (b"\x0a\x07\0\0\0\0\x0212".as_slice(), "an empty key"),
-        (b"\x0a\x07\0\0\0\x01a\x0312".as_slice(), "a cut value"),
-        (
-            b"\x0b\x06\0\0\0\x210123456789abcdef0123456789abcdef0".as_slice(),
-            "a long key",
-        ),
-        (
-            b"\x0c\x01\0\0\0\x02\0\0\0\x03\0\0".as_slice(),
-            "a cut object",
-        ),
-        (
-            b"\x0c\x01\0\0\0\x02\0\0\0\x02\0\0\0".as_slice(),
-            "one object twice",
-        ),
-        (
-            b"\x0d\x01\0\0\0\x02\0\0\0\x01\0\0\0".as_slice(),
-            "the root twice",
-        ),
-    ] {
+    for (bytes, why) in NO_CODES {
         assert!(rt;
             NodeOp::decode(rt.alloc(), bounds(1024), bytes)?.is_none(),
             "{why}"
@@ -469,53 +407,15 @@ fn other_bytes_are_no_code(rt: HostRuntime) -> Result<(), Fail> {
 fn objects_are_there_and_apart(rt: HostRuntime) -> Result<(), Fail> {
     for (op, want) in [
         (put(b"a", b"1")?, Ok(())),
-        (
-            NodeOp::Delete {
-                object: 8,
-                key: short(b"a")?,
-            },
-            Err(Refusal::NoObject),
-        ),
-        (
-            NodeOp::SplitChild {
-                parent: 1,
-                child: 2,
-                new: 7,
-            },
-            Ok(()),
-        ),
-        (
-            NodeOp::SplitChild {
-                parent: 1,
-                child: 1,
-                new: 8,
-            },
-            Err(Refusal::NoObject),
-        ),
-        (
-            NodeOp::SplitChild {
-                parent: 1,
-                child: 2,
-                new: 1,
-            },
-            Err(Refusal::Same),
-        ),
-        (
-            NodeOp::SplitRoot {
-                root: 2,
-                left: 1,
-                right: 1,
-            },
-            Err(Refusal::Same),
-        ),
+        (delete(8, b"a")?, Err(Refusal::NoObject)),
+        (split_child(1, 2, 7), Ok(())),
+        (split_child(1, 1, 8), Err(Refusal::NoObject)),
+        (split_child(1, 2, 1), Err(Refusal::Same)),
+        (split_root(2, 1, 1), Err(Refusal::Same)),
     ] {
         assert_eq!(rt; op.shape(bounds(16)), want);
     }
-    let op = NodeOp::SplitChild {
-        parent: 1,
-        child: 2,
-        new: 3,
-    };
+    let op = split_child(1, 2, 3);
     assert_eq!(rt; op.reads().as_slice(), [1, 2].as_slice());
     assert_eq!(rt; op.writes().as_slice(), [1, 2, 3].as_slice());
     Ok(())

@@ -10,122 +10,138 @@ use oper_core::Refusal;
 use std::alloc::Global;
 use std::test::Fail;
 
-fn put(object: u32, hex: &'static [u8]) -> Line<'static> {
-    Line::Put { object, hex }
-}
+// A line of each form, and what it asks.
+const FORMS: [(&[u8], Line<'static>); 8] = [
+    (
+        b"put 4294967295 00FfA9",
+        Line::Put {
+            object: 4294967295,
+            hex: b"00FfA9",
+        },
+    ),
+    (b"copy 3 3", Line::Copy { from: 3, to: 3 }),
+    (b"append 7 12", Line::Append { from: 7, to: 12 }),
+    (
+        b"cut 0 1 4294967295",
+        Line::Cut {
+            from: 0,
+            to: 1,
+            place: 4294967295,
+        },
+    ),
+    (
+        b"sort 5 6 0",
+        Line::Sort {
+            from: 5,
+            to: 6,
+            width: 0,
+        },
+    ),
+    (
+        b"swap 2 1",
+        Line::Swap {
+            first: 2,
+            second: 1,
+        },
+    ),
+    (b"get 4294967295", Line::Get { object: 4294967295 }),
+    (b"force", Line::Force),
+];
 
-fn cut(from: u32, to: u32, place: u32) -> Line<'static> {
-    Line::Cut { from, to, place }
-}
+// Lines, and the plain ones that ask the same.
+const SPACED: [(&[u8], &[u8]); 7] = [
+    (b"  put   0  aa ", b"put 0 aa"),
+    (b"put 0 aa\r", b"put 0 aa"),
+    (b"put 0 -  \r", b"put 0 -"),
+    (b" force ", b"force"),
+    (b"force\r", b"force"),
+    (b"cut  10 20  30", b"cut 10 20 30"),
+    (b" get   0", b"get 0"),
+];
 
-fn sort(from: u32, to: u32, width: u32) -> Line<'static> {
-    Line::Sort { from, to, width }
-}
+const SKIPPED: [&[u8]; 10] = [
+    b"",
+    b" ",
+    b"     ",
+    b"\r",
+    b"  \r",
+    b"#",
+    b"# x",
+    b"#put 0 aa",
+    b"  # put 0 1 2 3 4 5",
+    b"#\r\r",
+];
 
-fn good_lines() -> [(&'static [u8], Line<'static>); 28] {
-    [
-        (b"put 0 aa", put(0, b"aa")),
-        (b"put 4294967295 00FfA9", put(4294967295, b"00FfA9")),
-        (b"put 10 -", put(10, b"-")),
-        (b"copy 0 1", Line::Copy { from: 0, to: 1 }),
-        (b"copy 3 3", Line::Copy { from: 3, to: 3 }),
-        (b"append 7 12", Line::Append { from: 7, to: 12 }),
-        (b"cut 0 1 4294967295", cut(0, 1, 4294967295)),
-        (b"sort 5 6 0", sort(5, 6, 0)),
-        (
-            b"swap 2 1",
-            Line::Swap {
-                first: 2,
-                second: 1,
-            },
-        ),
-        (b"get 0", Line::Get { object: 0 }),
-        (b"get 4294967295", Line::Get { object: 4294967295 }),
-        (b"force", Line::Force),
-        (b"  put   0  aa ", put(0, b"aa")),
-        (b"put 0 aa\r", put(0, b"aa")),
-        (b"put 0 aa  \r", put(0, b"aa")),
-        (b" force ", Line::Force),
-        (b"force\r", Line::Force),
-        (b"cut  10 20  30", cut(10, 20, 30)),
-        (b"", Line::Skip),
-        (b" ", Line::Skip),
-        (b"     ", Line::Skip),
-        (b"\r", Line::Skip),
-        (b"  \r", Line::Skip),
-        (b"#", Line::Skip),
-        (b"# x", Line::Skip),
-        (b"#put 0 aa", Line::Skip),
-        (b"  # put 0 1 2 3 4 5", Line::Skip),
-        (b"#\r\r", Line::Skip),
-    ]
-}
-
-fn bad_lines() -> [&'static [u8]; 53] {
-    [
-        b"put",
-        b"put 0",
-        b"put 0 ",
-        b"put 0 a",
-        b"put 0 aab",
-        b"put 0 ag",
-        b"put 0 --",
-        b"put 0 -a",
-        b"put 00 aa",
-        b"put 01 aa",
-        b"put x aa",
-        b"put 4294967296 aa",
-        b"put 0 aa bb",
-        b"put 0 aa # x",
-        b"put # aa",
-        b"put 0 aa\r\r",
-        b"\rput 0 aa",
-        b"put 0\raa",
-        b"PUT 0 aa",
-        b"Put 0 aa",
-        b"put\t0 aa",
-        b"put0 aa",
-        b"copy",
-        b"copy 0",
-        b"copy 00 1",
-        b"copy 0 01",
-        b"copy 0 1 2",
-        b"copy 0 -",
-        b"append 0",
-        b"append 0 1 2",
-        b"cut 0 1",
-        b"cut 0 1 2 3",
-        b"cut 0 1 x",
-        b"sort 0 1",
-        b"Sort 0 1 1",
-        b"sort 0 1 2 3",
-        b"swap 0",
-        b"swap 0 1 2",
-        b"swap 0 4294967296",
-        b"get",
-        b"get 00",
-        b"get 0 1",
-        b"get -1",
-        b"get +1",
-        b"get 18446744073709551616",
-        b"force 1",
-        b"Force",
-        b"forced",
-        b"forc",
-        b"dump",
-        b"x # y",
-        b"\x00",
-        b"\r ",
-    ]
-}
+const BAD: [&[u8]; 53] = [
+    b"put",
+    b"put 0",
+    b"put 0 ",
+    b"put 0 a",
+    b"put 0 aab",
+    b"put 0 ag",
+    b"put 0 --",
+    b"put 0 -a",
+    b"put 00 aa",
+    b"put 01 aa",
+    b"put x aa",
+    b"put 4294967296 aa",
+    b"put 0 aa bb",
+    b"put 0 aa # x",
+    b"put # aa",
+    b"put 0 aa\r\r",
+    b"\rput 0 aa",
+    b"put 0\raa",
+    b"PUT 0 aa",
+    b"Put 0 aa",
+    b"put\t0 aa",
+    b"put0 aa",
+    b"copy",
+    b"copy 0",
+    b"copy 00 1",
+    b"copy 0 01",
+    b"copy 0 1 2",
+    b"copy 0 -",
+    b"append 0",
+    b"append 0 1 2",
+    b"cut 0 1",
+    b"cut 0 1 2 3",
+    b"cut 0 1 x",
+    b"sort 0 1",
+    b"Sort 0 1 1",
+    b"sort 0 1 2 3",
+    b"swap 0",
+    b"swap 0 1 2",
+    b"swap 0 4294967296",
+    b"get",
+    b"get 00",
+    b"get 0 1",
+    b"get -1",
+    b"get +1",
+    b"get 18446744073709551616",
+    b"force 1",
+    b"Force",
+    b"forced",
+    b"forc",
+    b"dump",
+    b"x # y",
+    b"\x00",
+    b"\r ",
+];
 
 #[test]
 fn lines_are_parsed(rt: HostRuntime) {
-    for (line, want) in good_lines() {
+    for (line, want) in FORMS {
         assert_eq!(rt; parse_line(line), Ok(want), "{line:?}");
     }
-    for line in bad_lines() {
-        assert_eq!(rt; parse_line(line), Err(Bad), "{line:?}");
+    for (line, plain) in SPACED {
+        assert_eq!(rt; parse_line(line), parse_line(plain), "{line:?}");
+        assert!(rt; parse_line(plain).is_ok(), "{plain:?}");
+    }
+    for line in SKIPPED {
+        assert!(rt; is_skipped(line), "{line:?}");
+    }
+    for line in BAD {
+        assert!(rt; is_bad(line), "{line:?}");
     }
 }
 
@@ -149,14 +165,16 @@ fn the_longest_line(rt: HostRuntime) -> Result<(), Fail> {
     Ok(())
 }
 
+// Lines of a put, and the bytes of its value.
+const HEX: [(&[u8], &[u8]); 3] = [
+    (b"put 0 -", &[]),
+    (b"put 0 00", &[0]),
+    (b"put 0 09aAfFC3", &[0x09, 0xaa, 0xff, 0xc3]),
+];
+
 #[test]
 fn hex_is_read(rt: HostRuntime) -> Result<(), Fail> {
-    let cases: [(&[u8], &[u8]); 3] = [
-        (b"put 0 -", &[]),
-        (b"put 0 00", &[0]),
-        (b"put 0 09aAfFC3", &[0x09, 0xaa, 0xff, 0xc3]),
-    ];
-    for (line, want) in cases {
+    for (line, want) in HEX {
         if let Ok(Line::Put { hex, .. }) = parse_line(line) {
             assert_eq!(rt; hex_bytes(rt.alloc(), hex)?.as_slice(), want);
         } else {
@@ -166,48 +184,68 @@ fn hex_is_read(rt: HostRuntime) -> Result<(), Fail> {
     Ok(())
 }
 
-fn object(object: u32, value: &'static [u8]) -> Answer<'static> {
-    Answer::Object { object, value }
-}
+// Answers, and their texts.
+const TEXTS: [(Answer<'static>, &[u8]); 22] = [
+    (Answer::Done, b"ok"),
+    (Answer::Value(&[]), b"-"),
+    (Answer::Value(&[0x00, 0x9a, 0xff]), b"009aff"),
+    (Answer::Forced(0), b"forced 0"),
+    (
+        Answer::Forced(18446744073709551615),
+        b"forced 18446744073709551615",
+    ),
+    (Answer::Bad, b"bad"),
+    (Answer::Refused(Refusal::NoObject), b"refused NoObject"),
+    (Answer::Refused(Refusal::Same), b"refused Same"),
+    (Answer::Refused(Refusal::BadPlace), b"refused BadPlace"),
+    (Answer::Refused(Refusal::BadWidth), b"refused BadWidth"),
+    (Answer::Refused(Refusal::NotApp), b"refused NotApp"),
+    (Answer::Refused(Refusal::NoInput), b"refused NoInput"),
+    (Answer::Refused(Refusal::NotNode), b"refused NotNode"),
+    (Answer::Refused(Refusal::NoKey), b"refused NoKey"),
+    (Answer::Refused(Refusal::NodeFull), b"refused NodeFull"),
+    (Answer::Refused(Refusal::TooLarge), b"refused TooLarge"),
+    (
+        Answer::Full {
+            used: 5248,
+            need: 902,
+            limit: 6144,
+        },
+        b"full 5248 902 6144",
+    ),
+    (
+        Answer::End {
+            number: 4611686018427387904,
+        },
+        b"end 4611686018427387904",
+    ),
+    (
+        Answer::Object {
+            object: 0,
+            value: &[0xaa],
+        },
+        b"0 aa",
+    ),
+    (
+        Answer::Object {
+            object: 4294967295,
+            value: &[0x0f, 0xf0],
+        },
+        b"4294967295 0ff0",
+    ),
+    (
+        Answer::Object {
+            object: 1,
+            value: &[],
+        },
+        b"1 -",
+    ),
+    (Answer::Commands(1), b"commands 1"),
+];
 
 #[test]
 fn answers_have_their_texts(rt: HostRuntime) -> Result<(), Fail> {
-    let full = Answer::Full {
-        used: 5248,
-        need: 902,
-        limit: 6144,
-    };
-    let end = Answer::End {
-        number: 4611686018427387904,
-    };
-    let cases: [(Answer<'_>, &[u8]); 22] = [
-        (Answer::Done, b"ok"),
-        (Answer::Value(&[]), b"-"),
-        (Answer::Value(&[0x00, 0x9a, 0xff]), b"009aff"),
-        (Answer::Forced(0), b"forced 0"),
-        (
-            Answer::Forced(18446744073709551615),
-            b"forced 18446744073709551615",
-        ),
-        (Answer::Bad, b"bad"),
-        (Answer::Refused(Refusal::NoObject), b"refused NoObject"),
-        (Answer::Refused(Refusal::Same), b"refused Same"),
-        (Answer::Refused(Refusal::BadPlace), b"refused BadPlace"),
-        (Answer::Refused(Refusal::BadWidth), b"refused BadWidth"),
-        (Answer::Refused(Refusal::NotApp), b"refused NotApp"),
-        (Answer::Refused(Refusal::NoInput), b"refused NoInput"),
-        (Answer::Refused(Refusal::NotNode), b"refused NotNode"),
-        (Answer::Refused(Refusal::NoKey), b"refused NoKey"),
-        (Answer::Refused(Refusal::NodeFull), b"refused NodeFull"),
-        (Answer::Refused(Refusal::TooLarge), b"refused TooLarge"),
-        (full, b"full 5248 902 6144"),
-        (end, b"end 4611686018427387904"),
-        (object(0, &[0xaa]), b"0 aa"),
-        (object(4294967295, &[0x0f, 0xf0]), b"4294967295 0ff0"),
-        (object(1, &[]), b"1 -"),
-        (Answer::Commands(1), b"commands 1"),
-    ];
-    for (answer, want) in cases {
+    for (answer, want) in TEXTS {
         assert_eq!(rt; answer_text(rt.alloc(), &answer)?.as_slice(), want);
     }
     let line = answer_line(rt.alloc(), &Answer::Forced(3))?;
@@ -223,50 +261,54 @@ fn strings(alloc: Global, words: &[&str]) -> Result<Vec<String>, Fail> {
     Ok(strings)
 }
 
+const LARGEST: Params = Params {
+    objects: 4096,
+    cap: 16384,
+    limit: 536870912,
+};
+
+const LEAST: Params = Params {
+    objects: 1,
+    cap: 16,
+    limit: 4128,
+};
+
+// Words, and what they ask.
+const WORDS: [(&[&str], Option<Asked>); 23] = [
+    (&["redo", "run"], Some(Asked::Run)),
+    (&["redo", "dump"], Some(Asked::Dump)),
+    (&["redo", "dump", "run"], None),
+    (&["redo", "Dump"], None),
+    (
+        &["redo", "init", "1", "16", "4128"],
+        Some(Asked::Init(LEAST)),
+    ),
+    (
+        &["redo", "init", "4096", "16384", "536870912"],
+        Some(Asked::Init(LARGEST)),
+    ),
+    (&[], None),
+    (&["redo"], None),
+    (&["redo", "fly"], None),
+    (&["redo", "--help"], None),
+    (&["redo", "Run"], None),
+    (&["redo", "run", "run"], None),
+    (&["redo", "init"], None),
+    (&["redo", "init", "8", "64"], None),
+    (&["redo", "init", "8", "64", "65536", "1"], None),
+    (&["redo", "init", "0", "64", "65536"], None),
+    (&["redo", "init", "4097", "64", "65536"], None),
+    (&["redo", "init", "8", "15", "65536"], None),
+    (&["redo", "init", "8", "16385", "65536"], None),
+    (&["redo", "init", "8", "64", "4223"], None),
+    (&["redo", "init", "8", "64", "536870913"], None),
+    (&["redo", "init", "+8", "64", "65536"], None),
+    (&["redo", "init", "008", "64", "65536"], None),
+];
+
 #[test]
 fn words_are_read(rt: HostRuntime) -> Result<(), Fail> {
-    let largest = Params {
-        objects: 4096,
-        cap: 16384,
-        limit: 536870912,
-    };
-    let least = Params {
-        objects: 1,
-        cap: 16,
-        limit: 4128,
-    };
-    let cases: [(&[&str], Option<Asked>); 23] = [
-        (&["redo", "run"], Some(Asked::Run)),
-        (&["redo", "dump"], Some(Asked::Dump)),
-        (&["redo", "dump", "run"], None),
-        (&["redo", "Dump"], None),
-        (
-            &["redo", "init", "1", "16", "4128"],
-            Some(Asked::Init(least)),
-        ),
-        (
-            &["redo", "init", "4096", "16384", "536870912"],
-            Some(Asked::Init(largest)),
-        ),
-        (&[], None),
-        (&["redo"], None),
-        (&["redo", "fly"], None),
-        (&["redo", "--help"], None),
-        (&["redo", "Run"], None),
-        (&["redo", "run", "run"], None),
-        (&["redo", "init"], None),
-        (&["redo", "init", "8", "64"], None),
-        (&["redo", "init", "8", "64", "65536", "1"], None),
-        (&["redo", "init", "0", "64", "65536"], None),
-        (&["redo", "init", "4097", "64", "65536"], None),
-        (&["redo", "init", "8", "15", "65536"], None),
-        (&["redo", "init", "8", "16385", "65536"], None),
-        (&["redo", "init", "8", "64", "4223"], None),
-        (&["redo", "init", "8", "64", "536870913"], None),
-        (&["redo", "init", "+8", "64", "65536"], None),
-        (&["redo", "init", "008", "64", "65536"], None),
-    ];
-    for (words, want) in cases {
+    for (words, want) in WORDS {
         let words = strings(rt.alloc(), words)?;
         assert_eq!(rt; read_words(words.as_slice()), want);
     }
@@ -317,28 +359,30 @@ impl Source for Broken {
     }
 }
 
+// Scripts, and what comes of them line by line.
+const SCRIPTS: [(&[u8], &[(Next, &[u8])]); 5] = [
+    (b"", &[(Next::End, b"")]),
+    (b"\n", &[(Next::Line, b""), (Next::End, b"")]),
+    (
+        b"ab\nc",
+        &[(Next::Line, b"ab"), (Next::Line, b"c"), (Next::End, b"")],
+    ),
+    (b"ab\n", &[(Next::Line, b"ab"), (Next::End, b"")]),
+    (
+        b"\n\na\r\n",
+        &[
+            (Next::Line, b""),
+            (Next::Line, b""),
+            (Next::Line, b"a\r"),
+            (Next::End, b""),
+        ],
+    ),
+];
+
 #[test]
 fn lines_are_read(rt: HostRuntime) -> Result<(), Fail> {
-    let cases: [(&[u8], &[(Next, &[u8])]); 5] = [
-        (b"", &[(Next::End, b"")]),
-        (b"\n", &[(Next::Line, b""), (Next::End, b"")]),
-        (
-            b"ab\nc",
-            &[(Next::Line, b"ab"), (Next::Line, b"c"), (Next::End, b"")],
-        ),
-        (b"ab\n", &[(Next::Line, b"ab"), (Next::End, b"")]),
-        (
-            b"\n\na\r\n",
-            &[
-                (Next::Line, b""),
-                (Next::Line, b""),
-                (Next::Line, b"a\r"),
-                (Next::End, b""),
-            ],
-        ),
-    ];
     for size in [1, 2, 100] {
-        for (script, wants) in cases {
+        for (script, wants) in SCRIPTS {
             let mut source = Pieces { left: script, size };
             let mut reader = LineReader::new(rt.alloc())?;
             for (next, line) in wants {

@@ -39,73 +39,75 @@ struct Row<'a> {
     nodes: &'a [Node<'a>],
 }
 
+const ROWS: [Row<'static>; 8] = [
+    Row {
+        first: 1,
+        operations: &[PUT_0, COPY_0_1, PUT_0],
+        starts: &[(0, 1), (1, 2)],
+        minimal_from_2: Some(2),
+        nodes: &[(&[2], &[1]), (&[1], &[]), (&[3], &[0])],
+    },
+    Row {
+        first: 1,
+        operations: &[COPY_0_1, COPY_1_0],
+        starts: &[(0, 2), (1, 1)],
+        minimal_from_2: None,
+        nodes: &[(&[1], &[1]), (&[2], &[0])],
+    },
+    Row {
+        first: 1,
+        operations: &[COPY_0_1, COPY_1_0, PUT_1],
+        starts: &[(0, 2), (1, 1)],
+        minimal_from_2: None,
+        nodes: &[(&[1, 2], &[0]), (&[3], &[1])],
+    },
+    Row {
+        first: 1,
+        operations: &[PUT_0, PUT_1, SWAP_0_1],
+        starts: &[(0, 1), (1, 2)],
+        minimal_from_2: None,
+        nodes: &[(&[1, 2, 3], &[0, 1])],
+    },
+    Row {
+        first: 1,
+        operations: &[PUT_0, PUT_1, SWAP_0_1, PUT_1],
+        starts: &[(0, 1), (1, 2)],
+        minimal_from_2: None,
+        nodes: &[(&[1, 2, 3], &[0]), (&[4], &[1])],
+    },
+    Row {
+        first: 1,
+        operations: &[PUT_1, APPEND_0_1],
+        starts: &[(1, 1)],
+        minimal_from_2: None,
+        nodes: &[(&[1, 2], &[1])],
+    },
+    Row {
+        first: 2,
+        operations: &[PUT_1, SWAP_0_1, PUT_1],
+        starts: &[(0, 3), (1, 2)],
+        minimal_from_2: Some(2),
+        nodes: &[(&[2, 3], &[0]), (&[4], &[1])],
+    },
+    Row {
+        first: 1,
+        operations: &[PUT_0, COPY_0_1, COPY_0_2, COPY_0_3, COPY_0_4, PUT_0],
+        starts: &[(0, 1), (1, 2), (2, 3), (3, 4), (4, 5)],
+        minimal_from_2: Some(2),
+        nodes: &[
+            (&[2], &[1]),
+            (&[3], &[2]),
+            (&[4], &[3]),
+            (&[5], &[4]),
+            (&[1], &[]),
+            (&[6], &[0]),
+        ],
+    },
+];
+
 #[test]
 fn answers_worked_tables(rt: HostRuntime) -> Result<(), Fail> {
-    for row in [
-        Row {
-            first: 1,
-            operations: &[PUT_0, COPY_0_1, PUT_0],
-            starts: &[(0, 1), (1, 2)],
-            minimal_from_2: Some(2),
-            nodes: &[(&[2], &[1]), (&[1], &[]), (&[3], &[0])],
-        },
-        Row {
-            first: 1,
-            operations: &[COPY_0_1, COPY_1_0],
-            starts: &[(0, 2), (1, 1)],
-            minimal_from_2: None,
-            nodes: &[(&[1], &[1]), (&[2], &[0])],
-        },
-        Row {
-            first: 1,
-            operations: &[COPY_0_1, COPY_1_0, PUT_1],
-            starts: &[(0, 2), (1, 1)],
-            minimal_from_2: None,
-            nodes: &[(&[1, 2], &[0]), (&[3], &[1])],
-        },
-        Row {
-            first: 1,
-            operations: &[PUT_0, PUT_1, SWAP_0_1],
-            starts: &[(0, 1), (1, 2)],
-            minimal_from_2: None,
-            nodes: &[(&[1, 2, 3], &[0, 1])],
-        },
-        Row {
-            first: 1,
-            operations: &[PUT_0, PUT_1, SWAP_0_1, PUT_1],
-            starts: &[(0, 1), (1, 2)],
-            minimal_from_2: None,
-            nodes: &[(&[1, 2, 3], &[0]), (&[4], &[1])],
-        },
-        Row {
-            first: 1,
-            operations: &[PUT_1, APPEND_0_1],
-            starts: &[(1, 1)],
-            minimal_from_2: None,
-            nodes: &[(&[1, 2], &[1])],
-        },
-        Row {
-            first: 2,
-            operations: &[PUT_1, SWAP_0_1, PUT_1],
-            starts: &[(0, 3), (1, 2)],
-            minimal_from_2: Some(2),
-            nodes: &[(&[2, 3], &[0]), (&[4], &[1])],
-        },
-        Row {
-            first: 1,
-            operations: &[PUT_0, COPY_0_1, COPY_0_2, COPY_0_3, COPY_0_4, PUT_0],
-            starts: &[(0, 1), (1, 2), (2, 3), (3, 4), (4, 5)],
-            minimal_from_2: Some(2),
-            nodes: &[
-                (&[2], &[1]),
-                (&[3], &[2]),
-                (&[4], &[3]),
-                (&[5], &[4]),
-                (&[1], &[]),
-                (&[6], &[0]),
-            ],
-        },
-    ] {
+    for row in ROWS {
         check_row(&rt, rt.alloc(), row)?;
     }
     Ok(())

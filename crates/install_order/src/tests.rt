@@ -1,0 +1,164 @@
+// What no clause says: the worked tables, by the code itself.
+use crate::{Entry, closed, edge, exposed};
+use oper_core::Objs;
+use std::alloc::Global;
+use std::test::Fail;
+
+/// The operations of the worked tables, by the objects that they access.
+#[derive(Clone, Copy, Debug)]
+enum Kind {
+    Put(u32),
+    Copy(u32, u32),
+    Append(u32, u32),
+    Swap(u32, u32),
+}
+
+fn both(left: u32, right: u32) -> Objs {
+    let mut objects = Objs::one(left);
+    objects.push(right);
+    objects
+}
+
+fn entry(lsn: u64, kind: Kind) -> Entry {
+    let (reads, writes) = match kind {
+        Kind::Put(x) => (Objs::new(), Objs::one(x)),
+        Kind::Copy(from, to) => (Objs::one(from), Objs::one(to)),
+        Kind::Append(from, to) => (both(from, to), Objs::one(to)),
+        Kind::Swap(left, right) => (both(left, right), both(left, right)),
+    };
+    Entry { lsn, reads, writes }
+}
+
+/// The operations as entries, numbered from `first`.
+fn entries_of(alloc: Global, first: u32, kinds: &[Kind]) -> Result<Vec<Entry>, Fail> {
+    let mut entries = Vec::new(alloc);
+    for (place, kind) in kinds.iter().enumerate() {
+        entries.push(entry(first as u64 + place as u64, *kind))?;
+    }
+    Ok(entries)
+}
+
+/// Operations, numbered from the first number, and all edges between them.
+const EDGES: [(u32, &[Kind], &[(u64, u64)]); 11] = [
+    (
+        1,
+        &[Kind::Put(0), Kind::Copy(0, 1), Kind::Put(0)],
+        &[(1, 3), (2, 3), (2, 1)],
+    ),
+    (1, &[Kind::Copy(0, 1), Kind::Copy(1, 0)], &[(1, 2)]),
+    (
+        1,
+        &[Kind::Copy(0, 1), Kind::Copy(1, 0), Kind::Put(1)],
+        &[(1, 2), (2, 3), (1, 3), (2, 1)],
+    ),
+    (
+        1,
+        &[Kind::Put(0), Kind::Put(1), Kind::Swap(0, 1)],
+        &[(1, 3), (2, 3), (3, 1), (3, 2)],
+    ),
+    (
+        1,
+        &[Kind::Put(0), Kind::Put(1), Kind::Swap(0, 1), Kind::Put(1)],
+        &[(1, 3), (2, 3), (3, 1), (3, 2), (2, 4), (3, 4)],
+    ),
+    (1, &[Kind::Put(1), Kind::Append(0, 1)], &[(1, 2), (2, 1)]),
+    (
+        1,
+        &[
+            Kind::Put(0),
+            Kind::Copy(0, 1),
+            Kind::Copy(0, 2),
+            Kind::Copy(0, 3),
+            Kind::Copy(0, 4),
+            Kind::Put(0),
+        ],
+        &[
+            (1, 6),
+            (2, 1),
+            (2, 6),
+            (3, 1),
+            (3, 6),
+            (4, 1),
+            (4, 6),
+            (5, 1),
+            (5, 6),
+        ],
+    ),
+    (
+        1,
+        &[Kind::Put(0), Kind::Put(0), Kind::Copy(0, 1), Kind::Put(0)],
+        &[(1, 2), (1, 4), (2, 4), (3, 4), (3, 2)],
+    ),
+    (1, &[Kind::Put(0), Kind::Copy(0, 1)], &[]),
+    (
+        1,
+        &[
+            Kind::Swap(0, 1),
+            Kind::Copy(2, 1),
+            Kind::Copy(0, 2),
+            Kind::Put(0),
+        ],
+        &[(1, 2), (2, 3), (3, 1), (1, 4), (3, 4)],
+    ),
+    (
+        2,
+        &[Kind::Copy(2, 1), Kind::Copy(0, 2), Kind::Put(0)],
+        &[(2, 3), (3, 4)],
+    ),
+];
+
+#[test]
+fn worked_edges(rt: HostRuntime) -> Result<(), Fail> {
+    for (first, kinds, edges) in EDGES {
+        let entries = entries_of(rt.alloc(), first, kinds)?;
+        for a in 1..8 {
+            for b in 1..8 {
+                let wanted = edges.iter().any(|e| e.0 == a && e.1 == b);
+                let found = edge(a, b, entries.as_slice());
+                assert_eq!(rt; found, wanted, "{a} to {b} in {kinds:?}");
+            }
+        }
+    }
+    Ok(())
+}
+
+const OVERWRITTEN: &[Kind] = &[Kind::Put(0), Kind::Copy(0, 1), Kind::Put(0)];
+
+const SWAPPED: &[Kind] = &[Kind::Put(0), Kind::Put(1), Kind::Swap(0, 1)];
+
+const APPENDED: &[Kind] = &[Kind::Put(1), Kind::Append(0, 1)];
+
+/// Operations, the installed ones, whether they are closed, and which of the objects 0, 1 and 2 are exposed.
+const SETS: [(&[Kind], &[u64], bool, [bool; 3]); 14] = [
+    (OVERWRITTEN, &[], true, [false, false, true]),
+    (OVERWRITTEN, &[1], true, [true, false, true]),
+    (OVERWRITTEN, &[2], true, [false, true, true]),
+    (OVERWRITTEN, &[3], false, [false, false, true]),
+    (OVERWRITTEN, &[1, 3], false, [true, false, true]),
+    (OVERWRITTEN, &[2, 3], false, [false, true, true]),
+    (OVERWRITTEN, &[1, 2], true, [false, true, true]),
+    (OVERWRITTEN, &[3, 2, 1], true, [true, true, true]),
+    (SWAPPED, &[1], true, [true, false, true]),
+    (SWAPPED, &[2, 1], true, [true, true, true]),
+    (SWAPPED, &[3], false, [false, false, true]),
+    (APPENDED, &[], true, [true, false, true]),
+    (APPENDED, &[1], true, [true, true, true]),
+    (APPENDED, &[2], false, [true, false, true]),
+];
+
+#[test]
+fn worked_sets(rt: HostRuntime) -> Result<(), Fail> {
+    for (kinds, installed, is_closed, are_exposed) in SETS {
+        let entries = entries_of(rt.alloc(), 1, kinds)?;
+        assert_eq!(rt;
+            closed(installed, entries.as_slice()),
+            is_closed,
+            "{installed:?}"
+        );
+        for (x, is_exposed) in (0..3).zip(are_exposed.iter()) {
+            let found = exposed(x, installed, entries.as_slice());
+            assert_eq!(rt; found, *is_exposed, "{x} over {installed:?}");
+        }
+    }
+    Ok(())
+}
