@@ -19,7 +19,7 @@ const FORMS: [(&[u8], Line<'static>); 8] = [
             hex: b"00FfA9",
         },
     ),
-    (b"copy 3 3", Line::Copy { from: 3, to: 3 }),
+    (b"copy 0 1", Line::Copy { from: 0, to: 1 }),
     (b"append 7 12", Line::Append { from: 7, to: 12 }),
     (
         b"cut 0 1 4294967295",
@@ -49,10 +49,11 @@ const FORMS: [(&[u8], Line<'static>); 8] = [
 ];
 
 // Lines, and the plain ones that ask the same.
-const SPACED: [(&[u8], &[u8]); 7] = [
+const SPACED: [(&[u8], &[u8]); 8] = [
     (b"  put   0  aa ", b"put 0 aa"),
     (b"put 0 aa\r", b"put 0 aa"),
     (b"put 0 -  \r", b"put 0 -"),
+    (b" copy  3 3", b"copy 3 3"),
     (b" force ", b"force"),
     (b"force\r", b"force"),
     (b"cut  10 20  30", b"cut 10 20 30"),
