@@ -1,0 +1,10 @@
+# A stream that is closed is a fault of the output or of the input, and no answer goes into a file of the store.
+redo init 2 16 4128
+printf 'put 0 aa\nforce\n' | redo run
+redo init 2 16 4128 >&-
+echo "init: status $?"
+redo dump >&-
+echo "dump: status $?"
+redo run <&-
+echo "run: status $?"
+redo dump 2>&-
