@@ -7,4 +7,13 @@ redo dump >&-
 echo "dump: status $?"
 redo run <&-
 echo "run: status $?"
-redo dump 2>&-
+
+# The program itself, started without the launcher: an input that is closed is an empty script.
+program=$(dirname "$(readlink -f "$(command -v redo)")")/crates/redo/out/redo
+"$program" init 2 16 4128 >&-
+echo "init: status $?"
+"$program" dump <&- >&-
+echo "dump: status $?"
+"$program" run <&-
+echo "run: status $?"
+redo dump
