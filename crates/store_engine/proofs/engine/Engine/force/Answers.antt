@@ -1,4 +1,4 @@
-use Rattle.std.proofs.Common.{◌∙◌, ap, sym, subst, true}
+use Rattle.std.proofs.Common.{rules, ◌∙◌, ap, sym, subst, true}
 use Rattle.log_records.specs.RecordLog.{RecordLogView}
 use Rattle.store_engine.specs.Engine.{EngineView, IsAttached}
 use Rattle.store_engine.proofs.Holding.{forced_all, forced_between, attached_after}
@@ -26,3 +26,15 @@ returns-in-Err-clause-attached g c is =
     attached_after (g.M.Machine.disk c.args.machine.now) (g.M.Machine.disk c.force.new.m) c.self.inside.objects c.self.inside.log c.force.new.self c.self.inside.broken true
     c.force.ensures.runs (ap (λ (v : RecordLogView). v.log.active) c.in-Err.ensures.kept)
     (subst (λ (e : EngineView). IsAttached (g.M.Machine.disk c.args.machine.now) e) (sym c.self.view_is) is)
+
+pub returns-in-Err-clause-broken : goal.returns-in-Err-clause-broken
+returns-in-Err-clause-broken g c = search rules
+
+pub returns-in-Err-clause-ok : goal.returns-in-Err-clause-ok
+returns-in-Err-clause-ok g c = search rules
+
+pub returns-in-Err-clause-log : goal.returns-in-Err-clause-log
+returns-in-Err-clause-log g c = search rules
+
+pub returns-in-Err-clause-emptied : goal.returns-in-Err-clause-emptied
+returns-in-Err-clause-emptied g c = search rules
