@@ -5,28 +5,23 @@ use Rattle.std.specs.List.{AllByRecursion}
 use Rattle.std.proofs.lemmas.Bool.{cases_lt, cases_eq, cases_Bool, both_ways, or_left, or_right, or_cases, eq-eqb, eqb-true, false_from_ne_true}
 use Rattle.std.proofs.lemmas.List.{take-append-le}
 use Rattle.std.proofs.lemmas.Option.{slice_get_past}
+use mathlib.Core.Path.{fun_ext}
 use Rattle.install_order.specs.Order.{Access, IsClosed, IsExposed}
 use Rattle.oper_core.specs.State.{is_among}
-use Rattle.oper_core.specs.Meaning.{Meaning}
+use Rattle.oper_core.specs.Meaning.{Meaning, Accepts}
 use Rattle.explain_core.specs.History.{commands_of, Member, accesses_of, value_at, writes_of, made_by, writes_some, IsHistory, IsMember}
 use Rattle.explain_core.specs.History.Member.{Command, Identity}
 use Rattle.explain_core.specs.Explains.{Cell, Explains}
 use Rattle.explain_core.specs.World.{World, Table, step, IsLive, end_of, plan_of, MayAppend, set_by}
 use Rattle.explain_core.specs.World.Step.{Append}
 use Rattle.explain_core.specs.Sound.{IsSound, SkipsNothing, and_below}
-use Rattle.explain_core.proofs.Members.{accepted-in_grammar}
-use Rattle.explain_core.proofs.Basics.{IsFront, front-append, value_at-append, value_at-same, slice_get-front}
+use Rattle.explain_core.proofs.Basics.{IsFront, front-append, value_at-append, value_at-same, slice_get-front, slice_get-last}
+use Rattle.explain_core.proofs.Groups.{group-append}
 use Rattle.explain_core.proofs.Core.{Explains-more, slots-whole}
 use Rattle.explain_core.proofs.Crash.{history-at}
 use Rattle.explain_core.proofs.Gate.{all_fit-later}
 use Rattle.explain_core.proofs.Set.{IsSetAt, Explains-fresh, read-right, made_by-same, value_at-still, in-below, in-cases, out-parts}
-
-slice_get-last : {X : Type 0} (h : List X) (x : X) → slice_get (h ++ x ∷ []) (length h) ≡ Some x
-slice_get-last [] x = refl
-slice_get-last (y ∷ h) x = slice_get-last h x
-
-pub no-writes : {O : Type 0} (m : Meaning O) (h : List (Member O)) (k x : ℕ) → length h < k → IsFalse ((accesses_of m h).writes k x)
-no-writes m h k x lt = (front-append m h []).no_writes k x lt
+use Rattle.explain_core.specs.GraphLaws.{no-writes}
 
 -- the cell that is set, and one that is not
 pub set_at : {O : Type 0} (m : Meaning O) (o : Option (Member O)) (chosen : ℕ → Bool) (n k : ℕ) (c : ℕ → Cell) (x : ℕ) (v : List ℕ) → IsTrue (chosen x) → n ≡ k → made_by m o (λ y. (c y).value) x ≡ v → set_by m o chosen n c x ≡ record { id = k; value = v }
@@ -66,7 +61,7 @@ history-append {O} m h member e new k =
 
 -- the appended member is in its place
 may-member : {O : Type 0} (m : Meaning O) (w : World O) (before : ℕ → List ℕ) (member : Member O) → ((x : ℕ) → (w.cache x).value ≡ before x) → MayAppend m w member → IsMember m before member
-may-member {O} m w before (Command op) same may = accepted-in_grammar m (λ x. (w.cache x).value) op may
+may-member {O} m w before (Command op) same may = subst (λ (state : ℕ → List ℕ). Accepts m state op) (fun_ext same) may
 may-member m w before (Identity x v) same may = (may.0, may.1 ∙ same x)
 
 -- the checks skip nothing of the longer history either
@@ -186,4 +181,5 @@ append_sound {O} m w member live may s =
               (λ le. absurd (omega arith)),
             )
       ];
+      group = group-append m w member may s.group;
     }

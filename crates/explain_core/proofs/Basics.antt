@@ -1,16 +1,10 @@
 -- Histories: members, accesses and values of a front.
-use Rattle.std.proofs.Common.{◌≡◌, ◌∙◌, ℕ, zero, suc, ◌<◌, ◌≤◌, false, List, [], ◌∷◌, ◌++◌, length, take, refl, ap, arith, Option, None, length-take}
+use Rattle.std.proofs.Common.{◌≡◌, ◌∙◌, ℕ, zero, suc, ◌+◌, ◌<◌, ◌≤◌, false, List, [], ◌∷◌, ◌++◌, length, take, refl, ap, arith, Option, Some, length-take}
 use Rattle.std.specs.Prelude.{slice_get}
-use Rattle.std.proofs.lemmas.Option.{slice_get_past}
 use Rattle.install_order.specs.Order.{Access}
 use Rattle.oper_core.specs.Meaning.{Meaning}
 use Rattle.explain_core.specs.History.{Member, value_at, made_by, numbered, accesses_of, reads_some, writes_some}
-
-pub slice_get-take : {X : Type 0} (h : List X) (f i : ℕ) → i < f → slice_get (take f h) i ≡ slice_get h i
-slice_get-take h zero i lt = absurd (omega arith)
-slice_get-take [] (suc f) i lt = refl
-slice_get-take (x ∷ xs) (suc f) zero lt = refl
-slice_get-take (x ∷ xs) (suc f) (suc i) lt = slice_get-take xs f i (omega arith)
+use Rattle.explain_core.specs.GraphLaws.{numbered-past, numbered-take, slice_get-take}
 
 pub slice_get-front : {X : Type 0} (h t : List X) (i : ℕ) → i < length h → slice_get (h ++ t) i ≡ slice_get h i
 slice_get-front [] t i lt = absurd (omega arith)
@@ -35,13 +29,16 @@ pub record IsFront (t a : Access) (n : ℕ) : Type 0 where
   pub no_reads : (k x : ℕ) → n < k → t.reads k x ≡ false
   pub no_writes : (k x : ℕ) → n < k → t.writes k x ≡ false
 
-numbered-past : {O : Type 0} (h : List (Member O)) (n : ℕ) → length h < n → numbered h n ≡ None
-numbered-past h zero lt = refl
-numbered-past h (suc n) lt = slice_get_past h n (omega arith)
-
-numbered-front : {O : Type 0} (h t : List (Member O)) (n : ℕ) → n ≤ length h → numbered h n ≡ numbered (h ++ t) n
+pub numbered-front : {O : Type 0} (h t : List (Member O)) (n : ℕ) → n ≤ length h → numbered h n ≡ numbered (h ++ t) n
 numbered-front h t zero le = refl
 numbered-front h t (suc n) le = rw slice_get-front refl
+
+pub slice_get-last : {X : Type 0} (h : List X) (x : X) → slice_get (h ++ x ∷ []) (length h) ≡ Some x
+slice_get-last [] x = refl
+slice_get-last (y ∷ h) x = slice_get-last h x
+
+pub numbered-last : {O : Type 0} (h : List (Member O)) (member : Member O) → numbered (h ++ member ∷ []) (length h + 1) ≡ Some member
+numbered-last h member = let e : length h + 1 ≡ suc (length h) = omega arith in ap (λ n. numbered (h ++ member ∷ []) n) e ∙ slice_get-last h member
 
 pub front-append : {O : Type 0} (m : Meaning O) (h t : List (Member O)) → IsFront (accesses_of m h) (accesses_of m (h ++ t)) (length h)
 front-append m h t = record {
@@ -50,10 +47,6 @@ front-append m h t = record {
   no_reads = λ k x lt. ap (λ o. reads_some m o x) (numbered-past h k lt);
   no_writes = λ k x lt. ap (λ o. writes_some m o x) (numbered-past h k lt);
 }
-
-numbered-take : {O : Type 0} (h : List (Member O)) (f n : ℕ) → n ≤ f → numbered (take f h) n ≡ numbered h n
-numbered-take h f zero le = refl
-numbered-take h f (suc n) le = slice_get-take h f n (omega arith)
 
 pub front-take : {O : Type 0} (m : Meaning O) (h : List (Member O)) (f : ℕ) → f ≤ length h → IsFront (accesses_of m (take f h)) (accesses_of m h) f
 front-take m h f le =

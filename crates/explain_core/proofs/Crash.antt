@@ -13,7 +13,8 @@ use Rattle.explain_core.specs.Explains.{Explains}
 use Rattle.explain_core.specs.World.{World, Table, step, plan_of, start_of, least_of}
 use Rattle.explain_core.specs.World.Step.{Crash}
 use Rattle.explain_core.specs.Sound.{IsSound, SkipsNothing, and_below}
-use Rattle.explain_core.proofs.Basics.{IsFront, front-take, value_at-same, slice_get-take}
+use Rattle.explain_core.proofs.Basics.{IsFront, front-take, value_at-same}
+use Rattle.explain_core.specs.GraphLaws.{slice_get-take}
 use Rattle.explain_core.proofs.Members.{writes-any}
 use Rattle.explain_core.proofs.Core.{Explains-same}
 
@@ -130,4 +131,5 @@ crash_sound {O} m law w s =
       ];
       cache_late = λ n x e out wr. absurd (both_ways _ refl e);
       dirty = λ x ne. absurd (ne refl);
+      group = tt;
     }

@@ -9,8 +9,8 @@ use Rattle.oper_core.specs.Meaning.{Meaning}
 use Rattle.explain_core.specs.History.{Member, accesses_of, value_at}
 use Rattle.explain_core.specs.Explains.{Cell, Explains}
 use Rattle.explain_core.specs.Exact.{last_writer, current, rest_of, CanInstall, IsPartOf}
-use Rattle.explain_core.proofs.Append.{no-writes}
 use Rattle.explain_core.proofs.Install.{MayInstall, Explains-install}
+use Rattle.explain_core.specs.GraphLaws.{no-writes}
 
 last_writer-is : (a : Access) (n x : ℕ) → ((IsTrue (a.writes (last_writer a n x) x) × (last_writer a n x < n)) ⊎ ((last_writer a n x ≡ 0) × ((k : ℕ) → k < n → IsFalse (a.writes k x)))) × ((k : ℕ) → last_writer a n x < k → k < n → IsFalse (a.writes k x))
 last_writer-is a zero x = (inr (refl, λ k lt. absurd (omega arith)), λ k low lt. absurd (omega arith))

@@ -7,11 +7,12 @@ use Rattle.install_order.specs.Order.{Access}
 use Rattle.oper_core.specs.Meaning.{Meaning}
 use Rattle.explain_core.specs.History.{Member, accesses_of, value_at}
 use Rattle.explain_core.specs.Explains.{Explains}
-use Rattle.explain_core.specs.World.{World, Table, step, IsLive}
+use Rattle.explain_core.specs.World.{World, Table, step, IsLive, NoGroup}
 use Rattle.explain_core.specs.World.Step.{Block_gate}
 use Rattle.explain_core.specs.Sound.{IsSound, SkipsNothing}
 use Rattle.explain_core.proofs.Basics.{front-take, value_at-take}
 use Rattle.explain_core.proofs.Core.{Explains-more}
+use Rattle.explain_core.proofs.Groups.{of-none}
 
 fits-later : (a : Access) (i : ℕ → Bool) (base end later : ℕ) (t : Table) → end ≤ later → SkipsNothing a i base end t → SkipsNothing a i base later t
 fits-later a i base end later t le h = record { before = h.before; start = h.start; from_base = h.from_base; next_from_base = h.next_from_base; next_within = omega (arith, h.next_within) }
@@ -24,9 +25,9 @@ all-append : {X : Type 0} (P : X → Type 0) (xs ys : List X) → AllByRecursion
 all-append P [] ys h k = k
 all-append P (x ∷ xs) ys h k = (h.0, all-append P xs ys h.1 k)
 
-pub gate_sound : {O : Type 0} (m : Meaning O) (w : World O) → IsLive w → IsSound m w → IsSound m (step m w Block_gate)
+pub gate_sound : {O : Type 0} (m : Meaning O) (w : World O) → IsLive w → NoGroup w → IsSound m w → IsSound m (step m w Block_gate)
 unfolding step
-gate_sound {O} m w live s =
+gate_sound {O} m w live none s =
     let n = length w.history in
     let a = accesses_of m w.history in
     let within : (k : ℕ) → IsTrue (w.installed k) → k ≤ n = λ k e. omega (arith, s.installed k e, s.forced) in
@@ -51,4 +52,5 @@ gate_sound {O} m w live s =
       cache_right = s.cache_right;
       cache_late = s.cache_late;
       dirty = λ x ne. let d = s.dirty x ne in (d.0, d.1, d.2, λ le. absurd (omega arith));
+      group = of-none w.group _ none;
     }

@@ -1,41 +1,17 @@
 -- The graph of a sound world has nodes, and a minimal one.
-use Rattle.std.proofs.Common.{ℕ, zero, suc, ◌<◌, Bool, List, [], length, refl, arith, inl, inr}
-use Rattle.std.specs.Prelude.{IsTrue, IsFalse, slice_get}
-use Rattle.std.proofs.lemmas.Bool.{cases_lt, both_ways, and_parts}
+use Rattle.std.proofs.Common.{ℕ, Bool, arith}
+use Rattle.std.specs.Prelude.{IsTrue}
+use Rattle.std.proofs.lemmas.Bool.{and_parts}
 use Rattle.install_order.specs.Order.{Access, Edge, Reaches, IsMinimal, within}
 use Rattle.install_order.specs.Order.Edge.{Read_write, Write_write, Lost_version}
 use Rattle.install_order.specs.Order.Reaches.{Here, Then}
-use Rattle.install_order.specs.Computed.{IsWithin, edge_test, reach}
+use Rattle.install_order.specs.Computed.{edge_test, reach}
 use Rattle.install_order.specs.NodeLaws.{minimal-exists, reach-gives, test-gives}
 use Rattle.oper_core.specs.Meaning.{Meaning, IsLawful}
-use Rattle.explain_core.specs.History.{Member, accesses_of, value_at}
+use Rattle.explain_core.specs.History.{accesses_of}
 use Rattle.explain_core.specs.World.{World, graph_access, end_of, node_named}
 use Rattle.explain_core.specs.Sound.{IsSound}
-use Rattle.explain_core.proofs.Basics.{front-append}
-use Rattle.explain_core.proofs.Append.{no-writes}
-use Rattle.explain_core.proofs.Members.{writes-below}
-
-no-reads : {O : Type 0} (m : Meaning O) (h : List (Member O)) (k x : ℕ) → length h < k → IsFalse ((accesses_of m h).reads k x)
-no-reads m h k x lt = (front-append m h []).no_reads k x lt
-
-written-below : {O : Type 0} (m : Meaning O) → IsLawful m → (w : World O) → IsSound m w → (n x : ℕ) → IsTrue ((accesses_of m w.history).writes n x) → x < m.objects
-written-below m law w s zero x e = absurd (both_ways _ refl e)
-written-below m law w s (suc n) x e = writes-below m law (λ y. value_at m w.history n y) (slice_get w.history n) (s.history n) x e
-
-pub graph-within : {O : Type 0} (m : Meaning O) → IsLawful m → (w : World O) → IsSound m w → IsWithin (graph_access m w) m.objects (end_of w)
-graph-within m law w s =
-    let a = accesses_of m w.history in
-    record {
-      writes_number = λ n x e. elim (cases_lt (length w.history) n) [
-        | inl lt ↦ absurd (both_ways _ (no-writes m w.history n x lt) (and_parts (w.graph n) (a.writes n x) e).1)
-        | inr le ↦ omega arith
-      ];
-      writes_object = λ n x e. written-below m law w s n x (and_parts (w.graph n) (a.writes n x) e).1;
-      reads_number = λ n x e. elim (cases_lt (length w.history) n) [
-        | inl lt ↦ absurd (both_ways _ (no-reads m w.history n x lt) (and_parts (w.graph n) (a.reads n x) e).1)
-        | inr le ↦ omega arith
-      ];
-    }
+use Rattle.explain_core.specs.GraphLaws.{graph-within}
 
 -- the ends of an edge over chosen members are chosen
 edge-chosen : (g : ℕ → Bool) (a : Access) (o p : ℕ) → Edge (within g a) o p → IsTrue (g o) × IsTrue (g p)

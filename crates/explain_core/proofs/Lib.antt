@@ -4,6 +4,7 @@ pub mod Members
 pub mod Crash
 pub mod Gate
 pub mod Set
+pub mod Groups
 pub mod Append
 pub mod Replay
 pub mod Install
@@ -12,6 +13,10 @@ pub mod Tables
 pub mod Runs
 pub mod Graph
 pub mod OneState
+pub mod GroupLaws
+pub mod TurnRuns
+pub mod CopiedSlots
+pub mod BackupRuns
 pub mod Fold
 pub mod Exact
 pub mod ByteCodes

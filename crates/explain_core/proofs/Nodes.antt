@@ -90,6 +90,7 @@ slot_sound {O} m w node x inside none all work only s =
             let d = s.dirty y (λ e. ne (ap (λ (cell : Cell). cell.id) q.1 ∙ e)) in
             (subst (λ (cell : Cell). cell.id < (w.cache y).id) (sym q.1) d.0, d.1, d.2, d.3)
       ];
+      group = s.group;
     }
 
 pub removal_sound : {O : Type 0} (m : Meaning O) (w : World O) (node : ℕ → Bool) → ((n : ℕ) → IsTrue (node n) → IsTrue (w.graph n)) → NoEdgeInto (graph_access m w) node → w.forced ≡ length w.history → ((y : ℕ) → work_of m w node y → ⊥) → IsSound m w → IsSound m (step m w (Removal node))
@@ -135,4 +136,5 @@ removal_sound {O} m w node inside none all idle s =
             (λ n e wr. d.2 n (and_parts (w.graph n) (not (node n)) e).0 wr),
             d.3,
           );
+      group = s.group;
     }

@@ -40,7 +40,7 @@ pub crash-world : {O : Type 0} (m : Meaning O) (w : World O) → IsSound m w →
 unfolding step
 crash-world {O} m w s = ap (λ (n : ℕ). record (step m w Crash) { forced = n }) (sym (length-take-le w.forced w.history s.forced))
 
-slice_get-drop : {X : Type 0} (n : ℕ) (xs : List X) (i : ℕ) → slice_get (drop n xs) i ≡ slice_get xs (n + i)
+pub slice_get-drop : {X : Type 0} (n : ℕ) (xs : List X) (i : ℕ) → slice_get (drop n xs) i ≡ slice_get xs (n + i)
 slice_get-drop zero xs i = let e : 0 + i ≡ i = omega arith in rw e refl
 slice_get-drop (suc n) [] i = refl
 slice_get-drop (suc n) (x ∷ xs) i = let e : suc n + i ≡ suc (n + i) = omega arith in rw e (slice_get-drop n xs i)
@@ -97,6 +97,7 @@ standing_sound m law parts h i s =
       ];
       cache_late = λ n x e out wr. absurd (both_ways _ refl e);
       dirty = λ x ne. absurd (ne refl);
+      group = tt;
     }
 
 stand-length : {O : Type 0} (m : Meaning O) (parts : Stable O) (h : List (Member O)) (i : ℕ → Bool) → IsStableOf m parts h i → length h ≡ (parts.base - 1) + length parts.records
@@ -112,7 +113,7 @@ member-same : {O : Type 0} (m : Meaning O) (parts : Stable O) (h k : List (Membe
 member-same m parts h k i j s t zero le = refl
 member-same m parts h k i j s t (suc n) le = stand-member m parts h i s n le ∙ sym (stand-member m parts k j t n le)
 
-commands_of-append : {O : Type 0} (xs ys : List (Member O)) → commands_of (xs ++ ys) ≡ commands_of xs ++ commands_of ys
+pub commands_of-append : {O : Type 0} (xs ys : List (Member O)) → commands_of (xs ++ ys) ≡ commands_of xs ++ commands_of ys
 commands_of-append [] ys = refl
 commands_of-append (Command op ∷ xs) ys = ap (λ l. op ∷ l) (commands_of-append xs ys)
 commands_of-append (Identity x v ∷ xs) ys = commands_of-append xs ys

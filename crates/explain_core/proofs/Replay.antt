@@ -12,10 +12,11 @@ use Rattle.explain_core.specs.World.{World, step, plan_of, set_by, is_redone}
 use Rattle.explain_core.specs.World.Step.{Replay}
 use Rattle.explain_core.specs.Sound.{IsSound, SkipsNothing, and_below}
 use Rattle.explain_core.proofs.Core.{slots-whole}
-use Rattle.explain_core.proofs.Members.{writes-below, writes-any}
+use Rattle.explain_core.proofs.Members.{writes-any}
 use Rattle.explain_core.proofs.Crash.{plan_fits, base-within}
 use Rattle.explain_core.proofs.Set.{IsSetAt, Explains-fresh, Explains-old, read-right, made_by-same, late-none}
 use Rattle.explain_core.proofs.Append.{set_at, set_not}
+use Rattle.explain_core.specs.GraphLaws.{writes-below}
 
 -- an object is set, or kept
 abbrev Redone : {O : Type 0} (m : Meaning O) (w : World O) (c : ℕ → Cell) (x : ℕ) → Type 0
@@ -140,4 +141,5 @@ replay_sound {O} m law w j next old s =
               (λ le. d.3 old),
             )
       ];
+      group = s.group;
     }

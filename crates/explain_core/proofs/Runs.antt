@@ -6,9 +6,10 @@ use Rattle.oper_core.specs.Meaning.{Meaning, IsLawful, state_after}
 use Rattle.explain_core.specs.History.{Member, accesses_of, value_at, commands_of}
 use Rattle.explain_core.specs.Explains.{Explains}
 use Rattle.explain_core.specs.World.{World, Step, step, run, IsAllowed, AreAllowed, IsLive, end_of, new_world, replays, redo_of}
-use Rattle.explain_core.specs.World.Step.{Append, Block_gate, Check, Slot_gate, Removal, Header_gate, Replay, Crash}
+use Rattle.explain_core.specs.World.Step.{Begin, End, Append, Block_gate, Check, Slot_gate, Removal, Header_gate, Replay, Crash}
 use Rattle.explain_core.specs.Sound.{IsSound, and_below}
 use Rattle.explain_core.proofs.Crash.{crash_sound}
+use Rattle.explain_core.proofs.Groups.{begin_sound, end_sound}
 use Rattle.explain_core.proofs.Gate.{gate_sound}
 use Rattle.explain_core.proofs.Append.{append_sound, live-map}
 use Rattle.explain_core.proofs.Set.{out-from}
@@ -19,11 +20,13 @@ use Rattle.explain_core.proofs.Tables.{check_sound, header_sound}
 
 pub step_sound : {O : Type 0} (m : Meaning O) → IsLawful m → (w : World O) (t : Step O) → IsAllowed m w t → IsSound m w → IsSound m (step m w t)
 step_sound m law w (Append member) may s = append_sound m w member may.0 may.1 s
-step_sound m law w Block_gate may s = gate_sound m w may s
-step_sound m law w Check may s = check_sound m w may s
-step_sound m law w (Slot_gate node x) may s = slot_sound m w node x may.0.0 may.0.1.1 may.0.2 may.1 may.2 s
-step_sound m law w (Removal node) may s = removal_sound m w node may.0.0 may.0.1.1 may.0.2 may.1 s
-step_sound m law w (Header_gate base) may s = header_sound m w base may.0 may.1 may.2 may.3 may.4 s
+step_sound m law w Begin may s = begin_sound m w may.1.0 s
+step_sound m law w End may s = end_sound m w s
+step_sound m law w Block_gate may s = gate_sound m w may.0 may.1 s
+step_sound m law w Check may s = check_sound m w may.0 s
+step_sound m law w (Slot_gate node x) may s = slot_sound m w node x may.0.0 may.0.1.1 may.0.2.0 may.1 may.2 s
+step_sound m law w (Removal node) may s = removal_sound m w node may.0.0 may.0.1.1 may.0.2.0 may.1 s
+step_sound m law w (Header_gate base) may s = header_sound m w base may.0 may.1.0 may.2 may.3 may.4 s
 step_sound m law w Replay may s = replay_sound m law w (w.next - 1) (omega (arith, s.base, s.next.0)) may s
 step_sound m law w Crash may s = crash_sound m law w s
 
@@ -71,6 +74,7 @@ new_sound m =
       cache_right = λ x out. refl;
       cache_late = λ n x e out w. absurd (both_ways _ refl e);
       dirty = λ x ne. absurd (ne refl);
+      group = tt;
     }
 
 -- so many replays of a sound world leave the history, and bring it that far

@@ -9,7 +9,7 @@ use Rattle.install_order.specs.NodeLaws.{least-is}
 use Rattle.explain_core.specs.World.{World, step, IsLive, end_of, table_now}
 use Rattle.explain_core.specs.World.Step.{Check, Header_gate}
 use Rattle.explain_core.specs.Sound.{IsSound, SkipsNothing}
-use Rattle.explain_core.proofs.Append.{no-writes}
+use Rattle.explain_core.specs.GraphLaws.{no-writes}
 
 -- a check taken now skips nothing, from any base that is at most each member of the graph
 now-fits : {O : Type 0} (m : Meaning O) (w : World O) (base : ℕ) → IsLive w → base ≤ end_of w → ((n : ℕ) → IsTrue (w.graph n) → base ≤ n) → IsSound m w → SkipsNothing (accesses_of m w.history) w.installed base (end_of w) (table_now m w)
@@ -50,6 +50,7 @@ check_sound m w live s = record {
   cache_right = s.cache_right;
   cache_late = s.cache_late;
   dirty = s.dirty;
+  group = s.group;
 }
 
 pub header_sound : {O : Type 0} (m : Meaning O) (w : World O) (base : ℕ) → IsLive w → w.forced ≡ length w.history → w.base ≤ base → base ≤ w.next → ((n : ℕ) → IsTrue (w.graph n) → base ≤ n) → IsSound m w → IsSound m (step m w (Header_gate base))
@@ -74,4 +75,5 @@ header_sound m w base live all up le each s =
       cache_right = s.cache_right;
       cache_late = s.cache_late;
       dirty = λ x ne. let d = s.dirty x ne in (d.0, d.1, d.2, λ old. absurd (omega arith));
+      group = s.group;
     }

@@ -1,6 +1,6 @@
 -- The worked runs are allowed.
-use Rattle.std.proofs.Common.{◌≡◌, ◌<◌, ◌≤◌, not, sym, subst, ℕ, IsTrue, List, [], ◌∷◌, ◌++◌, refl, arith, inl, inr}
-use Rattle.std.proofs.lemmas.Bool.{cases_eq, cases_lt, both_ways, not-true}
+use Rattle.std.proofs.Common.{◌∙◌, ◌==◌, false, ◌≡◌, ◌<◌, ◌≤◌, not, sym, subst, ℕ, IsTrue, List, [], ◌∷◌, ◌++◌, refl, arith, inl, inr}
+use Rattle.std.proofs.lemmas.Bool.{cases_eq, cases_lt, both_ways, not-true, or_from, ne_eqb}
 use Rattle.oper_core.specs.Meaning.{IsLawful}
 use Rattle.install_order.specs.Computed.{IsWithin}
 use Rattle.install_order.specs.ListLaws.{all-gives, all_below-gives}
@@ -8,13 +8,15 @@ use Rattle.install_order.specs.NodeLaws.{flushed-iff}
 use Rattle.install_order.specs.Checks.{is_minimal-gives, flushes_only-gives}
 use Rattle.explain_core.specs.declared.byte_op.ByteOp.{ByteOp}
 use Rattle.explain_core.specs.ByteOps.{byte_meaning, byte_lawful}
-use Rattle.explain_core.specs.World.{Step, step, run, AreAllowed, IsReady, new_world, graph_access, work_of, end_of, replays}
-use Rattle.explain_core.specs.World.Step.{Block_gate, Check, Slot_gate, Removal, Header_gate, Crash}
-use Rattle.explain_core.specs.RunLaws.{allowed-append}
+use Rattle.explain_core.specs.World.{World, Step, step, run, IsAllowed, AreAllowed, IsReady, new_world, graph_access, work_of, end_of, replays}
+use Rattle.explain_core.specs.World.Step.{End, Block_gate, Check, Slot_gate, Removal, Header_gate, Crash}
+use Rattle.explain_core.specs.RunLaws.{run-append, allowed-append}
+use Rattle.explain_core.specs.Backup.{IsCopied, MayWhileCopied, with_next}
+use Rattle.explain_core.proofs.BackupRuns.{copied-none, copied-more, copied-step}
 use Rattle.explain_core.specs.Sound.{IsSound}
-use Rattle.explain_core.specs.Worked.{two, after_steps, swap_node, swap_logged, swap_flushed, swap_removed, swap_checked, swap_redone, redone_node, swap_installed, swap_redone_again}
-use Rattle.explain_core.proofs.Graph.{graph-within}
+use Rattle.explain_core.specs.Worked.{two, after_steps, swap_node, swap_logged, swap_flushed, swap_removed, swap_checked, swap_redone, redone_node, swap_installed, swap_redone_again, group_opened, group_lost, group_kept, identity_node, both_copied, copied_flushed}
 use Rattle.explain_core.proofs.Runs.{run_sound, new_sound}
+use Rattle.explain_core.specs.GraphLaws.{graph-within}
 
 pub two-lawful : IsLawful (byte_meaning two)
 two-lawful = byte_lawful two (record { objects = omega arith; cap = omega arith })
@@ -27,7 +29,7 @@ pub logged-allowed : AreAllowed (byte_meaning two) (new_world ByteOp) swap_logge
 unfolding step run
 logged-allowed = (
   (omega arith, refl),
-  ((omega arith, refl), ((omega arith, refl), ((omega arith, (omega arith, refl)), (omega arith, tt)))),
+  ((omega arith, refl), ((omega arith, refl), ((omega arith, (omega arith, refl, refl)), ((omega arith, refl), tt)))),
 )
 
 within : (steps : List (Step ByteOp)) → AreAllowed (byte_meaning two) (new_world ByteOp) steps → IsWithin (graph_access (byte_meaning two) (after_steps steps)) 2 (end_of (after_steps steps))
@@ -42,7 +44,7 @@ unfolding step run
 logged-ready = (
   (λ n there. all-gives (after_steps swap_logged).graph (1 ∷ 2 ∷ 3 ∷ []) n refl there),
   is_minimal-gives (graph_access (byte_meaning two) (after_steps swap_logged)) 2 5 (1 ∷ 2 ∷ 3 ∷ []) (within swap_logged logged-allowed) refl,
-  refl,
+  (refl, refl),
 )
 
 logged-work : work_of (byte_meaning two) (after_steps swap_logged) swap_node 0
@@ -64,7 +66,7 @@ unfolding step run
 flushed-ready = (
   (λ n there. all-gives (after_steps swap_flushed).graph (1 ∷ 2 ∷ 3 ∷ []) n refl there),
   is_minimal-gives (graph_access (byte_meaning two) (after_steps swap_flushed)) 2 5 (1 ∷ 2 ∷ 3 ∷ []) (within swap_flushed flushed-allowed) refl,
-  refl,
+  (refl, refl),
 )
 
 pub removed-allowed : AreAllowed (byte_meaning two) (new_world ByteOp) swap_removed
@@ -90,7 +92,7 @@ from-four n there = elim (cases_lt n 4) [
 pub checked-allowed : AreAllowed (byte_meaning two) (new_world ByteOp) swap_checked
 unfolding step run
 checked-allowed = one-more swap_removed (Check ∷ Block_gate ∷ Header_gate 4 ∷ Crash ∷ []) removed-allowed
-    (omega arith, (omega arith, ((omega arith, refl, omega arith, omega arith, from-four), (tt, tt))))
+    ((omega arith, refl), ((omega arith, refl), ((omega arith, (refl, refl), omega arith, omega arith, from-four), (tt, tt))))
 
 pub redone-allowed : AreAllowed (byte_meaning two) (new_world ByteOp) (swap_redone 4)
 unfolding step run
@@ -105,7 +107,7 @@ unfolding step run
 in_redo-ready = (
   (λ n there. all-gives (after_steps (swap_redone 3)).graph (2 ∷ 3 ∷ []) n refl there),
   is_minimal-gives (graph_access (byte_meaning two) (after_steps (swap_redone 3))) 2 5 (2 ∷ 3 ∷ []) (within (swap_redone 3) in_redo-allowed) refl,
-  refl,
+  (refl, refl),
 )
 
 in_redo-work : work_of (byte_meaning two) (after_steps (swap_redone 3)) redone_node 1
@@ -133,7 +135,7 @@ unfolding step run
 gate-ready = (
   (λ n there. all-gives (after_steps (swap_redone 3 ++ Slot_gate redone_node 1 ∷ [])).graph (2 ∷ 3 ∷ []) n refl there),
   is_minimal-gives (graph_access (byte_meaning two) (after_steps (swap_redone 3 ++ Slot_gate redone_node 1 ∷ []))) 2 5 (2 ∷ 3 ∷ []) (within (swap_redone 3 ++ Slot_gate redone_node 1 ∷ []) gate-allowed) refl,
-  refl,
+  (refl, refl),
 )
 
 -- both slots are as the cache has them
@@ -157,3 +159,55 @@ ended-allowed = one-more swap_installed (replays 1) installed-allowed (omega ari
 pub again-allowed : AreAllowed (byte_meaning two) (new_world ByteOp) (swap_redone_again 4)
 unfolding step run
 again-allowed = one-more swap_installed (Crash ∷ replays 4) installed-allowed (tt, (omega arith, (omega arith, (omega arith, (omega arith, tt)))))
+
+pub opened-allowed : AreAllowed (byte_meaning two) (new_world ByteOp) group_opened
+unfolding step run
+opened-allowed = ((omega arith, refl), ((omega arith, refl), ((omega arith, (refl, refl)), ((omega arith, refl), ((omega arith, refl), tt)))))
+
+pub lost-allowed : AreAllowed (byte_meaning two) (new_world ByteOp) group_lost
+unfolding step run
+lost-allowed = one-more group_opened (Crash ∷ replays 1) opened-allowed (tt, (omega arith, tt))
+
+pub kept-allowed : AreAllowed (byte_meaning two) (new_world ByteOp) (group_kept 3)
+unfolding step run
+kept-allowed = one-more group_opened (End ∷ Block_gate ∷ Crash ∷ replays 3) opened-allowed (refl, ((omega arith, refl), (tt, (omega arith, (omega arith, (omega arith, tt))))))
+
+identity-ready : IsReady (byte_meaning two) (after_steps swap_removed) identity_node
+unfolding step run
+identity-ready = (
+  (λ n there. all-gives (after_steps swap_removed).graph (4 ∷ []) n refl there),
+  is_minimal-gives (graph_access (byte_meaning two) (after_steps swap_removed)) 2 5 (4 ∷ []) (within swap_removed removed-allowed) refl,
+  (refl, refl),
+)
+
+identity-work : work_of (byte_meaning two) (after_steps swap_removed) identity_node 1
+unfolding step run
+identity-work = (
+  (flushed-iff (graph_access (byte_meaning two) (after_steps swap_removed)) 2 5 identity_node 1 (within swap_removed removed-allowed)).0 refl,
+  λ e. absurd (omega (arith, e)),
+)
+
+identity-may : IsAllowed (byte_meaning two) (after_steps swap_removed) (Slot_gate identity_node 1)
+unfolding step run
+identity-may = (identity-ready, identity-work, λ y work. flushes_only-gives (graph_access (byte_meaning two) (after_steps swap_removed)) 2 5 identity_node 1 (within swap_removed removed-allowed) refl y work.0)
+
+pub copied-allowed : AreAllowed (byte_meaning two) (new_world ByteOp) copied_flushed
+unfolding step run
+copied-allowed = one-more swap_removed (Slot_gate identity_node 1 ∷ []) removed-allowed (identity-may, tt)
+
+-- the node is the identity write alone
+pub identity-rule : MayWhileCopied (after_steps swap_removed) 2 (Slot_gate identity_node 1)
+unfolding step run
+identity-rule lt = (4, 1, (λ k there. elim (cases_eq k 4) [ inl q ↦ q | inr ne ↦ absurd (both_ways _ (or_from (k == 4) false (ne_eqb k 4 ne) refl) there) ]), (170 ∷ [], refl))
+
+one-run : (w : World ByteOp) → run (byte_meaning two) w (Slot_gate identity_node 1 ∷ []) ≡ step (byte_meaning two) w (Slot_gate identity_node 1)
+unfolding run
+one-run w = refl
+
+pub both-copied : IsCopied (byte_meaning two) (after_steps copied_flushed) 2 both_copied
+both-copied =
+    let m = byte_meaning two in
+    let w = after_steps swap_removed in
+    let s = steps-sound swap_removed removed-allowed in
+    let c = copied-more m w 1 (with_next w 0 (λ x. record { id = 0; value = [] })) s (copied-more m w 0 (λ x. record { id = 0; value = [] }) s (copied-none m w (λ x. record { id = 0; value = [] }))) in
+    subst (λ (v : World ByteOp). IsCopied m v 2 both_copied) (sym (run-append m (new_world ByteOp) swap_removed (Slot_gate identity_node 1 ∷ []) ∙ one-run w)) (copied-step m w (Slot_gate identity_node 1) 2 both_copied s identity-may identity-rule c)

@@ -1,7 +1,7 @@
 -- A history of commands and identity writes, and the values that it gives the objects.
-use Rattle.std.specs.Prelude.{◌≡◌, ℕ, zero, suc, ◌<◌, Bool, false, Option, None, Some, List, [], ◌∷◌, map, slice_get, IfSome}
+use Rattle.std.specs.Prelude.{◌≡◌, ℕ, zero, suc, ◌<◌, Bool, false, Option, None, Some, List, [], ◌∷◌, map, slice_get, IfSome, ⊤}
 use Rattle.oper_core.specs.State.{State, start, is_among, with_values}
-use Rattle.oper_core.specs.Meaning.{Meaning, IsInGrammar}
+use Rattle.oper_core.specs.Meaning.{Meaning, Accepts}
 use Rattle.install_order.specs.Order.{Access}
 
 -- a command, or an identity write: a write of the value that the object already has
@@ -34,10 +34,15 @@ abbrev pub value_at : {O : Type 0} → Meaning O → List (Member O) → ℕ →
 value_at m history zero x = start x
 value_at m history (suc n) x = made_by m (slice_get history n) (λ y. value_at m history n y) x
 
--- a member is in the grammar, and an identity write carries the value that its object has before it
+-- a command is accepted on the state before it, and an identity write carries the value that its object has there
 abbrev pub IsMember : {O : Type 0} → Meaning O → State → Member O → Type 0
-IsMember m before (Command op) = IsInGrammar m op
+IsMember m before (Command op) = Accepts m before op
 IsMember m before (Identity x v) = (x < m.objects) × (v ≡ before x)
+
+-- no identity write
+abbrev pub IsCommand : {O : Type 0} → Member O → Type 0
+IsCommand (Command op) = ⊤
+IsCommand (Identity x v) = ⊥
 
 -- each member is one in its place
 abbrev pub IsHistory : {O : Type 0} → Meaning O → List (Member O) → Type 0

@@ -3,7 +3,14 @@ pub mod Explains
 pub mod World
 pub mod RunLaws
 pub mod Sound
+pub mod GraphLaws
+pub mod Turns
+pub mod TurnLaws
+pub mod CountLaws
+pub mod KeptLog
+pub mod ThinLaws
 pub mod Stable
+pub mod Backup
 pub mod Exact
 pub mod ByteOps
 pub mod Worked

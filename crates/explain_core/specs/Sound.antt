@@ -1,9 +1,9 @@
 -- What every step keeps.
-use Rattle.std.specs.Prelude.{◌≡◌, ℕ, ◌+◌, ◌-◌, ◌<◌, ◌≤◌, ◌≢◌, nat_lt, Bool, ◌||◌, IsTrue, IsFalse, length, take}
+use Rattle.std.specs.Prelude.{◌≡◌, ℕ, ◌+◌, ◌-◌, ◌<◌, ◌≤◌, ◌≢◌, nat_lt, Bool, ◌||◌, IsTrue, IsFalse, IfSome, List, length, take}
 use Rattle.std.specs.List.{AllByRecursion}
 use Rattle.oper_core.specs.Meaning.{Meaning}
 use Rattle.install_order.specs.Order.{Access}
-use Rattle.explain_core.specs.History.{accesses_of, value_at, IsHistory, commands_of}
+use Rattle.explain_core.specs.History.{Member, accesses_of, value_at, IsHistory, IsCommand, commands_of, numbered}
 use Rattle.explain_core.specs.Explains.{Explains}
 use Rattle.explain_core.specs.World.{World, Table, end_of, plan_of}
 
@@ -18,6 +18,11 @@ pub record SkipsNothing (a : Access) (installed : ℕ → Bool) (base end : ℕ)
   pub from_base : (x : ℕ) → base ≤ t.redo_from x
   pub next_from_base : base ≤ t.next
   pub next_within : t.next ≤ end
+
+-- a group that began with this number: all before it is stable and nothing in it, and its members are commands
+pub record IsGroup {O : Type 0} (history : List (Member O)) (forced begun : ℕ) : Type 0 where
+  pub stable : begun ≡ forced + 1
+  pub commands : (n : ℕ) → begun ≤ n → IfSome (numbered history n) IsCommand
 
 -- the slots alone are explained by the installed members, and with the log they give the map
 pub record IsSound {O : Type 0} (m : Meaning O) (w : World O) : Type 0 where
@@ -51,3 +56,5 @@ pub record IsSound {O : Type 0} (m : Meaning O) (w : World O) : Type 0 where
       ((w.slots x).id < (w.cache x).id) × IsTrue (w.graph (w.cache x).id) ×
       ((n : ℕ) → IsTrue (w.graph n) → IsTrue ((accesses_of m w.history).writes n x) → n ≤ (w.cache x).id) ×
       (w.next ≤ length w.history → (plan_of w.tables w.base).redo_from x ≤ (w.cache x).id)
+  -- what is stable is all before the open group, and its members are commands
+  pub group : IfSome w.group (IsGroup w.history w.forced)

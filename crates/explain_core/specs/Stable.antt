@@ -1,5 +1,5 @@
 -- What is stable, and the histories of which it may be the rest.
-use Rattle.std.specs.Prelude.{◌≡◌, ℕ, ◌+◌, ◌-◌, ◌<◌, ◌≤◌, Bool, false, IsTrue, List, [], length, drop, take}
+use Rattle.std.specs.Prelude.{◌≡◌, ℕ, ◌+◌, ◌-◌, ◌<◌, ◌≤◌, Bool, false, IsTrue, None, List, [], length, drop, take}
 use Rattle.std.specs.List.{AllByRecursion}
 use Rattle.oper_core.specs.Meaning.{Meaning}
 use Rattle.explain_core.specs.History.{Member, accesses_of, value_at, IsHistory, commands_of}
@@ -44,6 +44,7 @@ world_of m parts history installed = record {
   base = parts.base;
   commands_before = parts.commands_before;
   next = start_of m.objects (plan_of parts.tables parts.base);
+  group = None;
 }
 
 -- what is stable in a world

@@ -9,7 +9,8 @@ use Rattle.explain_core.specs.History.{Member}
 use Rattle.explain_core.specs.History.Member.{Command, Identity}
 use Rattle.explain_core.specs.Explains.{Cell}
 use Rattle.explain_core.specs.World.{World, Step, run, new_world, replays}
-use Rattle.explain_core.specs.World.Step.{Append, Block_gate, Check, Slot_gate, Removal, Header_gate, Crash}
+use Rattle.explain_core.specs.Backup.{with_next}
+use Rattle.explain_core.specs.World.Step.{Begin, End, Append, Block_gate, Check, Slot_gate, Removal, Header_gate, Crash}
 
 -- two objects of at most one byte
 abbrev pub two : Bounds
@@ -64,3 +65,28 @@ swap_installed = swap_redone 3 ++ Slot_gate redone_node 1 ∷ Removal redone_nod
 -- the store stops once more, and so many records are replayed
 abbrev pub swap_redone_again : ℕ → List (Step ByteOp)
 swap_redone_again n = swap_installed ++ Crash ∷ replays n
+
+-- aa is put into 0 and forced; a group opens, in which bb is put into 1 and the two are swapped
+abbrev pub group_opened : List (Step ByteOp)
+group_opened =
+    Append (Command (Put 0 170)) ∷ Block_gate ∷ Begin ∷ Append (Command (Put 1 187)) ∷ Append (Command (Swap 0 1)) ∷ []
+
+-- the store stops within the group, and the one record that is left is replayed
+abbrev pub group_lost : List (Step ByteOp)
+group_lost = group_opened ++ Crash ∷ replays 1
+
+-- the group is closed and forced before the store stops, and so many records are replayed
+abbrev pub group_kept : ℕ → List (Step ByteOp)
+group_kept n = group_opened ++ End ∷ Block_gate ∷ Crash ∷ replays n
+
+-- the node of the identity write
+abbrev pub identity_node : ℕ → Bool
+identity_node = set_of (4 ∷ [])
+
+-- both slots are copied after the removal of the swap's node
+abbrev pub both_copied : ℕ → Cell
+both_copied = with_next (after_steps swap_removed) 1 (with_next (after_steps swap_removed) 0 (λ x. record { id = 0; value = [] }))
+
+-- and then the identity write is installed
+abbrev pub copied_flushed : List (Step ByteOp)
+copied_flushed = swap_removed ++ Slot_gate identity_node 1 ∷ []

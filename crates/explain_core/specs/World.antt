@@ -1,5 +1,6 @@
 -- The store as a machine: a world, and the steps that it may take.
-use Rattle.std.specs.Prelude.{◌≡◌, ℕ, zero, suc, ◌+◌, ◌-◌, ◌<◌, ◌≤◌, ◌==◌, ◌≢◌, nat_lt, nat_le, min, Bool, false, not, ◌&&◌, ◌||◌, if◌then◌else◌, IsTrue, Option, Some, List, [], ◌∷◌, ◌++◌, length, take}
+use Rattle.std.specs.Prelude.{◌≡◌, ℕ, zero, suc, ◌+◌, ◌-◌, ◌<◌, ◌≤◌, ◌==◌, ◌≢◌, nat_lt, nat_le, min, Bool, false, not, ◌&&◌, ◌||◌, if◌then◌else◌, IsTrue, Option, None, Some, List, [], ◌∷◌, ◌++◌, length, take}
+use Rattle.std.specs.Option.{is_some}
 use Rattle.oper_core.specs.State.{is_among}
 use Rattle.oper_core.specs.Meaning.{Meaning, Accepts}
 use Rattle.install_order.specs.Order.{Access, within, IsMinimal, flush_set_of}
@@ -25,8 +26,11 @@ pub record World (O : Type 0) : Type 0 where
   pub base : ℕ  -- the stable log begins with this number
   pub commands_before : ℕ  -- so many commands are before the base
   pub next : ℕ  -- the next number to replay; past the end where nothing is left to replay
+  pub group : Option ℕ  -- the number at which the open group began
 
 pub data Step (O : Type 0) : Type 0 where
+  Begin : Step O  -- a group opens: of the members from here on a crash leaves all or none
+  End : Step O  -- the group closes
   Append : (member : Member O) → Step O
   Block_gate : Step O  -- all members and checks become stable
   Check : Step O
@@ -82,28 +86,41 @@ set_by m member chosen n cache x = if chosen x then record { id = n; value = mad
 abbrev pub is_redone : {O : Type 0} → Meaning O → World O → ℕ → Bool
 is_redone m w x = (accesses_of m w.history).writes w.next x && (nat_lt (w.cache x).id w.next && nat_le ((plan_of w.tables w.base).redo_from x) w.next)
 
--- a member may be appended: a command that is accepted on the cache, or an identity write of the cache's value
+-- no group is open
+abbrev pub NoGroup : {O : Type 0} → World O → Type 0
+NoGroup w = w.group ≡ None
+
+-- all members are stable, and no group is open
+abbrev pub IsAllStable : {O : Type 0} → World O → Type 0
+IsAllStable w = (w.forced ≡ length w.history) × NoGroup w
+
+-- a member may be appended: a command that is accepted on the cache, or outside groups an identity write of the cache's
+-- value
 abbrev pub MayAppend : {O : Type 0} → Meaning O → World O → Member O → Type 0
 MayAppend m w (Command op) = Accepts m (λ x. (w.cache x).value) op
-MayAppend m w (Identity x v) = (x < m.objects) × (v ≡ (w.cache x).value)
+MayAppend m w (Identity x v) = (x < m.objects) × (v ≡ (w.cache x).value) × NoGroup w
 
--- a minimal node of the graph, with all members stable
+-- a minimal node of the graph, with all members stable and no group open
 abbrev pub IsReady : {O : Type 0} → Meaning O → World O → (ℕ → Bool) → Type 0
-IsReady m w node = ((n : ℕ) → IsTrue (node n) → IsTrue (w.graph n)) × IsMinimal (graph_access m w) node × (w.forced ≡ length w.history)
+IsReady m w node = ((n : ℕ) → IsTrue (node n) → IsTrue (w.graph n)) × IsMinimal (graph_access m w) node × IsAllStable w
 
 -- a step may be taken
 abbrev pub IsAllowed : {O : Type 0} → Meaning O → World O → Step O → Type 0
+IsAllowed m w Begin = IsLive w × IsAllStable w
+IsAllowed m w End = IsTrue (is_some w.group)
 IsAllowed m w (Append member) = IsLive w × MayAppend m w member
-IsAllowed m w Block_gate = IsLive w
-IsAllowed m w Check = IsLive w
+IsAllowed m w Block_gate = IsLive w × NoGroup w
+IsAllowed m w Check = IsLive w × NoGroup w
 IsAllowed m w (Slot_gate node x) = IsReady m w node × work_of m w node x × ((y : ℕ) → work_of m w node y → y ≡ x)
 IsAllowed m w (Removal node) = IsReady m w node × ((y : ℕ) → work_of m w node y → ⊥)
-IsAllowed m w (Header_gate base) = IsLive w × (w.forced ≡ length w.history) × (w.base ≤ base) × (base ≤ w.next) × ((n : ℕ) → IsTrue (w.graph n) → base ≤ n)
+IsAllowed m w (Header_gate base) = IsLive w × IsAllStable w × (w.base ≤ base) × (base ≤ w.next) × ((n : ℕ) → IsTrue (w.graph n) → base ≤ n)
 IsAllowed m w Replay = w.next ≤ length w.history
 IsAllowed m w Crash = Unit {0}
 
 -- the world after a step
 unfoldable pub step : {O : Type 0} → Meaning O → World O → Step O → World O
+step m w Begin = record w { group = Some (end_of w) }
+step m w End = record w { group = None }
 step m w (Append member) = record w {
   history = w.history ++ member ∷ [];
   cache = set_by m (Some member) (λ x. is_among x (writes_of m member)) (end_of w) w.cache;
@@ -137,6 +154,7 @@ step m w Crash = record w {
   graph = λ n. false;
   pending = [];
   next = start_of m.objects (plan_of w.tables w.base);
+  group = None;
 }
 
 -- the steps of a list may be taken, each in its turn
@@ -163,6 +181,7 @@ new_world O = record {
   base = 1;
   commands_before = 0;
   next = 1;
+  group = None;
 }
 
 -- so many replays

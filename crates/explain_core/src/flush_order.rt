@@ -2,9 +2,10 @@ ghost use Rattle.std.specs.Prelude.{ℕ, ◌↔◌, Bool, IsTrue, IsFalse, List}
 ghost use Rattle.oper_core.specs.Meaning.{IsSmall};
 ghost use Rattle.oper_core.specs.declared.bounds.Bounds.{Bounds};
 ghost use Rattle.install_order.specs.Order.{Access, within, NoEdgeInto, IsNode, IsMinimal};
+ghost use Rattle.install_order.specs.Computed.{IsWithin};
 ghost use Rattle.explain_core.specs.History.{Member, accesses_of, value_at};
 ghost use Rattle.explain_core.specs.Explains.{Cell, Explains};
-ghost use Rattle.explain_core.specs.World.{World, graph_access, node_named};
+ghost use Rattle.explain_core.specs.World.{World, graph_access, end_of, node_named};
 ghost use Rattle.explain_core.specs.Sound.{IsSound};
 ghost use Rattle.explain_core.specs.Exact.{rest_of, CanInstall, IsPartOf};
 
@@ -37,6 +38,12 @@ pub fn minimal_nodes_are_whole<O: Oper>()
         IsNode (within (rest_of h installed) (accesses_of (O.meaning b) h)) node →
         IsPartOf part node → IsTrue (part held) → IsTrue (node lacked) → IsFalse (part lacked) →
         CanInstall (O.meaning b) h installed part state → ⊥ }
+{}
+
+/// What the graph of a sound world accesses is within its bounds and its end.
+pub fn graph_is_within<O: Oper>()
+    ensures { (b : Bounds) (w : World O) → IsSmall b → IsSound (O.meaning b) w →
+        IsWithin (graph_access (O.meaning b) w) b.objects (end_of w) }
 {}
 
 /// Where the graph of a sound world has a member, one of its nodes is minimal, and it has members of the graph alone.

@@ -6,22 +6,27 @@
 //! writes nothing: its laws are functions without parameters whose clauses are the statements.
 #![tactic(auto)]
 
+mod backup;
 mod byte_op;
 mod flush_order;
 mod recovery;
 mod steps;
 mod worked;
 
+pub use backup::{copy_stands, copying_goes_on};
 pub use byte_op::ByteOp;
-pub use flush_order::{exactly_no_edge, minimal_nodes_are_whole, some_node_is_minimal};
+pub use flush_order::{
+    exactly_no_edge, graph_is_within, minimal_nodes_are_whole, some_node_is_minimal,
+};
 pub use recovery::{
-    history_gives_the_map, live_cache_is_the_map, one_state, redo_gives_the_map, stable_parts_stand,
+    crash_takes_the_group, history_gives_the_map, live_cache_is_the_map, one_state,
+    redo_gives_the_map, stable_parts_stand, turns_keep,
 };
 pub use steps::{
-    append_keeps, block_gate_keeps, check_keeps, crash_keeps, every_run_keeps, header_gate_keeps,
-    removal_keeps, replay_keeps, slot_gate_keeps,
+    append_keeps, begin_keeps, block_gate_keeps, check_keeps, crash_keeps, end_keeps,
+    every_run_keeps, header_gate_keeps, removal_keeps, replay_keeps, slot_gate_keeps,
 };
 pub use worked::{
-    half_a_swap_is_not_explained, runs_of_bytes, swap_is_checked, swap_is_flushed,
-    swap_is_installed_in_a_redo, swap_is_redone,
+    group_is_lost_or_kept, half_a_swap_is_not_explained, identity_is_flushed_beside_a_copy,
+    runs_of_bytes, swap_is_checked, swap_is_flushed, swap_is_installed_in_a_redo, swap_is_redone,
 };

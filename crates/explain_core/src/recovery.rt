@@ -1,10 +1,12 @@
-ghost use Rattle.std.specs.Prelude.{ℕ, ◌≡◌, Bool, List, length, take};
+ghost use Rattle.std.specs.Prelude.{ℕ, ◌≡◌, ◌+◌, ◌-◌, Bool, Some, List, length, take};
 ghost use Rattle.oper_core.specs.Meaning.{IsSmall, state_after};
 ghost use Rattle.oper_core.specs.declared.bounds.Bounds.{Bounds};
 ghost use Rattle.explain_core.specs.History.{Member, IsHistory, commands_of, value_at};
-ghost use Rattle.explain_core.specs.World.{World, step, run, AreAllowed, IsLive, redo_of};
+ghost use Rattle.explain_core.specs.World.{World, step, run, AreAllowed, IsLive, IsAllStable, end_of, redo_of};
 ghost use Rattle.explain_core.specs.World.Step.{Crash};
 ghost use Rattle.explain_core.specs.Sound.{IsSound};
+ghost use Rattle.explain_core.specs.Turns.{turns};
+ghost use Rattle.explain_core.specs.KeptLog.{IsLogKept};
 ghost use Rattle.explain_core.specs.Stable.{Stable, IsStableOf, world_of, stable_of};
 
 use oper_core::Oper;
@@ -32,6 +34,23 @@ pub fn redo_gives_the_map<O: Oper>()
         ((run (O.meaning b) w (redo_of w)).cache x).value ≡ state_after (O.meaning b) (commands_of w.history) x }
 {}
 
+/// The turns of a redo, which replays and installs thin nodes while too many objects are dirty, are allowed in a sound
+/// world whose members are all stable, with no group open; they keep it sound, and leave its log. Where nothing is left to replay after
+/// them, the cache is the state after the commands.
+pub fn turns_keep<O: Oper>()
+    ensures allowed { (b : Bounds) (w : World O) (limit n : ℕ) → IsSmall b → IsSound (O.meaning b) w →
+        IsAllStable w → AreAllowed (O.meaning b) w (turns (O.meaning b) limit n w) }
+    ensures sound { (b : Bounds) (w : World O) (limit n : ℕ) → IsSmall b → IsSound (O.meaning b) w →
+        IsAllStable w →
+        IsSound (O.meaning b) (run (O.meaning b) w (turns (O.meaning b) limit n w)) }
+    ensures log { (b : Bounds) (w : World O) (limit n : ℕ) →
+        IsLogKept w (run (O.meaning b) w (turns (O.meaning b) limit n w)) }
+    ensures map { (b : Bounds) (w : World O) (limit n x : ℕ) → IsSmall b → IsSound (O.meaning b) w →
+        IsAllStable w → IsLive (run (O.meaning b) w (turns (O.meaning b) limit n w)) →
+        ((run (O.meaning b) w (turns (O.meaning b) limit n w)).cache x).value
+        ≡ state_after (O.meaning b) (commands_of w.history) x }
+{}
+
 /// What is stable in a sound world is that of its stable history; a crash leaves the world that these parts make; and
 /// the world that any stable parts make is sound.
 pub fn stable_parts_stand<O: Oper>()
@@ -42,6 +61,14 @@ pub fn stable_parts_stand<O: Oper>()
     ensures sound { (b : Bounds) (parts : Stable O) (h : List (Member O)) (installed : ℕ → Bool) →
         IsSmall b → IsStableOf (O.meaning b) parts h installed →
         IsSound (O.meaning b) (world_of (O.meaning b) parts h installed) }
+{}
+
+/// A crash takes an open group away whole: what is left is the history before it began. Each of its members is a command.
+pub fn crash_takes_the_group<O: Oper>()
+    ensures lost { (b : Bounds) (w : World O) (begun : ℕ) → IsSound (O.meaning b) w → w.group ≡ Some begun →
+        (step (O.meaning b) w Crash).history ≡ take (begun - 1) w.history }
+    ensures commands { (b : Bounds) (w : World O) (begun : ℕ) → IsSound (O.meaning b) w → w.group ≡ Some begun →
+        length (commands_of w.history) ≡ length (commands_of (take (begun - 1) w.history)) + (end_of w - begun) }
 {}
 
 /// Slots, checks, stable records and the count before the base alone fix the state and the number of commands: of

@@ -2,19 +2,31 @@ ghost use Rattle.std.specs.Prelude.{ℕ, ◌<◌, Bool, List};
 ghost use Rattle.oper_core.specs.Meaning.{IsSmall, Accepts};
 ghost use Rattle.oper_core.specs.declared.bounds.Bounds.{Bounds};
 ghost use Rattle.explain_core.specs.History.Member.{Command, Identity};
-ghost use Rattle.explain_core.specs.World.{World, Step, step, run, IsAllowed, AreAllowed, IsLive, new_world};
-ghost use Rattle.explain_core.specs.World.Step.{Append, Block_gate, Check, Slot_gate, Removal, Header_gate, Replay, Crash};
+ghost use Rattle.explain_core.specs.World.{World, Step, step, run, IsAllowed, AreAllowed, IsLive, NoGroup, new_world};
+ghost use Rattle.explain_core.specs.World.Step.{Begin, End, Append, Block_gate, Check, Slot_gate, Removal, Header_gate, Replay, Crash};
 ghost use Rattle.explain_core.specs.Sound.{IsSound};
 
 use oper_core::Oper;
 
-/// An append keeps a live world sound: of a command that is accepted on the cache, or of an identity write of the
-/// cache's value.
+/// The opening of a group keeps a live world sound.
+pub fn begin_keeps<O: Oper>()
+    ensures { (b : Bounds) (w : World O) → IsSound (O.meaning b) w → IsAllowed (O.meaning b) w Begin →
+        IsSound (O.meaning b) (step (O.meaning b) w Begin) }
+{}
+
+/// The end of a group keeps a world sound.
+pub fn end_keeps<O: Oper>()
+    ensures { (b : Bounds) (w : World O) → IsSound (O.meaning b) w → IsAllowed (O.meaning b) w End →
+        IsSound (O.meaning b) (step (O.meaning b) w End) }
+{}
+
+/// An append keeps a live world sound: of a command that is accepted on the cache, within a group too, or outside
+/// groups of an identity write of the cache's value.
 pub fn append_keeps<O: Oper>()
     ensures command { (b : Bounds) (w : World O) (op : O) → IsSound (O.meaning b) w → IsLive w →
         Accepts (O.meaning b) (λ x. (w.cache x).value) op →
         IsSound (O.meaning b) (step (O.meaning b) w (Append (Command op))) }
-    ensures identity { (b : Bounds) (w : World O) (x : ℕ) → IsSound (O.meaning b) w → IsLive w →
+    ensures identity { (b : Bounds) (w : World O) (x : ℕ) → IsSound (O.meaning b) w → IsLive w → NoGroup w →
         x < b.objects →
         IsSound (O.meaning b) (step (O.meaning b) w (Append (Identity x (w.cache x).value))) }
 {}

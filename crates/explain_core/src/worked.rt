@@ -1,19 +1,24 @@
-ghost use Rattle.std.specs.Prelude.{ℕ, ◌≡◌, ◌∷◌, [], ◌++◌, List, Bool, true, false};
+ghost use Rattle.std.specs.Prelude.{ℕ, ◌≡◌, ◌∷◌, [], ◌++◌, List, Bool, true, false, None, Some, take};
 ghost use Rattle.oper_core.specs.Meaning.{IsSmall, state_after};
 ghost use Rattle.oper_core.specs.declared.bounds.Bounds.{Bounds};
 ghost use Rattle.explain_core.specs.declared.byte_op.ByteOp.{ByteOp};
 ghost use Rattle.explain_core.specs.ByteOps.{byte_meaning};
+ghost use Rattle.explain_core.specs.History.Member.{Command};
+ghost use Rattle.explain_core.specs.declared.byte_op.ByteOp.TheVariants.{Put};
 ghost use Rattle.explain_core.specs.History.{accesses_of, value_at, commands_of};
 ghost use Rattle.explain_core.specs.Explains.{Cell, Explains};
 ghost use Rattle.explain_core.specs.World.{World, Step, run, AreAllowed, IsLive, new_world, redo_of, replays, plan_of};
 ghost use Rattle.explain_core.specs.Sound.{IsSound};
-ghost use Rattle.explain_core.specs.Worked.{two, swapped, half_flushed, after_steps, swap_logged, swap_flushed, swap_removed, swap_checked, swap_redone, swap_installed, swap_redone_again};
+ghost use Rattle.explain_core.specs.Worked.{two, swapped, half_flushed, after_steps, swap_logged, swap_flushed, swap_removed, swap_checked, swap_redone, swap_installed, swap_redone_again, group_opened, group_lost, group_kept, identity_node, both_copied, copied_flushed};
+ghost use Rattle.explain_core.specs.World.Step.{Slot_gate};
+ghost use Rattle.explain_core.specs.Backup.{MayWhileCopied, backup_of, installed_in_copy};
 
 use crate::{
-    ByteOp, append_keeps, block_gate_keeps, check_keeps, crash_keeps, every_run_keeps,
-    exactly_no_edge, header_gate_keeps, history_gives_the_map, live_cache_is_the_map,
+    ByteOp, append_keeps, begin_keeps, block_gate_keeps, check_keeps, copy_stands, copying_goes_on,
+    crash_keeps, crash_takes_the_group, end_keeps, every_run_keeps, exactly_no_edge,
+    graph_is_within, header_gate_keeps, history_gives_the_map, live_cache_is_the_map,
     minimal_nodes_are_whole, one_state, redo_gives_the_map, removal_keeps, replay_keeps,
-    slot_gate_keeps, some_node_is_minimal, stable_parts_stand,
+    slot_gate_keeps, some_node_is_minimal, stable_parts_stand, turns_keep,
 };
 
 /// The laws at one operation type: every run of small operations from a new store is sound, and replayed to its end it
@@ -25,6 +30,8 @@ pub fn runs_of_bytes()
     ensures map { (b : Bounds) (w : World ByteOp) (x : ℕ) → IsSmall b → IsSound (byte_meaning b) w →
         ((run (byte_meaning b) w (redo_of w)).cache x).value ≡ state_after (byte_meaning b) (commands_of w.history) x }
 {
+    begin_keeps::<ByteOp>();
+    end_keeps::<ByteOp>();
     append_keeps::<ByteOp>();
     block_gate_keeps::<ByteOp>();
     check_keeps::<ByteOp>();
@@ -39,9 +46,14 @@ pub fn runs_of_bytes()
     redo_gives_the_map::<ByteOp>();
     stable_parts_stand::<ByteOp>();
     one_state::<ByteOp>();
+    turns_keep::<ByteOp>();
+    copying_goes_on::<ByteOp>();
+    copy_stands::<ByteOp>();
+    crash_takes_the_group::<ByteOp>();
     exactly_no_edge::<ByteOp>();
     minimal_nodes_are_whole::<ByteOp>();
     some_node_is_minimal::<ByteOp>();
+    graph_is_within::<ByteOp>();
 }
 
 /// Why two objects of one node are not flushed one after the other: with one half of the swap in its slot, no set of
@@ -108,4 +120,38 @@ pub fn swap_is_installed_in_a_redo()
         × ((after_steps (swap_redone_again 4)).cache 1 ≡ record { id = 4; value = 170 ∷ [] }) }
     ensures map_again { (x : ℕ) → ((after_steps (swap_redone_again 4)).cache x).value
         ≡ state_after (byte_meaning two) (commands_of (after_steps (swap_redone_again 4)).history) x }
+{}
+
+/// After one put that is forced, a group of a put and a swap: where the store stops within it, nothing of it is left; where
+/// it ends and is forced first, all of it is.
+pub fn group_is_lost_or_kept()
+    ensures lost_allowed { AreAllowed (byte_meaning two) (new_world ByteOp) group_lost }
+    ensures inside { ((after_steps group_opened).group ≡ Some 2) × ((after_steps group_opened).cache 0 ≡ record { id = 3; value = 187 ∷ [] })
+        × ((after_steps group_opened).cache 1 ≡ record { id = 3; value = 170 ∷ [] }) }
+    ensures lost { ((after_steps group_lost).group ≡ None) × ((after_steps group_lost).cache 0 ≡ record { id = 1; value = 170 ∷ [] })
+        × ((after_steps group_lost).cache 1 ≡ record { id = 0; value = [] }) }
+    ensures lost_history { ((after_steps group_lost).history ≡ Command (Put 0 170) ∷ []) × ((after_steps group_lost).forced ≡ 1) }
+    ensures lost_map { (x : ℕ) → ((after_steps group_lost).cache x).value
+        ≡ state_after (byte_meaning two) (commands_of (after_steps group_lost).history) x }
+    ensures kept_allowed { AreAllowed (byte_meaning two) (new_world ByteOp) (group_kept 3) }
+    ensures kept { ((after_steps (group_kept 3)).cache 0 ≡ record { id = 3; value = 187 ∷ [] })
+        × ((after_steps (group_kept 3)).cache 1 ≡ record { id = 3; value = 170 ∷ [] }) }
+    ensures kept_map { (x : ℕ) → ((after_steps (group_kept 3)).cache x).value
+        ≡ state_after (byte_meaning two) (commands_of (after_steps (group_kept 3)).history) x }
+{}
+
+/// Both slots are copied after the removal of the swap's node, and then the identity write of 1 is installed: the copy has
+/// the old slot of 1, and is explained by the members before that write, which a redo from the copy applies.
+pub fn identity_is_flushed_beside_a_copy()
+    ensures allowed { AreAllowed (byte_meaning two) (new_world ByteOp) copied_flushed }
+    ensures rule { MayWhileCopied (after_steps swap_removed) 2 (Slot_gate identity_node 1) }
+    ensures slot { ((after_steps copied_flushed).slots 1 ≡ record { id = 4; value = 170 ∷ [] })
+        × (both_copied 0 ≡ record { id = 3; value = 187 ∷ [] }) × (both_copied 1 ≡ record { id = 0; value = [] }) }
+    ensures installed { ((after_steps copied_flushed).installed 4 ≡ true)
+        × (installed_in_copy (byte_meaning two) (after_steps copied_flushed) 2 both_copied 4 ≡ false)
+        × (installed_in_copy (byte_meaning two) (after_steps copied_flushed) 2 both_copied 3 ≡ true) }
+    ensures explained { Explains (accesses_of (byte_meaning two) (take 4 (after_steps copied_flushed).history))
+        (value_at (byte_meaning two) (take 4 (after_steps copied_flushed).history))
+        (installed_in_copy (byte_meaning two) (after_steps copied_flushed) 2 both_copied)
+        (backup_of 2 both_copied (after_steps copied_flushed).slots) }
 {}

@@ -1,0 +1,34 @@
+-- The turns of a redo are allowed, and keep a world sound.
+use Rattle.std.proofs.Common.{◌≡◌, ◌∙◌, sym, subst, ap, ℕ, zero, suc, List}
+use Rattle.oper_core.specs.Meaning.{Meaning, IsLawful, state_after}
+use Rattle.explain_core.specs.History.{Member, commands_of}
+use Rattle.explain_core.specs.World.{World, Step, run, AreAllowed, IsLive, IsAllStable}
+use Rattle.explain_core.specs.RunLaws.{allowed-append}
+use Rattle.explain_core.specs.Sound.{IsSound}
+use Rattle.explain_core.specs.Turns.{turn, turns}
+use Rattle.explain_core.specs.TurnLaws.{turns_next, turns_none}
+use Rattle.explain_core.specs.KeptLog.{kept_stable, run_kept, quiet_turn, run_next, run_zero, turns_kept}
+use Rattle.explain_core.specs.ThinLaws.{turn_allowed}
+use Rattle.explain_core.proofs.Runs.{run_sound, sound-map}
+
+module _ {O : Type 0} (m : Meaning O) (law : IsLawful m) (limit : ℕ) where
+  pub turns-sound : (n : ℕ) (w : World O) → IsSound m w → IsAllStable w → AreAllowed m w (turns m limit n w) × IsSound m (run m w (turns m limit n w))
+  turns-sound zero w sound stable = (
+    subst (λ (steps : List (Step O)). AreAllowed m w steps) (sym (turns_none m limit w)) tt,
+    subst (λ (v : World O). IsSound m v) (run_zero m limit w) sound,
+  )
+  turns-sound (suc n) w sound stable =
+      let t = turn m limit w in
+      let v = run m w t in
+      let kept = run_kept m w t (quiet_turn m limit w) in
+      let may = turn_allowed m law w sound stable limit in
+      let rest = turns-sound n v (run_sound m law w t may sound) (kept_stable w v kept stable) in (
+        subst (λ (steps : List (Step O)). AreAllowed m w steps) (sym (turns_next m limit n w)) (allowed-append m w t (turns m limit n v) may rest.0),
+        subst (λ (u : World O). IsSound m u) (run_next m limit n w) rest.1,
+      )
+
+  -- after turns that leave nothing to replay the cache is the map
+  pub turns-map : (n : ℕ) (w : World O) → IsSound m w → IsAllStable w → IsLive (run m w (turns m limit n w)) → (x : ℕ) → ((run m w (turns m limit n w)).cache x).value ≡ state_after m (commands_of w.history) x
+  turns-map n w sound stable live x =
+      sound-map m (run m w (turns m limit n w)) live (turns-sound n w sound stable).1 x
+      ∙ ap (λ (h : List (Member O)). state_after m (commands_of h) x) (turns_kept m limit n w).history

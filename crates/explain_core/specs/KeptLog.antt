@@ -1,0 +1,99 @@
+-- What every turn of a redo keeps.
+use Rattle.std.proofs.Common.{◌≡◌, ◌∙◌, sym, ap, subst, ℕ, zero, suc, Bool, true, false, List, [], ◌∷◌, length, refl, nat_le, if◌then◌else◌}
+use Rattle.std.specs.Prelude.{⊤}
+use Rattle.oper_core.specs.Meaning.{Meaning}
+use Rattle.explain_core.specs.History.{Member}
+use Rattle.explain_core.specs.RunLaws.{run-append}
+use Rattle.explain_core.specs.World.{IsAllStable, World, Step, step, run}
+use Rattle.explain_core.specs.World.Step.{Begin, End, Append, Block_gate, Check, Slot_gate, Removal, Header_gate, Replay, Crash}
+use Rattle.install_order.specs.Computed.{some_below, least_below}
+use Rattle.explain_core.specs.World.{node_named}
+use Rattle.explain_core.specs.Turns.{must_install, thin_steps, thin_name, has_work, turn, turns}
+use Rattle.explain_core.specs.TurnLaws.{turns_next, turns_none}
+
+-- the log is as it was, and so is the group
+pub record IsLogKept {O : Type 0} (w v : World O) : Type 0 where
+  pub history : v.history ≡ w.history
+  pub forced : v.forced ≡ w.forced
+  pub tables : v.tables ≡ w.tables
+  pub base : v.base ≡ w.base
+  pub group : v.group ≡ w.group
+
+pub kept_none : {O : Type 0} (w : World O) → IsLogKept w w
+kept_none w = record { history = refl; forced = refl; tables = refl; base = refl; group = refl }
+
+pub kept_twice : {O : Type 0} (u v w : World O) → IsLogKept u v → IsLogKept v w → IsLogKept u w
+kept_twice u v w first second = record {
+  history = second.history ∙ first.history;
+  forced = second.forced ∙ first.forced;
+  tables = second.tables ∙ first.tables;
+  base = second.base ∙ first.base;
+  group = second.group ∙ first.group;
+}
+
+-- so all is stable as before
+pub kept_stable : {O : Type 0} (w v : World O) → IsLogKept w v → IsAllStable w → IsAllStable v
+kept_stable {O} w v kept stable = (kept.forced ∙ stable.0 ∙ ap (λ (h : List (Member O)). length h) (sym kept.history), kept.group ∙ stable.1)
+
+-- steps of a redo
+abbrev pub IsQuiet : {O : Type 0} → Step O → Type 0
+IsQuiet Begin = ⊥
+IsQuiet End = ⊥
+IsQuiet (Append member) = ⊥
+IsQuiet Block_gate = ⊥
+IsQuiet Check = ⊥
+IsQuiet (Slot_gate node x) = ⊤
+IsQuiet (Removal node) = ⊤
+IsQuiet (Header_gate base) = ⊥
+IsQuiet Replay = ⊤
+IsQuiet Crash = ⊥
+
+abbrev pub AreQuiet : {O : Type 0} → List (Step O) → Type 0
+AreQuiet [] = ⊤
+AreQuiet (s ∷ steps) = IsQuiet s × AreQuiet steps
+
+step_kept : {O : Type 0} (m : Meaning O) (w : World O) (s : Step O) → IsQuiet s → IsLogKept w (step m w s)
+unfolding step
+step_kept m w Begin q = absurd q
+step_kept m w End q = absurd q
+step_kept m w (Append member) q = absurd q
+step_kept m w Block_gate q = absurd q
+step_kept m w Check q = absurd q
+step_kept m w (Slot_gate node x) q = record { history = refl; forced = refl; tables = refl; base = refl; group = refl }
+step_kept m w (Removal node) q = record { history = refl; forced = refl; tables = refl; base = refl; group = refl }
+step_kept m w (Header_gate base) q = absurd q
+step_kept m w Replay q = record { history = refl; forced = refl; tables = refl; base = refl; group = refl }
+step_kept m w Crash q = absurd q
+
+pub run_kept : {O : Type 0} (m : Meaning O) (w : World O) (steps : List (Step O)) → AreQuiet steps → IsLogKept w (run m w steps)
+unfolding run
+run_kept m w [] q = kept_none w
+run_kept m w (s ∷ steps) q = kept_twice w (step m w s) (run m (step m w s) steps) (step_kept m w s q.0) (run_kept m (step m w s) steps q.1)
+
+quiet_if : {O : Type 0} (b : Bool) (xs ys : List (Step O)) → AreQuiet xs → AreQuiet ys → AreQuiet (if b then xs else ys)
+quiet_if true xs ys p q = p
+quiet_if false xs ys p q = q
+
+quiet_thin : {O : Type 0} (m : Meaning O) (w : World O) → AreQuiet (thin_steps m w)
+quiet_thin {O} m w =
+    let node = node_named m w (thin_name m w) in
+    quiet_if (some_below m.objects (has_work m w node)) (Slot_gate node (least_below m.objects (has_work m w node)) ∷ Removal node ∷ []) (Removal node ∷ []) (tt, (tt, tt)) (tt, tt)
+
+pub quiet_turn : {O : Type 0} (m : Meaning O) (limit : ℕ) (w : World O) → AreQuiet (turn m limit w)
+quiet_turn m limit w =
+    quiet_if (must_install m limit w) (thin_steps m w) (if nat_le w.next (length w.history) then Replay ∷ [] else []) (quiet_thin m w)
+    (quiet_if (nat_le w.next (length w.history)) (Replay ∷ []) [] (tt, tt) tt)
+
+module _ {O : Type 0} (m : Meaning O) (limit : ℕ) where
+  pub run_next : (n : ℕ) (w : World O) → run m (run m w (turn m limit w)) (turns m limit n (run m w (turn m limit w))) ≡ run m w (turns m limit (suc n) w)
+  run_next n w = sym (run-append m w (turn m limit w) (turns m limit n (run m w (turn m limit w)))) ∙ ap (run m w) (sym (turns_next m limit n w))
+
+  pub run_zero : (w : World O) → w ≡ run m w (turns m limit 0 w)
+  unfolding run
+  run_zero w = sym (ap (run m w) (turns_none m limit w))
+
+  pub turns_kept : (n : ℕ) (w : World O) → IsLogKept w (run m w (turns m limit n w))
+  turns_kept zero w = subst (λ (v : World O). IsLogKept w v) (run_zero w) (kept_none w)
+  turns_kept (suc n) w =
+      let v = run m w (turn m limit w) in
+      subst (λ (u : World O). IsLogKept w u) (run_next n w) (kept_twice w v (run m v (turns m limit n v)) (run_kept m w (turn m limit w) (quiet_turn m limit w)) (turns_kept n v))

@@ -1,0 +1,71 @@
+-- Turns one after the other.
+use Rattle.std.proofs.Common.{◌≡◌, ◌∙◌, sym, ap, ℕ, zero, suc, ◌+◌, ◌≤◌, List, [], ◌∷◌, ◌++◌, length, take, refl, arith, nat_le}
+use Rattle.std.specs.Prelude.{IsTrue, IsFalse}
+use Rattle.std.proofs.lemmas.Bool.{cond-true, cond-false, le-leb}
+use Rattle.std.proofs.lemmas.List.{append-nil, append_assoc}
+use Rattle.std.proofs.Math.Seq.{take-append-add}
+use Rattle.oper_core.specs.Meaning.{Meaning}
+use Rattle.explain_core.specs.RunLaws.{run-append}
+use Rattle.explain_core.specs.World.{World, Step, step, run}
+use Rattle.explain_core.specs.World.Step.{Replay}
+use Rattle.explain_core.specs.Turns.{must_install, thin_steps, turn, turns}
+
+module _ {O : Type 0} (m : Meaning O) (limit : ℕ) where
+  -- a turn, and those after it
+  pub turns_next : (n : ℕ) (w : World O) → turns m limit (suc n) w ≡ turn m limit w ++ turns m limit n (run m w (turn m limit w))
+  unfolding turns
+  turns_next n w = refl
+
+  pub turns_none : (w : World O) → turns m limit 0 w ≡ []
+  unfolding turns
+  turns_none w = refl
+
+  pub run_none : (w : World O) → run m w [] ≡ w
+  unfolding run
+  run_none w = refl
+
+  -- turns in two parts
+  pub turns_join : (a b : ℕ) (w : World O) → turns m limit (a + b) w ≡ turns m limit a w ++ turns m limit b (run m w (turns m limit a w))
+  turns_join zero b w =
+      let here : run m w (turns m limit 0 w) ≡ w = ap (run m w) (turns_none w) ∙ run_none w in
+      ap (λ (k : ℕ). turns m limit k w) (omega arith)
+      ∙ sym (ap (turns m limit b) here)
+      ∙ sym (ap (λ (xs : List (Step O)). xs ++ turns m limit b (run m w (turns m limit 0 w))) (turns_none w))
+  turns_join (suc a) b w =
+      let t = turn m limit w in
+      let v = run m w t in
+      ap (λ (k : ℕ). turns m limit k w) (omega arith)
+      ∙ turns_next (a + b) w
+      ∙ ap (λ (xs : List (Step O)). t ++ xs) (turns_join a b v)
+      ∙ sym (append_assoc t (turns m limit a v) (turns m limit b (run m v (turns m limit a v))))
+      ∙ ap (λ (u : World O). (t ++ turns m limit a v) ++ turns m limit b u) (sym (run-append m w t (turns m limit a v)))
+      ∙ sym (ap (λ (xs : List (Step O)). xs ++ turns m limit b (run m w xs)) (turns_next a w))
+
+  pub run_join : (a b : ℕ) (w : World O) → run m w (turns m limit (a + b) w) ≡ run m (run m w (turns m limit a w)) (turns m limit b (run m w (turns m limit a w)))
+  run_join a b w = ap (run m w) (turns_join a b w) ∙ run-append m w (turns m limit a w) (turns m limit b (run m w (turns m limit a w)))
+
+  -- the world after a beginning of later turns is one after a beginning of all turns
+  pub later_moment : (a b j : ℕ) (w : World O) → run m (run m w (turns m limit a w)) (take j (turns m limit b (run m w (turns m limit a w))))
+      ≡ run m w (take (length (turns m limit a w) + j) (turns m limit (a + b) w))
+  later_moment a b j w =
+      let xs = turns m limit a w in
+      let ys = turns m limit b (run m w xs) in
+      sym (run-append m w xs (take j ys)) ∙ ap (run m w) (sym (take-append-add xs ys j)) ∙ ap (λ (zs : List (Step O)). run m w (take (length xs + j) zs)) (sym (turns_join a b w))
+
+  -- one turn
+  pub one_turn : (w : World O) → turns m limit 1 w ≡ turn m limit w
+  one_turn w = turns_next 0 w ∙ ap (λ (xs : List (Step O)). turn m limit w ++ xs) (turns_none (run m w (turn m limit w))) ∙ append-nil (turn m limit w)
+
+  -- it is a replay, where nothing is to be installed
+  pub replay_turn : (w : World O) → IsFalse (must_install m limit w) → w.next ≤ length w.history → turn m limit w ≡ Replay ∷ []
+  replay_turn w none old = cond-false (must_install m limit w) _ _ none ∙ cond-true (nat_le w.next (length w.history)) _ _ (le-leb _ _ old)
+
+  pub install_turn : (w : World O) → IsTrue (must_install m limit w) → turn m limit w ≡ thin_steps m w
+  install_turn w must = cond-true (must_install m limit w) _ _ must
+
+  pub run_replay : (w : World O) → IsFalse (must_install m limit w) → w.next ≤ length w.history → run m w (turns m limit 1 w) ≡ step m w Replay
+  unfolding run
+  run_replay w none old = ap (run m w) (one_turn w ∙ replay_turn w none old)
+
+  pub run_install : (w : World O) → IsTrue (must_install m limit w) → run m w (turns m limit 1 w) ≡ run m w (thin_steps m w)
+  run_install w must = ap (run m w) (one_turn w ∙ install_turn w must)
