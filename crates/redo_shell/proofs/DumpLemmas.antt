@@ -3,12 +3,13 @@ use Rattle.std.proofs.Common.{◌≡◌, ◌<◌, ◌+◌, ◌++◌, List, ℕ, 
 use Rattle.std.proofs.lemmas.List.{append-nil, take_all}
 use Rattle.std.proofs.lemmas.List.Concat.{flat_map-append}
 use Rattle.std.specs.List.{flat_map}
-use Rattle.disk_model.specs.Disk.{Files, Disk, Passes, Runs, Stays, Same, SaysFront, LeavesOnly}
+use Rattle.disk_model.specs.Disk.{Files, Disk, Runs, Stays, Same, SaysFront, LeavesOnly}
 use Rattle.disk_model.specs.Moments.{first_call, runs_on, weaker}
 use Rattle.formats.specs.declared.params.Params.{Params}
 use Rattle.oper_core.specs.State.{State}
 use Rattle.script_lines.specs.Replies.{object_value, command_count, said_line}
 use Rattle.store_engine.specs.Engine.{EngineView}
+use Rattle.store_engine.specs.Starts.{OrAtStart, then_leaves}
 use Rattle.redo_shell.specs.Store.{Command, Stands, state_of, Holds, Between}
 use Rattle.redo_shell.specs.Dump.{row_of, rows_below, dump_of, DumpMoment}
 use Rattle.redo_shell.proofs.HoldLemmas.{holds_stays, stays_between}
@@ -78,11 +79,15 @@ dump_says p old mid new engine commands text run h all is say told =
         }
 
 -- a dump from before the store was opened
-pub dump_from : (p : Params) (old mid new : Disk) (commands : List Command) → Passes old mid → mid.said ≡ old.said → LeavesOnly old mid (Between p old (length commands) commands)
-    → (mid.tells_moments → LeavesOnly mid new (DumpMoment p commands mid.said)) → old.tells_moments → LeavesOnly old new (DumpMoment p commands old.said)
-dump_from p old mid new commands time quiet opening dumping told =
-    runs_on old mid new (DumpMoment p commands old.said) (dump_opens p old mid commands opening)
-    (subst (λ (s : List ℕ). LeavesOnly mid new (DumpMoment p commands s)) quiet (dumping (time.moments_told.0 told)))
+pub dump_from : (p : Params) (old mid new : Disk) (commands : List Command) → Stays old mid → (mid.tells_moments → LeavesOnly mid new (DumpMoment p commands mid.said)) → old.tells_moments
+    → LeavesOnly old new (OrAtStart old (DumpMoment p commands old.said))
+dump_from p old mid new commands kept dumping told =
+    then_leaves old mid new (DumpMoment p commands old.said) kept told
+    (subst (λ (s : List ℕ). LeavesOnly mid new (DumpMoment p commands s)) (kept.said (kept.begins.telling told)) (dumping (kept.time.moments_told.0 told)))
+
+-- what reads give, before anything is said
+pub start_dump : (p : Params) (old : Disk) (commands : List Command) → Stands p old.reads commands → DumpMoment p commands old.said old.reads old.said
+start_dump p old commands stands = record { stands = stands; count = 0; said_is = sym (append-nil old.said) }
 
 -- a beginning of it was said
 pub dump_begun : (p : Params) (old mid new : Disk) (commands : List Command) (text : List ℕ) → mid.said ≡ old.said → text ≡ dump_of p commands → SaysFront text mid.said new.said

@@ -23,7 +23,7 @@ each_stays {d} {new} {says} {P} run told here = (
 )
 
 -- a settled machine stays so
-still_settled : {d new : Disk} {says : List ℕ → List ℕ → Type 0} → Runs Same says d new → d.tells_files → IsSettled d → IsSettled new
+pub still_settled : {d new : Disk} {says : List ℕ → List ℕ → Type 0} → Runs Same says d new → d.tells_files → IsSettled d → IsSettled new
 still_settled {d} {new} {says} run told settled file told_new f s left =
     let told_old = run.time.moments_told.1 told_new in
     let from = run.crash told_old f s (run.ends.among d.clock new.clock f s run.time.later (omega arith) left) in

@@ -1,7 +1,8 @@
 -- Calls that leave the files as they are, one after the other.
-use Rattle.std.proofs.Common.{List, ℕ, sym, subst, ◌∙◌, arith}
-use Rattle.disk_model.specs.Disk.{Files, Disk, IsDisk, Runs, Stays, Same}
+use Rattle.std.proofs.Common.{◌≡◌, List, ℕ, ap, sym, subst, ◌∙◌, arith}
+use Rattle.disk_model.specs.Disk.{Files, Disk, IsDisk, Passes, Runs, Stays, Same, IsSettled}
 use Rattle.disk_model.specs.Moments.{first_call, runs_on, weaker, stays_here}
+use Rattle.store_engine.specs.Engine.{InEachImage}
 use Rattle.redo_shell.specs.Keeps.{KeepsFiles}
 
 -- one call, or many as one
@@ -30,3 +31,19 @@ keeps_behind old mid new first second =
           (weaker mid new (λ files said. mid.left_since mid.clock files mid.said) (λ files said. old.left_since old.clock files old.said) (second.images (first.time.moments_told.0 told))
           (λ files said left. image told files left));
     }
+
+-- calls that keep the files leave a settled machine so
+pub keeps_settled : (old new : Disk) → IsDisk old → IsDisk new → Passes old new → KeepsFiles old new → IsSettled old → IsSettled new
+keeps_settled old new lawful_old lawful time keeps settled file told_new c s left =
+    let told = time.moments_told.1 told_new in
+    let was = (keeps.images told).each c s (lawful.among old.clock new.clock c s time.later (omega arith) left) in
+    settled file told c old.said was ∙ sym (ap (λ (f : Files). f file) (keeps.reads (lawful_old.telling told)))
+
+-- what is true of the files that a settled machine reads is true of each image
+pub settled_each : (d : Disk) (P : Files → Type 0) → IsSettled d → P d.reads → InEachImage d P
+settled_each d P settled here = (
+  here,
+  λ told files said left.
+      let same : files ≡ d.reads = λ i file. settled file told files said left i in
+      subst P (sym same) here,
+)

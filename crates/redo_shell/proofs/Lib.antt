@@ -10,3 +10,4 @@ pub mod ExactLemmas
 pub mod DumpLemmas
 pub mod KeepLemmas
 pub mod CauseLemmas
+pub mod SessionLemmas

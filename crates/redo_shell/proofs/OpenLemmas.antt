@@ -1,14 +1,15 @@
 -- A run from before the store was opened.
-use Rattle.std.proofs.Common.{◌≡◌, ◌⊎◌, ⊎_elim, ◌++◌, List, ℕ, [], length, ap, ◌∙◌, sym, subst, arith, Bool, Result, Ok, Err, IfOk}
+use Rattle.std.proofs.Common.{◌≡◌, ◌≤◌, ◌⊎◌, refl, ⊎_elim, ◌++◌, List, ℕ, [], length, ap, ◌∙◌, sym, subst, arith, Bool, Result, Ok, Err, IfOk}
 use Rattle.std.specs.Prelude.{⊤}
-use Rattle.std.proofs.lemmas.List.{append-nil}
+use Rattle.std.proofs.lemmas.List.{append-nil, take_all}
 use Rattle.std.specs.List.{flat_map}
-use Rattle.disk_model.specs.Disk.{Files, Disk, Passes, LeavesOnly}
-use Rattle.disk_model.specs.Moments.{first_call, runs_on, weaker}
+use Rattle.disk_model.specs.Disk.{Files, Disk, Passes, Stays, LeavesOnly}
+use Rattle.disk_model.specs.Moments.{first_call, runs_on}
 use Rattle.formats.specs.Image.{EndsAt}
 use Rattle.formats.specs.declared.params.Params.{Params}
 use Rattle.script_lines.specs.Replies.{Reply, said_line}
-use Rattle.redo_shell.specs.Store.{Command, Between}
+use Rattle.store_engine.specs.Starts.{OrAtStart, at_start, then_leaves}
+use Rattle.redo_shell.specs.Store.{Command, Stands, Between}
 use Rattle.redo_shell.specs.Answers.{Moment, TrueWithin, with_begun, SaysTruly}
 use Rattle.redo_shell.specs.Status.{status_of, status_after}
 use Rattle.redo_shell.specs.declared.status.Status.{Status}
@@ -20,9 +21,22 @@ use Rattle.redo_shell.proofs.StoryLemmas.{story_start, told_whole}
 use Rattle.redo_shell.proofs.TrueLemmas.{none_begun}
 use Rattle.redo_shell.proofs.RunLemmas.{first_moment}
 
--- while the store is opened, nothing is said
-pub opening_moments : {p : Params} {start mid : Disk} {commands : List Command} (script : List (List ℕ)) → LeavesOnly start mid (Between p start (length commands) commands) → LeavesOnly start mid (Moment p commands script start.said)
-opening_moments {p} {start} {mid} {commands} script opening = weaker start mid (Between p start (length commands) commands) (Moment p commands script start.said) opening (first_moment script)
+-- while the store is opened, what a crash leaves is what one at the start could leave
+pub opening_moments : {p : Params} {start mid : Disk} {commands : List Command} (script : List (List ℕ)) → Stays start mid → start.tells_moments → LeavesOnly start mid (OrAtStart start (Moment p commands script start.said))
+opening_moments {p} {start} {mid} {commands} script kept told = at_start start mid (Moment p commands script start.said) kept told
+
+-- what reads give, before anything is said
+pub start_moment : {p : Params} (start : Disk) {commands : List Command} (script : List (List ℕ)) → Stands p start.reads commands → Moment p commands script start.said start.reads start.said
+start_moment {p} start {commands} script stands =
+    let enough : length commands ≤ length commands = omega arith in
+    let between : Between p start (length commands) commands start.reads start.said = record {
+      quiet = refl;
+      kept = length commands;
+      enough = enough;
+      within = enough;
+      stands = subst (λ (l : List Command). Stands p start.reads l) (sym (take_all (length commands) commands enough)) stands;
+    } in
+    first_moment {p = p} {start = start} {commands = commands} script start.reads start.said between
 
 pub says_nothing : {p : Params} {commands : List Command} (script : List (List ℕ)) {old new : Disk} → Passes old new → new.said ≡ old.said → SaysTruly p commands script old new
 says_nothing {p} {commands} script {old} {new} time quiet = let none = told_whole (λ reply. ⊤) (story_start p commands script) in record {
@@ -31,23 +45,22 @@ says_nothing {p} {commands} script {old} {new} time quiet = let none = told_whol
 }
 
 -- then the script is answered
-pub run_moments : {p : Params} {start mid new : Disk} {commands : List Command} (script : List (List ℕ)) → Passes start mid → mid.said ≡ start.said → LeavesOnly start mid (Between p start (length commands) commands)
-    → IsRun p mid new commands script → start.tells_moments → LeavesOnly start new (Moment p commands script start.said)
-run_moments {p} {start} {mid} {new} {commands} script time quiet opening run told =
-    runs_on start mid new (Moment p commands script start.said) (opening_moments script opening)
-    (subst (λ (s : List ℕ). LeavesOnly mid new (Moment p commands script s)) quiet (run.moments (time.moments_told.0 told)))
+pub run_moments : {p : Params} {start mid new : Disk} {commands : List Command} (script : List (List ℕ)) → Stays start mid → IsRun p mid new commands script → start.tells_moments
+    → LeavesOnly start new (OrAtStart start (Moment p commands script start.said))
+run_moments {p} {start} {mid} {new} {commands} script kept run told =
+    then_leaves start mid new (Moment p commands script start.said) kept told
+    (subst (λ (s : List ℕ). LeavesOnly mid new (Moment p commands script s)) (kept.said (kept.begins.telling told)) (run.moments (kept.time.moments_told.0 told)))
 
-pub run_says : {p : Params} {start mid new : Disk} {commands : List Command} {script : List (List ℕ)} → Passes start mid → mid.said ≡ start.said → (start.tells_moments → LeavesOnly start mid (Between p start (length commands) commands))
-    → IsRun p mid new commands script → SaysTruly p commands script start new
-run_says {p} {start} {mid} {new} {commands} {script} time quiet opening run =
+pub run_says : {p : Params} {start mid new : Disk} {commands : List Command} {script : List (List ℕ)} → Stays start mid → mid.said ≡ start.said → IsRun p mid new commands script → SaysTruly p commands script start new
+run_says {p} {start} {mid} {new} {commands} {script} kept quiet run =
     let truth = run.says in
     let story = truth.says.story in
     let replies = with_begun story.replies story.work in
     record {
       says = record { bytes = truth.says.bytes; since = truth.says.since ∙ ap (λ (l : List ℕ). l ++ truth.says.bytes) quiet; story = story };
       truly = λ told. runs_on start mid new (TrueWithin p start.said replies)
-          (weaker start mid (Between p start (length commands) commands) (TrueWithin p start.said replies) (opening told) (λ files said b. none_begun p start.said replies files said (omega (arith, ap length b.quiet))))
-          (subst (λ (s : List ℕ). LeavesOnly mid new (TrueWithin p s replies)) quiet (truth.truly (time.moments_told.0 told)));
+          (first_call start mid (TrueWithin p start.said replies) told kept.time (λ files said left. none_begun p start.said replies files said (omega (arith, ap length (kept.crash told files said left).1))))
+          (subst (λ (s : List ℕ). LeavesOnly mid new (TrueWithin p s replies)) quiet (truth.truly (kept.time.moments_told.0 told)));
     }
 
 pub complete_from : {p : Params} {start mid new : Disk} {commands : List Command} {script : List (List ℕ)} {status : Status} → mid.said ≡ start.said → mid.reads ≡ start.reads → IsComplete p mid new commands script status → IsComplete p start new commands script status
@@ -57,6 +70,7 @@ complete_from quiet same all = record {
   answers = all.answers;
   said_is = all.said_is ∙ ap (λ (l : List ℕ). l ++ flat_map said_line all.replies) quiet;
   stands = all.stands;
+  settled = all.settled;
   refusals = all.refusals;
   first = all.first;
   ends = subst (λ (f : Files). EndsAt f all.first.used) same all.ends;

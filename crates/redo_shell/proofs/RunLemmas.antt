@@ -216,6 +216,7 @@ completes {p} {start} {now} {new} {engine} {after} {commands} {script} {todo} {r
         subst (λ (l : List Command). Stands p new.reads l) whole holds.now,
         λ told f s left. subst (λ (l : List Command). Stands p f l) whole (holds.images told f s left),
       );
+      settled = holds.carried.log.settled;
       refusals = tells refusing (list_any is_refusing g.replies) g.kind;
       first = g.first;
       ends = g.ends;

@@ -8,3 +8,4 @@ pub mod Run
 pub mod Exactly
 pub mod Dump
 pub mod Keeps
+pub mod Sessions

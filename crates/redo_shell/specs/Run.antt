@@ -1,7 +1,7 @@
 -- One line's answer, and a whole run.
 use Rattle.std.specs.Prelude.{◌≡◌, ℕ, ◌≤◌, ◌⊎◌, ◌↔◌, ⊤, ◌++◌, List, length, take, Contains, Bool, true, false, Result, IfOk, OnErr}
 use Rattle.std.specs.List.{flat_map, list_any}
-use Rattle.disk_model.specs.Disk.{Files, Disk, LeavesOnly, Rises}
+use Rattle.disk_model.specs.Disk.{Files, Disk, LeavesOnly, Rises, IsSettled}
 use Rattle.formats.specs.Image.{EndsAt}
 use Rattle.formats.specs.declared.params.Params.{Params}
 use Rattle.script_lines.specs.Replies.{Reply, forced, said_line}
@@ -93,6 +93,7 @@ pub record IsComplete (p : Params) (start now : Disk) (commands : List Command) 
   pub answers : Answers p commands script replies acc
   pub said_is : now.said ≡ start.said ++ flat_map said_line replies
   pub stands : InEachImage now (λ files. Stands p files (commands ++ acc))
+  pub settled : IsSettled now
   pub refusals : (status ≡ DoneWithRefusals) ↔ (list_any is_refusing replies ≡ true)
   pub first : LogLength
   pub ends : EndsAt start.reads first.used

@@ -1,7 +1,7 @@
 // A store is told: its objects that are not empty, and how many commands it was given.
 ghost use Rattle.std.specs.Prelude.{◌≡◌, ◌≢◌, ◌<◌, ◌++◌, false, List, ℕ, length, take, OnOk, IfOk, IfErr};
 ghost use Rattle.std.specs.List.{flat_map};
-ghost use Rattle.disk_model.specs.Disk.{Rises, Passes, Stays, LeavesOnly};
+ghost use Rattle.disk_model.specs.Disk.{Rises, Passes, Stays, LeavesOnly, IsSettled};
 ghost use Rattle.disk_model.specs.declared.machine.FileNo.{FileNo};
 ghost use Rattle.disk_model.specs.declared.machine.FileNo.TheVariants.{Objects};
 ghost use Rattle.formats.specs.Bytes.{IsShutAt};
@@ -10,6 +10,7 @@ ghost use Rattle.formats.specs.declared.params.Params.{Params};
 ghost use Rattle.op_codec.specs.AllOps.{all_meaning};
 ghost use Rattle.script_lines.specs.Replies.{command_count, said_line};
 ghost use Rattle.store_engine.specs.Engine.{IsAttached};
+ghost use Rattle.store_engine.specs.Starts.{OrAtStart};
 ghost use Rattle.redo_shell.specs.Store.{Command, IsWellFormed, Opens, Holds, state_of};
 ghost use Rattle.redo_shell.specs.Dump.{row_of, dump_of, DumpMoment};
 ghost use Rattle.redo_shell.specs.Keeps.{KeepsFiles};
@@ -125,7 +126,9 @@ fn dump_open<M: Machine>(alloc: Global, engine: &mut Engine<AllOps>, machine: &m
 pub fn dump<M: Machine>(alloc: Global, machine: &mut M) -> Status
     ensures time { Passes (M.disk machine.old) (M.disk machine.new) }
     ensures moments { (p : Params) (commands : List Command) → Opens p (M.disk machine.old) commands → (M.disk machine.old).tells_moments →
-        LeavesOnly (M.disk machine.old) (M.disk machine.new) (DumpMoment p commands (M.disk machine.old).said) }
+        LeavesOnly (M.disk machine.old) (M.disk machine.new) (OrAtStart (M.disk machine.old) (DumpMoment p commands (M.disk machine.old).said)) }
+    ensures settled { result ≡ Status.Done → IsSettled (M.disk machine.new) }
+    ensures said_settled { (p : Params) (commands : List Command) → Opens p (M.disk machine.old) commands → result ≡ Status.SayFault → IsSettled (M.disk machine.new) }
     ensures said { (p : Params) (commands : List Command) → Opens p (M.disk machine.old) commands →
         (count : ℕ) × ((M.disk machine.new).said ≡ (M.disk machine.old).said ++ take count (dump_of p commands)) }
     ensures all { (p : Params) (commands : List Command) → Opens p (M.disk machine.old) commands → result ≡ Status.Done →

@@ -1,10 +1,11 @@
 // A store is laid out.
-ghost use Rattle.std.specs.Prelude.{◌≡◌, ◌++◌, []};
+ghost use Rattle.std.specs.Prelude.{◌≡◌, ◌⊎◌, ◌++◌, []};
 ghost use Rattle.disk_model.specs.Disk.{Rises, Passes, LeavesOnly, IsSettled};
 ghost use Rattle.disk_model.specs.declared.machine.FileNo.TheVariants.{Objects};
 ghost use Rattle.formats.specs.Objects.{IsInRange};
 ghost use Rattle.formats.specs.Image.{BeginsStore};
 ghost use Rattle.store_engine.specs.Engine.{InEachImage};
+ghost use Rattle.store_engine.specs.Starts.{OrAtStart};
 ghost use Rattle.redo_shell.specs.Store.{Stands, IsNew};
 ghost use Rattle.redo_shell.specs.Keeps.{KeepsFiles};
 ghost use Rattle.redo_shell.specs.Notices.{already_a_store};
@@ -21,13 +22,15 @@ use store_engine::{Engine, InitErr};
 pub fn init<M: Machine>(machine: &mut M, params: Params) -> Status
     requires { IsInRange params }
     ensures time { Passes (M.disk machine.old) (M.disk machine.new) }
-    ensures done { (M.disk machine.old).tells_files → IsSettled (M.disk machine.old) → result ≡ Status.Done →
+    ensures done { (M.disk machine.old).tells_files → result ≡ Status.Done →
         InEachImage (M.disk machine.new) (λ files. Stands params files []) }
-    ensures moments { (M.disk machine.old).tells_moments → IsSettled (M.disk machine.old) → (BeginsStore ((M.disk machine.old).reads Objects) → ⊥) →
-        LeavesOnly (M.disk machine.old) (M.disk machine.new) (λ files said. IsNew params files × (said ≡ (M.disk machine.old).said)) }
+    ensures moments { (M.disk machine.old).tells_moments → (BeginsStore ((M.disk machine.old).reads Objects) → ⊥) →
+        LeavesOnly (M.disk machine.old) (M.disk machine.new) (OrAtStart (M.disk machine.old) (λ files said. IsNew params files × (said ≡ (M.disk machine.old).said))) }
+    ensures settled { (M.disk machine.old).tells_files → (result ≡ Status.Done) ⊎ (result ≡ Status.AlreadyStore) → IsSettled (M.disk machine.new) }
     ensures keeps { (M.disk machine.old).tells_files → BeginsStore ((M.disk machine.old).reads Objects) → KeepsFiles (M.disk machine.old) (M.disk machine.new) }
     ensures already { (M.disk machine.old).tells_files → result ≡ Status.AlreadyStore → BeginsStore ((M.disk machine.old).reads Objects)
         × ((M.disk machine.new).reads ≡ (M.disk machine.old).reads) × ((M.disk machine.new).said ≡ (M.disk machine.old).said ++ already_a_store) }
+    ensures already_each { (M.disk machine.old).tells_files → result ≡ Status.AlreadyStore → InEachImage (M.disk machine.new) (λ files. BeginsStore (files Objects)) }
     ensures fresh { (M.disk machine.old).tells_files → result ≡ Status.Done → BeginsStore ((M.disk machine.old).reads Objects) → ⊥ }
     ensures status { IsOfInit result }
     ensures disk_fault { result ≡ Status.DiskFault → Rises (M.disk machine.old).disk_faults (M.disk machine.new).disk_faults }

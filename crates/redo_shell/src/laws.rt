@@ -5,9 +5,13 @@ ghost use Rattle.oper_core.specs.declared.refusal.Refusal.{Refusal as Why};
 ghost use Rattle.oper_core.specs.declared.refusal.Refusal.TheVariants.{NoObject};
 ghost use Rattle.script_lines.specs.Grammar.{AsksFor, IsBad, get, force, skip};
 ghost use Rattle.script_lines.specs.Replies.{Reply, bad, value, refused, forced, silence};
-ghost use Rattle.redo_shell.specs.Store.{Command, refusal_after, state_of};
+ghost use Rattle.disk_model.specs.Disk.{Passes, IsSettled};
+ghost use Rattle.store_engine.specs.Engine.{InEachImage};
+ghost use Rattle.redo_shell.specs.Store.{Command, Stands, IsNew, refusal_after, state_of};
+ghost use Rattle.redo_shell.specs.Sessions.{Ran, Follows, Survives, Arises, Sessions};
 ghost use Rattle.redo_shell.specs.Replies.{AsksCommand, Replies};
 
+use disk_model::Machine;
 use script_lines::a_line_asks_one_thing;
 
 /// Each answer to a line comes exactly where its cause holds: `bad` where the line is outside the grammar, `refused` with
@@ -29,3 +33,24 @@ pub fn a_line_gets_the_answer_of_its_cause()
 {
     a_line_asks_one_thing();
 }
+
+/// Any calls of the program, one after the other, each ended anyhow and followed by nothing, a kill or a crash: what is
+/// left stands for the commands of the start and those that the runs have added, no fewer than any run has said to be
+/// forced. From files that are no store the same holds from the first `init` on that has made one.
+pub fn sessions_keep_what_was_forced<M: Machine>()
+    ensures from_store { (p : Params) (commands : List Command) (first last : M) (runs : List Ran) → (M.disk first).tells_moments →
+        InEachImage (M.disk first) (λ files. Stands p files commands) → Sessions M.disk p first runs last →
+        InEachImage (M.disk last) (Survives p commands runs) }
+    ensures from_none { (p : Params) (first last : M) (runs : List Ran) → (M.disk first).tells_moments →
+        InEachImage (M.disk first) (IsNew p) → Sessions M.disk p first runs last →
+        InEachImage (M.disk last) (Arises p runs) }
+{}
+
+/// What may follow a call: nothing, a kill at a moment of it, which may be that between two calls to the machine, or a
+/// crash, after which the machine is settled on an image.
+pub fn a_call_is_followed<M: Machine>()
+    ensures nothing { (old new : M) → Passes (M.disk old) (M.disk new) → Follows (M.disk old) (M.disk new) (M.disk new) (M.disk new).said }
+    ensures kill { (old mid new : M) → Passes (M.disk old) (M.disk mid) → Passes (M.disk mid) (M.disk new) → Follows (M.disk old) (M.disk new) (M.disk mid) (M.disk mid).said }
+    ensures crash { (old new next : M) → Passes (M.disk old) (M.disk new) → ((M.disk new).tells_moments ↔ (M.disk next).tells_moments) → IsSettled (M.disk next) →
+        (M.disk new).left_since (M.disk new).clock (M.disk next).reads (M.disk new).said → Follows (M.disk old) (M.disk new) (M.disk next) (M.disk new).said }
+{}

@@ -26,6 +26,8 @@ mod stop;
 #[cfg(test)]
 mod tests;
 
-pub use laws::a_line_gets_the_answer_of_its_cause;
+pub use laws::{
+    a_call_is_followed, a_line_gets_the_answer_of_its_cause, sessions_keep_what_was_forced,
+};
 pub use program::top;
 pub use status::Status;

@@ -1,6 +1,6 @@
 // How a store is opened, and what is said where it is not.
 ghost use Rattle.std.specs.Prelude.{◌≡◌, ◌≢◌, ◌++◌, false, List, ℕ, length, OnOk, IfOk, IfErr, IsErrOf};
-ghost use Rattle.disk_model.specs.Disk.{Rises, Passes, Stays, LeavesOnly};
+ghost use Rattle.disk_model.specs.Disk.{Rises, Passes, Stays, IsSettled};
 ghost use Rattle.disk_model.specs.declared.machine.FileNo.{FileNo};
 ghost use Rattle.disk_model.specs.declared.machine.FileNo.TheVariants.{Objects};
 ghost use Rattle.formats.specs.Bytes.{IsShutAt};
@@ -8,7 +8,7 @@ ghost use Rattle.formats.specs.Image.{IsDamaged};
 ghost use Rattle.formats.specs.declared.params.Params.{Params};
 ghost use Rattle.op_codec.specs.AllOps.{all_meaning};
 ghost use Rattle.store_engine.specs.Engine.{IsAttached, IsNoDamage};
-ghost use Rattle.redo_shell.specs.Store.{Command, IsWellFormed, Opens, Holds, Between};
+ghost use Rattle.redo_shell.specs.Store.{Command, IsWellFormed, Opens, Holds};
 ghost use Rattle.redo_shell.specs.Keeps.{KeepsFiles};
 ghost use Rattle.redo_shell.specs.Notices.{not_a_store, damaged};
 ghost use Rattle.redo_shell.specs.Status.{IsOfUnopened};
@@ -34,7 +34,7 @@ fn end_unopened<M: Machine>(alloc: Global, machine: &mut M, cause: RestartErr) -
     ensures damaged { (M.disk machine.old).tells_files → result ≡ Status.Damaged → (file : FileNo) × (place : ℕ) × (cause ≡ RestartErr.Damaged file place)
         × ((M.disk machine.new).said ≡ (M.disk machine.old).said ++ damaged file place) }
     // A fault of the disk and want of memory are told by the status alone.
-    ensures quiet { cause ≢ RestartErr.NotAStore → IsNoDamage cause → (machine.new ≡ machine.old) × (result ≢ Status.NotAStore) × (result ≢ Status.Damaged) }
+    ensures quiet { cause ≢ RestartErr.NotAStore → IsNoDamage cause → (machine.new ≡ machine.old) × (result ≢ Status.NotAStore) × (result ≢ Status.Damaged) × (result ≢ Status.SayFault) }
     ensures status { IsOfUnopened result }
     ensures disk_fault { result ≡ Status.DiskFault → cause ≡ RestartErr.DiskFault }
     ensures say_fault { result ≡ Status.SayFault → Rises (M.disk machine.old).say_faults (M.disk machine.new).say_faults }
@@ -54,8 +54,9 @@ pub fn open_store<M: Machine>(alloc: Global, machine: &mut M) -> Result<Engine<A
     ensures kept { OnOk result (Stays (M.disk machine.old) (M.disk machine.new)) }
     ensures ok { (p : Params) (commands : List Command) → Opens p (M.disk machine.old) commands →
         IfOk result (λ engine. Holds p (M.disk machine.new) engine commands × (engine.forced ≡ length commands)) }
-    ensures moments { (p : Params) (commands : List Command) → Opens p (M.disk machine.old) commands → (M.disk machine.old).tells_moments →
-        LeavesOnly (M.disk machine.old) (M.disk machine.new) (Between p (M.disk machine.old) (length commands) commands) }
+    ensures stays { (p : Params) (commands : List Command) → Opens p (M.disk machine.old) commands → Stays (M.disk machine.old) (M.disk machine.new) }
+    ensures settled { OnOk result (IsSettled (M.disk machine.new)) }
+    ensures calm { (p : Params) (commands : List Command) → Opens p (M.disk machine.old) commands → IfErr result (λ status. status ≢ Status.SayFault) }
     ensures quiet { (p : Params) (commands : List Command) → Opens p (M.disk machine.old) commands → (M.disk machine.new).said ≡ (M.disk machine.old).said }
     ensures attached { IfOk result (IsAttached (M.disk machine.new)) }
     ensures unbroken { IfOk result (λ engine. engine.broken ≡ false) }

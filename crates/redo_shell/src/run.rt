@@ -10,8 +10,10 @@ ghost use Rattle.op_codec.specs.AllOps.{all_meaning};
 ghost use Rattle.script_lines.specs.Grammar.{lines_of};
 ghost use Rattle.script_lines.specs.Reading.{Takes};
 ghost use Rattle.store_engine.specs.Engine.{IsAttached};
+ghost use Rattle.store_engine.specs.Starts.{OrAtStart};
 ghost use Rattle.redo_shell.specs.Store.{Command, IsWellFormed, Opens, Holds};
 ghost use Rattle.redo_shell.specs.Answers.{Moment, SaysTruly};
+ghost use Rattle.redo_shell.specs.Keeps.{KeepsFiles};
 ghost use Rattle.redo_shell.specs.Notices.{not_a_store, damaged};
 ghost use Rattle.redo_shell.specs.Run.{IsRun, IsComplete};
 ghost use Rattle.redo_shell.specs.Status.{IsOfRun, IsOfStore};
@@ -62,7 +64,7 @@ fn run_open<M: Machine, S: Source>(
 pub fn run<M: Machine, S: Source>(alloc: Global, machine: &mut M, input: &mut S) -> Status
     ensures time { Passes (M.disk machine.old) (M.disk machine.new) }
     ensures moments { (p : Params) (commands : List Command) → Opens p (M.disk machine.old) commands → S.tells input.old → (M.disk machine.old).tells_moments →
-        LeavesOnly (M.disk machine.old) (M.disk machine.new) (Moment p commands (lines_of (S.left input.old)) (M.disk machine.old).said) }
+        LeavesOnly (M.disk machine.old) (M.disk machine.new) (OrAtStart (M.disk machine.old) (Moment p commands (lines_of (S.left input.old)) (M.disk machine.old).said)) }
     ensures answers { (p : Params) (commands : List Command) → Opens p (M.disk machine.old) commands → S.tells input.old →
         SaysTruly p commands (lines_of (S.left input.old)) (M.disk machine.old) (M.disk machine.new) }
     ensures complete { (p : Params) (commands : List Command) → Opens p (M.disk machine.old) commands → S.tells input.old →
@@ -71,6 +73,7 @@ pub fn run<M: Machine, S: Source>(alloc: Global, machine: &mut M, input: &mut S)
     ensures input { S.tells input.old → (result ≡ Status.Done) ⊎ (result ≡ Status.DoneWithRefusals) → (S.left input.new ≡ []) × (length (S.left input.old) < 2 ^ 40) }
     ensures opened { (M.disk machine.old).tells_files → IsOfStore result → IsWellFormed (M.disk machine.old).reads }
     ensures store { (M.disk machine.old).tells_files → IsWellFormed (M.disk machine.old).reads → (result ≢ Status.NotAStore) × (result ≢ Status.Damaged) }
+    ensures unopened { (M.disk machine.old).tells_files → (IsWellFormed (M.disk machine.old).reads → ⊥) → KeepsFiles (M.disk machine.old) (M.disk machine.new) }
     ensures no_store { (M.disk machine.old).tells_files → result ≡ Status.NotAStore → IsShutAt 0 ((M.disk machine.old).reads Objects)
         × ((M.disk machine.new).reads ≡ (M.disk machine.old).reads) × ((M.disk machine.new).said ≡ (M.disk machine.old).said ++ not_a_store) }
     ensures damaged { (M.disk machine.old).tells_files → result ≡ Status.Damaged → (file : FileNo) × (place : ℕ)

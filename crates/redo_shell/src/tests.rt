@@ -4,6 +4,7 @@ use disk_model::{Crash, FileNo, Fuse, Machine, MemMachine, MemSource};
 use std::alloc::{AllocError, Global};
 use std::test::Fail;
 
+mod killed_init;
 mod plain;
 mod slots;
 mod stops;

@@ -15,6 +15,7 @@ use Rattle.formats.specs.declared.params.Params.{Params}
 use Rattle.log_frames.specs.Creating.{LogsAlone}
 use Rattle.stable_objects.specs.Making.{IsShut, IsNewFile, IsShutOrWhole}
 use Rattle.store_engine.specs.Engine.{InEachImage, IsNew}
+use Rattle.store_engine.specs.Starts.{OrAtStart, then_leaves}
 use Rattle.store_engine.specs.Store.{Stands}
 
 -- no store begins behind a closed gate
@@ -42,6 +43,10 @@ pub in_a_row : (old first second third : Disk) → Stays old first → Runs (In 
 in_a_row old first second third kept run logs =
     passes_twice old second third logs.ends (passes_twice old first second run.ends kept.time run.time) logs.time
 
+-- where nothing changes, no store begins that did not begin before
+pub none_still : (old mid : Disk) → Stays old mid → old.tells_moments → (BeginsStore (old.reads Objects) → ⊥) → BeginsStore (mid.reads Objects) → ⊥
+none_still old mid kept told none begins = none (subst (λ (f : Files). BeginsStore (f Objects)) (kept.reads (kept.begins.telling told)) begins)
+
 -- where a call did not fail, its clause on success holds
 pub on_ok : {T E : Type 0} (r : Result T E) (P : Type 0) → is_err r ≡ false → OnOk r P → P
 on_ok (Ok x) P fine here = here
@@ -60,6 +65,11 @@ module _ {O : Type 0} (meaning : Bounds → Meaning O) (p : Params) where
   -- so far no store is there, or one without commands
   abbrev pub NewSoFar : Disk → Files → List ℕ → Type 0
   NewSoFar old files said = IsNew meaning p files × (said ≡ old.said)
+
+  -- behind a call that changes no image
+  pub behind : (old mid new : Disk) → Stays old mid → old.tells_moments → LeavesOnly mid new (NewSoFar mid) → LeavesOnly old new (OrAtStart old (NewSoFar old))
+  behind old mid new kept told leaves = then_leaves old mid new (NewSoFar old) kept told
+      (weaker mid new (NewSoFar mid) (NewSoFar old) leaves (λ files said is. (is.0, is.1 ∙ kept.said (kept.begins.telling told))))
 
   module _ (old first : Disk) (told : old.tells_moments) (settled : IsSettled old) (none : BeginsStore (old.reads Objects) → ⊥) (kept : Stays old first) where
     looked : LeavesOnly old first (NewSoFar old)

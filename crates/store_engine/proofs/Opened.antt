@@ -321,9 +321,8 @@ module _ {O : Type 0} (meaning : Bounds → Meaning O) where
 
   -- an engine that was read stands for the commands of its files
   pub read_holds : ((b : Bounds) → HasBounds b (meaning b)) → ((b : Bounds) → IsSmall b → IsLawful (meaning b)) → (p : Params) (old new : Disk) (engine : EngineView) (commands : List O)
-      → Opens meaning p old commands → Stays old new → IsRead meaning old.reads new engine → Holds meaning p new engine commands × (engine.forced ≡ length commands)
-  read_holds bounded lawful p old new engine commands opens kept is =
-      let stands = opens.stands in
+      → old.tells_files → Stands meaning p old.reads commands → Stays old new → IsRead meaning old.reads new engine → Holds meaning p new engine commands × (engine.forced ≡ length commands)
+  read_holds bounded lawful p old new engine commands told stands kept is =
       let file = old.reads Objects in
       let m = meaning_in meaning p in
       let same : params_of engine ≡ p = one_store (params_of engine) p file is.laid.slots.whole stands.objects in
@@ -338,7 +337,7 @@ module _ {O : Type 0} (meaning : Bounds → Meaning O) where
       let objects : m.objects ≡ p.objects = (bounded (bounds_of p)).objects in
       let law = redone_from_new m lawful_here (records_of is.groups) (λ y. cell_of p.cap y file) numbered (λ x within. shut_cells p file x stands.shut (omega (arith, within, objects))) in
       let carried : Carries meaning p new engine commands = record {
-        told = kept.time.files_told.0 opens.told;
+        told = kept.time.files_told.0 told;
         params = same;
         stable = records_of is.groups;
         pending = [];
@@ -349,11 +348,11 @@ module _ {O : Type 0} (meaning : Bounds → Meaning O) where
         none_before = ap (λ (h : Header). h.commands) logs.0 ∙ stands.log.none_before;
         accepted = is.accepted;
         forced = is.forced;
-        laid = subst (λ (f : Files). IsLaidOn engine.objects (f Objects)) (sym (kept.reads opens.told)) is.laid;
-        shut = subst (λ (f : Files). AreSlotsShut p (f Objects)) (sym (kept.reads opens.told)) stands.shut;
-        other = subst (λ (f : Files). IsShutLog (f LogB)) (sym (kept.reads opens.told)) stands.other;
+        laid = subst (λ (f : Files). IsLaidOn engine.objects (f Objects)) (sym (kept.reads told)) is.laid;
+        shut = subst (λ (f : Files). AreSlotsShut p (f Objects)) (sym (kept.reads told)) stands.shut;
+        other = subst (λ (f : Files). IsShutLog (f LogB)) (sym (kept.reads told)) stands.other;
         values = λ x below.
-            ap (λ (f : Files). (cell_in engine.objects (f Objects) x).value) (kept.reads opens.told)
+            ap (λ (f : Files). (cell_in engine.objects (f Objects) x).value) (kept.reads told)
             ∙ ap (λ (c : Cell). c.value) (cells x below)
             ∙ law x (omega (arith, below, objects))
             ∙ ap (λ (l : List O). state_after m l x) (sym commands_are);
@@ -372,10 +371,10 @@ module _ {O : Type 0} (meaning : Bounds → Meaning O) where
   }
 
   -- the files stand for the same commands at each moment
-  pub open_between : (p : Params) (old new : Disk) (commands : List O) → Opens meaning p old commands → Stays old new → old.tells_moments → LeavesOnly old new (Between meaning p old (length commands) commands)
-  open_between p old new commands opens kept told =
+  pub open_between : (p : Params) (old new : Disk) (commands : List O) → Opens meaning p old commands → IsSettled old → Stays old new → old.tells_moments → LeavesOnly old new (Between meaning p old (length commands) commands)
+  open_between p old new commands opens settled kept told =
       first_call old new (Between meaning p old (length commands) commands) told kept.time (λ files said left.
-      let from = from_reads old new Same Same told opens.settled kept.crash files said left in
+      let from = from_reads old new Same Same told settled kept.crash files said left in
       between_reads p old commands opens files said from.0 from.1)
 
   -- files that an engine was read from meet their format

@@ -1,6 +1,6 @@
 -- What the engine and its files stand for.
 use Rattle.std.specs.Prelude.{◌≡◌, ◌≢◌, ◌⊎◌, ℕ, ◌+◌, ◌^◌, ◌≤◌, ◌<◌, ⊤, List, length, take, [], ◌∷◌, ◌++◌, Some, None, IsSome, Result, Ok, Err, Bool, true, false, if◌then◌else◌}
-use Rattle.disk_model.specs.Disk.{Files, Disk, IsSettled}
+use Rattle.disk_model.specs.Disk.{Files, Disk}
 use Rattle.disk_model.specs.declared.machine.FileNo.TheVariants.{Objects, LogA, LogB}
 use Rattle.oper_core.specs.Meaning.{Meaning, FitsReads}
 use Rattle.oper_core.specs.declared.bounds.Bounds.{Bounds}
@@ -123,10 +123,9 @@ IsNoDamage (Damaged file place) = ⊥
 IsNoDamage error = ⊤
 
 module _ {O : Type 0} (meaning : Bounds → Meaning O) where
-  -- the machine tells its files and is settled, and they stand for the commands
+  -- the machine tells its files, and what reads give stands for the commands
   pub record Opens (p : Params) (d : Disk) (commands : List O) : Type 0 where
     pub told : d.tells_files
-    pub settled : IsSettled d
     pub stands : Stands meaning p d.reads commands
 
   -- the cache, laid over the slots, is the state after the commands

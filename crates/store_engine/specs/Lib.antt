@@ -2,5 +2,6 @@ pub mod Laid
 pub mod Store
 pub mod Engine
 pub mod Opening
+pub mod Starts
 pub mod ImageLaws
 pub mod Uniqueness

@@ -5,30 +5,36 @@ ghost use Rattle.disk_model.specs.declared.machine.FileNo.TheVariants.{Objects};
 ghost use Rattle.formats.specs.Objects.{IsInRange};
 ghost use Rattle.formats.specs.Image.{BeginsStore};
 ghost use Rattle.store_engine.specs.Engine.{InEachImage, IsNew};
+ghost use Rattle.store_engine.specs.Starts.{OrAtStart};
 ghost use Rattle.store_engine.specs.Store.{Stands};
 
 use crate::Engine;
 use crate::init_err::InitErr;
-use disk_model::Machine;
+use disk_model::{Machine, settle};
 use formats::Params;
 use log_records::RecordLog;
 use oper_core::{Bounds, Oper};
 use stable_objects::Slots;
 
 impl<O: Oper> Engine<O> {
-    /// Lays out a store without commands.
+    /// Lays out a store without commands. It begins with a sync of each file, so what an earlier call left unsynced is
+    /// there after each crash, or is written again.
     pub fn init<M: Machine>(machine: &mut M, params: Params) -> Result<(), InitErr>
         requires { IsInRange params }
         ensures time { Passes (M.disk machine.old) (M.disk machine.new) }
         ensures quiet { (M.disk machine.old).tells_files → (M.disk machine.new).said ≡ (M.disk machine.old).said }
-        ensures ok { (M.disk machine.old).tells_files → IsSettled (M.disk machine.old) → OnOk result (InEachImage (M.disk machine.new) (λ files. Stands O.meaning params files [])) }
+        ensures ok { (M.disk machine.old).tells_files → OnOk result (InEachImage (M.disk machine.new) (λ files. Stands O.meaning params files [])) }
+        ensures settled { OnOk result (IsSettled (M.disk machine.new)) }
         ensures already { (M.disk machine.old).tells_files → IsErrOf result InitErr.AlreadyStore → BeginsStore ((M.disk machine.old).reads Objects) }
+        // Each image then begins a store.
+        ensures already_settled { IsErrOf result InitErr.AlreadyStore → IsSettled (M.disk machine.new) }
         ensures kept { (M.disk machine.old).tells_files → BeginsStore ((M.disk machine.old).reads Objects) → Stays (M.disk machine.old) (M.disk machine.new) }
-        ensures moments { (M.disk machine.old).tells_moments → IsSettled (M.disk machine.old) → (BeginsStore ((M.disk machine.old).reads Objects) → ⊥) →
-            LeavesOnly (M.disk machine.old) (M.disk machine.new) (λ files said. IsNew O.meaning params files × (said ≡ (M.disk machine.old).said)) }
+        ensures moments { (M.disk machine.old).tells_moments → (BeginsStore ((M.disk machine.old).reads Objects) → ⊥) →
+            LeavesOnly (M.disk machine.old) (M.disk machine.new) (OrAtStart (M.disk machine.old) (λ files said. IsNew O.meaning params files × (said ≡ (M.disk machine.old).said))) }
         ensures fresh { (M.disk machine.old).tells_files → OnOk result (BeginsStore ((M.disk machine.old).reads Objects) → ⊥) }
         ensures fault { IsErrOf result InitErr.DiskFault → Rises (M.disk machine.old).disk_faults (M.disk machine.new).disk_faults }
     {
+        settle(machine)?;
         if Slots::begins(machine)? {
             return Err(InitErr::AlreadyStore);
         }

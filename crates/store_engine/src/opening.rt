@@ -55,8 +55,8 @@ impl<O: Oper> Engine<O> {
         })
     }
 
-    /// Opens the files. They stand for the same commands at each moment, and what a crash leaves meanwhile a crash at the
-    /// start could have left: it begins with a sync of each file.
+    /// Opens the files. What a crash leaves meanwhile a crash at the start could have left: it begins with a sync of each
+    /// file. The machine need not be settled: what reads give is what the files stand for.
     pub fn restart<M: Machine>(
         alloc: Global,
         machine: &mut M,
@@ -67,7 +67,7 @@ impl<O: Oper> Engine<O> {
         ensures quiet { (M.disk machine.old).tells_files → (M.disk machine.new).said ≡ (M.disk machine.old).said }
         ensures ok { (p : Params) (commands : List O) → Opens O.meaning p (M.disk machine.old) commands →
             IfOk result (λ engine. Holds O.meaning p (M.disk machine.new) engine commands × (engine.forced ≡ length commands)) }
-        ensures moments { (p : Params) (commands : List O) → Opens O.meaning p (M.disk machine.old) commands → (M.disk machine.old).tells_moments →
+        ensures moments { (p : Params) (commands : List O) → Opens O.meaning p (M.disk machine.old) commands → (M.disk machine.old).tells_moments → IsSettled (M.disk machine.old) →
             LeavesOnly (M.disk machine.old) (M.disk machine.new) (Between O.meaning p (M.disk machine.old) (length commands) commands) }
         ensures whole { (p : Params) (commands : List O) → Opens O.meaning p (M.disk machine.old) commands →
             IfErr result (λ e. (e ≢ RestartErr.NotAStore) × IsNoDamage e) }

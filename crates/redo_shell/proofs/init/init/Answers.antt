@@ -1,6 +1,10 @@
-use Rattle.std.proofs.Common.{◌++◌, ◌∙◌, List, ℕ, ap}
+use Rattle.std.proofs.Common.{◌++◌, ◌∙◌, List, ℕ, ap, sym, subst}
+use Rattle.disk_model.specs.Disk.{Files}
+use Rattle.disk_model.specs.declared.machine.FileNo.TheVariants.{Objects}
+use Rattle.formats.specs.Image.{BeginsStore}
 use Rattle.redo_shell.specs.Notices.{already_a_store}
-use Rattle.redo_shell.proofs.KeepLemmas.{keeps_once, keeps_behind}
+use Rattle.redo_shell.proofs.KeepLemmas.{keeps_once, keeps_behind, settled_each}
+use Rattle.redo_shell.proofs.HoldLemmas.{still_settled}
 use Rattle.redo_shell.proofs.init.init.Goals as goal
 
 pub returns-in-Ok-clause-keeps : goal.returns-in-Ok-clause-keeps
@@ -23,3 +27,12 @@ returns-in-Err-AlreadyStore-clause-already g c = λ told is.
       c.end_with.ensures.runs.reads told_now ∙ kept.reads told,
       c.end_with.ensures.all told_now (λ e. cc (is, e)) ∙ ap (λ (l : List ℕ). l ++ already_a_store) (c.init.ensures.quiet told),
     )
+
+pub returns-in-Err-AlreadyStore-clause-already_each : goal.returns-in-Err-AlreadyStore-clause-already_each
+returns-in-Err-AlreadyStore-clause-already_each g c = λ told is.
+    let begins = c.in-Err-AlreadyStore.ensures.already told (cc (c.in-Err-AlreadyStore.field-0-is)) in
+    let kept = c.in-Err-AlreadyStore.ensures.kept told begins in
+    let told_now = c.init.ensures.time.files_told.0 told in
+    let settled = c.in-Err-AlreadyStore.ensures.already_settled (cc (c.in-Err-AlreadyStore.field-0-is)) in
+    settled_each (g.M.Machine.disk c.end_with.new.machine) (λ (files : Files). BeginsStore (files Objects)) (still_settled c.end_with.ensures.runs told_now settled)
+    (subst (λ (files : Files). BeginsStore (files Objects)) (sym (c.end_with.ensures.runs.reads told_now ∙ kept.reads told)) begins)

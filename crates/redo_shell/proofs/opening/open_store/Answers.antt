@@ -1,6 +1,5 @@
-use Rattle.std.proofs.Common.{◌++◌, List, ℕ, length, ap, sym, subst, ◌∙◌}
-use Rattle.disk_model.specs.Disk.{Disk, LeavesOnly}
-use Rattle.redo_shell.specs.Store.{Between}
+use Rattle.std.proofs.Common.{◌++◌, List, ℕ, ap, sym, subst, ◌∙◌}
+use Rattle.disk_model.specs.Disk.{Disk, Stays}
 use Rattle.redo_shell.specs.Notices.{damaged}
 use Rattle.redo_shell.proofs.KeepLemmas.{keeps_once, keeps_behind}
 use Rattle.redo_shell.proofs.opening.open_store.Goals as goal
@@ -11,11 +10,11 @@ returns-in-Ok-clause-keeps g c = keeps_once (g.M.Machine.disk c.args.machine.now
 pub returns-in-Err-clause-keeps : goal.returns-in-Err-clause-keeps
 returns-in-Err-clause-keeps g c = keeps_behind (g.M.Machine.disk c.args.machine.now) (g.M.Machine.disk c.restart.new.machine) (g.M.Machine.disk c.end_unopened.new.machine) c.restart.ensures.kept c.end_unopened.ensures.keeps
 
-pub returns-in-Err-clause-moments : goal.returns-in-Err-clause-moments
-returns-in-Err-clause-moments g c = λ p commands opens telling.
+pub returns-in-Err-clause-stays : goal.returns-in-Err-clause-stays
+returns-in-Err-clause-stays g c = λ p commands opens.
     let whole = c.in-Err.ensures.whole p commands opens in
     let same = ap g.M.Machine.disk (c.end_unopened.ensures.quiet whole.0 whole.1).0 in
-    subst (λ (d : Disk). LeavesOnly (g.M.Machine.disk c.args.machine.now) d (Between p (g.M.Machine.disk c.args.machine.now) (length commands) commands)) (sym same) (c.restart.ensures.moments p commands opens telling)
+    subst (λ (d : Disk). Stays (g.M.Machine.disk c.args.machine.now) d) (sym same) c.restart.ensures.kept
 
 pub returns-in-Err-clause-quiet : goal.returns-in-Err-clause-quiet
 returns-in-Err-clause-quiet g c = λ p commands opens.
@@ -32,3 +31,8 @@ returns-in-Err-clause-damaged g c = λ told is.
       c.end_unopened.ensures.keeps.reads (c.restart.ensures.time.files_told.0 told) ∙ c.restart.ensures.kept.reads told,
       said.3 ∙ ap (λ (l : List ℕ). l ++ damaged said.0 said.1) (c.restart.ensures.quiet told),
     )
+
+pub returns-in-Err-clause-calm : goal.returns-in-Err-clause-calm
+returns-in-Err-clause-calm g c = λ p commands opens.
+    let whole = c.in-Err.ensures.whole p commands opens in
+    (c.end_unopened.ensures.quiet whole.0 whole.1).3

@@ -17,13 +17,12 @@ returns-in-Ok-clause-no_store g c = λ told is. absurd ((c.run_open.ensures.stor
 pub returns-in-Ok-clause-moments : goal.returns-in-Ok-clause-moments
 returns-in-Ok-clause-moments g c = λ p commands opens told telling.
     let opened = c.in-Ok.ensures.ok p commands opens in
-    let quiet = c.open_store.ensures.quiet p commands opens in
-    run_moments (lines_of (g.S.Source.left c.args.input.now)) c.open_store.ensures.time quiet (c.open_store.ensures.moments p commands opens telling) (c.run_open.ensures.answers p commands opened.0 opened.1 told) telling
+    run_moments (lines_of (g.S.Source.left c.args.input.now)) (c.open_store.ensures.stays p commands opens) (c.run_open.ensures.answers p commands opened.0 opened.1 told) telling
 
 pub returns-in-Ok-clause-answers : goal.returns-in-Ok-clause-answers
 returns-in-Ok-clause-answers g c = λ p commands opens told.
     let opened = c.in-Ok.ensures.ok p commands opens in
-    run_says c.open_store.ensures.time (c.open_store.ensures.quiet p commands opens) (c.open_store.ensures.moments p commands opens) (c.run_open.ensures.answers p commands opened.0 opened.1 told)
+    run_says (c.open_store.ensures.stays p commands opens) (c.open_store.ensures.quiet p commands opens) (c.run_open.ensures.answers p commands opened.0 opened.1 told)
 
 pub returns-in-Ok-clause-complete : goal.returns-in-Ok-clause-complete
 returns-in-Ok-clause-complete g c = λ p commands opens told done.
@@ -31,7 +30,10 @@ returns-in-Ok-clause-complete g c = λ p commands opens told done.
     complete_from (c.open_store.ensures.quiet p commands opens) (c.in-Ok.ensures.kept.reads opens.told) (c.run_open.ensures.complete p commands opened.0 opened.1 told done)
 
 pub returns-in-Err-clause-moments : goal.returns-in-Err-clause-moments
-returns-in-Err-clause-moments g c = λ p commands opens told telling. opening_moments (lines_of (g.S.Source.left c.args.input.now)) (c.open_store.ensures.moments p commands opens telling)
+returns-in-Err-clause-moments g c = λ p commands opens told telling. opening_moments (lines_of (g.S.Source.left c.args.input.now)) (c.open_store.ensures.stays p commands opens) telling
 
 pub returns-in-Err-clause-answers : goal.returns-in-Err-clause-answers
 returns-in-Err-clause-answers g c = λ p commands opens told. says_nothing (lines_of (g.S.Source.left c.args.input.now)) c.open_store.ensures.time (c.open_store.ensures.quiet p commands opens)
+
+pub returns-in-Ok-clause-unopened : goal.returns-in-Ok-clause-unopened
+returns-in-Ok-clause-unopened g c = λ told broken. absurd (broken (c.in-Ok.ensures.opened told))

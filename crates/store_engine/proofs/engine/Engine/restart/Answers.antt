@@ -9,11 +9,11 @@ returns-clause-ok g c p commands opens =
     let old = g.M.Machine.disk c.args.machine.now in
     let new = g.M.Machine.disk c.load.new.machine in
     IfOk-weaker c.load.result (IsRead g.O.Oper.meaning old.reads new) _
-    (λ engine is. read_holds g.O.Oper.meaning g.met.O.Oper.bounded g.met.O.Oper.lawful p old new engine commands opens c.load.ensures.kept is) (c.load.ensures.read opens.told)
+    (λ engine is. read_holds g.O.Oper.meaning g.met.O.Oper.bounded g.met.O.Oper.lawful p old new engine commands opens.told opens.stands c.load.ensures.kept is) (c.load.ensures.read opens.told)
 
 pub returns-clause-moments : goal.returns-clause-moments
-returns-clause-moments g c p commands opens told =
-    open_between g.O.Oper.meaning p (g.M.Machine.disk c.args.machine.now) (g.M.Machine.disk c.load.new.machine) commands opens c.load.ensures.kept told
+returns-clause-moments g c p commands opens told settled =
+    open_between g.O.Oper.meaning p (g.M.Machine.disk c.args.machine.now) (g.M.Machine.disk c.load.new.machine) commands opens settled c.load.ensures.kept told
 
 pub returns-clause-whole : goal.returns-clause-whole
 returns-clause-whole g c p commands opens = c.load.ensures.whole opens.told (well_formed g.O.Oper.meaning opens.stands)

@@ -1,0 +1,188 @@
+-- What several calls leave.
+use Rattle.std.proofs.Common.{◌≡◌, ◌↔◌, inl, inr, ⊎_elim, ◌+◌, ◌-◌, ◌++◌, List, ℕ, [], ◌∷◌, length, take, append_assoc, refl, ap, ◌∙◌, sym, subst, arith}
+use Rattle.std.specs.Prelude.{⊤}
+use Rattle.std.proofs.Math.Seq.{take-append-add}
+use Rattle.std.proofs.lemmas.List.{append-nil, append_cancel_left, length-take-le, take_all}
+use Rattle.disk_model.specs.Disk.{Files, Disk, IsDisk, Passes, IsSettled}
+use Rattle.formats.specs.declared.params.Params.{Params}
+use Rattle.op_codec.specs.AllOps.{all_meaning}
+use Rattle.store_engine.specs.ImageLaws.{stands_begins}
+use Rattle.script_lines.specs.Replies.{Reply}
+use Rattle.redo_shell.specs.Store.{Command, Stands, IsNew}
+use Rattle.redo_shell.specs.Answers.{Said, Begun, Moment}
+use Rattle.redo_shell.specs.Sessions.{Ran, Adds, Survives, Follows, Sessions, AllSilent, Arises, none, more, start, run, init, other}
+use Rattle.redo_shell.proofs.StoryLemmas.{story_start, told_whole}
+
+-- a story whose begun answer is true is a story
+abbrev untied : {p : Params} {tie : Reply → Type 0} {commands : List Command} {script : List (List ℕ)} {said : List ℕ} → Said p tie commands script said → Said p (λ reply. ⊤) commands script said
+untied {p} {tie} {commands} s = record {
+  lines = s.lines;
+  todo = s.todo;
+  replies = s.replies;
+  acc = s.acc;
+  part = s.part;
+  added = s.added;
+  script_is = s.script_is;
+  said_is = s.said_is;
+  answers = s.answers;
+  work = ⊎_elim (λ whole. inl whole)
+      (λ (b : Begun p tie (commands ++ s.acc) s.todo s.part s.added). inr (record { line = b.line; rest = b.rest; reply = b.reply; count = b.count; next = b.next; replies = b.replies; begun = b.begun; tied = tt }))
+      s.work;
+}
+
+-- a run that said nothing, and of which nothing is left
+adds_none : (p : Params) (commands : List Command) (ran : Ran) → ran.bytes ≡ [] → Adds p commands ran commands
+adds_none p commands ran silent =
+    subst (λ (l : List ℕ). Adds p commands (record { script = ran.script; bytes = l }) commands) (sym silent)
+    (let said = told_whole (λ reply. ⊤) (story_start p commands ran.script) in
+    let same : commands ++ said.story.acc ++ said.story.added ≡ commands = said.all ∙ append-nil commands in
+    record {
+      story = said.story;
+      kept = length commands;
+      all_before = omega arith;
+      no_more = omega (arith, ap length same);
+      now_is = sym (ap (λ (l : List Command). take (length commands) l) same ∙ take_all (length commands) commands (omega arith));
+      acked = λ n has. absurd (omega (arith, (said.spoken n has).1));
+    })
+
+-- a moment of it that had said something
+adds_moment : (p : Params) (commands : List Command) (ran : Ran) (before : List ℕ) (files : Files) → (m : Moment p commands ran.script before files (before ++ ran.bytes)) → Adds p commands ran (take m.kept (commands ++ m.story.acc ++ m.story.added))
+adds_moment p commands ran before files m =
+    let same : ran.bytes ≡ m.bytes = append_cancel_left before ran.bytes m.bytes m.since in
+    subst (λ (l : List ℕ). Adds p commands (record { script = ran.script; bytes = l }) (take m.kept (commands ++ m.story.acc ++ m.story.added))) (sym same)
+    (record { story = untied m.story; kept = m.kept; all_before = m.all_before; no_more = m.no_more; now_is = refl; acked = m.acked })
+
+-- where a store has what runs made of it, it has what one run more makes of that
+abbrev survives_run : {p : Params} {commands : List Command} {runs : List Ran} {was files : Files} (ran : Ran) (now : List Command) → (s : Survives p commands runs was) → Adds p s.now ran now → Stands p files now → Survives p commands (ran ∷ runs) files
+survives_run {p} {commands} {runs} {was} {files} ran now s adds stands =
+    let added = adds.story.acc ++ adds.story.added in
+    let rest = take (adds.kept - length s.now) added in
+    let split : adds.kept ≡ length s.now + (adds.kept - length s.now) = omega (arith, adds.all_before) in
+    let whole : s.now ++ adds.story.acc ++ adds.story.added ≡ s.now ++ added = append_assoc s.now adds.story.acc adds.story.added in
+    let long : length now ≡ adds.kept = ap (λ (l : List Command). length l) adds.now_is ∙ length-take-le adds.kept (s.now ++ adds.story.acc ++ adds.story.added) adds.no_more in
+    record {
+      now = now;
+      later = s.later ++ rest;
+      now_is = adds.now_is ∙ ap (λ (l : List Command). take adds.kept l) whole ∙ ap (λ (k : ℕ). take k (s.now ++ added)) split ∙ take-append-add s.now added (adds.kept - length s.now) ∙ ap (λ (l : List Command). l ++ rest) s.now_is ∙ append_assoc commands s.later rest;
+      grows = more ran s.grows adds;
+      stands = stands;
+      acked = λ n said. ⊎_elim (λ before. let enough = s.acked n before in omega (arith, enough, adds.all_before, long)) (λ has. let enough = adds.acked n has in omega (arith, enough, long)) said;
+    }
+
+-- before the first run
+abbrev survives_start : (p : Params) (commands : List Command) (files : Files) → Stands p files commands → Survives p commands [] files
+survives_start p commands files stands = record { now = commands; later = []; now_is = sym (append-nil commands); grows = none; stands = stands; acked = λ n was. absurd was }
+
+-- where no run said anything, a new store is what they have made
+survives_silent : (p : Params) (files : Files) (runs : List Ran) → AllSilent runs → Stands p files [] → (s : Survives p [] runs files) × (s.now ≡ [])
+survives_silent p files [] silent stands = (survives_start p [] files stands, refl)
+survives_silent p files (ran ∷ runs) (first, rest) stands =
+    let (s, empty) = survives_silent p files runs rest stands in
+    (survives_run ran s.now s (adds_none p s.now ran first) s.stands, empty)
+
+module _ {T : Type 0} (disk : T → Disk) (lawful : (m : T) → IsDisk (disk m)) (p : Params) (commands : List Command) (first : T) (told : (disk first).tells_moments)
+    (here : (files : Files) (said : List ℕ) → (disk first).left_since (disk first).clock files said → Stands p files commands) where
+  -- whatever a crash leaves behind the last of the calls
+  pub survive : {runs : List Ran} {last : T} → Sessions disk p first runs last
+      → (disk last).tells_moments × ((files : Files) (said : List ℕ) → (disk last).left_since (disk last).clock files said → Survives p commands runs files)
+  survive start = (
+    told,
+    λ files said left. survives_start p commands files (here files said left),
+  )
+  survive (run old new next ran before begins leaves follows) =
+      let (told_old, each_old) = survive before in
+      let read = each_old (disk old).reads (disk old).said ((lawful old).as_read told_old) in
+      let moments = leaves read.now (record { told = (lawful old).telling told_old; stands = read.stands }) told_old in
+      let told_next = follows.told told_old in (
+        told_next,
+        λ files said left. ⊎_elim
+            (λ was.
+            let image = each_old files _ was in
+            let silent = append_cancel_left (disk old).said ran.bytes [] ((lawful old).said_now told_old files _ was ∙ sym (append-nil (disk old).said)) in
+            survives_run ran image.now image (adds_none p image.now ran silent) image.stands)
+            (λ m. survives_run ran (take m.kept (read.now ++ m.story.acc ++ m.story.added)) read (adds_moment p read.now ran (disk old).said files m) m.stands)
+            (moments.each files _ (follows.within told_next files said left)),
+      )
+  survive (init old new next bytes before no_store leaves follows) =
+      let (told_old, each_old) = survive before in
+      let read = each_old (disk old).reads (disk old).said ((lawful old).as_read told_old) in
+      absurd (no_store (stands_begins all_meaning read.stands))
+  survive (other old new next bytes before kept follows) =
+      let (told_old, each_old) = survive before in
+      let told_next = follows.told told_old in (
+        told_next,
+        λ files said left. each_old files (disk old).said ((kept.images told_old).each files bytes (follows.within told_next files said left)),
+      )
+
+module _ {T : Type 0} (disk : T → Disk) (lawful : (m : T) → IsDisk (disk m)) (p : Params) (first : T) (told : (disk first).tells_moments)
+    (here : (files : Files) (said : List ℕ) → (disk first).left_since (disk first).clock files said → IsNew p files) where
+  -- the same from files that are no store yet
+  pub arise : {runs : List Ran} {last : T} → Sessions disk p first runs last
+      → (disk last).tells_moments × ((files : Files) (said : List ℕ) → (disk last).left_since (disk last).clock files said → Arises p runs files)
+  arise start = (
+    told,
+    λ files said left. ⊎_elim (λ no_store. inl (no_store, tt)) (λ stands. inr (survives_start p [] files stands)) (here files said left),
+  )
+  arise (run {runs} old new next ran before begins leaves follows) =
+      let (told_old, each_old) = arise before in
+      let read_or = each_old (disk old).reads (disk old).said ((lawful old).as_read told_old) in
+      let told_next = follows.told told_old in (
+        told_next,
+        λ files said left. ⊎_elim
+            (λ no_store. absurd (no_store.0 begins))
+            (λ (read : Survives p [] runs (disk old).reads).
+            let moments = leaves read.now (record { told = (lawful old).telling told_old; stands = read.stands }) told_old in
+            ⊎_elim
+            (λ was.
+            let silent = append_cancel_left (disk old).said ran.bytes [] ((lawful old).said_now told_old files _ was ∙ sym (append-nil (disk old).said)) in
+            ⊎_elim (λ no_store. inl (no_store.0, (silent, no_store.1)))
+            (λ (image : Survives p [] runs files). inr (survives_run ran image.now image (adds_none p image.now ran silent) image.stands))
+            (each_old files _ was))
+            (λ m. inr (survives_run ran (take m.kept (read.now ++ m.story.acc ++ m.story.added)) read (adds_moment p read.now ran (disk old).said files m) m.stands))
+            (moments.each files _ (follows.within told_next files said left)))
+            read_or,
+      )
+  arise (init {runs} old new next bytes before no_store leaves follows) =
+      let (told_old, each_old) = arise before in
+      let read_or = each_old (disk old).reads (disk old).said ((lawful old).as_read told_old) in
+      let told_next = follows.told told_old in (
+        told_next,
+        λ files said left. ⊎_elim
+            (λ none_read. ⊎_elim
+            (λ was. each_old files _ was)
+            (λ is. ⊎_elim (λ still. inl (still, none_read.1)) (λ stands. inr (survives_silent p files runs none_read.1 stands).0) is.0)
+            ((leaves told_old).each files _ (follows.within told_next files said left)))
+            (λ (read : Survives p [] runs (disk old).reads). absurd (no_store (stands_begins all_meaning read.stands)))
+            read_or,
+      )
+  arise (other old new next bytes before kept follows) =
+      let (told_old, each_old) = arise before in
+      let told_next = follows.told told_old in (
+        told_next,
+        λ files said left. each_old files (disk old).said ((kept.images told_old).each files bytes (follows.within told_next files said left)),
+      )
+
+-- nothing follows a call
+pub follows_nothing : (old new : Disk) → IsDisk new → Passes old new → Follows old new new new.said
+follows_nothing old new lawful time = record {
+  told = λ told. time.moments_told.0 told;
+  within = λ told files s left.
+      subst (λ (l : List ℕ). new.left_since old.clock files l) (lawful.said_now told files s left) (lawful.among old.clock new.clock files s time.later (omega arith) left);
+}
+
+-- a kill at a moment of it
+pub follows_kill : (old mid new : Disk) → IsDisk mid → Passes old mid → Passes mid new → Follows old new mid mid.said
+follows_kill old mid new lawful first second = record {
+  told = λ told. first.moments_told.0 told;
+  within = λ told files s left.
+      second.keeps told old.clock files mid.said first.later ((follows_nothing old mid lawful first).within told files s left);
+}
+
+-- a crash behind it
+pub follows_crash : (old new next : Disk) → IsDisk new → Passes old new → (new.tells_moments ↔ next.tells_moments) → IsSettled next → new.left_since new.clock next.reads new.said → Follows old new next new.said
+follows_crash old new next lawful time told settled image = record {
+  told = λ tells. told.0 (time.moments_told.0 tells);
+  within = λ tells files s left.
+      let same : files ≡ next.reads = λ i file. settled file tells files s left i in
+      subst (λ (f : Files). new.left_since old.clock f new.said) (sym same) (lawful.among old.clock new.clock next.reads new.said time.later (omega arith) image);
+}
