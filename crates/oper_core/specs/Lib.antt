@@ -1,3 +1,4 @@
 pub mod State
 pub mod Meaning
 pub mod LittleEndian
+pub mod Cell
