@@ -1,4 +1,4 @@
--- What a crash that fills leaves, place by place.
+-- What a crash that fills leaves, offset by offset.
 use Rattle.std.proofs.Common.{inl, inr, ◌≡◌, ◌≢◌, ◌⊎◌, ⊎_elim, ℕ, ◌+◌, ◌-◌, ◌≤◌, ◌<◌, List, [], ◌∷◌, ◌++◌, length, take, drop, replicate, get_or, refl, sym, ◌∙◌, ap, subst, arith, length-append, length-take, get_or-take, get_or-drop}
 use Rattle.std.proofs.lemmas.List.{get_or_append_left, get_or-append_right, get_or-replicate, length-replicate}
 use Rattle.std.proofs.lemmas.Bool.{cases_lt}
@@ -43,7 +43,7 @@ module _ (byte at : ℕ) (bytes old : List ℕ) where
       get_or-append_right (front ++ bytes) (drop (at + length bytes) old) (at + length bytes) i 0 reach le
       ∙ get_or-drop (at + length bytes) old (i - (at + length bytes)) 0 ∙ ap (λ (k : ℕ). get_or old k 0) place
 
--- with these places written since the last sync, besides those past the synced length
+-- with these offsets written since the last sync, besides those past the synced length
 record Filling (byte : ℕ) (written : ℕ → Type 0) (synced reads left : List ℕ) : Type 0 where
   grown : length synced ≤ length reads
   size : length left ≡ length reads

@@ -1,4 +1,4 @@
--- What a machine in memory tells, and what a crash leaves of it.
+-- What a machine in memory reports, and what a crash leaves of it.
 use Rattle.disk_model.specs.Disk.{Files, Disk}
 use Rattle.disk_model.specs.Record.{State, start, after, disk_at}
 use Rattle.disk_model.specs.Recorded.{calls_of, first_of, reads_of}

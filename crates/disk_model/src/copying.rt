@@ -1,8 +1,8 @@
-// Bytes read from a place on.
+// Bytes read at an offset.
 ghost use Rattle.std.specs.Prelude.{◌≡◌, ◌≤◌, length, take};
 ghost use Rattle.disk_model.specs.Disk.{read_of};
 
-/// Copies what stands at a place, as far as there is room for it, and says how much that is.
+/// Copies the bytes at an offset, as far as there is room for them, and says how many they are.
 pub fn copy_from(bytes: &[u8], at: usize, into: &mut [u8]) -> usize
     ensures fits { result ≤ length into.old }
     ensures bytes { take result into.new ≡ read_of bytes.now at (length into.old) }

@@ -15,7 +15,7 @@ pub fn memory_leaves_exactly()
         (disk_of m).left_since (disk_of m).clock c s ↔ (IsImage (state_of (store_of m)) c × (s ≡ (disk_of m).said)) }
 {}
 
-/// A crash that fills with a byte puts it at each place of a file that no sync has reached, and leaves the others.
+/// A crash that fills with a byte puts it at each offset of a file that no sync has reached, and leaves the others.
 pub fn fill_leaves_exactly()
     ensures { (m : MemMachine) (byte : ℕ) (file : FileNo) → let st = state_of (store_of m) in
         IsFilled byte (λ i. IsUnsynced file i (calls_of (store_of m).calls) ⊎ (length (st.synced file) ≤ i)) (st.reads file) (st.filled byte file) }

@@ -20,7 +20,7 @@ pub struct MemSource {
 impl MemSource {
     ghost use Rattle.disk_model.specs.Input.{left_of, reads_made, failing_reads, faults_of, NextReadFails};
 
-    /// It never lacks memory, since it keeps what it is given.
+    /// It takes no memory, since it keeps what it is given.
     pub fn new(bytes: Vec<u8>, fails: Vec<u64>) -> Result<MemSource, AllocError>
         ensures left { IsOkAnd result (λ s. left_of s ≡ bytes.items) }
         ensures reads { IfOk result (λ s. reads_made s ≡ 0) }

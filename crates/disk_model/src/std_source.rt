@@ -5,7 +5,7 @@ use crate::count::counted;
 use crate::{Failed, Source};
 use std::io::{self, ErrorKind, Read};
 
-/// The standard input. It tells nothing of its content.
+/// The standard input. It reports nothing of its content.
 #[derive(Drop)]
 pub struct StdSource<R: Input> {
     reader: R::Reader,
