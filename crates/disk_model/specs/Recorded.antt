@@ -1,5 +1,6 @@
 -- What a machine in memory holds: its record, its files.
 use Rattle.std.specs.Prelude.{◌≡◌, ℕ, ◌+◌, List, [], length, slice_index}
+use Rattle.disk_model.specs.ByFile.{part_of}
 use Rattle.disk_model.specs.Disk.{Files}
 use Rattle.disk_model.specs.Record.{Call}
 use Rattle.disk_model.specs.Entries.{calls_in, replay}
@@ -32,9 +33,7 @@ pub record Takes (count : ℕ) (old new : Record) : Type 0 where
   pub bytes : length new.pool.bytes.items ≡ length old.pool.bytes.items + count
 
 abbrev pub file_of : MemFiles → FileNo → MemFile
-file_of m Objects = m.objects
-file_of m LogA = m.log_a
-file_of m LogB = m.log_b
+file_of m file = part_of m.files file
 
 -- the files as the machine was made
 abbrev pub first_of : MemFiles → Files

@@ -3,7 +3,6 @@ ghost use Rattle.std.specs.Prelude.{◌≡◌, ◌↔◌, ◌+◌, ◌-◌, ◌^
 ghost use Rattle.disk_model.specs.Disk.{Rises};
 
 use crate::Failed;
-use std::io;
 
 /// Counts one more. A count at its last value stays.
 pub fn raise(count: &mut u64)
@@ -35,10 +34,12 @@ pub fn count_call(calls: &mut u64, faults: &mut u64, fails: bool) -> Result<(), 
     Ok(())
 }
 
-/// The answer of the outside, with an error counted.
-pub fn counted<T: Drop>(faults: &mut u64, answer: io::Result<T>) -> Result<T, Failed>
-    ensures ok { (value : T) → result ≡ Ok value → answer ≡ Ok value }
+/// An answer, with an error counted.
+pub fn counted<T: Drop, E: Drop>(faults: &mut u64, answer: Result<T, E>) -> Result<T, Failed>
+    ensures value { (value : T) → result ≡ Ok value → answer ≡ Ok value }
     ensures fails { IsErr result ↔ IsErr answer }
+    ensures ok { OnOk result (faults.new ≡ faults.old) }
+    ensures err { OnErr result (faults.new ≡ min (faults.old + 1) (2 ^ 64 - 1)) }
     ensures cause { IsErr result → Rises faults.old faults.new }
     ensures later { faults.old ≤ faults.new }
 {

@@ -4,6 +4,7 @@ ghost use Rattle.disk_model.specs.Disk.{written_over};
 ghost use Rattle.disk_model.specs.Record.{changed};
 ghost use Rattle.disk_model.specs.Entries.{IsWithin};
 
+use crate::by_file::ByFile;
 use crate::entry::Entry;
 use crate::mem_file::MemFile;
 use crate::{Crash, FileNo};
@@ -11,9 +12,7 @@ use std::alloc::{AllocError, Global};
 
 #[derive(Drop)]
 pub struct MemFiles {
-    objects: MemFile,
-    log_a: MemFile,
-    log_b: MemFile,
+    files: ByFile<MemFile>,
 }
 
 impl MemFiles {
@@ -25,31 +24,24 @@ impl MemFiles {
         ensures bounds { IfOk result (λ m. (file : FileNo) → bound_of m file ≡ size_in sizes file) }
     {
         let [objects, log_a, log_b] = sizes;
-        Ok(MemFiles {
+        let files = ByFile {
             objects: MemFile::new(alloc, objects as usize)?,
             log_a: MemFile::new(alloc, log_a as usize)?,
             log_b: MemFile::new(alloc, log_b as usize)?,
-        })
+        };
+        Ok(MemFiles { files })
     }
 
     pub fn bytes(&self, file: FileNo) -> &[u8]
         ensures { result.now ≡ reads_of self.now file }
     {
-        match file {
-            FileNo::Objects => self.objects.bytes(),
-            FileNo::LogA => self.log_a.bytes(),
-            FileNo::LogB => self.log_b.bytes(),
-        }
+        self.files.get(file).bytes()
     }
 
     pub fn bound(&self, file: FileNo) -> usize
         ensures { result ≡ bound_of self.now file }
     {
-        match file {
-            FileNo::Objects => self.objects.bound(),
-            FileNo::LogA => self.log_a.bound(),
-            FileNo::LogB => self.log_b.bound(),
-        }
+        self.files.get(file).bound()
     }
 
     pub fn write(&mut self, file: FileNo, at: usize, bytes: &[u8])
@@ -59,11 +51,7 @@ impl MemFiles {
         ensures synced { synced_of self.new ≡ synced_of self.old }
         ensures bounds { (other : FileNo) → bound_of self.new other ≡ bound_of self.old other }
     {
-        match file {
-            FileNo::Objects => self.objects.write(at, bytes),
-            FileNo::LogA => self.log_a.write(at, bytes),
-            FileNo::LogB => self.log_b.write(at, bytes),
-        }
+        self.files.get_mut(file).write(at, bytes);
     }
 
     pub fn sync(&mut self, file: FileNo)
@@ -72,11 +60,7 @@ impl MemFiles {
         ensures reads { reads_of self.new ≡ reads_of self.old }
         ensures bounds { (other : FileNo) → bound_of self.new other ≡ bound_of self.old other }
     {
-        match file {
-            FileNo::Objects => self.objects.sync(),
-            FileNo::LogA => self.log_a.sync(),
-            FileNo::LogB => self.log_b.sync(),
-        }
+        self.files.get_mut(file).sync();
     }
 
     /// Sets one file to these bytes, settled.
@@ -87,11 +71,7 @@ impl MemFiles {
         ensures synced { (other : FileNo) → synced_of self.new other ≡ changed file bytes.now (synced_of self.old) other }
         ensures bounds { (other : FileNo) → bound_of self.new other ≡ bound_of self.old other }
     {
-        match file {
-            FileNo::Objects => self.objects.place(bytes),
-            FileNo::LogA => self.log_a.place(bytes),
-            FileNo::LogB => self.log_b.place(bytes),
-        }
+        self.files.get_mut(file).place(bytes);
     }
 
     /// What a crash after these calls leaves, settled.
@@ -99,8 +79,8 @@ impl MemFiles {
         requires { (file : FileNo) → IsWithin file (bound_of self.old file) entries.now }
         ensures { (file : FileNo) → IsFresh (left_by how file entries.now (file_of self.old file)) (file_of self.old file) (file_of self.new file) }
     {
-        self.objects.crash(how, FileNo::Objects, entries);
-        self.log_a.crash(how, FileNo::LogA, entries);
-        self.log_b.crash(how, FileNo::LogB, entries);
+        self.files.objects.crash(how, FileNo::Objects, entries);
+        self.files.log_a.crash(how, FileNo::LogA, entries);
+        self.files.log_b.crash(how, FileNo::LogB, entries);
     }
 }

@@ -1,7 +1,7 @@
 // One file of the current directory, opened at first use.
 ghost use Rattle.std.specs.Prelude.{◌≤◌, length, IfOk};
 
-use std::fs::{OpenFile, OpenOptions};
+use std::fs::{File, OpenFile, OpenOptions};
 use std::io::{self, ErrorKind, Read, Seek, SeekFrom, Write};
 use std::rt::Files;
 
@@ -10,11 +10,20 @@ use std::rt::Files;
 pub struct StoredFile<R: Files> {
     name: &'static str,
     opened: Option<R::File>,
+    // The folder was synced since the file was opened, so the file's name is on the disk.
+    named: bool,
+    // A sync failed. The system may have dropped what it could not write, and would not say so again.
+    unsure: bool,
 }
 
 impl<R: Files> StoredFile<R> {
     pub fn new(name: &'static str) -> Self {
-        StoredFile { name, opened: None }
+        StoredFile {
+            name,
+            opened: None,
+            named: false,
+            unsure: false,
+        }
     }
 
     pub fn size(&mut self, rt: &R) -> io::Result<u64> {
@@ -43,12 +52,28 @@ impl<R: Files> StoredFile<R> {
         }
     }
 
+    /// Puts the file on the disk, and its name where a crash could still take that away. After a sync that failed, each
+    /// later one fails.
     pub fn sync(&mut self, rt: &R) -> io::Result<()> {
-        self.open(rt)?;
-        match &self.opened {
-            Some(file) => file.sync_all(),
-            None => Ok(()),
+        if self.unsure {
+            return Err(ErrorKind::Other.into());
         }
+        let answer = self.sync_whole(rt);
+        self.unsure = answer.is_err();
+        answer
+    }
+
+    fn sync_whole(&mut self, rt: &R) -> io::Result<()> {
+        self.open(rt)?;
+        let Some(file) = &self.opened else {
+            return Ok(());
+        };
+        file.sync_all()?;
+        if !self.named {
+            sync_folder(rt)?;
+            self.named = true;
+        }
+        Ok(())
     }
 
     // Opens the file where it is there.
@@ -76,6 +101,11 @@ impl<R: Files> StoredFile<R> {
         }
         Ok(())
     }
+}
+
+// Puts the names in the current folder on the disk.
+fn sync_folder<R: Files>(rt: &R) -> io::Result<()> {
+    File::open(rt, ".")?.sync_all()
 }
 
 // Reads until there is no room or nothing more.
