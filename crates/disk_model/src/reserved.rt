@@ -3,6 +3,7 @@ ghost use Rattle.std.specs.Prelude.{◌≡◌, ◌<◌, ◌≤◌, ◌+◌, ◌-
 ghost use Rattle.disk_model.specs.Disk.{written_over};
 ghost use Rattle.disk_model.specs.Record.{filled_over};
 
+use crate::overwriting::{lengthen, overwrite};
 use std::alloc::{AllocError, Global};
 
 /// Bytes that never pass their bound, so that no call on them takes memory.
@@ -62,14 +63,13 @@ impl Reserved {
         self.bytes.extend_from_slice(bytes).unwrap();
     }
 
-    /// Writes over what is there, with zeros between the end and the place.
+    /// Writes over what is there, with zeros between the end and the offset.
     pub fn write(&mut self, at: usize, bytes: &[u8])
         requires { at + length bytes.now ≤ self.old.bound }
         ensures bytes { self.new.bytes.items ≡ written_over at bytes.now self.old.bytes.items }
         ensures bound { self.new.bound ≡ self.old.bound }
     {
-        self.lengthen(at + bytes.len(), 0);
-        put(self.bytes.as_mut_slice(), at, bytes);
+        overwrite(&mut self.bytes, at, bytes).unwrap();
     }
 
     /// Puts one byte all over a range, and between the end and it.
@@ -78,27 +78,9 @@ impl Reserved {
         ensures bytes { self.new.bytes.items ≡ filled_over byte at count self.old.bytes.items }
         ensures bound { self.new.bound ≡ self.old.bound }
     {
-        self.lengthen(at + count, byte);
+        lengthen(&mut self.bytes, at + count, byte).unwrap();
         put_all(self.bytes.as_mut_slice(), at, count, byte);
     }
-
-    // Lengthens what is shorter.
-    fn lengthen(&mut self, least: usize, byte: u8)
-        requires { least ≤ self.old.bound }
-        ensures bytes { self.new.bytes.items ≡ self.old.bytes.items ++ replicate (least - length self.old.bytes.items) byte }
-        ensures bound { self.new.bound ≡ self.old.bound }
-    {
-        if self.bytes.len() < least {
-            self.bytes.resize(least, byte).unwrap();
-        }
-    }
-}
-
-fn put(into: &mut [u8], at: usize, bytes: &[u8])
-    requires { at + length bytes.now ≤ length into.old }
-    ensures { into.new ≡ take at into.old ++ bytes.now ++ drop (at + length bytes.now) into.old }
-{
-    into[at..at + bytes.len()].copy_from_slice(bytes);
 }
 
 fn put_all(into: &mut [u8], at: usize, count: usize, byte: u8)
