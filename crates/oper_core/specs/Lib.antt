@@ -1,4 +1,5 @@
 pub mod State
 pub mod Meaning
+pub mod MeaningLaws
 pub mod LittleEndian
 pub mod Cell

@@ -63,6 +63,22 @@ pub record IsLawful {O : Type 0} (m : Meaning O) : Type 0 where
   -- bytes begin with the code of at most one operation: no code is another's beginning
   pub one_code : (a b : O) (bytes : List ℕ) → StartsWithCode m bytes a → StartsWithCode m bytes b → a ≡ b
 
+-- no number of the first bounds is above that of the second
+pub record AreWithin (b c : Bounds) : Type 0 where
+  pub objects : b.objects ≤ c.objects
+  pub cap : b.cap ≤ c.cap
+
+-- what an operation means under some bounds it means under wider ones too: it has the same objects and the same code, it
+-- is in the grammar where it was, and on values that fit the first bounds it is accepted where it was, with the same effect
+pub record Widens {O : Type 0} (m wide : Meaning O) : Type 0 where
+  pub reads : (op : O) → wide.reads op ≡ m.reads op
+  pub writes : (op : O) → wide.writes op ≡ m.writes op
+  pub code : (op : O) → wide.code op ≡ m.code op
+  pub in_grammar : (op : O) → IsInGrammar m op → IsInGrammar wide op
+  pub accepted : (op : O) (values : List (List ℕ)) → IsInGrammar m op → FitsReads m op values → m.check op values ≡ None → wide.check op values ≡ None
+  pub effect : (op : O) (values : List (List ℕ)) → IsInGrammar m op → FitsReads m op values → m.check op values ≡ None
+      → wide.effect op values ≡ m.effect op values
+
 -- the refusal where the test fails
 abbrev pub unless : Bool → Refusal → Option Refusal
 unless true r = None

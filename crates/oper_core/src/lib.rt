@@ -2,26 +2,26 @@
 //! and its code in the log.
 //!
 //! The one contract is the trait [`Oper`] with its laws: an operation's effect is a function of the values that it
-//! reads, and bytes in the log begin with the code of at most one operation. The crate stands on std, on `thiserror`,
-//! and on `byteorder`'s words for numbers as bytes.
+//! reads, and bytes in the log begin with the code of at most one operation. It also says that wider bounds change no
+//! command. The crate depends on `thiserror`, and on `byteorder`'s words for numbers as bytes.
 #![tactic(auto)]
 
 mod bounds;
 mod byte_list;
+mod laws;
 mod memory;
 mod objs;
 mod oper;
 mod refusal;
-mod state;
 #[cfg(test)]
 mod tests;
 mod values;
 
 pub use bounds::Bounds;
 pub use byte_list::ByteList;
+pub use laws::wider_bounds_keep_commands;
 pub use memory::Memory;
 pub use objs::Objs;
 pub use oper::Oper;
 pub use refusal::Refusal;
-pub use state::State;
 pub use values::Values;

@@ -1,6 +1,6 @@
 ghost use Rattle.std.specs.Prelude.{◌≡◌, ◌≤◌, ◌<◌, ◌++◌, List, ℕ, None, All, length, take, IsTrue, IfOk, IfSome, OnOk, OnErr, IfNone};
 ghost use Rattle.std.specs.Result.{result_err};
-ghost use Rattle.oper_core.specs.Meaning.{Meaning, HasBounds, IsSmall, IsLawful, FitsReads, StartsWithCode};
+ghost use Rattle.oper_core.specs.Meaning.{Meaning, HasBounds, AreWithin, IsSmall, IsLawful, Widens, FitsReads, StartsWithCode};
 ghost use Rattle.oper_core.specs.declared.bounds.Bounds.{Bounds};
 ghost use Rattle.oper_core.specs.declared.refusal.Refusal.{Refusal};
 
@@ -34,6 +34,10 @@ pub trait Oper: Drop {
         requires { FitsReads (meaning b) self.now values.now }
         ensures { IfOk result (λ made. made ≡ (meaning b).effect self.now values.now) };
 
+    /// How many bytes its code has.
+    fn code_length(&self) -> u64
+        ensures { (b : Bounds) → result ≡ length ((meaning b).code self.now) };
+
     /// Appends its code.
     fn encode(&self, out: &mut Vec<u8>) -> Result<(), Memory>
         requires { (b : Bounds) × IsTrue ((meaning b).is_encodable self.now) }
@@ -54,4 +58,7 @@ pub trait Oper: Drop {
 
     /// What each operation of the grammar meets.
     ghost lawful: { (b : Bounds) → IsSmall b → IsLawful (meaning b) };
+
+    /// Wider bounds refuse no command more, and change none.
+    ghost widens: { (b c : Bounds) → AreWithin b c → Widens (meaning b) (meaning c) };
 }

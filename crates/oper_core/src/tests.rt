@@ -1,4 +1,4 @@
-use crate::{ByteList, Objs, State, Values};
+use crate::{ByteList, Objs, Values};
 use std::alloc::Global;
 use std::test::Fail;
 
@@ -38,23 +38,5 @@ fn gives_back(alloc: Global) -> Result<bool, Fail> {
 #[test]
 fn a_byte_list_gives_its_bytes_back(rt: HostRuntime) -> Result<(), Fail> {
     assert!(rt; gives_back(rt.alloc())?);
-    Ok(())
-}
-
-fn takes_values(alloc: Global) -> Result<bool, Fail> {
-    let mut state = State::new(alloc, 3)?;
-    let mut values = Values::new(alloc);
-    values.push(&[0xaa])?;
-    values.push(&[0xbb, 0xcc])?;
-    let objects = [2, 0];
-    let known = state.get(2).is_some() && state.get(3).is_none() && state.len() == 3;
-    state.set_values(&objects, values);
-    let read = state.values_of(&objects)?;
-    Ok(known && read.get(0) == [0xaa].as_slice() && read.get(1) == [0xbb, 0xcc].as_slice())
-}
-
-#[test]
-fn a_state_takes_values(rt: HostRuntime) -> Result<(), Fail> {
-    assert!(rt; takes_values(rt.alloc())?);
     Ok(())
 }
