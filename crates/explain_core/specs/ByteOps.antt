@@ -2,13 +2,13 @@
 use Rattle.std.proofs.Common.{◌≡◌, ◌∙◌, sym, ap, ℕ, ◌<◌, ◌≤◌, Bool, true, false, not, List, [], ◌∷◌, ◌++◌, length, refl, arith, Option, None, Some}
 use Rattle.std.specs.Prelude.{◌==◌, ◌&&◌, nat_lt, nat_eq, if◌then◌else◌, IsTrue, IsFalse, All, is_none}
 use Rattle.std.specs.List.{IsDistinct}
-use Rattle.std.proofs.lemmas.Bool.{both_ways, and_parts, ltb-true, not-true}
+use Rattle.std.proofs.lemmas.Bool.{both_ways, and_parts, lt-ltb, ltb-true, not-true}
 use Rattle.std.proofs.lemmas.List.Elements.{All-nil, All-cons, All-head, All-tail}
 use Rattle.std.proofs.lemmas.Map.Keys.{IsDistinct-cons, IsDistinct-from_apart}
 use Rattle.oper_core.specs.declared.bounds.Bounds.{Bounds}
 use Rattle.oper_core.specs.declared.refusal.Refusal.{Refusal}
 use Rattle.oper_core.specs.declared.refusal.Refusal.TheVariants.{NoObject, Same, TooLarge}
-use Rattle.oper_core.specs.Meaning.{Meaning, HasBounds, IsSmall, IsLawful, FitsReads}
+use Rattle.oper_core.specs.Meaning.{Meaning, HasBounds, AreWithin, IsSmall, IsLawful, Widens, FitsReads}
 use Rattle.explain_core.specs.declared.byte_op.ByteOp.{ByteOp}
 use Rattle.explain_core.specs.declared.byte_op.ByteOp.TheVariants.{Put, Swap}
 
@@ -138,4 +138,25 @@ byte_lawful b small = record {
   made = byte-made b;
   encodable = λ op e. refl;
   one_code = λ p q bytes f g. sym (ap parsed f.split ∙ parsed-code p f.rest) ∙ ap parsed g.split ∙ parsed-code q g.rest;
+}
+
+byte-wider : (b c : Bounds) → AreWithin b c → (op : ByteOp) → byte_shape b op ≡ None → byte_shape c op ≡ None
+byte-wider b c within (Put object byte) e =
+    let fits = put-fits b object byte e in
+    let objects = within.objects in
+    let cap = within.cap in
+    rw (lt-ltb object c.objects (omega (arith, fits.0)), lt-ltb 0 c.cap (omega (arith, fits.1))) refl
+byte-wider b c within (Swap left right) e =
+    let fits = swap-fits b left right e in
+    let objects = within.objects in
+    rw (lt-ltb left c.objects (omega (arith, fits.0)), lt-ltb right c.objects (omega (arith, fits.1)), fits.2) refl
+
+pub byte_widens : (b c : Bounds) → AreWithin b c → Widens (byte_meaning b) (byte_meaning c)
+byte_widens b c within = record {
+  reads = λ op. refl;
+  writes = λ op. refl;
+  code = λ op. refl;
+  in_grammar = byte-wider b c within;
+  accepted = λ op values e fits accepted. accepted;
+  effect = λ op values e fits accepted. refl;
 }

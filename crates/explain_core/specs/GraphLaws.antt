@@ -5,21 +5,17 @@ use Rattle.std.proofs.lemmas.Bool.{cases_lt, both_ways, or_cases, eqb-true, and_
 use Rattle.std.proofs.lemmas.Option.{slice_get_past}
 use Rattle.std.proofs.lemmas.List.Elements.{All-head, All-tail}
 use Rattle.oper_core.specs.State.{State, is_among}
-use Rattle.oper_core.specs.Meaning.{Meaning, IsLawful, IsInGrammar, Accepts, or_else}
-use Rattle.oper_core.specs.declared.refusal.Refusal.{Refusal}
+use Rattle.oper_core.specs.Meaning.{Meaning, IsLawful, IsInGrammar, Accepts}
+use Rattle.oper_core.specs.MeaningLaws.{or_else-none}
 use Rattle.install_order.specs.Computed.{IsWithin}
 use Rattle.explain_core.specs.History.{Member, IsMember, accesses_of, value_at, numbered, reads_some, writes_some}
 use Rattle.explain_core.specs.History.Member.{Command, Identity}
 use Rattle.explain_core.specs.World.{World, graph_access, end_of}
 use Rattle.explain_core.specs.Sound.{IsSound}
 
-or_else-none : (a b : Option Refusal) → or_else a b ≡ None → a ≡ None
-or_else-none None b e = refl
-or_else-none (Some r) b e = e
-
 -- an accepted command is in the grammar
 pub accepted-in_grammar : {O : Type 0} (m : Meaning O) (s : State) (op : O) → Accepts m s op → IsInGrammar m op
-accepted-in_grammar m s op e = or_else-none (m.shape op) _ e
+accepted-in_grammar m s op e = (or_else-none (m.shape op) _ e).0
 
 among-below : (n : ℕ) (xs : List ℕ) (x : ℕ) → All (λ x. x < n) xs → IsTrue (is_among x xs) → x < n
 among-below n [] x below there = absurd (both_ways _ refl there)

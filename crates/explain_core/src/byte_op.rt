@@ -1,9 +1,12 @@
 ghost use Rattle.std.specs.Prelude.{◌≡◌, [], ◌∷◌, None, IfSome, IfNone};
 ghost use Rattle.explain_core.specs.declared.byte_op.ByteOp.{ByteOp};
-ghost use Rattle.explain_core.specs.ByteOps.{byte_meaning, byte_code, byte_shape, byte_bounded, byte_lawful};
+ghost use Rattle.explain_core.specs.ByteOps.{byte_meaning, byte_code, byte_shape, byte_bounded, byte_lawful, byte_widens};
 
 use oper_core::{Bounds, Memory, Objs, Oper, Refusal, Values};
 use std::alloc::Global;
+
+// How many bytes each code has.
+const CODE_BYTES: u64 = 3;
 
 /// A small operation type, for worked runs: a write of one byte, and a swap of two objects.
 #[derive(Drop)]
@@ -18,6 +21,8 @@ impl Oper for ByteOp {
     ghost bounded = { byte_bounded };
 
     ghost lawful = { byte_lawful };
+
+    ghost widens = { byte_widens };
 
     fn reads(&self) -> Objs {
         match *self {
@@ -70,6 +75,10 @@ impl Oper for ByteOp {
             }
         }
         Ok(made)
+    }
+
+    fn code_length(&self) -> u64 {
+        CODE_BYTES
     }
 
     fn encode(&self, out: &mut Vec<u8>) -> Result<(), Memory> {
