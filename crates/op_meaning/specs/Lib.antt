@@ -2,7 +2,7 @@ pub mod Order
 pub mod OrderLaws
 pub mod Put
 pub mod PutLaws
-pub mod Shared
-pub mod SharedLaws
+pub mod Rows
+pub mod RowLaws
 pub mod Table
 pub mod TableLaws

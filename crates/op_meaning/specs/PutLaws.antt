@@ -1,17 +1,18 @@
 -- What every put of the grammar meets.
 use Rattle.std.proofs.Common.{◌≡◌, ◌≤◌, ◌<◌, ℕ, ◌^◌, List, [], ◌∷◌, ◌++◌, length, take, drop, refl, sym, ap, ◌∙◌, arith, append_assoc}
-use Rattle.std.specs.Prelude.{nat_eq, nat_lt, nat_le}
-use Rattle.std.specs.List.{IsDistinct}
+use Rattle.std.specs.Prelude.{nat_lt, nat_le}
+use Rattle.std.proofs.lemmas.List.Elements.{All-cons, All-nil}
 use Rattle.std.proofs.lemmas.Bool.{le-leb, leb-true, lt-ltb, ltb-true}
 use Rattle.std.proofs.lemmas.List.{take_at}
 use Rattle.byteorder.specs.Endian.{little_bytes}
 use Rattle.oper_core.specs.LittleEndian.{little_bytes-split}
-use Rattle.oper_core.specs.Meaning.{HasBounds, IsInGrammar, IsLawful, IsSmall, unless}
+use Rattle.oper_core.specs.Meaning.{HasBounds, AreWithin, IsInGrammar, IsLawful, IsSmall, Widens, unless}
+use Rattle.oper_core.specs.MeaningLaws.{or_else-none, unless-none}
 use Rattle.oper_core.specs.declared.bounds.Bounds.{Bounds}
 use Rattle.oper_core.specs.declared.refusal.Refusal.TheVariants.{NoObject, TooLarge}
 use Rattle.op_meaning.specs.declared.put.Put.{Put}
 use Rattle.op_meaning.specs.Put.{put_code, put_meaning}
-use Rattle.op_meaning.specs.SharedLaws.{one_apart, one_below, one_short, or_else-none, unless-none}
+use Rattle.op_meaning.specs.RowLaws.{one_apart, none_apart, one_short}
 
 -- a put is in the grammar where there is its object, and its value is not too long
 pub record IsPut (b : Bounds) (op : Put) : Type 0 where
@@ -47,11 +48,6 @@ same_put first second rest more object object' long long' same =
     ∙ take_at second.value more (length first.value) (sym lengths.0) in
     λ i. record { object = objects.0 i; value = values i }
 
--- a list of no object names none twice
-none_apart : IsDistinct nat_eq []
-unfolding IsDistinct
-none_apart = tt
-
 -- its meaning is that under these bounds
 pub put_bounded : (b : Bounds) → HasBounds b (put_meaning b)
 put_bounded b = record { objects = refl; cap = refl }
@@ -61,7 +57,7 @@ put_lawful b small = record {
   writes_some = λ op e. omega arith;
   reads_below = λ op e k d h. absurd (omega arith);
   reads_apart = λ op e. none_apart;
-  writes_below = λ op e. one_below b.objects op.object (put_from_grammar b op e).object;
+  writes_below = λ op e. All-cons (λ x. x < b.objects) op.object [] (put_from_grammar b op e).object (All-nil (λ x. x < b.objects));
   writes_apart = λ op e. one_apart op.object;
   made = λ op values e fits. (refl, one_short b.cap op.value (put_from_grammar b op e).short);
   encodable = λ op e. let put = put_from_grammar b op e in let cap = small.cap in lt-ltb (length op.value) (2 ^ 32) (omega arith);
@@ -71,4 +67,20 @@ put_lawful b small = record {
       let objects = small.objects in
       let cap = small.cap in
       same_put first second one.rest two.rest (omega arith) (omega arith) (omega arith) (omega arith) (sym one.split ∙ two.split);
+}
+
+pub put_widens : (b c : Bounds) → AreWithin b c → Widens (put_meaning b) (put_meaning c)
+put_widens b c within = record {
+  reads = λ op. refl;
+  writes = λ op. refl;
+  code = λ op. refl;
+  in_grammar = λ op e.
+      let put = put_from_grammar b op e in
+      let object = put.object in
+      let short = put.short in
+      let objects = within.objects in
+      let cap = within.cap in
+      grammar_from_put c op (record { object = omega (arith, object, objects); short = omega (arith, short, cap) });
+  accepted = λ op values e fits accepted. refl;
+  effect = λ op values e fits accepted. refl;
 }

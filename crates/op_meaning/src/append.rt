@@ -1,8 +1,10 @@
-ghost use Rattle.op_meaning.specs.Table.{append_meaning};
-ghost use Rattle.op_meaning.specs.TableLaws.{append_bounded, append_lawful};
+ghost use Rattle.op_meaning.specs.Rows.{meaning_of};
+ghost use Rattle.op_meaning.specs.RowLaws.{row_bounded, row_lawful, row_widens};
+ghost use Rattle.op_meaning.specs.Table.{append_row};
+ghost use Rattle.op_meaning.specs.TableLaws.{append_is_row};
 
 use crate::numbers::{TWO_NUMBERS, two_numbers, write_numbers};
-use crate::objects::{both, told_apart};
+use crate::objects::{both, require_two_objects};
 use oper_core::{Bounds, Memory, Objs, Oper, Refusal, Values};
 use std::alloc::Global;
 
@@ -18,7 +20,7 @@ pub struct Append {
 }
 
 impl Oper for Append {
-    ghost meaning = { append_meaning };
+    ghost meaning = { meaning_of append_row };
 
     fn reads(&self) -> Objs {
         both(self.from, self.to)
@@ -29,7 +31,7 @@ impl Oper for Append {
     }
 
     fn shape(&self, b: Bounds) -> Result<(), Refusal> {
-        told_apart(b, self.from, self.to)
+        require_two_objects(b, self.from, self.to)
     }
 
     fn check(&self, b: Bounds, values: &Values) -> Result<(), Refusal> {
@@ -51,6 +53,10 @@ impl Oper for Append {
         Ok(made)
     }
 
+    fn code_length(&self) -> u64 {
+        TWO_NUMBERS as u64
+    }
+
     fn encode(&self, out: &mut Vec<u8>) -> Result<(), Memory> {
         write_numbers(out, TAG, &[self.from, self.to])
     }
@@ -66,7 +72,9 @@ impl Oper for Append {
         Ok(Some((op, TWO_NUMBERS)))
     }
 
-    ghost bounded = { append_bounded };
+    ghost bounded = { row_bounded append_row };
 
-    ghost lawful = { append_lawful };
+    ghost lawful = { row_lawful append_row append_is_row };
+
+    ghost widens = { row_widens append_row append_is_row };
 }

@@ -1,8 +1,10 @@
-ghost use Rattle.op_meaning.specs.Table.{copy_meaning};
-ghost use Rattle.op_meaning.specs.TableLaws.{copy_bounded, copy_lawful};
+ghost use Rattle.op_meaning.specs.Rows.{meaning_of};
+ghost use Rattle.op_meaning.specs.RowLaws.{row_bounded, row_lawful, row_widens};
+ghost use Rattle.op_meaning.specs.Table.{copy_row};
+ghost use Rattle.op_meaning.specs.TableLaws.{copy_is_row};
 
 use crate::numbers::{TWO_NUMBERS, two_numbers, write_numbers};
-use crate::objects::told_apart;
+use crate::objects::require_two_objects;
 use oper_core::{Bounds, Memory, Objs, Oper, Refusal, Values};
 use std::alloc::Global;
 
@@ -18,7 +20,7 @@ pub struct Copy {
 }
 
 impl Oper for Copy {
-    ghost meaning = { copy_meaning };
+    ghost meaning = { meaning_of copy_row };
 
     fn reads(&self) -> Objs {
         Objs::one(self.from)
@@ -29,7 +31,7 @@ impl Oper for Copy {
     }
 
     fn shape(&self, b: Bounds) -> Result<(), Refusal> {
-        told_apart(b, self.from, self.to)
+        require_two_objects(b, self.from, self.to)
     }
 
     fn check(&self, _b: Bounds, _values: &Values) -> Result<(), Refusal> {
@@ -40,6 +42,10 @@ impl Oper for Copy {
         let mut made = Values::new(alloc);
         made.push(values.get(0))?;
         Ok(made)
+    }
+
+    fn code_length(&self) -> u64 {
+        TWO_NUMBERS as u64
     }
 
     fn encode(&self, out: &mut Vec<u8>) -> Result<(), Memory> {
@@ -57,7 +63,9 @@ impl Oper for Copy {
         Ok(Some((op, TWO_NUMBERS)))
     }
 
-    ghost bounded = { copy_bounded };
+    ghost bounded = { row_bounded copy_row };
 
-    ghost lawful = { copy_lawful };
+    ghost lawful = { row_lawful copy_row copy_is_row };
+
+    ghost widens = { row_widens copy_row copy_is_row };
 }

@@ -1,8 +1,10 @@
-ghost use Rattle.op_meaning.specs.Table.{cut_meaning};
-ghost use Rattle.op_meaning.specs.TableLaws.{cut_bounded, cut_lawful};
+ghost use Rattle.op_meaning.specs.Rows.{meaning_of};
+ghost use Rattle.op_meaning.specs.RowLaws.{row_bounded, row_lawful, row_widens};
+ghost use Rattle.op_meaning.specs.Table.{cut_row};
+ghost use Rattle.op_meaning.specs.TableLaws.{cut_is_row};
 
 use crate::numbers::{THREE_NUMBERS, three_numbers, write_numbers};
-use crate::objects::{both, told_apart};
+use crate::objects::{both, require_two_objects};
 use oper_core::{Bounds, Memory, Objs, Oper, Refusal, Values};
 use std::alloc::Global;
 
@@ -20,7 +22,7 @@ pub struct Cut {
 }
 
 impl Oper for Cut {
-    ghost meaning = { cut_meaning };
+    ghost meaning = { meaning_of cut_row };
 
     fn reads(&self) -> Objs {
         Objs::one(self.from)
@@ -33,7 +35,7 @@ impl Oper for Cut {
     fn shape(&self, b: Bounds) -> Result<(), Refusal> {
         // A place of four bytes is never refused here.
         let _place = self.place;
-        told_apart(b, self.from, self.to)
+        require_two_objects(b, self.from, self.to)
     }
 
     fn check(&self, _b: Bounds, values: &Values) -> Result<(), Refusal> {
@@ -56,6 +58,10 @@ impl Oper for Cut {
         Ok(made)
     }
 
+    fn code_length(&self) -> u64 {
+        THREE_NUMBERS as u64
+    }
+
     fn encode(&self, out: &mut Vec<u8>) -> Result<(), Memory> {
         write_numbers(out, TAG, &[self.from, self.to, self.place])
     }
@@ -71,7 +77,9 @@ impl Oper for Cut {
         Ok(Some((op, THREE_NUMBERS)))
     }
 
-    ghost bounded = { cut_bounded };
+    ghost bounded = { row_bounded cut_row };
 
-    ghost lawful = { cut_lawful };
+    ghost lawful = { row_lawful cut_row cut_is_row };
+
+    ghost widens = { row_widens cut_row cut_is_row };
 }

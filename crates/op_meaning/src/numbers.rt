@@ -1,6 +1,6 @@
 // Codes that are a tag, and numbers of four bytes each.
 ghost use Rattle.std.specs.Prelude.{◌≡◌, ◌≢◌, ◌≤◌, [], ◌∷◌, ◌++◌, List, ℕ, IfNone, IfSome, OnErr, OnOk, drop, length};
-ghost use Rattle.op_meaning.specs.Shared.{numbers_code};
+ghost use Rattle.op_meaning.specs.Rows.{numbers_code};
 
 use byteorder::{ByteOrder, LittleEndian};
 use oper_core::Memory;
@@ -19,11 +19,25 @@ pub(crate) fn write_numbers(out: &mut Vec<u8>, tag: u8, numbers: &[u32]) -> Resu
     Ok(())
 }
 
+/// How many bytes a tag and one number have.
+pub(crate) const ONE_NUMBER: usize = 5;
+
 /// How many bytes a tag and two numbers have.
 pub(crate) const TWO_NUMBERS: usize = 9;
 
 /// How many bytes a tag and three numbers have.
 pub(crate) const THREE_NUMBERS: usize = 13;
+
+/// The number behind this tag, where the bytes begin with such a code.
+pub(crate) fn one_number(tag: u8, bytes: &[u8]) -> Option<u32>
+    ensures some { IfSome result (λ n. bytes.now ≡ numbers_code tag (n ∷ []) ++ drop 5 bytes.now) }
+    ensures none { IfNone result ((x : ℕ) (rest : List ℕ) → bytes.now ≢ numbers_code tag (x ∷ []) ++ rest) }
+{
+    if bytes.len() < ONE_NUMBER || bytes[0] != tag {
+        return None;
+    }
+    Some(LittleEndian::read_u32(&bytes[1..]))
+}
 
 /// The two numbers behind this tag, where the bytes begin with such a code.
 pub(crate) fn two_numbers(tag: u8, bytes: &[u8]) -> Option<(u32, u32)>

@@ -1,13 +1,13 @@
-// Two objects of one operation.
+// The two objects of an operation.
 ghost use Rattle.std.specs.Prelude.{◌≡◌, [], ◌∷◌};
 ghost use Rattle.std.specs.Result.{result_err};
-ghost use Rattle.op_meaning.specs.Shared.{two_objects};
+ghost use Rattle.op_meaning.specs.Rows.{named};
 
 use oper_core::{Bounds, Objs, Refusal};
 
-/// Refuses an object that there isn't, and else one object named twice.
-pub(crate) fn told_apart(b: Bounds, first: u32, second: u32) -> Result<(), Refusal>
-    ensures { result_err result ≡ two_objects b first second }
+/// Refuses two objects of which the store lacks one, and an object that is named twice.
+pub(crate) fn require_two_objects(b: Bounds, first: u32, second: u32) -> Result<(), Refusal>
+    ensures { result_err result ≡ named b (first ∷ second ∷ []) [] }
 {
     if first >= b.objects || second >= b.objects {
         return Err(Refusal::NoObject);

@@ -1,6 +1,5 @@
-ghost use Rattle.std.specs.Prelude.{◌≡◌, length};
-ghost use Rattle.op_meaning.specs.Put.{put_code, put_meaning};
-ghost use Rattle.op_meaning.specs.PutLaws.{put_bounded, put_lawful};
+ghost use Rattle.op_meaning.specs.Put.{put_meaning};
+ghost use Rattle.op_meaning.specs.PutLaws.{put_bounded, put_lawful, put_widens};
 
 use byteorder::{ByteOrder, LittleEndian};
 use oper_core::{Bounds, ByteList, Memory, Objs, Oper, Refusal, Values};
@@ -14,39 +13,10 @@ const HEAD_BYTES: usize = 9;
 /// Gives an object a value.
 #[derive(Drop)]
 pub struct Put {
-    object: u32,
-    value: ByteList,
-}
-
-impl Put {
-    /// The value for the object.
-    pub fn new(object: u32, value: ByteList) -> Self
-        ensures object { result.object ≡ object }
-        ensures value { result.value ≡ value }
-    {
-        Put { object, value }
-    }
-
-    /// The object.
-    pub fn object(&self) -> u32
-        ensures { result ≡ self.now.object }
-    {
-        self.object
-    }
-
+    /// The object that is written.
+    pub object: u32,
     /// The value that it gets.
-    pub fn value(&self) -> &[u8]
-        ensures { result.now ≡ self.now.value }
-    {
-        self.value.as_slice()
-    }
-
-    /// How many bytes its code has.
-    pub fn code_length(&self) -> u64
-        ensures { result ≡ length (put_code self.now) }
-    {
-        (HEAD_BYTES + self.value().len()) as u64
-    }
+    pub value: ByteList,
 }
 
 impl Oper for Put {
@@ -64,7 +34,7 @@ impl Oper for Put {
         if self.object >= b.objects {
             return Err(Refusal::NoObject);
         }
-        if self.value().len() > b.cap as usize {
+        if self.value.as_slice().len() > b.cap as usize {
             return Err(Refusal::TooLarge);
         }
         Ok(())
@@ -76,12 +46,16 @@ impl Oper for Put {
 
     fn apply(&self, alloc: Global, _b: Bounds, _values: &Values) -> Result<Values, Memory> {
         let mut made = Values::new(alloc);
-        made.push(self.value())?;
+        made.push(self.value.as_slice())?;
         Ok(made)
     }
 
+    fn code_length(&self) -> u64 {
+        (HEAD_BYTES + self.value.as_slice().len()) as u64
+    }
+
     fn encode(&self, out: &mut Vec<u8>) -> Result<(), Memory> {
-        let value = self.value();
+        let value = self.value.as_slice();
         out.reserve(HEAD_BYTES + value.len())?;
         out.push(TAG)?;
         out.extend_from_slice(&self.object.to_le_bytes())?;
@@ -101,10 +75,12 @@ impl Oper for Put {
             return Ok(None);
         }
         let value = ByteList::new(rest[..length as usize].to_vec(alloc)?);
-        Ok(Some((Put::new(object, value), HEAD_BYTES + length as usize)))
+        Ok(Some((Put { object, value }, HEAD_BYTES + length as usize)))
     }
 
     ghost bounded = { put_bounded };
 
     ghost lawful = { put_lawful };
+
+    ghost widens = { put_widens };
 }

@@ -1,8 +1,10 @@
-ghost use Rattle.op_meaning.specs.Table.{sort_meaning};
-ghost use Rattle.op_meaning.specs.TableLaws.{sort_bounded, sort_lawful};
+ghost use Rattle.op_meaning.specs.Rows.{meaning_of};
+ghost use Rattle.op_meaning.specs.RowLaws.{row_bounded, row_lawful, row_widens};
+ghost use Rattle.op_meaning.specs.Table.{sort_row};
+ghost use Rattle.op_meaning.specs.TableLaws.{sort_is_row};
 
 use crate::numbers::{THREE_NUMBERS, three_numbers, write_numbers};
-use crate::objects::told_apart;
+use crate::objects::require_two_objects;
 use crate::order::sorted;
 use oper_core::{Bounds, Memory, Objs, Oper, Refusal, Values};
 use std::alloc::Global;
@@ -21,7 +23,7 @@ pub struct Sort {
 }
 
 impl Oper for Sort {
-    ghost meaning = { sort_meaning };
+    ghost meaning = { meaning_of sort_row };
 
     fn reads(&self) -> Objs {
         Objs::one(self.from)
@@ -34,7 +36,7 @@ impl Oper for Sort {
     fn shape(&self, b: Bounds) -> Result<(), Refusal> {
         // A width of four bytes is never refused here.
         let _width = self.width;
-        told_apart(b, self.from, self.to)
+        require_two_objects(b, self.from, self.to)
     }
 
     fn check(&self, _b: Bounds, values: &Values) -> Result<(), Refusal> {
@@ -55,6 +57,10 @@ impl Oper for Sort {
         Ok(made)
     }
 
+    fn code_length(&self) -> u64 {
+        THREE_NUMBERS as u64
+    }
+
     fn encode(&self, out: &mut Vec<u8>) -> Result<(), Memory> {
         write_numbers(out, TAG, &[self.from, self.to, self.width])
     }
@@ -70,7 +76,9 @@ impl Oper for Sort {
         Ok(Some((op, THREE_NUMBERS)))
     }
 
-    ghost bounded = { sort_bounded };
+    ghost bounded = { row_bounded sort_row };
 
-    ghost lawful = { sort_lawful };
+    ghost lawful = { row_lawful sort_row sort_is_row };
+
+    ghost widens = { row_widens sort_row sort_is_row };
 }

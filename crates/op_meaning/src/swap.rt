@@ -1,8 +1,10 @@
-ghost use Rattle.op_meaning.specs.Table.{swap_meaning};
-ghost use Rattle.op_meaning.specs.TableLaws.{swap_bounded, swap_lawful};
+ghost use Rattle.op_meaning.specs.Rows.{meaning_of};
+ghost use Rattle.op_meaning.specs.RowLaws.{row_bounded, row_lawful, row_widens};
+ghost use Rattle.op_meaning.specs.Table.{swap_row};
+ghost use Rattle.op_meaning.specs.TableLaws.{swap_is_row};
 
 use crate::numbers::{TWO_NUMBERS, two_numbers, write_numbers};
-use crate::objects::{both, told_apart};
+use crate::objects::{both, require_two_objects};
 use oper_core::{Bounds, Memory, Objs, Oper, Refusal, Values};
 use std::alloc::Global;
 
@@ -16,7 +18,7 @@ pub struct Swap {
 }
 
 impl Oper for Swap {
-    ghost meaning = { swap_meaning };
+    ghost meaning = { meaning_of swap_row };
 
     fn reads(&self) -> Objs {
         both(self.first, self.second)
@@ -27,7 +29,7 @@ impl Oper for Swap {
     }
 
     fn shape(&self, b: Bounds) -> Result<(), Refusal> {
-        told_apart(b, self.first, self.second)
+        require_two_objects(b, self.first, self.second)
     }
 
     fn check(&self, _b: Bounds, _values: &Values) -> Result<(), Refusal> {
@@ -39,6 +41,10 @@ impl Oper for Swap {
         made.push(values.get(1))?;
         made.push(values.get(0))?;
         Ok(made)
+    }
+
+    fn code_length(&self) -> u64 {
+        TWO_NUMBERS as u64
     }
 
     fn encode(&self, out: &mut Vec<u8>) -> Result<(), Memory> {
@@ -56,7 +62,9 @@ impl Oper for Swap {
         Ok(Some((op, TWO_NUMBERS)))
     }
 
-    ghost bounded = { swap_bounded };
+    ghost bounded = { row_bounded swap_row };
 
-    ghost lawful = { swap_lawful };
+    ghost lawful = { row_lawful swap_row swap_is_row };
+
+    ghost widens = { row_widens swap_row swap_is_row };
 }

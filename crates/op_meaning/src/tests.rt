@@ -8,7 +8,10 @@ use std::test::Fail;
 const BOUNDS: Bounds = Bounds { objects: 4, cap: 3 };
 
 fn put(alloc: Global, object: u32, value: &[u8]) -> Result<Put, AllocError> {
-    Ok(Put::new(object, ByteList::new(value.to_vec(alloc)?)))
+    Ok(Put {
+        object,
+        value: ByteList::new(value.to_vec(alloc)?),
+    })
 }
 
 // Its code, between other bytes.
@@ -43,7 +46,7 @@ fn a_code_is_as_worked_and_reads_back(rt: HostRuntime) -> Result<(), Fail> {
         };
         let op = put(rt.alloc(), object, value)?;
         assert_eq!(rt; op.shape(bounds), Ok(()));
-        assert!(rt; op.value().len() <= 3);
+        assert!(rt; op.value.as_slice().len() <= 3);
         let out = coded(rt.alloc(), &op)?;
         let between = out.as_slice().strip_prefix(b"before").ok_or("lost")?;
         let between = between.strip_suffix(b"behind").ok_or("lost")?;
@@ -51,8 +54,8 @@ fn a_code_is_as_worked_and_reads_back(rt: HostRuntime) -> Result<(), Fail> {
         let (read, length) = Put::decode(rt.alloc(), bounds, &out.as_slice()[6..])?.ok_or(
             "no code",
         )?;
-        assert_eq!(rt; read.object(), object);
-        assert_eq!(rt; read.value(), value);
+        assert_eq!(rt; read.object, object);
+        assert_eq!(rt; read.value.as_slice(), value);
         assert_eq!(rt; length, code.len());
     }
     Ok(())

@@ -1,6 +1,6 @@
 use Rattle.std.proofs.Common.{◌≡◌, ◌≤◌, ◌+◌, ◌*◌, ◌++◌, length, take}
 use Rattle.std.specs.Vec.{vec_capacity}
-use Rattle.op_meaning.specs.Shared.{numbers_code}
+use Rattle.op_meaning.specs.Rows.{numbers_code}
 use Rattle.op_meaning.proofs.numbers.write_numbers.Given as goal
 
 abbrev pub invariant-loop-number : goal.invariant-loop-number
