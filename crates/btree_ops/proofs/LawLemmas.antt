@@ -171,6 +171,8 @@ leaf_splits (a ∷ b ∷ c ∷ d ∷ e ∷ f ∷ g ∷ []) h node is =
       left = refl;
       right = refl;
       all = refl;
+      some = (omega arith, omega arith);
+      separator = record { beside = d.1; others = e ∷ f ∷ g ∷ []; is = refl };
       apart = record {
         below = all_below lower d (e ∷ f ∷ g ∷ []) node.rise;
         above = All-cons (λ e. byte_order e.0 d.0 ≢ Less) d (e ∷ f ∷ g ∷ []) (not_below_itself d.0)
@@ -206,6 +208,7 @@ inner_splits start (a ∷ b ∷ c ∷ d ∷ e ∷ f ∷ g ∷ []) h node is =
       left = refl;
       right = refl;
       all = refl;
+      some = (omega arith, omega arith);
       apart = record {
         below = all_below lower d upper node.2.rise;
         above = all_above d.0 upper (first (below_all byte_order d.0 upper) (is_sorted byte_order upper) above);
@@ -232,6 +235,17 @@ inner_splits start (a ∷ b ∷ c ∷ d ∷ e ∷ f ∷ g ∷ []) h node is =
       );
     })
 inner_splits start others h node is = cc
+
+-- a node of seven entries has halves
+pub leaf_cut : (pairs : List (List ℕ × List ℕ)) → length pairs ≡ 7 → (h : Halves) × (leaf_halves pairs ≡ Some h)
+leaf_cut (a ∷ b ∷ c ∷ d ∷ e ∷ f ∷ g ∷ []) full =
+    (record { left = leaf (a ∷ b ∷ c ∷ []); separator = d.0; right = leaf (d ∷ e ∷ f ∷ g ∷ []) }, refl)
+leaf_cut others full = cc
+
+pub inner_cut : (start : ℕ) (branches : List (List ℕ × ℕ)) → length branches ≡ 7 → (h : Halves) × (inner_halves start branches ≡ Some h)
+inner_cut start (a ∷ b ∷ c ∷ d ∷ e ∷ f ∷ g ∷ []) full =
+    (record { left = inner start (a ∷ b ∷ c ∷ []); separator = d.0; right = inner d.1 (e ∷ f ∷ g ∷ []) }, refl)
+inner_cut start others full = cc
 
 -- the place of a new child
 

@@ -1,5 +1,5 @@
 -- What splits, puts and deletes keep.
-use Rattle.std.specs.Prelude.{◌≡◌, ◌≢◌, ℕ, Option, List, ◌∷◌, ◌++◌, All, if◌then◌else◌}
+use Rattle.std.specs.Prelude.{◌≡◌, ◌≢◌, ◌≤◌, ℕ, Option, List, ◌∷◌, ◌++◌, All, length, if◌then◌else◌}
 use Rattle.std.proofs.Common.{Less}
 use Rattle.std.specs.Ordering.{eq_by_cmp}
 use Rattle.std.specs.FinMap.Entries.{find}
@@ -12,18 +12,27 @@ pub record StandApart {X : Type 0} (lower : List (List ℕ × X)) (key : List �
   pub below : All (λ e. byte_order e.0 key ≡ Less) lower
   pub above : All (λ e. byte_order e.0 key ≢ Less) upper
 
--- the halves of a leaf are leaves that together have its pairs, each on its side of the separator
+-- the first of the entries has this key
+pub record StartAt {X : Type 0} (key : List ℕ) (entries : List (List ℕ × X)) : Type 0 where
+  pub beside : X
+  pub others : List (List ℕ × X)
+  pub is : entries ≡ (key, beside) ∷ others
+
+-- the halves of a leaf are leaves, neither of them empty, that together have its pairs, and the separator is the first key of the upper one
 pub record SplitsLeaf (pairs : List (List ℕ × List ℕ)) (h : Halves) : Type 0 where
   pub lower : List (List ℕ × List ℕ)
   pub upper : List (List ℕ × List ℕ)
   pub left : h.left ≡ leaf lower
   pub right : h.right ≡ leaf upper
   pub all : pairs ≡ lower ++ upper
+  pub some : (1 ≤ length lower) × (1 ≤ length upper)
+  pub separator : StartAt h.separator upper
   pub apart : StandApart lower h.separator upper
   pub left_entries : AreEntries short_field lower
   pub right_entries : AreEntries short_field upper
 
--- the halves of an inner node are inner nodes that have its children in their order, and its separators but the middle one
+-- the halves of an inner node are inner nodes, neither of them empty, that have its children in their order, and its
+-- separators but the one between them, which is the separator of the halves
 pub record SplitsInner (first : ℕ) (branches : List (List ℕ × ℕ)) (h : Halves) : Type 0 where
   pub lower : List (List ℕ × ℕ)
   pub middle : ℕ
@@ -31,6 +40,7 @@ pub record SplitsInner (first : ℕ) (branches : List (List ℕ × ℕ)) (h : Ha
   pub left : h.left ≡ inner first lower
   pub right : h.right ≡ inner middle upper
   pub all : branches ≡ lower ++ (h.separator, middle) ∷ upper
+  pub some : (1 ≤ length lower) × (1 ≤ length upper)
   pub apart : StandApart lower h.separator upper
   pub left_node : IsNode (inner first lower)
   pub right_node : IsNode (inner middle upper)

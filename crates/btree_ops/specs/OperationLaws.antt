@@ -1,22 +1,23 @@
 -- What every operation of the grammar meets.
 use Rattle.std.proofs.Common.{◌≡◌, ◌≤◌, ◌<◌, ℕ, suc, ◌+◌, ◌^◌, ◌==◌, Bool, true, false, not, ◌&&◌, ◌||◌, ◌⊎◌, if◌then◌else◌, Option, None, Some, Result, Ok, Err, List, [], ◌∷◌, ◌++◌, All, length, drop, map, slice_index_or, refl, sym, ap, ◌∙◌, subst, arith, option_map, option_and_then, length-append, inl, inr, true≢false, drop-drop, Less, Equal, Greater}
 use Rattle.std.specs.Prelude.{⊤, IsTrue, nat_eq, nat_lt, nat_le}
+use Rattle.std.specs.Result.{result_err}
 use Rattle.std.specs.List.{IsDistinct, AllByRecursion, list_all}
 use Rattle.std.specs.Ordering.{eq_by_cmp}
 use Rattle.std.specs.FinMap.Entries.{by_order, put}
 use Rattle.std.proofs.lemmas.List.Elements.{All-cons, All-nil}
-use Rattle.std.proofs.lemmas.Bool.{leb-true, ltb-true, lt-ltb}
+use Rattle.std.proofs.lemmas.Bool.{le-leb, leb-true, ltb-true, lt-ltb}
 use Rattle.std.proofs.lemmas.Bool.Decides.{eqb_tells}
 use Rattle.byteorder.specs.Endian.{little_bytes}
 use Rattle.oper_core.specs.LittleEndian.{length-little_bytes}
 use Rattle.oper_core.specs.State.{is_among}
-use Rattle.oper_core.specs.Meaning.{HasBounds, IsInGrammar, IsLawful, IsSmall, or_else, unless}
+use Rattle.oper_core.specs.Meaning.{HasBounds, AreWithin, IsInGrammar, IsLawful, IsSmall, Widens, or_else, unless}
 use Rattle.oper_core.specs.declared.bounds.Bounds.{Bounds}
 use Rattle.oper_core.specs.declared.refusal.Refusal.{Refusal}
 use Rattle.oper_core.specs.declared.refusal.Refusal.TheVariants.{NoObject, Same, TooLarge, NoKey, NodeFull}
 use Rattle.btree_ops.specs.Short.{is_short, short_code, short_in}
 use Rattle.btree_ops.specs.Entries.{Field, byte_order, short_field, child_field, child_in, entry_code, entries_code, entry_in}
-use Rattle.btree_ops.specs.EntryLaws.{AreBytes, bytes_behind, both_true, true_both, if_some, and_then_some, map_some, same_some, short_bounds, short_found, short_begins, short_exact, child_found, child_begins, entry_found, entry_begins, split_off}
+use Rattle.btree_ops.specs.EntryLaws.{AreBytes, bytes_behind, both_true, true_both, if_some, if_true, and_then_some, map_some, same_some, short_bounds, short_found, short_begins, short_exact, child_found, child_begins, entry_found, entry_begins, split_off}
 use Rattle.btree_ops.specs.Node.{leaf, inner, node_code, node_in}
 use Rattle.btree_ops.specs.NodeLaws.{node_small}
 use Rattle.btree_ops.specs.Effects.{pairs_of, pairs_to_fill, has, without, put_made, delete_made, leaf_halves, inner_halves, halves_in, behind_branch, behind_child, split_child_with, split_child_made, split_root_made, made_by, where_it_fits}
@@ -492,18 +493,18 @@ op_begins (tag ∷ body) op are is =
       | inr other ↦ delete_or_split_begins tag body op inside other.1
     ]
 
--- objects below a number of four bytes have four bytes
-weaker : (n : ℕ) (xs : List ℕ) → n < 2 ^ 32 → IsTrue (list_all (λ x. nat_lt x n) xs) → IsTrue (list_all (λ x. nat_lt x (2 ^ 32)) xs)
-weaker n [] small e = refl
-weaker n (x ∷ xs) small e =
+-- objects below a number are below a greater one
+weaker : (n m : ℕ) (xs : List ℕ) → n ≤ m → IsTrue (list_all (λ x. nat_lt x n) xs) → IsTrue (list_all (λ x. nat_lt x m) xs)
+weaker n m [] least e = refl
+weaker n m (x ∷ xs) least e =
     let first = both_true (nat_lt x n) (list_all (λ x. nat_lt x n) xs) e in
-    true_both (nat_lt x (2 ^ 32)) (list_all (λ x. nat_lt x (2 ^ 32)) xs) (lt-ltb x (2 ^ 32) (omega (arith, ltb-true x n first.0, small))) (weaker n xs small first.1)
+    true_both (nat_lt x m) (list_all (λ x. nat_lt x m) xs) (lt-ltb x m (omega (arith, ltb-true x n first.0, least))) (weaker n m xs least first.1)
 
 -- an operation of the grammar whose code bytes begin with is the one that is read
 pub only_op : (b : Bounds) (bytes rest : List ℕ) (op : NodeOp) → b.objects < 2 ^ 32 → bytes ≡ op_code op ++ rest → IsInGrammar (node_meaning b) op → op_in bytes ≡ Some op
 only_op b bytes rest op small split grammar =
     let good = op_from_grammar b op grammar in
-    ap op_in split ∙ op_found op rest (weaker b.objects (objects_of op) small good.below) good.keys
+    ap op_in split ∙ op_found op rest (weaker b.objects (2 ^ 32) (objects_of op) (omega (arith, small)) good.below) good.keys
 
 pub node_bounded : (b : Bounds) → HasBounds b (node_meaning b)
 node_bounded b = record { objects = refl; cap = refl }
@@ -525,4 +526,35 @@ node_lawful b small = record {
   encodable = λ op e. refl;
   one_code = λ first second bytes one two.
       same_some first second (sym (only_op b bytes one.rest first small.objects one.split one.in_grammar) ∙ only_op b bytes two.rest second small.objects two.split two.in_grammar);
+}
+
+-- under wider bounds
+
+no_refusal : (p q r : Bool) (s t u : Refusal) → IsTrue p → IsTrue q → IsTrue r → or_else (unless p s) (or_else (unless q t) (unless r u)) ≡ None
+no_refusal p q r s t u e f g =
+    ap (λ (p : Bool). or_else (unless p s) (or_else (unless q t) (unless r u))) e ∙ ap (λ (q : Bool). or_else (unless q t) (unless r u)) f ∙ ap (λ (r : Bool). unless r u) g
+
+op_in_wider : (b c : Bounds) (op : NodeOp) → AreWithin b c → IsInGrammar (node_meaning b) op → IsInGrammar (node_meaning c) op
+op_in_wider b c op within e =
+    let good = op_from_grammar b op e in
+    no_refusal (list_all (λ x. nat_lt x c.objects) (objects_of op)) (are_apart (objects_of op)) (has_keys op) NoObject Same TooLarge
+    (weaker b.objects c.objects (objects_of op) within.objects good.below) good.apart good.keys
+
+-- what fits under a bound fits under a greater one
+fits_wider : (n m : ℕ) (r : Result Made Refusal) → n ≤ m → result_err (where_it_fits n r) ≡ None → where_it_fits m r ≡ where_it_fits n r
+fits_wider n m (Err refusal) least e = cc
+fits_wider n m (Ok made) least e =
+    elim (nat_le 1024 n) as (λ t. (nat_le 1024 n ≡ t) → result_err (if t then Ok made else Err TooLarge) ≡ None → where_it_fits m (Ok made) ≡ (if t then Ok made else Err TooLarge)) [
+      | true ↦ λ fits e. if_true (nat_le 1024 m) (Ok made) (Err TooLarge) (le-leb 1024 m (omega (arith, leb-true 1024 n fits, least)))
+      | false ↦ λ fits e. cc
+    ] refl e
+
+pub node_widens : (b c : Bounds) → AreWithin b c → Widens (node_meaning b) (node_meaning c)
+node_widens b c within = record {
+  reads = λ op. refl;
+  writes = λ op. refl;
+  code = λ op. refl;
+  in_grammar = λ op e. op_in_wider b c op within e;
+  accepted = λ op values grammar fits e. ap result_err (fits_wider b.cap c.cap (made_by op values) within.cap e) ∙ e;
+  effect = λ op values grammar fits e. ap (λ (r : Result Made Refusal). values_of (objects_of op) r) (fits_wider b.cap c.cap (made_by op values) within.cap e);
 }

@@ -34,11 +34,14 @@ pub fn a_delete_acts_on_a_map()
     ensures node { (key : List ℕ) (pairs : List (List ℕ × List ℕ)) → IsNode (leaf pairs) → IsNode (leaf (without key pairs)) }
 {}
 
-/// A split keeps all pairs, or all children, each on its side of the separator, and its halves are nodes.
+/// A split keeps all pairs, or all children, each on its side of the separator, and its halves are nodes that are not
+/// empty. It is made of every node of seven entries.
 pub fn a_split_keeps_all()
     ensures leaf { (pairs : List (List ℕ × List ℕ)) (h : Halves) → IsNode (leaf pairs) → leaf_halves pairs ≡ Some h → SplitsLeaf pairs h }
     ensures inner { (first : ℕ) (branches : List (List ℕ × ℕ)) (h : Halves) → IsNode (inner first branches) →
         inner_halves first branches ≡ Some h → SplitsInner first branches h }
+    ensures full_leaf { (pairs : List (List ℕ × List ℕ)) → length pairs ≡ 7 → (h : Halves) × (leaf_halves pairs ≡ Some h) }
+    ensures full_inner { (first : ℕ) (branches : List (List ℕ × ℕ)) → length branches ≡ 7 → (h : Halves) × (inner_halves first branches ≡ Some h) }
 {}
 
 /// A new child stands with its separator directly behind the child that is split, of equal children behind the first.

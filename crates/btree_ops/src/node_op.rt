@@ -110,7 +110,7 @@ fn none_for(alloc: Global, objects: &[u32]) -> Result<Values, Memory>
 
 impl Oper for NodeOp {
     ghost use Rattle.btree_ops.specs.Operation.{node_meaning};
-    ghost use Rattle.btree_ops.specs.OperationLaws.{node_bounded, node_lawful};
+    ghost use Rattle.btree_ops.specs.OperationLaws.{node_bounded, node_lawful, node_widens};
 
     ghost meaning = { node_meaning };
 
@@ -170,6 +170,10 @@ impl Oper for NodeOp {
         }
     }
 
+    fn code_length(&self) -> u64 {
+        coding::code_len(self) as u64
+    }
+
     fn encode(&self, out: &mut Vec<u8>) -> Result<(), Memory> {
         match self {
             NodeOp::Put { object, key, value } => coding::write_put(*object, *key, *value, out),
@@ -197,4 +201,6 @@ impl Oper for NodeOp {
     ghost bounded = { node_bounded };
 
     ghost lawful = { node_lawful };
+
+    ghost widens = { node_widens };
 }
