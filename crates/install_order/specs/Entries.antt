@@ -7,11 +7,11 @@ use Rattle.install_order.specs.Order.{Access}
 
 -- an entry with the number n reads x
 abbrev pub reads_at : List Entry → ℕ → ℕ → Bool
-reads_at entries n x = list_any (λ e. (e.lsn == n) && is_among x e.reads) entries
+reads_at entries n x = list_any (λ e. (e.number == n) && is_among x e.reads) entries
 
 -- an entry with the number n writes x
 abbrev pub writes_at : List Entry → ℕ → ℕ → Bool
-writes_at entries n x = list_any (λ e. (e.lsn == n) && is_among x e.writes) entries
+writes_at entries n x = list_any (λ e. (e.number == n) && is_among x e.writes) entries
 
 -- which of the entries reads and which writes which object
 abbrev pub accesses : List Entry → Access

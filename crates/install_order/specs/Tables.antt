@@ -1,5 +1,5 @@
 -- Worked tables: small lists of entries, with all their edges and nodes.
-use Rattle.std.specs.Prelude.{ℕ, ◌==◌, not, Bool, ◌&&◌, IsTrue, ◌↔◌, List, [], ◌∷◌, ◌++◌}
+use Rattle.std.specs.Prelude.{ℕ, ◌==◌, not, Bool, true, false, ◌&&◌, IsTrue, ◌↔◌, List, [], ◌∷◌, ◌++◌}
 use Rattle.std.specs.List.{list_any}
 use Rattle.oper_core.specs.State.{is_among}
 use Rattle.install_order.specs.declared.entry.Entry.{Entry}
@@ -34,9 +34,9 @@ pub record IsTable (entries : List Entry) (arrows : List Arrow) (rows : List Row
   pub edges : (o p : ℕ) → IsTrue (is_listed arrows o p) ↔ Edge (accesses entries) o p
   pub nodes : AreNodes (accesses entries) [] rows
 
--- an entry, from its number, what it reads and what it writes
+-- an entry of no identity write, from its number, what it reads and what it writes
 abbrev pub entry : ℕ → List ℕ → List ℕ → Entry
-entry n reads writes = record { lsn = n; reads = reads; writes = writes }
+entry n reads writes = record { number = n; reads = reads; writes = writes; identity = false }
 
 -- an edge
 abbrev pub arrow : ℕ → ℕ → Arrow
@@ -49,6 +49,9 @@ node members flush_set = record { members = members; flush_set = flush_set }
 -- the operations of the tables, by their numbers
 abbrev pub put : ℕ → ℕ → Entry
 put n x = entry n [] (x ∷ [])
+
+abbrev pub identity_write : ℕ → ℕ → Entry
+identity_write n x = record (put n x) { identity = true }
 
 abbrev pub copy : ℕ → ℕ → ℕ → Entry
 copy n from to = entry n (from ∷ []) (to ∷ [])

@@ -2,7 +2,7 @@ ghost use Rattle.std.specs.Prelude.{◌≡◌, ℕ, ◌<◌, ◌↔◌, Bool, Is
 ghost use Rattle.install_order.specs.Order.{Access, Edge, IsExposed, IsNode, IsName, IsMinimal, flush_set_of, IsLastBlindWrite};
 ghost use Rattle.install_order.specs.Computed.{IsWithin, edge_test, node_of, least_below, is_flushed};
 ghost use Rattle.install_order.specs.FirstReads.{FirstReads};
-ghost use Rattle.install_order.specs.Tables.{IsTable, arrow, node, put, copy, append, swap};
+ghost use Rattle.install_order.specs.Tables.{IsTable, arrow, node, put, identity_write, copy, append, swap};
 
 /// Edges, nodes, their names and their flush sets are computed as they are defined, and where there is an operation
 /// one of the nodes is minimal.
@@ -53,7 +53,7 @@ pub fn worked_tables()
         (arrow 1 3 ∷ arrow 2 3 ∷ arrow 3 1 ∷ arrow 3 2 ∷ [])
         (node (1 ∷ 2 ∷ 3 ∷ []) (0 ∷ 1 ∷ []) ∷ []) }
     // an identity write of 1 takes it out of the swap's flush set
-    ensures put_put_swap_identity { IsTable (put 1 0 ∷ put 2 1 ∷ swap 3 0 1 ∷ put 4 1 ∷ [])
+    ensures put_put_swap_identity { IsTable (put 1 0 ∷ put 2 1 ∷ swap 3 0 1 ∷ identity_write 4 1 ∷ [])
         (arrow 1 3 ∷ arrow 2 3 ∷ arrow 3 1 ∷ arrow 3 2 ∷ arrow 2 4 ∷ arrow 3 4 ∷ [])
         (node (1 ∷ 2 ∷ 3 ∷ []) (0 ∷ []) ∷ node (4 ∷ []) (1 ∷ []) ∷ []) }
     ensures put_append { IsTable (put 1 1 ∷ append 2 0 1 ∷ [])

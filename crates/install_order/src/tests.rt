@@ -8,6 +8,7 @@ use std::test::Fail;
 #[derive(Clone, Copy, Debug)]
 enum Kind {
     Put(u32),
+    Identity(u32),
     Copy(u32, u32),
     Append(u32, u32),
     Swap(u32, u32),
@@ -19,14 +20,19 @@ fn both(left: u32, right: u32) -> Objs {
     objects
 }
 
-fn entry(lsn: u64, kind: Kind) -> Entry {
+fn entry(number: u64, kind: Kind) -> Entry {
     let (reads, writes) = match kind {
-        Kind::Put(x) => (Objs::new(), Objs::one(x)),
+        Kind::Put(x) | Kind::Identity(x) => (Objs::new(), Objs::one(x)),
         Kind::Copy(from, to) => (Objs::one(from), Objs::one(to)),
         Kind::Append(from, to) => (both(from, to), Objs::one(to)),
         Kind::Swap(left, right) => (both(left, right), both(left, right)),
     };
-    Entry { lsn, reads, writes }
+    Entry {
+        number,
+        reads,
+        writes,
+        identity: matches!(kind, Kind::Identity(_)),
+    }
 }
 
 /// The operations as entries, numbered from `first`.
@@ -58,7 +64,12 @@ const EDGES: [(u32, &[Kind], &[(u64, u64)]); 11] = [
     ),
     (
         1,
-        &[Kind::Put(0), Kind::Put(1), Kind::Swap(0, 1), Kind::Put(1)],
+        &[
+            Kind::Put(0),
+            Kind::Put(1),
+            Kind::Swap(0, 1),
+            Kind::Identity(1),
+        ],
         &[(1, 3), (2, 3), (3, 1), (3, 2), (2, 4), (3, 4)],
     ),
     (1, &[Kind::Put(1), Kind::Append(0, 1)], &[(1, 2), (2, 1)]),

@@ -37,18 +37,18 @@ within (e ∷ entries) =
     let rest = within entries in
     let top = above e.writes in (
       rest.0 + top.0,
-      rest.1 + suc e.lsn,
+      rest.1 + suc e.number,
       record {
-        writes_number = λ n x w. elim (or_cases ((e.lsn == n) && is_among x e.writes) (writes_at entries n x) w) [
-          | inl here ↦ let q : e.lsn ≡ n = eqb-true e.lsn n (and_parts (e.lsn == n) _ here).0 in omega arith
+        writes_number = λ n x w. elim (or_cases ((e.number == n) && is_among x e.writes) (writes_at entries n x) w) [
+          | inl here ↦ let q : e.number ≡ n = eqb-true e.number n (and_parts (e.number == n) _ here).0 in omega arith
           | inr more ↦ let q : n < rest.1 = rest.2.writes_number n x more in omega arith
         ];
-        writes_object = λ n x w. elim (or_cases ((e.lsn == n) && is_among x e.writes) (writes_at entries n x) w) [
-          | inl here ↦ let q : x < top.0 = top.1 x (and_parts (e.lsn == n) (is_among x e.writes) here).1 in omega arith
+        writes_object = λ n x w. elim (or_cases ((e.number == n) && is_among x e.writes) (writes_at entries n x) w) [
+          | inl here ↦ let q : x < top.0 = top.1 x (and_parts (e.number == n) (is_among x e.writes) here).1 in omega arith
           | inr more ↦ let q : x < rest.0 = rest.2.writes_object n x more in omega arith
         ];
-        reads_number = λ n x r. elim (or_cases ((e.lsn == n) && is_among x e.reads) (reads_at entries n x) r) [
-          | inl here ↦ let q : e.lsn ≡ n = eqb-true e.lsn n (and_parts (e.lsn == n) _ here).0 in omega arith
+        reads_number = λ n x r. elim (or_cases ((e.number == n) && is_among x e.reads) (reads_at entries n x) r) [
+          | inl here ↦ let q : e.number ≡ n = eqb-true e.number n (and_parts (e.number == n) _ here).0 in omega arith
           | inr more ↦ let q : n < rest.1 = rest.2.reads_number n x more in omega arith
         ];
       },
@@ -76,7 +76,7 @@ pub some-minimal : (e : Entry) (entries : List Entry) → (n : ℕ) × NamesMini
 some-minimal e entries =
     let w = within (e ∷ entries) in
     let top = above (numbers (e ∷ entries)) in
-    minimal-named (e ∷ entries) w.0 w.1 (w.1 + top.0) w.2 (omega arith) (λ n there. let q : n < top.0 = top.1 n there in omega arith) e.lsn (or_left (e.lsn == e.lsn) _ (eq-eqb e.lsn e.lsn refl))
+    minimal-named (e ∷ entries) w.0 w.1 (w.1 + top.0) w.2 (omega arith) (λ n there. let q : n < top.0 = top.1 n there in omega arith) e.number (or_left (e.number == e.number) _ (eq-eqb e.number e.number refl))
 
 -- where no number names a minimal node, there is no entry
 pub none-left : (entries : List Entry) → ((k : ℕ) → zero ≤ k → NamesMinimal entries k → ⊥) → entries ≡ []

@@ -45,7 +45,7 @@ pub among-last : (x : ℕ) (xs : List ℕ) → IsTrue (is_among x (xs ++ x ∷ [
 among-last x xs = list_any-append (λ y. x == y) xs (x ∷ []) ∙ or_right (is_among x xs) (is_among x (x ∷ [])) (or_left (x == x) _ (eq-eqb x x refl))
 
 -- the number at a place is that of the entry there
-pub number-at : (entries : List Entry) (i : ℕ) (d : Entry) → i < length entries → slice_index (numbers entries) i ≡ (get_or entries i d).lsn
+pub number-at : (entries : List Entry) (i : ℕ) (d : Entry) → i < length entries → slice_index (numbers entries) i ≡ (get_or entries i d).number
 number-at [] i d lt = absurd (omega arith)
 number-at (e ∷ entries) zero d lt = refl
 number-at (e ∷ entries) (suc i) d lt = number-at entries i d (omega arith)
@@ -55,15 +55,15 @@ length-numbers [] = refl
 length-numbers (e ∷ entries) = ap suc (length-numbers entries)
 
 -- the entry at a place has a number of the entries
-pub held-at : (entries : List Entry) (i : ℕ) (d : Entry) → i < length entries → IsTrue (is_among (get_or entries i d).lsn (numbers entries))
+pub held-at : (entries : List Entry) (i : ℕ) (d : Entry) → i < length entries → IsTrue (is_among (get_or entries i d).number (numbers entries))
 held-at entries i d lt = subst (λ (n : ℕ). IsTrue (is_among n (numbers entries))) (number-at entries i d lt) (at-among (numbers entries) i (omega (arith, length-numbers entries)))
 
 -- the number of an entry that passes a test is a number of the entries
-pub held-any : (t : Entry → Bool) (entries : List Entry) (n : ℕ) → IsTrue (list_any (λ e. (e.lsn == n) && t e) entries) → IsTrue (is_among n (numbers entries))
+pub held-any : (t : Entry → Bool) (entries : List Entry) (n : ℕ) → IsTrue (list_any (λ e. (e.number == n) && t e) entries) → IsTrue (is_among n (numbers entries))
 held-any t [] n e = absurd (both_ways _ refl e)
-held-any t (f ∷ entries) n e = elim (or_cases ((f.lsn == n) && t f) _ e) [
-  | inl here ↦ or_left (n == f.lsn) _ (eq-eqb n f.lsn (sym (eqb-true f.lsn n (and_parts (f.lsn == n) (t f) here).0)))
-  | inr more ↦ or_right (n == f.lsn) _ (held-any t entries n more)
+held-any t (f ∷ entries) n e = elim (or_cases ((f.number == n) && t f) _ e) [
+  | inl here ↦ or_left (n == f.number) _ (eq-eqb n f.number (sym (eqb-true f.number n (and_parts (f.number == n) (t f) here).0)))
+  | inr more ↦ or_right (n == f.number) _ (held-any t entries n more)
 ]
 
 pub held-write : (entries : List Entry) (n x : ℕ) → IsTrue ((accesses entries).writes n x) → IsTrue (is_among n (numbers entries))
@@ -107,8 +107,8 @@ fewer entries found p once held none there =
     omega (arith, le, length_push found p)
 
 -- the entry at a place: its number stands there, and is one of the numbers
-pub number-item : (entries : List Entry) (i : ℕ) (e : Entry) → i < length entries → e ≡ get_or entries i e → e.lsn ≡ slice_index (numbers entries) i
-number-item entries i e lt is = ap (λ (f : Entry). f.lsn) is ∙ sym (number-at entries i e lt)
+pub number-item : (entries : List Entry) (i : ℕ) (e : Entry) → i < length entries → e ≡ get_or entries i e → e.number ≡ slice_index (numbers entries) i
+number-item entries i e lt is = ap (λ (f : Entry). f.number) is ∙ sym (number-at entries i e lt)
 
-pub held-item : (entries : List Entry) (i : ℕ) (e : Entry) → i < length entries → e ≡ get_or entries i e → IsTrue (is_among e.lsn (numbers entries))
-held-item entries i e lt is = subst (λ (n : ℕ). IsTrue (is_among n (numbers entries))) (sym (ap (λ (f : Entry). f.lsn) is)) (held-at entries i e lt)
+pub held-item : (entries : List Entry) (i : ℕ) (e : Entry) → i < length entries → e ≡ get_or entries i e → IsTrue (is_among e.number (numbers entries))
+held-item entries i e lt is = subst (λ (n : ℕ). IsTrue (is_among n (numbers entries))) (sym (ap (λ (f : Entry). f.number) is)) (held-at entries i e lt)

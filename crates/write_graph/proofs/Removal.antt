@@ -108,7 +108,7 @@ node-stays a node other k none out there is =
 
 -- what is left of a list whose entries in the node are taken out
 abbrev pub left : (ℕ → Bool) → List Entry → List Entry
-left node entries = filter (λ e. not (node e.lsn)) entries
+left node entries = filter (λ e. not (node e.number)) entries
 
 access-eq : (a b : Access) → a.reads ≡ b.reads → a.writes ≡ b.writes → a ≡ b
 access-eq a b r w =
@@ -120,22 +120,22 @@ and-false true = refl
 and-false false = refl
 
 -- what an entry of a number does is left where the number is outside
-any-left : (node : ℕ → Bool) (t : Entry → Bool) (entries : List Entry) (n : ℕ) → list_any (λ e. (e.lsn == n) && t e) (left node entries) ≡ (outside node n && list_any (λ e. (e.lsn == n) && t e) entries)
+any-left : (node : ℕ → Bool) (t : Entry → Bool) (entries : List Entry) (n : ℕ) → list_any (λ e. (e.number == n) && t e) (left node entries) ≡ (outside node n && list_any (λ e. (e.number == n) && t e) entries)
 any-left node t [] n = sym (and-false (outside node n))
 any-left node t (e ∷ entries) n =
-    let p : Entry → Bool = λ f. (f.lsn == n) && t f in
+    let p : Entry → Bool = λ f. (f.number == n) && t f in
     let rest = any-left node t entries n in
-    elim (cases_Bool (outside node e.lsn)) [
-      | inl out ↦ rw out (elim (cases_Bool ((e.lsn == n) && t e)) [
+    elim (cases_Bool (outside node e.number)) [
+      | inl out ↦ rw out (elim (cases_Bool ((e.number == n) && t e)) [
         | inl here ↦
-            let same : e.lsn ≡ n = eqb-true e.lsn n (and_parts (e.lsn == n) (t e) here).0 in
+            let same : e.number ≡ n = eqb-true e.number n (and_parts (e.number == n) (t e) here).0 in
             let out_n : IsTrue (outside node n) = subst (λ (k : ℕ). IsTrue (outside node k)) same out in
             or_left (p e) _ here ∙ sym (and_from (outside node n) (p e || list_any p entries) out_n (or_left (p e) _ here))
         | inr off ↦ rw off rest
       ])
-      | inr off ↦ rw off (elim (cases_Bool ((e.lsn == n) && t e)) [
+      | inr off ↦ rw off (elim (cases_Bool ((e.number == n) && t e)) [
         | inl here ↦
-            let same : e.lsn ≡ n = eqb-true e.lsn n (and_parts (e.lsn == n) (t e) here).0 in
+            let same : e.number ≡ n = eqb-true e.number n (and_parts (e.number == n) (t e) here).0 in
             let off_n : IsFalse (outside node n) = subst (λ (k : ℕ). IsFalse (outside node k)) same off in
             rest ∙ ap (λ (b : Bool). b && list_any p entries) off_n ∙ sym (ap (λ (b : Bool). b && (p e || list_any p entries)) off_n)
         | inr no_e ↦ rw no_e rest
@@ -218,13 +218,13 @@ entries-edges-left entries node none o p = subst (λ (b : Access). Edge b o p �
 -- where a number is in the node, there are fewer
 pub left-fewer : (node : ℕ → Bool) (entries : List Entry) (n : ℕ) → IsTrue (node n) → IsTrue (is_among n (numbers entries)) → length (left node entries) < length entries
 left-fewer node [] n in_node held = absurd (both_ways _ refl held)
-left-fewer node (e ∷ entries) n in_node held = elim (or_cases (n == e.lsn) (is_among n (numbers entries)) held) [
+left-fewer node (e ∷ entries) n in_node held = elim (or_cases (n == e.number) (is_among n (numbers entries)) held) [
   | inl same ↦
-      let there : IsTrue (node e.lsn) = subst (λ (k : ℕ). IsTrue (node k)) (eqb-true n e.lsn same) in_node in
-      let le = length-filter (λ (f : Entry). not (node f.lsn)) entries in
-      let few = count_by-le-length (λ (f : Entry). not (node f.lsn)) entries in
+      let there : IsTrue (node e.number) = subst (λ (k : ℕ). IsTrue (node k)) (eqb-true n e.number same) in_node in
+      let le = length-filter (λ (f : Entry). not (node f.number)) entries in
+      let few = count_by-le-length (λ (f : Entry). not (node f.number)) entries in
       rw there (omega (arith, le, few))
   | inr more ↦
       let lt = left-fewer node entries n in_node more in
-      elim (cases_Bool (node e.lsn)) [ inl there ↦ rw there (omega (arith, lt)) | inr out ↦ rw out (omega (arith, lt)) ]
+      elim (cases_Bool (node e.number)) [ inl there ↦ rw there (omega (arith, lt)) | inr out ↦ rw out (omega (arith, lt)) ]
 ]

@@ -48,24 +48,24 @@ rising-lt xs i j is lt len =
     let r = rising-le xs (i + 1) j is (omega arith) len in
     omega (arith, r, s)
 
-numbers-push : (entries : List Entry) (e : Entry) → numbers (entries ++ e ∷ []) ≡ numbers entries ++ e.lsn ∷ []
-numbers-push entries e = map-append (λ (f : Entry). f.lsn) entries (e ∷ [])
+numbers-push : (entries : List Entry) (e : Entry) → numbers (entries ++ e ∷ []) ≡ numbers entries ++ e.number ∷ []
+numbers-push entries e = map-append (λ (f : Entry). f.number) entries (e ∷ [])
 
 -- an entry may come last whose number is above all others
-pub entries-push : (entries : List Entry) (e : Entry) → IsStrictlyIncreasing (numbers entries) → All (λ n. n < e.lsn) (numbers entries) → IsStrictlyIncreasing (numbers (entries ++ e ∷ []))
-entries-push entries e rising above = subst IsStrictlyIncreasing (sym (numbers-push entries e)) (rising-push (numbers entries) e.lsn rising (λ k there.
+pub entries-push : (entries : List Entry) (e : Entry) → IsStrictlyIncreasing (numbers entries) → All (λ n. n < e.number) (numbers entries) → IsStrictlyIncreasing (numbers (entries ++ e ∷ []))
+entries-push entries e rising above = subst IsStrictlyIncreasing (sym (numbers-push entries e)) (rising-push (numbers entries) e.number rising (λ k there.
     let j = among-at k (numbers entries) there in
     let lt = above j.0 zero j.1 in
     omega (arith, lt, j.2)))
 
 -- the numbers of the entries that a test on numbers keeps
-pub numbers-filter : (t : ℕ → Bool) (entries : List Entry) → numbers (filter (λ e. t e.lsn) entries) ≡ filter t (numbers entries)
+pub numbers-filter : (t : ℕ → Bool) (entries : List Entry) → numbers (filter (λ e. t e.number) entries) ≡ filter t (numbers entries)
 numbers-filter t [] = refl
-numbers-filter t (e ∷ entries) = elim (cases_Bool (t e.lsn)) [
-  | inl out ↦ rw out (ap (λ (ns : List ℕ). e.lsn ∷ ns) (numbers-filter t entries))
+numbers-filter t (e ∷ entries) = elim (cases_Bool (t e.number)) [
+  | inl out ↦ rw out (ap (λ (ns : List ℕ). e.number ∷ ns) (numbers-filter t entries))
   | inr off ↦ rw off (numbers-filter t entries)
 ]
 
 -- the numbers that are left rise as before
-pub entries-filter : (t : ℕ → Bool) (entries : List Entry) → IsStrictlyIncreasing (numbers entries) → IsStrictlyIncreasing (numbers (filter (λ e. t e.lsn) entries))
+pub entries-filter : (t : ℕ → Bool) (entries : List Entry) → IsStrictlyIncreasing (numbers entries) → IsStrictlyIncreasing (numbers (filter (λ e. t e.number) entries))
 entries-filter t entries rising = subst IsStrictlyIncreasing (sym (numbers-filter t entries)) (IsStrictlyIncreasing-filter t (numbers entries) rising)

@@ -59,38 +59,38 @@ members-list entries n walks found rising are is node named =
 -- an entry after n writes x
 after-some : (entries : List Entry) (n x : ℕ) → IsTrue (is_written_after entries n x) → (later : ℕ) × (n < later) × IsTrue (writes_at entries later x)
 after-some entries n x e =
-    let f = any-gives (λ e. nat_lt n e.lsn && is_among x e.writes) entries e in
-    let u = and_parts (nat_lt n f.0.lsn) _ f.1 in
-    (f.0.lsn, ltb-true n f.0.lsn u.0, f.2 (λ e. (e.lsn == f.0.lsn) && is_among x e.writes) (and_from _ _ (eq-eqb f.0.lsn f.0.lsn refl) u.1))
+    let f = any-gives (λ e. nat_lt n e.number && is_among x e.writes) entries e in
+    let u = and_parts (nat_lt n f.0.number) _ f.1 in
+    (f.0.number, ltb-true n f.0.number u.0, f.2 (λ e. (e.number == f.0.number) && is_among x e.writes) (and_from _ _ (eq-eqb f.0.number f.0.number refl) u.1))
 
 after-from : (entries : List Entry) (n x later : ℕ) → n < later → IsTrue (writes_at entries later x) → IsTrue (is_written_after entries n x)
 after-from entries n x later lt w =
-    let f = any-gives (λ e. (e.lsn == later) && is_among x e.writes) entries w in
-    let u = and_parts (f.0.lsn == later) _ f.1 in
-    let same : f.0.lsn ≡ later = eqb-true f.0.lsn later u.0 in
-    f.2 (λ e. nat_lt n e.lsn && is_among x e.writes) (and_from _ _ (lt-ltb n f.0.lsn (omega arith)) u.1)
+    let f = any-gives (λ e. (e.number == later) && is_among x e.writes) entries w in
+    let u = and_parts (f.0.number == later) _ f.1 in
+    let same : f.0.number ≡ later = eqb-true f.0.number later u.0 in
+    f.2 (λ e. nat_lt n e.number && is_among x e.writes) (and_from _ _ (lt-ltb n f.0.number (omega arith)) u.1)
 
 -- the test of a flushed object
 pub flushed-iff : (entries : List Entry) (node : ℕ → Bool) (x : ℕ) → IsTrue (is_flushed entries node x) ↔ flush_set_of (accesses entries) node x
 flushed-iff entries node x =
-    let test : Entry → Bool = λ e. node e.lsn && (is_among x e.writes && not (is_written_after entries e.lsn x)) in (
+    let test : Entry → Bool = λ e. node e.number && (is_among x e.writes && not (is_written_after entries e.number x)) in (
       (λ t.
           let f = any-gives test entries t in
-          let u = and_parts (node f.0.lsn) _ f.1 in
+          let u = and_parts (node f.0.number) _ f.1 in
           let v = and_parts (is_among x f.0.writes) _ u.1 in (
-            f.0.lsn,
+            f.0.number,
             u.0,
             (
-              f.2 (λ e. (e.lsn == f.0.lsn) && is_among x e.writes) (and_from _ _ (eq-eqb f.0.lsn f.0.lsn refl) v.0),
-              λ later lt. false_from_ne_true _ (λ w. both_ways _ (not-true _ v.1) (after-from entries f.0.lsn x later lt w)),
+              f.2 (λ e. (e.number == f.0.number) && is_among x e.writes) (and_from _ _ (eq-eqb f.0.number f.0.number refl) v.0),
+              λ later lt. false_from_ne_true _ (λ w. both_ways _ (not-true _ v.1) (after-from entries f.0.number x later lt w)),
             ),
           )),
       (λ s.
-          let f = any-gives (λ e. (e.lsn == s.0) && is_among x e.writes) entries s.2.0 in
-          let u = and_parts (f.0.lsn == s.0) _ f.1 in
-          let same : s.0 ≡ f.0.lsn = sym (eqb-true f.0.lsn s.0 u.0) in
+          let f = any-gives (λ e. (e.number == s.0) && is_among x e.writes) entries s.2.0 in
+          let u = and_parts (f.0.number == s.0) _ f.1 in
+          let same : s.0 ≡ f.0.number = sym (eqb-true f.0.number s.0 u.0) in
           let last : IsFalse (is_written_after entries s.0 x) = false_from_ne_true _ (λ e. let l = after-some entries s.0 x e in both_ways _ (s.2.1 l.0 l.1) l.2) in
-          f.2 test (and_from (node f.0.lsn) _ (subst (λ (n : ℕ). IsTrue (node n)) same s.1) (and_from (is_among x f.0.writes) _ u.1 (not_from_false _ (subst (λ (n : ℕ). IsFalse (is_written_after entries n x)) same last))))),
+          f.2 test (and_from (node f.0.number) _ (subst (λ (n : ℕ). IsTrue (node n)) same s.1) (and_from (is_among x f.0.writes) _ u.1 (not_from_false _ (subst (λ (n : ℕ). IsFalse (is_written_after entries n x)) same last))))),
     )
 
 -- some entry writes x
@@ -98,10 +98,10 @@ any-writes : (entries : List Entry) (x : ℕ) → IsTrue (list_any (λ e. is_amo
 any-writes entries x = (
   (λ e.
       let f = any-gives (λ e. is_among x e.writes) entries e in
-      (f.0.lsn, f.2 (λ e. (e.lsn == f.0.lsn) && is_among x e.writes) (and_from _ _ (eq-eqb f.0.lsn f.0.lsn refl) f.1))),
+      (f.0.number, f.2 (λ e. (e.number == f.0.number) && is_among x e.writes) (and_from _ _ (eq-eqb f.0.number f.0.number refl) f.1))),
   (λ w.
-      let f = any-gives (λ e. (e.lsn == w.0) && is_among x e.writes) entries w.1 in
-      f.2 (λ e. is_among x e.writes) (and_parts (f.0.lsn == w.0) _ f.1).1),
+      let f = any-gives (λ e. (e.number == w.0) && is_among x e.writes) entries w.1 in
+      f.2 (λ e. is_among x e.writes) (and_parts (f.0.number == w.0) _ f.1).1),
 )
 
 -- the flushed ones of the written objects are the flush set
@@ -149,16 +149,16 @@ written-list entries objects sorted same moved order = record {
 
 -- where the first i entries don't write x and the next one does, that is the first writer
 pub first-writer : (entries : List Entry) (x i : ℕ) (e : Entry) → IsStrictlyIncreasing (numbers entries) → i < length entries → e ≡ get_or entries i e →
-    ((j : ℕ) (d : Entry) → j < i → IsFalse (is_among x (get_or entries j d).writes)) → IsTrue (is_among x e.writes) → IsLeast (IsWriter (accesses entries) x) e.lsn
+    ((j : ℕ) (d : Entry) → j < i → IsFalse (is_among x (get_or entries j d).writes)) → IsTrue (is_among x e.writes) → IsLeast (IsWriter (accesses entries) x) e.number
 first-writer entries x i e rising lt is none w = (
-  list_any_at (λ f. (f.lsn == e.lsn) && is_among x f.writes) entries i e lt (subst (λ (f : Entry). IsTrue ((f.lsn == e.lsn) && is_among x f.writes)) is (and_from _ _ (eq-eqb e.lsn e.lsn refl) w)),
+  list_any_at (λ f. (f.number == e.number) && is_among x f.writes) entries i e lt (subst (λ (f : Entry). IsTrue ((f.number == e.number) && is_among x f.writes)) is (and_from _ _ (eq-eqb e.number e.number refl) w)),
   λ k wk.
-      let j = any-place (λ f. (f.lsn == k) && is_among x f.writes) entries wk in
-      let u = and_parts ((get_or entries j.0 e).lsn == k) _ (j.2 e) in
+      let j = any-place (λ f. (f.number == k) && is_among x f.writes) entries wk in
+      let u = and_parts ((get_or entries j.0 e).number == k) _ (j.2 e) in
       elim (cases_lt j.0 i) [
         | inl small ↦ absurd (both_ways _ (none j.0 e small) u.1)
         | inr big ↦
-            let same : (get_or entries j.0 e).lsn ≡ k = eqb-true _ _ u.0 in
+            let same : (get_or entries j.0 e).number ≡ k = eqb-true _ _ u.0 in
             let at = number-item entries i e lt is in
             let at_j = number-item entries j.0 (get_or entries j.0 e) j.1 (get_or_default entries j.0 e (get_or entries j.0 e) j.1) in
             let r = rising-le (numbers entries) i j.0 rising big (omega (arith, j.1, length-numbers entries)) in
@@ -183,8 +183,8 @@ nobody (e ∷ entries) x j lt off on = both_ways _ (off e) (on e)
 -- where no entry writes x, nobody does
 pub none-writes : (entries : List Entry) (x i : ℕ) → ((j : ℕ) (d : Entry) → j < i → IsFalse (is_among x (get_or entries j d).writes)) → length entries ≤ i → IsWritten (accesses entries) x → ⊥
 none-writes entries x i none end w =
-    let j = any-place (λ f. (f.lsn == w.0) && is_among x f.writes) entries w.1 in
-    nobody entries x j.0 j.1 (λ d. none j.0 d (omega (arith, j.1))) (λ d. (and_parts ((get_or entries j.0 d).lsn == w.0) _ (j.2 d)).1)
+    let j = any-place (λ f. (f.number == w.0) && is_among x f.writes) entries w.1 in
+    nobody entries x j.0 j.1 (λ d. none j.0 d (omega (arith, j.1))) (λ d. (and_parts ((get_or entries j.0 d).number == w.0) _ (j.2 d)).1)
 
 -- one object more, with its first writer
 pub starts-more : (a : Access) (objects : List ℕ) (starts : List (ℕ × ℕ)) (i n : ℕ) → i < length objects → map (λ s. s.0) starts ≡ take i objects → All (λ s. IsLeast (IsWriter a s.0) s.1) starts → IsLeast (IsWriter a (get_or objects i zero)) n →

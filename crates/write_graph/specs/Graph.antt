@@ -13,7 +13,7 @@ pub record Graph : Type 0 where
 
 -- the numbers of the entries, in their order
 abbrev pub numbers : List Entry → List ℕ
-numbers entries = map (λ e. e.lsn) entries
+numbers entries = map (λ e. e.number) entries
 
 -- the set is a node of the entries, and n, which is the number of an entry, is the least in it
 pub record IsNodeNamed (entries : List Entry) (n : ℕ) (node : ℕ → Bool) : Type 0 where

@@ -15,8 +15,8 @@ IsWritten a x = (n : ℕ) × IsWriter a x n
 
 -- an entry after n writes x
 abbrev pub is_written_after : List Entry → ℕ → ℕ → Bool
-is_written_after entries n x = list_any (λ e. nat_lt n e.lsn && is_among x e.writes) entries
+is_written_after entries n x = list_any (λ e. nat_lt n e.number && is_among x e.writes) entries
 
 -- an entry of the node writes x, and none after it does
 abbrev pub is_flushed : List Entry → (ℕ → Bool) → ℕ → Bool
-is_flushed entries node x = list_any (λ e. node e.lsn && (is_among x e.writes && not (is_written_after entries e.lsn x))) entries
+is_flushed entries node x = list_any (λ e. node e.number && (is_among x e.writes && not (is_written_after entries e.number x))) entries

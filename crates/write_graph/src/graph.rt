@@ -65,7 +65,7 @@ impl WriteGraph {
 
     /// Adds an entry, whose number is above all others.
     pub fn add(&mut self, entry: Entry)
-        requires above { All (λ n. n < entry.lsn) (numbers self.old.entries) }
+        requires above { All (λ n. n < entry.number) (numbers self.old.entries) }
         requires room { 0 < self.old.room }
         ensures { self.new.entries ≡ self.old.entries ++ entry ∷ [] }
     {
@@ -119,7 +119,7 @@ impl WriteGraph {
     pub fn remove_minimal(&mut self, n: NodeNo)
         requires { NamesMinimal self.old.entries n }
         ensures entries { (node : ℕ → Bool) → IsNodeNamed self.old.entries n node →
-            self.new.entries ≡ filter (λ e. not (node e.lsn)) self.old.entries }
+            self.new.entries ≡ filter (λ e. not (node e.number)) self.old.entries }
         ensures nodes { (k : ℕ) (other : ℕ → Bool) →
             IsNodeNamed self.new.entries k other ↔ (IsNodeNamed self.old.entries k other × ¬ (k ≡ n)) }
         ensures flush_sets { (k : ℕ) (other : ℕ → Bool) (x : ℕ) → IsNodeNamed self.new.entries k other →
@@ -131,7 +131,7 @@ impl WriteGraph {
     {
         self.walks.follow(n, self.entries.as_slice());
         let walks = &self.walks;
-        self.entries.retain(|e| !walks.have_both(e.lsn));
+        self.entries.retain(|e| !walks.have_both(e.number));
     }
 
     /// The objects that entries write, rising, each with the least number of an entry that writes it.

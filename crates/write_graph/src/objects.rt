@@ -32,7 +32,7 @@ pub(crate) fn first_writer(x: u32, entries: &[Entry]) -> u64
 {
     for e in entries {
         if writes(e, x) {
-            return e.lsn;
+            return e.number;
         }
     }
     unreachable!()
@@ -43,7 +43,7 @@ pub(crate) fn is_flushed(x: u32, entries: &[Entry], walks: &Walks) -> bool
     ensures { result ≡ is_flushed entries.now (in_both walks.now) x }
 {
     entries.iter().any(|e| {
-        walks.have_both(e.lsn) && (writes(e, x) && !is_written_after(e.lsn, x, entries))
+        walks.have_both(e.number) && (writes(e, x) && !is_written_after(e.number, x, entries))
     })
 }
 
@@ -51,7 +51,7 @@ pub(crate) fn is_flushed(x: u32, entries: &[Entry], walks: &Walks) -> bool
 fn is_written_after(n: u64, x: u32, entries: &[Entry]) -> bool
     ensures { result ≡ is_written_after entries.now n x }
 {
-    entries.iter().any(|e| n < e.lsn && writes(e, x))
+    entries.iter().any(|e| n < e.number && writes(e, x))
 }
 
 /// Whether the entry writes the object.

@@ -19,8 +19,8 @@ pub(crate) fn least_minimal(from: u64, entries: &[Entry], walks: &mut Walks) -> 
     ensures room { walks_room walks.old ≤ walks_room walks.new }
 {
     for e in entries {
-        if from <= e.lsn && names_minimal(e.lsn, entries, walks) {
-            return Some(e.lsn);
+        if from <= e.number && names_minimal(e.number, entries, walks) {
+            return Some(e.number);
         }
     }
     None
@@ -35,7 +35,7 @@ pub(crate) fn count_nodes(entries: &[Entry], walks: &mut Walks) -> usize
 {
     let mut count = 0;
     for e in entries {
-        if names_node(e.lsn, entries, walks) {
+        if names_node(e.number, entries, walks) {
             count += 1;
         }
     }
@@ -48,7 +48,7 @@ pub(crate) fn members(alloc: Global, entries: &[Entry], walks: &Walks) -> Result
 {
     let found = entries
         .iter()
-        .map(|e| e.lsn)
+        .map(|e| e.number)
         .filter(|n| walks.have_both(*n))
         .collect(alloc)?;
     Ok(found)

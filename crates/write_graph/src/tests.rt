@@ -147,16 +147,17 @@ fn check_node(
 /// The graph of the operations, numbered from `first`.
 fn graph_of(alloc: Global, first: u32, operations: &[Accesses]) -> Result<WriteGraph, Memory> {
     let mut graph = WriteGraph::new(alloc)?;
-    let mut lsn = first as u64;
+    let mut number = first as u64;
     for (reads, writes) in operations {
         let entry = Entry {
-            lsn,
+            number,
             reads: objs(reads),
             writes: objs(writes),
+            identity: false,
         };
         graph.make_room(&entry)?;
         graph.add(entry);
-        lsn += 1;
+        number += 1;
     }
     Ok(graph)
 }

@@ -39,8 +39,8 @@ fn add_steps(direction: Direction, from: u64, entries: &[Entry], found: &mut Vec
     ensures capacity { vec_capacity found.old ≤ vec_capacity found.new }
 {
     for e in entries {
-        if !has(found.as_slice(), e.lsn) && is_step(direction, from, e.lsn, entries) {
-            push_in_room(found, e.lsn);
+        if !has(found.as_slice(), e.number) && is_step(direction, from, e.number, entries) {
+            push_in_room(found, e.number);
         }
     }
 }

@@ -18,11 +18,11 @@ loop-e-preserved c =
     let lt : c.loop-e.e-index < length (numbers c.args.entries.now) = omega (arith, c.loop-e-test.true, length-numbers c.args.entries.now) in
     elim c.if-names_node.branch [
       | then-names_node w ↦ rw w.count-is (
-        counted-more c.args.entries.now c.loop-e.e-index c.loop-e.count c.e-item.result.lsn c.requires.rising lt c.loop-e.invariant.0 at (c.names_node.ensures.answer.0 w.if-names_node.true),
+        counted-more c.args.entries.now c.loop-e.e-index c.loop-e.count c.e-item.result.number c.requires.rising lt c.loop-e.invariant.0 at (c.names_node.ensures.answer.0 w.if-names_node.true),
         omega (arith, c.names_node.ensures.room, c.loop-e.invariant.1),
       )
       | else-names_node w ↦ rw w.count-is (
-        counted-same c.args.entries.now c.loop-e.e-index c.loop-e.count c.e-item.result.lsn c.loop-e.invariant.0 at (λ named. both_ways _ w.if-names_node.false (c.names_node.ensures.answer.1 named)),
+        counted-same c.args.entries.now c.loop-e.e-index c.loop-e.count c.e-item.result.number c.loop-e.invariant.0 at (λ named. both_ways _ w.if-names_node.false (c.names_node.ensures.answer.1 named)),
         omega (arith, c.names_node.ensures.room, c.loop-e.invariant.1),
       )
     ]

@@ -3,4 +3,4 @@ use Rattle.write_graph.specs.Graph.{numbers}
 use Rattle.write_graph.proofs.tests.graph_of.Given as goal
 
 abbrev pub invariant-loop-reads : goal.invariant-loop-reads
-invariant-loop-reads l = All (λ n. n < l.lsn) (numbers l.graph.entries) × (l.lsn ≡ l.initial.lsn + l.reads-index)
+invariant-loop-reads l = All (λ n. n < l.number) (numbers l.graph.entries) × (l.number ≡ l.initial.number + l.reads-index)

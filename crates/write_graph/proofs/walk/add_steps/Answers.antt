@@ -12,8 +12,8 @@ use Rattle.write_graph.proofs.walk.add_steps.Goals as goal
 pub push_in_room-requires : goal.push_in_room-requires
 push_in_room-requires c =
     let held = held-item c.args.entries.now c.loop-e.e-index c.e-item.result c.loop-e-test.true c.e-item.is in
-    let none : IsFalse (is_among c.e-item.result.lsn c.loop-e.found.items) = cc in
-    let lt = fewer c.args.entries.now c.loop-e.found.items c.e-item.result.lsn c.loop-e.invariant.0.once c.loop-e.invariant.0.held none held in
+    let none : IsFalse (is_among c.e-item.result.number c.loop-e.found.items) = cc in
+    let lt = fewer c.args.entries.now c.loop-e.found.items c.e-item.result.number c.loop-e.invariant.0.once c.loop-e.invariant.0.held none held in
     omega (arith, c.loop-e.invariant.1, c.loop-e.found.ok)
 
 pub loop-e-preserved : goal.loop-e-preserved
@@ -23,19 +23,19 @@ loop-e-preserved c =
     let was = c.loop-e.invariant.0 in
     elim c.if-not-has.branch [
       | then-not-has+then-is_step w ↦
-          let none : IsFalse (is_among c.e-item.result.lsn c.loop-e.found.items) = cc in
+          let none : IsFalse (is_among c.e-item.result.number c.loop-e.found.items) = cc in
           rw (w.found-is, w.push_in_room.ensures.items) (
-            added-more c.args.direction (accesses c.args.entries.now) c.args.from (numbers c.args.entries.now) c.loop-e.e-index c.e-item.result.lsn c.args.found.now.items c.loop-e.found.items was at held none (w.is_step.ensures.0 w.if-is_step.true),
+            added-more c.args.direction (accesses c.args.entries.now) c.args.from (numbers c.args.entries.now) c.loop-e.e-index c.e-item.result.number c.args.found.now.items c.loop-e.found.items was at held none (w.is_step.ensures.0 w.if-is_step.true),
             omega (arith, w.push_in_room.ensures.capacity),
           )
       | else-not-has w ↦
           elim w.else-not-has.branch [
             | else-not-has-via-then-not-has+else-is_step w' ↦ rw w.found-is (
-              added-same c.args.direction (accesses c.args.entries.now) c.args.from (numbers c.args.entries.now) c.loop-e.e-index c.e-item.result.lsn c.args.found.now.items c.loop-e.found.items was at (λ step. absurd (both_ways _ w'.if-is_step.false (w'.is_step.ensures.1 step))),
+              added-same c.args.direction (accesses c.args.entries.now) c.args.from (numbers c.args.entries.now) c.loop-e.e-index c.e-item.result.number c.args.found.now.items c.loop-e.found.items was at (λ step. absurd (both_ways _ w'.if-is_step.false (w'.is_step.ensures.1 step))),
               c.loop-e.invariant.1,
             )
-            | else-not-has-via-else-not-has w' ↦ let there : IsTrue (is_among c.e-item.result.lsn c.loop-e.found.items) = cc in rw w.found-is (
-              added-same c.args.direction (accesses c.args.entries.now) c.args.from (numbers c.args.entries.now) c.loop-e.e-index c.e-item.result.lsn c.args.found.now.items c.loop-e.found.items was at (λ step. there),
+            | else-not-has-via-else-not-has w' ↦ let there : IsTrue (is_among c.e-item.result.number c.loop-e.found.items) = cc in rw w.found-is (
+              added-same c.args.direction (accesses c.args.entries.now) c.args.from (numbers c.args.entries.now) c.loop-e.e-index c.e-item.result.number c.args.found.now.items c.loop-e.found.items was at (λ step. there),
               c.loop-e.invariant.1,
             )
           ]
