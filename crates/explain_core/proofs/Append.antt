@@ -11,7 +11,8 @@ use Rattle.oper_core.specs.State.{is_among}
 use Rattle.oper_core.specs.Meaning.{Meaning, Accepts}
 use Rattle.explain_core.specs.History.{commands_of, Member, accesses_of, value_at, writes_of, made_by, writes_some, IsHistory, IsMember}
 use Rattle.explain_core.specs.History.Member.{Command, Identity}
-use Rattle.explain_core.specs.Explains.{Cell, Explains}
+use Rattle.oper_core.specs.Cell.{Cell}
+use Rattle.explain_core.specs.Explains.{Explains}
 use Rattle.explain_core.specs.World.{World, Table, step, IsLive, end_of, plan_of, MayAppend, set_by}
 use Rattle.explain_core.specs.World.Step.{Append}
 use Rattle.explain_core.specs.Sound.{IsSound, SkipsNothing, and_below}

@@ -5,7 +5,8 @@ use Rattle.std.proofs.lemmas.Bool.{cases_lt, cases_eq, cases_Bool, both_ways, an
 use Rattle.install_order.specs.Order.{Access, IsExposed}
 use Rattle.install_order.specs.Computed.{some_below}
 use Rattle.install_order.specs.NodeLaws.{some-from, some-gives}
-use Rattle.explain_core.specs.Explains.{Cell, Explains}
+use Rattle.oper_core.specs.Cell.{Cell}
+use Rattle.explain_core.specs.Explains.{Explains}
 use Rattle.explain_core.specs.Backup.{backup_of, is_newer, backup_installed}
 
 -- n reads nothing, and writes x alone

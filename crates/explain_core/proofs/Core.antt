@@ -4,7 +4,8 @@ use Rattle.std.specs.Prelude.{IsTrue}
 use Rattle.std.proofs.lemmas.Bool.{cases_lt, both_ways}
 use mathlib.Core.Path.{fun_ext}
 use Rattle.install_order.specs.Order.{Access, IsExposed}
-use Rattle.explain_core.specs.Explains.{Cell, Explains}
+use Rattle.oper_core.specs.Cell.{Cell}
+use Rattle.explain_core.specs.Explains.{Explains}
 use Rattle.oper_core.specs.Meaning.{Meaning}
 use Rattle.explain_core.specs.History.{Member, accesses_of, value_at}
 use Rattle.explain_core.proofs.Basics.{IsFront, front-take, value_at-take}

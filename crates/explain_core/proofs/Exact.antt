@@ -7,7 +7,8 @@ use Rattle.install_order.specs.Order.Edge.{Read_write, Write_write, Lost_version
 use Rattle.install_order.specs.NodeLaws.{walk-on, walk-in}
 use Rattle.oper_core.specs.Meaning.{Meaning}
 use Rattle.explain_core.specs.History.{Member, accesses_of, value_at}
-use Rattle.explain_core.specs.Explains.{Cell, Explains}
+use Rattle.oper_core.specs.Cell.{Cell}
+use Rattle.explain_core.specs.Explains.{Explains}
 use Rattle.explain_core.specs.Exact.{last_writer, current, rest_of, CanInstall, IsPartOf}
 use Rattle.explain_core.proofs.Install.{MayInstall, Explains-install}
 use Rattle.explain_core.specs.GraphLaws.{no-writes}

@@ -4,7 +4,8 @@ use Rattle.std.specs.Prelude.{IsTrue, IsFalse, ◌⊎◌, ◌||◌, ◌&&◌, �
 use Rattle.std.proofs.lemmas.Bool.{cases_eq, cases_Bool, cases_order, both_ways, or_left, or_right, or_cases, or_parts, or_from, false_from_ne_true, and_parts, and_from}
 use Rattle.install_order.specs.Order.{Access, within, IsExposed, NoEdgeInto, flush_set_of}
 use Rattle.install_order.specs.Order.Edge.{Read_write, Write_write, Lost_version}
-use Rattle.explain_core.specs.Explains.{Cell, Explains}
+use Rattle.oper_core.specs.Cell.{Cell}
+use Rattle.explain_core.specs.Explains.{Explains}
 
 -- a set j of the members g may be installed, where s are the slots and c is the cache
 pub record MayInstall (a : Access) (v : ℕ → ℕ → List ℕ) (i j g : ℕ → Bool) (s c : ℕ → Cell) (end : ℕ) : Type 0 where

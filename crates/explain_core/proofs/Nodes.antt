@@ -7,7 +7,8 @@ use Rattle.std.proofs.lemmas.Bool.{cases_Bool, or_left, or_right, or_cases, or_p
 use Rattle.install_order.specs.Order.{Access, NoEdgeInto}
 use Rattle.oper_core.specs.Meaning.{Meaning}
 use Rattle.explain_core.specs.History.{Member, accesses_of, value_at}
-use Rattle.explain_core.specs.Explains.{Cell, Explains}
+use Rattle.oper_core.specs.Cell.{Cell}
+use Rattle.explain_core.specs.Explains.{Explains}
 use Rattle.explain_core.specs.World.{World, Table, step, end_of, graph_access, work_of}
 use Rattle.explain_core.specs.World.Step.{Slot_gate, Removal}
 use Rattle.explain_core.specs.Sound.{IsSound, SkipsNothing, and_below}

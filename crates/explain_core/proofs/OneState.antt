@@ -8,7 +8,8 @@ use Rattle.std.proofs.lemmas.Bool.{both_ways}
 use Rattle.oper_core.specs.Meaning.{Meaning, IsLawful, state_after}
 use Rattle.explain_core.specs.History.{Member, accesses_of, value_at, numbered, writes_some, commands_of}
 use Rattle.explain_core.specs.History.Member.{Command, Identity}
-use Rattle.explain_core.specs.Explains.{Cell, Explains}
+use Rattle.oper_core.specs.Cell.{Cell}
+use Rattle.explain_core.specs.Explains.{Explains}
 use Rattle.explain_core.specs.World.{World, Table, step, run, replays, plan_of, start_of, end_of, set_by}
 use Rattle.explain_core.specs.World.Step.{Replay, Crash}
 use Rattle.explain_core.specs.Sound.{IsSound, SkipsNothing, and_below}

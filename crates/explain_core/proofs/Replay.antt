@@ -7,7 +7,8 @@ use Rattle.install_order.specs.Computed.{some_below}
 use Rattle.install_order.specs.NodeLaws.{some-from}
 use Rattle.oper_core.specs.Meaning.{Meaning, IsLawful}
 use Rattle.explain_core.specs.History.{Member, accesses_of, value_at, made_by, numbered}
-use Rattle.explain_core.specs.Explains.{Cell, Explains}
+use Rattle.oper_core.specs.Cell.{Cell}
+use Rattle.explain_core.specs.Explains.{Explains}
 use Rattle.explain_core.specs.World.{World, step, plan_of, set_by, is_redone}
 use Rattle.explain_core.specs.World.Step.{Replay}
 use Rattle.explain_core.specs.Sound.{IsSound, SkipsNothing, and_below}

@@ -7,7 +7,8 @@ use Rattle.install_order.specs.Order.{Access, IsClosed, IsExposed}
 use Rattle.oper_core.specs.State.{is_among, value_for}
 use Rattle.oper_core.specs.Meaning.{Meaning}
 use Rattle.explain_core.specs.History.{Member, accesses_of, value_at, reads_of, writes_of, effect_of, made_by, reads_some, writes_some}
-use Rattle.explain_core.specs.Explains.{Cell, Explains}
+use Rattle.oper_core.specs.Cell.{Cell}
+use Rattle.explain_core.specs.Explains.{Explains}
 use Rattle.explain_core.specs.Sound.{and_below}
 use Rattle.explain_core.proofs.Core.{Explains-same}
 

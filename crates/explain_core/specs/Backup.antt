@@ -5,7 +5,7 @@ use Rattle.install_order.specs.Order.{Access}
 use Rattle.install_order.specs.Computed.{some_below}
 use Rattle.explain_core.specs.History.{Member, numbered, accesses_of}
 use Rattle.explain_core.specs.History.Member.{Identity}
-use Rattle.explain_core.specs.Explains.{Cell}
+use Rattle.oper_core.specs.Cell.{Cell}
 use Rattle.explain_core.specs.World.{World, Step, Table}
 use Rattle.explain_core.specs.World.Step.{Begin, End, Append, Block_gate, Check, Slot_gate, Removal, Header_gate, Replay, Crash}
 use Rattle.explain_core.specs.Stable.{Stable}

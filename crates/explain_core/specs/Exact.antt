@@ -3,7 +3,8 @@ use Rattle.std.specs.Prelude.{ℕ, zero, suc, nat_le, not, Bool, ◌&&◌, ◌||
 use Rattle.oper_core.specs.Meaning.{Meaning}
 use Rattle.install_order.specs.Order.{Access}
 use Rattle.explain_core.specs.History.{Member, accesses_of, value_at}
-use Rattle.explain_core.specs.Explains.{Cell, Explains}
+use Rattle.oper_core.specs.Cell.{Cell}
+use Rattle.explain_core.specs.Explains.{Explains}
 
 -- the last number below n that writes x, or 0
 abbrev pub last_writer : Access → ℕ → ℕ → ℕ

@@ -1,12 +1,8 @@
 -- Installed members explain a state.
-use Rattle.std.specs.Prelude.{◌≡◌, ℕ, ◌<◌, Bool, IsTrue, IsFalse, List, [], ◌⊎◌}
+use Rattle.std.specs.Prelude.{◌≡◌, ℕ, ◌<◌, Bool, IsTrue, IsFalse, [], ◌⊎◌}
 use Rattle.oper_core.specs.State.{State}
+use Rattle.oper_core.specs.Cell.{Cell}
 use Rattle.install_order.specs.Order.{Access, IsClosed, IsExposed}
-
--- an object's value, and the number of the member that wrote it: its identifier
-pub record Cell : Type 0 where
-  pub id : ℕ
-  pub value : List ℕ
 
 -- the members in `installed` explain the cells of a state, where `values n` is the state after the first n members
 pub record Explains (a : Access) (values : ℕ → State) (installed : ℕ → Bool) (state : ℕ → Cell) : Type 0 where

@@ -9,7 +9,7 @@ use Rattle.install_order.specs.Order.Reaches.{Here, Then}
 use Rattle.install_order.specs.Computed.{IsWithin, some_below, least_below, edge_test, reach, is_flushed}
 use Rattle.install_order.specs.NodeLaws.{some-from, some-gives, test-gives, test-from, edge-start, edge-end, reach-gives, node-is, least-is, flushed-iff}
 use Rattle.explain_core.specs.History.{accesses_of}
-use Rattle.explain_core.specs.Explains.{Cell}
+use Rattle.oper_core.specs.Cell.{Cell}
 use Rattle.explain_core.specs.World.{World, Step, step, AreAllowed, IsReady, IsAllStable, work_of, end_of, graph_access, node_named}
 use Rattle.explain_core.specs.World.Step.{Slot_gate, Removal}
 use Rattle.explain_core.specs.Sound.{IsSound}

@@ -7,7 +7,7 @@ use Rattle.explain_core.specs.declared.byte_op.ByteOp.TheVariants.{Put, Swap}
 use Rattle.explain_core.specs.ByteOps.{byte_meaning}
 use Rattle.explain_core.specs.History.{Member}
 use Rattle.explain_core.specs.History.Member.{Command, Identity}
-use Rattle.explain_core.specs.Explains.{Cell}
+use Rattle.oper_core.specs.Cell.{Cell}
 use Rattle.explain_core.specs.World.{World, Step, run, new_world, replays}
 use Rattle.explain_core.specs.Backup.{with_next}
 use Rattle.explain_core.specs.World.Step.{Begin, End, Append, Block_gate, Check, Slot_gate, Removal, Header_gate, Crash}

@@ -7,7 +7,7 @@ use Rattle.install_order.specs.Order.{Access, within, IsMinimal, flush_set_of}
 use Rattle.install_order.specs.Computed.{some_below, least_below, edge_test, node_of}
 use Rattle.explain_core.specs.History.{Member, writes_of, numbered, accesses_of, made_by, commands_of}
 use Rattle.explain_core.specs.History.Member.{Command, Identity}
-use Rattle.explain_core.specs.Explains.{Cell}
+use Rattle.oper_core.specs.Cell.{Cell}
 
 -- a check: for each object the number from which a redo applies its writes, and the next number as it was taken
 pub record Table : Type 0 where

@@ -1,7 +1,8 @@
 ghost use Rattle.std.specs.Prelude.{ℕ, ◌+◌, List, [], ◌∷◌, take};
 ghost use Rattle.oper_core.specs.declared.bounds.Bounds.{Bounds};
 ghost use Rattle.explain_core.specs.History.{accesses_of, value_at};
-ghost use Rattle.explain_core.specs.Explains.{Cell, Explains};
+ghost use Rattle.oper_core.specs.Cell.{Cell};
+ghost use Rattle.explain_core.specs.Explains.{Explains};
 ghost use Rattle.explain_core.specs.World.{World, Step, step, IsAllowed, plan_of};
 ghost use Rattle.explain_core.specs.Sound.{IsSound};
 ghost use Rattle.explain_core.specs.Stable.{IsStableOf};
