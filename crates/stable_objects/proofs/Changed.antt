@@ -2,7 +2,8 @@
 use Rattle.std.proofs.Common.{◌≡◌, ◌≢◌, ◌⊎◌, inl, inr, ◌<◌, ◌≤◌, ◌+◌, ◌-◌, ◌*◌, ◌^◌, ℕ, zero, suc, List, length, take, drop, refl, sym, ◌∙◌, ap, subst, arith}
 use Rattle.std.proofs.lemmas.Bool.{cases_eq}
 use Rattle.formats.specs.Bytes.{byte_at, IsOpenAt, IsShutAt}
-use Rattle.formats.specs.Objects.{Cell, IsObjectsFile, AreSlotsWhole, IsWholeSlot, slot_place, identifier_at, length_at, value_at, open_identifier, cell_at, cell_of, objects_fields}
+use Rattle.oper_core.specs.Cell.{Cell}
+use Rattle.formats.specs.Objects.{IsObjectsFile, AreSlotsWhole, IsWholeSlot, slot_place, identifier_at, length_at, value_at, open_identifier, cell_at, cell_of, objects_fields}
 use Rattle.formats.specs.declared.params.Params.{Params}
 use Rattle.stable_objects.specs.Replacing.{AgreesOutside, IsFilled, OthersKept}
 use Rattle.stable_objects.proofs.Outside.{IsBeside, byte_beside, read_same, number_stays}

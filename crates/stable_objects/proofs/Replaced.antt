@@ -7,7 +7,8 @@ use Rattle.disk_model.specs.Disk.{Files, Disk, Runs, Stays, Same, In, Torn, Any,
 use Rattle.disk_model.specs.Moments.{from_reads, first_call, runs_on, weaker}
 use Rattle.disk_model.specs.declared.machine.FileNo.TheVariants.{Objects}
 use Rattle.formats.specs.Bytes.{byte_at, IsOpenAt, IsShutAt}
-use Rattle.formats.specs.Objects.{Cell, IsObjectsFile, IsWholeSlot, slot_place, identifier_at, open_identifier, cell_at, cell_of}
+use Rattle.oper_core.specs.Cell.{Cell}
+use Rattle.formats.specs.Objects.{IsObjectsFile, IsWholeSlot, slot_place, identifier_at, open_identifier, cell_at, cell_of}
 use Rattle.formats.specs.declared.params.Params.{Params}
 use Rattle.stable_objects.specs.SlotsView.{SlotsView, AreOf, AreHeads, head, holder_in, id_in}
 use Rattle.stable_objects.specs.SlotGates.{slot_gate}

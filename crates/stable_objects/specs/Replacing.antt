@@ -3,7 +3,8 @@ use Rattle.std.specs.Prelude.{◌≡◌, ◌≢◌, ◌⊎◌, ◌<◌, ◌≤�
 use Rattle.disk_model.specs.Disk.{Files, Disk, OthersStay}
 use Rattle.disk_model.specs.declared.machine.FileNo.TheVariants.{Objects}
 use Rattle.formats.specs.Bytes.{byte_at, IsOpenAt, IsShutAt}
-use Rattle.formats.specs.Objects.{IsObjectsFile, Cell, cell_of, identifier_at, length_at, value_at}
+use Rattle.oper_core.specs.Cell.{Cell}
+use Rattle.formats.specs.Objects.{IsObjectsFile, cell_of, identifier_at, length_at, value_at}
 use Rattle.formats.specs.declared.params.Params.{Params}
 use Rattle.stable_objects.specs.SlotsView.{SlotsView, head}
 

@@ -3,7 +3,8 @@ use Rattle.std.proofs.Common.{◌≡◌, ◌<◌, ◌≤◌, ◌+◌, ℕ, List,
 use Rattle.std.specs.Prelude.{Bool, cond, nat_eq, nat_lt}
 use Rattle.std.proofs.lemmas.Bool.{ne_eqb, eq-eqb, cond-true, cond-false, cond_both, cases_eq, cases_lt}
 use Rattle.formats.specs.Bytes.{byte_at, IsOpenAt, IsShutAt}
-use Rattle.formats.specs.Objects.{IsObjectsFile, AreSlotsShut, Cell, open_identifier, identifier_at, length_at, value_at, slot_place, holder, cell_at, cell_of}
+use Rattle.oper_core.specs.Cell.{Cell}
+use Rattle.formats.specs.Objects.{IsObjectsFile, AreSlotsShut, open_identifier, identifier_at, length_at, value_at, slot_place, holder, cell_at, cell_of}
 use Rattle.formats.specs.Image.{IsOpenSlot, place_in, params_in}
 use Rattle.formats.specs.declared.params.Params.{Params}
 use Rattle.stable_objects.specs.SlotsView.{SlotsView, AreOf, IsLate, head, id_in, holder_in}

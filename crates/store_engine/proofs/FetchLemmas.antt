@@ -5,7 +5,8 @@ use Rattle.std.proofs.lemmas.List.{take_more}
 use Rattle.std.proofs.lemmas.List.Elements.{All-append, All-cons}
 use Rattle.disk_model.specs.Disk.{Disk, Stays}
 use Rattle.disk_model.specs.declared.machine.FileNo.TheVariants.{Objects}
-use Rattle.formats.specs.Objects.{Cell, cell_of}
+use Rattle.oper_core.specs.Cell.{Cell}
+use Rattle.formats.specs.Objects.{cell_of}
 use Rattle.stable_objects.specs.SlotsView.{SlotsView, AreOf, id_in}
 use Rattle.stable_objects.specs.SlotLaws.{id_is}
 use Rattle.dirty_cache.specs.Contents.{held}

@@ -10,7 +10,8 @@ use Rattle.oper_core.specs.Meaning.{Meaning, HasBounds, IsSmall, IsLawful, state
 use Rattle.oper_core.specs.declared.bounds.Bounds.{Bounds}
 use Rattle.formats.specs.Bytes.{IsOpenAt, IsShutAt}
 use Rattle.formats.specs.Log.{Header, IsShutLog}
-use Rattle.formats.specs.Objects.{Cell, cell_of, IsInRange, IsObjectsFile, AreSlotsShut, bounds_of, slot_place, identifier_at}
+use Rattle.oper_core.specs.Cell.{Cell}
+use Rattle.formats.specs.Objects.{cell_of, IsInRange, IsObjectsFile, AreSlotsShut, bounds_of, slot_place, identifier_at}
 use Rattle.formats.specs.Image.{params_in, IsDamaged, IsRecordFault, IsLateSlot, in_objects, in_header, in_block, in_record, in_late_slot, in_other_log}
 use Rattle.formats.specs.Records.{records_of, commands_of, AreRecords, IsRecord, IsRecordLog}
 use Rattle.formats.specs.declared.params.Params.{Params}

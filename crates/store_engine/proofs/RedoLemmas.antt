@@ -9,7 +9,8 @@ use Rattle.disk_model.specs.declared.machine.FileNo.TheVariants.{Objects}
 use Rattle.oper_core.specs.declared.bounds.Bounds.{Bounds}
 use Rattle.oper_core.specs.State.{value_for, is_among}
 use Rattle.oper_core.specs.Meaning.{Meaning, IsSmall, IsLawful, IsInGrammar, FitsReads, HasBounds}
-use Rattle.formats.specs.Objects.{IsInRange, Cell, cell_of, bounds_of}
+use Rattle.oper_core.specs.Cell.{Cell}
+use Rattle.formats.specs.Objects.{IsInRange, cell_of, bounds_of}
 use Rattle.formats.specs.Records.{IsRecord}
 use Rattle.formats.specs.declared.params.Params.{Params}
 use Rattle.formats.specs.declared.record.Record.{Record}

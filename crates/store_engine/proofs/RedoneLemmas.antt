@@ -5,7 +5,8 @@ use Rattle.std.proofs.lemmas.List.Elements.{All-head, All-tail}
 use Rattle.std.proofs.lemmas.Bool.{lt-ltb}
 use Rattle.oper_core.specs.State.{State, start, value_for, is_among}
 use Rattle.oper_core.specs.Meaning.{Meaning, HasBounds, IsLawful, IsInGrammar, after, read_values, state_after}
-use Rattle.formats.specs.Objects.{Cell, cell_of, bounds_of, AreSlotsShut}
+use Rattle.oper_core.specs.Cell.{Cell}
+use Rattle.formats.specs.Objects.{cell_of, bounds_of, AreSlotsShut}
 use Rattle.formats.specs.Records.{AreRecords, commands_of}
 use Rattle.formats.specs.declared.params.Params.{Params}
 use Rattle.formats.specs.declared.record.Record.{Record}

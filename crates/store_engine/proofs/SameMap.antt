@@ -7,7 +7,8 @@ use Rattle.disk_model.specs.declared.machine.FileNo.TheVariants.{Objects, LogB}
 use Rattle.oper_core.specs.Meaning.{Meaning}
 use Rattle.oper_core.specs.declared.bounds.Bounds.{Bounds}
 use Rattle.formats.specs.Log.{IsShutLog}
-use Rattle.formats.specs.Objects.{Cell, AreSlotsShut, cell_of}
+use Rattle.oper_core.specs.Cell.{Cell}
+use Rattle.formats.specs.Objects.{AreSlotsShut, cell_of}
 use Rattle.formats.specs.Records.{IsRecordLog}
 use Rattle.formats.specs.declared.params.Params.{Params}
 use Rattle.formats.specs.declared.record.Record.{Record}

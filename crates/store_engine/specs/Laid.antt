@@ -2,7 +2,8 @@
 use Rattle.std.specs.Prelude.{◌≡◌, ◌<◌, ◌≤◌, ◌&&◌, ℕ, nat_lt, if◌then◌else◌, List, length, map, Option, None, Some, false}
 use Rattle.oper_core.specs.State.{State, value_for, is_among}
 use Rattle.oper_core.specs.Meaning.{Meaning}
-use Rattle.formats.specs.Objects.{IsInRange, Cell, cell_of}
+use Rattle.oper_core.specs.Cell.{Cell}
+use Rattle.formats.specs.Objects.{IsInRange, cell_of}
 use Rattle.formats.specs.declared.params.Params.{Params}
 use Rattle.formats.specs.declared.record.Record.{Record}
 use Rattle.formats.specs.declared.record.Record.TheVariants.{Command}
