@@ -15,7 +15,7 @@ pub of-none : {X : Type 0} (o : Option X) (P : X → Type 0) → o ≡ None → 
 of-none o P e = subst (λ (q : Option _). IfSome q P) (sym e) tt
 
 -- what holds of the group that is open
-if_some-to : {X : Type 0} (o : Option X) (P Q : X → Type 0) → ((x : X) → P x → Q x) → IfSome o P → IfSome o Q
+pub if_some-to : {X : Type 0} (o : Option X) (P Q : X → Type 0) → ((x : X) → P x → Q x) → IfSome o P → IfSome o Q
 if_some-to None P Q to h = tt
 if_some-to (Some x) P Q to h = to x h
 

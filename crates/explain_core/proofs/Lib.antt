@@ -14,6 +14,7 @@ pub mod Runs
 pub mod Graph
 pub mod OneState
 pub mod GroupLaws
+pub mod GroupRuns
 pub mod TurnRuns
 pub mod CopiedSlots
 pub mod BackupRuns

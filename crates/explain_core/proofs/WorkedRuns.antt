@@ -9,12 +9,10 @@ use Rattle.install_order.specs.Checks.{is_minimal-gives, flushes_only-gives}
 use Rattle.explain_core.specs.declared.byte_op.ByteOp.{ByteOp}
 use Rattle.explain_core.specs.ByteOps.{byte_meaning, byte_lawful}
 use Rattle.explain_core.specs.World.{World, Step, step, run, IsAllowed, AreAllowed, IsReady, new_world, graph_access, work_of, end_of, replays}
-use Rattle.explain_core.specs.World.Step.{End, Block_gate, Check, Slot_gate, Removal, Header_gate, Crash}
+use Rattle.explain_core.specs.World.Step.{Block_gate, Check, Slot_gate, Removal, Header_gate, Crash}
 use Rattle.explain_core.specs.RunLaws.{run-append, allowed-append}
-use Rattle.explain_core.specs.Backup.{IsCopied, MayWhileCopied, with_next}
-use Rattle.explain_core.proofs.BackupRuns.{copied-none, copied-more, copied-step}
 use Rattle.explain_core.specs.Sound.{IsSound}
-use Rattle.explain_core.specs.Worked.{two, after_steps, swap_node, swap_logged, swap_flushed, swap_removed, swap_checked, swap_redone, redone_node, swap_installed, swap_redone_again, group_opened, group_lost, group_kept, identity_node, both_copied, copied_flushed}
+use Rattle.explain_core.specs.Worked.{two, after_steps, swap_node, swap_logged, swap_flushed, swap_removed, swap_checked, swap_redone, redone_node, swap_installed, swap_redone_again, group_opened}
 use Rattle.explain_core.proofs.Runs.{run_sound, new_sound}
 use Rattle.explain_core.specs.GraphLaws.{graph-within}
 
@@ -32,11 +30,11 @@ logged-allowed = (
   ((omega arith, refl), ((omega arith, refl), ((omega arith, (omega arith, refl, refl)), ((omega arith, refl), tt)))),
 )
 
-within : (steps : List (Step ByteOp)) → AreAllowed (byte_meaning two) (new_world ByteOp) steps → IsWithin (graph_access (byte_meaning two) (after_steps steps)) 2 (end_of (after_steps steps))
+pub within : (steps : List (Step ByteOp)) → AreAllowed (byte_meaning two) (new_world ByteOp) steps → IsWithin (graph_access (byte_meaning two) (after_steps steps)) 2 (end_of (after_steps steps))
 within steps may = graph-within (byte_meaning two) two-lawful (after_steps steps) (steps-sound steps may)
 
 -- one more step of a run
-one-more : (steps more : List (Step ByteOp)) → AreAllowed (byte_meaning two) (new_world ByteOp) steps → AreAllowed (byte_meaning two) (after_steps steps) more → AreAllowed (byte_meaning two) (new_world ByteOp) (steps ++ more)
+pub one-more : (steps more : List (Step ByteOp)) → AreAllowed (byte_meaning two) (new_world ByteOp) steps → AreAllowed (byte_meaning two) (after_steps steps) more → AreAllowed (byte_meaning two) (new_world ByteOp) (steps ++ more)
 one-more steps more may then = allowed-append (byte_meaning two) (new_world ByteOp) steps more may then
 
 logged-ready : IsReady (byte_meaning two) (after_steps swap_logged) swap_node
@@ -163,51 +161,3 @@ again-allowed = one-more swap_installed (Crash ∷ replays 4) installed-allowed 
 pub opened-allowed : AreAllowed (byte_meaning two) (new_world ByteOp) group_opened
 unfolding step run
 opened-allowed = ((omega arith, refl), ((omega arith, refl), ((omega arith, (refl, refl)), ((omega arith, refl), ((omega arith, refl), tt)))))
-
-pub lost-allowed : AreAllowed (byte_meaning two) (new_world ByteOp) group_lost
-unfolding step run
-lost-allowed = one-more group_opened (Crash ∷ replays 1) opened-allowed (tt, (omega arith, tt))
-
-pub kept-allowed : AreAllowed (byte_meaning two) (new_world ByteOp) (group_kept 3)
-unfolding step run
-kept-allowed = one-more group_opened (End ∷ Block_gate ∷ Crash ∷ replays 3) opened-allowed (refl, ((omega arith, refl), (tt, (omega arith, (omega arith, (omega arith, tt))))))
-
-identity-ready : IsReady (byte_meaning two) (after_steps swap_removed) identity_node
-unfolding step run
-identity-ready = (
-  (λ n there. all-gives (after_steps swap_removed).graph (4 ∷ []) n refl there),
-  is_minimal-gives (graph_access (byte_meaning two) (after_steps swap_removed)) 2 5 (4 ∷ []) (within swap_removed removed-allowed) refl,
-  (refl, refl),
-)
-
-identity-work : work_of (byte_meaning two) (after_steps swap_removed) identity_node 1
-unfolding step run
-identity-work = (
-  (flushed-iff (graph_access (byte_meaning two) (after_steps swap_removed)) 2 5 identity_node 1 (within swap_removed removed-allowed)).0 refl,
-  λ e. absurd (omega (arith, e)),
-)
-
-identity-may : IsAllowed (byte_meaning two) (after_steps swap_removed) (Slot_gate identity_node 1)
-unfolding step run
-identity-may = (identity-ready, identity-work, λ y work. flushes_only-gives (graph_access (byte_meaning two) (after_steps swap_removed)) 2 5 identity_node 1 (within swap_removed removed-allowed) refl y work.0)
-
-pub copied-allowed : AreAllowed (byte_meaning two) (new_world ByteOp) copied_flushed
-unfolding step run
-copied-allowed = one-more swap_removed (Slot_gate identity_node 1 ∷ []) removed-allowed (identity-may, tt)
-
--- the node is the identity write alone
-pub identity-rule : MayWhileCopied (after_steps swap_removed) 2 (Slot_gate identity_node 1)
-unfolding step run
-identity-rule lt = (4, 1, (λ k there. elim (cases_eq k 4) [ inl q ↦ q | inr ne ↦ absurd (both_ways _ (or_from (k == 4) false (ne_eqb k 4 ne) refl) there) ]), (170 ∷ [], refl))
-
-one-run : (w : World ByteOp) → run (byte_meaning two) w (Slot_gate identity_node 1 ∷ []) ≡ step (byte_meaning two) w (Slot_gate identity_node 1)
-unfolding run
-one-run w = refl
-
-pub both-copied : IsCopied (byte_meaning two) (after_steps copied_flushed) 2 both_copied
-both-copied =
-    let m = byte_meaning two in
-    let w = after_steps swap_removed in
-    let s = steps-sound swap_removed removed-allowed in
-    let c = copied-more m w 1 (with_next w 0 (λ x. record { id = 0; value = [] })) s (copied-more m w 0 (λ x. record { id = 0; value = [] }) s (copied-none m w (λ x. record { id = 0; value = [] }))) in
-    subst (λ (v : World ByteOp). IsCopied m v 2 both_copied) (sym (run-append m (new_world ByteOp) swap_removed (Slot_gate identity_node 1 ∷ []) ∙ one-run w)) (copied-step m w (Slot_gate identity_node 1) 2 both_copied s identity-may identity-rule c)

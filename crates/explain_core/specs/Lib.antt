@@ -3,9 +3,11 @@ pub mod Explains
 pub mod World
 pub mod RunLaws
 pub mod Sound
+pub mod Group
 pub mod GraphLaws
 pub mod Turns
 pub mod TurnLaws
+pub mod Taken
 pub mod CountLaws
 pub mod KeptLog
 pub mod ThinLaws

@@ -90,3 +90,7 @@ both_copied = with_next (after_steps swap_removed) 1 (with_next (after_steps swa
 -- and then the identity write is installed
 abbrev pub copied_flushed : List (Step ByteOp)
 copied_flushed = swap_removed ++ Slot_gate identity_node 1 ∷ []
+
+-- 0 is copied before the swap's node is flushed, and 1 after the identity write is
+abbrev pub stale_copied : ℕ → Cell
+stale_copied = with_next (after_steps copied_flushed) 1 (with_next (after_steps swap_logged) 0 (λ x. record { id = 0; value = [] }))

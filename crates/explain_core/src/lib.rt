@@ -19,8 +19,8 @@ pub use flush_order::{
     exactly_no_edge, graph_is_within, minimal_nodes_are_whole, some_node_is_minimal,
 };
 pub use recovery::{
-    crash_takes_the_group, history_gives_the_map, live_cache_is_the_map, one_state,
-    redo_gives_the_map, stable_parts_stand, turns_keep,
+    crash_takes_the_group, forced_splits_no_group, history_gives_the_map, live_cache_is_the_map,
+    one_state, redo_gives_the_map, stable_parts_stand, turns_keep,
 };
 pub use steps::{
     append_keeps, begin_keeps, block_gate_keeps, check_keeps, crash_keeps, end_keeps,
@@ -28,5 +28,6 @@ pub use steps::{
 };
 pub use worked::{
     group_is_lost_or_kept, half_a_swap_is_not_explained, identity_is_flushed_beside_a_copy,
-    runs_of_bytes, swap_is_checked, swap_is_flushed, swap_is_installed_in_a_redo, swap_is_redone,
+    runs_of_bytes, stale_copy_is_not_explained, swap_is_checked, swap_is_flushed,
+    swap_is_installed_in_a_redo, swap_is_redone,
 };

@@ -1,10 +1,12 @@
-ghost use Rattle.std.specs.Prelude.{ℕ, ◌≡◌, ◌+◌, ◌-◌, Bool, Some, List, length, take};
+ghost use Rattle.std.specs.Prelude.{ℕ, ◌≡◌, ◌+◌, ◌-◌, ◌<◌, ◌≤◌, Bool, Some, IfSome, List, [], length, take};
+ghost use Rattle.std.specs.List.{AllByRecursion};
 ghost use Rattle.oper_core.specs.Meaning.{IsSmall, state_after};
 ghost use Rattle.oper_core.specs.declared.bounds.Bounds.{Bounds};
 ghost use Rattle.explain_core.specs.History.{Member, IsHistory, commands_of, value_at};
-ghost use Rattle.explain_core.specs.World.{World, step, run, AreAllowed, IsLive, IsAllStable, end_of, redo_of};
+ghost use Rattle.explain_core.specs.World.{World, Step, step, run, AreAllowed, IsLive, IsAllStable, new_world, end_of, redo_of};
 ghost use Rattle.explain_core.specs.World.Step.{Crash};
 ghost use Rattle.explain_core.specs.Sound.{IsSound};
+ghost use Rattle.explain_core.specs.Group.{IsUnsplit, groups_of};
 ghost use Rattle.explain_core.specs.Turns.{turns};
 ghost use Rattle.explain_core.specs.KeptLog.{IsLogKept};
 ghost use Rattle.explain_core.specs.Stable.{Stable, IsStableOf, world_of, stable_of};
@@ -35,8 +37,8 @@ pub fn redo_gives_the_map<O: Oper>()
 {}
 
 /// The turns of a redo, which replays and installs thin nodes while too many objects are dirty, are allowed in a sound
-/// world whose members are all stable, with no group open; they keep it sound, and leave its log. Where nothing is left to replay after
-/// them, the cache is the state after the commands.
+/// world whose members are all stable, with no group open; they keep it sound, and leave its log. Where nothing is left
+/// to replay after them, the cache is the state after the commands.
 pub fn turns_keep<O: Oper>()
     ensures allowed { (b : Bounds) (w : World O) (limit n : ℕ) → IsSmall b → IsSound (O.meaning b) w →
         IsAllStable w → AreAllowed (O.meaning b) w (turns (O.meaning b) limit n w) }
@@ -61,6 +63,23 @@ pub fn stable_parts_stand<O: Oper>()
     ensures sound { (b : Bounds) (parts : Stable O) (h : List (Member O)) (installed : ℕ → Bool) →
         IsSmall b → IsStableOf (O.meaning b) parts h installed →
         IsSound (O.meaning b) (world_of (O.meaning b) parts h installed) }
+{}
+
+/// In every run from a new store, what is forced splits no group: none of the open one is forced, and of a closed one all
+/// is or none. A closed group is whole, after a crash too.
+pub fn forced_splits_no_group<O: Oper>()
+    ensures opened { (b : Bounds) (steps : List (Step O)) → IsSmall b →
+        AreAllowed (O.meaning b) (new_world O) steps →
+        IfSome (run (O.meaning b) (new_world O) steps).group
+        (λ begun. (run (O.meaning b) (new_world O) steps).forced < begun) }
+    ensures closed { (b : Bounds) (steps : List (Step O)) → IsSmall b →
+        AreAllowed (O.meaning b) (new_world O) steps →
+        AllByRecursion (IsUnsplit (run (O.meaning b) (new_world O) steps).forced)
+        (groups_of (O.meaning b) (new_world O) [] steps) }
+    ensures whole { (b : Bounds) (steps : List (Step O)) → IsSmall b →
+        AreAllowed (O.meaning b) (new_world O) steps →
+        AllByRecursion (λ g. g.ended ≤ end_of (run (O.meaning b) (new_world O) steps))
+        (groups_of (O.meaning b) (new_world O) [] steps) }
 {}
 
 /// A crash takes an open group away whole: what is left is the history before it began. Each of its members is a command.

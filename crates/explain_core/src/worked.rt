@@ -10,16 +10,17 @@ ghost use Rattle.oper_core.specs.Cell.{Cell};
 ghost use Rattle.explain_core.specs.Explains.{Explains};
 ghost use Rattle.explain_core.specs.World.{World, Step, run, AreAllowed, IsLive, new_world, redo_of, replays, plan_of};
 ghost use Rattle.explain_core.specs.Sound.{IsSound};
-ghost use Rattle.explain_core.specs.Worked.{two, swapped, half_flushed, after_steps, swap_logged, swap_flushed, swap_removed, swap_checked, swap_redone, swap_installed, swap_redone_again, group_opened, group_lost, group_kept, identity_node, both_copied, copied_flushed};
+ghost use Rattle.explain_core.specs.Group.{groups_of};
+ghost use Rattle.explain_core.specs.Worked.{two, swapped, half_flushed, after_steps, swap_node, swap_logged, swap_flushed, swap_removed, swap_checked, swap_redone, swap_installed, swap_redone_again, group_opened, group_lost, group_kept, identity_node, both_copied, copied_flushed, stale_copied};
 ghost use Rattle.explain_core.specs.World.Step.{Slot_gate};
 ghost use Rattle.explain_core.specs.Backup.{MayWhileCopied, backup_of, installed_in_copy};
 
 use crate::{
     ByteOp, append_keeps, begin_keeps, block_gate_keeps, check_keeps, copy_stands, copying_goes_on,
     crash_keeps, crash_takes_the_group, end_keeps, every_run_keeps, exactly_no_edge,
-    graph_is_within, header_gate_keeps, history_gives_the_map, live_cache_is_the_map,
-    minimal_nodes_are_whole, one_state, redo_gives_the_map, removal_keeps, replay_keeps,
-    slot_gate_keeps, some_node_is_minimal, stable_parts_stand, turns_keep,
+    forced_splits_no_group, graph_is_within, header_gate_keeps, history_gives_the_map,
+    live_cache_is_the_map, minimal_nodes_are_whole, one_state, redo_gives_the_map, removal_keeps,
+    replay_keeps, slot_gate_keeps, some_node_is_minimal, stable_parts_stand, turns_keep,
 };
 
 /// The laws at one operation type: every run of small operations from a new store is sound, and replayed to its end it
@@ -50,6 +51,7 @@ pub fn runs_of_bytes()
     turns_keep::<ByteOp>();
     copying_goes_on::<ByteOp>();
     copy_stands::<ByteOp>();
+    forced_splits_no_group::<ByteOp>();
     crash_takes_the_group::<ByteOp>();
     exactly_no_edge::<ByteOp>();
     minimal_nodes_are_whole::<ByteOp>();
@@ -123,8 +125,8 @@ pub fn swap_is_installed_in_a_redo()
         ≡ state_after (byte_meaning two) (commands_of (after_steps (swap_redone_again 4)).history) x }
 {}
 
-/// After one put that is forced, a group of a put and a swap: where the store stops within it, nothing of it is left; where
-/// it ends and is forced first, all of it is.
+/// After one put that is forced, a group of a put and a swap: where the store stops within it, nothing of it is left;
+/// where it ends and is forced first, all of it is.
 pub fn group_is_lost_or_kept()
     ensures lost_allowed { AreAllowed (byte_meaning two) (new_world ByteOp) group_lost }
     ensures inside { ((after_steps group_opened).group ≡ Some 2) × ((after_steps group_opened).cache 0 ≡ record { id = 3; value = 187 ∷ [] })
@@ -132,17 +134,20 @@ pub fn group_is_lost_or_kept()
     ensures lost { ((after_steps group_lost).group ≡ None) × ((after_steps group_lost).cache 0 ≡ record { id = 1; value = 170 ∷ [] })
         × ((after_steps group_lost).cache 1 ≡ record { id = 0; value = [] }) }
     ensures lost_history { ((after_steps group_lost).history ≡ Command (Put 0 170) ∷ []) × ((after_steps group_lost).forced ≡ 1) }
+    ensures lost_groups { groups_of (byte_meaning two) (new_world ByteOp) [] group_lost ≡ [] }
     ensures lost_map { (x : ℕ) → ((after_steps group_lost).cache x).value
         ≡ state_after (byte_meaning two) (commands_of (after_steps group_lost).history) x }
     ensures kept_allowed { AreAllowed (byte_meaning two) (new_world ByteOp) (group_kept 3) }
     ensures kept { ((after_steps (group_kept 3)).cache 0 ≡ record { id = 3; value = 187 ∷ [] })
         × ((after_steps (group_kept 3)).cache 1 ≡ record { id = 3; value = 170 ∷ [] }) }
+    ensures kept_groups { groups_of (byte_meaning two) (new_world ByteOp) [] (group_kept 3)
+        ≡ record { begun = 2; ended = 4 } ∷ [] }
     ensures kept_map { (x : ℕ) → ((after_steps (group_kept 3)).cache x).value
         ≡ state_after (byte_meaning two) (commands_of (after_steps (group_kept 3)).history) x }
 {}
 
-/// Both slots are copied after the removal of the swap's node, and then the identity write of 1 is installed: the copy has
-/// the old slot of 1, and is explained by the members before that write, which a redo from the copy applies.
+/// Both slots are copied after the removal of the swap's node, and then the identity write of 1 is installed: the copy
+/// has the old slot of 1, and is explained by the members before that write, which a redo from the copy applies.
 pub fn identity_is_flushed_beside_a_copy()
     ensures allowed { AreAllowed (byte_meaning two) (new_world ByteOp) copied_flushed }
     ensures rule { MayWhileCopied (after_steps swap_removed) 2 (Slot_gate identity_node 1) }
@@ -155,4 +160,15 @@ pub fn identity_is_flushed_beside_a_copy()
         (value_at (byte_meaning two) (take 4 (after_steps copied_flushed).history))
         (installed_in_copy (byte_meaning two) (after_steps copied_flushed) 2 both_copied)
         (backup_of 2 both_copied (after_steps copied_flushed).slots) }
+{}
+
+/// Why the slot of a copied object is set from an identity write alone: where 0 is copied before the swap's node is
+/// flushed, and 1 after the identity write is, no set of installed records explains the copy.
+pub fn stale_copy_is_not_explained()
+    ensures cells { (stale_copied 0 ≡ record { id = 0; value = [] }) × (stale_copied 1 ≡ record { id = 4; value = 170 ∷ [] }) }
+    ensures rule { MayWhileCopied (after_steps swap_logged) 1 (Slot_gate swap_node 0) → ⊥ }
+    ensures unexplained { (installed : ℕ → Bool) →
+        Explains (accesses_of (byte_meaning two) (after_steps copied_flushed).history)
+        (value_at (byte_meaning two) (after_steps copied_flushed).history) installed
+        (backup_of 2 stale_copied (after_steps copied_flushed).slots) → ⊥ }
 {}

@@ -1,0 +1,50 @@
+-- What holds after some first steps of a list: what a call that takes steps leaves, wherever it is stopped.
+use Rattle.std.proofs.Common.{◌∙◌, sym, subst, ℕ, ◌+◌, List, [], ◌++◌}
+use Rattle.std.specs.Prelude.{IsTrue}
+use Rattle.oper_core.specs.Meaning.{Meaning}
+use Rattle.explain_core.specs.World.{World, Step, run}
+use Rattle.explain_core.specs.RunLaws.{Begins, begins-none, begins-all, begins-longer, begins-behind, run-append}
+use Rattle.explain_core.specs.Turns.{must_install, thin_steps, turns}
+use Rattle.explain_core.specs.TurnLaws.{turns_join, one_turn, install_turn}
+
+-- after some first steps of the list, none or all among them, the world has P
+pub record IsAfterSome {O : Type 0} (m : Meaning O) (P : World O → Type 0) (w : World O) (steps : List (Step O)) : Type 0 where
+  pub taken : List (Step O)
+  pub begins : Begins steps taken
+  pub holds : P (run m w taken)
+
+module _ {O : Type 0} (m : Meaning O) (P : World O → Type 0) (w : World O) where
+  -- no step was taken yet
+  pub after_none : (steps : List (Step O)) → P w → IsAfterSome m P w steps
+  unfolding run
+  after_none steps here = record { taken = []; begins = begins-none steps; holds = here }
+
+  -- all steps were taken
+  pub after_all : (steps : List (Step O)) → P (run m w steps) → IsAfterSome m P w steps
+  after_all steps there = record { taken = steps; begins = begins-all steps; holds = there }
+
+  -- some first steps of a list are some of a longer one
+  pub after_longer : (xs ys : List (Step O)) → IsAfterSome m P w xs → IsAfterSome m P w (xs ++ ys)
+  after_longer xs ys is = record { taken = is.taken; begins = begins-longer xs ys is.taken is.begins; holds = is.holds }
+
+  -- all steps of a list, and then some of the next
+  pub after_behind : (xs ys : List (Step O)) → IsAfterSome m P (run m w xs) ys → IsAfterSome m P w (xs ++ ys)
+  after_behind xs ys is = record {
+    taken = xs ++ is.taken;
+    begins = begins-behind xs ys is.taken is.begins;
+    holds = subst P (sym (run-append m w xs is.taken)) is.holds;
+  }
+
+  -- some turns of a redo, and then some steps of later ones
+  pub after_turns : (limit a b : ℕ) → IsAfterSome m P (run m w (turns m limit a w)) (turns m limit b (run m w (turns m limit a w))) → IsAfterSome m P w (turns m limit (a + b) w)
+  after_turns limit a b is =
+      let xs = turns m limit a w in
+      subst (λ (l : List (Step O)). IsAfterSome m P w l) (sym (turns_join m limit a b w)) (after_behind xs (turns m limit b (run m w xs)) is)
+
+  -- some steps of the install of a thin node, where a redo makes one, are some of a turn
+  pub after_install : (limit : ℕ) → IsTrue (must_install m limit w) → IsAfterSome m P w (thin_steps m w) → IsAfterSome m P w (turns m limit 1 w)
+  after_install limit must is = subst (λ (l : List (Step O)). IsAfterSome m P w l) (sym (one_turn m limit w ∙ install_turn m limit w must)) is
+
+  -- what has P has Q
+  pub after_weaker : (Q : World O → Type 0) (steps : List (Step O)) → ((v : World O) → P v → Q v) → IsAfterSome m P w steps → IsAfterSome m Q w steps
+  after_weaker Q steps so is = record { taken = is.taken; begins = is.begins; holds = so (run m w is.taken) is.holds }
