@@ -4,8 +4,13 @@ use Rattle.std.specs.Borrow.{Bor}
 use Rattle.std.specs.List.{IsDistinct, list_any}
 use Rattle.std.specs.Map.{lookup, remove_entry}
 use Rattle.std.specs.Option.{option_map, option_map_or, option_or}
+use Rattle.oper_core.specs.Cell.{Cell}
 use Rattle.dirty_cache.specs.declared.entry.Entry.{Entry}
 use Rattle.dirty_cache.specs.Places.{entry_at, count_of}
+
+-- what an entry holds of its object
+abbrev pub cell_of_entry : Entry → Cell
+cell_of_entry e = record { id = e.lsn; value = e.bytes }
 
 -- the objects that have a place for a dirty entry, each with the entry, if it is dirty; the clean entries, the one used
 -- last in front; and how many clean entries there may be
