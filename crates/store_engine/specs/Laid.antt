@@ -8,7 +8,7 @@ use Rattle.formats.specs.declared.params.Params.{Params}
 use Rattle.formats.specs.declared.record.Record.{Record}
 use Rattle.formats.specs.declared.record.Record.TheVariants.{Command}
 use Rattle.stable_objects.specs.SlotsView.{SlotsView, id_in, AreOf}
-use Rattle.dirty_cache.specs.Contents.{Contents, held, is_dirty}
+use Rattle.dirty_cache.specs.Contents.{Contents, cell_of_entry, held, is_dirty}
 use Rattle.dirty_cache.specs.declared.entry.Entry.{Entry}
 
 -- the slots, and what is cached
@@ -19,7 +19,7 @@ pub record Laid : Type 0 where
 -- a cached pair, or else another
 abbrev pub cell_or : Option Entry → Cell → Cell
 cell_or None cell = cell
-cell_or (Some entry) cell = record { id = entry.lsn; value = entry.bytes }
+cell_or (Some entry) cell = cell_of_entry entry
 
 -- an object's pair: that of the cache, or else that of its slots in the objects file
 abbrev pub cell_in : Laid → List ℕ → ℕ → Cell
@@ -46,7 +46,7 @@ pub record AreCached (p : Params) (cache : Contents) : Type 0 where
 pub record IsLaidOn (laid : Laid) (file : List ℕ) : Type 0 where
   pub slots : AreOf laid.slots file
   pub clean : (x : ℕ) (entry : Entry) → is_dirty laid.cache x ≡ false → held laid.cache x ≡ Some entry
-      → cell_of laid.slots.params.cap x file ≡ record { id = entry.lsn; value = entry.bytes }
+      → cell_of laid.slots.params.cap x file ≡ cell_of_entry entry
 
 -- each object has the pair that it had
 abbrev pub KeepsCells : List ℕ → Laid → Laid → Type 0
