@@ -1,0 +1,6 @@
+pub mod Arcs
+pub mod More
+pub mod Digraph
+pub mod Renamed
+pub mod MergeLaws
+pub mod RaiseLaws
