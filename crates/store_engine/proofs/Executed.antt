@@ -23,19 +23,13 @@ use Rattle.dirty_cache.specs.declared.entry.Entry.{Entry}
 use Rattle.log_frames.specs.LogView.{used_of, end_with, growth_of}
 use Rattle.log_records.specs.RecordLog.{RecordLogView}
 use Rattle.log_records.specs.RecordLaws.{keeps_append}
+use Rattle.store_engine.specs.ImageLaws.{commands_length, numbers_end}
 use Rattle.store_engine.specs.Laid.{Laid, cell_or, values_in, with_entries}
 use Rattle.store_engine.specs.Store.{meaning_in, record_length, refusal_after, state_of}
 use Rattle.store_engine.specs.Engine.{EngineView, view_of, params_of, AreParts, Carries, Holds, Kept, InEachImage, IsFull, IsAtEnd, TookIn, IsSameMap, LogLength, something_waits, log_length, grown, forced_length, HasPlace, LacksPlace, Fits, HasCause, Lengthens}
 use Rattle.store_engine.specs.declared.exec_err.ExecErr.{ExecErr}
 use Rattle.store_engine.specs.declared.exec_err.ExecErr.TheVariants.{Refused, LogFull, LsnEnd, DiskFault, Damaged, Memory}
-use Rattle.store_engine.proofs.Holding.{commands-append, commands_length, accepted_is, none_waits, ends_here, held_stable, image_is, make_holds}
-
-numbers_end : {O : Type 0} (m : Meaning O) (next : ℕ) (records : List (Record O)) → AreRecords m next records → next ≤ 2 ^ 62 → next + length records ≤ 2 ^ 62
-numbers_end m next [] are low = omega arith
-numbers_end m next (Command n op ∷ records) are low =
-    let number = are.1 in
-    let rest = numbers_end m (next + 1) records are.2 (omega (arith, number.0, number.1)) in
-    omega (arith, rest)
+use Rattle.store_engine.proofs.Holding.{commands-append, accepted_is, none_waits, ends_here, held_stable, image_is, make_holds}
 
 -- what is cached with new entries, laid over a slot
 with_value : (b : Bool) (entry : Entry) (old : Option Entry) (cell : Cell) (value : List ℕ) → (cell_or old cell).value ≡ value

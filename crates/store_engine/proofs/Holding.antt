@@ -24,10 +24,6 @@ pub commands-append : {O : Type 0} (xs ys : List (Record O)) → commands_of (xs
 commands-append [] ys = refl
 commands-append {O} (Command n op ∷ xs) ys = ap (λ (l : List O). op ∷ l) (commands-append xs ys)
 
-pub commands_length : {O : Type 0} (records : List (Record O)) → length (commands_of records) ≡ length records
-commands_length [] = refl
-commands_length (Command n op ∷ records) = let rest = commands_length records in omega (arith, rest)
-
 none_left : {O : Type 0} (records : List (Record O)) → length (commands_of records) ≡ 0 → records ≡ []
 none_left [] none = refl
 none_left (Command n op ∷ records) none = absurd (omega (arith, none))
