@@ -1,0 +1,5 @@
+pub mod Links
+pub mod Steps
+pub mod Poured
+pub mod More
+pub mod Placed

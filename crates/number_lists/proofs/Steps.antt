@@ -1,0 +1,115 @@
+-- A number is put in front of a list, and the first is taken out.
+use Rattle.std.proofs.Common.{◌≡◌, ◌∙◌, ap, sym, subst, ℕ, zero, suc, ◌+◌, ◌-◌, ◌<◌, ◌≤◌, ◌^◌, Fits, w64, List, [], ◌∷◌, ◌++◌, append_assoc, length, map, refl, arith}
+use Rattle.std.specs.Prelude.{IsTrue, ◌==◌, slice_set, slice_index, slice_index_or, nat_eq}
+use Rattle.std.specs.List.{IsDistinct}
+use Rattle.std.proofs.lemmas.Bool.{or_left, or_right, eq-eqb}
+use Rattle.std.proofs.lemmas.List.{map-set, length-set, get_or_default}
+use Rattle.std.proofs.Math.Facts.{Fits-of_lt}
+use Rattle.oper_core.specs.State.{is_among}
+use Rattle.number_lists.specs.declared.chains.Chain.{Chain}
+use Rattle.number_lists.specs.Lists.{Lists, list_at, AreApart, IsFree, AreAsMany, IsPushed, IsPopped, IsEmptied}
+use Rattle.number_lists.specs.Links.{follow}
+use Rattle.number_lists.specs.Followed.{chain_list, lists_of, view_of}
+use Rattle.number_lists.proofs.Links.{empty-apart, list_at-map, length-lists, lists-pushed, apart-pushed, few, set-same, set-other, apart-popped}
+
+low : (next : List ℕ) (cs : List Chain) (i : ℕ) → i < length (lists_of next cs) → i < length cs
+low next cs i lt = omega (arith, length-lists next cs)
+
+listed : (next : List ℕ) (cs : List Chain) (i : ℕ) (c : Chain) → i < length (lists_of next cs) → c ≡ slice_index_or cs i c → list_at (lists_of next cs) i ≡ follow next c.count c.first
+listed next cs i c lt at = list_at-map next cs i c (low next cs i lt) ∙ ap (chain_list next) (sym at)
+
+same-sizes : (next linked : List ℕ) (nr : ℕ) (cs : List Chain) (cr i : ℕ) (new : Chain) → length linked ≡ length next → AreAsMany (view_of next nr cs cr) (view_of linked nr (slice_set cs i new) cr)
+same-sizes next linked nr cs cr i new e = record {
+  lists = length-lists linked (slice_set cs i new) ∙ length-set cs i new ∙ sym (length-lists next cs);
+  items = e;
+  list_room = ap (λ (n : ℕ). cr - n) (length-set cs i new);
+  item_room = ap (λ (n : ℕ). nr - n) e;
+}
+
+pub few-fits : (next : List ℕ) (cs : List Chain) (i : ℕ) (c : Chain) → i < length (lists_of next cs) → c ≡ slice_index_or cs i c → AreApart (lists_of next cs) (length next) → length next < 2 ^ 63 → Fits w64 (c.count + 1)
+few-fits next cs i c lt at are small = let r = few next cs i c (low next cs i lt) at are in Fits-of_lt (omega (arith, r, small))
+
+pushed-lists : (next : List ℕ) (cs : List Chain) (i x : ℕ) (c : Chain) → i < length (lists_of next cs) → x < length next → IsFree (lists_of next cs) x → c ≡ slice_index_or cs i c →
+    lists_of (slice_set next x c.first) (slice_set cs i record { first = x; count = c.count + 1 }) ≡ slice_set (lists_of next cs) i (x ∷ list_at (lists_of next cs) i)
+pushed-lists next cs i x c lt below free at = lists-pushed next cs i x c (low next cs i lt) below free at
+
+pub pushed-apart : (next : List ℕ) (cs : List Chain) (i x : ℕ) (c : Chain) → i < length (lists_of next cs) → x < length next → IsFree (lists_of next cs) x → c ≡ slice_index_or cs i c → AreApart (lists_of next cs) (length next) →
+    AreApart (lists_of (slice_set next x c.first) (slice_set cs i record { first = x; count = c.count + 1 })) (length (slice_set next x c.first))
+pushed-apart next cs i x c lt below free at are =
+    let linked = slice_set next x c.first in
+    let new : Chain = record { first = x; count = c.count + 1 } in
+    subst (λ (n : ℕ). AreApart (lists_of linked (slice_set cs i new)) n) (sym (length-set next x c.first))
+    (subst (λ (ls : List (List ℕ)). AreApart ls (length next)) (sym (pushed-lists next cs i x c lt below free at)) (apart-pushed (lists_of next cs) (length next) i x below free are))
+
+pub pushed : (next : List ℕ) (nr : ℕ) (cs : List Chain) (cr i x : ℕ) (c : Chain) → i < length (lists_of next cs) → x < length next → IsFree (lists_of next cs) x → c ≡ slice_index_or cs i c →
+    IsPushed (view_of next nr cs cr) i x (view_of (slice_set next x c.first) nr (slice_set cs i record { first = x; count = c.count + 1 }) cr)
+pushed next nr cs cr i x c lt below free at =
+    let was = lists_of next cs in
+    let new : Chain = record { first = x; count = c.count + 1 } in
+    let e = pushed-lists next cs i x c lt below free at in
+    record {
+      here = ap (λ (ls : List (List ℕ)). list_at ls i) e ∙ set-same was i (x ∷ list_at was i) lt;
+      others = λ j ne. ap (λ (ls : List (List ℕ)). list_at ls j) e ∙ set-other was i j (x ∷ list_at was i) ne;
+      same = same-sizes next (slice_set next x c.first) nr cs cr i new (length-set next x c.first);
+    }
+
+front : (next : List ℕ) (k first : ℕ) → (k ≡ 0 → ⊥) → follow next k first ≡ first ∷ follow next (k - 1) (slice_index next first)
+front next zero first ne = absurd (ne refl)
+front next (suc k) first ne = let e : suc k - 1 ≡ k = omega arith in ap (λ (n : ℕ). first ∷ follow next n (slice_index next first)) (sym e)
+
+begins : (next : List ℕ) (cs : List Chain) (i f : ℕ) (c : Chain) → i < length (lists_of next cs) → c ≡ slice_index_or cs i c → (c.count ≡ 0 → ⊥) → f ≡ slice_index next c.first → list_at (lists_of next cs) i ≡ c.first ∷ follow next (c.count - 1) f
+begins next cs i f c lt at some e = listed next cs i c lt at ∙ front next c.count c.first some ∙ ap (λ (n : ℕ). c.first ∷ follow next (c.count - 1) n) (sym e)
+
+popped-lists : (next : List ℕ) (cs : List Chain) (i f : ℕ) (c : Chain) → lists_of next (slice_set cs i record { first = f; count = c.count - 1 }) ≡ slice_set (lists_of next cs) i (follow next (c.count - 1) f)
+popped-lists next cs i f c = map-set (chain_list next) cs i record { first = f; count = c.count - 1 }
+
+pub first-below : (next : List ℕ) (cs : List Chain) (i : ℕ) (c : Chain) → i < length (lists_of next cs) → c ≡ slice_index_or cs i c → (c.count ≡ 0 → ⊥) → AreApart (lists_of next cs) (length next) → c.first < length next
+first-below next cs i c lt at some are =
+    let e = begins next cs i (slice_index next c.first) c lt at some refl in
+    are.below i c.first (subst (λ (ys : List ℕ). IsTrue (is_among c.first ys)) (sym e) (or_left (c.first == c.first) _ (eq-eqb c.first c.first refl)))
+
+pub popped-apart : (next : List ℕ) (cs : List Chain) (i f : ℕ) (c : Chain) → i < length (lists_of next cs) → c ≡ slice_index_or cs i c → (c.count ≡ 0 → ⊥) → f ≡ slice_index_or next c.first f → AreApart (lists_of next cs) (length next) →
+    AreApart (lists_of next (slice_set cs i record { first = f; count = c.count - 1 })) (length next)
+popped-apart next cs i f c lt at some e are =
+    let link : f ≡ slice_index next c.first = e ∙ get_or_default next c.first f 0 (first-below next cs i c lt at some are) in
+    subst (λ (ls : List (List ℕ)). AreApart ls (length next)) (sym (popped-lists next cs i f c)) (apart-popped (lists_of next cs) (length next) i c.first (follow next (c.count - 1) f) (begins next cs i f c lt at some link) are).0
+
+pub popped : (next : List ℕ) (nr : ℕ) (cs : List Chain) (cr i f : ℕ) (c : Chain) → i < length (lists_of next cs) → c ≡ slice_index_or cs i c → (c.count ≡ 0 → ⊥) → f ≡ slice_index_or next c.first f → AreApart (lists_of next cs) (length next) →
+    IsPopped (view_of next nr cs cr) i c.first (view_of next nr (slice_set cs i record { first = f; count = c.count - 1 }) cr)
+popped next nr cs cr i f c lt at some e are =
+    let was = lists_of next cs in
+    let new : Chain = record { first = f; count = c.count - 1 } in
+    let rest = follow next (c.count - 1) f in
+    let moved = popped-lists next cs i f c in
+    let link : f ≡ slice_index next c.first = e ∙ get_or_default next c.first f 0 (first-below next cs i c lt at some are) in
+    let starts = begins next cs i f c lt at some link in
+    record {
+      here = starts ∙ ap (λ (ys : List ℕ). c.first ∷ ys) (sym (ap (λ (ls : List (List ℕ)). list_at ls i) moved ∙ set-same was i rest lt));
+      others = λ j ne. ap (λ (ls : List (List ℕ)). list_at ls j) moved ∙ set-other was i j rest ne;
+      free = subst (λ (ls : List (List ℕ)). IsFree ls c.first) (sym moved) (apart-popped was (length next) i c.first rest starts are).1;
+      below = first-below next cs i c lt at some are;
+      same = same-sizes next next nr cs cr i new refl;
+    }
+
+pub emptied : (next : List ℕ) (nr : ℕ) (cs : List Chain) (cr i : ℕ) (c : Chain) → i < length (lists_of next cs) → c ≡ slice_index_or cs i c → c.count ≡ 0 → IsEmptied (view_of next nr cs cr) i (view_of next nr cs cr)
+emptied next nr cs cr i c lt at none = record { was = listed next cs i c lt at ∙ ap (λ (n : ℕ). follow next n c.first) none; same = refl }
+
+pub none-apart : (next : List ℕ) (items : ℕ) → AreApart (lists_of next []) items
+none-apart next items = empty-apart items
+
+among-later : (out : List ℕ) (x : ℕ) (xs : List ℕ) → IsTrue (is_among x (out ++ x ∷ xs))
+among-later [] x xs = or_left (x == x) _ (eq-eqb x x refl)
+among-later (y ∷ out) x xs = or_right (x == y) _ (among-later out x xs)
+
+-- the start of a walk along a chain, a step, and the end
+pub walk-start : (next : List ℕ) (cs : List Chain) (i : ℕ) (c : Chain) → i < length (lists_of next cs) → c ≡ slice_index_or cs i c → follow next c.count c.first ≡ list_at (lists_of next cs) i
+walk-start next cs i c lt at = sym (listed next cs i c lt at)
+
+pub walk-few : (next : List ℕ) (cs : List Chain) (i : ℕ) (c : Chain) → i < length (lists_of next cs) → c ≡ slice_index_or cs i c → AreApart (lists_of next cs) (length next) → c.count ≤ length next
+walk-few next cs i c lt at are = few next cs i c (low next cs i lt) at are
+
+pub walk-on : (next out xs : List ℕ) (k at : ℕ) → (k ≡ 0 → ⊥) → out ++ follow next k at ≡ xs → (out ++ at ∷ []) ++ follow next (k - 1) (slice_index next at) ≡ xs
+walk-on next out xs k at some e = append_assoc out (at ∷ []) (follow next (k - 1) (slice_index next at)) ∙ ap (λ (ys : List ℕ). out ++ ys) (sym (front next k at some)) ∙ e
+
+pub walk-in : (next out : List ℕ) (k at : ℕ) → (k ≡ 0 → ⊥) → IsTrue (is_among at (out ++ follow next k at))
+walk-in next out k at some = subst (λ (ys : List ℕ). IsTrue (is_among at (out ++ ys))) (sym (front next k at some)) (among-later out at (follow next (k - 1) (slice_index next at)))

@@ -1,0 +1,8 @@
+use Rattle.std.proofs.Common.{arith}
+use Rattle.number_lists.proofs.Placed.{few-all}
+use Rattle.number_lists.proofs.number_set.NumberSet.make_room.Goals as goal
+
+pub overflow_sub-len : goal.overflow_sub-len
+overflow_sub-len c =
+    let few = few-all c.self.inside.members.items c.self.inside.place.items c.self.invariant.0 in
+    omega (arith, few, c.len.ensures, c.len-2.ensures, c.self.inside.members.ok.0, c.self.inside.place.ok.0)

@@ -1,0 +1,4 @@
+pub mod Lists
+pub mod Links
+pub mod Followed
+pub mod Members

@@ -1,0 +1,114 @@
+ghost use Rattle.std.specs.Prelude.{◌≡◌, ◌<◌, ◌≤◌, ◌+◌, ◌^◌, ◌++◌, ◌∷◌, [], IsTrue, IsFalse, length, slice_index, OnOk};
+ghost use Rattle.oper_core.specs.State.{is_among};
+
+use crate::push::push_in_room;
+use oper_core::Memory;
+use std::alloc::Global;
+use std::marker::Model;
+
+/// A set of numbers below an end, which contracts see as the list of its members in the order in which they came.
+#[derive(Drop)]
+pub struct NumberSet {
+    members: Vec<u32>,
+    /// Where each member stands; of another number, anything.
+    place: Vec<u32>,
+}
+
+impl Model for NumberSet {
+    ghost use Rattle.std.specs.Prelude.{◌-◌, ◌<◌, ◌≤◌, ◌^◌, min, length};
+    ghost use Rattle.std.specs.Vec.{vec_capacity};
+    ghost use Rattle.number_lists.specs.Members.{Members, ArePlaced};
+
+    ghost Value = { Members };
+
+    ghost view = { λ s. record { members = s.members.items; end = length s.place.items; room = min (vec_capacity s.members) (vec_capacity s.place) - length s.place.items } };
+
+    ghost invariant = { λ s. ArePlaced s.members.items s.place.items × (length s.place.items ≤ vec_capacity s.members) × (length s.place.items ≤ 2 ^ 32) };
+}
+
+impl NumberSet {
+    /// No numbers, and none to come.
+    pub fn new(alloc: Global) -> Self
+        ensures members { result.members ≡ [] }
+        ensures end { result.end ≡ 0 }
+    {
+        NumberSet {
+            members: Vec::new(alloc),
+            place: Vec::new(alloc),
+        }
+    }
+
+    /// How many members there are.
+    pub fn len(&self) -> usize
+        ensures { result ≡ length self.now.members }
+    {
+        self.members.len()
+    }
+
+    /// The member at a place.
+    pub fn get(&self, i: usize) -> u32
+        requires { i < length self.now.members }
+        ensures value { result ≡ slice_index self.now.members i }
+        ensures below { result < self.now.end }
+    {
+        let _place = &self.place;
+        self.members[i]
+    }
+
+    /// Whether the number is a member.
+    pub fn contains(&self, n: u32) -> bool
+        requires { n < self.now.end }
+        ensures { result ≡ is_among n self.now.members }
+    {
+        let at = self.place[n as usize] as usize;
+        if at < self.members.len() {
+            self.members[at] == n
+        } else {
+            false
+        }
+    }
+
+    /// Takes out all members.
+    pub fn clear(&mut self)
+        ensures members { self.new.members ≡ [] }
+        ensures end { self.new.end ≡ self.old.end }
+        ensures room { self.old.room ≤ self.new.room }
+    {
+        self.members.clear();
+    }
+
+    /// Puts in a number that is no member.
+    pub fn insert(&mut self, n: u32)
+        requires below { n < self.old.end }
+        requires out { IsFalse (is_among n self.old.members) }
+        ensures members { self.new.members ≡ self.old.members ++ n ∷ [] }
+        ensures end { self.new.end ≡ self.old.end }
+        ensures room { self.old.room ≤ self.new.room }
+    {
+        self.place[n as usize] = self.members.len() as u32;
+        push_in_room(&mut self.members, n);
+    }
+
+    /// Makes room for the end to rise by one. Nothing else changes, also where memory is wanting.
+    pub fn make_room(&mut self) -> Result<(), Memory>
+        ensures members { self.new.members ≡ self.old.members }
+        ensures end { self.new.end ≡ self.old.end }
+        ensures room { OnOk result (0 < self.new.room) }
+    {
+        self.members
+            .reserve(self.place.len() + 1 - self.members.len())?;
+        self.place.reserve(1)?;
+        Ok(())
+    }
+
+    /// Lets the end rise by one.
+    pub fn add_number(&mut self)
+        requires room { 0 < self.old.room }
+        requires small { self.old.end < 2 ^ 32 }
+        ensures members { self.new.members ≡ self.old.members }
+        ensures end { self.new.end ≡ self.old.end + 1 }
+        ensures room { self.old.room ≤ self.new.room + 1 }
+    {
+        push_in_room(&mut self.place, 0);
+    }
+}
