@@ -3,6 +3,9 @@ use Rattle.std.specs.Prelude.{◌≡◌, ◌<◌, ◌+◌, ◌^◌, ⊤, ℕ, Li
 use Rattle.std.specs.List.{flat_map}
 use Rattle.byteorder.specs.Endian.{little_bytes}
 use Rattle.oper_core.specs.Meaning.{Meaning, IsInGrammar}
+use Rattle.disk_model.specs.Disk.{Files}
+use Rattle.disk_model.specs.declared.machine.FileNo.{FileNo}
+use Rattle.formats.specs.InForce.{IsInForce}
 use Rattle.formats.specs.Log.{Header, IsWholeLog}
 use Rattle.formats.specs.declared.record.Record.{Record}
 use Rattle.formats.specs.declared.record.Record.TheVariants.{Command}
@@ -41,3 +44,8 @@ records_of groups = flat_map (λ group. group) groups
 pub record IsRecordLog {O : Type 0} (m : Meaning O) (header : Header) (groups : List (List (Record O))) (file : List ℕ) : Type 0 where
   pub log : IsWholeLog header (map (payload_of m) groups) file
   pub numbered : AreRecords m header.base (records_of groups)
+
+-- the log in force stands in this file, with this header, and these are its records
+pub record HoldsRecordLog {O : Type 0} (m : Meaning O) (active : FileNo) (header : Header) (groups : List (List (Record O))) (files : Files) : Type 0 where
+  pub in_force : IsInForce active header.epoch files
+  pub log : IsRecordLog m header groups (files active)

@@ -3,11 +3,10 @@ use Rattle.std.proofs.Common.{◌≡◌, ℕ, ◌+◌, List, length, get_or, tak
 use Rattle.std.proofs.lemmas.List.{get_or-take}
 use Rattle.disk_model.specs.Disk.{Files, Disk, Stays, Rises}
 use Rattle.disk_model.specs.declared.machine.FileNo.{FileNo}
-use Rattle.disk_model.specs.declared.machine.FileNo.TheVariants.{LogA, LogB}
 use Rattle.formats.specs.Bytes.{IsOpenAt}
-use Rattle.formats.specs.Log.{Header, header_bytes, IsShutLog}
-use Rattle.formats.specs.Image.{IsHeaderFault, IsBlockFault}
-use Rattle.log_frames.specs.Reading.{FailsBy, fails_on, IsBroken, IsReadTo, IsLogFault, in_header, in_block, in_other_log}
+use Rattle.formats.specs.Log.{Header, header_bytes}
+use Rattle.formats.specs.Image.{IsBlockFault}
+use Rattle.log_frames.specs.Reading.{FailsBy, fails_on, IsBroken, IsReadTo}
 use Rattle.log_frames.specs.declared.log_err.LogErr.{LogErr}
 use Rattle.log_frames.proofs.ReadTo.{block_fault}
 
@@ -16,34 +15,11 @@ pub front_opens : (file : List ℕ) (h : Header) → take 33 file ≡ header_byt
 front_opens file h is = sym (get_or-take 33 file 0 0 (omega arith)) ∙ ap (λ (l : List ℕ). get_or l 0 0) is
 
 module _ (old now new : Disk) (kept : Stays old now) (e : LogErr) where
-  abbrev Fails : Type 0
-  Fails = FailsBy (Rises old.disk_faults new.disk_faults) (λ file place. old.tells_files → IsLogFault old.reads file place) e
-
   risen : Rises now.disk_faults new.disk_faults → Rises old.disk_faults new.disk_faults
   risen later below = omega (arith, later below, kept.time.disk_faults)
 
   pub size_now : (size : ℕ) (file : FileNo) → old.tells_files → size ≡ length (old.reads file) → size ≡ length (now.reads file)
   size_now size file told is = is ∙ ap (λ (f : Files). length (f file)) (sym (kept.reads told))
-
-  pub by_header : (size : ℕ) → (old.tells_files → size ≡ length (old.reads LogA))
-      → FailsBy (Rises now.disk_faults new.disk_faults) (λ f place. (f ≡ LogA) × (now.tells_files → size ≡ length (now.reads LogA) → IsHeaderFault (now.reads LogA) place)) e → Fails
-  by_header size long fails = fails_on _ _ _ _ e risen
-      (λ f place there told. subst (λ (x : FileNo). IsLogFault old.reads x place) (sym there.0)
-      (in_header place (subst (λ (x : Files). IsHeaderFault (x LogA) place) (kept.reads told) (there.1 (kept.time.files_told.0 told) (size_now size LogA told (long told))))))
-      fails
-
-  pub by_block : (size : ℕ) → (old.tells_files → size ≡ length (old.reads LogA)) → (old.tells_files → IsOpenAt 0 (old.reads LogA))
-      → FailsBy (Rises now.disk_faults new.disk_faults) (λ f place. (f ≡ LogA) × (now.tells_files → size ≡ length (now.reads LogA) → IsBlockFault (now.reads LogA) place)) e → Fails
-  by_block size long opens fails = fails_on _ _ _ _ e risen
-      (λ f place there told. subst (λ (x : FileNo). IsLogFault old.reads x place) (sym there.0)
-      (in_block place (opens told) (subst (λ (x : Files). IsBlockFault (x LogA) place) (kept.reads told) (there.1 (kept.time.files_told.0 told) (size_now size LogA told (long told))))))
-      fails
-
-  pub by_other_log : FailsBy (Rises now.disk_faults new.disk_faults) (λ f place. (f ≡ LogB) × (place ≡ 0) × (now.tells_files → IsShutLog (now.reads LogB) → ⊥)) e → Fails
-  by_other_log fails = fails_on _ _ _ _ e risen
-      (λ f place there told. subst (λ (x : FileNo). IsLogFault old.reads x place) (sym there.0) (subst (λ (n : ℕ). IsLogFault old.reads LogB n) (sym there.1)
-      (in_other_log (λ shut. there.2 (kept.time.files_told.0 told) (subst (λ (x : Files). IsShutLog (x LogB)) (sym (kept.reads told)) shut)))))
-      fails
 
 -- why a read of blocks fails, once those before a gate are read
 pub at_gate : (old mid new : Disk) (file : FileNo) (size gate : ℕ) (e : LogErr) → Stays old mid

@@ -7,7 +7,7 @@ use Rattle.oper_core.specs.LittleEndian.{little_bytes-little_number}
 use Rattle.byteorder.specs.Endian.{little_bytes}
 use Rattle.disk_model.specs.Disk.{read_of}
 use Rattle.formats.specs.Bytes.{number_at, byte_at, IsOpenAt}
-use Rattle.formats.specs.Image.{IsWithin, IsHeaderFault, gate, magic, epoch, base, commands, short}
+use Rattle.formats.specs.Image.{IsWithin, IsHeaderFault, magic, epoch, base, commands, short}
 use Rattle.formats.specs.Log.{Header, header_bytes}
 use Rattle.log_frames.specs.Reading.{filled_up}
 use Rattle.log_frames.proofs.Found.{byte_read, number_read, full_read}
@@ -75,7 +75,6 @@ module _ (file : List ℕ) where
 
   -- a fault in what is read is one of the file
   pub file_fault : (place : ℕ) → place < 33 → IsHeaderFault head place → IsHeaderFault file place
-  file_fault _ less (gate shut) = gate (λ is. shut (byte_stands 0 (omega arith) ∙ is))
   file_fault _ less (magic is_open other) = magic (opens is_open) (λ is. other (magic_stands is))
   file_fault _ less (epoch is_open out) = epoch (opens is_open) (subst (λ (n : ℕ). IsWithin 1 (2 ^ 62) n → ⊥) (number_stands 9 (omega arith)) out)
   file_fault _ less (base is_open out) = base (opens is_open) (subst (λ (n : ℕ). IsWithin 1 (2 ^ 62) n → ⊥) (number_stands 17 (omega arith)) out)
@@ -85,6 +84,6 @@ module _ (file : List ℕ) where
   pub front_stands : 33 < length file → head ≡ take 33 file
   front_stands within = full_read file 0 33 (omega arith)
 
-  -- a file that is read as a header begins with an open gate
-  pub opened_by : (into : List ℕ) (h : Header) → into ≡ head → into ≡ header_bytes h → IsOpenAt 0 file
-  opened_by into h is of = opens (ap (λ (l : List ℕ). get_or l 0 0) (sym is ∙ of))
+  -- the gate that is read is that of the file
+  pub opened_by : (into : List ℕ) → into ≡ head → IsOpenAt 0 into → IsOpenAt 0 file
+  opened_by into is opened = opens (ap (λ (l : List ℕ). get_or l 0 0) (sym is) ∙ opened)

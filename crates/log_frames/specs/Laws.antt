@@ -1,19 +1,20 @@
 -- Laws of the bytes of a log: how long they are, that they name one header and one list of payloads, and that a whole
 -- log has no fault.
-use Rattle.std.proofs.Common.{◌≡◌, ◌≢◌, ◌<◌, ◌+◌, ℕ, List, [], ◌∷◌, ◌++◌, length, get_or, take, drop, refl, sym, ◌∙◌, ap, subst, arith, append_assoc, length-append}
+use Rattle.std.proofs.Common.{◌≡◌, ◌≢◌, inl, inr, ◌<◌, ◌+◌, ℕ, List, [], ◌∷◌, ◌++◌, length, get_or, take, drop, refl, sym, ◌∙◌, ap, subst, arith, append_assoc, length-append}
 use Rattle.std.specs.Prelude.{All}
 use Rattle.std.proofs.lemmas.List.{append-nil, append_cancel_left, take_at, drop_at, drop-drop}
 use Rattle.std.proofs.lemmas.List.Elements.{All-push, All-head, All-tail}
 use Rattle.byteorder.specs.Endian.{little_bytes, little_number}
 use Rattle.byteorder.specs.Numbers.{length-bytes_low_first, little_number-reads_back}
-use Rattle.formats.specs.Bytes.{number_at}
+use Rattle.formats.specs.Bytes.{number_at, IsOpenAt}
+use Rattle.formats.specs.InForce.{HasHeader, IsPassive, IsInForce, HoldsLog}
 use Rattle.formats.specs.Log.{Header, header_bytes, block, blocks, end_of, IsHeader, IsPayload, IsWholeLog, IsShutLog}
-use Rattle.disk_model.specs.Disk.{Files}
+use Rattle.disk_model.specs.Disk.{Files, In}
 use Rattle.disk_model.specs.declared.machine.FileNo.{FileNo}
-use Rattle.disk_model.specs.declared.machine.FileNo.TheVariants.{LogA, LogB}
-use Rattle.log_frames.specs.Reading.{placed_from, IsLogFault, in_header, in_block, in_other_log}
+use Rattle.disk_model.specs.declared.machine.FileNo.TheVariants.{Objects, LogA, LogB}
+use Rattle.log_frames.specs.Reading.{placed_from}
 use Rattle.log_frames.specs.declared.payload.Payload.{Payload}
-use Rattle.formats.specs.Image.{IsHeaderFault, gate, magic, epoch, base, commands, short, IsBlockFault}
+use Rattle.formats.specs.Image.{IsHeaderFault, magic, epoch, base, commands, short, IsBlockFault, IsLogFault, no_byte, in_header, none_open, one_epoch, in_block}
 
 -- a header is 33 bytes
 pub length-header_bytes : (h : Header) → length (header_bytes h) ≡ 33
@@ -167,23 +168,33 @@ no_block_fault h ps file place is fault =
     ) in
     fault.broken (omega (arith, number, next.is_payload.some), omega (arith, number, next.is_payload.short)) (omega (arith, number, long, fault.here, next.some))
 
--- a whole log has no fault in its header
-pub no_header_fault : (h : Header) (ps : List (List ℕ)) (file : List ℕ) (place : ℕ) → IsWholeLog h ps file → IsHeaderFault file place → ⊥
-no_header_fault h ps file place is fault = none place (subst (λ (l : List ℕ). IsHeaderFault l place) split fault)
+-- a file with a header has no fault in it
+pub no_fault_of_header : (h : Header) (file : List ℕ) (place : ℕ) → HasHeader h file → IsHeaderFault file place → ⊥
+no_fault_of_header h file place has fault = none place (subst (λ (l : List ℕ). IsHeaderFault l place) has.split fault)
   where
     behind : List ℕ
-    behind = blocks ps ++ is.log.gate ∷ is.log.rest
-
-    split : file ≡ header_bytes h ++ behind
-    split = is.log.split ∙ append_assoc (header_bytes h) (blocks ps) (is.log.gate ∷ is.log.rest)
+    behind = has.gate ∷ has.rest
 
     none : (place : ℕ) → IsHeaderFault (header_bytes h ++ behind) place → ⊥
-    none _ (gate shut) = shut refl
     none _ (magic is_open other) = other refl
-    none _ (epoch is_open out) = let n = epoch_stands h is.in_range behind in out (omega (arith, n, is.in_range.epoch_low), omega (arith, n, is.in_range.epoch_high))
-    none _ (base is_open out) = let n = base_stands h is.in_range behind in out (omega (arith, n, is.in_range.base_low), omega (arith, n, is.in_range.base_high))
-    none _ (commands is_open over) = let n = base_stands h is.in_range behind in let k = commands_stand h is.in_range behind in omega (arith, n, k, over, is.in_range.commands)
-    none _ (short is_open cut) = omega (arith, cut, length-append (header_bytes h) behind, length-header_bytes h, length-append (blocks ps) (is.log.gate ∷ is.log.rest))
+    none _ (epoch is_open out) = let n = epoch_stands h has.in_range behind in out (omega (arith, n, has.in_range.epoch_low), omega (arith, n, has.in_range.epoch_high))
+    none _ (base is_open out) = let n = base_stands h has.in_range behind in out (omega (arith, n, has.in_range.base_low), omega (arith, n, has.in_range.base_high))
+    none _ (commands is_open over) = let n = base_stands h has.in_range behind in let k = commands_stand h has.in_range behind in omega (arith, n, k, over, has.in_range.commands)
+    none _ (short is_open cut) = omega (arith, cut, length-append (header_bytes h) behind, length-header_bytes h)
+
+-- a whole log has its header
+pub has_header : (h : Header) (ps : List (List ℕ)) (file : List ℕ) → IsWholeLog h ps file → HasHeader h file
+has_header h [] file is = record { in_range = is.in_range; gate = is.log.gate; rest = is.log.rest; split = is.log.split ∙ append_assoc (header_bytes h) [] (is.log.gate ∷ is.log.rest) }
+has_header h (p ∷ ps) file is = record {
+  in_range = is.in_range;
+  gate = 1;
+  rest = drop 1 (blocks (p ∷ ps) ++ is.log.gate ∷ is.log.rest);
+  split = is.log.split ∙ append_assoc (header_bytes h) (blocks (p ∷ ps)) (is.log.gate ∷ is.log.rest);
+}
+
+-- a whole log has no fault in its header
+pub no_header_fault : (h : Header) (ps : List (List ℕ)) (file : List ℕ) (place : ℕ) → IsWholeLog h ps file → IsHeaderFault file place → ⊥
+no_header_fault h ps file place is fault = no_fault_of_header h file place (has_header h ps file is) fault
 
 -- one payload more is placed behind the others
 pub placed-push : (from : ℕ) (payloads : List (List ℕ)) (payload : List ℕ) → placed_from from (payloads ++ payload ∷ []) ≡ placed_from from payloads ++ record { place = from + length (blocks payloads) + 5; bytes = payload } ∷ []
@@ -194,8 +205,107 @@ placed-push from (p ∷ payloads) payload =
     ap (λ (l : List Payload). first ∷ l) (placed-push (from + 5 + length p) payloads payload)
     ∙ λ i. first ∷ (placed_from (from + 5 + length p) payloads ++ record { place = at i; bytes = payload } ∷ [])
 
--- the log in a whole log file has no fault while the other log is shut
-pub no_log_fault : (h : Header) (ps : List (List ℕ)) (files : Files) (file : FileNo) (place : ℕ) → IsWholeLog h ps (files LogA) → IsShutLog (files LogB) → IsLogFault files file place → ⊥
-no_log_fault h ps files _ _ is shut (in_header place fault) = no_header_fault h ps (files LogA) place is fault
-no_log_fault h ps files _ _ is shut (in_block place is_open fault) = no_block_fault h ps (files LogA) place is fault
-no_log_fault h ps files _ _ is shut (in_other_log fault) = fault shut
+-- a file with a header has one
+pub same_header : (h k : Header) (file : List ℕ) → HasHeader h file → HasHeader k file → h ≡ k
+same_header h k file a b = one_header h k (a.gate ∷ a.rest) (b.gate ∷ b.rest) a.in_range b.in_range (sym a.split ∙ b.split)
+
+-- a file with a header is not closed
+pub not_shut : (h : Header) (file : List ℕ) → HasHeader h file → IsShutLog file → ⊥
+not_shut h file has shut = (subst IsShutLog has.split shut) refl
+
+-- nor empty
+pub not_empty : (h : Header) (file : List ℕ) → HasHeader h file → file ≡ [] → ⊥
+not_empty h file has none = omega (arith, ap length (sym has.split ∙ none))
+
+-- beside a log in force, a file with a header has a smaller epoch
+pub smaller : (n : ℕ) (h : Header) (file : List ℕ) → IsPassive n file → HasHeader h file → h.epoch < n
+smaller n h file (inl shut) has = absurd (not_shut h file has shut)
+smaller n h file (inr other) has = omega (arith, other.2, ap (λ (k : Header). k.epoch) (same_header h other.0 file has other.1))
+
+-- a fault of a header is one behind an open gate
+opens_by : (file : List ℕ) (place : ℕ) → IsHeaderFault file place → IsOpenAt 0 file
+opens_by file _ (magic is_open other) = is_open
+opens_by file _ (epoch is_open out) = is_open
+opens_by file _ (base is_open out) = is_open
+opens_by file _ (commands is_open over) = is_open
+opens_by file _ (short is_open cut) = is_open
+
+-- a file with no log in force has no fault that a reader looks for
+passive_sound : (n : ℕ) (file : List ℕ) (place : ℕ) → IsPassive n file → IsHeaderFault file place → ⊥
+passive_sound n [] place (inl shut) fault = shut
+passive_sound n (g ∷ rest) place (inl shut) fault = shut (opens_by (g ∷ rest) place fault)
+passive_sound n file place (inr other) fault = no_fault_of_header other.0 file place other.1 fault
+
+passive_some : (n : ℕ) (file : List ℕ) → IsPassive n file → file ≡ [] → ⊥
+passive_some n file (inl shut) none = subst IsShutLog none shut
+passive_some n file (inr other) none = not_empty other.0 file other.1 none
+
+-- two headers of logs in force, each of which is beside the other
+not_both : (h k : Header) (a b : List ℕ) → HasHeader h a → HasHeader k b → IsPassive h.epoch b → IsPassive k.epoch a → ⊥
+not_both h k a b has_h has_k beside_h beside_k = omega (arith, smaller h.epoch k b beside_h has_k, smaller k.epoch h a beside_k has_h)
+
+-- files with a log in force, whole, have no fault
+pub no_log_fault : (active : FileNo) (h : Header) (ps : List (List ℕ)) (files : Files) (file : FileNo) (place : ℕ) → HoldsLog active h ps files → IsLogFault files file place → ⊥
+no_log_fault Objects h ps files _ _ is fault = is.in_force.a_log refl
+no_log_fault LogA h ps files _ _ is (no_byte Objects a_log none) = a_log refl
+no_log_fault LogA h ps files _ _ is (no_byte LogA a_log none) = not_empty h (files LogA) (has_header h ps (files LogA) is.log) none
+no_log_fault LogA h ps files _ _ is (no_byte LogB a_log none) = passive_some h.epoch (files LogB) is.in_force.other none
+no_log_fault LogB h ps files _ _ is (no_byte Objects a_log none) = a_log refl
+no_log_fault LogB h ps files _ _ is (no_byte LogA a_log none) = passive_some h.epoch (files LogA) is.in_force.other none
+no_log_fault LogB h ps files _ _ is (no_byte LogB a_log none) = not_empty h (files LogB) (has_header h ps (files LogB) is.log) none
+no_log_fault LogA h ps files _ _ is (in_header Objects place a_log fault) = a_log refl
+no_log_fault LogA h ps files _ _ is (in_header LogA place a_log fault) = no_header_fault h ps (files LogA) place is.log fault
+no_log_fault LogA h ps files _ _ is (in_header LogB place a_log fault) = passive_sound h.epoch (files LogB) place is.in_force.other fault
+no_log_fault LogB h ps files _ _ is (in_header Objects place a_log fault) = a_log refl
+no_log_fault LogB h ps files _ _ is (in_header LogA place a_log fault) = passive_sound h.epoch (files LogA) place is.in_force.other fault
+no_log_fault LogB h ps files _ _ is (in_header LogB place a_log fault) = no_header_fault h ps (files LogB) place is.log fault
+no_log_fault LogA h ps files _ _ is (none_open a b) = not_shut h (files LogA) (has_header h ps (files LogA) is.log) a
+no_log_fault LogB h ps files _ _ is (none_open a b) = not_shut h (files LogB) (has_header h ps (files LogB) is.log) b
+no_log_fault LogA h ps files _ _ is (one_epoch j k has_j has_k same) =
+    omega (arith, same, smaller h.epoch k (files LogB) is.in_force.other has_k, ap (λ (x : Header). x.epoch) (same_header h j (files LogA) (has_header h ps (files LogA) is.log) has_j))
+no_log_fault LogB h ps files _ _ is (one_epoch j k has_j has_k same) =
+    omega (arith, same, smaller h.epoch j (files LogA) is.in_force.other has_j, ap (λ (x : Header). x.epoch) (same_header h k (files LogB) (has_header h ps (files LogB) is.log) has_k))
+no_log_fault LogA h ps files _ _ is (in_block Objects k place in_force has fault) = in_force.a_log refl
+no_log_fault LogA h ps files _ _ is (in_block LogA k place in_force has fault) = no_block_fault h ps (files LogA) place is.log fault
+no_log_fault LogA h ps files _ _ is (in_block LogB k place in_force has fault) = not_both h k (files LogA) (files LogB) (has_header h ps (files LogA) is.log) has is.in_force.other in_force.other
+no_log_fault LogB h ps files _ _ is (in_block Objects k place in_force has fault) = in_force.a_log refl
+no_log_fault LogB h ps files _ _ is (in_block LogA k place in_force has fault) = not_both h k (files LogB) (files LogA) (has_header h ps (files LogB) is.log) has is.in_force.other in_force.other
+no_log_fault LogB h ps files _ _ is (in_block LogB k place in_force has fault) = no_block_fault h ps (files LogB) place is.log fault
+
+-- what changes in the active file alone leaves it in force
+pub in_force_stays : (active : FileNo) (n : ℕ) (change : List ℕ → List ℕ → Type 0) (old new : Files) → In active change old new → IsInForce active n old → IsInForce active n new
+in_force_stays Objects n change old new is in_force = absurd (in_force.a_log refl)
+in_force_stays LogA n change old new is in_force = record { a_log = in_force.a_log; other = subst (IsPassive n) (sym (is.others LogB (λ e. cc))) in_force.other }
+in_force_stays LogB n change old new is in_force = record { a_log = in_force.a_log; other = subst (IsPassive n) (sym (is.others LogA (λ e. cc))) in_force.other }
+
+-- a file with a header that is in force is that of the log in force
+pub one_place : (active other : FileNo) (h k : Header) (ps : List (List ℕ)) (files : Files) → HoldsLog active h ps files → IsInForce other k.epoch files → HasHeader k (files other) → other ≡ active
+one_place Objects other h k ps files a b has = absurd (a.in_force.a_log refl)
+one_place LogA Objects h k ps files a b has = absurd (b.a_log refl)
+one_place LogB Objects h k ps files a b has = absurd (b.a_log refl)
+one_place LogA LogA h k ps files a b has = refl
+one_place LogB LogB h k ps files a b has = refl
+one_place LogA LogB h k ps files a b has = absurd (not_both h k (files LogA) (files LogB) (has_header h ps (files LogA) a.log) has a.in_force.other b.other)
+one_place LogB LogA h k ps files a b has = absurd (not_both h k (files LogB) (files LogA) (has_header h ps (files LogB) a.log) has a.in_force.other b.other)
+
+-- files hold one log in force
+pub one_in_force : (active other : FileNo) (h k : Header) (ps qs : List (List ℕ)) (files : Files) → HoldsLog active h ps files → HoldsLog other k qs files → (active ≡ other) × (h ≡ k) × (ps ≡ qs)
+one_in_force Objects other h k ps qs files a b = absurd (a.in_force.a_log refl)
+one_in_force LogA Objects h k ps qs files a b = absurd (b.in_force.a_log refl)
+one_in_force LogB Objects h k ps qs files a b = absurd (b.in_force.a_log refl)
+one_in_force LogA LogA h k ps qs files a b = let same = one_log h k ps qs (files LogA) a.log b.log in (refl, same.0, same.1)
+one_in_force LogB LogB h k ps qs files a b = let same = one_log h k ps qs (files LogB) a.log b.log in (refl, same.0, same.1)
+one_in_force LogA LogB h k ps qs files a b = absurd (not_both h k (files LogA) (files LogB) (has_header h ps (files LogA) a.log) (has_header k qs (files LogB) b.log) a.in_force.other b.in_force.other)
+one_in_force LogB LogA h k ps qs files a b = absurd (not_both h k (files LogB) (files LogA) (has_header h ps (files LogB) a.log) (has_header k qs (files LogA) b.log) a.in_force.other b.in_force.other)
+
+-- what changes no log leaves the one in force
+pub log_stays : (active : FileNo) (h : Header) (ps : List (List ℕ)) (change : List ℕ → List ℕ → Type 0) (old new : Files) → In Objects change old new → HoldsLog active h ps old → HoldsLog active h ps new
+log_stays Objects h ps change old new is log = absurd (log.in_force.a_log refl)
+log_stays LogA h ps change old new is log = record {
+  in_force = record { a_log = log.in_force.a_log; other = subst (IsPassive h.epoch) (sym (is.others LogB (λ e. cc))) log.in_force.other };
+  log = subst (IsWholeLog h ps) (sym (is.others LogA (λ e. cc))) log.log;
+}
+log_stays LogB h ps change old new is log = record {
+  in_force = record { a_log = log.in_force.a_log; other = subst (IsPassive h.epoch) (sym (is.others LogA (λ e. cc))) log.in_force.other };
+  log = subst (IsWholeLog h ps) (sym (is.others LogB (λ e. cc))) log.log;
+}

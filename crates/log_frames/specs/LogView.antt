@@ -28,9 +28,10 @@ abbrev pub growth_of : List ℕ → ℕ → ℕ
 growth_of [] n = n + 5
 growth_of (byte ∷ bytes) n = n
 
--- The bytes of a buffer begin with four for the block's length, there is room for a gate behind them, and the block
--- has a place.
-pub record IsBuffer (gate : ℕ) (bytes : List ℕ) (capacity : ℕ) : Type 0 where
+-- The epoch is one that a header may have. The bytes of the buffer begin with four for the block's length, there is
+-- room for a gate behind them, and the block has a place behind this gate.
+pub record IsInUse (epoch gate : ℕ) (bytes : List ℕ) (capacity : ℕ) : Type 0 where
+  pub last : epoch ≤ 2 ^ 62
   pub reserved : 4 ≤ length bytes
   pub room : length bytes < capacity
   pub short : length bytes ≤ 2 ^ 30 + 4

@@ -1,12 +1,11 @@
 -- What a reader of a log finds, and why it fails.
-use Rattle.std.specs.Prelude.{◌≡◌, ◌<◌, ◌≤◌, ◌+◌, ◌-◌, ◌^◌, ℕ, List, [], ◌∷◌, ◌++◌, length, take, replicate, All, Option, Some, None}
+use Rattle.std.specs.Prelude.{◌≡◌, ◌≢◌, ◌<◌, ◌≤◌, ◌+◌, ◌-◌, ◌^◌, ℕ, List, [], ◌∷◌, ◌++◌, length, take, replicate, All, Option, Some, None}
 use Rattle.byteorder.specs.Endian.{little_bytes}
 use Rattle.disk_model.specs.Disk.{Files, read_of}
 use Rattle.disk_model.specs.declared.machine.FileNo.{FileNo}
-use Rattle.disk_model.specs.declared.machine.FileNo.TheVariants.{LogA, LogB}
-use Rattle.formats.specs.Log.{Header, blocks, end_of, IsPayload, IsShutLog}
+use Rattle.formats.specs.Log.{Header, blocks, end_of, IsPayload}
 use Rattle.formats.specs.Bytes.{number_at, IsOpenAt, IsShutAt}
-use Rattle.formats.specs.Image.{IsWithin, IsHeaderFault, IsBlockFault}
+use Rattle.formats.specs.Image.{IsWithin}
 use Rattle.log_frames.specs.declared.header.Header.{Header as Read}
 use Rattle.log_frames.specs.declared.log_err.LogErr.{LogErr}
 use Rattle.log_frames.specs.declared.log_err.LogErr.TheVariants.{DiskFault, LogFull, Damaged, Exhausted, Memory}
@@ -37,13 +36,6 @@ TellsDamage (LogFull used need limit) = ⊥
 TellsDamage (Damaged file place) = Unit {0}
 TellsDamage (Exhausted epoch) = ⊥
 TellsDamage Memory = ⊥
-
--- the log breaks its format in this file at this place
-pub data IsLogFault (files : Files) : FileNo → ℕ → Type 0 where
-  in_header : (place : ℕ) → IsHeaderFault (files LogA) place → IsLogFault files LogA place
-  in_block : (place : ℕ) → IsOpenAt 0 (files LogA) → IsBlockFault (files LogA) place → IsLogFault files LogA place
-  -- the second log file has no byte, or its header gate is open
-  in_other_log : (IsShutLog (files LogB) → ⊥) → IsLogFault files LogB 0
 
 -- n bytes of which these are the first, the others 0
 abbrev pub filled_up : ℕ → List ℕ → List ℕ

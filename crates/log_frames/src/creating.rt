@@ -1,9 +1,9 @@
 // Makes the log of a new store.
 ghost use Rattle.std.specs.Prelude.{◌≡◌, ◌≢◌, [], ◌∷◌, ◌++◌, OnOk, IfErr};
-ghost use Rattle.disk_model.specs.Disk.{Rises, Runs, Same, IsSettled};
+ghost use Rattle.disk_model.specs.Disk.{Rises, Runs, Stays, Same, In, Torn, IsSettled};
 ghost use Rattle.disk_model.specs.declared.machine.FileNo.TheVariants.{LogA, LogB};
-ghost use Rattle.formats.specs.Log.{header_fields, new_header, IsWholeLog, IsShutLog};
-ghost use Rattle.log_frames.specs.Creating.{LogsAlone};
+ghost use Rattle.formats.specs.Log.{header_fields, new_header, IsShutLog};
+ghost use Rattle.log_frames.specs.Creating.{LogsAlone, IsNewLog};
 
 use crate::layout::{CLOSED, HEADER_BYTES, MAGIC, OPEN};
 use crate::{LogErr, LogFile};
@@ -11,12 +11,11 @@ use byteorder::{ByteOrder, LittleEndian};
 use disk_model::{FileNo, Machine, write_through};
 
 // Closes a header gate where it is open, and writes a first byte where there is none.
-#[tactic(auto, using(crate::proofs::Alone::alone_twice, crate::proofs::Alone::alone_write, crate::proofs::Alone::alone_stays))]
-fn shut<M: Machine>(machine: &mut M, file: FileNo) -> Result<(), LogErr>
-    requires { file ≢ FileNo.Objects }
-    ensures runs { Runs LogsAlone Same (M.disk machine.old) (M.disk machine.new) }
+pub fn shut<M: Machine>(machine: &mut M, file: FileNo) -> Result<(), LogErr>
+    ensures runs { Runs (In file (Torn 0 1)) Same (M.disk machine.old) (M.disk machine.new) }
+    // A closed gate is not written.
+    ensures idle { (M.disk machine.old).tells_files → IsShutLog ((M.disk machine.old).reads file) → Stays (M.disk machine.old) (M.disk machine.new) }
     ensures shut { (M.disk machine.old).tells_files → OnOk result (IsShutLog ((M.disk machine.new).reads file)) }
-    ensures others { (M.disk machine.old).tells_files → OnOk result ((other : FileNo) → other ≢ file → (M.disk machine.new).reads other ≡ (M.disk machine.old).reads other) }
     ensures settled { IsSettled (M.disk machine.old) → OnOk result (IsSettled (M.disk machine.new)) }
     ensures cause { IfErr result (λ e. (e ≡ LogErr.DiskFault) × Rises (M.disk machine.old).disk_faults (M.disk machine.new).disk_faults) }
 {
@@ -40,11 +39,11 @@ fn new_front() -> [u8; HEADER_BYTES]
 }
 
 impl LogFile {
-    /// Makes log A a log with no block, and shuts log B. Whenever it stops, the objects are as they were.
+    /// Makes log A a log with no block, and closes log B. Whenever it stops, the objects are as they were.
     #[tactic(auto, using(crate::proofs::Alone::alone_twice, crate::proofs::Alone::alone_write))]
     pub fn create<M: Machine>(machine: &mut M) -> Result<(), LogErr>
         ensures runs { Runs LogsAlone Same (M.disk machine.old) (M.disk machine.new) }
-        ensures made { (M.disk machine.old).tells_files → OnOk result (IsWholeLog new_header [] ((M.disk machine.new).reads LogA) × IsShutLog ((M.disk machine.new).reads LogB)) }
+        ensures made { (M.disk machine.old).tells_files → OnOk result (IsNewLog (M.disk machine.new).reads) }
         ensures settled { IsSettled (M.disk machine.old) → OnOk result (IsSettled (M.disk machine.new)) }
         ensures cause { IfErr result (λ e. (e ≡ LogErr.DiskFault) × Rises (M.disk machine.old).disk_faults (M.disk machine.new).disk_faults) }
     {

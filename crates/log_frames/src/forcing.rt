@@ -41,7 +41,7 @@ fn write_frame<M: Machine>(
 }
 
 // Opens a gate, and syncs it.
-fn open_gate<M: Machine>(machine: &mut M, file: FileNo, gate: u64) -> Result<(), LogErr>
+pub fn open_gate<M: Machine>(machine: &mut M, file: FileNo, gate: u64) -> Result<(), LogErr>
     ensures runs { Runs (In file (Torn gate 1)) Same (M.disk machine.old) (M.disk machine.new) }
     ensures written { (M.disk machine.old).tells_files → OnOk result (In file (Holds gate (1 ∷ [])) (M.disk machine.old).reads (M.disk machine.new).reads) }
     ensures settled { IsSettled (M.disk machine.old) → OnOk result (IsSettled (M.disk machine.new)) }

@@ -16,6 +16,8 @@ mod log_file;
 mod payload;
 mod payloads;
 mod reading;
+mod rewriting;
+mod seen;
 #[cfg(test)]
 mod tests;
 

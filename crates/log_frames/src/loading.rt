@@ -1,20 +1,26 @@
 // Finds the log in its files.
-ghost use Rattle.std.specs.Prelude.{◌≡◌, ◌<◌, ◌↔◌, length, take, drop, codes, [], List, ℕ, IsTrue, OnOk, IfErr, IfOk};
-ghost use Rattle.disk_model.specs.Disk.{Rises, Stays};
-ghost use Rattle.disk_model.specs.declared.machine.FileNo.TheVariants.{LogA, LogB};
-ghost use Rattle.formats.specs.Log.{Header as Fields, header_bytes, IsHeader, IsWholeLog, IsShutLog, end_of};
-ghost use Rattle.formats.specs.Image.{IsHeaderFault};
-ghost use Rattle.log_frames.specs.Reading.{FailsBy, TellsDamage, IsLogFault, header_of};
+ghost use Rattle.std.specs.Prelude.{◌≡◌, ◌≢◌, ◌⊎◌, Some, IfSome, ◌<◌, ◌↔◌, length, take, drop, codes, [], List, ℕ, IsTrue, OnOk, IfErr, IfOk};
+ghost use Rattle.disk_model.specs.Disk.{Rises, Stays, Files};
+ghost use Rattle.disk_model.specs.declared.machine.FileNo.TheVariants.{Objects, LogA, LogB};
+ghost use Rattle.formats.specs.Log.{Header as Fields, header_bytes, IsHeader, end_of};
+ghost use Rattle.disk_model.specs.declared.machine.FileNo.{FileNo};
+ghost use Rattle.formats.specs.InForce.{HoldsLog};
+ghost use Rattle.log_frames.specs.Choosing.{SeenIn, IsChosen};
+ghost use Rattle.formats.specs.Bytes.{IsOpenAt};
+ghost use Rattle.formats.specs.Image.{IsHeaderFault, IsLogFault};
+ghost use Rattle.log_frames.specs.Reading.{FailsBy, TellsDamage, header_of};
 
 use crate::header::Header;
 use crate::layout::{
-    BASE_PLACE, COMMANDS_PLACE, EPOCH_PLACE, FIRST_BLOCK, HEAD_BYTES, HEADER_BYTES, LENGTH_BYTES,
-    MAGIC, MAGIC_PLACE, MAX_NUMBER, OPEN,
+    BASE_PLACE, COMMANDS_PLACE, EPOCH_PLACE, FIRST_BLOCK, HEADER_BYTES, LENGTH_BYTES, MAGIC,
+    MAGIC_PLACE, MAX_NUMBER, OPEN,
 };
 use crate::reading::{first_closed, read_at};
+use crate::seen::Seen;
 use crate::{LogErr, LogFile};
 use byteorder::{ByteOrder, LittleEndian};
 use disk_model::{FileNo, Machine};
+use formats::BLOCK_HEAD;
 use std::alloc::Global;
 
 fn has_magic(head: &[u8; HEADER_BYTES]) -> bool
@@ -25,15 +31,13 @@ fn has_magic(head: &[u8; HEADER_BYTES]) -> bool
 
 // What the bytes of a header say.
 fn parse_header(file: FileNo, head: &[u8; HEADER_BYTES]) -> Result<Header, LogErr>
+    requires { IsOpenAt 0 head.now }
     ensures ok { IfOk result (λ h. IsHeader (header_of h) × (head.now ≡ header_bytes (header_of h))) }
     ensures cause { IfErr result (FailsBy ⊥ (λ f place. (f ≡ file) × (place < 33) × IsHeaderFault head.now place)) }
 {
     let damaged_at = |place: u64| -> Result<Header, LogErr>
         ensures { result ≡ Err (LogErr.Damaged file place) }
     { Err(LogErr::Damaged { file, place }) };
-    if head[0] != OPEN {
-        return damaged_at(0);
-    }
     if !has_magic(head) {
         return damaged_at(MAGIC_PLACE);
     }
@@ -56,17 +60,24 @@ fn parse_header(file: FileNo, head: &[u8; HEADER_BYTES]) -> Result<Header, LogEr
     })
 }
 
-fn read_header<M: Machine>(machine: &mut M, file: FileNo, size: u64) -> Result<Header, LogErr>
+// What stands in a log file: its header, or none where the header gate is closed. The header is read once.
+fn see_log<M: Machine>(machine: &mut M, file: FileNo) -> Result<Option<Seen>, LogErr>
+    requires { file ≢ Objects }
     ensures kept { Stays (M.disk machine.old) (M.disk machine.new) }
-    ensures inside { IfOk result (λ _. 33 < size) }
-    ensures header { IfOk result (λ h. IsHeader (header_of h)) }
-    ensures ok { (M.disk machine.old).tells_files → size ≡ length ((M.disk machine.old).reads file)
-        → IfOk result (λ h. IsHeader (header_of h) × (take 33 ((M.disk machine.old).reads file) ≡ header_bytes (header_of h))) }
+    ensures inside { IfOk result (λ found. IfSome found (λ seen. (33 < seen.size) × IsHeader (header_of seen.header) × (seen.file ≡ file))) }
+    ensures seen { (M.disk machine.old).tells_files → IfOk result (SeenIn ((M.disk machine.old).reads file)) }
     ensures cause { IfErr result (FailsBy (Rises (M.disk machine.old).disk_faults (M.disk machine.new).disk_faults)
-        (λ f place. (f ≡ file) × ((M.disk machine.old).tells_files → size ≡ length ((M.disk machine.old).reads file) → IsHeaderFault ((M.disk machine.old).reads file) place))) }
+        (λ f place. (M.disk machine.old).tells_files → IsLogFault (M.disk machine.old).reads f place)) }
 {
+    let size = machine.size(file)?;
+    if size == 0 {
+        return Err(LogErr::Damaged { file, place: 0 });
+    }
     let mut head = [0; HEADER_BYTES];
     read_at(machine, file, 0, &mut head)?;
+    if head[0] != OPEN {
+        return Ok(None);
+    }
     let header = parse_header(file, &head)?;
     if size <= FIRST_BLOCK {
         return Err(LogErr::Damaged {
@@ -74,46 +85,62 @@ fn read_header<M: Machine>(machine: &mut M, file: FileNo, size: u64) -> Result<H
             place: FIRST_BLOCK,
         });
     }
-    Ok(header)
+    Ok(Some(Seen { file, header, size }))
 }
 
-// Sees that a log file has a byte, and that its header gate is closed.
-fn see_shut<M: Machine>(machine: &mut M, file: FileNo) -> Result<(), LogErr>
-    ensures kept { Stays (M.disk machine.old) (M.disk machine.new) }
-    ensures shut { (M.disk machine.old).tells_files → OnOk result (IsShutLog ((M.disk machine.old).reads file)) }
-    ensures cause { IfErr result (FailsBy (Rises (M.disk machine.old).disk_faults (M.disk machine.new).disk_faults)
-        (λ f place. (f ≡ file) × (place ≡ 0) × ((M.disk machine.old).tells_files → IsShutLog ((M.disk machine.old).reads file) → ⊥))) }
+// The log in force: the one that is open, of two the one with the greater epoch.
+fn choose(a: Option<Seen>, b: Option<Seen>) -> Result<Seen, LogErr>
+    ensures one { IfOk result (λ seen. (a ≡ Some seen) ⊎ (b ≡ Some seen)) }
+    ensures chosen { (files : Files) → IfSome a (λ seen. seen.file ≡ LogA) → IfSome b (λ seen. seen.file ≡ LogB) → SeenIn (files LogA) a → SeenIn (files LogB) b → IfOk result (IsChosen files) }
+    ensures cause { IfErr result (FailsBy ⊥ (λ f place. (files : Files) → SeenIn (files LogA) a → SeenIn (files LogB) b → IsLogFault files f place)) }
 {
-    let mut gate = [0; 1];
-    let read = machine.read(file, 0, &mut gate)?;
-    if read == 0 || gate[0] == OPEN {
-        return Err(LogErr::Damaged { file, place: 0 });
+    match a {
+        None => match b {
+            None => Err(LogErr::Damaged {
+                file: FileNo::LogA,
+                place: 0,
+            }),
+            Some(second) => Ok(second),
+        },
+        Some(first) => match b {
+            None => Ok(first),
+            Some(second) => {
+                if first.header.epoch == second.header.epoch {
+                    return Err(LogErr::Damaged {
+                        file: FileNo::LogB,
+                        place: EPOCH_PLACE,
+                    });
+                }
+                if first.header.epoch > second.header.epoch {
+                    return Ok(first);
+                }
+                Ok(second)
+            }
+        },
     }
-    Ok(())
 }
 
 impl LogFile {
-    /// The log that stands in log A. Log B must be shut.
+    /// The log in force.
     pub fn load<M: Machine>(alloc: Global, machine: &mut M) -> Result<LogFile, LogErr>
         ensures kept { Stays (M.disk machine.old) (M.disk machine.new) }
         ensures read { (M.disk machine.old).tells_files → IfOk result (λ log. (payloads : List (List ℕ))
-            × IsWholeLog log.header payloads ((M.disk machine.old).reads LogA) × IsShutLog ((M.disk machine.old).reads LogB)
-            × (log.end ≡ end_of payloads) × (log.active ≡ LogA) × (log.pending ≡ [])) }
+            × HoldsLog log.active log.header payloads (M.disk machine.old).reads × (log.end ≡ end_of payloads) × (log.pending ≡ [])) }
         ensures header { IfOk result (λ log. IsHeader log.header) }
-        ensures undamaged { (M.disk machine.old).tells_files → (header : Fields) (payloads : List (List ℕ))
-            → IsWholeLog header payloads ((M.disk machine.old).reads LogA) → IsShutLog ((M.disk machine.old).reads LogB) → IfErr result (λ e. TellsDamage e → ⊥) }
+        ensures undamaged { (M.disk machine.old).tells_files → (active : FileNo) (header : Fields) (payloads : List (List ℕ))
+            → HoldsLog active header payloads (M.disk machine.old).reads → IfErr result (λ e. TellsDamage e → ⊥) }
         ensures cause { IfErr result (FailsBy (Rises (M.disk machine.old).disk_faults (M.disk machine.new).disk_faults)
             (λ file place. (M.disk machine.old).tells_files → IsLogFault (M.disk machine.old).reads file place)) }
     {
-        let size = machine.size(FileNo::LogA)?;
-        let header = read_header(machine, FileNo::LogA, size)?;
-        see_shut(machine, FileNo::LogB)?;
-        let end = first_closed(machine, FileNo::LogA, size)?;
-        let mut buffer = Vec::with_capacity(alloc, HEAD_BYTES)?;
+        let a = see_log(machine, FileNo::LogA)?;
+        let b = see_log(machine, FileNo::LogB)?;
+        let seen = choose(a, b)?;
+        let end = first_closed(machine, seen.file, seen.size)?;
+        let mut buffer = Vec::with_capacity(alloc, BLOCK_HEAD)?;
         buffer.extend_from_slice(&[0; LENGTH_BYTES])?;
         Ok(LogFile {
-            active: FileNo::LogA,
-            header,
+            active: seen.file,
+            header: seen.header,
             end,
             buffer,
         })

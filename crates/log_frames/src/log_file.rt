@@ -2,8 +2,9 @@ ghost use Rattle.std.specs.Prelude.{◌≡◌, ◌<◌, ◌≤◌, ◌+◌, ◌^
 ghost use Rattle.log_frames.specs.LogView.{used_of, growth_of};
 
 use crate::header::Header;
-use crate::layout::{HEAD_BYTES, LENGTH_BYTES};
+use crate::layout::LENGTH_BYTES;
 use disk_model::FileNo;
+use formats::BLOCK_HEAD;
 use oper_core::Memory;
 use std::marker::Model;
 
@@ -20,7 +21,7 @@ pub struct LogFile {
 
 impl Model for LogFile {
     ghost use Rattle.std.specs.Prelude.{◌-◌, length, drop, vec_capacity};
-    ghost use Rattle.log_frames.specs.LogView.{LogView, IsBuffer};
+    ghost use Rattle.log_frames.specs.LogView.{LogView, IsInUse};
 
     ghost Value = { LogView };
 
@@ -32,7 +33,7 @@ impl Model for LogFile {
       room = vec_capacity a.buffer - 1 - length a.buffer.items;
     } };
 
-    ghost invariant = { λ a. IsBuffer a.end a.buffer.items (vec_capacity a.buffer) };
+    ghost invariant = { λ a. IsInUse a.header.epoch a.end a.buffer.items (vec_capacity a.buffer) };
 }
 
 impl LogFile {
@@ -73,7 +74,7 @@ impl LogFile {
         ensures { result ≡ growth_of self.now.pending n }
     {
         if self.buffer.len() == LENGTH_BYTES {
-            return n + HEAD_BYTES as u64;
+            return n + BLOCK_HEAD as u64;
         }
         n
     }

@@ -5,10 +5,11 @@ ghost use Rattle.formats.specs.Log.{Header, IsWholeLog};
 ghost use Rattle.formats.specs.Image.{IsBlockFault};
 ghost use Rattle.log_frames.specs.Reading.{FailsBy, TellsDamage, placed};
 
-use crate::layout::{FIRST_BLOCK, HEAD_BYTES};
+use crate::layout::FIRST_BLOCK;
 use crate::reading::{open_block, read_at};
 use crate::{LogErr, LogFile, Payload};
 use disk_model::{FileNo, Machine};
+use formats::BLOCK_HEAD;
 use oper_core::ByteList;
 use std::alloc::Global;
 
@@ -51,7 +52,7 @@ fn read_payloads<M: Machine>(
     let mut found = Vec::new(alloc);
     let mut gate = FIRST_BLOCK;
     while let Some(len) = open_block(machine, file, size, gate)? {
-        let place = gate + HEAD_BYTES as u64;
+        let place = gate + BLOCK_HEAD as u64;
         found.push(read_payload(alloc, machine, file, place, len)?)?;
         gate = place + len as u64;
     }

@@ -5,9 +5,10 @@ ghost use Rattle.formats.specs.Image.{IsBlockFault};
 ghost use Rattle.log_frames.specs.Reading.{filled_up, FailsBy, FoundAt, IsBroken, EndsBlocks};
 
 use crate::LogErr;
-use crate::layout::{FIRST_BLOCK, HEAD_BYTES, MAX_PAYLOAD, OPEN};
+use crate::layout::{FIRST_BLOCK, MAX_PAYLOAD, OPEN};
 use byteorder::{ByteOrder, LittleEndian};
 use disk_model::{FileNo, Machine};
+use formats::BLOCK_HEAD;
 
 /// Reads from a place on. A byte past the file's end counts as 0.
 pub fn read_at<M: Machine>(
@@ -40,14 +41,14 @@ pub fn open_block<M: Machine>(
     ensures cause { IfErr result (FailsBy (Rises (M.disk machine.old).disk_faults (M.disk machine.new).disk_faults)
         (λ f place. (f ≡ file) × (place ≡ gate + 1) × ((M.disk machine.old).tells_files → size ≡ length ((M.disk machine.old).reads file) → IsBroken gate ((M.disk machine.old).reads file)))) }
 {
-    let mut head = [0; HEAD_BYTES];
+    let mut head = [0; BLOCK_HEAD];
     read_at(machine, file, gate, &mut head)?;
     if head[0] != OPEN {
         return Ok(None);
     }
     let len = LittleEndian::read_u32(&head[1..]);
     let room = size.saturating_sub(gate);
-    if len == 0 || len > MAX_PAYLOAD || room <= HEAD_BYTES as u64 + len as u64 {
+    if len == 0 || len > MAX_PAYLOAD || room <= BLOCK_HEAD as u64 + len as u64 {
         return Err(LogErr::Damaged {
             file,
             place: gate + 1,
@@ -66,7 +67,7 @@ pub fn first_closed<M: Machine>(machine: &mut M, file: FileNo, size: u64) -> Res
 {
     let mut gate = FIRST_BLOCK;
     while let Some(len) = open_block(machine, file, size, gate)? {
-        gate += HEAD_BYTES as u64 + len as u64;
+        gate += BLOCK_HEAD as u64 + len as u64;
     }
     Ok(gate)
 }

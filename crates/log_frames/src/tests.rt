@@ -168,7 +168,8 @@ fn a_wrong_block_or_log_b_is_damaged(rt: HostRuntime) -> Result<(), Fail> {
             34,
         ),
         (b"\x01".as_slice(), [].as_slice(), FileNo::LogB, 0),
-        (b"\x01".as_slice(), [1].as_slice(), FileNo::LogB, 0),
+        (b"\x01".as_slice(), [1].as_slice(), FileNo::LogB, 1),
+        (b"\0".as_slice(), NEW_LOG.as_slice(), FileNo::LogB, 9),
     ] {
         let fault = fault_of(rt.alloc(), &NEW_LOG[..33], block, log_b)?;
         assert_eq!(rt; fault, Some(LogErr::Damaged { file, place }));

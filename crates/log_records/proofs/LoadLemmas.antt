@@ -6,22 +6,22 @@ use Rattle.std.proofs.lemmas.List.Elements.{All-cons, All-nil, All-filter}
 use Rattle.disk_model.specs.Disk.{Files, Disk, Stays, Rises}
 use Rattle.disk_model.specs.Moments.{stays_settled}
 use Rattle.disk_model.specs.declared.machine.FileNo.{FileNo}
-use Rattle.disk_model.specs.declared.machine.FileNo.TheVariants.{LogA, LogB}
+use Rattle.formats.specs.InForce.{IsInForce, HoldsLog}
 use Rattle.oper_core.specs.Meaning.{Meaning, IsLawful}
 use Rattle.oper_core.specs.declared.bounds.Bounds.{Bounds}
-use Rattle.formats.specs.Log.{Header, block, blocks, end_of, IsWholeLog, IsShutLog}
-use Rattle.formats.specs.Records.{payload_of, records_of, commands_of, IsRecord, AreRecords, IsRecordLog}
+use Rattle.formats.specs.Log.{Header, block, blocks, end_of, IsWholeLog}
+use Rattle.formats.specs.Records.{payload_of, records_of, commands_of, IsRecord, AreRecords, IsRecordLog, HoldsRecordLog}
 use Rattle.formats.specs.Image.{IsRecordFault}
 use Rattle.formats.specs.declared.record.Record.{Record}
 use Rattle.formats.specs.declared.record.Record.TheVariants.{Command}
-use Rattle.log_frames.specs.Laws.{length-block, no_log_fault}
+use Rattle.log_frames.specs.Laws.{length-block, no_log_fault, one_place}
 use Rattle.log_frames.specs.Reading.{placed, placed_from}
 use Rattle.log_frames.specs.declared.log_err.LogErr.{LogErr}
 use Rattle.log_frames.specs.declared.payload.Payload.{Payload}
 use Rattle.log_records.specs.RecordLog.{RecordLogView, Keeps, IsLoaded, number_of, from_number}
 use Rattle.log_records.specs.Loading.{bytes_of, AreGroups, IsBrokenIn, IsLoadFault, in_blocks, in_record}
 use Rattle.log_records.specs.RecordLaws.{AreRecords-behind, numbered_append}
-use Rattle.log_records.specs.Uniqueness.{one_grouping, no_record_fault}
+use Rattle.log_records.specs.Uniqueness.{log_of, one_grouping, no_record_fault}
 use Rattle.log_records.proofs.LoadingLemmas.{numbers_end}
 
 pub bytes_placed : (gate : ℕ) (ps : List (List ℕ)) → bytes_of (placed_from gate ps) ≡ ps
@@ -78,10 +78,12 @@ module _ {O : Type 0} (m : Meaning O) where
       }
 
   -- a whole log of records has no fault
-  pub no_load_fault : IsLawful m → (header : Header) (groups : List (List (Record O))) (files : Files) (file : FileNo) (place : ℕ) → IsRecordLog m header groups (files LogA) → IsShutLog (files LogB)
+  pub no_load_fault : IsLawful m → (active : FileNo) (header : Header) (groups : List (List (Record O))) (files : Files) (file : FileNo) (place : ℕ) → HoldsRecordLog m active header groups files
       → IsLoadFault m files file place → ⊥
-  no_load_fault lawful header groups files f p is shut (in_blocks file place fault) = no_log_fault header (map (payload_of m) groups) files file place is.log shut fault
-  no_load_fault lawful header groups files f p is shut (in_record place fault) = no_record_fault m lawful header groups (files LogA) place is fault
+  no_load_fault lawful active header groups files f p is (in_blocks file place fault) = no_log_fault active header (map (payload_of m) groups) files file place (log_of m is) fault
+  no_load_fault lawful active header groups files f p is (in_record other k place beside has fault) =
+      let same = one_place active other header k (map (payload_of m) groups) files (log_of m is) beside has in
+      no_record_fault m lawful header groups (files active) place is.log (subst (λ (x : FileNo). IsRecordFault m (files x) place) same fault)
 
   commands_length : (records : List (Record O)) → length (commands_of records) ≡ length records
   commands_length [] = refl
@@ -101,11 +103,12 @@ module _ {O : Type 0} (m : Meaning O) where
   groups_log header ps file found whole so = record { log = subst (λ (l : List (List ℕ)). IsWholeLog header l file) (sym (bytes_placed 33 ps) ∙ so.bytes_are) whole; numbered = so.numbered }
 
   pub is_loaded : (b : Bounds) (old new : Disk) (log : RecordLogView) (ps : List (List ℕ)) (found : List (Record O)) (count : ℕ) → old.tells_files → Stays old new
-      → IsWholeLog log.log.header ps (old.reads LogA) → IsShutLog (old.reads LogB) → log.log.end ≡ end_of ps → log.log.active ≡ LogA → log.log.pending ≡ [] → log.bounds ≡ b
+      → HoldsLog log.log.active log.log.header ps old.reads → log.log.end ≡ end_of ps → log.log.pending ≡ [] → log.bounds ≡ b
       → AreGroups m log.log.header.base (placed ps) found → count ≡ length found → log.next ≡ min (log.log.header.base + count) (2 ^ 64 - 1)
       → log.accepted ≡ min (log.log.header.commands + count) (2 ^ 64 - 1) → log.forced ≡ log.accepted → IsLoaded m b old new log
-  is_loaded b old new log ps found count told kept whole shut end active none bounds so count_is next accepted forced =
-      let file = groups_log log.log.header ps (old.reads LogA) found whole so in
+  is_loaded b old new log ps found count told kept holds end none bounds so count_is next accepted forced =
+      let whole = holds.log in
+      let file = groups_log log.log.header ps (old.reads log.log.active) found whole so in
       let small : log.log.header.base < 2 ^ 64 = omega (arith, whole.in_range.base_high) in
       let fits = numbers_end m log.log.header.base (records_of so.groups) small so.numbered in
       let many : count ≡ length (records_of so.groups) = count_is ∙ ap length so.records_are in
@@ -114,15 +117,13 @@ module _ {O : Type 0} (m : Meaning O) where
       let accepted_is : log.accepted ≡ log.log.header.commands + length (records_of so.groups) = omega (arith, accepted, many, fits, whole.in_range.commands) in
       record {
         groups = so.groups;
-        file = file;
-        other = shut;
-        active = active;
+        file = record { in_force = holds.in_force; log = file };
         bounds = bounds;
         keeps = λ settled. record {
           settled = λ f. stays_settled old new f kept (settled f);
+          in_force = subst (λ (fs : Files). IsInForce log.log.active log.log.header.epoch fs) (sym (kept.reads told)) holds.in_force;
           groups = so.groups;
-          file = subst (λ (f : FileNo). IsRecordLog m log.log.header so.groups (new.reads f)) (sym active)
-              (subst (λ (fs : Files). IsRecordLog m log.log.header so.groups (fs LogA)) (sym (kept.reads told)) file);
+          file = subst (λ (fs : Files). IsRecordLog m log.log.header so.groups (fs log.log.active)) (sym (kept.reads told)) file;
           stable_are = refl;
           place = end ∙ ap end_of (sym (bytes_placed 33 ps) ∙ so.bytes_are);
           pending_are = none;

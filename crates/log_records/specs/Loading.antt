@@ -4,12 +4,11 @@ use Rattle.oper_core.specs.Meaning.{Meaning}
 use Rattle.formats.specs.Records.{record_code, payload_of, records_of, AreRecords}
 use Rattle.formats.specs.declared.record.Record.{Record}
 use Rattle.log_frames.specs.declared.payload.Payload.{Payload}
-use Rattle.log_frames.specs.Reading.{IsLogFault}
 use Rattle.disk_model.specs.Disk.{Files, Disk}
 use Rattle.disk_model.specs.declared.machine.FileNo.{FileNo}
-use Rattle.disk_model.specs.declared.machine.FileNo.TheVariants.{LogA}
-use Rattle.formats.specs.Log.{IsWholeLog}
-use Rattle.formats.specs.Image.{IsRecordFault}
+use Rattle.formats.specs.InForce.{IsInForce, HasHeader}
+use Rattle.formats.specs.Log.{Header, IsWholeLog}
+use Rattle.formats.specs.Image.{IsLogFault, IsRecordFault}
 use Rattle.log_frames.specs.LogView.{LogView}
 
 -- the bytes are these records, numbered from this number on
@@ -58,7 +57,7 @@ AllFit payloads = All (λ p. p.place + length p.bytes < 2 ^ 64) payloads
 -- the log breaks its format in this file at this place, or a record of it does
 pub data IsLoadFault {O : Type 0} (m : Meaning O) (files : Files) : FileNo → ℕ → Type 0 where
   in_blocks : (file : FileNo) (place : ℕ) → IsLogFault files file place → IsLoadFault m files file place
-  in_record : (place : ℕ) → IsRecordFault m (files LogA) place → IsLoadFault m files LogA place
+  in_record : (active : FileNo) (header : Header) (place : ℕ) → IsInForce active header.epoch files → HasHeader header (files active) → IsRecordFault m (files active) place → IsLoadFault m files active place
 
 -- The log's records are told to be damaged in this file at this place: it is the log's file, and where that is a log
 -- with this header, a record of it breaks its format there.

@@ -2,15 +2,17 @@
 use Rattle.std.proofs.Common.{◌≡◌, ⊎_elim, inl, inr, ℕ, ◌+◌, List, [], ◌∷◌, ◌++◌, length, map, refl, sym, ap, ◌∙◌, subst, arith, length-append, append_assoc}
 use Rattle.std.proofs.lemmas.List.{append-nil}
 use Rattle.std.proofs.lemmas.List.Concat.{flat_map-append}
-use Rattle.disk_model.specs.Disk.{Files, Disk, LeavesOnly}
+use Rattle.disk_model.specs.Disk.{Files, Disk, Runs, In, Any, Same, LeavesOnly}
 use Rattle.disk_model.specs.Moments.{weaker}
 use Rattle.disk_model.specs.declared.machine.FileNo.{FileNo}
 use Rattle.oper_core.specs.Meaning.{Meaning}
+use Rattle.formats.specs.InForce.{IsInForce}
 use Rattle.formats.specs.Log.{Header, end_of, IsWholeLog}
 use Rattle.formats.specs.Records.{record_code, payload_of, records_of, commands_of, IsRecord, HasNumber, AreRecords, IsRecordLog}
 use Rattle.formats.specs.declared.record.Record.{Record}
 use Rattle.formats.specs.declared.record.Record.TheVariants.{Command}
 use Rattle.log_frames.specs.Forcing.{with_block, IsAtRest, IsBeforeOrAfter}
+use Rattle.log_frames.specs.Laws.{in_force_stays}
 use Rattle.log_records.specs.RecordLog.{RecordLogView, HoldsRecords, Keeps, IsForcedPartly}
 
 -- the groups with one more for a force: none for no records
@@ -110,16 +112,17 @@ module _ {O : Type 0} (m : Meaning O) where
 
   -- after a force all are stable
   pub keeps_forced : (old new : Disk) (log : RecordLogView) (after : RecordLogView) (stable pending : List (Record O)) (k : Keeps m old log stable pending)
-      → IsAtRest new after.log (with_block (map (payload_of m) k.groups) log.log.pending) → after.log.header ≡ log.log.header → after.log.pending ≡ []
+      → IsAtRest new after.log (with_block (map (payload_of m) k.groups) log.log.pending) → IsInForce after.log.active log.log.header.epoch new.reads → after.log.header ≡ log.log.header → after.log.pending ≡ []
       → after.next ≡ log.next → after.accepted ≡ log.accepted → after.forced ≡ log.accepted → Keeps m new after (stable ++ pending) []
   unfolding holds_all with_group
-  keeps_forced old new log after stable pending k rest header none next accepted forced =
+  keeps_forced old new log after stable pending k rest in_force header none next accepted forced =
       let held = holds_all old log stable pending k (new.reads after.log.active) (subst (λ (h : Header). IsWholeLog h (with_block (map (payload_of m) k.groups) log.log.pending) (new.reads after.log.active)) header rest.stands) in
       let payloads : with_block (map (payload_of m) k.groups) log.log.pending ≡ map (payload_of m) held.groups =
       ap (λ (p : List ℕ). with_block (map (payload_of m) k.groups) p) k.pending_are ∙ payloads-with_group k.groups pending in
       let all : (stable ++ pending) ++ [] ≡ stable ++ pending = append-nil (stable ++ pending) in
       record {
         settled = rest.settled;
+        in_force = subst (λ (h : Header). IsInForce after.log.active h.epoch new.reads) (sym header) in_force;
         groups = held.groups;
         file = subst (λ (h : Header). IsRecordLog m h held.groups (new.reads after.log.active)) (sym header) held.log;
         stable_are = held.records_are;
@@ -142,13 +145,17 @@ module _ {O : Type 0} (m : Meaning O) where
       weaker old new (IsBeforeOrAfter old log.log (map (payload_of m) keeps.groups)) (IsForcedPartly m old log stable pending)
       (here (map (payload_of m) keeps.groups) (at_rest old log stable pending keeps)) (λ c s is. forced_partly old log stable pending keeps c s is)
 
-  pub force_acknowledged : (old new : Disk) (log inside after : RecordLogView) → inside ≡ log
+  pub force_acknowledged : (old new : Disk) (log inside after : RecordLogView) → inside ≡ log → old.tells_files → Runs (In inside.log.active Any) Same old new
       → ((payloads : List (List ℕ)) → IsAtRest old inside.log payloads → IsAtRest new after.log (with_block payloads inside.log.pending))
-      → after.log.header ≡ inside.log.header → after.log.pending ≡ [] → after.next ≡ inside.next → after.accepted ≡ inside.accepted → after.forced ≡ inside.accepted
+      → after.log.active ≡ inside.log.active → after.log.header ≡ inside.log.header → after.log.pending ≡ [] → after.next ≡ inside.next → after.accepted ≡ inside.accepted → after.forced ≡ inside.accepted
       → (stable pending : List (Record O)) → Keeps m old log stable pending → Keeps m new after (stable ++ pending) []
-  force_acknowledged old new log inside after same rests header none next accepted forced stable pending keeps =
+  force_acknowledged old new log inside after same told run rests active header none next accepted forced stable pending keeps =
       let here = subst (λ (v : RecordLogView). (payloads : List (List ℕ)) → IsAtRest old v.log payloads → IsAtRest new after.log (with_block payloads v.log.pending)) same rests in
+      let changed = subst (λ (v : RecordLogView). In v.log.active Any old.reads new.reads) same (run.reads told) in
+      let stays = in_force_stays log.log.active log.log.header.epoch Any old.reads new.reads changed keeps.in_force in
+      let active_is = sym (active ∙ ap (λ (v : RecordLogView). v.log.active) same) in
       keeps_forced old new log after stable pending keeps (here (map (payload_of m) keeps.groups) (at_rest old log stable pending keeps))
+      (subst (λ (f : FileNo). IsInForce f log.log.header.epoch new.reads) active_is stays)
       (header ∙ ap (λ (v : RecordLogView). v.log.header) same) none (next ∙ ap (λ (v : RecordLogView). v.next) same)
       (accepted ∙ ap (λ (v : RecordLogView). v.accepted) same) (forced ∙ ap (λ (v : RecordLogView). v.accepted) same)
 
@@ -161,6 +168,7 @@ module _ {O : Type 0} (m : Meaning O) where
       let all : (stable ++ pending) ++ new ∷ [] ≡ stable ++ (pending ++ new ∷ []) = append_assoc stable pending (new ∷ []) in
       record {
         settled = k.settled;
+        in_force = subst (λ (h : Header). IsInForce after.log.active h.epoch d.reads) (sym header) (subst (λ (f : FileNo). IsInForce f log.log.header.epoch d.reads) (sym active) k.in_force);
         groups = k.groups;
         file = subst (λ (h : Header). IsRecordLog m h k.groups (d.reads after.log.active)) (sym header) (subst (λ (f : FileNo). IsRecordLog m log.log.header k.groups (d.reads f)) (sym active) k.file);
         stable_are = k.stable_are;
@@ -173,3 +181,42 @@ module _ {O : Type 0} (m : Meaning O) where
         accepted_are = accepted ∙ ap (λ (n : ℕ). n + 1) k.accepted_are ∙ omega (arith, commands_push (stable ++ pending) new, ap (λ (l : List (Record O)). length (commands_of l)) all, ap (λ (h : Header). h.commands) header);
         forced_are = forced ∙ k.forced_are ∙ ap (λ (h : Header). h.commands + length (commands_of stable)) (sym header);
       }
+
+  -- a call that changes no file keeps the log
+  pub keeps_stay : {says : List ℕ → List ℕ → Type 0} (old new : Disk) (log : RecordLogView) (stable pending : List (Record O)) → old.tells_files → Runs Same says old new
+      → Keeps m old log stable pending → Keeps m new log stable pending
+  keeps_stay {says} old new log stable pending told run k =
+      let same = sym (run.reads told) in
+      record {
+        settled = λ file told_new f s left.
+            let told_old = run.time.moments_told.1 told_new in
+            let from = run.crash told_old f s (run.ends.among old.clock new.clock f s run.time.later (omega arith) left) in
+            ap (λ (g : Files). g file) from.0.2 ∙ k.settled file told_old from.0.0 old.said from.0.1 ∙ ap (λ (g : Files). g file) same;
+        in_force = subst (λ (f : Files). IsInForce log.log.active log.log.header.epoch f) same k.in_force;
+        groups = k.groups;
+        file = subst (λ (f : Files). IsRecordLog m log.log.header k.groups (f log.log.active)) same k.file;
+        stable_are = k.stable_are;
+        place = k.place;
+        pending_are = k.pending_are;
+        numbered = k.numbered;
+        next_is = k.next_is;
+        accepted_are = k.accepted_are;
+        forced_are = k.forced_are;
+      }
+
+  -- the log is kept whatever room its buffer has
+  pub keeps_room : (d : Disk) (log after : RecordLogView) (stable pending : List (Record O)) → after ≡ record log { log = record log.log { room = after.log.room } }
+      → Keeps m d log stable pending → Keeps m d after stable pending
+  keeps_room d log after stable pending same k = subst (λ (v : RecordLogView). Keeps m d v stable pending) (sym same) (record {
+    settled = k.settled;
+    in_force = k.in_force;
+    groups = k.groups;
+    file = k.file;
+    stable_are = k.stable_are;
+    place = k.place;
+    pending_are = k.pending_are;
+    numbered = k.numbered;
+    next_is = k.next_is;
+    accepted_are = k.accepted_are;
+    forced_are = k.forced_are;
+  })

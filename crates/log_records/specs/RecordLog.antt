@@ -3,9 +3,9 @@ use Rattle.std.specs.Prelude.{◌≡◌, ◌⊎◌, ◌<◌, ℕ, ◌+◌, List,
 use Rattle.disk_model.specs.Disk.{Files, Disk, In, IsSettled}
 use Rattle.oper_core.specs.Meaning.{Meaning, IsSmall}
 use Rattle.oper_core.specs.declared.bounds.Bounds.{Bounds}
-use Rattle.disk_model.specs.declared.machine.FileNo.TheVariants.{LogA, LogB}
-use Rattle.formats.specs.Log.{Header, end_of, IsShutLog}
-use Rattle.formats.specs.Records.{payload_of, records_of, commands_of, AreRecords, IsRecordLog}
+use Rattle.formats.specs.InForce.{IsInForce}
+use Rattle.formats.specs.Log.{Header, end_of}
+use Rattle.formats.specs.Records.{payload_of, records_of, commands_of, AreRecords, IsRecordLog, HoldsRecordLog}
 use Rattle.formats.specs.declared.record.Record.{Record}
 use Rattle.formats.specs.declared.record.Record.TheVariants.{Command}
 use Rattle.log_frames.specs.LogView.{LogView}
@@ -32,9 +32,10 @@ pub record HoldsRecords {O : Type 0} (m : Meaning O) (header : Header) (records 
   pub log : IsRecordLog m header groups file
   pub records_are : records_of groups ≡ records
 
--- The log in the files and the buffer behind it hold these records: the stable ones, and those that wait for a force.
+-- The log in force and the buffer behind it hold these records: the stable ones, and those that wait for a force.
 pub record Keeps {O : Type 0} (m : Meaning O) (d : Disk) (log : RecordLogView) (stable pending : List (Record O)) : Type 0 where
   pub settled : IsSettled d
+  pub in_force : IsInForce log.log.active log.log.header.epoch d.reads
   pub groups : List (List (Record O))
   pub file : IsRecordLog m log.log.header groups (d.reads log.log.active)
   pub stable_are : records_of groups ≡ stable
@@ -61,8 +62,6 @@ from_number from records = filter (λ r. nat_le from (number_of r)) records
 -- a log that was loaded: the files hold its records, and nothing waits
 pub record IsLoaded {O : Type 0} (m : Meaning O) (b : Bounds) (old new : Disk) (log : RecordLogView) : Type 0 where
   pub groups : List (List (Record O))
-  pub file : IsRecordLog m log.log.header groups (old.reads LogA)
-  pub other : IsShutLog (old.reads LogB)
-  pub active : log.log.active ≡ LogA
+  pub file : HoldsRecordLog m log.log.active log.log.header groups old.reads
   pub bounds : log.bounds ≡ b
   pub keeps : IsSettled old → Keeps m new log (records_of groups) []

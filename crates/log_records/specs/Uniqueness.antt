@@ -1,15 +1,23 @@
 -- A log holds one list of records, and has then no fault in its records.
 use Rattle.std.proofs.Common.{◌≡◌, ℕ, ◌+◌, ◌<◌, List, [], ◌∷◌, ◌++◌, length, map, refl, sym, ap, ◌∙◌, subst, arith, append_assoc, length-append}
 use Rattle.std.proofs.lemmas.List.{append_cancel_left}
+use Rattle.disk_model.specs.Disk.{Files}
+use Rattle.disk_model.specs.declared.machine.FileNo.{FileNo}
 use Rattle.oper_core.specs.Meaning.{Meaning, IsLawful}
+use Rattle.formats.specs.InForce.{HoldsLog}
 use Rattle.formats.specs.Log.{Header}
-use Rattle.formats.specs.Records.{record_code, payload_of, records_of, IsRecord, AreRecords, IsRecordLog}
+use Rattle.formats.specs.Records.{record_code, payload_of, records_of, IsRecord, AreRecords, IsRecordLog, HoldsRecordLog}
 use Rattle.formats.specs.Image.{IsRecordFault}
 use Rattle.formats.specs.declared.record.Record.{Record}
 use Rattle.formats.specs.declared.record.Record.TheVariants.{Command}
-use Rattle.log_frames.specs.Laws.{one_log}
+use Rattle.log_frames.specs.Laws.{one_log, one_in_force}
 use Rattle.log_records.specs.CodecLaws.{same_record}
 use Rattle.log_records.specs.RecordLaws.{AreRecords-front, AreRecords-behind, numbered_append}
+
+-- a log of records is one of payloads
+pub log_of : {O : Type 0} (m : Meaning O) {active : FileNo} {header : Header} {groups : List (List (Record O))} {files : Files} → HoldsRecordLog m active header groups files
+    → HoldsLog active header (map (payload_of m) groups) files
+log_of m is = record { in_force = is.in_force; log = is.log.log }
 
 module _ {O : Type 0} (m : Meaning O) (lawful : IsLawful m) where
   -- bytes that begin with two records begin with one
@@ -64,6 +72,13 @@ module _ {O : Type 0} (m : Meaning O) (lawful : IsLawful m) where
   one_record_log h k gs hs file a b =
       let same = one_log h k (map (payload_of m) gs) (map (payload_of m) hs) file a.log b.log in
       (same.0, one_grouping h.base k.base gs hs a.numbered b.numbered same.1)
+
+  -- files hold one list of records in force
+  pub one_records : (a b : FileNo) (h k : Header) (gs hs : List (List (Record O))) (files : Files) → HoldsRecordLog m a h gs files → HoldsRecordLog m b k hs files
+      → (a ≡ b) × (h ≡ k) × (records_of gs ≡ records_of hs)
+  one_records a b h k gs hs files one two =
+      let same = one_in_force a b h k (map (payload_of m) gs) (map (payload_of m) hs) files (log_of m one) (log_of m two) in
+      (same.0, same.1, one_grouping h.base k.base gs hs one.log.numbered two.log.numbered same.2)
 
   -- no payload of whole groups is broken
   none_broken : (base : ℕ) (front : List (Record O)) (gs groups : List (List (Record O))) (before : List (Record O)) (wrong : List ℕ) (later : List (List ℕ))

@@ -7,14 +7,11 @@ ghost use Rattle.formats.specs.declared.record.Record.{Record};
 ghost use Rattle.log_records.specs.Codec.{IsEncodable, StartsWithRecord};
 
 use byteorder::{ByteOrder, LittleEndian};
-use formats::Record;
+use formats::{RECORD_HEAD, Record};
 use oper_core::{Bounds, Memory, Oper};
 use std::alloc::Global;
 
 const COMMAND: u8 = 1;
-
-// The kind and the number.
-const HEAD_BYTES: usize = 9;
 
 /// Appends a record's code. Without memory for it the bytes stay as they are.
 pub fn encode<O: Oper>(record: &Record<O>, out: &mut Vec<u8>) -> Result<(), Memory>
@@ -64,12 +61,12 @@ pub fn decode<O: Oper>(
         StartsWithRecord (O.meaning b) bytes.now pair.0 × (pair.1 ≡ length (record_code (O.meaning b) pair.0)))) }
     ensures none { IfOk result (λ found. IfNone found ((other : Record O) → StartsWithRecord (O.meaning b) bytes.now other → ⊥)) }
 {
-    if bytes.len() < HEAD_BYTES || bytes[0] != COMMAND {
+    if bytes.len() < RECORD_HEAD || bytes[0] != COMMAND {
         return Ok(None);
     }
     let number = LittleEndian::read_u64(&bytes[1..]);
-    match O::decode(alloc, b, &bytes[HEAD_BYTES..])? {
-        Some((op, length)) => Ok(Some((Record::Command(number, op), HEAD_BYTES + length))),
+    match O::decode(alloc, b, &bytes[RECORD_HEAD..])? {
+        Some((op, length)) => Ok(Some((Record::Command(number, op), RECORD_HEAD + length))),
         None => Ok(None),
     }
 }

@@ -1,9 +1,9 @@
 // Reads the records of a log.
 ghost use Rattle.std.specs.Prelude.{◌≡◌, ◌≤◌, ◌<◌, ◌+◌, ◌-◌, ◌^◌, ◌↔◌, ◌++◌, All, List, ℕ, IsTrue, IfOk, IfSome, IfNone, IfErr, length, min};
 ghost use Rattle.disk_model.specs.Disk.{Rises, Stays};
-ghost use Rattle.disk_model.specs.declared.machine.FileNo.TheVariants.{LogA, LogB};
-ghost use Rattle.formats.specs.Log.{Header, IsShutLog, IsWholeLog};
-ghost use Rattle.formats.specs.Records.{record_code, HasNumber, IsRecord, IsRecordLog};
+ghost use Rattle.disk_model.specs.declared.machine.FileNo.{FileNo};
+ghost use Rattle.formats.specs.Log.{Header, IsWholeLog};
+ghost use Rattle.formats.specs.Records.{record_code, HasNumber, IsRecord, HoldsRecordLog};
 ghost use Rattle.formats.specs.declared.record.Record.{Record};
 ghost use Rattle.log_frames.specs.Reading.{FailsBy, TellsDamage, placed};
 ghost use Rattle.log_records.specs.Codec.{StartsWithRecord};
@@ -13,13 +13,11 @@ ghost use Rattle.log_records.specs.Loading.{AreBytesOf, IsBrokenAt, AreGroups, I
 use crate::RecordLog;
 use crate::codec::decode;
 use disk_model::{FileNo, Machine};
-use formats::Record;
+use formats::{NUMBERS_END, Record};
 use log_frames::{LogErr, LogFile, Payload};
 use oper_core::{Bounds, Memory, Oper};
 use std::alloc::Global;
 use std::marker::PhantomData;
-
-const LAST_NUMBER: u64 = (1 << 62) - 1;
 
 /// The number and the operation of a command's record.
 pub fn command_in<O: Oper>(record: &Record<O>) -> (u64, &O)
@@ -35,7 +33,7 @@ fn has_number<O: Oper>(record: &Record<O>, next: u64) -> bool
     ensures { IsTrue result ↔ HasNumber next «record».now }
 {
     let (number, _) = command_in(record);
-    number == next && number <= LAST_NUMBER
+    number == next && number < NUMBERS_END
 }
 
 // The record with the next number that the bytes begin with, and the length of its code.
@@ -129,15 +127,15 @@ pub fn stable_records<O: Oper, M: Machine>(
 }
 
 impl<O: Oper> RecordLog<O> {
-    /// The log in the files, whose records are of the grammar for these bounds and have consecutive numbers.
+    /// The log in force, whose records are of the grammar for these bounds and have consecutive numbers.
     pub fn load<M: Machine>(alloc: Global, m: &mut M, b: Bounds) -> Result<RecordLog<O>, LogErr>
         ensures kept { Stays (M.disk m.old) (M.disk m.new) }
         ensures read { (M.disk m.old).tells_files → IfOk result (λ log. IsLoaded (O.meaning b) b (M.disk m.old) (M.disk m.new) log) }
         ensures bounds { IfOk result (λ log. log.bounds ≡ b) }
         ensures cause { IfErr result (FailsBy (Rises (M.disk m.old).disk_faults (M.disk m.new).disk_faults)
             (λ file place. (M.disk m.old).tells_files → IsLoadFault (O.meaning b) (M.disk m.old).reads file place)) }
-        ensures whole { (M.disk m.old).tells_files → (header : Header) (groups : List (List (Record O)))
-            → IsRecordLog (O.meaning b) header groups ((M.disk m.old).reads LogA) → IsShutLog ((M.disk m.old).reads LogB) → IfErr result (λ e. TellsDamage e → ⊥) }
+        ensures whole { (M.disk m.old).tells_files → (active : FileNo) (header : Header) (groups : List (List (Record O)))
+            → HoldsRecordLog (O.meaning b) active header groups (M.disk m.old).reads → IfErr result (λ e. TellsDamage e → ⊥) }
     {
         let log = LogFile::load(alloc, m)?;
         let records = stable_records::<O, M>(alloc, m, b, &log)?;

@@ -1,11 +1,9 @@
 // The log in force, and its counts.
 ghost use Rattle.std.specs.Prelude.{◌≡◌, ◌≤◌, ◌<◌, ◌+◌, ◌^◌, ◌++◌, [], length, OnOk, OnErr, IfErr};
 ghost use Rattle.disk_model.specs.Disk.{Rises, Runs, Same, IsSettled};
-ghost use Rattle.disk_model.specs.declared.machine.FileNo.TheVariants.{LogA, LogB};
-ghost use Rattle.formats.specs.Log.{new_header, IsWholeLog, IsShutLog};
 ghost use Rattle.formats.specs.Records.{record_code, IsRecord, HasNumber};
 ghost use Rattle.log_frames.specs.LogView.{used_of, growth_of};
-ghost use Rattle.log_frames.specs.Creating.{LogsAlone};
+ghost use Rattle.log_frames.specs.Creating.{LogsAlone, IsNewLog};
 ghost use Rattle.log_records.specs.Codec.{IsEncodable};
 
 use crate::codec::encode;
@@ -85,7 +83,7 @@ impl<O: Oper> RecordLog<O> {
     /// Makes the log of a new store. A crash at any moment of it leaves the objects as they were.
     pub fn create<M: Machine>(m: &mut M) -> Result<(), LogErr>
         ensures runs { Runs LogsAlone Same (M.disk m.old) (M.disk m.new) }
-        ensures made { (M.disk m.old).tells_files → OnOk result (IsWholeLog new_header [] ((M.disk m.new).reads LogA) × IsShutLog ((M.disk m.new).reads LogB)) }
+        ensures made { (M.disk m.old).tells_files → OnOk result (IsNewLog (M.disk m.new).reads) }
         ensures settled { IsSettled (M.disk m.old) → OnOk result (IsSettled (M.disk m.new)) }
         ensures cause { IfErr result (λ e. (e ≡ LogErr.DiskFault) × Rises (M.disk m.old).disk_faults (M.disk m.new).disk_faults) }
     {

@@ -7,12 +7,12 @@ ghost use Rattle.stable_objects.specs.Heads.{head_at, IsRead, IsHeadFault, IsPai
 ghost use Rattle.stable_objects.specs.Reading.{FailsBy, FailsAt};
 
 use crate::SlotErr;
-use crate::layout::{LAST_NUMBER, OPEN, SLOT_HEAD_BYTES, place_of};
+use crate::layout::{OPEN, SLOT_HEAD_BYTES, place_of};
 use crate::reading::read_at;
 use crate::slot_err::damaged_at;
 use byteorder::{ByteOrder, LittleEndian};
 use disk_model::Machine;
-use formats::Params;
+use formats::{NUMBERS_END, Params};
 use std::alloc::Global;
 
 // What the bytes of a head say, in a file of this size.
@@ -26,7 +26,7 @@ fn parse_head(head: &[u8], cap: u32, place: u64, size: u64) -> Result<u64, SlotE
         return Ok(0);
     }
     let id = LittleEndian::read_u64(&head[1..]);
-    if id == 0 || id > LAST_NUMBER {
+    if id == 0 || id >= NUMBERS_END {
         return Err(damaged_at(place + 1));
     }
     let long = LittleEndian::read_u32(&head[9..]);

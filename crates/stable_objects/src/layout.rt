@@ -25,9 +25,6 @@ pub const FIRST_SLOT: u64 = 32;
 // A slot's gate, its identifier and its length.
 pub const SLOT_HEAD_BYTES: u64 = 13;
 
-// The greatest number that a record may have.
-pub const LAST_NUMBER: u64 = (1 << 62) - 1;
-
 pub const MAX_OBJECTS: u32 = 4096;
 
 pub const MIN_CAP: u32 = 16;

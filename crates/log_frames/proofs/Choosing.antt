@@ -1,0 +1,100 @@
+-- What is seen of the two logs, and which is chosen.
+use Rattle.std.proofs.Common.{◌≡◌, ◌≢◌, ◌⊎◌, inl, ◌<◌, inr, ℕ, List, [], ◌∷◌, ◌++◌, length, get_or, take, drop, refl, sym, ◌∙◌, ap, subst, arith, Option, Some, None, take-append-drop}
+use Rattle.std.specs.Prelude.{IfSome}
+use Rattle.std.proofs.lemmas.List.{take_at, drop_more}
+use Rattle.disk_model.specs.Disk.{Files, Disk, Stays, Rises, read_of}
+use Rattle.disk_model.specs.declared.machine.FileNo.{FileNo}
+use Rattle.disk_model.specs.declared.machine.FileNo.TheVariants.{Objects, LogA, LogB}
+use Rattle.formats.specs.Bytes.{byte_at}
+use Rattle.formats.specs.InForce.{other_of, HasHeader, IsPassive, IsInForce}
+use Rattle.formats.specs.Log.{Header, header_bytes, IsHeader, IsWholeLog, IsShutLog}
+use Rattle.formats.specs.Image.{IsHeaderFault, IsBlockFault, IsLogFault, in_header, in_block}
+use Rattle.log_frames.specs.Choosing.{SeenIn, IsChosen}
+use Rattle.log_frames.specs.Laws.{length-header_bytes}
+use Rattle.log_frames.specs.Reading.{FailsBy, fails_on, filled_up, header_of, EndsBlocks}
+use Rattle.log_frames.specs.declared.log_err.LogErr.{LogErr}
+use Rattle.log_frames.specs.declared.seen.Seen.{Seen}
+use Rattle.log_frames.proofs.Causes.{size_now}
+use Rattle.log_frames.proofs.Found.{byte_read}
+use Rattle.log_frames.proofs.HeaderBytes.{file_fault}
+use Rattle.log_frames.proofs.ReadTo.{whole_log}
+
+pub no_bytes : (file : List ℕ) (n : ℕ) → n ≡ length file → n ≡ 0 → file ≡ []
+no_bytes [] n long none = refl
+no_bytes (b ∷ rest) n long none = absurd (omega (arith, long, none))
+
+-- a closed gate that is read is one of the file
+pub shut_read : (file into : List ℕ) (n : ℕ) → into ≡ filled_up 33 (read_of file 0 33) → (get_or into 0 0 ≡ 1 → ⊥) → n ≡ length file → (n ≡ 0 → ⊥) → IsShutLog file
+shut_read [] into n is shut long some = some long
+shut_read (g ∷ rest) into n is shut long some = λ opened. shut (ap (λ (l : List ℕ). get_or l 0 0) is ∙ byte_read (g ∷ rest) 0 33 0 (omega arith) ∙ opened)
+
+-- 33 bytes of a header, and one behind
+pub header_stands : (h : Header) (file : List ℕ) → IsHeader h → take 33 file ≡ header_bytes h → 33 < length file → HasHeader h file
+header_stands h file is front within = record {
+  in_range = is;
+  gate = byte_at 33 file;
+  rest = drop 34 file;
+  split = sym (take-append-drop 33 file) ∙ ap (λ (l : List ℕ). l ++ drop 33 file) front ∙ ap (λ (l : List ℕ). header_bytes h ++ l) (drop_more file 33 0 within);
+}
+
+pub front_of : (h : Header) (file : List ℕ) → HasHeader h file → take 33 file ≡ header_bytes h
+front_of h file has = ap (λ (l : List ℕ). take 33 l) has.split ∙ take_at (header_bytes h) (has.gate ∷ has.rest) 33 (length-header_bytes h)
+
+-- a file that is open, beside one that is passive
+pub chosen_at : (files : Files) (seen : Seen) (file : FileNo) → seen.file ≡ file → file ≢ Objects → IsPassive seen.header.epoch (files (other_of file)) → SeenIn (files file) (Some seen) → IsChosen files seen
+chosen_at files seen file is a_log other has = record {
+  in_force = subst (λ (f : FileNo). IsInForce f seen.header.epoch files) (sym is) (record { a_log = a_log; other = other });
+  header = subst (λ (f : FileNo). HasHeader (header_of seen.header) (files f)) (sym is) has.0;
+  size = has.1 ∙ ap (λ (f : FileNo). length (files f)) (sym is);
+}
+
+pub chosen_first : (files : Files) (first second : Seen) → first.file ≡ LogA → SeenIn (files LogA) (Some first) → SeenIn (files LogB) (Some second) → second.header.epoch < first.header.epoch → IsChosen files first
+chosen_first files first second is a b less = chosen_at files first LogA is (λ e. cc) (inr (header_of second.header, b.0, less)) a
+
+pub file_is : (file : FileNo) (found : Option Seen) → IfSome found (λ seen. (33 < seen.size) × IsHeader (header_of seen.header) × (seen.file ≡ file)) → IfSome found (λ seen. seen.file ≡ file)
+file_is file None inside = tt
+file_is file (Some seen) inside = inside.2
+
+inside_one : (found : Option Seen) (file : FileNo) (seen : Seen) → IfSome found (λ s. (33 < s.size) × IsHeader (header_of s.header) × (s.file ≡ file)) → found ≡ Some seen → 33 < seen.size
+inside_one found file seen inside is = (subst (λ (o : Option Seen). IfSome o (λ s. (33 < s.size) × IsHeader (header_of s.header) × (s.file ≡ file))) is inside).0
+
+pub inside_of : (a b : Option Seen) (seen : Seen) → IfSome a (λ s. (33 < s.size) × IsHeader (header_of s.header) × (s.file ≡ LogA)) → IfSome b (λ s. (33 < s.size) × IsHeader (header_of s.header) × (s.file ≡ LogB))
+    → (a ≡ Some seen) ⊎ (b ≡ Some seen) → 33 < seen.size
+inside_of a b seen in_a in_b (inl is) = inside_one a LogA seen in_a is
+inside_of a b seen in_a in_b (inr is) = inside_one b LogB seen in_b is
+
+module _ (old now new : Disk) (kept : Stays old now) (e : LogErr) where
+  abbrev Fails : Type 0
+  Fails = FailsBy (Rises old.disk_faults new.disk_faults) (λ file place. old.tells_files → IsLogFault old.reads file place) e
+
+  risen : Rises now.disk_faults new.disk_faults → Rises old.disk_faults new.disk_faults
+  risen later below = omega (arith, later below, kept.time.disk_faults)
+
+  -- what is read of a header is wrong
+  pub by_header : (file : FileNo) (into : List ℕ) → file ≢ Objects → (now.tells_files → into ≡ filled_up 33 (read_of (now.reads file) 0 33))
+      → FailsBy ⊥ (λ f place. (f ≡ file) × (place < 33) × IsHeaderFault into place) e → Fails
+  by_header file into a_log read fails = fails_on _ _ _ _ e (λ never. absurd never)
+      (λ f place there told.
+      let here = subst (λ (l : List ℕ). IsHeaderFault l place) (read (kept.time.files_told.0 told)) there.2 in
+      subst (λ (x : FileNo). IsLogFault old.reads x place) (sym there.0)
+      (in_header file place a_log (subst (λ (x : Files). IsHeaderFault (x file) place) (kept.reads told) (file_fault (now.reads file) place there.1 here))))
+      fails
+
+  pub by_block : (seen : Seen) → (old.tells_files → IsChosen old.reads seen)
+      → FailsBy (Rises now.disk_faults new.disk_faults) (λ f place. (f ≡ seen.file) × (now.tells_files → seen.size ≡ length (now.reads seen.file) → IsBlockFault (now.reads seen.file) place)) e → Fails
+  by_block seen chosen fails = fails_on _ _ _ _ e risen
+      (λ f place there told.
+      let is = chosen told in
+      let file = seen.file in
+      subst (λ (x : FileNo). IsLogFault old.reads x place) (sym there.0)
+      (in_block file (header_of seen.header) place is.in_force is.header (subst (λ (x : Files). IsBlockFault (x file) place) (kept.reads told) (there.1 (kept.time.files_told.0 told) (size_now old now new kept e seen.size file told is.size)))))
+      fails
+
+  pub by_later : FailsBy (Rises now.disk_faults new.disk_faults) (λ f place. now.tells_files → IsLogFault now.reads f place) e → Fails
+  by_later fails = fails_on _ _ _ _ e risen
+      (λ f place there told. subst (λ (x : Files). IsLogFault x f place) (kept.reads told) (there (kept.time.files_told.0 told)))
+      fails
+
+-- the log that was chosen is whole
+pub whole_chosen : (h : Header) (file : List ℕ) (gate size : ℕ) → HasHeader h file → size ≡ length file → 33 < size → (ends : EndsBlocks file gate) → IsWholeLog h ends.payloads file
+whole_chosen h file gate size has long inside ends = whole_log h file gate has.in_range (front_of h file has) (omega (arith, long, inside)) ends

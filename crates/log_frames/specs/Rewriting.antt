@@ -1,0 +1,68 @@
+-- What a rewrite of the log leaves.
+use Rattle.std.specs.Prelude.{◌≡◌, ◌⊎◌, ◌<◌, ◌≤◌, ◌+◌, ◌^◌, ℕ, List, [], ◌∷◌, ◌++◌, map}
+use Rattle.disk_model.specs.Disk.{Files, Disk, In, Any}
+use Rattle.disk_model.specs.declared.machine.FileNo.{FileNo}
+use Rattle.formats.specs.Log.{Header, header_fields, blocks, end_of, IsShutLog, IsWholeLog}
+use Rattle.formats.specs.InForce.{other_of, IsPassive, HoldsLog}
+use Rattle.log_frames.specs.LogView.{LogView, used_of}
+use Rattle.log_frames.specs.declared.log_err.LogErr.{LogErr}
+use Rattle.log_frames.specs.declared.log_err.LogErr.TheVariants.{DiskFault, LogFull, Damaged, Exhausted, Memory}
+use Rattle.log_frames.specs.declared.payload.Payload.{Payload}
+
+-- the payloads without their places
+abbrev pub bytes_of : List Payload → List (List ℕ)
+bytes_of payloads = map (λ (p : Payload). p.bytes) payloads
+
+-- a log file that is closed stays so
+abbrev pub KeepsShut : List ℕ → List ℕ → Type 0
+KeepsShut old new = IsShutLog old → IsShutLog new
+
+-- a file begins with these bytes
+abbrev pub IsFront : List ℕ → List ℕ → Type 0
+IsFront front file = (rest : List ℕ) × (file ≡ front ++ rest)
+
+-- all of a log but its header gate stands in the file
+pub record IsPrepared (header : Header) (payloads : List (List ℕ)) (file : List ℕ) : Type 0 where
+  pub gate : ℕ
+  pub rest : List ℕ
+  pub split : file ≡ gate ∷ ((header_fields header ++ blocks payloads) ++ 0 ∷ rest)
+
+-- The file is not in force beside this epoch, or it is this log, whole. The other files are as they were, and nothing
+-- was said.
+pub record IsPassiveOrNew (m : Disk) (file : FileNo) (epoch : ℕ) (header : Header) (payloads : List (List ℕ)) (files : Files) (said : List ℕ) : Type 0 where
+  pub each_file : In file (λ old new. IsPassive epoch new ⊎ IsWholeLog header payloads new) m.reads files
+  pub nothing_said : said ≡ m.said
+
+-- the header of the log that takes the place of this one
+abbrev pub next_header : LogView → ℕ → ℕ → Header
+next_header log base commands = record { epoch = log.header.epoch + 1; base = base; commands = commands }
+
+-- a log file after its rewrite
+abbrev pub rewritten : LogView → ℕ → ℕ → List (List ℕ) → LogView
+rewritten log base commands payloads = record {
+  active = other_of log.active;
+  header = next_header log base commands;
+  end = end_of payloads;
+  pending = [];
+  room = log.room;
+}
+
+-- The log in force is the old one, or, whole, the new one in the other file. The objects and the old log are as they
+-- were, and nothing was said.
+pub record IsOldOrNew (m : Disk) (log : LogView) (payloads : List (List ℕ)) (new : LogView) (new_payloads : List (List ℕ)) (files : Files) (said : List ℕ) : Type 0 where
+  pub others : In new.active Any m.reads files
+  pub in_force : HoldsLog log.active log.header payloads files ⊎ HoldsLog new.active new.header new_payloads files
+  pub nothing_said : said ≡ m.said
+
+-- the length of a log file with these payloads: behind the last block stands a closed gate
+abbrev pub file_length : List (List ℕ) → ℕ
+file_length payloads = end_of payloads + 1
+
+-- Why a rewrite fails: at the last epoch, or else where the new file would be longer than 2^48 bytes, or else by a
+-- fault of the disk, which then counts it.
+abbrev pub RewriteFails : Type 0 → LogView → List (List ℕ) → LogErr → Type 0
+RewriteFails rises log payloads DiskFault = rises × (log.header.epoch < 2 ^ 62) × (file_length payloads ≤ 2 ^ 48)
+RewriteFails rises log payloads (LogFull used need limit) = (used ≡ used_of log) × (need ≡ file_length payloads) × (limit ≡ 2 ^ 48) × (limit < need) × (log.header.epoch < 2 ^ 62)
+RewriteFails rises log payloads (Damaged file place) = ⊥
+RewriteFails rises log payloads (Exhausted epoch) = (epoch ≡ log.header.epoch) × (epoch ≡ 2 ^ 62)
+RewriteFails rises log payloads Memory = ⊥
