@@ -2,11 +2,10 @@
 use Rattle.std.proofs.Common.{◌≡◌, ◌≤◌, List, ℕ, take, sym, ap, ◌∙◌, subst, arith}
 use Rattle.disk_model.specs.Disk.{Files, Disk, IsDisk, Runs, Stays, Same, IsSettled, LeavesOnly, Rises}
 use Rattle.disk_model.specs.Moments.{started, first_call}
-use Rattle.disk_model.specs.declared.machine.FileNo.TheVariants.{Objects, LogB}
+use Rattle.disk_model.specs.declared.machine.FileNo.TheVariants.{Objects}
 use Rattle.formats.specs.Image.{EndsAt}
-use Rattle.formats.specs.Log.{IsShutLog}
 use Rattle.formats.specs.Objects.{AreSlotsShut}
-use Rattle.formats.specs.Records.{IsRecordLog}
+use Rattle.log_records.specs.RecordLaws.{keeps_stay}
 use Rattle.formats.specs.declared.params.Params.{Params}
 use Rattle.redo_shell.specs.Store.{Command, meaning_in, state_of, Stands, IsMapOf, Carries, Holds, Between}
 use Rattle.store_engine.specs.Laid.{IsLaidOn, values_in}
@@ -36,34 +35,20 @@ map_stays p d new engine commands same map' x below = subst (λ (f : Files). val
 -- the records stay where they are
 carries_stays : {p : Params} {d new : Disk} {engine : EngineView} {commands : List Command} {says : List ℕ → List ℕ → Type 0} → Runs Same says d new → Carries p d engine commands → Carries p new engine commands
 carries_stays {p} {d} {new} {engine} {commands} {says} run c =
-    let k = c.log in
     let same = sym (run.reads c.told) in
     record {
       told = run.time.files_told.0 c.told;
       params = c.params;
       stable = c.stable;
       pending = c.pending;
-      log = record {
-        settled = still_settled run c.told k.settled;
-        groups = k.groups;
-        file = subst (λ (f : Files). IsRecordLog (meaning_in p) engine.log.log.header k.groups (f engine.log.log.active)) same k.file;
-        stable_are = k.stable_are;
-        place = k.place;
-        pending_are = k.pending_are;
-        numbered = k.numbered;
-        next_is = k.next_is;
-        accepted_are = k.accepted_are;
-        forced_are = k.forced_are;
-      };
+      log = keeps_stay (meaning_in p) d new engine.log c.stable c.pending c.told run c.log;
       commands_are = c.commands_are;
-      active = c.active;
       base = c.base;
       none_before = c.none_before;
       accepted = c.accepted;
       forced = c.forced;
       laid = subst (λ (f : Files). IsLaidOn engine.objects (f Objects)) same c.laid;
       shut = subst (λ (f : Files). AreSlotsShut p (f Objects)) same c.shut;
-      other = subst (λ (f : Files). IsShutLog (f LogB)) same c.other;
       values = map_stays p d new engine commands (run.reads c.told) c.values;
       unbroken = c.unbroken;
     }

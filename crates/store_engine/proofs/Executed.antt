@@ -98,9 +98,10 @@ module _ {O : Type 0} (meaning : Bounds → Meaning O) where
       -- the number after its last record
       pub next_is : InEachImage d (λ files. NextIs (meaning_in meaning p) files engine.log.next)
       next_is = in_each (λ files. NextIs (meaning_in meaning p) files engine.log.next) (record {
+        active = engine.log.log.active;
         header = engine.log.log.header;
         groups = c.log.groups;
-        log = (held_stable meaning p d engine commands c).log;
+        log = record { in_force = c.log.in_force; log = c.log.file };
         here = c.log.next_is ∙ ap (λ (l : List (Record O)). engine.log.log.header.base + length l)
             (ap (λ (l : List (Record O)). c.stable ++ l) (none_waits meaning p d engine commands c all) ∙ append-nil c.stable ∙ sym c.log.stable_are);
       })
@@ -245,14 +246,12 @@ module _ {O : Type 0} (meaning : Bounds → Meaning O) where
               (ap (λ (v : RecordLogView). v.log.active) t.log) (ap (λ (v : RecordLogView). v.log.header) t.log) (ap (λ (v : RecordLogView). v.log.end) t.log) waits
               (ap (λ (v : RecordLogView). v.next) t.log) (ap (λ (v : RecordLogView). v.accepted) t.log) (ap (λ (v : RecordLogView). v.forced) t.log);
           commands_are = commands_are;
-          active = ap (λ (v : RecordLogView). v.log.active) t.log ∙ c.active;
           base = ap (λ (v : RecordLogView). v.log.header.base) t.log ∙ c.base;
           none_before = ap (λ (v : RecordLogView). v.log.header.commands) t.log ∙ c.none_before;
           accepted = t.accepted;
           forced = t.forced;
           laid = t.laid (d.reads Objects) c.laid;
           shut = c.shut;
-          other = c.other;
           values = λ x below. value_after x below ∙ ap (λ (s : State). s x) (sym (fold-append (after (meaning_in meaning p)) start commands (op ∷ [])));
           unbroken = t.broken ∙ c.unbroken;
         } in

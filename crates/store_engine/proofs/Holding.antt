@@ -4,16 +4,18 @@ use Rattle.std.proofs.lemmas.List.{append-nil, take_at, take_all}
 use Rattle.disk_model.specs.Disk.{Files, Disk, IsDisk, Runs, Same, Any, In, LeavesOnly}
 use Rattle.disk_model.specs.Moments.{started, weaker}
 use Rattle.disk_model.specs.declared.machine.FileNo.{FileNo}
-use Rattle.disk_model.specs.declared.machine.FileNo.TheVariants.{Objects, LogA, LogB}
+use Rattle.disk_model.specs.declared.machine.FileNo.TheVariants.{Objects}
 use Rattle.oper_core.specs.Meaning.{Meaning}
 use Rattle.oper_core.specs.declared.bounds.Bounds.{Bounds}
-use Rattle.formats.specs.Log.{Header, IsShutLog}
+use Rattle.formats.specs.InForce.{IsInForce}
+use Rattle.formats.specs.Log.{Header}
 use Rattle.formats.specs.Objects.{IsObjectsFile, AreSlotsShut, bounds_of}
 use Rattle.formats.specs.Image.{EndsAt}
-use Rattle.formats.specs.Records.{payload_of, commands_of, IsRecordLog}
+use Rattle.formats.specs.Records.{payload_of, commands_of}
 use Rattle.formats.specs.declared.params.Params.{Params}
 use Rattle.formats.specs.declared.record.Record.{Record}
 use Rattle.formats.specs.declared.record.Record.TheVariants.{Command}
+use Rattle.log_frames.specs.Laws.{in_force_stays}
 use Rattle.log_frames.specs.LogView.{end_with}
 use Rattle.log_records.specs.RecordLog.{RecordLogView, Keeps, HoldsRecords, IsForcedPartly}
 use Rattle.store_engine.specs.Laid.{Laid, IsLaidOn, values_in}
@@ -39,21 +41,21 @@ attached_after old new objects log after broken broken' runs same attached told_
 
 module _ {O : Type 0} (meaning : Bounds → Meaning O) (p : Params) where
   -- files with these parts stand for the commands of the records
-  pub stands_by : (files : Files) (header : Header) (records : List (Record O)) → header.base ≡ 1 → header.commands ≡ 0
-      → HoldsRecords (meaning_in meaning p) header records (files LogA) → IsObjectsFile p (files Objects) → AreSlotsShut p (files Objects) → IsShutLog (files LogB)
+  pub stands_by : (files : Files) (active : FileNo) (header : Header) (records : List (Record O)) → header.base ≡ 1 → header.commands ≡ 0 → IsInForce active header.epoch files
+      → HoldsRecords (meaning_in meaning p) header records (files active) → IsObjectsFile p (files Objects) → AreSlotsShut p (files Objects)
       → Stands meaning p files (commands_of records)
-  stands_by files header records base none_before held objects shut other = record {
+  stands_by files active header records base none_before in_force held objects shut = record {
     objects = objects;
     shut = shut;
     log = record {
+      active = active;
       header = header;
       groups = held.groups;
-      log = held.log;
+      log = record { in_force = in_force; log = held.log };
       base = base;
       none_before = none_before;
       commands_are = ap (λ (l : List (Record O)). commands_of l) (sym held.records_are);
     };
-    other = other;
   }
 
   module _ (d : Disk) (engine : EngineView) (commands : List O) (c : Carries meaning p d engine commands) where
@@ -79,15 +81,11 @@ module _ {O : Type 0} (meaning : Bounds → Meaning O) (p : Params) where
     pub whole : IsObjectsFile p (d.reads Objects)
     whole = subst (λ (x : Params). IsObjectsFile x (d.reads Objects)) c.params c.laid.slots.whole
 
-    abbrev pub held_stable : HoldsRecords (meaning_in meaning p) engine.log.log.header c.stable (d.reads LogA)
-    held_stable = record {
-      groups = c.log.groups;
-      log = subst (λ (f : FileNo). IsRecordLog (meaning_in meaning p) engine.log.log.header c.log.groups (d.reads f)) c.active c.log.file;
-      records_are = c.log.stable_are;
-    }
+    abbrev pub held_stable : HoldsRecords (meaning_in meaning p) engine.log.log.header c.stable (d.reads engine.log.log.active)
+    held_stable = record { groups = c.log.groups; log = c.log.file; records_are = c.log.stable_are }
 
     stands_now : Stands meaning p d.reads (take engine.forced commands)
-    stands_now = subst (λ (l : List O). Stands meaning p d.reads l) (sym taken) (stands_by d.reads engine.log.log.header c.stable c.base c.none_before held_stable whole c.shut c.other)
+    stands_now = subst (λ (l : List O). Stands meaning p d.reads l) (sym taken) (stands_by d.reads engine.log.log.active engine.log.log.header c.stable c.base c.none_before c.log.in_force held_stable whole c.shut)
 
     pub image_is : d.tells_moments → (files : Files) (said : List ℕ) → d.left_since d.clock files said → files ≡ d.reads
     image_is told files said left = λ i file. c.log.settled file told files said left i
@@ -100,9 +98,10 @@ module _ {O : Type 0} (meaning : Bounds → Meaning O) (p : Params) where
     ends_here all =
         let empty : engine.log.log.pending ≡ [] = c.log.pending_are ∙ ap (λ (l : List (Record O)). payload_of (meaning_in meaning p) l) (none_waits all) in (
           record {
+            active = engine.log.log.active;
             header = engine.log.log.header;
             payloads = map (payload_of (meaning_in meaning p)) c.log.groups;
-            log = held_stable.log.log;
+            log = record { in_force = c.log.in_force; log = c.log.file.log };
             here = ap (λ (l : List ℕ). end_with engine.log.log.end l) empty ∙ c.log.place;
           },
           ap (λ (l : List ℕ). something_waits l) empty,
@@ -125,26 +124,27 @@ module _ {O : Type 0} (meaning : Bounds → Meaning O) (p : Params) where
     -- what a crash within a force leaves
     partly : (files : Files) (said : List ℕ) → IsForcedPartly (meaning_in meaning p) d engine.log c.stable c.pending files said → Between meaning p d engine.forced commands files said
     partly files said is =
-        let each = subst (λ (f : FileNo). In f (λ (old new' : List ℕ). HoldsRecords (meaning_in meaning p) engine.log.log.header c.stable new' ⊎ HoldsRecords (meaning_in meaning p) engine.log.log.header (c.stable ++ c.pending) new') d.reads files) c.active is.each_file in
-        let same = sym (each.others Objects (λ e. cc)) in
+        let each = is.each_file in
+        let active = engine.log.log.active in
+        let same = sym (each.others Objects (λ e. c.log.in_force.a_log (sym e))) in
+        let in_force = in_force_stays active engine.log.log.header.epoch _ d.reads files each c.log.in_force in
         let objects = subst (λ (l : List ℕ). IsObjectsFile p l) same whole in
         let shut = subst (λ (l : List ℕ). AreSlotsShut p l) same c.shut in
-        let other = subst (λ (l : List ℕ). IsShutLog l) (sym (each.others LogB (λ e. cc))) c.other in
         ⊎_elim
-        (λ (held : HoldsRecords (meaning_in meaning p) engine.log.log.header c.stable (files LogA)). record {
+        (λ (held : HoldsRecords (meaning_in meaning p) engine.log.log.header c.stable (files active)). record {
           quiet = is.nothing_said;
           kept = engine.forced;
           enough = omega arith;
           within = within;
-          stands = subst (λ (l : List O). Stands meaning p files l) (sym taken) (stands_by files engine.log.log.header c.stable c.base c.none_before held objects shut other);
+          stands = subst (λ (l : List O). Stands meaning p files l) (sym taken) (stands_by files active engine.log.log.header c.stable c.base c.none_before in_force held objects shut);
         })
-        (λ (held : HoldsRecords (meaning_in meaning p) engine.log.log.header (c.stable ++ c.pending) (files LogA)). record {
+        (λ (held : HoldsRecords (meaning_in meaning p) engine.log.log.header (c.stable ++ c.pending) (files active)). record {
           quiet = is.nothing_said;
           kept = length commands;
           enough = within;
           within = omega arith;
           stands = subst (λ (l : List O). Stands meaning p files l) (sym c.commands_are ∙ sym (take_all (length commands) commands (omega arith)))
-              (stands_by files engine.log.log.header (c.stable ++ c.pending) c.base c.none_before held objects shut other);
+              (stands_by files active engine.log.log.header (c.stable ++ c.pending) c.base c.none_before in_force held objects shut);
         })
         each.changed
 
@@ -177,8 +177,7 @@ module _ {O : Type 0} (meaning : Bounds → Meaning O) (p : Params) where
     forced_all runs keeps active header =
         let c = inside in
         let acknowledged = subst (λ (b : Bounds). (stable pending : List (Record O)) → Keeps (meaning b) old log stable pending → Keeps (meaning b) new after (stable ++ pending) []) own_bounds keeps in
-        let reads = subst (λ (f : FileNo). In f Any old.reads new.reads) c.active (runs.reads c.told) in
-        let kept = sym (reads.others Objects (λ e. cc)) in
+        let kept = sym ((runs.reads c.told).others Objects (λ e. c.log.in_force.a_log (sym e))) in
         let carried : Carries meaning p new (view_of objects after broken) commands = record {
           told = runs.time.files_told.0 c.told;
           params = c.params;
@@ -186,14 +185,12 @@ module _ {O : Type 0} (meaning : Bounds → Meaning O) (p : Params) where
           pending = [];
           log = acknowledged c.stable c.pending c.log;
           commands_are = c.commands_are ∙ ap (λ (l : List (Record O)). commands_of l) (sym (append-nil (c.stable ++ c.pending)));
-          active = active ∙ c.active;
           base = ap (λ (x : Header). x.base) header ∙ c.base;
           none_before = ap (λ (x : Header). x.commands) header ∙ c.none_before;
           accepted = refl;
           forced = refl;
           laid = subst (λ (l : List ℕ). IsLaidOn objects l) kept c.laid;
           shut = subst (λ (l : List ℕ). AreSlotsShut p l) kept c.shut;
-          other = subst (λ (l : List ℕ). IsShutLog l) (sym (reads.others LogB (λ e. cc))) c.other;
           values = λ x below. subst (λ (l : List ℕ). values_in objects l x ≡ state_of meaning p commands x) kept (c.values x below);
           unbroken = c.unbroken;
         } in

@@ -5,14 +5,15 @@ use Rattle.std.proofs.lemmas.List.{get_or-take}
 use Rattle.std.proofs.lemmas.Bool.{cases_eq}
 use Rattle.disk_model.specs.Disk.{Files, Disk, Passes, Runs, Stays, Same, In, Any, Torn, IsSettled, LeavesOnly}
 use Rattle.disk_model.specs.Moments.{first_call, goes_on, runs_on, weaker, from_reads, stays_settled, passes_twice}
-use Rattle.disk_model.specs.declared.machine.FileNo.TheVariants.{Objects, LogA, LogB}
+use Rattle.disk_model.specs.declared.machine.FileNo.TheVariants.{Objects}
 use Rattle.formats.specs.Bytes.{IsShutAt}
-use Rattle.formats.specs.Log.{new_header, IsWholeLog, IsShutLog}
+use Rattle.formats.specs.Log.{new_header}
 use Rattle.formats.specs.Image.{BeginsStore}
 use Rattle.oper_core.specs.Meaning.{Meaning}
 use Rattle.oper_core.specs.declared.bounds.Bounds.{Bounds}
 use Rattle.formats.specs.declared.params.Params.{Params}
-use Rattle.log_frames.specs.Creating.{LogsAlone}
+use Rattle.log_frames.specs.Creating.{LogsAlone, IsNewLog}
+use Rattle.log_frames.specs.Laws.{log_stays}
 use Rattle.stable_objects.specs.Making.{IsShut, IsNewFile, IsShutOrWhole}
 use Rattle.store_engine.specs.Engine.{InEachImage, IsNew}
 use Rattle.store_engine.specs.Starts.{OrAtStart, then_leaves}
@@ -54,12 +55,19 @@ on_ok (Err e) P fine here = cc
 
 module _ {O : Type 0} (meaning : Bounds → Meaning O) (p : Params) where
   -- files with these parts are a store without commands
-  pub stands_new : (files : Files) → IsNewFile p (files Objects) → IsWholeLog new_header [] (files LogA) → IsShutLog (files LogB) → Stands meaning p files []
-  stands_new files objects log other = record {
+  pub stands_new : (files : Files) → IsNewFile p (files Objects) → IsNewLog files → Stands meaning p files []
+  stands_new files objects log = record {
     objects = objects.whole;
     shut = objects.shut;
-    log = record { header = new_header; groups = []; log = record { log = log; numbered = tt }; base = refl; none_before = refl; commands_are = refl };
-    other = other;
+    log = record {
+      active = _;
+      header = new_header;
+      groups = [];
+      log = record { in_force = log.in_force; log = record { log = log.log; numbered = tt } };
+      base = refl;
+      none_before = refl;
+      commands_are = refl;
+    };
   }
 
   -- so far no store is there, or one without commands
@@ -115,31 +123,30 @@ module _ {O : Type 0} (meaning : Bounds → Meaning O) (p : Params) where
           let same : files Objects ≡ second.reads Objects = from.0 in
           (inl (shut_begins (files Objects) (subst (λ (l : List ℕ). IsShutAt 0 l) (sym same) shut.shut)), from.1 ∙ said_second))
 
-      new_or_none : (files : Files) (said : List ℕ) → IsShutOrWhole third p files said → IsWholeLog new_header [] (third.reads LogA) → IsShutLog (third.reads LogB) → NewSoFar old files said
-      new_or_none files said is log_a log_b =
+      new_or_none : (files : Files) (said : List ℕ) → IsShutOrWhole third p files said → IsNewLog third.reads → NewSoFar old files said
+      new_or_none files said is log =
           let silent : said ≡ old.said = is.silent ∙ logs.said tells_second ∙ said_second in elim is.objects [
             | inl closed ↦ (inl (shut_begins (files Objects) closed), silent)
             | inr whole ↦ (
-              inr (stands_new files whole (subst (λ (l : List ℕ). IsWholeLog new_header [] l) (sym (is.others LogA (λ e. cc))) log_a) (subst (λ (l : List ℕ). IsShutLog l) (sym (is.others LogB (λ e. cc))) log_b)),
+              inr (stands_new files whole (log_stays _ new_header [] Any third.reads files (record { changed = tt; others = is.others }) log)),
               silent,
             )
           ]
 
       -- while the objects are made
-      pub laying_out : (fourth : Disk) → (second.tells_files → IsWholeLog new_header [] (third.reads LogA) × IsShutLog (third.reads LogB)) → (IsSettled second → IsSettled third)
+      pub laying_out : (fourth : Disk) → (second.tells_files → IsNewLog third.reads) → (IsSettled second → IsSettled third)
           → (third.tells_moments → IsSettled third → IsShut (third.reads Objects) → LeavesOnly third fourth (IsShutOrWhole third p)) → LeavesOnly old fourth (NewSoFar old)
       laying_out fourth made settles_third leaves =
           let same : third.reads Objects ≡ second.reads Objects = logs.reads tells_second in
           let shut_third = subst (λ (l : List ℕ). IsShut l) (sym same) shut in
           runs_on old third fourth (NewSoFar old) logging
           (weaker third fourth (IsShutOrWhole third p) (NewSoFar old) (leaves (logs.time.moments_told.0 told_second) (settles_third (settles settled_first)) shut_third)
-          (λ files said is. new_or_none files said is (made tells_second).0 (made tells_second).1))
+          (λ files said is. new_or_none files said is (made tells_second)))
 
   -- a store that is laid out is there after each crash
   pub laid_out : (third fourth : Disk) → third.tells_files → IsSettled fourth → Runs (In Objects Any) Same third fourth → IsNewFile p (fourth.reads Objects)
-      → IsWholeLog new_header [] (third.reads LogA) → IsShutLog (third.reads LogB) → InEachImage fourth (λ files. Stands meaning p files [])
-  laid_out third fourth told_third settled run objects log_a log_b =
-      let reads = run.reads told_third in
-      let here = stands_new fourth.reads objects (subst (λ (l : List ℕ). IsWholeLog new_header [] l) (sym (reads.others LogA (λ e. cc))) log_a) (subst (λ (l : List ℕ). IsShutLog l) (sym (reads.others LogB (λ e. cc))) log_b) in
+      → IsNewLog third.reads → InEachImage fourth (λ files. Stands meaning p files [])
+  laid_out third fourth told_third settled run objects log =
+      let here = stands_new fourth.reads objects (log_stays _ new_header [] Any third.reads fourth.reads (run.reads told_third) log) in
       let image_is : fourth.tells_moments → (files : Files) (said : List ℕ) → fourth.left_since fourth.clock files said → files ≡ fourth.reads = λ told files said left i file. settled file told files said left i in
       (here, λ told files said left. subst (λ (f : Files). Stands meaning p f []) (sym (image_is told files said left)) here)

@@ -5,15 +5,15 @@ use Rattle.std.proofs.lemmas.List.{append-nil, take_all}
 use Rattle.disk_model.specs.Disk.{Files, Disk, Rises, Stays, Same, IsSettled, LeavesOnly}
 use Rattle.disk_model.specs.Moments.{first_call, from_reads, stays_settled, stays_twice}
 use Rattle.disk_model.specs.declared.machine.FileNo.{FileNo}
-use Rattle.disk_model.specs.declared.machine.FileNo.TheVariants.{Objects, LogA, LogB}
+use Rattle.disk_model.specs.declared.machine.FileNo.TheVariants.{Objects}
 use Rattle.oper_core.specs.Meaning.{Meaning, HasBounds, IsSmall, IsLawful, state_after}
 use Rattle.oper_core.specs.declared.bounds.Bounds.{Bounds}
 use Rattle.formats.specs.Bytes.{IsOpenAt, IsShutAt}
-use Rattle.formats.specs.Log.{Header, IsShutLog}
+use Rattle.formats.specs.Log.{Header}
 use Rattle.oper_core.specs.Cell.{Cell}
 use Rattle.formats.specs.Objects.{cell_of, IsInRange, IsObjectsFile, AreSlotsShut, bounds_of, slot_place, identifier_at}
-use Rattle.formats.specs.Image.{params_in, IsDamaged, IsRecordFault, IsLateSlot, in_objects, in_header, in_block, in_record, in_late_slot, in_other_log}
-use Rattle.formats.specs.Records.{records_of, commands_of, AreRecords, IsRecord, IsRecordLog}
+use Rattle.formats.specs.Image.{params_in, IsDamaged, IsRecordFault, IsLateSlot, in_objects, in_log, in_record, in_late_slot}
+use Rattle.formats.specs.Records.{records_of, commands_of, AreRecords, IsRecord, HoldsRecordLog}
 use Rattle.formats.specs.declared.params.Params.{Params}
 use Rattle.formats.specs.declared.record.Record.{Record}
 use Rattle.log_frames.specs.Reading as log
@@ -29,7 +29,8 @@ use Rattle.dirty_cache.specs.Contents.{held}
 use Rattle.log_records.specs.Loading.{IsLoadFault}
 use Rattle.log_records.specs.Loading as load
 use Rattle.log_records.specs.RecordLog.{RecordLogView, Keeps, IsLoaded}
-use Rattle.log_records.specs.Uniqueness.{one_record_log}
+use Rattle.log_records.specs.RecordLaws.{keeps_stay}
+use Rattle.log_records.specs.Uniqueness.{one_records}
 use Rattle.store_engine.specs.Engine.{EngineView, view_of, params_of, Opens, Carries, Holds, Between, IsAttached, IsNoDamage}
 use Rattle.store_engine.specs.Laid.{Laid, IsLaidOn, cell_or, cell_in, redone}
 use Rattle.store_engine.specs.Opening.{IsRead, FailsBy, from_log, from_slots}
@@ -108,12 +109,11 @@ module _ {O : Type 0} (meaning : Bounds → Meaning O) where
 
   -- a fault that a load finds damages the store
   damage : (q : Params) (files : Files) (f : FileNo) (n : ℕ) → IsObjectsFile q (files Objects) → IsLoadFault (meaning_in meaning q) files f n → IsDamaged meaning files f n
-  damage q files f n objects (load.in_blocks file place (log.in_header p fault)) = record { gate = gate_is_open q (files Objects) objects; fault = in_header p fault }
-  damage q files f n objects (load.in_blocks file place (log.in_block p gate fault)) = record { gate = gate_is_open q (files Objects) objects; fault = in_block p gate fault }
-  damage q files f n objects (load.in_blocks file place (log.in_other_log unshut)) = record { gate = gate_is_open q (files Objects) objects; fault = in_other_log unshut }
-  damage q files f n objects (load.in_record place fault) = record {
+  damage q files f n objects (load.in_blocks file place fault) = record { gate = gate_is_open q (files Objects) objects; fault = in_log file place fault }
+  damage q files f n objects (load.in_record active header place in_force has fault) = record {
     gate = gate_is_open q (files Objects) objects;
-    fault = in_record place (subst (λ (x : Params). IsRecordFault (meaning_in meaning x) (files LogA) place) (sym (params_of_file q (files Objects) objects)) fault);
+    fault = in_record active header place in_force has
+        (subst (λ (x : Params). IsRecordFault (meaning_in meaning x) (files active) place) (sym (params_of_file q (files Objects) objects)) fault);
   }
 
   -- the log is not loaded
@@ -131,13 +131,13 @@ module _ {O : Type 0} (meaning : Bounds → Meaning O) where
 
   -- the log of files that meet their format
   pub log_unharmed : (old mid : Disk) (objects : Laid) (b : Bounds) (e : LogErr) → HasSlots old mid objects → b ≡ bounds_of objects.slots.params → old.tells_files → IsWellFormed meaning old.reads
-      → ((header : Header) (groups : List (List (Record O))) → IsRecordLog (meaning b) header groups (mid.reads LogA) → IsShutLog (mid.reads LogB) → log.TellsDamage e → ⊥)
+      → ((active : FileNo) (header : Header) (groups : List (List (Record O))) → HoldsRecordLog (meaning b) active header groups mid.reads → log.TellsDamage e → ⊥)
       → (from_log e ≢ NotAStore) × IsNoDamage (from_log e)
   log_unharmed old mid objects b e has bounds told image none =
       let files = sym (has.kept.reads told) in
       let same : image.params ≡ objects.slots.params = one_store image.params objects.slots.params (old.reads Objects) image.objects (has.laid told).slots.whole in
-      let records = subst (λ (x : Bounds). IsRecordLog (meaning x) image.header image.groups (old.reads LogA)) (ap (λ (q : Params). bounds_of q) same ∙ sym bounds) image.log in
-      unharmed e (none image.header image.groups (subst (λ (f : Files). IsRecordLog (meaning b) image.header image.groups (f LogA)) files records) (subst (λ (f : Files). IsShutLog (f LogB)) files image.other))
+      let records = subst (λ (x : Bounds). HoldsRecordLog (meaning x) image.active image.header image.groups old.reads) (ap (λ (q : Params). bounds_of q) same ∙ sym bounds) image.log in
+      unharmed e (none image.active image.header image.groups (subst (HoldsRecordLog (meaning b) image.active image.header image.groups) files records))
 
   -- the records of a log that is loaded are not read
   pub records_fail : (old last new : Disk) (fault : FileNo → ℕ → Type 0) (e : LogErr) → Stays old last → log.FailsBy (Rises last.disk_faults new.disk_faults) fault e → (old.tells_files → log.TellsDamage e → ⊥)
@@ -161,9 +161,7 @@ module _ {O : Type 0} (meaning : Bounds → Meaning O) where
   -- what the log of a store in the files is, once loaded
   pub record IsLogOfStore (files : Files) (last : Disk) (p : Params) (view : RecordLogView) : Type 0 where
     pub groups : List (List (Record O))
-    pub file : IsRecordLog (meaning_in meaning p) view.log.header groups (files LogA)
-    pub other : IsShutLog (files LogB)
-    pub active : view.log.active ≡ LogA
+    pub file : HoldsRecordLog (meaning_in meaning p) view.log.active view.log.header groups files
     pub keeps : Keeps (meaning_in meaning p) last view (records_of groups) []
 
   -- Objects and log are loaded.
@@ -182,9 +180,8 @@ module _ {O : Type 0} (meaning : Bounds → Meaning O) where
         let files = has.kept.reads told in
         record {
           groups = is.groups;
-          file = subst (λ (x : Bounds). IsRecordLog (meaning x) view.log.header is.groups (old.reads LogA)) bounds (subst (λ (f : Files). IsRecordLog (meaning b) view.log.header is.groups (f LogA)) files is.file);
-          other = subst (λ (f : Files). IsShutLog (f LogB)) files is.other;
-          active = is.active;
+          file = subst (λ (x : Bounds). HoldsRecordLog (meaning x) view.log.active view.log.header is.groups old.reads) bounds
+              (subst (HoldsRecordLog (meaning b) view.log.active view.log.header is.groups) files is.file);
           keeps = subst (λ (x : Bounds). Keeps (meaning x) last view (records_of is.groups) []) bounds (is.keeps has.settled);
         };
   }
@@ -214,9 +211,10 @@ module _ {O : Type 0} (meaning : Bounds → Meaning O) where
           slot = slot.0;
           next = next;
           next_is = record {
+            active = view.log.active;
             header = view.log.header;
             groups = read.groups;
-            log = subst (λ (q : Params). IsRecordLog (meaning_in meaning q) view.log.header read.groups (old.reads LogA)) (sym params) read.file;
+            log = subst (λ (q : Params). HoldsRecordLog (meaning_in meaning q) view.log.active view.log.header read.groups old.reads) (sym params) read.file;
             here = same ∙ next_is told;
           };
           late = slot.1;
@@ -244,31 +242,16 @@ module _ {O : Type 0} (meaning : Bounds → Meaning O) where
         let file = files Objects in
         let same : params_in file ≡ image.params = params_of_file image.params file image.objects in
         let next = late.next_is in
-        let own = subst (λ (q : Params). IsRecordLog (meaning_in meaning q) next.header next.groups (files LogA)) same next.log in
-        let logs = one_record_log (meaning_in meaning image.params) (lawful_in image.params image.objects.in_range) next.header image.header next.groups image.groups (files LogA) own image.log in
+        let own = subst (λ (q : Params). HoldsRecordLog (meaning_in meaning q) next.active next.header next.groups files) same next.log in
+        let logs = one_records (meaning_in meaning image.params) (lawful_in image.params image.objects.in_range) next.active image.active next.header image.header next.groups image.groups files own image.log in
         let none = subst (λ (q : Params). (x s : ℕ) → x < q.objects → s < 2 → IsOpenAt (slot_place q.cap x s) file → identifier_at (slot_place q.cap x s) file < image.header.base + length (records_of image.groups)) (sym same) image.none_late in
         let below = none late.x late.s late.slot.below late.slot.two late.slot.open_gate in
-        omega (arith, below, late.late, next.here, ap (λ (h : Header). h.base) logs.0, ap (λ (l : List (Record O)). length l) logs.1)
+        omega (arith, below, late.late, next.here, ap (λ (h : Header). h.base) logs.1, ap (λ (l : List (Record O)). length l) logs.2)
 
     -- a late slot is no slot of files that meet their format
     pub late_never : (old last : Disk) (objects : Laid) (view : RecordLogView) (next place : ℕ) → HasLog old last objects view → next ≡ view.next → IsLateAt objects.slots next place
         → old.tells_files → IsWellFormed meaning old.reads → ⊥
     late_never old last objects view next place has same at told image = no_late_slot old.reads place image (late_fault old last objects view has next place same at told)
-
-  -- a loaded log keeps its records over calls that change nothing
-  keeps_on : (m : Meaning O) (last new : Disk) (view : RecordLogView) (stable : List (Record O)) → Stays last new → last.tells_files → Keeps m last view stable [] → Keeps m new view stable []
-  keeps_on m last new view stable kept told k = record {
-    settled = all_settled last new kept k.settled;
-    groups = k.groups;
-    file = subst (λ (f : Files). IsRecordLog m view.log.header k.groups (f view.log.active)) (sym (kept.reads told)) k.file;
-    stable_are = k.stable_are;
-    place = k.place;
-    pending_are = k.pending_are;
-    numbered = k.numbered;
-    next_is = k.next_is;
-    accepted_are = k.accepted_are;
-    forced_are = k.forced_are;
-  }
 
   -- what the objects are after the redo: m is their meaning, and cells were theirs
   abbrev pub AreRedone : Meaning O → Laid → List ℕ → (ℕ → Cell) → List (Record O) → ℕ → Type 0
@@ -307,13 +290,11 @@ module _ {O : Type 0} (meaning : Bounds → Meaning O) where
       record {
         laid = subst (λ (f : Files). IsLaidOn after (f Objects)) files (laid_on told_far there);
         groups = read.groups;
-        file = subst (λ (r : Params). IsRecordLog (meaning_in meaning r) view.log.header read.groups (old.reads LogA)) (sym params) read.file;
-        other = read.other;
+        file = subst (λ (r : Params). HoldsRecordLog (meaning_in meaning r) view.log.active view.log.header read.groups old.reads) (sym params) read.file;
         none_late = subst (λ (r : Params). (x s : ℕ) → x < r.objects → s < 2 → IsOpenAt (slot_place r.cap x s) file → identifier_at (slot_place r.cap x s) file < view.log.header.base + length (records_of read.groups)) (sym params)
-            (λ x s below two is_open. let late = none_late objects.slots file view.next laid.slots (omega (arith, next, read.file.log.in_range.base_low)) none x s below two is_open in omega (arith, late, next));
-        active = read.active;
+            (λ x s below two is_open. let late = none_late objects.slots file view.next laid.slots (omega (arith, next, read.file.log.log.in_range.base_low)) none x s below two is_open in omega (arith, late, next));
         log = subst (λ (r : Params). Keeps (meaning_in meaning r) new view (records_of read.groups) []) (sym params)
-            (keeps_on (meaning_in meaning q) last new view (records_of read.groups) (stays_twice last far new more further) told_last read.keeps);
+            (keeps_stay (meaning_in meaning q) last new view (records_of read.groups) [] told_last (stays_twice last far new more further) read.keeps);
         accepted = refl;
         forced = refl;
         unbroken = refl;
@@ -327,12 +308,12 @@ module _ {O : Type 0} (meaning : Bounds → Meaning O) where
       let file = old.reads Objects in
       let m = meaning_in meaning p in
       let same : params_of engine ≡ p = one_store (params_of engine) p file is.laid.slots.whole stands.objects in
-      let own = subst (λ (x : Params). IsRecordLog (meaning_in meaning x) engine.log.log.header is.groups (old.reads LogA)) same is.file in
+      let own = subst (λ (x : Params). HoldsRecordLog (meaning_in meaning x) engine.log.log.active engine.log.log.header is.groups old.reads) same is.file in
       let lawful_here = lawful_in lawful p stands.objects.in_range in
-      let logs = one_record_log m lawful_here engine.log.log.header stands.log.header is.groups stands.log.groups (old.reads LogA) own stands.log.log in
-      let base : engine.log.log.header.base ≡ 1 = ap (λ (h : Header). h.base) logs.0 ∙ stands.log.base in
-      let commands_are : commands ≡ commands_of (records_of is.groups) = stands.log.commands_are ∙ ap (λ (l : List (Record O)). commands_of l) (sym logs.1) in
-      let numbered : AreRecords m 1 (records_of is.groups) = subst (λ (n : ℕ). AreRecords m n (records_of is.groups)) base own.numbered in
+      let logs = one_records m lawful_here engine.log.log.active stands.log.active engine.log.log.header stands.log.header is.groups stands.log.groups old.reads own stands.log.log in
+      let base : engine.log.log.header.base ≡ 1 = ap (λ (h : Header). h.base) logs.1 ∙ stands.log.base in
+      let commands_are : commands ≡ commands_of (records_of is.groups) = stands.log.commands_are ∙ ap (λ (l : List (Record O)). commands_of l) (sym logs.2) in
+      let numbered : AreRecords m 1 (records_of is.groups) = subst (λ (n : ℕ). AreRecords m n (records_of is.groups)) base own.log.numbered in
       let cells : AreRedone m engine.objects file (λ y. cell_of p.cap y file) (records_of is.groups) p.objects =
       subst (λ (q : Params). AreRedone (meaning_in meaning q) engine.objects file (λ y. cell_of q.cap y file) (records_of is.groups) q.objects) same is.cells in
       let objects : m.objects ≡ p.objects = (bounded (bounds_of p)).objects in
@@ -344,14 +325,12 @@ module _ {O : Type 0} (meaning : Bounds → Meaning O) where
         pending = [];
         log = subst (λ (x : Params). Keeps (meaning_in meaning x) new engine.log (records_of is.groups) []) same is.log;
         commands_are = commands_are ∙ ap (λ (l : List (Record O)). commands_of l) (sym (append-nil (records_of is.groups)));
-        active = is.active;
         base = base;
-        none_before = ap (λ (h : Header). h.commands) logs.0 ∙ stands.log.none_before;
+        none_before = ap (λ (h : Header). h.commands) logs.1 ∙ stands.log.none_before;
         accepted = is.accepted;
         forced = is.forced;
         laid = subst (λ (f : Files). IsLaidOn engine.objects (f Objects)) (sym (kept.reads told)) is.laid;
         shut = subst (λ (f : Files). AreSlotsShut p (f Objects)) (sym (kept.reads told)) stands.shut;
-        other = subst (λ (f : Files). IsShutLog (f LogB)) (sym (kept.reads told)) stands.other;
         values = λ x below.
             ap (λ (f : Files). (cell_in engine.objects (f Objects) x).value) (kept.reads told)
             ∙ ap (λ (c : Cell). c.value) (cells x below)
@@ -382,11 +361,11 @@ module _ {O : Type 0} (meaning : Bounds → Meaning O) where
   pub read_well_formed : {E : Type 0} (files : Files) (new : Disk) (result : Result EngineView E) → IfOk result (IsRead meaning files new) → OnOk result (IsWellFormed meaning files)
   read_well_formed files new (Ok engine) is = record {
     params = params_of engine;
+    active = engine.log.log.active;
     header = engine.log.log.header;
     groups = is.groups;
     objects = is.laid.slots.whole;
     log = is.file;
-    other = is.other;
     none_late = is.none_late;
   }
   read_well_formed files new (Err e) is = tt
@@ -397,6 +376,6 @@ module _ {O : Type 0} (meaning : Bounds → Meaning O) where
       let told = kept.time.files_told.1 told_new in
       let is = read told in (
         subst (λ (f : Files). IsLaidOn engine.objects (f Objects)) (sym (kept.reads told)) is.laid,
-        λ e. let wrong : LogA ≡ Objects = sym is.active ∙ e in cc,
+        is.file.in_force.a_log,
       )
   read_attached old new (Err e) kept read = tt

@@ -2,11 +2,9 @@
 use Rattle.std.proofs.Common.{◌≡◌, ◌≢◌, ◌⊎◌, inl, inr, ⊎_elim, ◌<◌, ℕ, Bool, Result, Ok, Err, List, refl, sym, ap, ◌∙◌, subst, arith}
 use Rattle.std.specs.Prelude.{Option, None, Some, IsSome, IsErrOf}
 use Rattle.disk_model.specs.Disk.{Files, Disk, Stays}
-use Rattle.disk_model.specs.Moments.{stays_settled}
-use Rattle.disk_model.specs.declared.machine.FileNo.TheVariants.{Objects, LogB}
+use Rattle.disk_model.specs.declared.machine.FileNo.TheVariants.{Objects}
 use Rattle.oper_core.specs.Meaning.{Meaning}
 use Rattle.oper_core.specs.declared.bounds.Bounds.{Bounds}
-use Rattle.formats.specs.Log.{IsShutLog}
 use Rattle.oper_core.specs.Cell.{Cell}
 use Rattle.formats.specs.Objects.{AreSlotsShut, cell_of}
 use Rattle.formats.specs.Records.{IsRecordLog}
@@ -18,7 +16,8 @@ use Rattle.stable_objects.specs.declared.slot_err.SlotErr.{SlotErr}
 use Rattle.stable_objects.specs.declared.slot_err.SlotErr.TheVariants as of_slots
 use Rattle.dirty_cache.specs.Contents.{held}
 use Rattle.dirty_cache.specs.declared.entry.Entry.{Entry}
-use Rattle.log_records.specs.RecordLog.{RecordLogView, Keeps}
+use Rattle.log_records.specs.RecordLaws.{keeps_stay, keeps_room}
+use Rattle.log_records.specs.RecordLog.{RecordLogView}
 use Rattle.store_engine.specs.Laid.{Laid, IsLaidOn, KeepsCells, cell_or, values_in}
 use Rattle.store_engine.specs.Store.{meaning_in, state_of}
 use Rattle.store_engine.specs.Engine.{EngineView, view_of, params_of, IsSameMap, IsAttached, Carries, Holds, Kept}
@@ -94,36 +93,6 @@ attached_stays old new before engine stays same attached told_new =
     )
 
 module _ {O : Type 0} (meaning : Bounds → Meaning O) (p : Params) where
-  with_room : (d : Disk) (log : RecordLogView) (stable pending : List (Record O)) (room : ℕ) → Keeps (meaning_in meaning p) d log stable pending
-      → Keeps (meaning_in meaning p) d (record log { log = record log.log { room = room } }) stable pending
-  with_room d log stable pending room k = record {
-    settled = k.settled;
-    groups = k.groups;
-    file = k.file;
-    stable_are = k.stable_are;
-    place = k.place;
-    pending_are = k.pending_are;
-    numbered = k.numbered;
-    next_is = k.next_is;
-    accepted_are = k.accepted_are;
-    forced_are = k.forced_are;
-  }
-
-  keeps_stays : (old new : Disk) (log : RecordLogView) (stable pending : List (Record O)) → Stays old new → old.tells_files → Keeps (meaning_in meaning p) old log stable pending
-      → Keeps (meaning_in meaning p) new log stable pending
-  keeps_stays old new log stable pending stays told k = record {
-    settled = λ file. stays_settled old new file stays (k.settled file);
-    groups = k.groups;
-    file = subst (λ (f : Files). IsRecordLog (meaning_in meaning p) log.log.header k.groups (f log.log.active)) (sym (stays.reads told)) k.file;
-    stable_are = k.stable_are;
-    place = k.place;
-    pending_are = k.pending_are;
-    numbered = k.numbered;
-    next_is = k.next_is;
-    accepted_are = k.accepted_are;
-    forced_are = k.forced_are;
-  }
-
   module _ (old : Disk) (before : EngineView) (commands : List O) (h : Holds meaning p old before commands) where
     -- no slot is open, so no object needs a call
     pub all_shut : (x : ℕ) → x < (params_of before).objects → id_in before.objects.slots x ≡ 0
@@ -142,17 +111,15 @@ module _ {O : Type 0} (meaning : Bounds → Meaning O) (p : Params) where
           params = ap (λ (s : SlotsView). s.params) same.slots ∙ c.params;
           stable = c.stable;
           pending = c.pending;
-          log = keeps_stays old new engine.log c.stable c.pending stays c.told
-              (subst (λ (v : RecordLogView). Keeps (meaning_in meaning p) old v c.stable c.pending) (sym same.log) (with_room old before.log c.stable c.pending engine.log.log.room c.log));
+          log = keeps_stay (meaning_in meaning p) old new engine.log c.stable c.pending c.told stays
+              (keeps_room (meaning_in meaning p) old before.log engine.log c.stable c.pending same.log c.log);
           commands_are = c.commands_are;
-          active = ap (λ (v : RecordLogView). v.log.active) same.log ∙ c.active;
           base = ap (λ (v : RecordLogView). v.log.header.base) same.log ∙ c.base;
           none_before = ap (λ (v : RecordLogView). v.log.header.commands) same.log ∙ c.none_before;
           accepted = same.accepted ∙ c.accepted ∙ sym (ap (λ (v : RecordLogView). v.accepted) same.log);
           forced = same.forced ∙ c.forced ∙ sym (ap (λ (v : RecordLogView). v.forced) same.log);
           laid = subst (λ (f : Files). IsLaidOn engine.objects (f Objects)) reads cells.1;
           shut = subst (λ (f : Files). AreSlotsShut p (f Objects)) reads c.shut;
-          other = subst (λ (f : Files). IsShutLog (f LogB)) reads c.other;
           values = λ x below.
               let there = subst (λ (q : Params). x < q.objects) (sym c.params) below in
               subst (λ (f : Files). values_in engine.objects (f Objects) x ≡ state_of meaning p commands x) reads (ap (λ (cell : Cell). cell.value) (cells.0 x there) ∙ c.values x below);

@@ -1,10 +1,9 @@
 -- What the engine and its files stand for.
 use Rattle.std.specs.Prelude.{◌≡◌, ◌≢◌, ◌⊎◌, ℕ, ◌+◌, ◌^◌, ◌≤◌, ◌<◌, ⊤, List, length, take, [], ◌∷◌, ◌++◌, Some, None, IsSome, Result, Ok, Err, Bool, true, false, if◌then◌else◌}
 use Rattle.disk_model.specs.Disk.{Files, Disk}
-use Rattle.disk_model.specs.declared.machine.FileNo.TheVariants.{Objects, LogA, LogB}
+use Rattle.disk_model.specs.declared.machine.FileNo.TheVariants.{Objects}
 use Rattle.oper_core.specs.Meaning.{Meaning, FitsReads}
 use Rattle.oper_core.specs.declared.bounds.Bounds.{Bounds}
-use Rattle.formats.specs.Log.{IsShutLog}
 use Rattle.formats.specs.Objects.{bounds_of, AreSlotsShut}
 use Rattle.formats.specs.Records.{record_code, commands_of}
 use Rattle.formats.specs.declared.record.Record.{Record}
@@ -132,8 +131,8 @@ module _ {O : Type 0} (meaning : Bounds → Meaning O) where
   abbrev pub IsMapOf : Params → Disk → EngineView → List O → Type 0
   IsMapOf p d engine commands = (x : ℕ) → x < p.objects → values_in engine.objects (d.reads Objects) x ≡ state_of meaning p commands x
 
-  -- The records of the commands are in the log, those that are stable in its file; the other two files are those of a
-  -- store, and the map has the values after all commands.
+  -- The records of the commands are in the log, those that are stable in the file in force; the objects file is that of
+  -- a store, and the map has the values after all commands.
   pub record Carries (p : Params) (d : Disk) (engine : EngineView) (commands : List O) : Type 0 where
     pub told : d.tells_files
     pub params : params_of engine ≡ p
@@ -141,14 +140,12 @@ module _ {O : Type 0} (meaning : Bounds → Meaning O) where
     pub pending : List (Record O)
     pub log : Keeps (meaning_in meaning p) d engine.log stable pending
     pub commands_are : commands ≡ commands_of (stable ++ pending)
-    pub active : engine.log.log.active ≡ LogA
     pub base : engine.log.log.header.base ≡ 1
     pub none_before : engine.log.log.header.commands ≡ 0
     pub accepted : engine.accepted ≡ engine.log.accepted
     pub forced : engine.forced ≡ engine.log.forced
     pub laid : IsLaidOn engine.objects (d.reads Objects)
     pub shut : AreSlotsShut p (d.reads Objects)
-    pub other : IsShutLog (d.reads LogB)
     pub values : IsMapOf p d engine commands
     pub unbroken : engine.broken ≡ false
 

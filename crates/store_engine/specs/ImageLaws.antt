@@ -33,11 +33,11 @@ module _ {O : Type 0} (meaning : Bounds → Meaning O) where
   pub well_formed : {p : Params} {files : Files} {commands : List O} → Stands meaning p files commands → IsWellFormed meaning files
   well_formed {p} stands = record {
     params = p;
+    active = stands.log.active;
     header = stands.log.header;
     groups = stands.log.groups;
     objects = stands.objects;
     log = stands.log.log;
-    other = stands.other;
     none_late = λ x s below two is_open. absurd (stands.shut x s below two is_open);
   }
 

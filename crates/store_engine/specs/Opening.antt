@@ -2,15 +2,14 @@
 use Rattle.std.specs.Prelude.{◌≡◌, ◌⊎◌, ◌<◌, ◌≤◌, ◌+◌, ⊤, false, ℕ, List, [], length, fold, None, Some}
 use Rattle.disk_model.specs.Disk.{Files, Disk, Rises}
 use Rattle.disk_model.specs.declared.machine.FileNo.{FileNo}
-use Rattle.disk_model.specs.declared.machine.FileNo.TheVariants.{Objects, LogA, LogB}
+use Rattle.disk_model.specs.declared.machine.FileNo.TheVariants.{Objects}
 use Rattle.oper_core.specs.Meaning.{Meaning, FitsReads}
 use Rattle.oper_core.specs.declared.bounds.Bounds.{Bounds}
 use Rattle.oper_core.specs.declared.refusal.Refusal.{Refusal}
 use Rattle.oper_core.specs.declared.refusal.Refusal.TheVariants.{NoObject}
 use Rattle.formats.specs.Bytes.{IsOpenAt}
-use Rattle.formats.specs.Log.{IsShutLog}
 use Rattle.formats.specs.Objects.{cell_of, slot_place, identifier_at}
-use Rattle.formats.specs.Records.{records_of, IsRecordLog}
+use Rattle.formats.specs.Records.{records_of, HoldsRecordLog}
 use Rattle.formats.specs.declared.params.Params.{Params}
 use Rattle.formats.specs.declared.record.Record.{Record}
 use Rattle.log_frames.specs.declared.log_err.LogErr.{LogErr}
@@ -31,11 +30,9 @@ use Rattle.store_engine.specs.declared.restart_err.RestartErr.TheVariants.{DiskF
 pub record IsRead {O : Type 0} (meaning : Bounds → Meaning O) (files : Files) (new : Disk) (engine : EngineView) : Type 0 where
   pub laid : IsLaidOn engine.objects (files Objects)
   pub groups : List (List (Record O))
-  pub file : IsRecordLog (meaning_in meaning (params_of engine)) engine.log.log.header groups (files LogA)
-  pub other : IsShutLog (files LogB)
+  pub file : HoldsRecordLog (meaning_in meaning (params_of engine)) engine.log.log.active engine.log.log.header groups files
   pub none_late : (x s : ℕ) → x < (params_of engine).objects → s < 2 → IsOpenAt (slot_place (params_of engine).cap x s) (files Objects)
       → identifier_at (slot_place (params_of engine).cap x s) (files Objects) < engine.log.log.header.base + length (records_of groups)
-  pub active : engine.log.log.active ≡ LogA
   pub log : Keeps (meaning_in meaning (params_of engine)) new engine.log (records_of groups) []
   pub accepted : engine.accepted ≡ engine.log.accepted
   pub forced : engine.forced ≡ engine.log.forced

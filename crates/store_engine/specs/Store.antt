@@ -5,10 +5,11 @@ use Rattle.oper_core.specs.Meaning.{Meaning, refusal_of, state_after}
 use Rattle.oper_core.specs.declared.bounds.Bounds.{Bounds}
 use Rattle.oper_core.specs.declared.refusal.Refusal.{Refusal}
 use Rattle.disk_model.specs.Disk.{Files}
-use Rattle.disk_model.specs.declared.machine.FileNo.TheVariants.{Objects, LogA, LogB}
+use Rattle.disk_model.specs.declared.machine.FileNo.{FileNo}
+use Rattle.disk_model.specs.declared.machine.FileNo.TheVariants.{Objects}
 use Rattle.formats.specs.Bytes.{IsOpenAt}
-use Rattle.formats.specs.Log.{Header, IsShutLog}
-use Rattle.formats.specs.Records.{IsRecordLog, records_of}
+use Rattle.formats.specs.Log.{Header}
+use Rattle.formats.specs.Records.{HoldsRecordLog, records_of}
 use Rattle.formats.specs.declared.record.Record.{Record}
 use Rattle.formats.specs.Objects.{bounds_of, slot_place, identifier_at, IsObjectsFile}
 use Rattle.formats.specs.Image.{StandsFor}
@@ -31,15 +32,15 @@ module _ {O : Type 0} (meaning : Bounds → Meaning O) where
   abbrev pub record_length : Params → O → ℕ
   record_length p op = 9 + length ((meaning_in p).code op)
 
-  -- The files meet their format: the objects file is whole, log A is a log of records of its store, log B is shut, and
-  -- each open slot has the number of a record before the log's end.
+  -- The files meet their format: the objects file is whole, the log in force is one of records of its store, and each
+  -- open slot has the number of a record before the log's end.
   pub record IsWellFormed (files : Files) : Type 0 where
     pub params : Params
+    pub active : FileNo
     pub header : Header
     pub groups : List (List (Record O))
     pub objects : IsObjectsFile params (files Objects)
-    pub log : IsRecordLog (meaning_in params) header groups (files LogA)
-    pub other : IsShutLog (files LogB)
+    pub log : HoldsRecordLog (meaning_in params) active header groups files
     pub none_late : (x s : ℕ) → x < params.objects → s < 2 → IsOpenAt (slot_place params.cap x s) (files Objects)
         → identifier_at (slot_place params.cap x s) (files Objects) < header.base + length (records_of groups)
 

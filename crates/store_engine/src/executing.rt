@@ -15,17 +15,9 @@ ghost use Rattle.store_engine.specs.Store.{meaning_in, record_length, refusal_af
 use crate::Engine;
 use crate::exec_err::ExecErr;
 use disk_model::Machine;
-use formats::Record;
+use formats::{BLOCK_HEAD, NUMBERS_END, RECORD_HEAD, Record};
 use oper_core::{Memory, Oper, Refusal, Values};
 use std::alloc::Global;
-
-// The kind and the number of a record.
-const RECORD_HEAD: u64 = 9;
-
-// A block's gate and its length.
-const BLOCK_HEAD: u64 = 5;
-
-const LAST_NUMBER: u64 = (1 << 62) - 1;
 
 // How many bytes the operation's record has. Its code is made for this alone, before anything changes.
 fn length_of<O: Oper>(alloc: Global, op: &O) -> Result<u64, Memory>
@@ -35,7 +27,7 @@ fn length_of<O: Oper>(alloc: Global, op: &O) -> Result<u64, Memory>
 {
     let mut code = Vec::new(alloc);
     op.encode(&mut code)?;
-    Ok(RECORD_HEAD + code.len() as u64)
+    Ok((RECORD_HEAD + code.len()) as u64)
 }
 
 impl<O: Oper> Engine<O> {
@@ -116,11 +108,11 @@ impl<O: Oper> Engine<O> {
             self.force(machine)?;
             return Err(ExecErr::LogFull {
                 used: self.log.used(),
-                need: length + BLOCK_HEAD,
+                need: length + BLOCK_HEAD as u64,
                 limit,
             });
         }
-        if self.log.next() > LAST_NUMBER {
+        if self.log.next() >= NUMBERS_END {
             self.force(machine)?;
             return Err(ExecErr::LsnEnd {
                 number: self.log.next(),

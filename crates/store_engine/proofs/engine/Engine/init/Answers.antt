@@ -63,4 +63,4 @@ returns-clause-ok g c tells =
     let logs = on_ok c.create.result _ (sym c.is_err.ensures.value ∙ c.if-is_err.false) (c.create.ensures.made tells_second) in
     let settled_third = on_ok c.create.result _ (sym c.is_err.ensures.value ∙ c.if-is_err.false) (c.create.ensures.settled settled_second) in
     laid_out g.O.Oper.meaning c.args.params (g.M.Machine.disk c.create.new.m) (g.M.Machine.disk c.create-2.new.machine) tells_third (c.in_ok-create.ensures.settled settled_third) c.create-2.ensures.runs
-    (c.in_ok-create.ensures.made tells_third) logs.0 logs.1
+    (c.in_ok-create.ensures.made tells_third) logs

@@ -5,8 +5,8 @@ pub returns-then-length-limit-clause-forced : goal.returns-then-length-limit-cla
 returns-then-length-limit-clause-forced g c p commands h other =
     let forced = c.in_ok-force.ensures.ok p commands h in (forced.1, forced.2)
 
-pub returns-then-next-gt-LAST_NUMBER-clause-forced : goal.returns-then-next-gt-LAST_NUMBER-clause-forced
-returns-then-next-gt-LAST_NUMBER-clause-forced g c p commands h other =
+pub returns-then-next-ge-NUMBERS_END-clause-forced : goal.returns-then-next-ge-NUMBERS_END-clause-forced
+returns-then-next-ge-NUMBERS_END-clause-forced g c p commands h other =
     let forced = c.in_ok-force-2.ensures.ok p commands h in (forced.1, forced.2)
 
 pub returns-clause-moments : goal.returns-clause-moments
