@@ -13,6 +13,7 @@ pub mod Tables
 pub mod Runs
 pub mod Graph
 pub mod OneState
+pub mod Wider
 pub mod GroupLaws
 pub mod GroupRuns
 pub mod TurnRuns

@@ -39,8 +39,8 @@ pub record IsCopied {O : Type 0} (m : Meaning O) (w : World O) (copied : ℕ) (c
 abbrev pub IsOneIdentity : {O : Type 0} → World O → (ℕ → Bool) → Type 0
 IsOneIdentity w node = (n y : ℕ) × ((k : ℕ) → IsTrue (node k) → k ≡ n) × IsIdentityAt w.history n y
 
--- A step that may be taken while slots are copied: the slot of a copied object is set by a node of one identity write alone,
--- and the log is not cut.
+-- A step that may be taken while slots are copied: the slot of a copied object is set by a node of one identity write
+-- alone, the log is not cut, and the store does not stop.
 abbrev pub MayWhileCopied : {O : Type 0} → World O → ℕ → Step O → Type 0
 MayWhileCopied w copied Begin = ⊤
 MayWhileCopied w copied End = ⊤

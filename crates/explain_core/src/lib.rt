@@ -2,7 +2,7 @@
 //! order that needs.
 //!
 //! The one contract: every run of allowed steps from a new store is sound, and a sound world replayed to its end has
-//! the state after its commands in its cache. The crate stands on `oper_core` and `install_order`, and reads and
+//! the state after its commands in its cache. The crate depends on `oper_core` and `install_order`, and reads and
 //! writes nothing: its laws are functions without parameters whose clauses are the statements.
 #![tactic(auto)]
 
@@ -20,7 +20,7 @@ pub use flush_order::{
 };
 pub use recovery::{
     crash_takes_the_group, forced_splits_no_group, history_gives_the_map, live_cache_is_the_map,
-    one_state, redo_gives_the_map, stable_parts_stand, turns_keep,
+    one_state, redo_gives_the_map, stable_parts_stand, turns_keep, wider_bounds_keep_stable_parts,
 };
 pub use steps::{
     append_keeps, begin_keeps, block_gate_keeps, check_keeps, crash_keeps, end_keeps,

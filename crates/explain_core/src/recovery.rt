@@ -1,6 +1,6 @@
 ghost use Rattle.std.specs.Prelude.{ℕ, ◌≡◌, ◌+◌, ◌-◌, ◌<◌, ◌≤◌, Bool, Some, IfSome, List, [], length, take};
 ghost use Rattle.std.specs.List.{AllByRecursion};
-ghost use Rattle.oper_core.specs.Meaning.{IsSmall, state_after};
+ghost use Rattle.oper_core.specs.Meaning.{IsSmall, AreWithin, state_after};
 ghost use Rattle.oper_core.specs.declared.bounds.Bounds.{Bounds};
 ghost use Rattle.explain_core.specs.History.{Member, IsHistory, commands_of, value_at};
 ghost use Rattle.explain_core.specs.World.{World, Step, step, run, AreAllowed, IsLive, IsAllStable, new_world, end_of, redo_of};
@@ -63,6 +63,13 @@ pub fn stable_parts_stand<O: Oper>()
     ensures sound { (b : Bounds) (parts : Stable O) (h : List (Member O)) (installed : ℕ → Bool) →
         IsSmall b → IsStableOf (O.meaning b) parts h installed →
         IsSound (O.meaning b) (world_of (O.meaning b) parts h installed) }
+{}
+
+/// What is stable of a history under some bounds is stable of it under wider ones: each command is accepted there too, and
+/// the values are the same.
+pub fn wider_bounds_keep_stable_parts<O: Oper>()
+    ensures { (b c : Bounds) (parts : Stable O) (h : List (Member O)) (installed : ℕ → Bool) → IsSmall b →
+        AreWithin b c → IsStableOf (O.meaning b) parts h installed → IsStableOf (O.meaning c) parts h installed }
 {}
 
 /// In every run from a new store, what is forced splits no group: none of the open one is forced, and of a closed one all

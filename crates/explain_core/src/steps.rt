@@ -20,8 +20,8 @@ pub fn end_keeps<O: Oper>()
         IsSound (O.meaning b) (step (O.meaning b) w End) }
 {}
 
-/// An append keeps a live world sound: of a command that is accepted on the cache, within a group too, or outside
-/// groups of an identity write of the cache's value.
+/// The append of a command that is accepted on the cache keeps a live world sound, within a group too; so does, outside
+/// groups, that of an identity write of the cache's value.
 pub fn append_keeps<O: Oper>()
     ensures command { (b : Bounds) (w : World O) (op : O) → IsSound (O.meaning b) w → IsLive w →
         Accepts (O.meaning b) (λ x. (w.cache x).value) op →

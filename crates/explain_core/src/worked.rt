@@ -21,6 +21,7 @@ use crate::{
     forced_splits_no_group, graph_is_within, header_gate_keeps, history_gives_the_map,
     live_cache_is_the_map, minimal_nodes_are_whole, one_state, redo_gives_the_map, removal_keeps,
     replay_keeps, slot_gate_keeps, some_node_is_minimal, stable_parts_stand, turns_keep,
+    wider_bounds_keep_stable_parts,
 };
 
 /// The laws at one operation type: every run of small operations from a new store is sound, and replayed to its end it
@@ -48,6 +49,7 @@ pub fn runs_of_bytes()
     redo_gives_the_map::<ByteOp>();
     stable_parts_stand::<ByteOp>();
     one_state::<ByteOp>();
+    wider_bounds_keep_stable_parts::<ByteOp>();
     turns_keep::<ByteOp>();
     copying_goes_on::<ByteOp>();
     copy_stands::<ByteOp>();
