@@ -1,6 +1,6 @@
 -- The worked runs are allowed.
-use Rattle.std.proofs.Common.{◌∙◌, ◌==◌, false, ◌≡◌, ◌<◌, ◌≤◌, not, sym, subst, ℕ, IsTrue, List, [], ◌∷◌, ◌++◌, refl, arith, inl, inr}
-use Rattle.std.proofs.lemmas.Bool.{cases_eq, cases_lt, both_ways, not-true, or_from, ne_eqb}
+use Rattle.std.proofs.Common.{◌≡◌, ◌<◌, ◌≤◌, not, sym, subst, ℕ, IsTrue, List, [], ◌∷◌, ◌++◌, refl, arith, inl, inr}
+use Rattle.std.proofs.lemmas.Bool.{cases_eq, cases_lt, both_ways, not-true}
 use Rattle.oper_core.specs.Meaning.{IsLawful}
 use Rattle.install_order.specs.Computed.{IsWithin}
 use Rattle.install_order.specs.ListLaws.{all-gives, all_below-gives}
@@ -8,9 +8,9 @@ use Rattle.install_order.specs.NodeLaws.{flushed-iff}
 use Rattle.install_order.specs.Checks.{is_minimal-gives, flushes_only-gives}
 use Rattle.explain_core.specs.declared.byte_op.ByteOp.{ByteOp}
 use Rattle.explain_core.specs.ByteOps.{byte_meaning, byte_lawful}
-use Rattle.explain_core.specs.World.{World, Step, step, run, IsAllowed, AreAllowed, IsReady, new_world, graph_access, work_of, end_of, replays}
+use Rattle.explain_core.specs.World.{Step, step, run, AreAllowed, IsReady, new_world, graph_access, work_of, end_of, replays}
 use Rattle.explain_core.specs.World.Step.{Block_gate, Check, Slot_gate, Removal, Header_gate, Crash}
-use Rattle.explain_core.specs.RunLaws.{run-append, allowed-append}
+use Rattle.explain_core.specs.RunLaws.{allowed-append}
 use Rattle.explain_core.specs.Sound.{IsSound}
 use Rattle.explain_core.specs.Worked.{two, after_steps, swap_node, swap_logged, swap_flushed, swap_removed, swap_checked, swap_redone, redone_node, swap_installed, swap_redone_again, group_opened}
 use Rattle.explain_core.proofs.Runs.{run_sound, new_sound}

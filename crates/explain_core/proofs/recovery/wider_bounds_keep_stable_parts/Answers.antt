@@ -1,4 +1,4 @@
-use Rattle.std.proofs.Common.{ℕ, ◌≤◌, arith}
+use Rattle.std.proofs.Common.{arith}
 use Rattle.explain_core.proofs.Wider.{stable-wider}
 use Rattle.explain_core.proofs.recovery.wider_bounds_keep_stable_parts.Goals as goal
 

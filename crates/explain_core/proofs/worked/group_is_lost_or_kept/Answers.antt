@@ -1,4 +1,4 @@
-use Rattle.std.proofs.Common.{ℕ, List, ◌∷◌, ◌++◌, refl, arith}
+use Rattle.std.proofs.Common.{◌∷◌, refl, arith}
 use Rattle.explain_core.proofs.Runs.{sound-map}
 use Rattle.explain_core.proofs.WorkedRuns.{steps-sound, one-more, opened-allowed}
 use Rattle.explain_core.specs.declared.byte_op.ByteOp.{ByteOp}

@@ -1,4 +1,4 @@
-use Rattle.std.proofs.Common.{◌∙◌, ◌==◌, false, ◌≡◌, sym, subst, ℕ, ◌∷◌, [], ◌++◌, refl, arith, inl, inr}
+use Rattle.std.proofs.Common.{◌∙◌, ◌==◌, false, ◌≡◌, sym, subst, ◌∷◌, [], refl, arith, inl, inr}
 use Rattle.std.proofs.lemmas.Bool.{cases_eq, both_ways, or_from, ne_eqb}
 use Rattle.install_order.specs.ListLaws.{all-gives}
 use Rattle.install_order.specs.NodeLaws.{flushed-iff}
