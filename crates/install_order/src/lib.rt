@@ -2,7 +2,7 @@
 //! value is still needed for.
 //!
 //! The one contract: [`edge`], [`exposed`] and [`closed`] answer the definitions of `specs/Order.antt`, exactly. The
-//! crate stands on `oper_core` alone.
+//! crate depends on `oper_core` alone.
 #![tactic(auto)]
 
 mod entry;

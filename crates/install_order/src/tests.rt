@@ -1,11 +1,11 @@
 // What no clause says: the worked tables, by the code itself.
 use crate::{Entry, closed, edge, exposed};
-use oper_core::Objs;
+use oper_core::{Memory, Objs};
 use std::alloc::Global;
 use std::test::Fail;
 
 /// The operations of the worked tables, by the objects that they access.
-#[derive(Clone, Copy, Debug)]
+#[derive(Clone, Copy)]
 enum Kind {
     Put(u32),
     Identity(u32),
@@ -36,7 +36,7 @@ fn entry(number: u64, kind: Kind) -> Entry {
 }
 
 /// The operations as entries, numbered from `first`.
-fn entries_of(alloc: Global, first: u32, kinds: &[Kind]) -> Result<Vec<Entry>, Fail> {
+fn entries_of(alloc: Global, first: u32, kinds: &[Kind]) -> Result<Vec<Entry>, Memory> {
     let mut entries = Vec::new(alloc);
     for (place, kind) in kinds.iter().enumerate() {
         entries.push(entry(first as u64 + place as u64, *kind))?;
@@ -118,18 +118,28 @@ const EDGES: [(u32, &[Kind], &[(u64, u64)]); 11] = [
     ),
 ];
 
-#[test]
-fn worked_edges(rt: HostRuntime) -> Result<(), Fail> {
+/// Whether `edge` finds exactly these edges between numbers below 8.
+fn has_edges(entries: &[Entry], edges: &[(u64, u64)]) -> bool {
+    (1..8).all(|a| has_edges_from(a, entries, edges))
+}
+
+fn has_edges_from(a: u64, entries: &[Entry], edges: &[(u64, u64)]) -> bool {
+    (1..8).all(|b| edge(a, b, entries) == edges.iter().any(|e| e.0 == a && e.1 == b))
+}
+
+fn all_have_their_edges(alloc: Global) -> Result<bool, Memory> {
     for (first, kinds, edges) in EDGES {
-        let entries = entries_of(rt.alloc(), first, kinds)?;
-        for a in 1..8 {
-            for b in 1..8 {
-                let wanted = edges.iter().any(|e| e.0 == a && e.1 == b);
-                let found = edge(a, b, entries.as_slice());
-                assert_eq!(rt; found, wanted, "{a} to {b} in {kinds:?}");
-            }
+        let entries = entries_of(alloc, first, kinds)?;
+        if !has_edges(entries.as_slice(), edges) {
+            return Ok(false);
         }
     }
+    Ok(true)
+}
+
+#[test]
+fn worked_edges(rt: HostRuntime) -> Result<(), Fail> {
+    assert!(rt; all_have_their_edges(rt.alloc())?);
     Ok(())
 }
 
@@ -157,19 +167,31 @@ const SETS: [(&[Kind], &[u64], bool, [bool; 3]); 14] = [
     (APPENDED, &[2], false, [true, false, true]),
 ];
 
-#[test]
-fn worked_sets(rt: HostRuntime) -> Result<(), Fail> {
+/// Whether the installed numbers are closed, and which of the first objects are exposed, as a row says.
+fn is_as_said(
+    entries: &[Entry],
+    installed: &[u64],
+    is_closed: bool,
+    are_exposed: [bool; 3],
+) -> bool {
+    closed(installed, entries) == is_closed
+        && exposed(0, installed, entries) == are_exposed[0]
+        && exposed(1, installed, entries) == are_exposed[1]
+        && exposed(2, installed, entries) == are_exposed[2]
+}
+
+fn all_are_as_said(alloc: Global) -> Result<bool, Memory> {
     for (kinds, installed, is_closed, are_exposed) in SETS {
-        let entries = entries_of(rt.alloc(), 1, kinds)?;
-        assert_eq!(rt;
-            closed(installed, entries.as_slice()),
-            is_closed,
-            "{installed:?}"
-        );
-        for (x, is_exposed) in (0..3).zip(are_exposed.iter()) {
-            let found = exposed(x, installed, entries.as_slice());
-            assert_eq!(rt; found, *is_exposed, "{x} over {installed:?}");
+        let entries = entries_of(alloc, 1, kinds)?;
+        if !is_as_said(entries.as_slice(), installed, is_closed, are_exposed) {
+            return Ok(false);
         }
     }
+    Ok(true)
+}
+
+#[test]
+fn worked_sets(rt: HostRuntime) -> Result<(), Fail> {
+    assert!(rt; all_are_as_said(rt.alloc())?);
     Ok(())
 }
