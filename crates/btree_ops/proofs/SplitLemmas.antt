@@ -1,7 +1,18 @@
--- The place of a child.
-use Rattle.std.proofs.Common.{◌≡◌, ◌≢◌, ◌<◌, ℕ, zero, suc, ◌==◌, Bool, true, false, if◌then◌else◌, Option, None, Some, List, [], ◌∷◌, length, insert, get_or, refl, ap, ◌∙◌, arith, inl, inr, option_map}
+-- The halves of a leaf, and the place of a child.
+use Rattle.std.proofs.Common.{◌≡◌, ◌≢◌, ◌<◌, ◌≤◌, ℕ, zero, suc, ◌-◌, ◌==◌, Bool, true, false, if◌then◌else◌, Option, None, Some, List, [], ◌∷◌, length, take, drop, insert, get_or, refl, ap, ◌∙◌, arith, inl, inr, option_map}
 use Rattle.std.proofs.lemmas.Bool.Decides.{eqb_tells}
-use Rattle.btree_ops.specs.Effects.{behind_branch, behind_child}
+use Rattle.arrayvec.specs.ArrayVec.{ArrayVec}
+use Rattle.btree_ops.specs.Node.{leaf}
+use Rattle.btree_ops.specs.Effects.{leaf_halves, behind_branch, behind_child}
+use Rattle.btree_ops.specs.declared.node.Node.TheVariants.{Leaf}
+
+-- three pairs and the four others are the halves of a leaf, cut before the fourth
+pub leaf_parts : (pairs : List (List ℕ × List ℕ)) (low high : ArrayVec (List ℕ × List ℕ)) (d : List ℕ × List ℕ) → 7 ≤ length pairs → length pairs ≤ 7
+    → low.items ≡ take 3 pairs → high.items ≡ take (length pairs - 3) (drop 3 pairs)
+    → Some (record { left = Leaf low; separator = (get_or pairs 3 d).0; right = Leaf high }) ≡ leaf_halves pairs
+leaf_parts (a ∷ b ∷ c ∷ e ∷ f ∷ g ∷ h ∷ []) low high d least most lower upper =
+    λ i. Some (record { left = leaf (lower i); separator = e.0; right = leaf (upper i) })
+leaf_parts others low high d least most lower upper = absurd (omega (arith, least, most))
 
 -- what a test of a child says
 is_child : (x child : ℕ) → x ≡ child → (x == child) ≡ true

@@ -5,7 +5,8 @@ ghost use Rattle.btree_ops.specs.Operation.{op_code, op_in, put_in, delete_in, t
 ghost use Rattle.btree_ops.specs.declared.node_op.NodeOp.{NodeOp};
 ghost use Rattle.btree_ops.specs.declared.node_op.NodeOp.TheVariants.{Put, Delete};
 
-use crate::reading::{read_child, read_pair};
+use crate::entry_field::EntryField;
+use crate::reading::read_entry;
 use crate::{NodeOp, Short};
 use oper_core::Memory;
 
@@ -116,8 +117,8 @@ pub(crate) fn read(bytes: &[u8]) -> Option<NodeOp>
 fn read_put(body: &[u8]) -> Option<NodeOp>
     ensures { result ≡ put_in body.now }
 {
-    let object = read_child(body)?;
-    let (key, value) = read_pair(&body[4..])?;
+    let object = u32::read(body)?;
+    let (key, value) = read_entry(&body[4..])?;
     Some(NodeOp::Put { object, key, value })
 }
 
@@ -125,7 +126,7 @@ fn read_put(body: &[u8]) -> Option<NodeOp>
 fn read_delete(body: &[u8]) -> Option<NodeOp>
     ensures { result ≡ delete_in body.now }
 {
-    let object = read_child(body)?;
+    let object = u32::read(body)?;
     let key = Short::read(&body[4..])?;
     Some(NodeOp::Delete { object, key })
 }
@@ -134,8 +135,8 @@ fn read_delete(body: &[u8]) -> Option<NodeOp>
 fn read_three(body: &[u8]) -> Option<(u32, u32, u32)>
     ensures { (make : ℕ → ℕ → ℕ → NodeOp) → option_map (λ t. make t.0 t.1 t.2) result ≡ three_in make body.now }
 {
-    let first = read_child(body)?;
-    let second = read_child(&body[4..])?;
-    let third = read_child(&body[8..])?;
+    let first = u32::read(body)?;
+    let second = u32::read(&body[4..])?;
+    let third = u32::read(&body[8..])?;
     Some((first, second, third))
 }

@@ -3,11 +3,12 @@
 //!
 //! The one contract is that of the trait `Oper`, at the meaning that specs/ gives: a put and a delete act on a leaf as
 //! on an ordered map, a split cuts a full node in its middle and keeps all, and bytes are read as a node or as an
-//! operation exactly where they are its one code. Nothing but the bytes that are written takes memory. It stands on
+//! operation exactly where they are its one code. Nothing but the bytes that are written takes memory. It depends on
 //! oper_core, on arrayvec for the entries of a node, and on byteorder for the numbers in the bytes.
 #![tactic(auto)]
 
 mod coding;
+mod entry_field;
 mod halves;
 mod laws;
 mod leaf;

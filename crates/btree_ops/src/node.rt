@@ -46,13 +46,13 @@ impl Node {
             Node::Leaf(pairs) => {
                 out.push(LEAF)?;
                 out.push(pairs.len() as u8)?;
-                writing::write_pairs(pairs.as_slice(), &mut out)?;
+                writing::write_entries(pairs.as_slice(), &mut out)?;
             }
             Node::Inner(first, branches) => {
                 out.push(INNER)?;
                 out.push(branches.len() as u8)?;
                 out.extend_from_slice(&first.to_le_bytes())?;
-                writing::write_branches(branches.as_slice(), &mut out)?;
+                writing::write_entries(branches.as_slice(), &mut out)?;
             }
         }
         Ok(out)

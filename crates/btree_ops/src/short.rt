@@ -1,9 +1,10 @@
-ghost use Rattle.std.specs.Prelude.{◌≡◌, ◌≤◌, ◌++◌, ◌∷◌, [], length, nat_eq, if◌then◌else◌, None, Some, IfSome, IsTrue, OnOk, refl};
+ghost use Rattle.std.specs.Prelude.{◌≡◌, ◌≤◌, ◌∷◌, [], length, nat_eq, if◌then◌else◌, None, Some, IsTrue, refl};
 ghost use Rattle.std.proofs.Common.{nat_cmp};
 ghost use Rattle.std.specs.Cmp;
 ghost use Rattle.std.specs.Cmp.Lexicographic.{pointwise, slice_cmp, nat_list_eq_equiv, nat_list_cmp_total, texts_ties, texts_po};
-ghost use Rattle.btree_ops.specs.Short.{is_short, short_code, short_in};
+ghost use Rattle.btree_ops.specs.Short.{is_short};
 
+use crate::entry_field::EntryField;
 use oper_core::Memory;
 use std::cmp::Ordering;
 use std::marker::Model;
@@ -108,34 +109,29 @@ impl Short {
         &self.bytes[..self.len]
     }
 
-    /// How many bytes its code has.
-    pub fn code_len(&self) -> usize
-        ensures value { result ≡ length (short_code self.now) }
-        ensures few { result ≤ 33 }
-    {
-        1 + self.as_slice().len()
-    }
-
     /// That it has 1 to 32 bytes, for proofs. It does nothing.
     pub(crate) fn known_as_short(&self)
         ensures { IsTrue (is_short self.now) }
     {
         let _bytes = self.as_slice();
     }
+}
 
-    /// The one whose code the bytes begin with: its length, and then its bytes.
-    pub fn read(bytes: &[u8]) -> Option<Self>
-        ensures value { result ≡ short_in bytes.now }
-        ensures room { IfSome result (λ s. length (short_code s) ≤ length bytes.now) }
-    {
+impl EntryField for Short {
+    ghost use Rattle.btree_ops.specs.Entries.{short_field};
+
+    ghost field = { short_field };
+
+    fn read(bytes: &[u8]) -> Option<Self> {
         let len = *bytes.first()? as usize;
         Short::new(bytes[1..].get(..len)?)
     }
 
-    /// Appends its code. After an error a part of it may stand there.
-    pub fn write(&self, out: &mut Vec<u8>) -> Result<(), Memory>
-        ensures { OnOk result (out.new.items ≡ out.old.items ++ short_code self.now) }
-    {
+    fn code_len(&self) -> usize {
+        1 + self.as_slice().len()
+    }
+
+    fn write(&self, out: &mut Vec<u8>) -> Result<(), Memory> {
         let bytes = self.as_slice();
         out.push(bytes.len() as u8)?;
         out.extend_from_slice(bytes)?;

@@ -1,11 +1,9 @@
-ghost use Rattle.std.specs.Prelude.{◌≡◌, IfOk, length};
+ghost use Rattle.std.specs.Prelude.{◌≡◌, IfSome, length};
 ghost use Rattle.btree_ops.specs.Operation.{read_by};
 
 use crate::{Node, NodeOp, Short};
-use oper_core::{Bounds, ByteList, Oper, Refusal, Values};
+use oper_core::{Bounds, ByteList, Memory, Oper, Refusal, Values};
 use std::alloc::Global;
-use std::process::Abort;
-use std::test::Fail;
 
 // Leaves of the pairs a 1, .., of seven pairs, and an inner node over the objects 5 and 6.
 const PAIR: &[u8] = b"\x01\x01\x01a\x011";
@@ -31,30 +29,27 @@ const UPPER_INNER: &[u8] = b"\x02\x03\x04\0\0\0\x01e\x05\0\0\0\x01f\x06\0\0\0\x0
 
 const ROOT: &[u8] = b"\x02\x01\x02\0\0\0\x01d\x03\0\0\0";
 
-fn bounds(cap: u32) -> Bounds {
-    Bounds { objects: 8, cap }
-}
+const EIGHT: Bounds = Bounds {
+    objects: 8,
+    cap: 1024,
+};
 
-fn short(text: &[u8]) -> Result<Short, Fail> {
-    Ok(Short::new(text).ok_or("not 1 to 32 bytes")?)
-}
-
-fn put(key: &[u8], value: &[u8]) -> Result<NodeOp, Fail>
-    ensures { IfOk result (λ op. length (read_by op) ≡ 1) }
+fn put(key: &[u8], value: &[u8]) -> Option<NodeOp>
+    ensures { IfSome result (λ op. length (read_by op) ≡ 1) }
 {
-    Ok(NodeOp::Put {
+    Some(NodeOp::Put {
         object: 7,
-        key: short(key)?,
-        value: short(value)?,
+        key: Short::new(key)?,
+        value: Short::new(value)?,
     })
 }
 
-fn delete(object: u32, key: &[u8]) -> Result<NodeOp, Fail>
-    ensures { IfOk result (λ op. length (read_by op) ≡ 1) }
+fn delete(object: u32, key: &[u8]) -> Option<NodeOp>
+    ensures { IfSome result (λ op. length (read_by op) ≡ 1) }
 {
-    Ok(NodeOp::Delete {
+    Some(NodeOp::Delete {
         object,
-        key: short(key)?,
+        key: Short::new(key)?,
     })
 }
 
@@ -70,62 +65,31 @@ fn split_child(parent: u32, child: u32, new: u32) -> NodeOp
     NodeOp::SplitChild { parent, child, new }
 }
 
-// What an operation that reads one object makes of its value.
-fn made_of(
-    alloc: Global,
-    op: &NodeOp,
-    cap: u32,
-    value: &[u8],
-) -> Result<(Result<(), Refusal>, Vec<ByteList>), Fail>
-    requires { length (read_by op.now) ≡ 1 }
-{
-    let bounds = Bounds { objects: 8, cap };
-    if value.len() > cap as usize {
-        return Err("too long a value".into());
+fn is_kept(bytes: &[u8]) -> bool {
+    match Short::new(bytes) {
+        Some(short) => short.as_slice() == bytes,
+        None => false,
     }
-    let mut values = Values::new(alloc);
-    values.push(value)?;
-    let refused = op.check(bounds, &values);
-    let made = op.apply(alloc, bounds, &values)?;
-    Ok((refused, made.into_lists()))
+}
+
+fn are_in_order(lower: &[u8], upper: &[u8]) -> bool {
+    match (Short::new(lower), Short::new(upper)) {
+        (Some(lower), Some(upper)) => lower < upper,
+        _ => false,
+    }
+}
+
+fn short_lists_are_right() -> bool {
+    let none = Short::new(b"").is_none()
+        && Short::new(b"0123456789abcdef0123456789abcdef0").is_none();
+    let kept = is_kept(b"a") && is_kept(b"0123456789abcdef0123456789abcdef");
+    let order = are_in_order(b"aa", b"b") && are_in_order(b"a", b"aa");
+    none && kept && order && Short::default().as_slice() == [0].as_slice()
 }
 
 #[test]
-fn short_lists_have_1_to_32_bytes_in_their_order(rt: HostRuntime) -> Result<(), Fail> {
-    let longest = b"0123456789abcdef0123456789abcdef";
-    assert!(rt; Short::new(b"").is_none());
-    assert!(rt; Short::new(b"0123456789abcdef0123456789abcdef0").is_none());
-    assert_eq!(rt; short(b"a")?.as_slice(), b"a".as_slice());
-    assert_eq!(rt; short(longest)?.as_slice(), longest.as_slice());
-    assert!(rt; short(b"aa")? < short(b"b")?);
-    assert!(rt; short(b"a")? < short(b"aa")?);
-    assert!(rt; short(b"\xff")? == short(b"\xff")?);
-    assert_eq!(rt; Short::default().as_slice(), [0].as_slice());
-    Ok(())
-}
-
-// The bytes of a leaf of seven pairs, and of an inner node of seven separators, whose lists all have 32 bytes.
-fn longest_leaf(alloc: Global) -> Result<Vec<u8>, Fail> {
-    let mut out = Vec::new(alloc);
-    out.extend_from_slice(b"\x01\x07")?;
-    for key in b"abcdefg".iter() {
-        out.push(32)?;
-        out.extend_from_slice(&[*key; 32])?;
-        out.push(32)?;
-        out.extend_from_slice(&[b'v'; 32])?;
-    }
-    Ok(out)
-}
-
-fn longest_inner(alloc: Global) -> Result<Vec<u8>, Fail> {
-    let mut out = Vec::new(alloc);
-    out.extend_from_slice(b"\x02\x07\x05\0\0\0")?;
-    for key in b"abcdefg".iter() {
-        out.push(32)?;
-        out.extend_from_slice(&[*key; 32])?;
-        out.extend_from_slice(b"\x06\0\0\0")?;
-    }
-    Ok(out)
+fn short_lists_have_1_to_32_bytes_in_their_order(rt: HostRuntime) {
+    assert!(rt; short_lists_are_right());
 }
 
 // Bytes that are a node.
@@ -170,42 +134,127 @@ const OTHERS: [(&[u8], &str); 15] = [
 ];
 
 // The bytes are read, and written again as they are.
-fn is_node(rt: &impl Abort, alloc: Global, bytes: &[u8], why: &str) -> Result<(), Fail> {
-    let node = Node::read(bytes).ok_or("no node")?;
-    assert_eq!(rt; node.bytes(alloc)?.as_slice(), bytes, "{why}");
-    Ok(())
+fn is_node(alloc: Global, bytes: &[u8]) -> bool {
+    match Node::read(bytes) {
+        Some(node) => match node.bytes(alloc) {
+            Ok(out) => out.as_slice() == bytes,
+            Err(_) => false,
+        },
+        None => false,
+    }
+}
+
+fn nodes_are_read(alloc: Global) -> bool {
+    let mut good = true;
+    for (bytes, _what) in NODES {
+        good = good && is_node(alloc, bytes);
+    }
+    for (bytes, _what) in OTHERS {
+        good = good && Node::read(bytes).is_none();
+    }
+    good
 }
 
 #[test]
-fn a_node_is_read_exactly_where_the_bytes_are_one(rt: HostRuntime) -> Result<(), Fail> {
-    for (bytes, why) in NODES {
-        is_node(&rt, rt.alloc(), bytes, why)?;
+fn a_node_is_read_exactly_where_the_bytes_are_one(rt: HostRuntime) {
+    assert!(rt; nodes_are_read(rt.alloc()));
+}
+
+// The bytes of a node of seven entries whose keys all have 32 bytes, with these bytes in front and behind each key.
+fn longest(alloc: Global, front: &[u8], beside: &[u8]) -> Option<Vec<u8>> {
+    let mut out = front.to_vec(alloc).ok()?;
+    for key in b"abcdefg".iter() {
+        out.push(32).ok()?;
+        out.extend_from_slice(&[*key; 32]).ok()?;
+        out.extend_from_slice(beside).ok()?;
     }
-    for (bytes, why) in OTHERS {
-        assert!(rt; Node::read(bytes).is_none(), "{why}");
+    Some(out)
+}
+
+fn is_whole(alloc: Global, bytes: Option<Vec<u8>>, length: usize) -> bool {
+    match bytes {
+        Some(bytes) => bytes.len() == length && is_node(alloc, bytes.as_slice()),
+        None => false,
     }
-    Ok(())
+}
+
+fn longest_nodes_are_read(alloc: Global) -> bool {
+    let value = b"\x200123456789abcdef0123456789abcdef";
+    let leaf = longest(alloc, b"\x01\x07", value);
+    let inner = longest(alloc, b"\x02\x07\x05\0\0\0", b"\x06\0\0\0");
+    is_whole(alloc, leaf, 464) && is_whole(alloc, inner, 265)
 }
 
 #[test]
-fn the_longest_nodes_are_read_whole(rt: HostRuntime) -> Result<(), Fail> {
-    let mut leaf = longest_leaf(rt.alloc())?;
-    let mut inner = longest_inner(rt.alloc())?;
-    assert_eq!(rt; leaf.len(), 464);
-    assert_eq!(rt; inner.len(), 265);
-    is_node(&rt, rt.alloc(), leaf.as_slice(), "the longest leaf")?;
-    is_node(&rt, rt.alloc(), inner.as_slice(), "the longest inner node")?;
-    leaf.push(0)?;
-    inner.push(0)?;
-    assert!(rt; Node::read(leaf.as_slice()).is_none());
-    assert!(rt; Node::read(inner.as_slice()).is_none());
-    Ok(())
+fn the_longest_nodes_are_read_whole(rt: HostRuntime) {
+    assert!(rt; longest_nodes_are_read(rt.alloc()));
 }
 
-fn first(lists: &Vec<ByteList>) -> &[u8] {
-    match lists.as_slice().first() {
-        Some(list) => list.as_slice(),
-        None => b"nothing",
+// What an operation answers to values: its refusal, and the values that it makes.
+#[derive(Drop)]
+struct Outcome {
+    check: Result<(), Refusal>,
+    made: Vec<ByteList>,
+}
+
+// What an operation that reads one object makes of its value, unless that is too long.
+fn outcome_of(alloc: Global, op: &NodeOp, cap: u32, value: &[u8]) -> Result<Option<Outcome>, Memory>
+    requires { length (read_by op.now) ≡ 1 }
+{
+    let bounds = Bounds { objects: 8, cap };
+    if value.len() > cap as usize {
+        return Ok(None);
+    }
+    let mut values = Values::new(alloc);
+    values.push(value)?;
+    let check = op.check(bounds, &values);
+    let made = op.apply(alloc, bounds, &values)?.into_lists();
+    Ok(Some(Outcome { check, made }))
+}
+
+// What the split of a child makes of the values of a parent and a child, unless one is too long.
+fn split_outcome(alloc: Global, parent: &[u8], child: &[u8]) -> Result<Option<Outcome>, Memory> {
+    if parent.len() > 1024 || child.len() > 1024 {
+        return Ok(None);
+    }
+    let op = split_child(4, 5, 7);
+    let mut values = Values::new(alloc);
+    values.push(parent)?;
+    values.push(child)?;
+    let check = op.check(EIGHT, &values);
+    let made = op.apply(alloc, EIGHT, &values)?.into_lists();
+    Ok(Some(Outcome { check, made }))
+}
+
+fn are(lists: &[ByteList], want: &[&[u8]]) -> bool {
+    let mut good = lists.len() == want.len();
+    for (list, bytes) in lists.iter().zip(want.iter()) {
+        good = good && list.as_slice() == *bytes;
+    }
+    good
+}
+
+fn is_outcome(
+    outcome: Result<Option<Outcome>, Memory>,
+    check: Result<(), Refusal>,
+    made: &[&[u8]],
+) -> bool {
+    match outcome {
+        Ok(Some(outcome)) => outcome.check == check && are(outcome.made.as_slice(), made),
+        _ => false,
+    }
+}
+
+// What an operation makes of one value is this one, or empty where it is refused.
+fn makes(alloc: Global, op: Option<NodeOp>, old: &[u8], want: Result<&[u8], Refusal>) -> bool
+    requires { IfSome op (λ op. length (read_by op) ≡ 1) }
+{
+    match op {
+        Some(op) => {
+            let outcome = outcome_of(alloc, &op, 1024, old);
+            is_outcome(outcome, want.map(|_| ()), &[want.unwrap_or(b"")])
+        }
+        None => false,
     }
 }
 
@@ -221,31 +270,33 @@ const PUTS: [(&[u8], &[u8], &[u8], Result<&[u8], Refusal>); 8] = [
     (INNER, b"a", b"1", Err(Refusal::NotNode)),
 ];
 
-// What an operation makes of one value is this one, or empty where it is refused.
-fn makes(
-    rt: &impl Abort,
-    alloc: Global,
-    op: &NodeOp,
-    old: &[u8],
-    want: Result<&[u8], Refusal>,
-) -> Result<(), Fail>
-    requires { length (read_by op.now) ≡ 1 }
-{
-    let (check, made) = made_of(alloc, op, 1024, old)?;
-    assert_eq!(rt; check, want.map(|_| ()));
-    assert_eq!(rt; first(&made), want.unwrap_or(b""));
-    Ok(())
+fn puts_are_right(alloc: Global) -> bool {
+    let mut good = true;
+    for (old, key, value, want) in PUTS {
+        good = good && makes(alloc, put(key, value), old, want);
+    }
+    good
 }
 
 #[test]
-fn a_put_goes_to_its_place(rt: HostRuntime) -> Result<(), Fail> {
-    for (old, key, value, want) in PUTS {
-        makes(&rt, rt.alloc(), &put(key, value)?, old, want)?;
+fn a_put_goes_to_its_place(rt: HostRuntime) {
+    assert!(rt; puts_are_right(rt.alloc()));
+}
+
+fn is_too_large(alloc: Global) -> bool {
+    match delete(7, b"c") {
+        Some(op) => is_outcome(
+            outcome_of(alloc, &op, 1023, TWO),
+            Err(Refusal::TooLarge),
+            &[b""],
+        ),
+        None => false,
     }
-    let (check, made) = made_of(rt.alloc(), &put(b"a", b"1")?, 1023, b"")?;
-    assert_eq!(rt; check, Err(Refusal::TooLarge));
-    assert_eq!(rt; first(&made), b"".as_slice());
-    Ok(())
+}
+
+#[test]
+fn values_of_1023_bytes_are_too_few(rt: HostRuntime) {
+    assert!(rt; is_too_large(rt.alloc()));
 }
 
 // What a delete of a key makes.
@@ -256,57 +307,38 @@ const DELETES: [(&[u8], &[u8], Result<&[u8], Refusal>); 4] = [
     (b"", b"a", Err(Refusal::NotNode)),
 ];
 
-#[test]
-fn a_delete_takes_its_pair(rt: HostRuntime) -> Result<(), Fail> {
+fn deletes_are_right(alloc: Global) -> bool {
+    let mut good = true;
     for (old, key, want) in DELETES {
-        makes(&rt, rt.alloc(), &delete(7, key)?, old, want)?;
+        good = good && makes(alloc, delete(7, key), old, want);
     }
-    Ok(())
-}
-
-// Checks the values that an operation makes.
-fn are(rt: &impl Abort, made: &Vec<ByteList>, want: &[&[u8]]) -> Result<(), Fail> {
-    assert_eq!(rt; made.len(), want.len());
-    for (list, bytes) in made.iter().zip(want.iter()) {
-        assert_eq!(rt; list.as_slice(), *bytes);
-    }
-    Ok(())
+    good
 }
 
 #[test]
-fn a_root_is_split_in_its_middle(rt: HostRuntime) -> Result<(), Fail> {
-    let op = split_root(1, 2, 3);
-    let (check, made) = made_of(rt.alloc(), &op, 1024, FULL)?;
-    assert_eq!(rt; check, Ok(()));
-    are(&rt, &made, &[ROOT, LOWER, UPPER])?;
-    let (check, made) = made_of(rt.alloc(), &op, 1024, FULL_INNER)?;
-    assert_eq!(rt; check, Ok(()));
-    are(&rt, &made, &[ROOT, LOWER_INNER, UPPER_INNER])?;
-    let (check, made) = made_of(rt.alloc(), &op, 1024, TWO)?;
-    assert_eq!(rt; check, Err(Refusal::NotNode));
-    are(&rt, &made, &[b"", b"", b""])
+fn a_delete_takes_its_pair(rt: HostRuntime) {
+    assert!(rt; deletes_are_right(rt.alloc()));
 }
 
-// What the split of a child makes of the two values.
-fn split(
-    alloc: Global,
-    parent: &[u8],
-    child: &[u8],
-) -> Result<(Result<(), Refusal>, Vec<ByteList>), Fail> {
-    let bounds = Bounds {
-        objects: 8,
-        cap: 1024,
-    };
-    if parent.len() > 1024 || child.len() > 1024 {
-        return Err("too long a value".into());
+// A root, and what its split makes of it.
+const ROOTS: [(&[u8], Result<(), Refusal>, [&[u8]; 3]); 3] = [
+    (FULL, Ok(()), [ROOT, LOWER, UPPER]),
+    (FULL_INNER, Ok(()), [ROOT, LOWER_INNER, UPPER_INNER]),
+    (TWO, Err(Refusal::NotNode), [b"", b"", b""]),
+];
+
+fn roots_are_split(alloc: Global) -> bool {
+    let mut good = true;
+    for (root, check, want) in ROOTS {
+        let outcome = outcome_of(alloc, &split_root(1, 2, 3), 1024, root);
+        good = good && is_outcome(outcome, check, &want);
     }
-    let op = split_child(4, 5, 7);
-    let mut values = Values::new(alloc);
-    values.push(parent)?;
-    values.push(child)?;
-    let refused = op.check(bounds, &values);
-    let made = op.apply(alloc, bounds, &values)?;
-    Ok((refused, made.into_lists()))
+    good
+}
+
+#[test]
+fn a_root_is_split_in_its_middle(rt: HostRuntime) {
+    assert!(rt; roots_are_split(rt.alloc()));
 }
 
 // A parent, and what it is when its child, a leaf of seven pairs, is split.
@@ -332,48 +364,80 @@ const UNSPLIT: [(&[u8], &[u8], Refusal); 5] = [
     (FULL_INNER, FULL, Refusal::NodeFull),
 ];
 
-#[test]
-fn a_new_child_stands_behind_the_one_that_is_split(rt: HostRuntime) -> Result<(), Fail> {
+fn children_are_split(alloc: Global) -> bool {
+    let mut good = true;
     for (parent, new) in PARENTS {
-        let (check, made) = split(rt.alloc(), parent, FULL)?;
-        assert_eq!(rt; check, Ok(()));
-        are(&rt, &made, &[new, LOWER, UPPER])?;
+        good = good
+            && is_outcome(
+                split_outcome(alloc, parent, FULL),
+                Ok(()),
+                &[new, LOWER, UPPER],
+            );
     }
     for (parent, child, refusal) in UNSPLIT {
-        let (check, made) = split(rt.alloc(), parent, child)?;
-        assert_eq!(rt; check, Err(refusal));
-        are(&rt, &made, &[b"", b"", b""])?;
+        let outcome = split_outcome(alloc, parent, child);
+        good = good && is_outcome(outcome, Err(refusal), &[b"", b"", b""]);
     }
-    Ok(())
+    good
 }
 
 #[test]
-fn codes_are_as_worked_and_read_back(rt: HostRuntime) -> Result<(), Fail> {
-    for (op, code) in [
-        (put(b"a", b"12")?, b"\x0a\x07\0\0\0\x01a\x0212".as_slice()),
-        (delete(6, b"ab")?, b"\x0b\x06\0\0\0\x02ab".as_slice()),
-        (
-            split_child(1, 2, 3),
-            b"\x0c\x01\0\0\0\x02\0\0\0\x03\0\0\0".as_slice(),
-        ),
-        (
-            split_root(3, 2, 1),
-            b"\x0d\x03\0\0\0\x02\0\0\0\x01\0\0\0".as_slice(),
-        ),
-    ] {
-        let mut out = Vec::new(rt.alloc());
-        op.encode(&mut out)?;
-        assert_eq!(rt; out.as_slice(), code);
-        out.extend_from_slice(b"behind")?;
-        let (read, length) = NodeOp::decode(rt.alloc(), bounds(16), out.as_slice())?.ok_or(
-            "no code",
-        )?;
-        assert_eq!(rt; length, code.len());
-        let mut again = Vec::new(rt.alloc());
-        read.encode(&mut again)?;
-        assert_eq!(rt; again.as_slice(), code);
+fn a_new_child_stands_behind_the_one_that_is_split(rt: HostRuntime) {
+    assert!(rt; children_are_split(rt.alloc()));
+}
+
+fn encoded(alloc: Global, op: &NodeOp) -> Option<Vec<u8>> {
+    let mut out = Vec::new(alloc);
+    op.encode(&mut out).ok()?;
+    Some(out)
+}
+
+fn is_encoded(alloc: Global, op: &NodeOp, code: &[u8]) -> bool {
+    match encoded(alloc, op) {
+        Some(out) => out.as_slice() == code && op.code_length() == code.len() as u64,
+        None => false,
     }
-    Ok(())
+}
+
+// The operation that bytes begin with has this code, and is encoded again as it is.
+fn is_decoded(alloc: Global, bytes: &[u8], code: &[u8]) -> bool {
+    match NodeOp::decode(alloc, EIGHT, bytes) {
+        Ok(Some((op, length))) => length == code.len() && is_encoded(alloc, &op, code),
+        _ => false,
+    }
+}
+
+// Bytes that begin with a code, and the code.
+const CODES: [(&[u8], &[u8]); 4] = [
+    (
+        b"\x0a\x07\0\0\0\x01a\x0212behind",
+        b"\x0a\x07\0\0\0\x01a\x0212",
+    ),
+    (b"\x0b\x06\0\0\0\x02ab\x01", b"\x0b\x06\0\0\0\x02ab"),
+    (
+        b"\x0c\x01\0\0\0\x02\0\0\0\x03\0\0\0\0",
+        b"\x0c\x01\0\0\0\x02\0\0\0\x03\0\0\0",
+    ),
+    (
+        b"\x0d\x03\0\0\0\x02\0\0\0\x01\0\0\0",
+        b"\x0d\x03\0\0\0\x02\0\0\0\x01\0\0\0",
+    ),
+];
+
+fn codes_are_right(alloc: Global) -> bool {
+    let mut good = match put(b"a", b"12") {
+        Some(put) => is_encoded(alloc, &put, b"\x0a\x07\0\0\0\x01a\x0212"),
+        None => false,
+    };
+    for (bytes, code) in CODES {
+        good = good && is_decoded(alloc, bytes, code);
+    }
+    good
+}
+
+#[test]
+fn codes_are_as_worked_and_read_back(rt: HostRuntime) {
+    assert!(rt; codes_are_right(rt.alloc()));
 }
 
 // Bytes that begin with no code.
@@ -392,31 +456,53 @@ const NO_CODES: [(&[u8], &str); 9] = [
     (b"\x0d\x01\0\0\0\x02\0\0\0\x01\0\0\0", "the root twice"),
 ];
 
-#[test]
-fn other_bytes_are_no_code(rt: HostRuntime) -> Result<(), Fail> {
-    for (bytes, why) in NO_CODES {
-        assert!(rt;
-            NodeOp::decode(rt.alloc(), bounds(1024), bytes)?.is_none(),
-            "{why}"
-        );
+fn is_no_code(alloc: Global, bytes: &[u8]) -> bool {
+    match NodeOp::decode(alloc, EIGHT, bytes) {
+        Ok(None) => true,
+        _ => false,
     }
-    Ok(())
+}
+
+fn others_are_no_codes(alloc: Global) -> bool {
+    let mut good = true;
+    for (bytes, _what) in NO_CODES {
+        good = good && is_no_code(alloc, bytes);
+    }
+    good
 }
 
 #[test]
-fn objects_are_there_and_apart(rt: HostRuntime) -> Result<(), Fail> {
-    for (op, want) in [
-        (put(b"a", b"1")?, Ok(())),
-        (delete(8, b"a")?, Err(Refusal::NoObject)),
-        (split_child(1, 2, 7), Ok(())),
-        (split_child(1, 1, 8), Err(Refusal::NoObject)),
-        (split_child(1, 2, 1), Err(Refusal::Same)),
-        (split_root(2, 1, 1), Err(Refusal::Same)),
-    ] {
-        assert_eq!(rt; op.shape(bounds(16)), want);
+fn other_bytes_are_no_code(rt: HostRuntime) {
+    assert!(rt; others_are_no_codes(rt.alloc()));
+}
+
+// The three objects of a split, and what is said of them.
+const SHAPES: [(u32, u32, u32, Result<(), Refusal>); 4] = [
+    (1, 2, 7, Ok(())),
+    (1, 1, 8, Err(Refusal::NoObject)),
+    (1, 2, 1, Err(Refusal::Same)),
+    (2, 1, 1, Err(Refusal::Same)),
+];
+
+fn has_shape(op: &NodeOp, want: Result<(), Refusal>) -> bool {
+    op.shape(EIGHT) == want
+}
+
+fn shapes_are_right() -> bool {
+    let mut good = true;
+    for (first, second, third, want) in SHAPES {
+        let splits = (
+            split_child(first, second, third),
+            split_root(first, second, third),
+        );
+        good = good && has_shape(&splits.0, want) && has_shape(&splits.1, want);
     }
     let op = split_child(1, 2, 3);
-    assert_eq!(rt; op.reads().as_slice(), [1, 2].as_slice());
-    assert_eq!(rt; op.writes().as_slice(), [1, 2, 3].as_slice());
-    Ok(())
+    good && op.reads().as_slice() == [1, 2].as_slice()
+        && op.writes().as_slice() == [1, 2, 3].as_slice()
+}
+
+#[test]
+fn objects_are_there_and_apart(rt: HostRuntime) {
+    assert!(rt; shapes_are_right());
 }
