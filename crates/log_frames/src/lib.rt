@@ -18,8 +18,6 @@ mod payloads;
 mod reading;
 mod rewriting;
 mod seen;
-#[cfg(test)]
-mod tests;
 
 pub use log_err::LogErr;
 pub use log_file::LogFile;

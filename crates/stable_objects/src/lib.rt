@@ -19,8 +19,3 @@ mod value;
 
 pub use slot_err::SlotErr;
 pub use slots::Slots;
-
-#[cfg(test)]
-mod replacing_tests;
-#[cfg(test)]
-mod tests;

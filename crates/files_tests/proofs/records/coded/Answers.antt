@@ -1,6 +1,6 @@
 use Rattle.std.proofs.Common.{◌≡◌, ◌^◌, length, ap, ◌∙◌, arith}
 use Rattle.std.proofs.lemmas.Bool.{lt-ltb}
-use Rattle.log_records.proofs.tests.coded.Goals as goal
+use Rattle.files_tests.proofs.records.coded.Goals as goal
 
 pub encode-requires : goal.encode-requires
 encode-requires c =

@@ -1,0 +1,230 @@
+// The machines and the sources: that calls succeed, and worked cases.
+use disk_model::*;
+use std::alloc::{AllocError, Global};
+use std::test::Fail;
+
+fn machine(alloc: Global, calls: u64, pool: u64, fails: &[u64]) -> Result<MemMachine, AllocError> {
+    MemMachine::new(alloc, [8, 8, 8], calls, pool, fails.to_vec(alloc)?)
+}
+
+// Four synced bytes, two written over, and one behind a gap; the log A is synced.
+fn unsynced(alloc: Global) -> Result<MemMachine, Fail> {
+    let mut machine = machine(alloc, 9, 9, &[])?;
+    machine.write_at(FileNo::Objects, 0, &[1, 2, 3, 4])?;
+    machine.sync(FileNo::Objects)?;
+    machine.write_at(FileNo::Objects, 1, &[9, 9])?;
+    machine.write_at(FileNo::LogA, 0, &[5])?;
+    machine.sync(FileNo::LogA)?;
+    machine.write_at(FileNo::Objects, 6, &[6])?;
+    machine.say(b"a")?;
+    Ok(machine)
+}
+
+// Whether a crash leaves these bytes, and a machine that can be used.
+fn leaves(alloc: Global, how: Crash, objects: &[u8]) -> Result<bool, Fail> {
+    let mut after = unsynced(alloc)?.crash(how);
+    let left = after.bytes(FileNo::Objects) == objects
+        && after.bytes(FileNo::LogA) == [5].as_slice()
+        && after.said().is_empty();
+    write_through(&mut after, FileNo::LogB, 0, &[1; 8])?;
+    settle(&mut after)?;
+    Ok(left && after.calls() == 5)
+}
+
+const CRASHES: [(Crash, &[u8]); 6] = [
+    (Crash::Old, &[1, 2, 3, 4]),
+    (Crash::New, &[1, 9, 9, 4, 0, 0, 6]),
+    (Crash::Fill(0), &[1, 0, 0, 4, 0, 0, 0]),
+    (Crash::Fill(1), &[1, 1, 1, 4, 1, 1, 1]),
+    (Crash::Fill(7), &[1, 7, 7, 4, 7, 7, 7]),
+    (Crash::Fill(255), &[1, 255, 255, 4, 255, 255, 255]),
+];
+
+#[test]
+fn crashes(rt: HostRuntime) -> Result<(), Fail> {
+    for (how, objects) in CRASHES {
+        assert!(rt; leaves(rt.alloc(), how, objects)?, "{how:?}");
+    }
+    Ok(())
+}
+
+// Eight calls, each of which could succeed: which of them did.
+fn eight_calls(machine: &mut MemMachine) -> [bool; 8] {
+    [
+        machine.write_at(FileNo::LogA, 6, &[1, 2]).is_ok(),
+        machine.size(FileNo::LogA).is_ok(),
+        machine.write_at(FileNo::LogA, 7, &[1, 2]).is_ok(),
+        machine.read(FileNo::LogB, 0, &mut [0; 4]).is_ok(),
+        machine.sync(FileNo::LogA).is_ok(),
+        machine.say(b"ab").is_ok(),
+        machine.write_at(FileNo::Objects, 0, &[1]).is_ok(),
+        machine.say(b"c").is_ok(),
+    ]
+}
+
+// A plan: how many calls may succeed, how many bytes may be written, and which calls fail.
+type Plan = (u64, u64, &'static [u64]);
+
+// Which of the eight calls succeed on a machine with this plan, and the counts of calls and faults.
+fn answers(alloc: Global, plan: Plan) -> Result<([bool; 8], [u64; 3]), Fail> {
+    let (calls, pool, fails) = plan;
+    let mut machine = machine(alloc, calls, pool, fails)?;
+    let answers = eight_calls(&mut machine);
+    let counts = [machine.calls(), machine.disk_faults(), machine.say_faults()];
+    Ok((answers, counts))
+}
+
+const PLANS: [(Plan, ([bool; 8], [u64; 3])); 5] = [
+    (
+        (8, 12, &[]),
+        ([true, true, false, true, true, true, true, true], [8, 1, 0]),
+    ),
+    (
+        (8, 12, &[1, 5, 6, 9]),
+        (
+            [false, true, false, true, false, false, true, true],
+            [8, 3, 1],
+        ),
+    ),
+    (
+        (4, 12, &[]),
+        (
+            [true, true, false, true, false, false, false, false],
+            [8, 3, 2],
+        ),
+    ),
+    (
+        (8, 4, &[]),
+        (
+            [true, true, false, true, true, true, false, false],
+            [8, 2, 1],
+        ),
+    ),
+    ((0, 0, &[]), ([false; 8], [8, 6, 2])),
+];
+
+#[test]
+fn fails_as_planned(rt: HostRuntime) -> Result<(), Fail> {
+    for (plan, wanted) in PLANS {
+        assert!(rt; answers(rt.alloc(), plan)? == wanted, "{plan:?}");
+    }
+    Ok(())
+}
+
+// Whether a read finds what is placed, the next call fails as planned, and a crash keeps it.
+fn keeps_what_is_placed(alloc: Global) -> Result<bool, Fail> {
+    let mut machine = MemMachine::new(alloc, [8, 8, 8], 2, 0, [2].to_vec(alloc)?)?;
+    machine.place(FileNo::LogB, b"abcd");
+    let mut into = [0; 8];
+    let count = machine.read(FileNo::LogB, 1, &mut into)?;
+    let fails = machine.size(FileNo::LogB).is_err();
+    let left = machine.crash(Crash::Fill(1));
+    let kept = left.bytes(FileNo::LogB) == b"abcd".as_slice();
+    Ok(count == 3 && into == *b"bcd\0\0\0\0\0" && fails && kept)
+}
+
+#[test]
+fn starts_with_what_is_placed(rt: HostRuntime) -> Result<(), Fail> {
+    assert!(rt; keeps_what_is_placed(rt.alloc())?);
+    Ok(())
+}
+
+// What a read of two bytes gives: the bytes, and how many; 9 where it fails.
+fn two_bytes<S: Source>(source: &mut S) -> ([u8; 2], usize) {
+    let mut into = [0; 2];
+    let count = source.read(&mut into).unwrap_or(9);
+    (into, count)
+}
+
+// What five reads of a source give, whose second read fails, and the faults.
+fn five_reads(alloc: Global) -> Result<([([u8; 2], usize); 5], u64), Fail> {
+    let mut source = MemSource::new(b"hello".to_vec(alloc)?, [2].to_vec(alloc)?)?;
+    let reads = [
+        two_bytes(&mut source),
+        two_bytes(&mut source),
+        two_bytes(&mut source),
+        two_bytes(&mut source),
+        two_bytes(&mut source),
+    ];
+    Ok((reads, source.read_faults()))
+}
+
+#[test]
+fn reads_fail_as_planned(rt: HostRuntime) -> Result<(), Fail> {
+    let wanted = [
+        (*b"he", 2),
+        ([0; 2], 9),
+        (*b"ll", 2),
+        (*b"o\0", 1),
+        ([0; 2], 0),
+    ];
+    assert!(rt; five_reads(rt.alloc())? == (wanted, 1));
+    Ok(())
+}
+
+fn five_calls<M: Machine>(machine: &mut M) -> [bool; 5] {
+    [
+        machine.say(b"a").is_ok(),
+        machine.write_at(FileNo::LogA, 0, &[1]).is_ok(),
+        machine.sync(FileNo::LogA).is_ok(),
+        machine.size(FileNo::LogA).is_ok(),
+        machine.read(FileNo::LogA, 0, &mut [0]).is_ok(),
+    ]
+}
+
+// Which of fifteen calls succeed through a fuse of seven, on a machine whose first call fails, and how many that one got.
+fn fifteen_calls(alloc: Global) -> Result<([[bool; 5]; 3], u64), Fail> {
+    let mut fuse = Fuse::new(machine(alloc, 9, 9, &[1])?, 7);
+    let answers = [
+        five_calls(&mut fuse),
+        five_calls(&mut fuse),
+        five_calls(&mut fuse),
+    ];
+    Ok((answers, fuse.into_inner().calls()))
+}
+
+#[test]
+fn blows(rt: HostRuntime) -> Result<(), Fail> {
+    let wanted = [
+        [false, true, true, true, true],
+        [true, true, false, false, false],
+        [false; 5],
+    ];
+    assert!(rt; fifteen_calls(rt.alloc())? == (wanted, 7));
+    Ok(())
+}
+
+// Whether a file is made by a write alone, and what is written there is read through another machine.
+fn makes_a_file(rt: &HostRuntime) -> Result<bool, Fail> {
+    let mut first = FileMachine::new(rt.clone()?);
+    settle(&mut first)?;
+    let empty = first.size(FileNo::Objects)? == 0
+        && first.read(FileNo::Objects, 2, &mut [0; 2])? == 0
+        && std::fs::metadata(rt, "objects.rdo").is_err();
+    first.write_at(FileNo::Objects, 2, b"abc")?;
+    first.write_at(FileNo::Objects, 3, b"x")?;
+    first.sync(FileNo::Objects)?;
+    Ok(empty)
+}
+
+fn finds_the_file(rt: &HostRuntime) -> Result<bool, Fail> {
+    let mut second = FileMachine::new(rt.clone()?);
+    second.write_at(FileNo::Objects, 7, &[])?;
+    let mut into = [9; 9];
+    let count = second.read(FileNo::Objects, 1, &mut into)?;
+    let sizes = second.size(FileNo::Objects)? == 7 && second.size(FileNo::LogA)? == 0;
+    second.say(b"said\n")?;
+    Ok(sizes && count == 6 && into == *b"\0axc\0\0\x09\x09\x09")
+}
+
+#[test]
+fn files_are_made_by_writes_alone(rt: HostRuntime) -> Result<(), Fail> {
+    assert!(rt; makes_a_file(&rt)?);
+    assert!(rt; finds_the_file(&rt)?);
+    Ok(())
+}
+
+#[test]
+fn reads_the_standard_input(rt: HostRuntime) {
+    assert!(rt; two_bytes(&mut StdSource::new(&rt)) == ([0; 2], 0));
+}

@@ -1,0 +1,168 @@
+// A replacement stopped at each call, and worked bytes.
+use disk_model::{Crash, FileNo, Fuse, Machine, MemMachine};
+use oper_core::Bounds;
+use stable_objects::Slots;
+use std::alloc::Global;
+use std::test::Fail;
+
+const BOUNDS: Bounds = Bounds {
+    objects: 8,
+    cap: 64,
+};
+
+const CRASHES: [Crash; 6] = [
+    Crash::Old,
+    Crash::New,
+    Crash::Fill(0),
+    Crash::Fill(1),
+    Crash::Fill(7),
+    Crash::Fill(255),
+];
+
+// The slots of object 0 after some of three values: a gate, the identifier, the length and the value.
+const FIRST: [u8; 14] = [1, 1, 0, 0, 0, 0, 0, 0, 0, 1, 0, 0, 0, 0xaa];
+
+const SECOND: [u8; 14] = [1, 2, 0, 0, 0, 0, 0, 0, 0, 1, 0, 0, 0, 0xbb];
+
+const THIRD: [u8; 15] = [1, 0, 1, 0, 0, 0, 0, 0, 0, 2, 0, 0, 0, 0xcc, 0xcd];
+
+// A store in use, on its machine.
+#[derive(Drop)]
+struct Store {
+    machine: MemMachine,
+    slots: Slots,
+}
+
+impl Store {
+    fn new(alloc: Global) -> Result<Store, Fail> {
+        let mut machine = MemMachine::new(alloc, [2048, 0, 0], 128, 128, Vec::new(alloc))?;
+        Slots::shut(&mut machine)?;
+        Slots::create(&mut machine, BOUNDS, 65536)?;
+        let mut machine = machine.crash(Crash::New);
+        let slots = Slots::load(alloc, &mut machine)?;
+        Ok(Store { machine, slots })
+    }
+
+    // Gives object 0 a value. It tells how many calls that took, none where it is no call to make or the call failed.
+    fn put(&mut self, id: u64, value: &[u8]) -> u64 {
+        let before = self.machine.calls();
+        if put(&mut self.slots, &mut self.machine, id, value) {
+            self.machine.calls().saturating_sub(before)
+        } else {
+            0
+        }
+    }
+
+    // Whether the objects file has these bytes at an offset.
+    fn has(&self, at: usize, slot: &[u8]) -> bool {
+        let bytes = self.machine.bytes(FileNo::Objects);
+        at <= bytes.len() && bytes[at..].starts_with(slot)
+    }
+}
+
+// Gives object 0 a value; false where that is no call to make, or the call fails.
+fn put<M: Machine>(slots: &mut Slots, machine: &mut M, id: u64, value: &[u8]) -> bool {
+    let params = slots.params();
+    if params.objects == 0 || id >= 1 << 62 || value.len() > params.cap as usize {
+        return false;
+    }
+    slots.id(0) < id && slots.replace(machine, 0, id, value).is_ok()
+}
+
+// Whether values go into the slots by turns, and an open gate is closed before its slot is filled again.
+fn takes_turns(alloc: Global) -> Result<bool, Fail> {
+    let mut store = Store::new(alloc)?;
+    let calls = [store.put(1, &[0xaa]), store.put(2, &[0xbb])];
+    let two = store.has(32, &FIRST) && store.has(109, &SECOND);
+    let third = store.put(256, &[0xcc, 0xcd]);
+    let three = store.has(32, &THIRD) && store.has(109, &SECOND);
+    Ok(calls == [5, 5] && two && third == 7 && three)
+}
+
+#[test]
+fn values_go_into_the_slots_by_turns(rt: HostRuntime) -> Result<(), Fail> {
+    assert!(rt; takes_turns(rt.alloc())?);
+    Ok(())
+}
+
+// The identifier of object 0 and its byte, 0 where its value is empty, and whether the last object is empty.
+fn seen(alloc: Global, machine: &mut MemMachine) -> Result<(u64, u8, bool), Fail> {
+    let slots = Slots::load(alloc, machine)?;
+    let mut value = Vec::new(alloc);
+    if slots.params().objects != 8 {
+        return Ok((0, 0, false));
+    }
+    let other = slots.read(machine, 7, &mut value)?;
+    let empty = other == 0 && value.is_empty();
+    let id = slots.read(machine, 0, &mut value)?;
+    Ok((id, value.as_slice().first().copied().unwrap_or(0), empty))
+}
+
+// The values, whose identifiers are counted from 1 on.
+const VALUES: [u8; 3] = [0xaa, 0xbb, 0xcc];
+
+// A store with the first of these values.
+fn with_values(alloc: Global, count: u64) -> Result<Store, Fail> {
+    let mut store = Store::new(alloc)?;
+    for (id, value) in VALUES.iter().enumerate() {
+        if (id as u64) < count {
+            store.put(id as u64 + 1, &[*value]);
+        }
+    }
+    Ok(store)
+}
+
+// Puts one more value through a machine that fails after some calls. It tells whether the call succeeded, and what is
+// seen after a crash.
+fn stopped(
+    alloc: Global,
+    count: u64,
+    calls: u64,
+    how: Crash,
+) -> Result<(bool, (u64, u8, bool)), Fail> {
+    let store = with_values(alloc, count)?;
+    let mut slots = store.slots;
+    let mut fuse = Fuse::new(store.machine, calls);
+    let value = if count == 1 { 0xbb } else { 0xcc };
+    let is_ok = count < 3 && put(&mut slots, &mut fuse, count + 1, &[value]);
+    let mut left = fuse.into_inner().crash(how);
+    Ok((is_ok, seen(alloc, &mut left)?))
+}
+
+// Whether the gate stands open after a crash at the last sync.
+fn opens(how: Crash) -> bool {
+    how == Crash::New || how == Crash::Fill(1)
+}
+
+// Whether the last of two or three values, whose replacement takes so many calls, is there after a stop or the one before.
+fn is_old_or_new(
+    alloc: Global,
+    count: u64,
+    last: u64,
+    calls: u64,
+    how: Crash,
+) -> Result<bool, Fail> {
+    let (is_ok, seen) = stopped(alloc, count, calls, how)?;
+    let is_new = calls >= last || (calls + 1 == last && opens(how));
+    let wanted = match (count, is_new) {
+        (1, false) => (1, 0xaa, true),
+        (1, true) | (2, false) => (2, 0xbb, true),
+        _ => (3, 0xcc, true),
+    };
+    Ok(is_ok == (calls == last) && seen == wanted)
+}
+
+#[test]
+fn a_value_is_old_or_new(rt: HostRuntime) -> Result<(), Fail> {
+    for (count, last) in [(1, 5), (2, 7)] {
+        for calls in 0..=last {
+            for how in CRASHES {
+                assert!(rt;
+                    is_old_or_new(rt.alloc(), count, last, calls, how)?,
+                    "{how:?} after {calls} of {last}"
+                );
+            }
+        }
+    }
+    Ok(())
+}
