@@ -18,8 +18,6 @@ mod objects;
 mod opening;
 mod replay;
 mod restart_err;
-#[cfg(test)]
-mod tests;
 mod tuning;
 mod uniqueness;
 
