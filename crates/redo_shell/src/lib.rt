@@ -7,8 +7,6 @@
 //! that a line asks for, on formats for what files stand for, and on the machine and the source of disk_model.
 #![tactic(auto)]
 
-#[cfg(test)]
-mod answer_rows;
 mod answers;
 mod damage;
 mod dump;
@@ -23,8 +21,6 @@ mod say;
 mod script;
 mod status;
 mod stop;
-#[cfg(test)]
-mod tests;
 
 pub use laws::{
     a_call_is_followed, a_line_gets_the_answer_of_its_cause, sessions_keep_what_was_forced,

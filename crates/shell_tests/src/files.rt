@@ -1,0 +1,93 @@
+// The bytes of the files, and bytes that were written by hand: what the next run says of them.
+use crate::running::{new_store, run};
+use disk_model::{Crash, FileNo, Machine};
+use redo_shell::Status;
+use std::alloc::Global;
+use std::test::Fail;
+
+const NEW_LOG: [u8; 34] = *b"\x01RDOLOG01\x01\0\0\0\0\0\0\0\x01\0\0\0\0\0\0\0\0\0\0\0\0\0\0\0\0";
+
+const BLOCK: [u8; 25] = *b"\x01\x13\0\0\0\x01\x01\0\0\0\0\0\0\0\x01\0\0\0\0\x01\0\0\0\xaa\0";
+
+fn a_new_store_is_as_worked(alloc: Global) -> Result<bool, Fail> {
+    let machine = new_store(alloc)?;
+    let objects = machine.bytes(FileNo::Objects);
+    Ok(
+        machine.bytes(FileNo::LogA) == NEW_LOG.as_slice()
+            && machine.bytes(FileNo::LogB) == [0].as_slice()
+            && objects.len() == 1188
+            && objects.starts_with(b"\x01RDOOBJ01\x08\0\0\0\x40\0\0\0\0\0\x01\0"),
+    )
+}
+
+fn a_log_of_one_put_is_as_worked(alloc: Global) -> Result<bool, Fail> {
+    let mut machine = new_store(alloc)?;
+    run(alloc, &mut machine, "redo run", b"put 0 aa\n")?;
+    let log = machine.bytes(FileNo::LogA);
+    Ok(log.len() == 58 && log.starts_with(&NEW_LOG[..33]) && log.ends_with(BLOCK.as_slice()))
+}
+
+#[test]
+fn files_have_these_bytes(rt: HostRuntime) -> Result<(), Fail> {
+    assert!(rt; a_new_store_is_as_worked(rt.alloc())?);
+    assert!(rt; a_log_of_one_put_is_as_worked(rt.alloc())?);
+    Ok(())
+}
+
+// A script, an offset of the objects file with bytes that are then written there, words, and the status and the answers
+// of a run with these words and `get 0`. At 32 is the first slot of object 0.
+const WRITTEN: [(&[u8], (u64, &[u8]), &str, (Status, &[u8])); 5] = [
+    (
+        b"put 0 aa\n",
+        (32, b"\x01\x01\0\0\0\0\0\0\0\x01\0\0\0\xbb"),
+        "redo run",
+        (Status::Done, b"bb\n"),
+    ),
+    (
+        b"put 0 aa\n",
+        (32, b"\x01\x01\0\0\0\0\0\0\0\x01\0\0\0\xbb"),
+        "redo dump",
+        (Status::Done, b"0 bb\ncommands 1\n"),
+    ),
+    (
+        b"put 0 aa\n",
+        (32, b"\x01\x01\0\0\0\0\0\0\0\x41\0\0\0\xbb"),
+        "redo run",
+        (Status::Damaged, b"damaged objects 41\n"),
+    ),
+    (
+        b"",
+        (32, b"\x01\x05\0\0\0\0\0\0\0\x01\0\0\0\xbb"),
+        "redo run",
+        (Status::Damaged, b"damaged objects 33\n"),
+    ),
+    (
+        b"",
+        (0, b"\x07"),
+        "redo run",
+        (Status::NotAStore, b"not a store\n"),
+    ),
+];
+
+fn written_says(
+    alloc: Global,
+    script: &[u8],
+    written: (u64, &[u8]),
+    words: &str,
+    wanted: (Status, &[u8]),
+) -> Result<bool, Fail> {
+    let mut machine = new_store(alloc)?;
+    run(alloc, &mut machine, "redo run", script)?;
+    let mut machine = machine.crash(Crash::Old);
+    machine.write_at(FileNo::Objects, written.0, written.1)?;
+    let status = run(alloc, &mut machine, words, b"get 0\n")?;
+    Ok(status == wanted.0 && machine.said() == wanted.1)
+}
+
+#[test]
+fn written_bytes_are_read(rt: HostRuntime) -> Result<(), Fail> {
+    for (script, written, words, wanted) in WRITTEN {
+        assert!(rt; written_says(rt.alloc(), script, written, words, wanted)?);
+    }
+    Ok(())
+}

@@ -1,0 +1,16 @@
+//! A test crate: the tests of redo_shell. The library is empty.
+//!
+//! They stand apart so that the proofs of that crate are made once, and not a second time with its tests. Whole scripts
+//! with their answers are rows of constant tables; the examples hold more of them, which the built program runs.
+#![tactic(auto)]
+
+#[cfg(test)]
+mod faults;
+#[cfg(test)]
+mod files;
+#[cfg(test)]
+mod rows;
+#[cfg(test)]
+mod running;
+#[cfg(test)]
+mod stops;

@@ -1,0 +1,265 @@
+// Whole runs: the words, the input, the status, and all that is said.
+use crate::running::{INIT, empty_folder, run};
+use disk_model::Crash;
+use redo_shell::Status;
+use std::alloc::{AllocError, Global};
+use std::test::Fail;
+
+type Run = (&'static str, &'static [u8], Status, &'static [u8]);
+
+const NEW: Run = (INIT, b"", Status::Done, b"");
+
+const NO_STORE: Run = ("redo run", b"get 0\n", Status::NotAStore, b"not a store\n");
+
+const USAGE: &[u8] = b"usage: redo init N CAP LIMIT | run | dump | demo --seed S --steps T\n";
+
+// Runs in one folder, empty at first, with a crash between them that loses what was not synced.
+const ROWS: [&[Run]; 17] = [
+    &[
+        NEW,
+        (
+            "redo run",
+            b"put 0 aa\nget 0\nforce\n",
+            Status::Done,
+            b"ok\naa\nforced 1\n",
+        ),
+        ("redo run", b"get 0", Status::Done, b"aa\n"),
+        ("redo dump", b"", Status::Done, b"0 aa\ncommands 1\n"),
+    ],
+    // The end of the input forces.
+    &[
+        NEW,
+        ("redo dump", b"", Status::Done, b"commands 0\n"),
+        ("redo run", b"put 0 aa", Status::Done, b"ok\n"),
+        ("redo run", b"get 0", Status::Done, b"aa\n"),
+    ],
+    &[
+        NEW,
+        (
+            "redo run",
+            b"put 7 ff00\nput 2 01\ncopy 7 1\nput 2 -\n",
+            Status::Done,
+            b"ok\nok\nok\nok\n",
+        ),
+        (
+            "redo dump",
+            b"",
+            Status::Done,
+            b"1 ff00\n7 ff00\ncommands 4\n",
+        ),
+    ],
+    &[
+        NEW,
+        (
+            "redo run",
+            b"put 0\nput 0 a\nget 00\n\n# \nput 0 AA\nget 8\n",
+            Status::DoneWithRefusals,
+            b"bad\nbad\nbad\nok\nrefused NoObject\n",
+        ),
+    ],
+    &[
+        NEW,
+        (
+            "redo run",
+            b"put 0\nput 0 a\ncopy 00 1\nGET 0\n\n# x\n  #\n put  0   aa \r\nget 0 #",
+            Status::DoneWithRefusals,
+            b"bad\nbad\nbad\nbad\nok\nbad\n",
+        ),
+    ],
+    &[
+        NEW,
+        (
+            "redo run",
+            b"put 0 aabb\ncut 0 1 0\nget 0\nget 1\ncut 1 0 2\nget 0\nget 1\ncut 1 0 3\n",
+            Status::DoneWithRefusals,
+            b"ok\nok\n-\naabb\nok\n-\naabb\nrefused BadPlace\n",
+        ),
+    ],
+    &[
+        ("redo init 2 16 4128", b"", Status::Done, b""),
+        (
+            "redo run",
+            b"put 0 0001020304050607\nappend 0 1\nappend 0 1\nappend 0 1\nforce\n",
+            Status::DoneWithRefusals,
+            b"ok\nok\nok\nrefused TooLarge\nforced 3\n",
+        ),
+    ],
+    &[
+        NEW,
+        (
+            "redo run",
+            b"copy 3 3\ncopy 0 8\ncopy 8 8\nget 8\n",
+            Status::DoneWithRefusals,
+            b"refused Same\nrefused NoObject\nrefused NoObject\nrefused NoObject\n",
+        ),
+    ],
+    &[
+        NEW,
+        (
+            "redo run",
+            b"put 0 030102\nsort 0 1 1\nget 1\nsort 0 1 2\nsort 0 1 0\n\
+                put 0 020201010202\nsort 0 1 2\nget 1\nsort 5 6 3\nget 6\n",
+            Status::DoneWithRefusals,
+            b"ok\nok\n010203\nrefused BadWidth\nrefused BadWidth\n\
+                ok\nok\n010102020202\nok\n-\n",
+        ),
+    ],
+    &[
+        NEW,
+        (
+            "redo run",
+            b"put 0 aa\nput 1 bb\nswap 0 1\nget 0\nget 1\ncopy 0 2\nget 2\nget 0\n",
+            Status::Done,
+            b"ok\nok\nok\nbb\naa\nok\nbb\nbb\n",
+        ),
+    ],
+    &[
+        NEW,
+        ("redo run", b"put 2 dd\n", Status::Done, b"ok\n"),
+        (
+            "redo run",
+            b"put 0 aa\nput 1 cc\nforce\nput 0 bb\nput 1 -\nforce\nput 0 0102\n",
+            Status::Done,
+            b"ok\nok\nforced 3\nok\nok\nforced 5\nok\n",
+        ),
+        (
+            "redo run",
+            b"force\nget 0\nget 1\nget 2\n",
+            Status::Done,
+            b"forced 6\n0102\n-\ndd\n",
+        ),
+    ],
+    // A store is not made twice, and stays as it is.
+    &[
+        NEW,
+        (
+            "redo init 2 16 8192",
+            b"",
+            Status::AlreadyStore,
+            b"already a store\n",
+        ),
+        (
+            "redo run",
+            b"force\nget 7\n",
+            Status::Done,
+            b"forced 0\n-\n",
+        ),
+    ],
+    &[
+        NO_STORE,
+        ("redo dump", b"", Status::NotAStore, b"not a store\n"),
+    ],
+    // Other words make no file.
+    &[
+        ("redo init 8 64 4223", b"", Status::Usage, USAGE),
+        NO_STORE,
+        NEW,
+    ],
+    &[("redo fly", b"", Status::Usage, USAGE), NO_STORE, NEW],
+    &[("redo", b"", Status::Usage, USAGE), NO_STORE, NEW],
+    &[("redo --help", b"", Status::Usage, USAGE), NO_STORE, NEW],
+];
+
+// Whether the program answers so.
+fn answers(alloc: Global, runs: &[Run]) -> Result<bool, Fail> {
+    let mut machine = empty_folder(alloc)?;
+    for (words, input, status, said) in runs {
+        machine = machine.crash(Crash::Old);
+        let ended = run(alloc, &mut machine, words, input)?;
+        if ended != *status || machine.said() != *said {
+            return Ok(false);
+        }
+    }
+    Ok(true)
+}
+
+#[test]
+fn runs_are_answered(rt: HostRuntime) -> Result<(), Fail> {
+    for (row, runs) in ROWS.iter().enumerate() {
+        assert!(rt; answers(rt.alloc(), runs)?, "row {row}");
+    }
+    Ok(())
+}
+
+// Puts of an object: a digit, the length of the value, and how often.
+type Puts = (u8, usize, usize);
+
+// Logs that are filled: the words that make the store, the puts, and the last answers.
+const FULL: [(&str, &[Puts], &[u8]); 4] = [
+    (
+        "redo init 1 64 4224",
+        &[(b'0', 1, 220), (b'0', 25, 1)],
+        b"ok\nfull 4218 48 4224\n",
+    ),
+    (
+        "redo init 2 16 4128",
+        &[(b'0', 16, 120), (b'2', 17, 1), (b'1', 17, 1), (b'1', 16, 1)],
+        b"ok\nrefused NoObject\nrefused TooLarge\nfull 4118 39 4128\n",
+    ),
+    (
+        "redo init 2 1024 6144",
+        &[(b'0', 1024, 5), (b'0', 879, 1)],
+        b"ok\nfull 5248 902 6144\n",
+    ),
+    (
+        "redo init 2 1024 6144",
+        &[(b'0', 1024, 5), (b'0', 878, 1)],
+        b"ok\nok\n",
+    ),
+];
+
+// A put of so many bytes for an object, as a line.
+fn push_put(script: &mut Vec<u8>, object: u8, length: usize) -> Result<(), AllocError> {
+    script.extend_from_slice(b"put ")?;
+    script.push(object)?;
+    script.push(b' ')?;
+    for _ in 0..length {
+        script.extend_from_slice(b"61")?;
+    }
+    script.push(b'\n')?;
+    Ok(())
+}
+
+fn script_of(alloc: Global, puts: &[Puts]) -> Result<Vec<u8>, AllocError> {
+    let mut script = Vec::new(alloc);
+    for (object, length, count) in puts {
+        for _ in 0..*count {
+            push_put(&mut script, *object, *length)?;
+        }
+    }
+    Ok(script)
+}
+
+// Whether the program, run with these puts, ends with these answers.
+fn ends(alloc: Global, words: &str, puts: &[Puts], said: &[u8]) -> Result<bool, Fail> {
+    let mut machine = empty_folder(alloc)?;
+    run(alloc, &mut machine, words, b"")?;
+    let script = script_of(alloc, puts)?;
+    run(alloc, &mut machine, "redo run", script.as_slice())?;
+    Ok(machine.said().ends_with(said))
+}
+
+#[test]
+fn a_record_fits_to_the_last_byte(rt: HostRuntime) -> Result<(), Fail> {
+    for (words, puts, said) in FULL {
+        assert!(rt; ends(rt.alloc(), words, puts, said)?);
+    }
+    Ok(())
+}
+
+// A comment of so many bytes is no line that the program answers; one byte more is bad.
+fn long_line_says(alloc: Global, length: usize, said: &[u8]) -> Result<bool, Fail> {
+    let mut machine = empty_folder(alloc)?;
+    run(alloc, &mut machine, INIT, b"")?;
+    let script = vec![in alloc; b'#'; length]?;
+    run(alloc, &mut machine, "redo run", script.as_slice())?;
+    Ok(machine.said() == said)
+}
+
+#[test]
+fn a_line_has_40000_bytes_at_most(rt: HostRuntime) -> Result<(), Fail> {
+    for (length, said) in [(40000, b"".as_slice()), (40001, b"bad\n")] {
+        assert!(rt; long_line_says(rt.alloc(), length, said)?);
+    }
+    Ok(())
+}

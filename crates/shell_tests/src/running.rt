@@ -1,0 +1,76 @@
+// The program in a folder in memory.
+use disk_model::{Crash, Fuse, Machine, MemMachine, MemSource};
+use redo_shell::{Status, top};
+use std::alloc::{AllocError, Global};
+use std::test::Fail;
+
+pub const INIT: &str = "redo init 8 64 65536";
+
+pub const CRASHES: [Crash; 6] = [
+    Crash::Old,
+    Crash::New,
+    Crash::Fill(0),
+    Crash::Fill(1),
+    Crash::Fill(7),
+    Crash::Fill(255),
+];
+
+pub fn empty_folder(alloc: Global) -> Result<MemMachine, AllocError> {
+    MemMachine::new(alloc, [8192, 65536, 64], 1000, 65536, Vec::new(alloc))
+}
+
+// The words of a line.
+pub fn words(alloc: Global, line: &str) -> Result<Vec<String>, AllocError> {
+    let mut words = Vec::new(alloc);
+    for word in line.split(' ') {
+        words.push(word.to_string(alloc)?)?;
+    }
+    Ok(words)
+}
+
+// The program with these words and this input.
+pub fn run<M: Machine>(
+    alloc: Global,
+    machine: &mut M,
+    line: &str,
+    input: &[u8],
+) -> Result<Status, AllocError> {
+    let words = words(alloc, line)?;
+    let mut source = MemSource::new(input.to_vec(alloc)?, Vec::new(alloc))?;
+    Ok(top(alloc, words.as_slice(), machine, &mut source))
+}
+
+// A folder with a store of 8 objects. Nothing is said yet, and all is synced.
+pub fn new_store(alloc: Global) -> Result<MemMachine, Fail> {
+    let mut machine = empty_folder(alloc)?;
+    if run(alloc, &mut machine, INIT, b"")? == Status::Done {
+        Ok(machine.crash(Crash::Old))
+    } else {
+        Err("no store was made".into())
+    }
+}
+
+// The machine after a run that was stopped after so many calls.
+pub fn stopped(
+    alloc: Global,
+    machine: MemMachine,
+    calls: u64,
+    line: &str,
+    input: &[u8],
+) -> Result<MemMachine, Fail> {
+    let mut fuse = Fuse::new(machine, calls);
+    run(alloc, &mut fuse, line, input)?;
+    Ok(fuse.into_inner())
+}
+
+// How many calls a run takes.
+pub fn calls_of(
+    alloc: Global,
+    mut machine: MemMachine,
+    line: &str,
+    input: &[u8],
+) -> Result<u64, AllocError> {
+    let before = machine.calls();
+    run(alloc, &mut machine, line, input)?;
+    Ok(machine.calls().saturating_sub(before))
+}
