@@ -12,4 +12,6 @@ mod records;
 #[cfg(test)]
 mod replacing;
 #[cfg(test)]
+mod rewriting;
+#[cfg(test)]
 mod slots;

@@ -4,9 +4,10 @@ use log_frames::{LogErr, LogFile};
 use std::alloc::{AllocError, Global};
 use std::test::Fail;
 
-const NEW_LOG: [u8; 34] = *b"\x01RDOLOG01\x01\0\0\0\0\0\0\0\x01\0\0\0\0\0\0\0\0\0\0\0\0\0\0\0\0";
+pub const NEW_LOG: [u8; 34] =
+    *b"\x01RDOLOG01\x01\0\0\0\0\0\0\0\x01\0\0\0\0\0\0\0\0\0\0\0\0\0\0\0\0";
 
-const CRASHES: [Crash; 6] = [
+pub const CRASHES: [Crash; 6] = [
     Crash::Old,
     Crash::New,
     Crash::Fill(0),
@@ -15,12 +16,12 @@ const CRASHES: [Crash; 6] = [
     Crash::Fill(255),
 ];
 
-fn empty_store(alloc: Global) -> Result<MemMachine, AllocError> {
+pub fn empty_store(alloc: Global) -> Result<MemMachine, AllocError> {
     MemMachine::new(alloc, [64, 64, 64], 64, 512, Vec::new(alloc))
 }
 
 // A settled machine with a new log.
-fn new_store(alloc: Global) -> Result<MemMachine, Fail> {
+pub fn new_store(alloc: Global) -> Result<MemMachine, Fail> {
     let mut machine = empty_store(alloc)?;
     LogFile::create(&mut machine)?;
     Ok(machine.crash(Crash::New))
@@ -42,7 +43,7 @@ fn a_new_log_has_34_bytes(rt: HostRuntime) -> Result<(), Fail> {
 }
 
 // Makes room for a short payload, and adds it. It tells by how much the log grows.
-fn add(log: &mut LogFile, payload: &[u8]) -> Result<u64, Fail> {
+pub fn add(log: &mut LogFile, payload: &[u8]) -> Result<u64, Fail> {
     let before = log.used();
     log.make_room(payload.len() as u64)?;
     if before < 1 << 20 && payload.len() < 1 << 20 {
