@@ -35,7 +35,10 @@ const CODES: [(Row, &[u8]); 3] = [
 fn coded(alloc: Global, number: u64, object: u32, value: &[u8]) -> Result<Vec<u8>, Fail>
     requires { length value.now < 2 ^ 32 }
 {
-    let op = Put::new(object, ByteList::new(value.to_vec(alloc)?));
+    let op = Put {
+        object,
+        value: ByteList::new(value.to_vec(alloc)?),
+    };
     let mut out = b"..".to_vec(alloc)?;
     encode(&Record::Command(number, op), &mut out)?;
     Ok(out)
@@ -44,7 +47,7 @@ fn coded(alloc: Global, number: u64, object: u32, value: &[u8]) -> Result<Vec<u8
 // Whether a record is that of a row.
 fn is_of(record: &Record<Put>, row: Row) -> bool {
     let Record::Command(number, op) = record;
-    *number == row.0 && op.object() == row.1 && op.value() == row.2
+    *number == row.0 && op.object == row.1 && op.value.as_slice() == row.2
 }
 
 // Whether the record of a row is decoded from these bytes, and how many of them it takes.
@@ -130,7 +133,10 @@ fn loaded<M: Machine>(alloc: Global, machine: &mut M, b: Bounds) -> Result<Recor
 }
 
 fn put(alloc: Global, object: u32, value: &[u8]) -> Result<Put, Fail> {
-    Ok(Put::new(object, ByteList::new(value.to_vec(alloc)?)))
+    Ok(Put {
+        object,
+        value: ByteList::new(value.to_vec(alloc)?),
+    })
 }
 
 // Appends a put with the next number.
@@ -139,7 +145,7 @@ fn add(log: &mut RecordLog<Put>, b: Bounds, op: Put) -> Result<(), Fail>
     ensures { log.new.bounds ≡ b }
 {
     let number = log.next();
-    let is_small = op.value().len() <= 3 && op.shape(b).is_ok();
+    let is_small = op.value.as_slice().len() <= 3 && op.shape(b).is_ok();
     if is_small && number < 1 << 20 && log.used() < 1 << 20 {
         log.append(Record::Command(number, op))?;
     }

@@ -49,7 +49,7 @@ impl Store {
         if self.engine.is_broken() {
             return Ok(Err(ExecErr::DiskFault));
         }
-        let op = AllOps::Put(Put::new(object, value));
+        let op = AllOps::Put(Put { object, value });
         Ok(self.engine.exec(&mut self.machine, op))
     }
 
