@@ -6,6 +6,12 @@
 #[cfg(test)]
 mod disk;
 #[cfg(test)]
+mod file_machine;
+#[cfg(test)]
+mod frail_files;
+#[cfg(test)]
+mod growing;
+#[cfg(test)]
 mod log;
 #[cfg(test)]
 mod records;

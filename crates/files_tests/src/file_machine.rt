@@ -1,0 +1,113 @@
+// What no clause can say of the machine over files: what it does to real ones. A wrong body of the adapter is refused
+// here or nowhere.
+use crate::frail_files::{FRAIL, Fails, FrailFiles};
+use disk_model::{Failed, FileMachine, FileNames, FileNo, Machine};
+use std::rt::Files;
+use std::test::Fail;
+
+const MOVED: FileNames = FileNames {
+    objects: "moved_objects",
+    log_a: "moved_log_a",
+    log_b: "moved_log_b",
+};
+
+// Writes a byte to each file and syncs it, and syncs the objects once more: which syncs succeed.
+fn syncs<M: Machine>(machine: &mut M) -> Result<[bool; 4], Failed> {
+    machine.write_at(FileNo::Objects, 0, &[1])?;
+    machine.write_at(FileNo::LogA, 0, &[1])?;
+    machine.write_at(FileNo::LogB, 0, &[1])?;
+    Ok([
+        machine.sync(FileNo::Objects).is_ok(),
+        machine.sync(FileNo::LogA).is_ok(),
+        machine.sync(FileNo::LogB).is_ok(),
+        machine.sync(FileNo::Objects).is_ok(),
+    ])
+}
+
+// Whether these syncs succeed where one fails.
+fn syncs_reach<R: Files + Print + Drop>(rt: R, fails: Fails, succeed: [bool; 4]) -> bool {
+    let mut machine = FileMachine::with_names(FrailFiles { rt, fails }, FRAIL);
+    syncs(&mut machine) == Ok(succeed)
+}
+
+// The folder is first synced behind files that were just made, and then behind files that were found.
+const SYNCS: [(Fails, [bool; 4]); 6] = [
+    (Fails::Folder, [false, false, false, false]),
+    (Fails::Folder, [false, false, false, false]),
+    (Fails::Objects, [false, true, true, false]),
+    (Fails::LogA, [true, false, true, true]),
+    (Fails::LogB, [true, true, false, true]),
+    (Fails::Nothing, [true, true, true, true]),
+];
+
+#[test]
+fn a_sync_reaches_its_file_and_the_folder(rt: HostRuntime) -> Result<(), Fail> {
+    for (fails, succeed) in SYNCS {
+        assert!(rt; syncs_reach(rt.clone()?, fails, succeed));
+    }
+    Ok(())
+}
+
+// Whether reads and writes of more than a byte do what they should.
+fn moves_all<M: Machine>(machine: &mut M) -> Result<bool, Failed> {
+    machine.write_at(FileNo::LogA, 2, b"abc")?;
+    machine.write_at(FileNo::LogA, 3, b"xy")?;
+    machine.write_at(FileNo::LogA, 6, &[])?;
+    machine.write_at(FileNo::LogB, 0, b"other")?;
+    let mut into = [9; 7];
+    let count = machine.read(FileNo::LogA, 1, &mut into)?;
+    Ok(
+        count == 5
+            && into == *b"\0axy\0\x09\x09"
+            && machine.size(FileNo::LogA)? == 6
+            && machine.size(FileNo::Objects)? == 0,
+    )
+}
+
+fn moves_all_by_bytes<R: Files + Print + Drop>(rt: R) -> Result<bool, Failed> {
+    let fails = Fails::Nothing;
+    let mut machine = FileMachine::with_names(FrailFiles { rt, fails }, MOVED);
+    moves_all(&mut machine)
+}
+
+#[test]
+fn short_reads_and_writes_go_on(rt: HostRuntime) -> Result<(), Fail> {
+    assert!(rt; moves_all_by_bytes(rt.clone()?)?);
+    Ok(())
+}
+
+fn says<R: Files + Print + Drop>(rt: R, fails: Fails) -> bool {
+    let mut machine = FileMachine::with_names(FrailFiles { rt, fails }, MOVED);
+    machine.say(b"said\n").is_ok()
+}
+
+// What reaches the standard output is shown by the stored run of the program.
+#[test]
+fn a_say_fails_where_the_output_does(rt: HostRuntime) -> Result<(), Fail> {
+    assert!(rt; says(rt.clone()?, Fails::Nothing) && !says(rt.clone()?, Fails::Output));
+    Ok(())
+}
+
+// What the files of these names hold.
+fn holds<R: Files + AllocGlobal>(rt: &R) -> std::io::Result<bool> {
+    Ok(
+        std::fs::read(rt, "named_objects")?.as_slice() == b"o".as_slice()
+            && std::fs::read(rt, "named_log_a")?.as_slice() == b"a".as_slice()
+            && std::fs::read(rt, "named_log_b")?.as_slice() == b"b".as_slice(),
+    )
+}
+
+#[test]
+fn files_have_the_names_that_are_given(rt: HostRuntime) -> Result<(), Fail> {
+    let names = FileNames {
+        objects: "named_objects",
+        log_a: "named_log_a",
+        log_b: "named_log_b",
+    };
+    let mut machine = FileMachine::with_names(rt.clone()?, names);
+    machine.write_at(FileNo::Objects, 0, b"o")?;
+    machine.write_at(FileNo::LogA, 0, b"a")?;
+    machine.write_at(FileNo::LogB, 0, b"b")?;
+    assert!(rt; holds(&rt)?);
+    Ok(())
+}

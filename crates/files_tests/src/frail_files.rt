@@ -1,0 +1,165 @@
+// Real files and an output that do what the system may do: move less than was asked for, and fail.
+use disk_model::FileNames;
+use std::alloc::Allocator;
+use std::cell::Cell;
+use std::fmt::Display;
+use std::fs::{File, Metadata, OpenFile, OpenOptions};
+use std::io::{self, ErrorKind, Read, Seek, SeekFrom, Write};
+use std::rt::Files;
+
+/// The names of the files whose syncs can fail.
+pub const FRAIL: FileNames = FileNames {
+    objects: "frail_objects",
+    log_a: "frail_log_a",
+    log_b: "frail_log_b",
+};
+
+/// What fails: the first sync of a file or of the folder, or each write to the output.
+#[derive(Clone, Copy)]
+pub enum Fails {
+    Nothing,
+    Objects,
+    LogA,
+    LogB,
+    Folder,
+    Output,
+}
+
+impl Fails {
+    fn sync_of(self, path: &str) -> bool {
+        match self {
+            Fails::Objects => path == FRAIL.objects,
+            Fails::LogA => path == FRAIL.log_a,
+            Fails::LogB => path == FRAIL.log_b,
+            Fails::Folder => path == ".",
+            Fails::Nothing | Fails::Output => false,
+        }
+    }
+
+    fn output(self) -> bool {
+        matches!(self, Fails::Output)
+    }
+}
+
+/// A runtime over real files, of which a read or a write moves one byte.
+#[derive(Drop)]
+pub struct FrailFiles<R: Files + Print> {
+    pub rt: R,
+    pub fails: Fails,
+}
+
+#[derive(Drop)]
+pub struct FrailFile<F> {
+    file: F,
+    fails: Cell<bool>,
+}
+
+impl<R: Files + Print> Print for FrailFiles<R> {
+    fn print<D: Display + Drop>(&self, value: D) -> io::Result<()> {
+        self.rt.print(value)
+    }
+
+    fn println<D: Display + Drop>(&self, value: D) -> io::Result<()> {
+        self.rt.println(value)
+    }
+
+    fn write_all(&self, bytes: &[u8]) -> io::Result<()> {
+        if self.fails.output() {
+            return Err(ErrorKind::Other.into());
+        }
+        self.rt.write_all(bytes)
+    }
+}
+
+impl<R: Files + Print> Files for FrailFiles<R> {
+    type File = FrailFile<R::File>;
+
+    type Dir = R::Dir;
+
+    fn open_file(&self, how: &OpenOptions, path: &str) -> io::Result<FrailFile<R::File>> {
+        Ok(FrailFile {
+            file: self.rt.open_file(how, path)?,
+            fails: Cell::new(self.fails.sync_of(path)),
+        })
+    }
+
+    fn open_dir(&self, path: &str) -> io::Result<R::Dir> {
+        self.rt.open_dir(path)
+    }
+
+    fn metadata(&self, path: &str) -> io::Result<Metadata> {
+        self.rt.metadata(path)
+    }
+
+    fn symlink_metadata(&self, path: &str) -> io::Result<Metadata> {
+        self.rt.symlink_metadata(path)
+    }
+
+    fn copy(&self, from: &str, to: &str) -> io::Result<u64> {
+        self.rt.copy(from, to)
+    }
+
+    fn rename(&self, from: &str, to: &str) -> io::Result<()> {
+        self.rt.rename(from, to)
+    }
+
+    fn remove_file(&self, path: &str) -> io::Result<()> {
+        self.rt.remove_file(path)
+    }
+
+    fn create_dir(&self, path: &str) -> io::Result<()> {
+        self.rt.create_dir(path)
+    }
+
+    fn remove_dir(&self, path: &str) -> io::Result<()> {
+        self.rt.remove_dir(path)
+    }
+
+    fn remove_dir_all<A: Allocator>(&self, alloc: A, path: &str) -> io::Result<()> {
+        self.rt.remove_dir_all(alloc, path)
+    }
+}
+
+impl<F: Read> Read for FrailFile<F> {
+    fn read(&mut self, into: &mut [u8]) -> io::Result<usize> {
+        let count = into.len().min(1);
+        self.file.read(&mut into[..count])
+    }
+}
+
+impl<F: Write> Write for FrailFile<F> {
+    fn write(&mut self, bytes: &[u8]) -> io::Result<usize> {
+        self.file.write(&bytes[..bytes.len().min(1)])
+    }
+
+    fn flush(&mut self) -> io::Result<()> {
+        self.file.flush()
+    }
+}
+
+impl<F: Seek> Seek for FrailFile<F> {
+    fn seek(&mut self, to: SeekFrom) -> io::Result<u64> {
+        self.file.seek(to)
+    }
+}
+
+impl<F: OpenFile> OpenFile for FrailFile<F> {
+    fn metadata(&self) -> io::Result<Metadata> {
+        self.file.metadata()
+    }
+
+    fn set_len(&self, size: u64) -> io::Result<()> {
+        self.file.set_len(size)
+    }
+
+    fn sync_all(&self) -> io::Result<()> {
+        if self.fails.replace(false) {
+            return Err(ErrorKind::Other.into());
+        }
+        self.file.sync_all()
+    }
+
+    fn sync_data(&self) -> io::Result<()> {
+        self.file.sync_data()
+    }
+}
