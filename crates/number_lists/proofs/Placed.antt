@@ -1,6 +1,6 @@
 -- Numbers at their places.
-use Rattle.std.proofs.Common.{◌≡◌, ◌≢◌, ◌∙◌, ap, sym, subst, ℕ, zero, suc, ◌+◌, ◌<◌, ◌≤◌, ◌⊎◌, Bool, false, List, [], ◌∷◌, ◌++◌, length, length-append, refl, arith, inl, inr}
-use Rattle.std.specs.Prelude.{IsTrue, IsFalse, ◌==◌, nat_eq, slice_index, slice_set}
+use Rattle.std.proofs.Common.{◌≡◌, ◌≢◌, ◌∙◌, ap, sym, subst, ℕ, zero, suc, ◌+◌, ◌<◌, ◌≤◌, ◌⊎◌, Bool, false, List, [], ◌∷◌, ◌++◌, length, length-append, append-nil, refl, arith, inl, inr}
+use Rattle.std.specs.Prelude.{IsTrue, IsFalse, ◌==◌, ◌↔◌, nat_eq, slice_index, slice_set}
 use Rattle.std.specs.List.{IsDistinct, list_any}
 use Rattle.std.proofs.lemmas.Bool.{cases_eq, cases_lt, cases_Bool, both_ways, or_left, or_right, or_cases, or_from, eqb-true, eq-eqb, ne_eqb, false_from_ne_true}
 use Rattle.std.proofs.lemmas.List.{get_or-set_same, get_or-set_other, length-set}
@@ -8,7 +8,7 @@ use Rattle.std.proofs.lemmas.Map.Keys.{IsDistinct-push}
 use Rattle.std.proofs.lemmas.Cmp.{nat_eq_equiv}
 use Rattle.std.proofs.lemmas.Map.Steps.{length-le_from_distinct_below}
 use Rattle.oper_core.specs.State.{is_among}
-use Rattle.number_lists.specs.Members.{ArePlaced}
+use Rattle.number_lists.specs.Members.{Members, ArePlaced, IsWith}
 
 -- what is among the numbers stands at a place, and the other way round
 pub among-place : (n : ℕ) (xs : List ℕ) → IsTrue (is_among n xs) → (i : ℕ) × (i < length xs) × (slice_index xs i ≡ n)
@@ -98,4 +98,34 @@ placed-longer members place v are = record {
   below = λ i low. omega (arith, are.below i low, length-append place (v ∷ []));
   at = λ i low. read-left place (slice_index members i) v (are.below i low) ∙ are.at i low;
   distinct = are.distinct;
+}
+
+among-more : (k n : ℕ) (xs : List ℕ) → IsTrue (is_among k (xs ++ n ∷ [])) ↔ (IsTrue (is_among k xs) ⊎ (k ≡ n))
+among-more k n [] = ((λ t. elim (or_cases (k == n) false t) [ inl e ↦ inr (eqb-true k n e) | inr r ↦ absurd (both_ways _ refl r) ]), (λ s. elim s [ inl r ↦ absurd (both_ways _ refl r) | inr e ↦ or_left (k == n) false (eq-eqb k n e) ]))
+among-more k n (x ∷ xs) =
+    let on = among-more k n xs in (
+      (λ t. elim (or_cases (k == x) (is_among k (xs ++ n ∷ [])) t) [
+        | inl e ↦ inl (or_left (k == x) (is_among k xs) e)
+        | inr r ↦ elim (on.0 r) [ inl r ↦ inl (or_right (k == x) (is_among k xs) r) | inr e ↦ inr e ]
+      ]),
+      (λ s. elim s [
+        | inl t ↦ elim (or_cases (k == x) (is_among k xs) t) [ inl e ↦ or_left (k == x) (is_among k (xs ++ n ∷ [])) e | inr r ↦ or_right (k == x) (is_among k (xs ++ n ∷ [])) (on.1 (inl r)) ]
+        | inr e ↦ or_right (k == x) (is_among k (xs ++ n ∷ [])) (on.1 (inr e))
+      ]),
+    )
+
+pub with-new : (old new : Members) (n : ℕ) → new.members ≡ old.members ++ n ∷ [] → new.end ≡ old.end → old.room ≤ new.room → IsWith old n new
+with-new old new n e end room = record {
+  there = λ k. subst (λ (xs : List ℕ). IsTrue (is_among k xs) ↔ (IsTrue (is_among k old.members) ⊎ (k ≡ n))) (sym e) (among-more k n old.members);
+  kept = (n ∷ [], e);
+  end = end;
+  room = room;
+}
+
+pub with-old : (old : Members) (n : ℕ) → IsTrue (is_among n old.members) → IsWith old n old
+with-old old n there = record {
+  there = λ k. ((λ t. inl t), (λ s. elim s [ inl t ↦ t | inr e ↦ subst (λ (j : ℕ). IsTrue (is_among j old.members)) (sym e) there ]));
+  kept = ([], sym (append-nil old.members));
+  end = refl;
+  room = omega arith;
 }

@@ -1,5 +1,6 @@
 ghost use Rattle.std.specs.Prelude.{◌≡◌, ◌<◌, ◌≤◌, ◌+◌, ◌^◌, ◌++◌, ◌∷◌, [], IsTrue, IsFalse, length, slice_index, OnOk};
 ghost use Rattle.oper_core.specs.State.{is_among};
+ghost use Rattle.number_lists.specs.Members.{IsWith};
 
 use crate::push::push_in_room;
 use oper_core::Memory;
@@ -40,8 +41,10 @@ impl NumberSet {
 
     /// How many members there are.
     pub fn len(&self) -> usize
-        ensures { result ≡ length self.now.members }
+        ensures count { result ≡ length self.now.members }
+        ensures few { result ≤ self.now.end }
     {
+        let _place = &self.place;
         self.members.len()
     }
 
@@ -87,6 +90,17 @@ impl NumberSet {
     {
         self.place[n as usize] = self.members.len() as u32;
         push_in_room(&mut self.members, n);
+    }
+
+    /// Puts in a number, where it is no member yet.
+    pub fn add(&mut self, n: u32)
+        requires { n < self.old.end }
+        ensures { IsWith self.old n self.new }
+    {
+        if self.contains(n) {
+            return;
+        }
+        self.insert(n);
     }
 
     /// Makes room for the end to rise by one. Nothing else changes, also where memory is wanting.
