@@ -6,8 +6,10 @@ use Rattle.oper_core.specs.declared.refusal.Refusal.TheVariants.{NoObject}
 use Rattle.op_codec.specs.declared.all_ops.AllOps.TheVariants.{Put, Copy, Append, Cut, Sort, Swap}
 use Rattle.script_lines.specs.Grammar.{Request, put, copy, append, cut, sort, swap, get, force, skip, AsksFor, IsBad}
 use Rattle.script_lines.specs.Replies.{Reply, ok, value, forced, bad, refused, full, end, object_value, command_count, silence}
-use Rattle.redo_shell.specs.Store.{Command, refusal_after, state_of}
-use Rattle.redo_shell.specs.Replies.{request_for, AsksCommand, Replies}
+use Rattle.store_engine.specs.Engine.{LogLength, grown}
+use Rattle.redo_shell.specs.Store.{Command, refusal_after, state_of, record_length, Fits}
+use Rattle.redo_shell.specs.Replies.{request_for, AsksCommand, Replies, IsFull}
+use Rattle.redo_shell.specs.Lengths.{GoesBy}
 
 -- the kinds of request told apart by a number, and what they ask
 abbrev kind : Request → ℕ
@@ -225,3 +227,34 @@ module _ (p : Params) (commands : List Command) (line : List ℕ) where
     silence_exactly silence added is asks = refl
     silence_exactly (object_value object bytes) added is asks = absurd is
     silence_exactly (command_count n) added is asks = absurd is
+
+    fits_not : (op same : Command) (log : LogLength) → AsksCommand line op → AsksCommand line same → Fits p log op → p.limit < grown log (record_length p same) → ⊥
+    fits_not op same log asks asks_same fits over =
+        let is = same_command op same (one (request_for op) (request_for same) asks asks_same) in
+        let fits_same : grown log (record_length p same) ≤ p.limit = subst (λ (o : Command). Fits p log o) is fits in
+        omega (arith, fits_same, over)
+
+    over_same : (op same : Command) (log : LogLength) → AsksCommand line op → AsksCommand line same → p.limit < grown log (record_length p op) → p.limit < grown log (record_length p same)
+    over_same op same log asks asks_same over = subst (λ (o : Command). p.limit < grown log (record_length p o)) (same_command op same (one (request_for op) (request_for same) asks asks_same)) over
+
+    accepted_not : (why : Refusal) (op : Command) → AsksCommand line op → refusal_after p commands op ≡ None → IsRefused why → ⊥
+    accepted_not why op asks none is = ⊎_elim
+        (λ (c : (o : Command) × AsksCommand line o × (refusal_after p commands o ≡ Some why)).
+        let same = same_command c.0 op (one (request_for c.0) (request_for op) c.1 asks) in
+        let here : refusal_after p commands op ≡ Some why = subst (λ (o : Command). refusal_after p commands o ≡ Some why) same c.2 in
+        cc (here, none))
+        (λ (g : (object : ℕ) × AsksFor line (get object) × (p.objects ≤ object) × (why ≡ NoObject)). not_get op g.0 asks g.1)
+        is
+
+    pub full_exactly : (reply : Reply) (added : List Command) (op : Command) (before after : LogLength) → Replies p commands line reply added → GoesBy p before line reply after → AsksCommand line op → refusal_after p commands op ≡ None
+        → IsFull reply ↔ (p.limit < grown before (record_length p op))
+    full_exactly ok added op before after is goes asks none = (λ f. absurd f, λ over. fits_not goes.0 op before goes.1 asks goes.2 over)
+    full_exactly (value bytes) added op before after is goes asks none = absurd (not_get op is.0 asks is.1)
+    full_exactly (forced n) added op before after is goes asks none = absurd (not_force op asks is.0)
+    full_exactly bad added op before after is goes asks none = absurd (is.0 (request_for op) asks)
+    full_exactly (refused why) added op before after is goes asks none = absurd (accepted_not why op asks none is.0)
+    full_exactly (full used need limit) added op before after is goes asks none = (λ f. over_same goes.0.0 op before goes.0.1 asks goes.0.2, λ over. tt)
+    full_exactly (end number) added op before after is goes asks none = (λ f. absurd f, λ over. absurd (fits_not goes.0.0 op before goes.0.1 asks goes.0.2 over))
+    full_exactly silence added op before after is goes asks none = absurd (not_skip op asks is.0)
+    full_exactly (object_value object bytes) added op before after is goes asks none = absurd is
+    full_exactly (command_count n) added op before after is goes asks none = absurd is

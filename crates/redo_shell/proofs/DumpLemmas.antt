@@ -1,17 +1,21 @@
 -- What a dump says, row by row, and what its moments leave.
-use Rattle.std.proofs.Common.{◌≡◌, ◌<◌, ◌+◌, ◌++◌, List, ℕ, suc, [], ◌∷◌, length, take, sym, ap, ◌∙◌, subst, arith}
+use Rattle.std.proofs.Common.{◌≡◌, ◌≢◌, refl, ◌<◌, ◌+◌, ◌++◌, List, ℕ, suc, [], ◌∷◌, length, take, sym, ap, ◌∙◌, subst, arith}
 use Rattle.std.proofs.lemmas.List.{append-nil, take_all}
 use Rattle.std.proofs.lemmas.List.Concat.{flat_map-append}
 use Rattle.std.specs.List.{flat_map}
-use Rattle.disk_model.specs.Disk.{Files, Disk, Runs, Stays, Same, SaysFront, LeavesOnly}
+use Rattle.disk_model.specs.Disk.{Files, Disk, IsDisk, IsSettled, Runs, Stays, Same, SaysFront, LeavesOnly}
 use Rattle.disk_model.specs.Moments.{first_call, runs_on, weaker}
 use Rattle.formats.specs.declared.params.Params.{Params}
 use Rattle.oper_core.specs.State.{State}
 use Rattle.script_lines.specs.Replies.{object_value, command_count, said_line}
 use Rattle.store_engine.specs.Engine.{EngineView}
-use Rattle.store_engine.specs.Starts.{OrAtStart, then_leaves}
-use Rattle.redo_shell.specs.Store.{Command, Stands, state_of, Holds, Between}
+use Rattle.store_engine.specs.Starts.{OrAtStart, at_start, then_leaves, from_settled}
+use Rattle.redo_shell.specs.Store.{Command, Stands, Opens, state_of, Holds, Between}
+use Rattle.redo_shell.specs.Calls.{IsDumpOn}
 use Rattle.redo_shell.specs.Dump.{row_of, rows_below, dump_of, DumpMoment}
+use Rattle.redo_shell.specs.Status.{IsOfUnopened}
+use Rattle.redo_shell.specs.declared.status.Status.{Status}
+use Rattle.redo_shell.specs.declared.status.Status.TheVariants.{Done, NotAStore, Damaged, DiskFault, SayFault, Memory}
 use Rattle.redo_shell.proofs.HoldLemmas.{holds_stays, stays_between}
 
 -- an object that is empty has no row, and any other one
@@ -97,3 +101,41 @@ dump_begun p old mid new commands text quiet is front =
 
 pub dump_quiet : (p : Params) (old new : Disk) (commands : List Command) → new.said ≡ old.said → (count : ℕ) × (new.said ≡ old.said ++ take count (dump_of p commands))
 dump_quiet p old new commands quiet = (0, quiet ∙ sym (append-nil old.said))
+
+-- a dump of files that stand for commands, from before they were opened
+pub dump_on : (p : Params) (old mid new : Disk) (commands : List Command) (status : Status) → IsDisk old → Opens p old commands → Stays old mid → (mid.tells_moments → LeavesOnly mid new (DumpMoment p commands mid.said))
+    → (count : ℕ) × (new.said ≡ mid.said ++ take count (dump_of p commands)) → (status ≡ Done → new.said ≡ mid.said ++ dump_of p commands) → (status ≢ NotAStore) × (status ≢ Damaged) → IsSettled new
+    → IsDumpOn p commands old new status
+dump_on p old mid new commands status lawful opens kept dumping said all store settled =
+    let quiet = kept.said opens.told in
+    let moments : old.tells_moments → LeavesOnly old new (OrAtStart old (DumpMoment p commands old.said)) = dump_from p old mid new commands kept dumping in
+    record {
+      moments = moments;
+      from_settled = λ told settled_old. from_settled old new (DumpMoment p commands old.said) lawful told settled_old (start_dump p old commands opens.stands) (moments told);
+      said = (said.0, said.1 ∙ ap (λ (l : List ℕ). l ++ take said.0 (dump_of p commands)) quiet);
+      all = λ done. all done ∙ ap (λ (l : List ℕ). l ++ dump_of p commands) quiet;
+      store = store;
+      settled = λ disk memory. settled;
+    }
+
+-- where no store was opened, the disk or memory has failed
+opening_failed : (status : Status) → IsOfUnopened status → (status ≢ NotAStore) × (status ≢ Damaged) → status ≢ SayFault → status ≢ DiskFault → status ≢ Memory → ⊥
+opening_failed NotAStore of store output disk memory = store.0 refl
+opening_failed Damaged of store output disk memory = store.1 refl
+opening_failed DiskFault of store output disk memory = disk refl
+opening_failed SayFault of store output disk memory = output refl
+opening_failed Memory of store output disk memory = memory refl
+opening_failed status of store output disk memory = of
+
+pub dump_unopened : (p : Params) (old mid : Disk) (commands : List Command) (status : Status) → IsDisk old → Opens p old commands → Stays old mid → IsOfUnopened status
+    → (status ≢ NotAStore) × (status ≢ Damaged) → status ≢ SayFault → IsDumpOn p commands old mid status
+dump_unopened p old mid commands status lawful opens kept of store output =
+    let moments : old.tells_moments → LeavesOnly old mid (OrAtStart old (DumpMoment p commands old.said)) = at_start old mid (DumpMoment p commands old.said) kept in
+    record {
+      moments = moments;
+      from_settled = λ told settled. from_settled old mid (DumpMoment p commands old.said) lawful told settled (start_dump p old commands opens.stands) (moments told);
+      said = dump_quiet p old mid commands (kept.said opens.told);
+      all = λ done. absurd (subst (λ (s : Status). IsOfUnopened s) done of);
+      store = store;
+      settled = λ disk memory. absurd (opening_failed status of store output disk memory);
+    }

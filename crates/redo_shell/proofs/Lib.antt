@@ -11,3 +11,5 @@ pub mod DumpLemmas
 pub mod KeepLemmas
 pub mod CauseLemmas
 pub mod SessionLemmas
+pub mod PrintedLemmas
+pub mod FuseLemmas

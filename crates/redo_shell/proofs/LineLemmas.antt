@@ -1,5 +1,7 @@
 -- What a line asks, from the line as it was taken apart.
-use Rattle.std.proofs.Common.{◌≡◌, List, ℕ, sym, subst, Bor, Err}
+use Rattle.std.proofs.Common.{◌≡◌, ◌<◌, List, ℕ, length, sym, subst, arith, Bor, Err}
+use Rattle.std.specs.Prelude.{replicate}
+use Rattle.std.proofs.lemmas.List.{length-replicate}
 use Rattle.script_lines.specs.Grammar.{IsParsed, put, copy, append, cut, sort, swap, get, force, skip, AsksFor, IsHex, IsBad}
 use Rattle.script_lines.specs.GrammarLaws.{long_is_bad}
 use Rattle.formats.specs.declared.params.Params.{Params}
@@ -59,3 +61,10 @@ caused p commands log op cause is = subst (λ (x : ExecErr). HasCause p commands
 
 pub after : (p : Params) (old new : LogLength) (op : Command) {e same : ExecErr} → Lengthens p old op (Err e) new → e ≡ same → Lengthens p old op (Err same) new
 after p old new op lengthens is = subst (λ (x : ExecErr). Lengthens p old op (Err x) new) is lengthens
+
+line_of : (n : ℕ) → (line : List ℕ) × (length line ≡ n)
+line_of n = (replicate n 0, length-replicate n 0)
+
+-- a line that is too long
+pub long_line : (line : List ℕ) × (40000 < length line)
+long_line = let (line, long) = line_of 40001 in (line, omega (arith, long))

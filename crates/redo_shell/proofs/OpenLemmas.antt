@@ -1,23 +1,27 @@
 -- A run from before the store was opened.
-use Rattle.std.proofs.Common.{◌≡◌, ◌≤◌, ◌⊎◌, refl, ⊎_elim, ◌++◌, List, ℕ, [], length, ap, ◌∙◌, sym, subst, arith, Bool, Result, Ok, Err, IfOk}
+use Rattle.std.proofs.Common.{◌≡◌, ◌≢◌, ◌≤◌, ◌⊎◌, refl, ⊎_elim, ◌++◌, List, ℕ, [], length, ap, ◌∙◌, sym, subst, arith, Bool, false, Result, Ok, Err, IfOk}
 use Rattle.std.specs.Prelude.{⊤}
 use Rattle.std.proofs.lemmas.List.{append-nil, take_all}
 use Rattle.std.specs.List.{flat_map}
-use Rattle.disk_model.specs.Disk.{Files, Disk, Passes, Stays, LeavesOnly}
+use Rattle.disk_model.specs.Disk.{Files, Disk, IsDisk, Passes, Stays, LeavesOnly}
 use Rattle.disk_model.specs.Moments.{first_call, runs_on}
-use Rattle.formats.specs.Image.{EndsAt}
 use Rattle.formats.specs.declared.params.Params.{Params}
 use Rattle.script_lines.specs.Replies.{Reply, said_line}
-use Rattle.store_engine.specs.Starts.{OrAtStart, at_start, then_leaves}
-use Rattle.redo_shell.specs.Store.{Command, Stands, Between}
-use Rattle.redo_shell.specs.Answers.{Moment, TrueWithin, with_begun, SaysTruly}
-use Rattle.redo_shell.specs.Status.{status_of, status_after}
+use Rattle.op_codec.specs.AllOps.{all_meaning}
+use Rattle.store_engine.specs.Engine.{LogLength}
+use Rattle.store_engine.specs.ImageLaws.{stands_end}
+use Rattle.store_engine.specs.Starts.{OrAtStart, at_start, then_leaves, from_settled}
+use Rattle.redo_shell.specs.Store.{Command, Stands, Opens, Between}
+use Rattle.redo_shell.specs.Lengths.{GrowsTo}
+use Rattle.redo_shell.specs.Answers.{Moment, TrueWithin, with_begun, with_line, SaysTruly}
+use Rattle.redo_shell.specs.Calls.{IsRunOn}
+use Rattle.redo_shell.specs.Status.{status_of, status_after, IsOfUnopened}
 use Rattle.redo_shell.specs.declared.status.Status.{Status}
-use Rattle.redo_shell.specs.declared.status.Status.TheVariants.{Done, DoneWithRefusals}
+use Rattle.redo_shell.specs.declared.status.Status.TheVariants.{Done, DoneWithRefusals, NotAStore, Damaged}
 use Rattle.redo_shell.specs.declared.stop.Stop.{Stop}
 use Rattle.redo_shell.specs.declared.stop.Stop.TheVariants.{DiskFault, Damaged as SlotDamaged, ReadFault, SayFault, Memory, TooLong}
 use Rattle.redo_shell.specs.Run.{IsRun, IsComplete}
-use Rattle.redo_shell.proofs.StoryLemmas.{story_start, told_whole}
+use Rattle.redo_shell.proofs.StoryLemmas.{story_start, told_whole, told_grows}
 use Rattle.redo_shell.proofs.TrueLemmas.{none_begun}
 use Rattle.redo_shell.proofs.RunLemmas.{first_moment}
 
@@ -38,11 +42,17 @@ start_moment {p} start {commands} script stands =
     } in
     first_moment {p = p} {start = start} {commands = commands} script start.reads start.said between
 
-pub says_nothing : {p : Params} {commands : List Command} (script : List (List ℕ)) {old new : Disk} → Passes old new → new.said ≡ old.said → SaysTruly p commands script old new
-says_nothing {p} {commands} script {old} {new} time quiet = let none = told_whole (λ reply. ⊤) (story_start p commands script) in record {
-  says = record { bytes = []; since = quiet ∙ sym (append-nil old.said); story = none.story };
-  truly = λ told. subst (λ (l : List Reply). LeavesOnly old new (TrueWithin p old.said l)) (sym none.with_last) (first_call old new (TrueWithin p old.said []) told time (λ files said left. tt));
-}
+pub says_nothing : {p : Params} {commands : List Command} (script : List (List ℕ)) {old new : Disk} → Stands p old.reads commands → Passes old new → new.said ≡ old.said → SaysTruly p commands script old new
+says_nothing {p} {commands} script {old} {new} stands time quiet =
+    let none = told_whole (λ reply. ⊤) (story_start p commands script) in
+    let (place, ends) = stands_end all_meaning stands in
+    let length_now : LogLength = record { used = place; waits = false } in
+    record {
+      last = length_now;
+      lengths = told_grows none (record { first = length_now; ends = ends; none_waits = refl; all = refl });
+      says = record { bytes = []; since = quiet ∙ sym (append-nil old.said); story = none.story };
+      truly = λ told. subst (λ (l : List Reply). LeavesOnly old new (TrueWithin p old.said l)) (sym none.with_last) (first_call old new (TrueWithin p old.said []) told time (λ files said left. tt));
+    }
 
 -- then the script is answered
 pub run_moments : {p : Params} {start mid new : Disk} {commands : List Command} (script : List (List ℕ)) → Stays start mid → IsRun p mid new commands script → start.tells_moments
@@ -51,8 +61,8 @@ run_moments {p} {start} {mid} {new} {commands} script kept run told =
     then_leaves start mid new (Moment p commands script start.said) kept told
     (subst (λ (s : List ℕ). LeavesOnly mid new (Moment p commands script s)) (kept.said (kept.begins.telling told)) (run.moments (kept.time.moments_told.0 told)))
 
-pub run_says : {p : Params} {start mid new : Disk} {commands : List Command} {script : List (List ℕ)} → Stays start mid → mid.said ≡ start.said → IsRun p mid new commands script → SaysTruly p commands script start new
-run_says {p} {start} {mid} {new} {commands} {script} kept quiet run =
+pub run_says : {p : Params} {start mid new : Disk} {commands : List Command} {script : List (List ℕ)} → start.tells_files → Stays start mid → mid.said ≡ start.said → IsRun p mid new commands script → SaysTruly p commands script start new
+run_says {p} {start} {mid} {new} {commands} {script} tells kept quiet run =
     let truth = run.says in
     let story = truth.says.story in
     let replies = with_begun story.replies story.work in
@@ -61,10 +71,12 @@ run_says {p} {start} {mid} {new} {commands} {script} kept quiet run =
       truly = λ told. runs_on start mid new (TrueWithin p start.said replies)
           (first_call start mid (TrueWithin p start.said replies) told kept.time (λ files said left. none_begun p start.said replies files said (omega (arith, ap length (kept.crash told files said left).1))))
           (subst (λ (s : List ℕ). LeavesOnly mid new (TrueWithin p s replies)) quiet (truth.truly (kept.time.moments_told.0 told)));
+      last = truth.last;
+      lengths = subst (λ (f : Files). GrowsTo p f (with_line story.lines story.work) replies truth.last) (kept.reads tells) truth.lengths;
     }
 
 pub complete_from : {p : Params} {start mid new : Disk} {commands : List Command} {script : List (List ℕ)} {status : Status} → mid.said ≡ start.said → mid.reads ≡ start.reads → IsComplete p mid new commands script status → IsComplete p start new commands script status
-complete_from quiet same all = record {
+complete_from {p} {script = script} quiet same all = record {
   replies = all.replies;
   acc = all.acc;
   answers = all.answers;
@@ -72,11 +84,8 @@ complete_from quiet same all = record {
   stands = all.stands;
   settled = all.settled;
   refusals = all.refusals;
-  first = all.first;
-  ends = subst (λ (f : Files). EndsAt f all.first.used) same all.ends;
-  none_waits = all.none_waits;
   last = all.last;
-  lengths = all.lengths;
+  lengths = subst (λ (f : Files). GrowsTo p f script all.replies all.last) same all.lengths;
   ends_last = all.ends_last;
 }
 
@@ -93,3 +102,36 @@ pub run_completes : {p : Params} (start mid new : Disk) {commands : List Command
     → IfOk outcome (λ refusing. IsComplete p mid new commands script (status_after (Ok refusing))) → (status ≡ Done) ⊎ (status ≡ DoneWithRefusals) → IsComplete p start new commands script status
 run_completes {p} start mid new {commands} {script} (Ok refusing) status is quiet same all done = subst (λ (s : Status). IsComplete p start new commands script s) (sym is) (complete_from quiet same all)
 run_completes start mid new (Err stop) status is quiet same all done = absurd (not_early stop (subst (λ (s : Status). (s ≡ Done) ⊎ (s ≡ DoneWithRefusals)) is done))
+
+-- a run on files that stand for commands, from before they were opened
+pub run_on : {p : Params} (old mid new : Disk) {commands : List Command} (script : List (List ℕ)) (status : Status) → IsDisk old → Opens p old commands → Stays old mid → IsRun p mid new commands script
+    → ((status ≡ Done) ⊎ (status ≡ DoneWithRefusals) → IsComplete p mid new commands script status) → (status ≢ NotAStore) × (status ≢ Damaged) → IsRunOn p commands script old new status
+run_on {p} old mid new {commands} script status lawful opens kept run complete store =
+    let quiet = kept.said opens.told in
+    let moments : old.tells_moments → LeavesOnly old new (OrAtStart old (Moment p commands script old.said)) = run_moments script kept run in
+    record {
+      moments = moments;
+      from_settled = λ told settled. from_settled old new (Moment p commands script old.said) lawful told settled (start_moment old script opens.stands) (moments told);
+      answers = run_says opens.told kept quiet run;
+      complete = λ done. complete_from quiet (kept.reads opens.told) (complete done);
+      store = store;
+    }
+
+-- a run that ended where no store was opened
+not_done : (status : Status) → IsOfUnopened status → (status ≡ Done) ⊎ (status ≡ DoneWithRefusals) → ⊥
+not_done status of done = ⊎_elim
+    (λ (is : status ≡ Done). subst (λ (s : Status). IsOfUnopened s) is of)
+    (λ (is : status ≡ DoneWithRefusals). subst (λ (s : Status). IsOfUnopened s) is of)
+    done
+
+pub run_unopened : {p : Params} (old mid : Disk) {commands : List Command} (script : List (List ℕ)) (status : Status) → IsDisk old → Opens p old commands → Stays old mid → IsOfUnopened status
+    → (status ≢ NotAStore) × (status ≢ Damaged) → IsRunOn p commands script old mid status
+run_unopened {p} old mid {commands} script status lawful opens kept of store =
+    let moments : old.tells_moments → LeavesOnly old mid (OrAtStart old (Moment p commands script old.said)) = opening_moments script kept in
+    record {
+      moments = moments;
+      from_settled = λ told settled. from_settled old mid (Moment p commands script old.said) lawful told settled (start_moment old script opens.stands) (moments told);
+      answers = says_nothing script opens.stands kept.time (kept.said opens.told);
+      complete = λ done. absurd (not_done status of done);
+      store = store;
+    }

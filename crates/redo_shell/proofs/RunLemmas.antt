@@ -1,20 +1,22 @@
 -- How a run's moments go on from line to line.
-use Rattle.std.proofs.Common.{◌≡◌, ◌≢◌, ◌⊎◌, inl, inr, ⊎_elim, ◌≤◌, ◌<◌, ◌++◌, ◌||◌, ◌↔◌, List, ℕ, [], ◌∷◌, length, take, length-append, append_assoc, refl, ap, ◌∙◌, sym, subst, arith, Bool, true, false, Contains, Result, Ok, Err, IfOk, OnOk, OnErr, IsErr}
+use Rattle.std.proofs.Common.{◌≡◌, ◌≢◌, ◌⊎◌, inl, inr, ⊎_elim, ◌≤◌, ◌<◌, ◌^◌, ◌++◌, ◌||◌, ◌↔◌, List, ℕ, [], ◌∷◌, length, take, length-append, append_assoc, refl, ap, ◌∙◌, sym, subst, arith, Bool, true, false, Contains, Result, Ok, Err, IfOk, OnOk, OnErr, IsErr}
 use Rattle.std.specs.Prelude.{⊤}
-use Rattle.std.proofs.lemmas.List.{append-nil, take_all}
+use Rattle.std.proofs.lemmas.List.{append-nil, take_all, length-take-le}
 use Rattle.std.proofs.lemmas.List.Folds.{list_any-append}
 use Rattle.std.specs.List.{flat_map, list_any}
 use Rattle.disk_model.specs.Disk.{Files, Disk, IsDisk, Passes, Runs, Same, SaysFront, LeavesOnly}
 use Rattle.disk_model.specs.Moments.{passes_none, first_call, runs_on, weaker}
 use Rattle.formats.specs.Image.{EndsAt}
 use Rattle.formats.specs.declared.params.Params.{Params}
+use Rattle.op_codec.specs.AllOps.{all_meaning}
 use Rattle.oper_core.specs.declared.refusal.Refusal.TheVariants.{NoObject}
 use Rattle.script_lines.specs.Grammar.{AsksFor, get, skip}
 use Rattle.script_lines.specs.Replies.{Reply, value, forced, refused, silence, said_line}
 use Rattle.store_engine.specs.Engine.{EngineView, LogLength, log_length, forced_length}
+use Rattle.store_engine.specs.ImageLaws.{stands_few}
 use Rattle.redo_shell.specs.Store.{Command, state_of, Stands, Holds, Kept, Between}
 use Rattle.redo_shell.specs.Replies.{Replies, IsTrueIn, is_refusing}
-use Rattle.redo_shell.specs.Lengths.{GoesBy, AllGoBy}
+use Rattle.redo_shell.specs.Lengths.{GoesBy, GrowsTo}
 use Rattle.redo_shell.specs.Answers.{Moment, TrueWithin, SaysTruly}
 use Rattle.redo_shell.specs.Status.{status_after}
 use Rattle.redo_shell.specs.declared.status.Status.TheVariants.{DoneWithRefusals}
@@ -22,7 +24,8 @@ use Rattle.redo_shell.specs.declared.stop.Stop.{Stop}
 use Rattle.redo_shell.specs.Run.{IsTrueSaying, IsTrueSoFar, IsAnswered, IsPartly, During, LineMoment, Going, IsComplete, IsFound, Answering, IsRun}
 use Rattle.redo_shell.proofs.HoldLemmas.{holds_stays, holds_between}
 use Rattle.redo_shell.proofs.TrueLemmas.{truly_on, truly_quiet, line_behind, found_truly}
-use Rattle.redo_shell.proofs.StoryLemmas.{goes_by_more, Story, Told, story_start, story_more, story_end, said_more, spoken_more, told_whole, told_partly}
+use Rattle.redo_shell.proofs.PrintedLemmas.{printed_acked}
+use Rattle.redo_shell.proofs.StoryLemmas.{grows_more, told_grows, said_longer, Story, Told, story_start, story_more, story_end, said_more, spoken_more, told_whole, told_partly}
 
 -- the story so far
 abbrev story_of : {p : Params} {start now : Disk} {engine : EngineView} {commands : List Command} {script todo : List (List ℕ)} {refusing : Bool}
@@ -30,19 +33,22 @@ abbrev story_of : {p : Params} {start now : Disk} {engine : EngineView} {command
 story_of g = record { lines = g.lines; script_is = g.script_is; answers = g.answers }
 
 -- bytes that were told, beside files that stand for enough of what they tell
-moment_of : {p : Params} {commands : List Command} {script : List (List ℕ)} {replies : List Reply} {acc : List Command} (before bytes : List ℕ) (f : Files) (s : List ℕ) (kept : ℕ)
-    → Told p (IsTrueIn p f) commands script replies acc bytes → s ≡ before ++ bytes → length commands ≤ kept → kept ≤ length (commands ++ acc)
+moment_of : {p : Params} {commands : List Command} {script lines : List (List ℕ)} {replies : List Reply} {acc : List Command} (before bytes : List ℕ) (f : Files) (s : List ℕ) (kept : ℕ)
+    → Told p (IsTrueIn p f) commands script lines replies acc bytes → s ≡ before ++ bytes → length commands ≤ kept → kept ≤ length (commands ++ acc)
     → Stands p f (take kept (commands ++ acc)) → ((n : ℕ) → Contains replies (forced n) → n ≤ kept) → Moment p commands script before f s
-moment_of {p} {commands} {script} {replies} {acc} before bytes f s kept told since all_before no_more stands acked = record {
-  bytes = bytes;
-  since = since;
-  story = told.story;
-  kept = kept;
-  all_before = all_before;
-  no_more = omega (arith, no_more, ap length told.all);
-  stands = subst (λ (l : List Command). Stands p f (take kept l)) (sym told.all) stands;
-  acked = λ n has. acked n (told.spoken n has);
-}
+moment_of {p} {commands} {script} {lines} {replies} {acc} before bytes f s kept told since all_before no_more stands acked =
+    let few : length (take kept (commands ++ acc)) < 2 ^ 62 = stands_few all_meaning stands in
+    let small : kept < 2 ^ 64 = omega (arith, few, length-take-le kept (commands ++ acc) no_more) in
+    record {
+      bytes = bytes;
+      since = since;
+      story = told.story;
+      kept = kept;
+      all_before = all_before;
+      no_more = omega (arith, no_more, ap length told.all);
+      stands = subst (λ (l : List Command). Stands p f (take kept l)) (sym told.all) stands;
+      acked = printed_acked kept told.story small (λ n has. acked n (told.spoken n has));
+    }
 
 -- while the engine works, the story is that of the lines before
 between_moment : {p : Params} {start now : Disk} {engine : EngineView} {commands : List Command} {script todo : List (List ℕ)} {refusing : Bool}
@@ -106,10 +112,7 @@ goes_on {p} {start} {now} {new} {engine} {after} {commands} {script} {todo} {ref
       moments = moments_more line g time a;
       truly = λ told. subst (λ (l : List ℕ). LeavesOnly start new (IsTrueSoFar p start.said (g.replies ++ whole.reply ∷ []) l)) (sym whole.said)
           (truly_on whole.reply (g.truly told) g.said_is (whole.truly (time.moments_told.0 told)));
-      first = g.first;
-      ends = g.ends;
-      none_waits = g.none_waits;
-      lengths = goes_by_more p g.first (log_length engine) (log_length after) g.lines g.replies line whole.reply g.lengths whole.length_is;
+      lengths = grows_more (log_length after) line whole.reply g.lengths whole.length_is;
     }
 
 -- the start of a run, of which nothing is said yet
@@ -138,19 +141,18 @@ opened {p} {start} {engine} {commands} script lawful holds all = record {
       (λ f s b. first_moment script f s (subst (λ (n : ℕ). Between p start n commands f s) all b));
   truly = λ told. weaker start start (Between p start engine.forced commands) (IsTrueSoFar p start.said [] start.said) (holds_between lawful holds told)
       (λ f s b. record { true_within = tt; no_longer = omega (arith, ap length b.quiet) });
-  first = log_length engine;
-  ends = (holds.ends all).0;
-  none_waits = (holds.ends all).1;
-  lengths = refl;
+  lengths = record { first = log_length engine; ends = (holds.ends all).0; none_waits = (holds.ends all).1; all = refl };
 }
 
 -- a run that ends between two lines
 pub ends_here : {p : Params} {start now : Disk} {engine : EngineView} {commands : List Command} {script todo : List (List ℕ)} {refusing : Bool}
     → Going p start now engine commands script todo refusing → IsRun p start now commands script
-ends_here {p} {start} {now} g = let all = told_whole (λ reply. ⊤) (story_of g) in record {
+ends_here {p} {start} {now} {engine} g = let all = told_whole (λ reply. ⊤) (story_of g) in record {
   says = record {
     says = record { bytes = flat_map said_line g.replies; since = g.said_is; story = all.story };
     truly = λ told. subst (λ (l : List Reply). LeavesOnly start now (TrueWithin p start.said l)) (sym all.with_last) (weaker start now (IsTrueSoFar p start.said g.replies now.said) (TrueWithin p start.said g.replies) (g.truly told) (λ files said t. t.true_within));
+    last = log_length engine;
+    lengths = told_grows all g.lengths;
   };
   moments = g.moments;
 }
@@ -163,13 +165,15 @@ ends_in_line {p} {start} {now} {new} {engine} {after} {commands} {script} {todo}
       (λ (quiet : new.said ≡ now.said). record {
         says = record { bytes = flat_map said_line g.replies; since = quiet ∙ g.said_is; story = all.story };
         truly = λ told. subst (λ (l : List Reply). LeavesOnly start new (TrueWithin p start.said l)) (sym all.with_last) (truly_quiet (g.truly told) g.said_is (a.moments (time.moments_told.0 told)) line_behind);
+        last = log_length engine;
+        lengths = told_grows all g.lengths;
       })
-      (λ (part : IsPartly p now new (commands ++ g.acc) line). begun part)
-      (subst (λ (r : Result Bool Stop). OnErr r ((new.said ≡ now.said) ⊎ IsPartly p now new (commands ++ g.acc) line)) is a.partly);
+      (λ (part : IsPartly p now new (log_length engine) (commands ++ g.acc) line). begun part)
+      (subst (λ (r : Result Bool Stop). OnErr r ((new.said ≡ now.said) ⊎ IsPartly p now new (log_length engine) (commands ++ g.acc) line)) is a.partly);
   moments = moments_more line g time a;
 }
   where
-    begun : IsPartly p now new (commands ++ g.acc) line → SaysTruly p commands script start new
+    begun : IsPartly p now new (log_length engine) (commands ++ g.acc) line → SaysTruly p commands script start new
     begun part =
         let told_part = told_partly (λ reply. ⊤) line part.reply part.added part.count (story_of g) part.replies tt in
         record {
@@ -181,6 +185,8 @@ ends_in_line {p} {start} {now} {new} {engine} {after} {commands} {script} {todo}
           truly = λ told. subst (λ (l : List Reply). LeavesOnly start new (TrueWithin p start.said l)) (sym told_part.with_last)
               (weaker start new (IsTrueSoFar p start.said (g.replies ++ part.reply ∷ []) (now.said ++ said_line part.reply)) (TrueWithin p start.said (g.replies ++ part.reply ∷ []))
               (truly_on part.reply (g.truly told) g.said_is (part.truly (time.moments_told.0 told))) (λ files said t. t.true_within));
+          last = part.after;
+          lengths = told_grows told_part (grows_more part.after line part.reply g.lengths part.length_is);
         }
 
 -- a run that ends in the last force
@@ -192,6 +198,8 @@ ends_in_force {p} {start} {now} {new} {engine} {commands} {script} g time quiet 
     says = record { bytes = flat_map said_line g.replies; since = quiet ∙ g.said_is; story = all.story };
     truly = λ told. subst (λ (l : List Reply). LeavesOnly start new (TrueWithin p start.said l)) (sym all.with_last)
         (truly_quiet (g.truly told) g.said_is (moments (time.moments_told.0 told)) (λ files said b. omega (arith, ap length b.quiet)));
+    last = log_length engine;
+    lengths = told_grows all g.lengths;
   };
   moments = λ told. runs_on start now new (Moment p commands script start.said) (g.moments told)
       (weaker now new (Between p now engine.forced (commands ++ g.acc)) (Moment p commands script start.said) (moments (time.moments_told.0 told)) (between_moment g));
@@ -218,12 +226,9 @@ completes {p} {start} {now} {new} {engine} {after} {commands} {script} {todo} {r
       );
       settled = holds.carried.log.settled;
       refusals = tells refusing (list_any is_refusing g.replies) g.kind;
-      first = g.first;
-      ends = g.ends;
-      none_waits = g.none_waits;
       last = log_length engine;
       ends_last = subst (λ (l : LogLength). EndsAt new.reads l.used) emptied (holds.ends all).0;
-      lengths = subst (λ (l : List (List ℕ)). AllGoBy p g.first l g.replies (log_length engine)) (sym (g.script_is ∙ ap (λ (l : List (List ℕ)). g.lines ++ l) none ∙ append-nil g.lines)) g.lengths;
+      lengths = subst (λ (l : List (List ℕ)). GrowsTo p start.reads l g.replies (log_length engine)) (sym (g.script_is ∙ ap (λ (l : List (List ℕ)). g.lines ++ l) none ∙ append-nil g.lines)) g.lengths;
     }
 
 pub goes_to : {p : Params} {start now : Disk} {engine : EngineView} {commands : List Command} {script todo : List (List ℕ)} {refusing : Bool} (line : List ℕ) (rest : List (List ℕ))
@@ -279,7 +284,7 @@ found_said {reply = reply} (Ok kind) moments time found say all is = record {
   partly = tt;
   moments = found_moments moments time found say;
 }
-found_said {reply = reply} (Err stop) moments time found say all is = record {
+found_said {after = after} {reply = reply} (Err stop) moments time found say all is = record {
   whole = tt;
   partly = let front = say.said found.kept.holds.told in
       inr (record {
@@ -289,6 +294,8 @@ found_said {reply = reply} (Err stop) moments time found say all is = record {
         count = front.0;
         said_is = front.2 ∙ ap (λ (l : List ℕ). l ++ take front.0 (said_line reply)) found.quiet;
         truly = found_truly moments time found say;
+        after = log_length after;
+        length_is = found.length_is;
       });
   moments = found_moments moments time found say;
 }
@@ -373,4 +380,35 @@ skipped {p} {d} {engine} {commands} {line} lawful holds asks = record {
   };
   partly = tt;
   moments = λ told. weaker d d (Between p d engine.forced commands) (LineMoment p d engine.forced commands line) (holds_between lawful holds told) (λ f s b. inl b);
+}
+
+pub moment_longer : {p : Params} {commands : List Command} {script : List (List ℕ)} {before : List ℕ} (more : List (List ℕ)) (f : Files) (s : List ℕ) → Moment p commands script before f s → Moment p commands (script ++ more) before f s
+moment_longer more f s m = record {
+  bytes = m.bytes;
+  since = m.since;
+  story = said_longer more m.story;
+  kept = m.kept;
+  all_before = m.all_before;
+  no_more = m.no_more;
+  stands = m.stands;
+  acked = m.acked;
+}
+
+-- a run that has answered all its lines has one more
+abbrev pub with_next : {p : Params} {start now : Disk} {engine : EngineView} {commands : List Command} {script : List (List ℕ)} {refusing : Bool} (line : List ℕ)
+    → Going p start now engine commands script [] refusing → Going p start now engine commands (script ++ line ∷ []) (line ∷ []) refusing
+with_next {p} {start} {now} {engine} {commands} {script} line g = record {
+  lines = g.lines;
+  replies = g.replies;
+  acc = g.acc;
+  script_is = ap (λ (l : List (List ℕ)). l ++ line ∷ []) (g.script_is ∙ append-nil g.lines);
+  said_is = g.said_is;
+  answers = g.answers;
+  holds = g.holds;
+  all_before = g.all_before;
+  acked = g.acked;
+  kind = g.kind;
+  moments = λ told. weaker start now (Moment p commands script start.said) (Moment p commands (script ++ line ∷ []) start.said) (g.moments told) (moment_longer (line ∷ []));
+  truly = g.truly;
+  lengths = g.lengths;
 }

@@ -11,6 +11,8 @@ use Rattle.script_lines.specs.Replies.{Reply}
 use Rattle.redo_shell.specs.Store.{Command, Stands, IsNew}
 use Rattle.redo_shell.specs.Answers.{Said, Begun, Moment}
 use Rattle.redo_shell.specs.Sessions.{Ran, Adds, Survives, Follows, Sessions, AllSilent, Arises, none, more, start, run, init, other}
+use Rattle.redo_shell.specs.Printed.{SaysForced}
+use Rattle.redo_shell.proofs.PrintedLemmas.{nothing_printed}
 use Rattle.redo_shell.proofs.StoryLemmas.{story_start, told_whole}
 
 -- a story whose begun answer is true is a story
@@ -42,7 +44,7 @@ adds_none p commands ran silent =
       all_before = omega arith;
       no_more = omega (arith, ap length same);
       now_is = sym (ap (λ (l : List Command). take (length commands) l) same ∙ take_all (length commands) commands (omega arith));
-      acked = λ n has. absurd (omega (arith, (said.spoken n has).1));
+      acked = λ n says. absurd (nothing_printed n says);
     })
 
 -- a moment of it that had said something
@@ -83,7 +85,7 @@ survives_silent p files (ran ∷ runs) (first, rest) stands =
 module _ {T : Type 0} (disk : T → Disk) (lawful : (m : T) → IsDisk (disk m)) (p : Params) (commands : List Command) (first : T) (told : (disk first).tells_moments)
     (here : (files : Files) (said : List ℕ) → (disk first).left_since (disk first).clock files said → Stands p files commands) where
   -- whatever a crash leaves behind the last of the calls
-  pub survive : {runs : List Ran} {last : T} → Sessions disk p first runs last
+  pub survive : {runs : List Ran} {last : T} → Sessions disk first runs last
       → (disk last).tells_moments × ((files : Files) (said : List ℕ) → (disk last).left_since (disk last).clock files said → Survives p commands runs files)
   survive start = (
     told,
@@ -92,7 +94,7 @@ module _ {T : Type 0} (disk : T → Disk) (lawful : (m : T) → IsDisk (disk m))
   survive (run old new next ran before begins leaves follows) =
       let (told_old, each_old) = survive before in
       let read = each_old (disk old).reads (disk old).said ((lawful old).as_read told_old) in
-      let moments = leaves read.now (record { told = (lawful old).telling told_old; stands = read.stands }) told_old in
+      let moments = leaves p read.now (record { told = (lawful old).telling told_old; stands = read.stands }) told_old in
       let told_next = follows.told told_old in (
         told_next,
         λ files said left. ⊎_elim
@@ -103,7 +105,7 @@ module _ {T : Type 0} (disk : T → Disk) (lawful : (m : T) → IsDisk (disk m))
             (λ m. survives_run ran (take m.kept (read.now ++ m.story.acc ++ m.story.added)) read (adds_moment p read.now ran (disk old).said files m) m.stands)
             (moments.each files _ (follows.within told_next files said left)),
       )
-  survive (init old new next bytes before no_store leaves follows) =
+  survive (init old new next q bytes before no_store leaves follows) =
       let (told_old, each_old) = survive before in
       let read = each_old (disk old).reads (disk old).said ((lawful old).as_read told_old) in
       absurd (no_store (stands_begins all_meaning read.stands))
@@ -114,14 +116,14 @@ module _ {T : Type 0} (disk : T → Disk) (lawful : (m : T) → IsDisk (disk m))
         λ files said left. each_old files (disk old).said ((kept.images told_old).each files bytes (follows.within told_next files said left)),
       )
 
-module _ {T : Type 0} (disk : T → Disk) (lawful : (m : T) → IsDisk (disk m)) (p : Params) (first : T) (told : (disk first).tells_moments)
-    (here : (files : Files) (said : List ℕ) → (disk first).left_since (disk first).clock files said → IsNew p files) where
+module _ {T : Type 0} (disk : T → Disk) (lawful : (m : T) → IsDisk (disk m)) (first : T) (told : (disk first).tells_moments)
+    (here : (files : Files) (said : List ℕ) → (disk first).left_since (disk first).clock files said → (p : Params) × IsNew p files) where
   -- the same from files that are no store yet
-  pub arise : {runs : List Ran} {last : T} → Sessions disk p first runs last
-      → (disk last).tells_moments × ((files : Files) (said : List ℕ) → (disk last).left_since (disk last).clock files said → Arises p runs files)
+  pub arise : {runs : List Ran} {last : T} → Sessions disk first runs last
+      → (disk last).tells_moments × ((files : Files) (said : List ℕ) → (disk last).left_since (disk last).clock files said → Arises runs files)
   arise start = (
     told,
-    λ files said left. ⊎_elim (λ no_store. inl (no_store, tt)) (λ stands. inr (survives_start p [] files stands)) (here files said left),
+    λ files said left. let (p, is) = here files said left in ⊎_elim (λ no_store. inl (no_store, tt)) (λ stands. inr (p, survives_start p [] files stands)) is,
   )
   arise (run {runs} old new next ran before begins leaves follows) =
       let (told_old, each_old) = arise before in
@@ -130,19 +132,22 @@ module _ {T : Type 0} (disk : T → Disk) (lawful : (m : T) → IsDisk (disk m))
         told_next,
         λ files said left. ⊎_elim
             (λ no_store. absurd (no_store.0 begins))
-            (λ (read : Survives p [] runs (disk old).reads).
-            let moments = leaves read.now (record { told = (lawful old).telling told_old; stands = read.stands }) told_old in
+            (λ (is_read : (p : Params) × Survives p [] runs (disk old).reads).
+            let (p, read) = is_read in
+            let moments = leaves p read.now (record { told = (lawful old).telling told_old; stands = read.stands }) told_old in
             ⊎_elim
             (λ was.
             let silent = append_cancel_left (disk old).said ran.bytes [] ((lawful old).said_now told_old files _ was ∙ sym (append-nil (disk old).said)) in
             ⊎_elim (λ no_store. inl (no_store.0, (silent, no_store.1)))
-            (λ (image : Survives p [] runs files). inr (survives_run ran image.now image (adds_none p image.now ran silent) image.stands))
+            (λ (is : (q : Params) × Survives q [] runs files).
+            let (q, image) = is in
+            inr (q, survives_run ran image.now image (adds_none q image.now ran silent) image.stands))
             (each_old files _ was))
-            (λ m. inr (survives_run ran (take m.kept (read.now ++ m.story.acc ++ m.story.added)) read (adds_moment p read.now ran (disk old).said files m) m.stands))
+            (λ m. inr (p, survives_run ran (take m.kept (read.now ++ m.story.acc ++ m.story.added)) read (adds_moment p read.now ran (disk old).said files m) m.stands))
             (moments.each files _ (follows.within told_next files said left)))
             read_or,
       )
-  arise (init {runs} old new next bytes before no_store leaves follows) =
+  arise (init {runs} old new next p bytes before no_store leaves follows) =
       let (told_old, each_old) = arise before in
       let read_or = each_old (disk old).reads (disk old).said ((lawful old).as_read told_old) in
       let told_next = follows.told told_old in (
@@ -150,9 +155,9 @@ module _ {T : Type 0} (disk : T → Disk) (lawful : (m : T) → IsDisk (disk m))
         λ files said left. ⊎_elim
             (λ none_read. ⊎_elim
             (λ was. each_old files _ was)
-            (λ is. ⊎_elim (λ still. inl (still, none_read.1)) (λ stands. inr (survives_silent p files runs none_read.1 stands).0) is.0)
+            (λ is. ⊎_elim (λ still. inl (still, none_read.1)) (λ stands. inr (p, (survives_silent p files runs none_read.1 stands).0)) is.0)
             ((leaves told_old).each files _ (follows.within told_next files said left)))
-            (λ (read : Survives p [] runs (disk old).reads). absurd (no_store (stands_begins all_meaning read.stands)))
+            (λ (is_read : (q : Params) × Survives q [] runs (disk old).reads). absurd (no_store (stands_begins all_meaning is_read.1.stands)))
             read_or,
       )
   arise (other old new next bytes before kept follows) =

@@ -4,13 +4,14 @@ use Rattle.std.proofs.lemmas.List.{append-nil, take-append-le, take_all}
 use Rattle.std.proofs.lemmas.List.Elements.{Contains-append_left, Contains-append_cases}
 use Rattle.std.proofs.lemmas.List.Concat.{flat_map-append}
 use Rattle.std.specs.List.{flat_map}
+use Rattle.disk_model.specs.Disk.{Files}
 use Rattle.formats.specs.declared.params.Params.{Params}
 use Rattle.script_lines.specs.Replies.{Reply, ok, value, forced, bad, refused, full, end, object_value, command_count, silence, text_of, said_line}
 use Rattle.store_engine.specs.Engine.{LogLength}
 use Rattle.redo_shell.specs.Store.{Command}
 use Rattle.redo_shell.specs.Replies.{Replies}
-use Rattle.redo_shell.specs.Lengths.{GoesBy, AllGoBy}
-use Rattle.redo_shell.specs.Answers.{Answers, Said, with_begun}
+use Rattle.redo_shell.specs.Lengths.{GoesBy, AllGoBy, GrowsTo}
+use Rattle.redo_shell.specs.Answers.{Answers, Begun, Said, with_begun, with_line}
 
 -- the first lines of a script, and the answers to them
 pub record Story (p : Params) (commands : List Command) (script todo : List (List ℕ)) (replies : List Reply) (acc : List Command) : Type 0 where
@@ -19,11 +20,12 @@ pub record Story (p : Params) (commands : List Command) (script todo : List (Lis
   pub answers : Answers p commands lines replies acc
 
 -- bytes said, with the commands that they add and the numbers that they say to be forced
-pub record Told (p : Params) (tie : Reply → Type 0) (commands : List Command) (script : List (List ℕ)) (replies : List Reply) (acc : List Command) (said : List ℕ) : Type 0 where
+pub record Told (p : Params) (tie : Reply → Type 0) (commands : List Command) (script lines : List (List ℕ)) (replies : List Reply) (acc : List Command) (said : List ℕ) : Type 0 where
   pub story : Said p tie commands script said
   pub all : commands ++ story.acc ++ story.added ≡ commands ++ acc
   pub spoken : (n : ℕ) → Contains story.replies (forced n) → Contains replies (forced n)
   pub with_last : with_begun story.replies story.work ≡ replies
+  pub lines_are : with_line story.lines story.work ≡ lines
 
 only_one : {X : Type 0} (r x : X) → Contains (r ∷ []) x → r ≡ x
 only_one r x (zero, small, is) = is
@@ -52,7 +54,7 @@ answers_more p commands [] (r ∷ replies) acc line reply added none here = absu
 answers_more p commands (l ∷ lines) [] acc line reply added none here = absurd none
 
 -- before the first line
-pub story_start : (p : Params) (commands : List Command) (script : List (List ℕ)) → Story p commands script script [] []
+abbrev pub story_start : (p : Params) (commands : List Command) (script : List (List ℕ)) → Story p commands script script [] []
 story_start p commands script = record { lines = []; script_is = refl; answers = refl }
 
 abbrev pub story_more : {p : Params} {commands : List Command} {script todo : List (List ℕ)} {replies : List Reply} {acc : List Command} (line : List ℕ) (reply : Reply) (added : List Command)
@@ -77,7 +79,7 @@ spoken_more replies reply n has = ⊎_elim (λ (h : Contains replies (forced n))
 
 -- whole answers were said, and nothing of the next
 pub told_whole : {p : Params} (tie : Reply → Type 0) {commands : List Command} {script todo : List (List ℕ)} {replies : List Reply} {acc : List Command}
-    → Story p commands script todo replies acc → Told p tie commands script replies acc (flat_map said_line replies)
+    → (s : Story p commands script todo replies acc) → Told p tie commands script s.lines replies acc (flat_map said_line replies)
 told_whole {p} tie {commands} {script} {todo} {replies} {acc} s = record {
   story = record {
     lines = s.lines;
@@ -94,6 +96,7 @@ told_whole {p} tie {commands} {script} {todo} {replies} {acc} s = record {
   all = append-nil (commands ++ acc);
   spoken = λ n has. has;
   with_last = refl;
+  lines_are = refl;
 }
 
 le_or_lt : (a b : ℕ) → (a ≤ b) ⊎ (b < a)
@@ -119,12 +122,12 @@ beginning silence count less = absurd (omega arith)
 
 -- a beginning of the next answer was said, or all of it
 pub told_partly : {p : Params} (tie : Reply → Type 0) {commands : List Command} {script todo : List (List ℕ)} {replies : List Reply} {acc : List Command} (line : List ℕ) (reply : Reply) (added : List Command) (count : ℕ)
-    → Story p commands script (line ∷ todo) replies acc → Replies p (commands ++ acc) line reply added → tie reply
-    → Told p tie commands script (replies ++ reply ∷ []) (acc ++ added) (flat_map said_line replies ++ take count (said_line reply))
+    → (s : Story p commands script (line ∷ todo) replies acc) → Replies p (commands ++ acc) line reply added → tie reply
+    → Told p tie commands script (s.lines ++ line ∷ []) (replies ++ reply ∷ []) (acc ++ added) (flat_map said_line replies ++ take count (said_line reply))
 told_partly {p} tie {commands} {script} {todo} {replies} {acc} line reply added count s here tied =
     ⊎_elim whole part (le_or_lt (length (said_line reply)) count)
   where
-    part : count < length (said_line reply) → Told p tie commands script (replies ++ reply ∷ []) (acc ++ added) (flat_map said_line replies ++ take count (said_line reply))
+    part : count < length (said_line reply) → Told p tie commands script (s.lines ++ line ∷ []) (replies ++ reply ∷ []) (acc ++ added) (flat_map said_line replies ++ take count (said_line reply))
     part less =
         record {
           story = record {
@@ -142,13 +145,14 @@ told_partly {p} tie {commands} {script} {todo} {replies} {acc} line reply added 
           all = append_assoc commands acc added;
           spoken = λ n has. Contains-append_left replies (reply ∷ []) (forced n) has;
           with_last = refl;
+          lines_are = refl;
         }
 
-    whole : length (said_line reply) ≤ count → Told p tie commands script (replies ++ reply ∷ []) (acc ++ added) (flat_map said_line replies ++ take count (said_line reply))
+    whole : length (said_line reply) ≤ count → Told p tie commands script (s.lines ++ line ∷ []) (replies ++ reply ∷ []) (acc ++ added) (flat_map said_line replies ++ take count (said_line reply))
     whole all =
         let same : flat_map said_line (replies ++ reply ∷ []) ≡ flat_map said_line replies ++ take count (said_line reply)
         = said_more replies reply ∙ ap (λ (l : List ℕ). flat_map said_line replies ++ l) (sym (take_all count (said_line reply) all)) in
-        subst (λ (l : List ℕ). Told p tie commands script (replies ++ reply ∷ []) (acc ++ added) l) same (told_whole tie (story_more line reply added s here))
+        subst (λ (l : List ℕ). Told p tie commands script (s.lines ++ line ∷ []) (replies ++ reply ∷ []) (acc ++ added) l) same (told_whole tie (story_more line reply added s here))
 
 -- the log's length goes on with an answer more
 pub goes_by_more : (p : Params) (first mid last : LogLength) (lines : List (List ℕ)) (replies : List Reply) (line : List ℕ) (reply : Reply) → AllGoBy p first lines replies mid → GoesBy p mid line reply last
@@ -157,3 +161,46 @@ goes_by_more p first mid last [] [] line reply so_far here = (last, subst (λ (m
 goes_by_more p first mid last (l ∷ lines) (r ∷ replies) line reply (next, one, rest) here = (next, one, goes_by_more p next mid last lines replies line reply rest here)
 goes_by_more p first mid last [] (r ∷ replies) line reply so_far here = absurd so_far
 goes_by_more p first mid last (l ∷ lines) [] line reply so_far here = absurd so_far
+
+pub grows_more : {p : Params} {files : Files} {mid : LogLength} (last : LogLength) {lines : List (List ℕ)} {replies : List Reply} (line : List ℕ) (reply : Reply) → GrowsTo p files lines replies mid → GoesBy p mid line reply last
+    → GrowsTo p files (lines ++ line ∷ []) (replies ++ reply ∷ []) last
+grows_more {p} {files} {mid} last {lines} {replies} line reply g here = record {
+  first = g.first;
+  ends = g.ends;
+  none_waits = g.none_waits;
+  all = goes_by_more p g.first mid last lines replies line reply g.all here;
+}
+
+-- it goes along what was told
+pub told_grows : {p : Params} {tie : Reply → Type 0} {commands : List Command} {script lines : List (List ℕ)} {replies : List Reply} {acc : List Command} {said : List ℕ} {files : Files} {last : LogLength}
+    → (t : Told p tie commands script lines replies acc said) → GrowsTo p files lines replies last
+    → GrowsTo p files (with_line t.story.lines t.story.work) (with_begun t.story.replies t.story.work) last
+told_grows {p} {lines = lines} {files = files} {last = last} t g =
+    subst (λ (l : List (List ℕ)). GrowsTo p files l (with_begun t.story.replies t.story.work) last) (sym t.lines_are)
+    (subst (λ (r : List Reply). GrowsTo p files lines r last) (sym t.with_last) g)
+
+-- what answers the first lines of a script answers those of a longer one
+abbrev pub said_longer : {p : Params} {tie : Reply → Type 0} {commands : List Command} {script : List (List ℕ)} {said : List ℕ} (more : List (List ℕ)) → Said p tie commands script said → Said p tie commands (script ++ more) said
+said_longer {p} {tie} {commands} more s = record {
+  lines = s.lines;
+  todo = s.todo ++ more;
+  replies = s.replies;
+  acc = s.acc;
+  part = s.part;
+  added = s.added;
+  script_is = ap (λ (l : List (List ℕ)). l ++ more) s.script_is ∙ append_assoc s.lines s.todo more;
+  said_is = s.said_is;
+  answers = s.answers;
+  work = ⊎_elim (λ whole. inl whole)
+      (λ (b : Begun p tie (commands ++ s.acc) s.todo s.part s.added). inr (record {
+        line = b.line;
+        rest = b.rest ++ more;
+        reply = b.reply;
+        count = b.count;
+        next = ap (λ (l : List (List ℕ)). l ++ more) b.next;
+        replies = b.replies;
+        begun = b.begun;
+        tied = b.tied;
+      }))
+      s.work;
+}

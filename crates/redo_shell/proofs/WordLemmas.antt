@@ -1,11 +1,11 @@
 -- Words ask one thing.
-use Rattle.std.proofs.Common.{◌≡◌, List, ℕ, [], get_or, ap, sym, ◌∙◌, subst, arith}
+use Rattle.std.proofs.Common.{◌≡◌, List, ℕ, [], length, get_or, ap, sym, ◌∙◌, subst, arith}
 use Rattle.std.proofs.lemmas.Fmt.{decimal_injective}
 use Rattle.std.specs.Fmt.{decimal}
 use Rattle.formats.specs.declared.params.Params.{Params}
 use Rattle.script_lines.specs.Words.{Asks}
 use Rattle.script_lines.specs.declared.words.Asked.{Asked}
-use Rattle.script_lines.specs.declared.words.Asked.TheVariants.{Init}
+use Rattle.script_lines.specs.declared.words.Asked.TheVariants.{Init, Run, Dump}
 
 same_params : (words : List (List ℕ)) (p q : Params) → Asks words (Init p) → Asks words (Init q) → p ≡ q
 same_params words p q one two =
@@ -21,3 +21,13 @@ same_params words p q one two =
 -- the words that were read ask for a store with these numbers, and no others
 pub only_params : (words : List (List ℕ)) (asked : Asked) (read params : Params) → asked ≡ Init read → Asks words asked → Asks words (Init params) → read ≡ params
 only_params words asked read params is some asks = same_params words read params (subst (λ (a : Asked). Asks words a) is some) asks
+
+-- words that ask for one call ask for no other
+pub run_not_dump : (words : List (List ℕ)) → Asks words Run → Asks words Dump → ⊥
+run_not_dump words one two = omega (arith, ap (λ (l : List (List ℕ)). length (get_or l 1 [])) (sym one.text ∙ two.text))
+
+pub run_not_init : (words : List (List ℕ)) (p : Params) → Asks words Run → Asks words (Init p) → ⊥
+run_not_init words p one two = omega (arith, ap (λ (l : List (List ℕ)). length l) (sym one.text ∙ two.text))
+
+pub dump_not_init : (words : List (List ℕ)) (p : Params) → Asks words Dump → Asks words (Init p) → ⊥
+dump_not_init words p one two = omega (arith, ap (λ (l : List (List ℕ)). length l) (sym one.text ∙ two.text))

@@ -1,12 +1,15 @@
 -- What is said while a script is answered, and what the files stand for meanwhile.
-use Rattle.std.specs.Prelude.{◌≡◌, ⊤, ℕ, ◌<◌, ◌≤◌, ◌⊎◌, ◌++◌, List, [], ◌∷◌, length, take, Contains}
+use Rattle.std.specs.Prelude.{◌≡◌, ⊤, ℕ, ◌<◌, ◌≤◌, ◌⊎◌, ◌++◌, List, [], ◌∷◌, length, take}
 use Rattle.std.proofs.Common.{inl, inr}
 use Rattle.std.specs.List.{flat_map}
 use Rattle.disk_model.specs.Disk.{Files, Disk, LeavesOnly}
 use Rattle.formats.specs.declared.params.Params.{Params}
-use Rattle.script_lines.specs.Replies.{Reply, forced, text_of, said_line}
+use Rattle.script_lines.specs.Replies.{Reply, text_of, said_line}
+use Rattle.store_engine.specs.Engine.{LogLength}
 use Rattle.redo_shell.specs.Store.{Command, Stands}
 use Rattle.redo_shell.specs.Replies.{Replies, IsTrueIn}
+use Rattle.redo_shell.specs.Printed.{SaysForced}
+use Rattle.redo_shell.specs.Lengths.{GrowsTo}
 
 -- The lines get these answers, one after the other, and add these commands.
 abbrev pub Answers : Params → List Command → List (List ℕ) → List Reply → List Command → Type 0
@@ -42,7 +45,7 @@ pub record Said (p : Params) (tie : Reply → Type 0) (commands : List Command) 
   pub work : ((part ≡ []) × (added ≡ [])) ⊎ Begun p tie (commands ++ acc) todo part added
 
 -- What a crash may leave beside these bytes: files that stand for the commands and for a beginning of those that
--- the script has added, no shorter than any `forced` that was said.
+-- the script has added, no shorter than any `forced` that the bytes say.
 pub record Moment (p : Params) (commands : List Command) (script : List (List ℕ)) (before : List ℕ) (files : Files) (said : List ℕ) : Type 0 where
   pub bytes : List ℕ
   pub since : said ≡ before ++ bytes
@@ -51,7 +54,7 @@ pub record Moment (p : Params) (commands : List Command) (script : List (List �
   pub all_before : length commands ≤ kept
   pub no_more : kept ≤ length (commands ++ story.acc ++ story.added)
   pub stands : Stands p files (take kept (commands ++ story.acc ++ story.added))
-  pub acked : (n : ℕ) → Contains story.replies (forced n) → n ≤ kept
+  pub acked : (n : ℕ) → SaysForced bytes n → n ≤ kept
 
 -- between these, what was said is answers to the lines of a script, one after the other
 pub record SaysAnswers (p : Params) (commands : List Command) (script : List (List ℕ)) (before after : List ℕ) : Type 0 where
@@ -76,8 +79,16 @@ abbrev pub with_begun : {none : Type 0} {p : Params} {tie : Reply → Type 0} {c
 with_begun replies (inl whole) = replies
 with_begun replies (inr begun) = replies ++ begun.reply ∷ []
 
+-- these lines, and the one whose answer was begun
+abbrev pub with_line : {none : Type 0} {p : Params} {tie : Reply → Type 0} {commands added : List Command} {lines : List (List ℕ)} {part : List ℕ} → List (List ℕ) → none ⊎ Begun p tie commands lines part added → List (List ℕ)
+with_line answered (inl whole) = answered
+with_line answered (inr begun) = answered ++ begun.line ∷ []
+
 -- What was said in a run is answers to the lines of a script, and each of them, the last one begun too, is true of every
--- image of each moment at which the bytes said end inside it.
+-- image of each moment at which the bytes said end inside it. The log grows with them, so `full` comes exactly where the
+-- record that is asked for does not fit, however the run ends.
 pub record SaysTruly (p : Params) (commands : List Command) (script : List (List ℕ)) (old new : Disk) : Type 0 where
   pub says : SaysAnswers p commands script old.said new.said
   pub truly : old.tells_moments → LeavesOnly old new (TrueWithin p old.said (with_begun says.story.replies says.story.work))
+  pub last : LogLength
+  pub lengths : GrowsTo p old.reads (with_line says.story.lines says.story.work) (with_begun says.story.replies says.story.work) last

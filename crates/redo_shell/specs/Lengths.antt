@@ -1,5 +1,7 @@
 -- How long the log is while a script is answered, and which answers that brings.
-use Rattle.std.specs.Prelude.{◌≡◌, ◌<◌, ℕ, List, [], ◌∷◌, true}
+use Rattle.std.specs.Prelude.{◌≡◌, ◌<◌, ℕ, List, [], ◌∷◌, true, false}
+use Rattle.disk_model.specs.Disk.{Files}
+use Rattle.formats.specs.Image.{EndsAt}
 use Rattle.formats.specs.declared.params.Params.{Params}
 use Rattle.script_lines.specs.Replies.{Reply, ok, forced, full, end}
 use Rattle.store_engine.specs.Engine.{LogLength, grown, forced_length}
@@ -21,3 +23,10 @@ AllGoBy p first [] [] last = last ≡ first
 AllGoBy p first (line ∷ lines) (reply ∷ replies) last = (mid : LogLength) × GoesBy p first line reply mid × AllGoBy p mid lines replies last
 AllGoBy p first [] (reply ∷ replies) last = ⊥
 AllGoBy p first (line ∷ lines) [] last = ⊥
+
+-- With these answers to these lines the log comes from its end in the files, where nothing waits, to this length.
+pub record GrowsTo (p : Params) (files : Files) (lines : List (List ℕ)) (replies : List Reply) (last : LogLength) : Type 0 where
+  pub first : LogLength
+  pub ends : EndsAt files first.used
+  pub none_waits : first.waits ≡ false
+  pub all : AllGoBy p first lines replies last

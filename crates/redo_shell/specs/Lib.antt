@@ -1,7 +1,8 @@
 pub mod Store
 pub mod Replies
-pub mod Answers
+pub mod Printed
 pub mod Lengths
+pub mod Answers
 pub mod Status
 pub mod Notices
 pub mod Run
@@ -9,3 +10,4 @@ pub mod Exactly
 pub mod Dump
 pub mod Keeps
 pub mod Sessions
+pub mod Calls

@@ -55,3 +55,8 @@ is_refusing (object_value object bytes) = false
 is_refusing (command_count n) = false
 is_refusing silence = false
 is_refusing reply = true
+
+-- an answer that says that the log is full
+abbrev pub IsFull : Reply → Type 0
+IsFull (full used need limit) = ⊤
+IsFull reply = ⊥

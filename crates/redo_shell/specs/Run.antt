@@ -1,5 +1,5 @@
 -- One line's answer, and a whole run.
-use Rattle.std.specs.Prelude.{◌≡◌, ℕ, ◌≤◌, ◌⊎◌, ◌↔◌, ⊤, ◌++◌, List, length, take, Contains, Bool, true, false, Result, IfOk, OnErr}
+use Rattle.std.specs.Prelude.{◌≡◌, ℕ, ◌≤◌, ◌⊎◌, ◌↔◌, ⊤, ◌++◌, List, length, take, Contains, Bool, true, Result, IfOk, OnErr}
 use Rattle.std.specs.List.{flat_map, list_any}
 use Rattle.disk_model.specs.Disk.{Files, Disk, LeavesOnly, Rises, IsSettled}
 use Rattle.formats.specs.Image.{EndsAt}
@@ -9,7 +9,7 @@ use Rattle.store_engine.specs.Engine.{EngineView, InEachImage, LogLength, log_le
 use Rattle.redo_shell.specs.Store.{Command, Stands, Holds, Kept, Between}
 use Rattle.redo_shell.specs.Replies.{Replies, IsTrueIn, is_refusing}
 use Rattle.redo_shell.specs.Answers.{Answers, Moment, EndsInside, TrueWithin, SaysTruly}
-use Rattle.redo_shell.specs.Lengths.{GoesBy, AllGoBy}
+use Rattle.redo_shell.specs.Lengths.{GoesBy, GrowsTo}
 use Rattle.redo_shell.specs.declared.status.Status.{Status}
 use Rattle.redo_shell.specs.declared.status.Status.TheVariants.{DoneWithRefusals}
 use Rattle.redo_shell.specs.declared.stop.Stop.{Stop}
@@ -38,14 +38,16 @@ pub record IsAnswered (p : Params) (old new : Disk) (before after : EngineView) 
   pub truly : old.tells_moments → LeavesOnly old new (IsTrueSaying p old.said reply)
   pub length_is : GoesBy p (log_length before) line reply (log_length after)
 
--- the bytes said while a line is answered: a beginning of its answer
-pub record IsPartly (p : Params) (old new : Disk) (commands : List Command) (line : List ℕ) : Type 0 where
+-- the bytes said while a line is answered, with a log of this length: a beginning of its answer
+pub record IsPartly (p : Params) (old new : Disk) (log : LogLength) (commands : List Command) (line : List ℕ) : Type 0 where
   pub reply : Reply
   pub added : List Command
   pub replies : Replies p commands line reply added
   pub count : ℕ
   pub said_is : new.said ≡ old.said ++ take count (said_line reply)
   pub truly : old.tells_moments → LeavesOnly old new (IsTrueSaying p old.said reply)
+  pub after : LogLength
+  pub length_is : GoesBy p log line reply after
 
 -- a moment while an answer is said
 pub record During (p : Params) (old : Disk) (least : ℕ) (commands : List Command) (line : List ℕ) (files : Files) (said : List ℕ) : Type 0 where
@@ -80,10 +82,7 @@ pub record Going (p : Params) (start now : Disk) (engine : EngineView) (commands
   pub kind : refusing ≡ list_any is_refusing replies
   pub moments : start.tells_moments → LeavesOnly start now (Moment p commands script start.said)
   pub truly : start.tells_moments → LeavesOnly start now (IsTrueSoFar p start.said replies now.said)
-  pub first : LogLength
-  pub ends : EndsAt start.reads first.used
-  pub none_waits : first.waits ≡ false
-  pub lengths : AllGoBy p first lines replies (log_length engine)
+  pub lengths : GrowsTo p start.reads lines replies (log_length engine)
 
 -- A whole run: each line is answered, the files stand for all that was added, and the status tells of refusals. The
 -- lengths of the log go from its end in the files at the start, with each answer.
@@ -95,11 +94,8 @@ pub record IsComplete (p : Params) (start now : Disk) (commands : List Command) 
   pub stands : InEachImage now (λ files. Stands p files (commands ++ acc))
   pub settled : IsSettled now
   pub refusals : (status ≡ DoneWithRefusals) ↔ (list_any is_refusing replies ≡ true)
-  pub first : LogLength
-  pub ends : EndsAt start.reads first.used
-  pub none_waits : first.waits ≡ false
   pub last : LogLength
-  pub lengths : AllGoBy p first script replies last
+  pub lengths : GrowsTo p start.reads script replies last
   pub ends_last : EndsAt now.reads last.used
 
 -- the answer to a line is found and not said yet: what it adds is done, and it is true in each image
@@ -138,7 +134,7 @@ IsStopped TooLong old new reads_before reads_now = ⊤
 -- a line was answered, or a beginning of its answer was said, or nothing
 pub record Answering (p : Params) (old new : Disk) (before after : EngineView) (commands : List Command) (line : List ℕ) (result : Result Bool Stop) : Type 0 where
   pub whole : IfOk result (IsAnswered p old new before after commands line)
-  pub partly : OnErr result ((new.said ≡ old.said) ⊎ IsPartly p old new commands line)
+  pub partly : OnErr result ((new.said ≡ old.said) ⊎ IsPartly p old new (log_length before) commands line)
   pub moments : old.tells_moments → LeavesOnly old new (LineMoment p old before.forced commands line)
 
 -- a script was answered, or a beginning of it

@@ -1,12 +1,12 @@
 -- Several calls of the program, one after the other: each ended anyhow, and followed by nothing, a kill or a crash.
-use Rattle.std.specs.Prelude.{◌≡◌, ◌⊎◌, ◌≤◌, ⊤, ℕ, List, [], ◌∷◌, ◌++◌, length, take, Contains}
+use Rattle.std.specs.Prelude.{◌≡◌, ◌⊎◌, ◌≤◌, ⊤, ℕ, List, [], ◌∷◌, ◌++◌, length, take}
 use Rattle.disk_model.specs.Disk.{Files, Disk, LeavesOnly}
 use Rattle.disk_model.specs.declared.machine.FileNo.TheVariants.{Objects}
 use Rattle.formats.specs.Image.{BeginsStore}
 use Rattle.formats.specs.declared.params.Params.{Params}
-use Rattle.script_lines.specs.Replies.{forced}
 use Rattle.store_engine.specs.Starts.{OrAtStart}
 use Rattle.redo_shell.specs.Store.{Command, Stands, Opens, IsNew}
+use Rattle.redo_shell.specs.Printed.{SaysForced}
 use Rattle.redo_shell.specs.Answers.{Said, Moment}
 use Rattle.redo_shell.specs.Keeps.{KeepsFiles}
 
@@ -16,34 +16,34 @@ pub record Ran : Type 0 where
   pub bytes : List ℕ
 
 -- What a run makes of a store with these commands: what it said is answers to its script, and behind the commands stands
--- a beginning of those that it adds, no shorter than any number that was said to be forced.
+-- a beginning of those that it adds, no shorter than any number that its bytes say to be forced.
 pub record Adds (p : Params) (commands : List Command) (ran : Ran) (now : List Command) : Type 0 where
   pub story : Said p (λ reply. ⊤) commands ran.script ran.bytes
   pub kept : ℕ
   pub all_before : length commands ≤ kept
   pub no_more : kept ≤ length (commands ++ story.acc ++ story.added)
   pub now_is : now ≡ take kept (commands ++ story.acc ++ story.added)
-  pub acked : (n : ℕ) → Contains story.replies (forced n) → n ≤ kept
+  pub acked : (n : ℕ) → SaysForced ran.bytes n → n ≤ kept
 
 -- what several runs make of it, one after the other, the latest first
 pub data Grows (p : Params) (commands : List Command) : List Ran → List Command → Type 0 where
   none : Grows p commands [] commands
   more : {runs : List Ran} {before now : List Command} → (ran : Ran) → Grows p commands runs before → Adds p before ran now → Grows p commands (ran ∷ runs) now
 
--- one of the runs has said that so many are forced
-abbrev pub SaidForced : {p : Params} {commands now : List Command} {runs : List Ran} → Grows p commands runs now → ℕ → Type 0
-SaidForced none n = ⊥
-SaidForced (more ran before adds) n = SaidForced before n ⊎ Contains adds.story.replies (forced n)
+-- the bytes of one of the runs say that so many are forced
+abbrev pub SaidForced : List Ran → ℕ → Type 0
+SaidForced [] n = ⊥
+SaidForced (ran ∷ runs) n = SaidForced runs n ⊎ SaysForced ran.bytes n
 
 -- The files stand for the commands of the start, and behind them the commands that the runs have added, no fewer than any
--- of them has said to be forced.
+-- of them has printed to be forced.
 pub record Survives (p : Params) (commands : List Command) (runs : List Ran) (files : Files) : Type 0 where
   pub now : List Command
   pub later : List Command
   pub now_is : now ≡ commands ++ later
   pub grows : Grows p commands runs now
   pub stands : Stands p files now
-  pub acked : (n : ℕ) → SaidForced grows n → n ≤ length now
+  pub acked : (n : ℕ) → SaidForced runs n → n ≤ length now
 
 -- What is behind a call, with these bytes said: each of its images was one at a moment of the call. With no call between
 -- it is what the call left, after a kill what there was at that moment, after a crash a machine that is settled on one of
@@ -53,25 +53,25 @@ pub record Follows (old new next : Disk) (said : List ℕ) : Type 0 where
   pub within : next.tells_moments → (files : Files) (s : List ℕ) → next.left_since next.clock files s → new.left_since old.clock files said
 
 -- Calls of the program on machines, from the first to the last, each with what the clauses of `top` say of it.
-pub data Sessions {T : Type 0} (disk : T → Disk) (p : Params) (first : T) : List Ran → T → Type 0 where
-  start : Sessions disk p first [] first
-  -- a run on a store, by `run_moments`
-  run : {runs : List Ran} → (old new next : T) (ran : Ran) → Sessions disk p first runs old → BeginsStore ((disk old).reads Objects)
-      → ((commands : List Command) → Opens p (disk old) commands → (disk old).tells_moments → LeavesOnly (disk old) (disk new) (OrAtStart (disk old) (Moment p commands ran.script (disk old).said)))
-      → Follows (disk old) (disk new) (disk next) ((disk old).said ++ ran.bytes) → Sessions disk p first (ran ∷ runs) next
-  -- the making of a store where there is none, by `init_moments`
-  init : {runs : List Ran} → (old new next : T) (said : List ℕ) → Sessions disk p first runs old → (BeginsStore ((disk old).reads Objects) → ⊥)
+pub data Sessions {T : Type 0} (disk : T → Disk) (first : T) : List Ran → T → Type 0 where
+  start : Sessions disk first [] first
+  -- a run on a store, by `run`, its part `moments`
+  run : {runs : List Ran} → (old new next : T) (ran : Ran) → Sessions disk first runs old → BeginsStore ((disk old).reads Objects)
+      → ((p : Params) (commands : List Command) → Opens p (disk old) commands → (disk old).tells_moments → LeavesOnly (disk old) (disk new) (OrAtStart (disk old) (Moment p commands ran.script (disk old).said)))
+      → Follows (disk old) (disk new) (disk next) ((disk old).said ++ ran.bytes) → Sessions disk first (ran ∷ runs) next
+  -- the making of a store with these numbers where there is none, by `init`, its part `moments`
+  init : {runs : List Ran} → (old new next : T) (p : Params) (said : List ℕ) → Sessions disk first runs old → (BeginsStore ((disk old).reads Objects) → ⊥)
       → ((disk old).tells_moments → LeavesOnly (disk old) (disk new) (OrAtStart (disk old) (λ files bytes. IsNew p files × (bytes ≡ (disk old).said))))
-      → Follows (disk old) (disk new) (disk next) said → Sessions disk p first runs next
-  -- any other call, by `dump_keeps`, `init_keeps`, `run_keeps` or `usage_keeps`
-  other : {runs : List Ran} → (old new next : T) (said : List ℕ) → Sessions disk p first runs old → KeepsFiles (disk old) (disk new)
-      → Follows (disk old) (disk new) (disk next) said → Sessions disk p first runs next
+      → Follows (disk old) (disk new) (disk next) said → Sessions disk first runs next
+  -- any other call, by `dump_keeps`, `run_keeps`, `usage_keeps`, or `init`, its part `keeps`
+  other : {runs : List Ran} → (old new next : T) (said : List ℕ) → Sessions disk first runs old → KeepsFiles (disk old) (disk new)
+      → Follows (disk old) (disk new) (disk next) said → Sessions disk first runs next
 
 -- no run has said anything yet
 abbrev pub AllSilent : List Ran → Type 0
 AllSilent [] = ⊤
 AllSilent (ran ∷ runs) = (ran.bytes ≡ []) × AllSilent runs
 
--- No store is there, and no run has said anything; or a store with what the runs have made of one without commands.
-abbrev pub Arises : Params → List Ran → Files → Type 0
-Arises p runs files = ((BeginsStore (files Objects) → ⊥) × AllSilent runs) ⊎ Survives p [] runs files
+-- No store is there, and no run has said anything; or a store, with what the runs have made of one without commands.
+abbrev pub Arises : List Ran → Files → Type 0
+Arises runs files = ((BeginsStore (files Objects) → ⊥) × AllSilent runs) ⊎ ((p : Params) × Survives p [] runs files)

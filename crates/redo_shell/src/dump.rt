@@ -10,8 +10,8 @@ ghost use Rattle.formats.specs.declared.params.Params.{Params};
 ghost use Rattle.op_codec.specs.AllOps.{all_meaning};
 ghost use Rattle.script_lines.specs.Replies.{command_count, said_line};
 ghost use Rattle.store_engine.specs.Engine.{IsAttached};
-ghost use Rattle.store_engine.specs.Starts.{OrAtStart};
 ghost use Rattle.redo_shell.specs.Store.{Command, IsWellFormed, Opens, Holds, state_of};
+ghost use Rattle.redo_shell.specs.Calls.{IsDumpOn};
 ghost use Rattle.redo_shell.specs.Dump.{row_of, dump_of, DumpMoment};
 ghost use Rattle.redo_shell.specs.Keeps.{KeepsFiles};
 ghost use Rattle.redo_shell.specs.Notices.{not_a_store, damaged};
@@ -125,14 +125,8 @@ fn dump_open<M: Machine>(alloc: Global, engine: &mut Engine<AllOps>, machine: &m
 /// Opens the store and says its table. Where there is no store to open it says a line.
 pub fn dump<M: Machine>(alloc: Global, machine: &mut M) -> Status
     ensures time { Passes (M.disk machine.old) (M.disk machine.new) }
-    ensures moments { (p : Params) (commands : List Command) → Opens p (M.disk machine.old) commands → (M.disk machine.old).tells_moments →
-        LeavesOnly (M.disk machine.old) (M.disk machine.new) (OrAtStart (M.disk machine.old) (DumpMoment p commands (M.disk machine.old).said)) }
+    ensures dump { (p : Params) (commands : List Command) → Opens p (M.disk machine.old) commands → IsDumpOn p commands (M.disk machine.old) (M.disk machine.new) result }
     ensures settled { result ≡ Status.Done → IsSettled (M.disk machine.new) }
-    ensures said_settled { (p : Params) (commands : List Command) → Opens p (M.disk machine.old) commands → result ≡ Status.SayFault → IsSettled (M.disk machine.new) }
-    ensures said { (p : Params) (commands : List Command) → Opens p (M.disk machine.old) commands →
-        (count : ℕ) × ((M.disk machine.new).said ≡ (M.disk machine.old).said ++ take count (dump_of p commands)) }
-    ensures all { (p : Params) (commands : List Command) → Opens p (M.disk machine.old) commands → result ≡ Status.Done →
-        (M.disk machine.new).said ≡ (M.disk machine.old).said ++ dump_of p commands }
     ensures keeps { KeepsFiles (M.disk machine.old) (M.disk machine.new) }
     ensures opened { (M.disk machine.old).tells_files → IsOfStore result → IsWellFormed (M.disk machine.old).reads }
     ensures store { (M.disk machine.old).tells_files → IsWellFormed (M.disk machine.old).reads → (result ≢ Status.NotAStore) × (result ≢ Status.Damaged) }

@@ -1,22 +1,27 @@
 // Which answer a line gets.
-ghost use Rattle.std.specs.Prelude.{◌≡◌, ◌<◌, ◌≤◌, ◌↔◌, List, ℕ, length, Some};
+ghost use Rattle.std.specs.Prelude.{◌≡◌, ◌<◌, ◌≤◌, ◌↔◌, ◌++◌, List, ℕ, length, take, None, Some};
+ghost use Rattle.std.specs.List.{flat_map};
 ghost use Rattle.formats.specs.declared.params.Params.{Params};
 ghost use Rattle.oper_core.specs.declared.refusal.Refusal.{Refusal as Why};
 ghost use Rattle.oper_core.specs.declared.refusal.Refusal.TheVariants.{NoObject};
 ghost use Rattle.script_lines.specs.Grammar.{AsksFor, IsBad, get, force, skip};
-ghost use Rattle.script_lines.specs.Replies.{Reply, bad, value, refused, forced, silence};
+ghost use Rattle.script_lines.specs.Replies.{Reply, bad, value, refused, forced, silence, text_of, said_line, HasSmallNumbers};
 ghost use Rattle.disk_model.specs.Disk.{Passes, IsSettled};
-ghost use Rattle.store_engine.specs.Engine.{InEachImage};
-ghost use Rattle.redo_shell.specs.Store.{Command, Stands, IsNew, refusal_after, state_of};
+ghost use Rattle.disk_model.specs.Fuse.{disk_through};
+ghost use Rattle.disk_model.specs.declared.fuse.Fuse.{Fuse};
+ghost use Rattle.store_engine.specs.Engine.{InEachImage, LogLength, grown};
+ghost use Rattle.redo_shell.specs.Store.{Command, Stands, IsNew, refusal_after, state_of, record_length};
+ghost use Rattle.redo_shell.specs.Printed.{whole_lines, texts_of};
 ghost use Rattle.redo_shell.specs.Sessions.{Ran, Follows, Survives, Arises, Sessions};
-ghost use Rattle.redo_shell.specs.Replies.{AsksCommand, Replies};
+ghost use Rattle.redo_shell.specs.Replies.{AsksCommand, Replies, IsFull};
+ghost use Rattle.redo_shell.specs.Lengths.{GoesBy};
 
 use disk_model::Machine;
-use script_lines::a_line_asks_one_thing;
+use script_lines::{a_line_asks_one_thing, a_text_says_one_thing};
 
 /// Each answer to a line comes exactly where its cause holds: `bad` where the line is outside the grammar, `refused` with
-/// the first refusal, a value, `forced` with the number of commands, and none where it is skipped. What is left is `ok`, `full` and `end` for a command
-/// that is not refused, by the length of the log and the number of commands.
+/// the first refusal, a value, `forced` with the number of commands, none where it is skipped, and `full` where the record
+/// of a command that nothing refuses does not fit. What is left is `ok` and `end`, by the number of commands.
 pub fn a_line_gets_the_answer_of_its_cause()
     ensures bad { (p : Params) (commands : List Command) (line : List ℕ) (reply : Reply) (added : List Command) → Replies p commands line reply added →
         (reply ≡ bad) ↔ IsBad line }
@@ -28,22 +33,34 @@ pub fn a_line_gets_the_answer_of_its_cause()
         AsksFor line (get object) → object < p.objects → reply ≡ value (state_of p commands object) }
     ensures forced { (p : Params) (commands : List Command) (line : List ℕ) (reply : Reply) (added : List Command) → Replies p commands line reply added →
         AsksFor line force → reply ≡ forced (length commands) }
+    // The answers of each run go by the length of the log, however it ends (`SaysTruly`, its `lengths`).
+    ensures full { (p : Params) (commands : List Command) (line : List ℕ) (reply : Reply) (added : List Command) (op : Command) (before after : LogLength) → Replies p commands line reply added →
+        GoesBy p before line reply after → AsksCommand line op → refusal_after p commands op ≡ None → IsFull reply ↔ (p.limit < grown before (record_length p op)) }
     ensures silence { (p : Params) (commands : List Command) (line : List ℕ) (reply : Reply) (added : List Command) → Replies p commands line reply added →
         AsksFor line skip → reply ≡ silence }
 {
     a_line_asks_one_thing();
 }
 
+/// The whole lines of what is said are the texts of the answers, one after the other: no text has a newline, and what is
+/// said of the next answer is no whole line. So what was printed tells which answers were given.
+pub fn the_lines_said_are_the_answers()
+    ensures lines { (replies : List Reply) (next : Reply) (count : ℕ) → whole_lines (flat_map said_line replies ++ take count (text_of next)) ≡ texts_of replies }
+    ensures one { (a b : Reply) → HasSmallNumbers a → HasSmallNumbers b → text_of a ≡ text_of b → a ≡ b }
+{
+    a_text_says_one_thing();
+}
+
 /// Any calls of the program, one after the other, each ended anyhow and followed by nothing, a kill or a crash: what is
-/// left stands for the commands of the start and those that the runs have added, no fewer than any run has said to be
+/// left stands for the commands of the start and those that the runs have added, no fewer than any run has printed to be
 /// forced. From files that are no store the same holds from the first `init` on that has made one.
 pub fn sessions_keep_what_was_forced<M: Machine>()
     ensures from_store { (p : Params) (commands : List Command) (first last : M) (runs : List Ran) → (M.disk first).tells_moments →
-        InEachImage (M.disk first) (λ files. Stands p files commands) → Sessions M.disk p first runs last →
+        InEachImage (M.disk first) (λ files. Stands p files commands) → Sessions M.disk first runs last →
         InEachImage (M.disk last) (Survives p commands runs) }
-    ensures from_none { (p : Params) (first last : M) (runs : List Ran) → (M.disk first).tells_moments →
-        InEachImage (M.disk first) (IsNew p) → Sessions M.disk p first runs last →
-        InEachImage (M.disk last) (Arises p runs) }
+    ensures from_none { (first last : M) (runs : List Ran) → (M.disk first).tells_moments →
+        InEachImage (M.disk first) (λ files. (p : Params) × IsNew p files) → Sessions M.disk first runs last →
+        InEachImage (M.disk last) (Arises runs) }
 {}
 
 /// What may follow a call: nothing, a kill at a moment of it, which may be that between two calls to the machine, or a
@@ -53,4 +70,12 @@ pub fn a_call_is_followed<M: Machine>()
     ensures kill { (old mid new : M) → Passes (M.disk old) (M.disk mid) → Passes (M.disk mid) (M.disk new) → Follows (M.disk old) (M.disk new) (M.disk mid) (M.disk mid).said }
     ensures crash { (old new next : M) → Passes (M.disk old) (M.disk new) → ((M.disk new).tells_moments ↔ (M.disk next).tells_moments) → IsSettled (M.disk next) →
         (M.disk new).left_since (M.disk new).clock (M.disk next).reads (M.disk new).said → Follows (M.disk old) (M.disk new) (M.disk next) (M.disk new).said }
+{}
+
+/// A fuse may be the machine of a call in a list of calls on the machine that it passes its own to: a process that is
+/// killed after some calls is one on a fuse.
+pub fn a_fuse_is_its_machine<M: Machine>()
+    ensures inside { (first last : Fuse M) (runs : List Ran) → Sessions (disk_through M.disk) first runs last → Sessions M.disk first.inner runs last.inner }
+    ensures around { (first last : M) (end : Fuse M) (runs : List Ran) → end.inner ≡ last → Sessions M.disk first runs last →
+        (begin : Fuse M) × (begin.inner ≡ first) × Sessions (disk_through M.disk) begin runs end }
 {}

@@ -1,6 +1,6 @@
 // A script is run on a store.
 ghost use Rattle.std.specs.Prelude.{◌≡◌, ◌≢◌, ◌^◌, ◌⊎◌, ◌++◌, ◌<◌, [], false, List, ℕ, length};
-ghost use Rattle.disk_model.specs.Disk.{Rises, Passes, LeavesOnly};
+ghost use Rattle.disk_model.specs.Disk.{Rises, Passes};
 ghost use Rattle.disk_model.specs.declared.machine.FileNo.{FileNo};
 ghost use Rattle.disk_model.specs.declared.machine.FileNo.TheVariants.{Objects};
 ghost use Rattle.formats.specs.Bytes.{IsShutAt};
@@ -10,11 +10,10 @@ ghost use Rattle.op_codec.specs.AllOps.{all_meaning};
 ghost use Rattle.script_lines.specs.Grammar.{lines_of};
 ghost use Rattle.script_lines.specs.Reading.{Takes};
 ghost use Rattle.store_engine.specs.Engine.{IsAttached};
-ghost use Rattle.store_engine.specs.Starts.{OrAtStart};
 ghost use Rattle.redo_shell.specs.Store.{Command, IsWellFormed, Opens, Holds};
-ghost use Rattle.redo_shell.specs.Answers.{Moment, SaysTruly};
 ghost use Rattle.redo_shell.specs.Keeps.{KeepsFiles};
 ghost use Rattle.redo_shell.specs.Notices.{not_a_store, damaged};
+ghost use Rattle.redo_shell.specs.Calls.{IsRunOn};
 ghost use Rattle.redo_shell.specs.Run.{IsRun, IsComplete};
 ghost use Rattle.redo_shell.specs.Status.{IsOfRun, IsOfStore};
 
@@ -43,6 +42,10 @@ fn run_open<M: Machine, S: Source>(
     ensures complete { (p : Params) (commands : List Command) → Holds p (M.disk machine.old) engine.old commands → engine.old.forced ≡ length commands → S.tells input.old →
         (result ≡ Status.Done) ⊎ (result ≡ Status.DoneWithRefusals) →
         IsComplete p (M.disk machine.old) (M.disk machine.new) commands (lines_of (S.left input.old)) result }
+    // Whatever a source that tells nothing gave, it is some script.
+    ensures some { (p : Params) (commands : List Command) → Holds p (M.disk machine.old) engine.old commands → engine.old.forced ≡ length commands →
+        (script : List (List ℕ)) × IsRun p (M.disk machine.old) (M.disk machine.new) commands script
+        × ((result ≡ Status.Done) ⊎ (result ≡ Status.DoneWithRefusals) → IsComplete p (M.disk machine.old) (M.disk machine.new) commands script result) }
     ensures input { S.tells input.old → (result ≡ Status.Done) ⊎ (result ≡ Status.DoneWithRefusals) → (S.left input.new ≡ []) × (length (S.left input.old) < 2 ^ 40) }
     // No slot of the files that were opened is damaged.
     ensures store { (M.disk machine.old).tells_files → IsAttached (M.disk machine.old) engine.old → (result ≢ Status.NotAStore) × (result ≢ Status.Damaged) }
@@ -63,13 +66,11 @@ fn run_open<M: Machine, S: Source>(
 /// says a line.
 pub fn run<M: Machine, S: Source>(alloc: Global, machine: &mut M, input: &mut S) -> Status
     ensures time { Passes (M.disk machine.old) (M.disk machine.new) }
-    ensures moments { (p : Params) (commands : List Command) → Opens p (M.disk machine.old) commands → S.tells input.old → (M.disk machine.old).tells_moments →
-        LeavesOnly (M.disk machine.old) (M.disk machine.new) (OrAtStart (M.disk machine.old) (Moment p commands (lines_of (S.left input.old)) (M.disk machine.old).said)) }
-    ensures answers { (p : Params) (commands : List Command) → Opens p (M.disk machine.old) commands → S.tells input.old →
-        SaysTruly p commands (lines_of (S.left input.old)) (M.disk machine.old) (M.disk machine.new) }
-    ensures complete { (p : Params) (commands : List Command) → Opens p (M.disk machine.old) commands → S.tells input.old →
-        (result ≡ Status.Done) ⊎ (result ≡ Status.DoneWithRefusals) →
-        IsComplete p (M.disk machine.old) (M.disk machine.new) commands (lines_of (S.left input.old)) result }
+    // Of a source that tells nothing the same holds with some script.
+    ensures run { (p : Params) (commands : List Command) → Opens p (M.disk machine.old) commands → S.tells input.old →
+        IsRunOn p commands (lines_of (S.left input.old)) (M.disk machine.old) (M.disk machine.new) result }
+    ensures untold { (p : Params) (commands : List Command) → Opens p (M.disk machine.old) commands →
+        (script : List (List ℕ)) × IsRunOn p commands script (M.disk machine.old) (M.disk machine.new) result }
     ensures input { S.tells input.old → (result ≡ Status.Done) ⊎ (result ≡ Status.DoneWithRefusals) → (S.left input.new ≡ []) × (length (S.left input.old) < 2 ^ 40) }
     ensures opened { (M.disk machine.old).tells_files → IsOfStore result → IsWellFormed (M.disk machine.old).reads }
     ensures store { (M.disk machine.old).tells_files → IsWellFormed (M.disk machine.old).reads → (result ≢ Status.NotAStore) × (result ≢ Status.Damaged) }

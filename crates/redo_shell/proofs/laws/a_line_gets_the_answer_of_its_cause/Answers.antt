@@ -1,4 +1,4 @@
-use Rattle.redo_shell.proofs.CauseLemmas.{bad_exactly, refused_exactly, no_object_exactly, value_exactly, forced_exactly, silence_exactly}
+use Rattle.redo_shell.proofs.CauseLemmas.{bad_exactly, refused_exactly, no_object_exactly, value_exactly, forced_exactly, silence_exactly, full_exactly}
 use Rattle.redo_shell.proofs.laws.a_line_gets_the_answer_of_its_cause.Goals as goal
 
 pub returns-clause-bad : goal.returns-clause-bad
@@ -18,3 +18,6 @@ returns-clause-forced c = λ p commands line reply added. forced_exactly p comma
 
 pub returns-clause-silence : goal.returns-clause-silence
 returns-clause-silence c = λ p commands line reply added. silence_exactly p commands line (c.a_line_asks_one_thing.ensures line) reply added
+
+pub returns-clause-full : goal.returns-clause-full
+returns-clause-full c = λ p commands line reply added op before after. full_exactly p commands line (c.a_line_asks_one_thing.ensures line) reply added op before after

@@ -7,6 +7,6 @@ returns-clause-from_store g c = λ p commands first last runs told here sessions
     (end.1 (g.M.Machine.disk last).reads (g.M.Machine.disk last).said ((g.met.M.Machine.lawful last).as_read end.0), λ tells. end.1)
 
 pub returns-clause-from_none : goal.returns-clause-from_none
-returns-clause-from_none g c = λ p first last runs told here sessions.
-    let end = arise g.M.Machine.disk g.met.M.Machine.lawful p first told (here.1 told) sessions in
+returns-clause-from_none g c = λ first last runs told here sessions.
+    let end = arise g.M.Machine.disk g.met.M.Machine.lawful first told (here.1 told) sessions in
     (end.1 (g.M.Machine.disk last).reads (g.M.Machine.disk last).said ((g.met.M.Machine.lawful last).as_read end.0), λ tells. end.1)

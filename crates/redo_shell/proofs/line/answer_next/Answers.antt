@@ -1,7 +1,8 @@
 use Rattle.std.proofs.Common.{List, ℕ, refl, sym, subst}
+use Rattle.script_lines.specs.GrammarLaws.{long_is_bad}
 use Rattle.script_lines.specs.Replies.{bad}
 use Rattle.redo_shell.specs.Run.{Answering}
-use Rattle.redo_shell.proofs.LineLemmas.{found_line, found_long}
+use Rattle.redo_shell.proofs.LineLemmas.{found_line, found_long, long_line}
 use Rattle.redo_shell.proofs.RunLemmas.{found_at_once, said_at_once}
 use Rattle.redo_shell.proofs.line.answer_next.Goals as goal
 
@@ -14,3 +15,12 @@ pub returns-in-Long-clause-answers : goal.returns-in-Long-clause-answers
 returns-in-Long-clause-answers g c = λ p commands line is holds.
     let found = found_at_once {line = line} bad holds (found_long c.args.next c.args.bytes.now line c.in-Long.is is, refl) (λ f. tt) (λ n is. cc) (λ log. refl) in
     said_at_once c.say_answer.result (g.met.M.Machine.lawful c.args.machine.now) found holds c.say_answer.ensures.runs c.say_answer.ensures.all c.say_answer.ensures.kind
+
+pub returns-in-Line-clause-some : goal.returns-in-Line-clause-some
+returns-in-Line-clause-some g c = λ p commands is holds. (c.args.bytes.now, c.answer_line.ensures.answers p commands holds)
+
+pub returns-in-Long-clause-some : goal.returns-in-Long-clause-some
+returns-in-Long-clause-some g c = λ p commands is holds.
+    let (line, long) = long_line in
+    let found = found_at_once {line = line} bad holds (long_is_bad line long, refl) (λ f. tt) (λ n is. cc) (λ log. refl) in
+    (line, said_at_once c.say_answer.result (g.met.M.Machine.lawful c.args.machine.now) found holds c.say_answer.ensures.runs c.say_answer.ensures.all c.say_answer.ensures.kind)

@@ -1,6 +1,9 @@
+use Rattle.std.proofs.Common.{[]}
 use Rattle.disk_model.specs.Moments.{passes_twice}
 use Rattle.script_lines.specs.Grammar.{lines_of}
-use Rattle.redo_shell.proofs.OpenLemmas.{opening_moments, says_nothing, run_moments, run_says, complete_from}
+use Rattle.store_engine.specs.ImageLaws.{well_formed}
+use Rattle.op_codec.specs.AllOps.{all_meaning}
+use Rattle.redo_shell.proofs.OpenLemmas.{run_on, run_unopened}
 use Rattle.redo_shell.proofs.run.run.Goals as goal
 
 pub returns-in-Ok-clause-time : goal.returns-in-Ok-clause-time
@@ -14,26 +17,34 @@ returns-in-Ok-clause-store g c = λ told image. c.run_open.ensures.store (c.open
 pub returns-in-Ok-clause-no_store : goal.returns-in-Ok-clause-no_store
 returns-in-Ok-clause-no_store g c = λ told is. absurd ((c.run_open.ensures.store (c.open_store.ensures.time.files_told.0 told) c.in-Ok.ensures.attached).0 is)
 
-pub returns-in-Ok-clause-moments : goal.returns-in-Ok-clause-moments
-returns-in-Ok-clause-moments g c = λ p commands opens told telling.
+pub returns-in-Ok-clause-run : goal.returns-in-Ok-clause-run
+returns-in-Ok-clause-run g c = λ p commands opens told.
     let opened = c.in-Ok.ensures.ok p commands opens in
-    run_moments (lines_of (g.S.Source.left c.args.input.now)) (c.open_store.ensures.stays p commands opens) (c.run_open.ensures.answers p commands opened.0 opened.1 told) telling
+    run_on (g.M.Machine.disk c.args.machine.now) (g.M.Machine.disk c.open_store.new.machine) (g.M.Machine.disk c.run_open.new.machine) (lines_of (g.S.Source.left c.args.input.now)) c.run_open.result
+    (g.met.M.Machine.lawful c.args.machine.now) opens c.in-Ok.ensures.kept (c.run_open.ensures.answers p commands opened.0 opened.1 told) (c.run_open.ensures.complete p commands opened.0 opened.1 told)
+    (c.run_open.ensures.store (c.open_store.ensures.time.files_told.0 opens.told) c.in-Ok.ensures.attached)
 
-pub returns-in-Ok-clause-answers : goal.returns-in-Ok-clause-answers
-returns-in-Ok-clause-answers g c = λ p commands opens told.
+pub returns-in-Ok-clause-untold : goal.returns-in-Ok-clause-untold
+returns-in-Ok-clause-untold g c = λ p commands opens.
     let opened = c.in-Ok.ensures.ok p commands opens in
-    run_says (c.open_store.ensures.stays p commands opens) (c.open_store.ensures.quiet p commands opens) (c.run_open.ensures.answers p commands opened.0 opened.1 told)
+    let (script, answers, complete) = c.run_open.ensures.some p commands opened.0 opened.1 in (
+      script,
+      run_on (g.M.Machine.disk c.args.machine.now) (g.M.Machine.disk c.open_store.new.machine) (g.M.Machine.disk c.run_open.new.machine) script c.run_open.result
+          (g.met.M.Machine.lawful c.args.machine.now) opens c.in-Ok.ensures.kept answers complete
+          (c.run_open.ensures.store (c.open_store.ensures.time.files_told.0 opens.told) c.in-Ok.ensures.attached),
+    )
 
-pub returns-in-Ok-clause-complete : goal.returns-in-Ok-clause-complete
-returns-in-Ok-clause-complete g c = λ p commands opens told done.
-    let opened = c.in-Ok.ensures.ok p commands opens in
-    complete_from (c.open_store.ensures.quiet p commands opens) (c.in-Ok.ensures.kept.reads opens.told) (c.run_open.ensures.complete p commands opened.0 opened.1 told done)
+pub returns-in-Err-clause-run : goal.returns-in-Err-clause-run
+returns-in-Err-clause-run g c = λ p commands opens told.
+    run_unopened (g.M.Machine.disk c.args.machine.now) (g.M.Machine.disk c.open_store.new.machine) (lines_of (g.S.Source.left c.args.input.now)) c.in-Err.status
+    (g.met.M.Machine.lawful c.args.machine.now) opens (c.open_store.ensures.stays p commands opens) c.in-Err.ensures.status (c.in-Err.ensures.store opens.told (well_formed all_meaning opens.stands))
 
-pub returns-in-Err-clause-moments : goal.returns-in-Err-clause-moments
-returns-in-Err-clause-moments g c = λ p commands opens told telling. opening_moments (lines_of (g.S.Source.left c.args.input.now)) (c.open_store.ensures.stays p commands opens) telling
-
-pub returns-in-Err-clause-answers : goal.returns-in-Err-clause-answers
-returns-in-Err-clause-answers g c = λ p commands opens told. says_nothing (lines_of (g.S.Source.left c.args.input.now)) c.open_store.ensures.time (c.open_store.ensures.quiet p commands opens)
+pub returns-in-Err-clause-untold : goal.returns-in-Err-clause-untold
+returns-in-Err-clause-untold g c = λ p commands opens. (
+  [],
+  run_unopened (g.M.Machine.disk c.args.machine.now) (g.M.Machine.disk c.open_store.new.machine) [] c.in-Err.status
+      (g.met.M.Machine.lawful c.args.machine.now) opens (c.open_store.ensures.stays p commands opens) c.in-Err.ensures.status (c.in-Err.ensures.store opens.told (well_formed all_meaning opens.stands)),
+)
 
 pub returns-in-Ok-clause-unopened : goal.returns-in-Ok-clause-unopened
 returns-in-Ok-clause-unopened g c = λ told broken. absurd (broken (c.in-Ok.ensures.opened told))

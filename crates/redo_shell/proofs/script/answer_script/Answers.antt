@@ -1,16 +1,20 @@
-use Rattle.std.proofs.Common.{◌++◌, ◌∙◌, List, ℕ, [], Ok, false, refl, ap, sym, subst, arith}
+use Rattle.std.proofs.Common.{◌++◌, ◌∙◌, List, ℕ, [], ◌∷◌, Ok, false, refl, ap, sym, subst, arith}
 use Rattle.std.proofs.lemmas.Result.{IfOk-from_err}
 use Rattle.disk_model.specs.Moments.{passes_none, passes_twice}
 use Rattle.script_lines.specs.Grammar.{lines_of}
 use Rattle.script_lines.specs.Reading.{IsLine, Takes}
 use Rattle.redo_shell.specs.Run.{Going}
-use Rattle.redo_shell.proofs.RunLemmas.{opened, goes_to, goes_on, ends_here, ends_in_line, ends_in_force, completes}
+use Rattle.redo_shell.proofs.RunLemmas.{opened, goes_to, with_next, goes_on, ends_here, ends_in_line, ends_in_force, completes}
 use Rattle.redo_shell.proofs.ScriptLemmas.{takes_on, next_line, ended, input_end, too_much, line_stops, line_not_long, line_undamaged}
 use Rattle.redo_shell.proofs.script.answer_script.Goals as goal
 
 pub returns-in_err-lines-clause-answers : goal.returns-in_err-lines-clause-answers
 returns-in_err-lines-clause-answers g c = λ p commands holds all told.
     ends_here (opened (lines_of (g.S.Source.left c.args.input.now)) (g.met.M.Machine.lawful c.args.machine.now) holds all)
+
+pub returns-in_err-lines-clause-some : goal.returns-in_err-lines-clause-some
+returns-in_err-lines-clause-some g c = λ p commands holds all.
+    ([], ends_here (opened [] (g.met.M.Machine.lawful c.args.machine.now) holds all), IfOk-from_err c.from_residual.result _ c.from_residual.ensures.0)
 
 pub loop-lines-init : goal.loop-lines-init
 loop-lines-init g c = record {
@@ -21,12 +25,18 @@ loop-lines-init g c = record {
   going = λ p commands holds all told.
       subst (λ (l : List ℕ). Going p (g.M.Machine.disk c.args.machine.now) (g.M.Machine.disk c.args.machine.now) c.args.engine.now commands (lines_of (g.S.Source.left c.args.input.now)) (lines_of (l ++ g.S.Source.left c.args.input.now)) false)
       (sym c.in_ok-lines.ensures.0) (opened (lines_of (g.S.Source.left c.args.input.now)) (g.met.M.Machine.lawful c.args.machine.now) holds all);
+  some = λ p commands holds all. ([], opened [] (g.met.M.Machine.lawful c.args.machine.now) holds all);
   reads = omega arith;
   takes = λ told. record { bytes = []; front = refl; count = omega (arith, c.in_ok-lines.ensures.1) };
 }
 
 pub returns-in_err-next-clause-answers : goal.returns-in_err-next-clause-answers
 returns-in_err-next-clause-answers g c = λ p commands holds all told. ends_here (c.loop-lines.invariant.going p commands holds all told)
+
+pub returns-in_err-next-clause-some : goal.returns-in_err-next-clause-some
+returns-in_err-next-clause-some g c = λ p commands holds all.
+    let (script, so_far) = c.loop-lines.invariant.some p commands holds all in
+    (script, ends_here so_far, IfOk-from_err c.from_residual-in_err-next.result _ c.from_residual-in_err-next.ensures.0)
 
 pub returns-in_err-next-clause-too_long : goal.returns-in_err-next-clause-too_long
 returns-in_err-next-clause-too_long g c = λ told long.
@@ -44,6 +54,13 @@ returns-in_err-refusing-in_default g c = record {
       let is_line = subst (λ (s : List ℕ). IsLine c.in_ok-next.next s l.0) (sym c.line.ensures) l.1 in
       ends_in_line l.0 here c.loop-lines.invariant.time c.in_err-refusing-in_default.was (c.answer_next.ensures.answers p (commands ++ here.acc) l.0 is_line here.holds);
   complete = λ p commands holds all told. IfOk-from_err c.from_residual-in_err-refusing-in_default.result _ c.from_residual-in_err-refusing-in_default.ensures.0;
+  some = λ p commands holds all.
+      let (script, so_far) = c.loop-lines.invariant.some p commands holds all in
+      let (line, answering) = c.answer_next.ensures.some p (commands ++ so_far.acc) c.in_default.not-End so_far.holds in (
+        script ++ line ∷ [],
+        ends_in_line line (with_next line so_far) c.loop-lines.invariant.time c.in_err-refusing-in_default.was answering,
+        IfOk-from_err c.from_residual-in_err-refusing-in_default.result _ c.from_residual-in_err-refusing-in_default.ensures.0,
+      );
   input = λ told. IfOk-from_err c.from_residual-in_err-refusing-in_default.result _ c.from_residual-in_err-refusing-in_default.ensures.0;
   cause = line_stops c.from_residual-in_err-refusing-in_default.result c.answer_next.result c.in_err-refusing-in_default.field-0.0 (g.M.Machine.disk c.args.machine.now) (g.M.Machine.disk c.loop-lines.machine) (g.M.Machine.disk c.answer_next.new.machine)
       (g.S.Source.faults c.args.input.now) (g.S.Source.faults c.next.new.input) c.from_residual-in_err-refusing-in_default.ensures.1 c.in_err-refusing-in_default.was c.loop-lines.invariant.time c.answer_next.ensures.cause;
@@ -66,6 +83,10 @@ loop-lines-preserved g c = record {
       let here = goes_to l.0 _ so_far l.2 in
       let is_line = subst (λ (s : List ℕ). IsLine c.in_ok-next.next s l.0) (sym c.line.ensures) l.1 in
       goes_on l.0 here c.loop-lines.invariant.time c.in_ok-refusing-in_default.was (c.answer_next.ensures.answers p (commands ++ here.acc) l.0 is_line here.holds);
+  some = λ p commands holds all.
+      let (script, so_far) = c.loop-lines.invariant.some p commands holds all in
+      let (line, answering) = c.answer_next.ensures.some p (commands ++ so_far.acc) c.in_default.not-End so_far.holds in
+      (script ++ line ∷ [], goes_on line (with_next line so_far) c.loop-lines.invariant.time c.in_ok-refusing-in_default.was answering);
   reads = omega (arith, c.loop-lines.invariant.reads, c.next.ensures.later);
   takes = λ told. takes_on (c.loop-lines.invariant.takes told) (c.next.ensures.takes (c.loop-lines.invariant.told told));
 }
@@ -74,6 +95,23 @@ pub returns-in_err-force-clause-answers : goal.returns-in_err-force-clause-answe
 returns-in_err-force-clause-answers g c = λ p commands holds all told.
     let so_far = c.loop-lines.invariant.going p commands holds all told in
     ends_in_force so_far c.loop-lines.invariant.time (c.force.ensures.quiet so_far.holds.told) (c.force.ensures.moments p (commands ++ so_far.acc) so_far.holds)
+
+pub returns-in_err-force-clause-some : goal.returns-in_err-force-clause-some
+returns-in_err-force-clause-some g c = λ p commands holds all.
+    let (script, so_far) = c.loop-lines.invariant.some p commands holds all in (
+      script,
+      ends_in_force so_far c.loop-lines.invariant.time (c.force.ensures.quiet so_far.holds.told) (c.force.ensures.moments p (commands ++ so_far.acc) so_far.holds),
+      IfOk-from_err c.from_residual-in_err-force.result _ c.from_residual-in_err-force.ensures.0,
+    )
+
+pub returns-clause-some : goal.returns-clause-some
+returns-clause-some g c = λ p commands holds all.
+    let (script, so_far) = c.loop-lines.invariant.some p commands holds all in
+    let forced = c.in_ok-force.ensures.ok p (commands ++ so_far.acc) so_far.holds in (
+      script,
+      ends_in_force so_far c.loop-lines.invariant.time (c.force.ensures.quiet so_far.holds.told) (c.force.ensures.moments p (commands ++ so_far.acc) so_far.holds),
+      completes so_far refl (c.force.ensures.quiet so_far.holds.told) forced.1 forced.2.holds c.in_ok-force.ensures.emptied,
+    )
 
 pub returns-clause-answers : goal.returns-clause-answers
 returns-clause-answers g c = λ p commands holds all told.

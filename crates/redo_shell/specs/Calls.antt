@@ -1,0 +1,80 @@
+-- What the calls that a command line may ask for make of the files, as a whole.
+use Rattle.std.specs.Prelude.{◌≡◌, ◌≢◌, ◌⊎◌, ◌↔◌, ◌++◌, ℕ, List, [], ◌∷◌, take}
+use Rattle.disk_model.specs.Disk.{Disk, LeavesOnly, IsSettled}
+use Rattle.disk_model.specs.declared.machine.FileNo.TheVariants.{Objects}
+use Rattle.formats.specs.Bytes.{IsOpenAt, IsShutAt}
+use Rattle.formats.specs.Image.{BeginsStore}
+use Rattle.formats.specs.declared.params.Params.{Params}
+use Rattle.script_lines.specs.Words.{Asks}
+use Rattle.script_lines.specs.declared.words.Asked.{Asked}
+use Rattle.script_lines.specs.declared.words.Asked.TheVariants.{Init, Run, Dump}
+use Rattle.store_engine.specs.Engine.{InEachImage}
+use Rattle.store_engine.specs.Starts.{OrAtStart}
+use Rattle.redo_shell.specs.Store.{Command, IsWellFormed, Stands, IsNew}
+use Rattle.redo_shell.specs.Answers.{Moment, SaysTruly}
+use Rattle.redo_shell.specs.Dump.{dump_of, DumpMoment}
+use Rattle.redo_shell.specs.Keeps.{KeepsFiles}
+use Rattle.redo_shell.specs.Run.{IsComplete}
+use Rattle.redo_shell.specs.Sessions.{Ran, Follows, Sessions}
+use Rattle.redo_shell.specs.Status.{IsOfInit}
+use Rattle.redo_shell.specs.declared.status.Status.{Status}
+use Rattle.redo_shell.specs.declared.status.Status.TheVariants.{Done, DoneWithRefusals, NotAStore, AlreadyStore, Damaged, DiskFault, Memory}
+
+-- A run of a script of these lines, on files that stand for commands as they are read, whatever a process before this one
+-- left unsynced.
+pub record IsRunOn (p : Params) (commands : List Command) (script : List (List ℕ)) (old new : Disk) (status : Status) : Type 0 where
+  -- what a crash at any moment leaves is what a crash at the start could leave, with nothing said since, or it stands for
+  -- these commands and a beginning of those that the script has added, no shorter than any number that was printed to be
+  -- forced, and what was said is the answers to the script's lines
+  pub moments : old.tells_moments → LeavesOnly old new (OrAtStart old (Moment p commands script old.said))
+  -- from a settled start what a crash at the start could leave is what reads give
+  pub from_settled : old.tells_moments → IsSettled old → LeavesOnly old new (Moment p commands script old.said)
+  -- what was said is the answers to the script's lines, whatever the status
+  pub answers : SaysTruly p commands script old new
+  -- with status 0 or 1 the whole script is answered, and the files stand for all of it
+  pub complete : (status ≡ Done) ⊎ (status ≡ DoneWithRefusals) → IsComplete p old new commands script status
+  -- such files are never taken for no store or for damaged
+  pub store : (status ≢ NotAStore) × (status ≢ Damaged)
+
+-- A dump of files that stand for commands as they are read.
+pub record IsDumpOn (p : Params) (commands : List Command) (old new : Disk) (status : Status) : Type 0 where
+  -- what a crash at any moment leaves is what one at the start could leave, or it stands for these commands
+  pub moments : old.tells_moments → LeavesOnly old new (OrAtStart old (DumpMoment p commands old.said))
+  pub from_settled : old.tells_moments → IsSettled old → LeavesOnly old new (DumpMoment p commands old.said)
+  -- a beginning of their table was said: all of it with status 0
+  pub said : (count : ℕ) × (new.said ≡ old.said ++ take count (dump_of p commands))
+  pub all : status ≡ Done → new.said ≡ old.said ++ dump_of p commands
+  pub store : (status ≢ NotAStore) × (status ≢ Damaged)
+  -- but where the disk or memory may have failed the opening, the machine is settled then
+  pub settled : status ≢ DiskFault → status ≢ Memory → IsSettled new
+
+-- The making of a store with these numbers.
+pub record IsMaking (p : Params) (old new : Disk) (status : Status) : Type 0 where
+  pub ends : IsOfInit status
+  -- the files stand for no commands
+  pub done : old.tells_files → status ≡ Done → InEachImage new (λ files. Stands p files [])
+  -- at each moment there is what a crash at the start could leave, no store, or one without commands; nothing is said
+  pub moments : old.tells_moments → (BeginsStore (old.reads Objects) → ⊥) → LeavesOnly old new (OrAtStart old (λ files said. IsNew p files × (said ≡ old.said)))
+  pub from_settled : old.tells_moments → IsSettled old → (BeginsStore (old.reads Objects) → ⊥) → LeavesOnly old new (λ files said. IsNew p files × (said ≡ old.said))
+  pub settled : old.tells_files → (status ≡ Done) ⊎ (status ≡ AlreadyStore) → IsSettled new
+  -- a store that is there is kept
+  pub keeps : old.tells_files → BeginsStore (old.reads Objects) → KeepsFiles old new
+
+-- the files are refused exactly where they are no store, or break their format
+pub record OpensExactly (old : Disk) (status : Status) : Type 0 where
+  pub no_store : (status ≡ NotAStore) ↔ IsShutAt 0 (old.reads Objects)
+  pub damaged : (status ≡ Damaged) ↔ (IsOpenAt 0 (old.reads Objects) × (IsWellFormed old.reads → ⊥))
+
+-- a store is made exactly where none begins
+pub record MakesExactly (old : Disk) (status : Status) : Type 0 where
+  pub already : (status ≡ AlreadyStore) ↔ BeginsStore (old.reads Objects)
+  pub made : (BeginsStore (old.reads Objects) → ⊥) → status ≡ Done
+
+-- A call with these words, and this script where its source tells it, goes on any calls before it, whatever follows it:
+-- nothing, a kill at one of its moments, or a crash.
+pub record GoesOn {T : Type 0} (disk : T → Disk) (words : List (List ℕ)) (told : Type 0) (script : List (List ℕ)) (old new : T) : Type 0 where
+  pub run : (first next : T) (runs : List Ran) (bytes : List ℕ) → Asks words Run → told → BeginsStore ((disk old).reads Objects) → Sessions disk first runs old
+      → Follows (disk old) (disk new) (disk next) ((disk old).said ++ bytes) → Sessions disk first (record { script = script; bytes = bytes } ∷ runs) next
+  pub init : (p : Params) (first next : T) (runs : List Ran) (said : List ℕ) → Asks words (Init p) → (BeginsStore ((disk old).reads Objects) → ⊥) → Sessions disk first runs old
+      → Follows (disk old) (disk new) (disk next) said → Sessions disk first runs next
+  pub dump : (first next : T) (runs : List Ran) (said : List ℕ) → Asks words Dump → Sessions disk first runs old → Follows (disk old) (disk new) (disk next) said → Sessions disk first runs next
