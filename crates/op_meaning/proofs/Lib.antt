@@ -1,3 +1,4 @@
+pub mod ReadState
 pub mod ReadNumbers
 pub mod Reading
 pub mod RecordLemmas

@@ -1,3 +1,5 @@
+pub mod AppState
+pub mod AppStateLaws
 pub mod Order
 pub mod OrderLaws
 pub mod Put

@@ -110,6 +110,13 @@ if_applicable-count : (r : Option Refusal) (made : List (List ℕ)) → length (
 if_applicable-count None made = refl
 if_applicable-count (Some r) made = length-map made (λ v. [])
 
+-- as many empty values as objects
+empty_each : (made : List (List ℕ)) (objects : List ℕ) → length made ≡ length objects → nothing_of made ≡ map (λ x. []) objects
+empty_each [] [] count = refl
+empty_each [] (x ∷ objects) count = absurd (omega (arith, count))
+empty_each (v ∷ made) [] count = absurd (omega (arith, count))
+empty_each (v ∷ made) (x ∷ objects) count = ap (λ (rest : List (List ℕ)). [] ∷ rest) (empty_each made objects (omega (arith, count)))
+
 -- ---- codes
 
 -- as many numbers with the same bytes in front are the same numbers
@@ -190,3 +197,9 @@ module _ {O : Type 0} (row : Row O) where
       effect = λ op values e fits accepted.
           ap (λ (r : Option Refusal). if_applicable r (row.made op values)) (is.wider b c within.cap op values accepted ∙ sym accepted);
     }
+
+    -- what is refused makes every object that it writes empty
+    pub row_refused : (b : Bounds) (op : O) (values : List (List ℕ)) (r : Refusal) → (meaning_of row b).check op values ≡ Some r
+        → (meaning_of row b).effect op values ≡ map (λ x. []) ((meaning_of row b).writes op)
+    row_refused b op values r e =
+        ap (λ (refusal : Option Refusal). if_applicable refusal (row.made op values)) e ∙ empty_each (row.made op values) (row.writes op) (is.made op values)

@@ -1,3 +1,4 @@
+ghost use Rattle.std.specs.Prelude.{◌≡◌};
 ghost use Rattle.op_meaning.specs.Put.{put_meaning};
 ghost use Rattle.op_meaning.specs.PutLaws.{put_bounded, put_lawful, put_widens};
 
@@ -17,6 +18,16 @@ pub struct Put {
     pub object: u32,
     /// The value that it gets.
     pub value: ByteList,
+}
+
+impl Put {
+    /// The value for the object.
+    pub fn new(object: u32, value: ByteList) -> Self
+        ensures object { result.object ≡ object }
+        ensures value { result.value ≡ value }
+    {
+        Put { object, value }
+    }
 }
 
 impl Oper for Put {

@@ -8,10 +8,7 @@ use std::test::Fail;
 const BOUNDS: Bounds = Bounds { objects: 4, cap: 3 };
 
 fn put(alloc: Global, object: u32, value: &[u8]) -> Result<Put, AllocError> {
-    Ok(Put {
-        object,
-        value: ByteList::new(value.to_vec(alloc)?),
-    })
+    Ok(Put::new(object, ByteList::new(value.to_vec(alloc)?)))
 }
 
 // Its code, between other bytes.
@@ -128,7 +125,7 @@ fn read_again<O: Oper>(alloc: Global, b: Bounds, code: &[u8]) -> Result<(Vec<u8>
 }
 
 // The first refusal on these values, and the values that the operation makes of them, with a bar before each.
-fn outcome<O: Oper>(
+pub(crate) fn outcome<O: Oper>(
     alloc: Global,
     b: Bounds,
     op: &O,
