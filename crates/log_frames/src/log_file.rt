@@ -68,6 +68,13 @@ impl LogFile {
         self.end + 1 + self.buffer.len() as u64
     }
 
+    /// How many bytes wait for a force.
+    pub fn buffered(&self) -> u64
+        ensures { result ≡ length self.now.pending }
+    {
+        (self.buffer.len() - LENGTH_BYTES) as u64
+    }
+
     /// By how much a payload of n bytes lets the log grow.
     pub fn growth(&self, n: u64) -> u64
         requires { n ≤ 2 ^ 62 }

@@ -58,6 +58,13 @@ impl<O: Oper> RecordLog<O> {
         self.log.used()
     }
 
+    /// How many bytes of records wait for a force.
+    pub fn buffered(&self) -> u64
+        ensures { result ≡ length self.now.log.pending }
+    {
+        self.log.buffered()
+    }
+
     /// By how much records of n bytes let the log grow.
     pub fn growth(&self, n: u64) -> u64
         requires { n ≤ 2 ^ 62 }
