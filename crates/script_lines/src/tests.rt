@@ -8,7 +8,6 @@ use disk_model::{Failed, Source};
 use formats::Params;
 use oper_core::Refusal;
 use std::alloc::Global;
-use std::test::Fail;
 
 // A line of each form, and what it asks.
 const FORMS: [(&[u8], Line<'static>); 8] = [
@@ -129,21 +128,12 @@ const BAD: [&[u8]; 53] = [
     b"\r ",
 ];
 
-#[test]
-fn lines_are_parsed(rt: HostRuntime) {
-    for (line, want) in FORMS {
-        assert_eq!(rt; parse_line(line), Ok(want), "{line:?}");
-    }
-    for (line, plain) in SPACED {
-        assert_eq!(rt; parse_line(line), parse_line(plain), "{line:?}");
-        assert!(rt; parse_line(plain).is_ok(), "{plain:?}");
-    }
-    for line in SKIPPED {
-        assert!(rt; is_skipped(line), "{line:?}");
-    }
-    for line in BAD {
-        assert!(rt; is_bad(line), "{line:?}");
-    }
+fn is_line(line: &[u8], want: Line) -> bool {
+    parse_line(line) == Ok(want)
+}
+
+fn is_spaced(line: &[u8], plain: &[u8]) -> bool {
+    parse_line(plain).is_ok() && parse_line(line) == parse_line(plain)
 }
 
 fn is_skipped(line: &[u8]) -> bool {
@@ -154,16 +144,46 @@ fn is_bad(line: &[u8]) -> bool {
     matches!(parse_line(line), Err(Bad))
 }
 
+fn good_lines_are_parsed() -> bool {
+    let mut good = true;
+    for (line, want) in FORMS {
+        good = good && is_line(line, want);
+    }
+    for (line, plain) in SPACED {
+        good = good && is_spaced(line, plain);
+    }
+    good
+}
+
+fn other_lines_are_parsed() -> bool {
+    let mut good = true;
+    for line in SKIPPED {
+        good = good && is_skipped(line);
+    }
+    for line in BAD {
+        good = good && is_bad(line);
+    }
+    good
+}
+
 #[test]
-fn the_longest_line(rt: HostRuntime) -> Result<(), Fail> {
-    let mut line = vec![in rt.alloc(); b' '; 40000]?;
-    assert!(rt; is_skipped(line.as_slice()));
+fn lines_are_parsed(rt: HostRuntime) {
+    assert!(rt; good_lines_are_parsed() && other_lines_are_parsed());
+}
+
+fn longest_is_taken(alloc: Global) -> Option<bool> {
+    let mut line = vec![in alloc; b' '; 40000].ok()?;
+    let blank = is_skipped(line.as_slice());
     line[0] = b'#';
     line[39999] = b'\r';
-    assert!(rt; is_skipped(line.as_slice()));
-    line.push(b' ')?;
-    assert!(rt; is_bad(line.as_slice()));
-    Ok(())
+    let comment = is_skipped(line.as_slice());
+    line.push(b' ').ok()?;
+    Some(blank && comment && is_bad(line.as_slice()))
+}
+
+#[test]
+fn the_longest_line(rt: HostRuntime) {
+    assert!(rt; longest_is_taken(rt.alloc()) == Some(true));
 }
 
 // Lines of a put, and the bytes of its value.
@@ -173,16 +193,27 @@ const HEX: [(&[u8], &[u8]); 3] = [
     (b"put 0 09aAfFC3", &[0x09, 0xaa, 0xff, 0xc3]),
 ];
 
-#[test]
-fn hex_is_read(rt: HostRuntime) -> Result<(), Fail> {
-    for (line, want) in HEX {
-        if let Ok(Line::Put { hex, .. }) = parse_line(line) {
-            assert_eq!(rt; hex_bytes(rt.alloc(), hex)?.as_slice(), want);
-        } else {
-            assert!(rt; false, "{line:?}");
-        }
+fn puts(alloc: Global, line: &[u8], want: &[u8]) -> bool {
+    match parse_line(line) {
+        Ok(Line::Put { hex, .. }) => match hex_bytes(alloc, hex) {
+            Ok(bytes) => bytes.as_slice() == want,
+            Err(_) => false,
+        },
+        _ => false,
     }
-    Ok(())
+}
+
+fn all_hex_is_read(alloc: Global) -> bool {
+    let mut good = true;
+    for (line, want) in HEX {
+        good = good && puts(alloc, line, want);
+    }
+    good
+}
+
+#[test]
+fn hex_is_read(rt: HostRuntime) {
+    assert!(rt; all_hex_is_read(rt.alloc()));
 }
 
 // Answers, and their texts.
@@ -244,22 +275,39 @@ const TEXTS: [(Answer<'static>, &[u8]); 22] = [
     (Answer::Commands(1), b"commands 1"),
 ];
 
-#[test]
-fn answers_have_their_texts(rt: HostRuntime) -> Result<(), Fail> {
-    for (answer, want) in TEXTS {
-        assert_eq!(rt; answer_text(rt.alloc(), &answer)?.as_slice(), want);
+fn has_text(alloc: Global, answer: &Answer, want: &[u8]) -> bool {
+    match answer_text(alloc, answer) {
+        Ok(text) => text.as_slice() == want,
+        Err(_) => false,
     }
-    let line = answer_line(rt.alloc(), &Answer::Forced(3))?;
-    assert_eq!(rt; line.as_slice(), b"forced 3\n".as_slice());
-    Ok(())
 }
 
-fn strings(alloc: Global, words: &[&str]) -> Result<Vec<String>, Fail> {
+fn has_line(alloc: Global, answer: &Answer, want: &[u8]) -> bool {
+    match answer_line(alloc, answer) {
+        Ok(line) => line.as_slice() == want,
+        Err(_) => false,
+    }
+}
+
+fn all_have_their_texts(alloc: Global) -> bool {
+    let mut good = has_line(alloc, &Answer::Forced(3), b"forced 3\n");
+    for (answer, want) in TEXTS {
+        good = good && has_text(alloc, &answer, want);
+    }
+    good
+}
+
+#[test]
+fn answers_have_their_texts(rt: HostRuntime) {
+    assert!(rt; all_have_their_texts(rt.alloc()));
+}
+
+fn strings(alloc: Global, words: &[&str]) -> Option<Vec<String>> {
     let mut strings = Vec::new(alloc);
     for word in words {
-        strings.push(word.to_string(alloc)?)?;
+        strings.push(word.to_string(alloc).ok()?).ok()?;
     }
-    Ok(strings)
+    Some(strings)
 }
 
 const LARGEST: Params = Params {
@@ -307,13 +355,24 @@ const WORDS: [(&[&str], Option<Asked>); 23] = [
     (&["redo", "init", "008", "64", "65536"], None),
 ];
 
-#[test]
-fn words_are_read(rt: HostRuntime) -> Result<(), Fail> {
-    for (words, want) in WORDS {
-        let words = strings(rt.alloc(), words)?;
-        assert_eq!(rt; read_words(words.as_slice()), want);
+fn ask(alloc: Global, words: &[&str], want: Option<Asked>) -> bool {
+    match strings(alloc, words) {
+        Some(words) => read_words(words.as_slice()) == want,
+        None => false,
     }
-    Ok(())
+}
+
+fn all_words_are_read(alloc: Global) -> bool {
+    let mut good = true;
+    for (words, want) in WORDS {
+        good = good && ask(alloc, words, want);
+    }
+    good
+}
+
+#[test]
+fn words_are_read(rt: HostRuntime) {
+    assert!(rt; all_words_are_read(rt.alloc()));
 }
 
 /// Gives bytes in pieces of so many.
@@ -380,48 +439,84 @@ const SCRIPTS: [(&[u8], &[(Next, &[u8])]); 5] = [
     ),
 ];
 
+// The reader finds this next, and the line that it has then.
+fn finds(reader: &mut LineReader, source: &mut Pieces, next: Next, line: &[u8]) -> bool {
+    reader.next(source) == Ok(next) && reader.line() == line
+}
+
+fn is_read(alloc: Global, script: &[u8], size: usize, wants: &[(Next, &[u8])]) -> bool {
+    let Ok(mut reader) = LineReader::new(alloc) else {
+        return false;
+    };
+    let mut source = Pieces { left: script, size };
+    let mut good = true;
+    for (next, line) in wants {
+        good = good && finds(&mut reader, &mut source, *next, line);
+    }
+    good
+}
+
+fn all_are_read(alloc: Global, size: usize) -> bool {
+    let mut good = true;
+    for (script, wants) in SCRIPTS {
+        good = good && is_read(alloc, script, size, wants);
+    }
+    good
+}
+
 #[test]
-fn lines_are_read(rt: HostRuntime) -> Result<(), Fail> {
-    for size in [1, 2, 100] {
-        for (script, wants) in SCRIPTS {
-            let mut source = Pieces { left: script, size };
-            let mut reader = LineReader::new(rt.alloc())?;
-            for (next, line) in wants {
-                assert_eq!(rt; reader.next(&mut source)?, *next);
-                assert_eq!(rt; reader.line(), *line);
-            }
+fn lines_are_read(rt: HostRuntime) {
+    assert!(rt;
+        all_are_read(rt.alloc(), 1) && all_are_read(rt.alloc(), 2) && all_are_read(rt.alloc(), 100)
+    );
+}
+
+// A line of 40,000 bytes, one of 40,001, and a short one.
+fn long_lines(alloc: Global) -> Option<Vec<u8>> {
+    let mut script = vec![in alloc; b'a'; 40000].ok()?;
+    script.push(b'\n').ok()?;
+    script.extend_from_slice(&[b'b'; 40001]).ok()?;
+    script.extend_from_slice(b"\nc\n").ok()?;
+    Some(script)
+}
+
+fn longer_are_thrown_away(alloc: Global, script: &[u8], size: usize) -> bool {
+    let Ok(mut reader) = LineReader::new(alloc) else {
+        return false;
+    };
+    let mut source = Pieces { left: script, size };
+    let first = reader.next(&mut source) == Ok(Next::Line) && reader.line().len() == 40000;
+    let second = reader.next(&mut source) == Ok(Next::Long);
+    first
+        && second
+        && finds(&mut reader, &mut source, Next::Line, b"c")
+        && reader.next(&mut source) == Ok(Next::End)
+}
+
+fn all_longer_are_thrown_away(alloc: Global) -> bool {
+    match long_lines(alloc) {
+        Some(script) => {
+            longer_are_thrown_away(alloc, script.as_slice(), 1)
+                && longer_are_thrown_away(alloc, script.as_slice(), 65536)
         }
+        None => false,
     }
-    Ok(())
 }
 
 #[test]
-fn long_lines_are_thrown_away(rt: HostRuntime) -> Result<(), Fail> {
-    let mut script = vec![in rt.alloc(); b'a'; 40000]?;
-    script.push(b'\n')?;
-    script.extend_from_slice(&[b'b'; 40001])?;
-    script.extend_from_slice(b"\nc\n")?;
-    for size in [1, 65536] {
-        let mut source = Pieces {
-            left: script.as_slice(),
-            size,
-        };
-        let mut reader = LineReader::new(rt.alloc())?;
-        assert_eq!(rt; reader.next(&mut source)?, Next::Line);
-        assert_eq!(rt; reader.line().len(), 40000);
-        assert_eq!(rt; reader.next(&mut source)?, Next::Long);
-        assert_eq!(rt; reader.next(&mut source)?, Next::Line);
-        assert_eq!(rt; reader.line(), b"c".as_slice());
-        assert_eq!(rt; reader.next(&mut source)?, Next::End);
-    }
-    Ok(())
+fn long_lines_are_thrown_away(rt: HostRuntime) {
+    assert!(rt; all_longer_are_thrown_away(rt.alloc()));
 }
 
-#[test]
-fn a_failing_source_is_told(rt: HostRuntime) -> Result<(), Fail> {
+fn a_fault_is_reported(alloc: Global) -> bool {
+    let Ok(mut reader) = LineReader::new(alloc) else {
+        return false;
+    };
     let mut source = Broken { faults: 0 };
-    let mut reader = LineReader::new(rt.alloc())?;
-    assert_eq!(rt; reader.next(&mut source), Err(ReadError::ReadFault));
-    assert_eq!(rt; source.faults, 1);
-    Ok(())
+    reader.next(&mut source) == Err(ReadError::ReadFault) && source.faults == 1
+}
+
+#[test]
+fn a_failing_source_is_told(rt: HostRuntime) {
+    assert!(rt; a_fault_is_reported(rt.alloc()));
 }
