@@ -1,5 +1,5 @@
 -- The whole lines of what is said are the texts of the answers.
-use Rattle.std.proofs.Common.{◌≡◌, ◌≢◌, ◌⊎◌, inl, inr, ⊎_elim, ◌≤◌, ◌<◌, ◌^◌, ◌+◌, ◌/◌, ◌%◌, ◌==◌, ◌++◌, List, ℕ, [], ◌∷◌, zero, suc, length, take, get_or, append_assoc, refl, ap, ◌∙◌, sym, subst, arith, Bool, true, false, if◌then◌else◌, nat_lt, codes, Contains}
+use Rattle.std.proofs.Common.{◌≡◌, ◌≢◌, ◌⊎◌, inl, inr, ⊎_elim, ◌≤◌, ◌<◌, ◌^◌, ◌+◌, ◌/◌, ◌%◌, ◌==◌, ◌++◌, List, ℕ, [], ◌∷◌, zero, suc, take, get_or, append_assoc, refl, ap, ◌∙◌, sym, subst, arith, Bool, true, false, if◌then◌else◌, codes, Contains}
 use Rattle.std.proofs.lemmas.Bool.Decides.{nat_tests}
 use Rattle.std.proofs.lemmas.Fmt.{decimal_injective}
 use Rattle.std.specs.List.{flat_map}

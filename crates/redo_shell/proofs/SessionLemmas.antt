@@ -11,7 +11,6 @@ use Rattle.script_lines.specs.Replies.{Reply}
 use Rattle.redo_shell.specs.Store.{Command, Stands, IsNew}
 use Rattle.redo_shell.specs.Answers.{Said, Begun, Moment}
 use Rattle.redo_shell.specs.Sessions.{Ran, Adds, Survives, Follows, Sessions, AllSilent, Arises, none, more, start, run, init, other}
-use Rattle.redo_shell.specs.Printed.{SaysForced}
 use Rattle.redo_shell.proofs.PrintedLemmas.{nothing_printed}
 use Rattle.redo_shell.proofs.StoryLemmas.{story_start, told_whole}
 

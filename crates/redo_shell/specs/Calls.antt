@@ -6,7 +6,6 @@ use Rattle.formats.specs.Bytes.{IsOpenAt, IsShutAt}
 use Rattle.formats.specs.Image.{BeginsStore}
 use Rattle.formats.specs.declared.params.Params.{Params}
 use Rattle.script_lines.specs.Words.{Asks}
-use Rattle.script_lines.specs.declared.words.Asked.{Asked}
 use Rattle.script_lines.specs.declared.words.Asked.TheVariants.{Init, Run, Dump}
 use Rattle.store_engine.specs.Engine.{InEachImage}
 use Rattle.store_engine.specs.Starts.{OrAtStart}

@@ -13,7 +13,7 @@ use Rattle.oper_core.specs.declared.refusal.Refusal.{Refusal}
 use Rattle.formats.specs.Image.{EndsAt, NextIs}
 use Rattle.oper_core.specs.Cell.{Cell}
 use Rattle.formats.specs.Objects.{IsInRange, cell_of}
-use Rattle.formats.specs.Records.{record_code, commands_of, AreRecords}
+use Rattle.formats.specs.Records.{record_code, commands_of}
 use Rattle.formats.specs.declared.params.Params.{Params}
 use Rattle.formats.specs.declared.record.Record.{Record}
 use Rattle.formats.specs.declared.record.Record.TheVariants.{Command}

@@ -54,7 +54,7 @@ module _ {O : Type 0} (meaning : Bounds → Meaning O) where
   stands_few {p} stands =
       let log = stands.log in
       let records = records_of log.groups in
-      let low = numbers_end (meaning_in meaning p) log.header.base records log.log.numbered (omega (arith, log.base)) in
+      let low = numbers_end (meaning_in meaning p) log.header.base records log.log.log.numbered (omega (arith, log.base)) in
       omega (arith, low, log.base, commands_length records, ap (λ (l : List O). length l) log.commands_are)
 
   -- and their log has an end
@@ -62,4 +62,4 @@ module _ {O : Type 0} (meaning : Bounds → Meaning O) where
   stands_end {p} stands =
       let log = stands.log in
       let payloads = map (payload_of (meaning_in meaning p)) log.groups in
-      (end_of payloads, record { header = log.header; payloads = payloads; log = log.log.log; here = refl })
+      (end_of payloads, record { active = log.active; header = log.header; payloads = payloads; log = record { in_force = log.log.in_force; log = log.log.log.log }; here = refl })

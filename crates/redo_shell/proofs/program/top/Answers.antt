@@ -1,4 +1,4 @@
-use Rattle.std.proofs.Common.{◌≡◌, ⊎_elim, inl, refl, [], subst, map, string_bytes}
+use Rattle.std.proofs.Common.{◌≡◌, ⊎_elim, inl, refl, subst, map, string_bytes}
 use Rattle.disk_model.specs.Disk.{LeavesOnly}
 use Rattle.formats.specs.declared.params.Params.{Params}
 use Rattle.op_codec.specs.AllOps.{all_meaning}
