@@ -2,29 +2,28 @@
 use crate::running::{new_store, run};
 use disk_model::{Crash, FileNo, Machine};
 use redo_shell::Status;
-use std::alloc::Global;
+use std::alloc::{AllocError, Global};
 use std::test::Fail;
 
 const NEW_LOG: [u8; 34] = *b"\x01RDOLOG01\x01\0\0\0\0\0\0\0\x01\0\0\0\0\0\0\0\0\0\0\0\0\0\0\0\0";
 
 const BLOCK: [u8; 25] = *b"\x01\x13\0\0\0\x01\x01\0\0\0\0\0\0\0\x01\0\0\0\0\x01\0\0\0\xaa\0";
 
-fn a_new_store_is_as_worked(alloc: Global) -> Result<bool, Fail> {
+fn a_new_store_is_as_worked(alloc: Global) -> Result<bool, AllocError> {
     let machine = new_store(alloc)?;
     let objects = machine.bytes(FileNo::Objects);
-    Ok(
-        machine.bytes(FileNo::LogA) == NEW_LOG.as_slice()
-            && machine.bytes(FileNo::LogB) == [0].as_slice()
-            && objects.len() == 1188
-            && objects.starts_with(b"\x01RDOOBJ01\x08\0\0\0\x40\0\0\0\0\0\x01\0"),
-    )
+    let header = objects.starts_with(b"\x01RDOOBJ01\x08\0\0\0\x40\0\0\0\0\0\x01\0");
+    let log_a = machine.bytes(FileNo::LogA) == NEW_LOG.as_slice();
+    let log_b = machine.bytes(FileNo::LogB) == [0].as_slice();
+    Ok(header & log_a & log_b & (objects.len() == 1188))
 }
 
-fn a_log_of_one_put_is_as_worked(alloc: Global) -> Result<bool, Fail> {
+fn a_log_of_one_put_is_as_worked(alloc: Global) -> Result<bool, AllocError> {
     let mut machine = new_store(alloc)?;
-    run(alloc, &mut machine, "redo run", b"put 0 aa\n")?;
+    run(alloc, &mut machine, "redo run", b"put 0 aa\n");
     let log = machine.bytes(FileNo::LogA);
-    Ok(log.len() == 58 && log.starts_with(&NEW_LOG[..33]) && log.ends_with(BLOCK.as_slice()))
+    let header = log.starts_with(NEW_LOG.split_at(33).0);
+    Ok(header & (log.len() == 58) & log.ends_with(BLOCK.as_slice()))
 }
 
 #[test]
@@ -75,13 +74,15 @@ fn written_says(
     written: (u64, &[u8]),
     words: &str,
     wanted: (Status, &[u8]),
-) -> Result<bool, Fail> {
-    let mut machine = new_store(alloc)?;
-    run(alloc, &mut machine, "redo run", script)?;
-    let mut machine = machine.crash(Crash::Old);
-    machine.write_at(FileNo::Objects, written.0, written.1)?;
-    let status = run(alloc, &mut machine, words, b"get 0\n")?;
-    Ok(status == wanted.0 && machine.said() == wanted.1)
+) -> Result<bool, AllocError> {
+    let mut before = new_store(alloc)?;
+    run(alloc, &mut before, "redo run", script);
+    let mut machine = before.crash(Crash::Old);
+    let done = machine
+        .write_at(FileNo::Objects, written.0, written.1)
+        .is_ok();
+    let status = run(alloc, &mut machine, words, b"get 0\n");
+    Ok(done & (status == wanted.0) & (machine.said() == wanted.1))
 }
 
 #[test]

@@ -2,7 +2,6 @@
 use disk_model::{Crash, Fuse, Machine, MemMachine, MemSource};
 use redo_shell::{Status, top};
 use std::alloc::{AllocError, Global};
-use std::test::Fail;
 
 pub const INIT: &str = "redo init 8 64 65536";
 
@@ -28,26 +27,26 @@ pub fn words(alloc: Global, line: &str) -> Result<Vec<String>, AllocError> {
     Ok(words)
 }
 
-// The program with these words and this input.
-pub fn run<M: Machine>(
-    alloc: Global,
-    machine: &mut M,
-    line: &str,
-    input: &[u8],
-) -> Result<Status, AllocError> {
+// The words of a line, and this input.
+fn given(alloc: Global, line: &str, input: &[u8]) -> Result<(Vec<String>, MemSource), AllocError> {
     let words = words(alloc, line)?;
-    let mut source = MemSource::new(input.to_vec(alloc)?, Vec::new(alloc))?;
-    Ok(top(alloc, words.as_slice(), machine, &mut source))
+    let source = MemSource::new(input.to_vec(alloc)?, Vec::new(alloc))?;
+    Ok((words, source))
+}
+
+// The program with these words and this input. Want of memory for them is told as it tells its own.
+pub fn run<M: Machine>(alloc: Global, machine: &mut M, line: &str, input: &[u8]) -> Status {
+    match given(alloc, line, input) {
+        Ok((words, mut source)) => top(alloc, words.as_slice(), machine, &mut source),
+        Err(_) => Status::Memory,
+    }
 }
 
 // A folder with a store of 8 objects. Nothing is said yet, and all is synced.
-pub fn new_store(alloc: Global) -> Result<MemMachine, Fail> {
+pub fn new_store(alloc: Global) -> Result<MemMachine, AllocError> {
     let mut machine = empty_folder(alloc)?;
-    if run(alloc, &mut machine, INIT, b"")? == Status::Done {
-        Ok(machine.crash(Crash::Old))
-    } else {
-        Err("no store was made".into())
-    }
+    run(alloc, &mut machine, INIT, b"");
+    Ok(machine.crash(Crash::Old))
 }
 
 // The machine after a run that was stopped after so many calls.
@@ -57,20 +56,15 @@ pub fn stopped(
     calls: u64,
     line: &str,
     input: &[u8],
-) -> Result<MemMachine, Fail> {
+) -> MemMachine {
     let mut fuse = Fuse::new(machine, calls);
-    run(alloc, &mut fuse, line, input)?;
-    Ok(fuse.into_inner())
+    run(alloc, &mut fuse, line, input);
+    fuse.into_inner()
 }
 
 // How many calls a run takes.
-pub fn calls_of(
-    alloc: Global,
-    mut machine: MemMachine,
-    line: &str,
-    input: &[u8],
-) -> Result<u64, AllocError> {
+pub fn calls_of(alloc: Global, mut machine: MemMachine, line: &str, input: &[u8]) -> u64 {
     let before = machine.calls();
-    run(alloc, &mut machine, line, input)?;
-    Ok(machine.calls().saturating_sub(before))
+    run(alloc, &mut machine, line, input);
+    machine.calls().saturating_sub(before)
 }

@@ -4,6 +4,6 @@ use Rattle.files_tests.proofs.records.coded.Goals as goal
 
 pub encode-requires : goal.encode-requires
 encode-requires c =
-    let value : c.new-op.result.value ≡ c.args.value.now =
-    c.new-op.ensures.value ∙ c.new.ensures ∙ c.in_ok-to_vec.ensures.items_if_clones_equal (λ x y same. same) in
-    (record { objects = 0; cap = 0 }, lt-ltb (length c.new-op.result.value) (2 ^ 32) (omega (arith, ap length value, c.requires)))
+    let value : c.new.result ≡ c.args.value.now =
+    c.new.ensures ∙ c.in_ok-to_vec.ensures.items_if_clones_equal (λ x y same. same) in
+    (record { objects = 0; cap = 0 }, lt-ltb (length c.new.result) (2 ^ 32) (omega (arith, ap length value, c.requires)))
