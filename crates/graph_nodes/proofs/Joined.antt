@@ -1,0 +1,179 @@
+-- How nodes are merged.
+use Rattle.std.proofs.Common.{◌≡◌, ◌≢◌, ◌∙◌, ap, sym, subst, ℕ, zero, suc, ◌+◌, ◌<◌, ◌≤◌, Bool, false, List, [], ◌∷◌, ◌++◌, take, length, refl, arith, inl, inr}
+use Rattle.std.specs.Prelude.{IsTrue, IsFalse, ◌==◌, ◌||◌, ◌↔◌, ◌⊎◌, if◌then◌else◌, slice_index, slice_set}
+use Rattle.std.proofs.lemmas.Bool.{cases_eq, cases_lt, cases_Bool, both_ways, or_left, or_right, or_cases, or_from, eqb-true, eq-eqb, ne_eqb, cond-true, cond-false, false_from_ne_true}
+use Rattle.std.proofs.lemmas.List.{get_or-set_same, get_or-set_other, length-set}
+use Rattle.oper_core.specs.State.{is_among}
+use Rattle.number_lists.specs.Lists.{Lists, list_at, AreAsMany, IsPoured}
+use Rattle.graph_nodes.specs.Arcs.{node_at}
+use Rattle.graph_nodes.specs.Merge.{IsFiled, IsRelabelled, renamed, gathered, AreMoved, AreRenamed, IsAbsorbed, AreMerged}
+use Rattle.graph_nodes.proofs.Found.{among-place, place-among}
+
+-- the first so many of the slots
+pub record IsRelabelling (slots : List ℕ) (one idx : ℕ) (old now : List ℕ) : Type 0 where
+  pub done : (k : ℕ) → k < idx → node_at now (slice_index slots k) ≡ one
+  pub rest : (i : ℕ) → (node_at now i ≡ node_at old i) ⊎ (IsTrue (is_among i slots) × (node_at now i ≡ one))
+  pub size : length now ≡ length old
+
+pub relabel-start : (slots : List ℕ) (one : ℕ) (old : List ℕ) → IsRelabelling slots one 0 old old
+relabel-start slots one old = record { done = λ k lt. absurd (omega arith); rest = λ i. inl refl; size = refl }
+
+pub relabel-on : (slots : List ℕ) (one idx m : ℕ) (old now : List ℕ) → IsRelabelling slots one idx old now → m ≡ slice_index slots idx → idx < length slots → m < length now → IsRelabelling slots one (idx + 1) old (slice_set now m one)
+relabel-on slots one idx m old now is e lt below =
+    let new = slice_set now m one in
+    let at : node_at new m ≡ one = get_or-set_same now m one m below in
+    let off : (i : ℕ) → i ≢ m → node_at new i ≡ node_at now i = λ i ne. get_or-set_other now m i one i ne in
+    record {
+      done = λ k low. elim (cases_eq (slice_index slots k) m) [
+        | inl q ↦ ap (λ (i : ℕ). node_at new i) q ∙ at
+        | inr ne ↦ elim (cases_eq k idx) [
+          | inl q ↦ absurd (ne (ap (λ (i : ℕ). slice_index slots i) q ∙ sym e))
+          | inr other ↦ off (slice_index slots k) ne ∙ is.done k (omega arith)
+        ]
+      ];
+      rest = λ i. elim (cases_eq i m) [
+        | inl q ↦ inr (subst (λ (k : ℕ). IsTrue (is_among k slots)) (sym (q ∙ e)) (place-among slots idx lt), ap (λ (k : ℕ). node_at new k) q ∙ at)
+        | inr ne ↦ elim (is.rest i) [ inl s ↦ inl (off i ne ∙ s) | inr s ↦ inr (s.0, off i ne ∙ s.1) ]
+      ];
+      size = length-set now m one ∙ is.size;
+    }
+
+pub relabel-end : (slots : List ℕ) (one idx : ℕ) (old now : List ℕ) → idx ≡ length slots → IsRelabelling slots one idx old now → IsRelabelled slots one old now
+relabel-end slots one idx old now e is = record {
+  done = λ i t. let p = among-place i slots t in ap (λ (k : ℕ). node_at now k) (sym p.2) ∙ is.done p.0 (omega (arith, e, p.1));
+  rest = λ i none. elim (is.rest i) [ inl s ↦ s | inr s ↦ absurd (none s.0) ];
+  size = is.size;
+}
+
+renamed-at : (n one m : ℕ) → m ≡ n → renamed n one m ≡ one
+renamed-at n one m e = cond-true (m == n) one m (eq-eqb m n e)
+
+renamed-off : (n one m : ℕ) → (m ≡ n → ⊥) → renamed n one m ≡ m
+renamed-off n one m ne = cond-false (m == n) one m (ne_eqb m n ne)
+
+-- a list is poured into another
+pub moved-poured : (n one : ℕ) (old new : Lists) → (n ≡ one → ⊥) → IsPoured old n one new → AreMoved (renamed n one) old new
+moved-poured n one old new apart is = record {
+  there = λ m k t. elim (cases_eq m n) [
+    | inl q ↦ subst (λ (j : ℕ). IsTrue (is_among k (list_at new.lists j))) (sym (renamed-at n one m q)) ((is.here k).1 (inr (subst (λ (j : ℕ). IsTrue (is_among k (list_at old.lists j))) q t)))
+    | inr ne ↦ subst (λ (j : ℕ). IsTrue (is_among k (list_at new.lists j))) (sym (renamed-off n one m ne)) (elim (cases_eq m one) [
+      | inl q ↦ subst (λ (j : ℕ). IsTrue (is_among k (list_at new.lists j))) (sym q) ((is.here k).1 (inl (subst (λ (j : ℕ). IsTrue (is_among k (list_at old.lists j))) q t)))
+      | inr other ↦ subst (λ (ys : List ℕ). IsTrue (is_among k ys)) (sym (is.others m ne other)) t
+    ])
+  ];
+  only = λ m k t. elim (cases_eq m n) [
+    | inl q ↦ absurd (both_ways _ refl (subst (λ (ys : List ℕ). IsTrue (is_among k ys)) (ap (λ (j : ℕ). list_at new.lists j) q ∙ is.empty) t))
+    | inr ne ↦ elim (cases_eq m one) [
+      | inl q ↦ elim ((is.here k).0 (subst (λ (j : ℕ). IsTrue (is_among k (list_at new.lists j))) q t)) [
+        | inl r ↦ (one, r, renamed-off n one one (λ e. apart (sym e)) ∙ sym q)
+        | inr r ↦ (n, r, renamed-at n one n refl ∙ sym q)
+      ]
+      | inr other ↦ (m, subst (λ (ys : List ℕ). IsTrue (is_among k ys)) (is.others m ne other) t, renamed-off n one m ne)
+    ]
+  ];
+  same = is.same;
+}
+
+same-name : (one m : ℕ) → renamed one one m ≡ m
+same-name one m = elim (cases_eq m one) [ inl q ↦ renamed-at one one m q ∙ sym q | inr ne ↦ renamed-off one one m ne ]
+
+many-same : (a : Lists) → AreAsMany a a
+many-same a = record { lists = refl; items = refl; list_room = refl; item_room = refl }
+
+-- a node and itself
+pub absorbed-same : (n one : ℕ) (node : List ℕ) (members into : Lists) → n ≡ one → IsFiled node members → IsAbsorbed n one node node members members into into
+absorbed-same n one node members into e filed =
+    let name : (m : ℕ) → renamed n one m ≡ m = λ m. ap (λ (k : ℕ). renamed k one m) e ∙ same-name one m in
+    record {
+      node = λ i lt. sym (name (node_at node i));
+      size = refl;
+      filed = filed;
+      members = many-same members;
+      into = record {
+        there = λ m k t. subst (λ (j : ℕ). IsTrue (is_among k (list_at into.lists j))) (sym (name m)) t;
+        only = λ m k t. (m, t, name m);
+        same = many-same into;
+      };
+    }
+
+-- a node and another
+pub absorbed : (n one : ℕ) (node new : List ℕ) (members new_members into new_into : Lists) → (n ≡ one → ⊥) → IsFiled node members → IsRelabelled (list_at members.lists n) one node new → IsPoured members n one new_members → IsPoured into n one new_into →
+    IsAbsorbed n one node new members new_members into new_into
+absorbed n one node new members new_members into new_into apart filed label pour_members pour_into =
+    let moved = moved-poured n one members new_members apart pour_members in
+    let at : (i : ℕ) → i < length node → node_at new i ≡ renamed n one (node_at node i) = λ i lt. elim (cases_eq (node_at node i) n) [
+      | inl q ↦ label.done i (subst (λ (j : ℕ). IsTrue (is_among i (list_at members.lists j))) q (filed.there i lt)) ∙ sym (renamed-at n one (node_at node i) q)
+      | inr ne ↦ label.rest i (λ t. ne (filed.only n i t).1) ∙ sym (renamed-off n one (node_at node i) ne)
+    ] in
+    record {
+      node = at;
+      size = label.size;
+      filed = record {
+        there = λ i lt.
+            let low : i < length node = omega (arith, lt, label.size) in
+            subst (λ (j : ℕ). IsTrue (is_among i (list_at new_members.lists j))) (sym (at i low)) (moved.there (node_at node i) i (filed.there i low));
+        only = λ m i t.
+            let was = moved.only m i t in
+            let old = filed.only was.0 i was.1 in
+            (omega (arith, old.0, label.size), at i old.0 ∙ ap (λ (j : ℕ). renamed n one j) old.1 ∙ was.2);
+      };
+      members = pour_members.same;
+      into = moved-poured n one into new_into apart pour_into;
+    }
+
+-- none is merged
+pub merged-start : (one : ℕ) (node : List ℕ) (members into : Lists) → IsFiled node members → AreMerged [] one node node members members into into
+merged-start one node members into filed = record {
+  node = λ i lt. refl;
+  size = refl;
+  filed = filed;
+  members = many-same members;
+  into = record { there = λ m k t. t; only = λ m k t. (m, t, refl); same = many-same into };
+}
+
+skip : (a b : Bool) → a ≡ false → (a || b) ≡ b
+skip a b e = ap (λ (x : Bool). x || b) e
+
+one-stays : (n one : ℕ) → renamed n one one ≡ one
+one-stays n one = elim (cases_eq one n) [ inl q ↦ renamed-at n one one q | inr ne ↦ renamed-off n one one ne ]
+
+many-twice : (a b c : Lists) → AreAsMany a b → AreAsMany b c → AreAsMany a c
+many-twice a b c f g = record { lists = g.lists ∙ f.lists; items = g.items ∙ f.items; list_room = g.list_room ∙ f.list_room; item_room = g.item_room ∙ f.item_room }
+
+among-push : (k n : ℕ) (xs : List ℕ) → is_among k (xs ++ n ∷ []) ≡ (is_among k xs || (k == n))
+among-push k n [] = elim (cases_Bool (k == n)) [ inl e ↦ or_left (k == n) false e ∙ sym e | inr e ↦ or_from (k == n) false e refl ∙ sym e ]
+among-push k n (x ∷ xs) = elim (cases_Bool (k == x)) [
+  | inl e ↦ or_left (k == x) (is_among k (xs ++ n ∷ [])) e ∙ sym (or_left (is_among k (x ∷ xs)) (k == n) (or_left (k == x) (is_among k xs) e))
+  | inr e ↦ skip (k == x) (is_among k (xs ++ n ∷ [])) e ∙ among-push k n xs ∙ ap (λ (b : Bool). b || (k == n)) (sym (skip (k == x) (is_among k xs) e))
+]
+
+-- the names after one node more
+name-more : (ns : List ℕ) (n one m : ℕ) → renamed n one (gathered ns one m) ≡ gathered (ns ++ n ∷ []) one m
+name-more ns n one m =
+    let push = among-push m n ns in
+    elim (cases_Bool (is_among m ns)) [
+      | inl t ↦
+          let left : gathered ns one m ≡ one = cond-true (is_among m ns) one m t in
+          let right : gathered (ns ++ n ∷ []) one m ≡ one = cond-true (is_among m (ns ++ n ∷ [])) one m (push ∙ or_left (is_among m ns) (m == n) t) in
+          ap (λ (k : ℕ). renamed n one k) left ∙ one-stays n one ∙ sym right
+      | inr f ↦
+          let left : gathered ns one m ≡ m = cond-false (is_among m ns) one m f in
+          ap (λ (k : ℕ). renamed n one k) left ∙ ap (λ (b : Bool). if b then one else m) (sym (push ∙ skip (is_among m ns) (m == n) f))
+    ]
+
+-- one node more is merged
+pub merged-on : (ns : List ℕ) (n one : ℕ) (a b c : List ℕ) (ma mb mc ia ib ic : Lists) → AreMerged ns one a b ma mb ia ib → IsAbsorbed n one b c mb mc ib ic → AreMerged (ns ++ n ∷ []) one a c ma mc ia ic
+merged-on ns n one a b c ma mb mc ia ib ic was is = record {
+  node = λ i lt. is.node i (omega (arith, lt, was.size)) ∙ ap (λ (m : ℕ). renamed n one m) (was.node i lt) ∙ name-more ns n one (node_at a i);
+  size = is.size ∙ was.size;
+  filed = is.filed;
+  members = many-twice ma mb mc was.members is.members;
+  into = record {
+    there = λ m k t. subst (λ (j : ℕ). IsTrue (is_among k (list_at ic.lists j))) (name-more ns n one m) (is.into.there (gathered ns one m) k (was.into.there m k t));
+    only = λ m k t.
+        let r = is.into.only m k t in
+        let s = was.into.only r.0 k r.1 in
+        (s.0, s.1, sym (name-more ns n one s.0) ∙ ap (λ (j : ℕ). renamed n one j) s.2 ∙ r.2);
+    same = many-twice ia ib ic was.into.same is.into.same;
+  };
+}

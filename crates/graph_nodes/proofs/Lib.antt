@@ -1,0 +1,4 @@
+pub mod Found
+pub mod Taken
+pub mod Joined
+pub mod Ordered

@@ -1,0 +1,160 @@
+-- How the nodes spread that walks lead to.
+use Rattle.std.proofs.Common.{◌≡◌, ◌∙◌, ap, sym, subst, ℕ, zero, suc, ◌+◌, ◌/◌, ◌<◌, ◌≤◌, Bool, List, [], ◌∷◌, ◌++◌, append_assoc, append-nil, length, length-append, refl, arith, inl, inr}
+use Rattle.std.specs.Prelude.{IsTrue, ◌==◌, ◌↔◌, ◌⊎◌, Option, None, Some, IsSome, slice_index}
+use Rattle.std.proofs.lemmas.Bool.{cases_eq, cases_lt, both_ways}
+use Rattle.oper_core.specs.State.{is_among}
+use Rattle.sparse_order.specs.Digraph.{Walk}
+use Rattle.sparse_order.specs.Digraph.Walk.{Here, Then}
+use Rattle.sparse_order.specs.MergeLaws.{walk-on}
+use Rattle.number_lists.specs.Lists.{Lists, list_at}
+use Rattle.number_lists.specs.Members.{Members, IsWith}
+use Rattle.graph_nodes.specs.Arcs.{arc_at, node_at, IsStartOf, IsStartAmong}
+use Rattle.graph_nodes.specs.Search.{AreKept, IsBehind}
+use Rattle.graph_nodes.specs.Spread.{StartsIn, StartAmongIn, IsTakenUp, IsRoundDone, IsSpread}
+use Rattle.graph_nodes.proofs.Found.{kept-twice, kept-none, among-left, among-place, place-among}
+
+-- one cell
+pub starts-none : (arcs : List (Option ℕ)) (node : List ℕ) (c : ℕ) (taken : List ℕ) → (IsSome (arc_at arcs c) → ⊥) → StartsIn arcs node c taken → ⊥
+starts-none arcs node c taken none start = none start.2.0
+
+pub starts-told : (arcs : List (Option ℕ)) (node : List ℕ) (c m : ℕ) (taken : List ℕ) → IsSome (arc_at arcs c) → m ≡ node_at node (c / 8) → IsTrue (is_among m taken) ↔ StartsIn arcs node c taken
+starts-told arcs node c m taken some e = (
+  (λ t. (m, t, (some, sym e))),
+  (λ s. subst (λ (k : ℕ). IsTrue (is_among k taken)) (sym s.2.1 ∙ sym e) s.1),
+)
+
+-- none of the first so many cells
+pub none-more : (arcs : List (Option ℕ)) (node cells taken : List ℕ) (i c : ℕ) → ((k : ℕ) → k < i → StartsIn arcs node (slice_index cells k) taken → ⊥) → c ≡ slice_index cells i → (StartsIn arcs node c taken → ⊥) →
+    (k : ℕ) → k < i + 1 → StartsIn arcs node (slice_index cells k) taken → ⊥
+none-more arcs node cells taken i c below e none k lt start = elim (cases_eq k i) [
+  | inl q ↦ none (subst (λ (j : ℕ). StartsIn arcs node j taken) (ap (λ (j : ℕ). slice_index cells j) q ∙ sym e) start)
+  | inr ne ↦ below k (omega arith) start
+]
+
+pub none-all : (arcs : List (Option ℕ)) (node cells taken : List ℕ) (i : ℕ) → i ≡ length cells → ((k : ℕ) → k < i → StartsIn arcs node (slice_index cells k) taken → ⊥) → StartAmongIn arcs node cells taken → ⊥
+none-all arcs node cells taken i e below some =
+    let p = among-place some.0 cells some.1 in
+    below p.0 (omega (arith, e, p.1)) (subst (λ (c : ℕ). StartsIn arcs node c taken) (sym p.2) some.2)
+
+-- one node
+pub up-none : (arcs : List (Option ℕ)) (node : List ℕ) (into : Lists) (n : ℕ) (old : Members) → (StartAmongIn arcs node (list_at into.lists n) old.members → ⊥) → IsTakenUp arcs node into n old old
+up-none arcs node into n old none = record { sound = λ k t. inl t; closed = λ some. absurd (none some); same = kept-none old }
+
+pub up-with : (arcs : List (Option ℕ)) (node : List ℕ) (into : Lists) (n : ℕ) (old new : Members) → StartAmongIn arcs node (list_at into.lists n) old.members → IsWith old n new → IsTakenUp arcs node into n old new
+up-with arcs node into n old new some is = record {
+  sound = λ k t. elim ((is.there k).0 t) [ inl r ↦ inl r | inr e ↦ inr (e, some) ];
+  closed = λ s. (is.there n).1 (inr refl);
+  same = record { kept = is.kept; end = is.end; room = is.room };
+}
+
+-- a start among the cells of n is a node behind n
+behind-some : (arcs : List (Option ℕ)) (node : List ℕ) (into : Lists) (n : ℕ) (taken : List ℕ) → StartAmongIn arcs node (list_at into.lists n) taken → (m : ℕ) × IsTrue (is_among m taken) × IsBehind arcs node into m n
+behind-some arcs node into n taken some = (some.2.0, some.2.1, (some.0, some.1, some.2.2))
+
+some-behind : (arcs : List (Option ℕ)) (node : List ℕ) (into : Lists) (m n : ℕ) (taken : List ℕ) → IsTrue (is_among m taken) → IsBehind arcs node into m n → StartAmongIn arcs node (list_at into.lists n) taken
+some-behind arcs node into m n taken t behind = (behind.0, behind.1, (m, t, behind.2))
+
+-- in a round, the first so many of the found nodes
+pub record IsInRound (arcs : List (Option ℕ)) (node : List ℕ) (into : Lists) (found : List ℕ) (i : ℕ) (old new : Members) : Type 0 where
+  pub sound : (k : ℕ) → IsTrue (is_among k new.members) → IsTrue (is_among k old.members) ⊎ (IsTrue (is_among k found) × ((m : ℕ) × IsTrue (is_among m old.members) × Walk (IsBehind arcs node into) m k))
+  pub closed : length new.members ≡ length old.members → (j m : ℕ) → j < i → IsTrue (is_among m old.members) → IsBehind arcs node into m (slice_index found j) → IsTrue (is_among (slice_index found j) old.members)
+  pub same : AreKept old new
+
+pub round-start : (arcs : List (Option ℕ)) (node : List ℕ) (into : Lists) (found : List ℕ) (old : Members) → IsInRound arcs node into found 0 old old
+round-start arcs node into found old = record { sound = λ k t. inl t; closed = λ e j m lt. absurd (omega arith); same = kept-none old }
+
+-- where a longer list is as long, it has nothing more
+empty : (xs : List ℕ) → length xs ≡ 0 → xs ≡ []
+empty [] e = refl
+empty (x ∷ xs) e = absurd (omega (arith, e))
+
+same-length : (old new : Members) (k : ℕ) → AreKept old new → length new.members ≡ length old.members → IsTrue (is_among k new.members) → IsTrue (is_among k old.members)
+same-length old new k is e t =
+    let more = is.kept.0 in
+    let none : length more ≡ 0 = omega (arith, e, ap length is.kept.1, length-append old.members more) in
+    let nothing : more ≡ [] = empty more none in
+    subst (λ (xs : List ℕ). IsTrue (is_among k xs)) (is.kept.1 ∙ ap (λ (xs : List ℕ). old.members ++ xs) nothing ∙ append-nil old.members) t
+
+grows : (old new : Members) → AreKept old new → length old.members ≤ length new.members
+grows old new is = omega (arith, ap length is.kept.1, length-append old.members is.kept.0)
+
+pub round-on : (arcs : List (Option ℕ)) (node : List ℕ) (into : Lists) (found : List ℕ) (i n : ℕ) (old now new : Members) → IsInRound arcs node into found i old now → i < length found → n ≡ slice_index found i → IsTakenUp arcs node into n now new → IsInRound arcs node into found (i + 1) old new
+round-on arcs node into found i n old now new was lt e is =
+    let kept = kept-twice old now new was.same is.same in
+    let held : IsTrue (is_among n found) = subst (λ (k : ℕ). IsTrue (is_among k found)) (sym e) (place-among found i lt) in
+    record {
+      sound = λ k t. elim (is.sound k t) [
+        | inl r ↦ was.sound k r
+        | inr up ↦
+            let b = behind-some arcs node into n now.members up.1 in
+            let step : Walk (IsBehind arcs node into) b.0 k = subst (λ (j : ℕ). Walk (IsBehind arcs node into) b.0 j) (sym up.0) (Then b.0 n Here b.2) in
+            let found_k : IsTrue (is_among k found) = subst (λ (j : ℕ). IsTrue (is_among j found)) (sym up.0) held in
+            elim (was.sound b.0 b.1) [
+              | inl o ↦ inr (found_k, (b.0, o, step))
+              | inr o ↦ inr (found_k, (o.1.0, o.1.1, walk-on (IsBehind arcs node into) o.1.0 b.0 k o.1.2 step))
+            ]
+      ];
+      closed = λ same j m low t behind.
+          let g = grows old now was.same in
+          let h = grows now new is.same in
+          let first : length now.members ≡ length old.members = omega (arith, g, h, same) in
+          elim (cases_eq j i) [
+            | inl q ↦
+                let at : slice_index found j ≡ n = ap (λ (k : ℕ). slice_index found k) q ∙ sym e in
+                let in_now : IsTrue (is_among m now.members) = subst (λ (xs : List ℕ). IsTrue (is_among m xs)) (sym was.same.kept.1) (among-left m old.members was.same.kept.0 t) in
+                let up = is.closed (some-behind arcs node into m n now.members in_now (subst (λ (k : ℕ). IsBehind arcs node into m k) at behind)) in
+                subst (λ (k : ℕ). IsTrue (is_among k old.members)) (sym at) (same-length old new n kept same up)
+            | inr ne ↦ was.closed first j m (omega arith) t behind
+          ];
+      same = kept;
+    }
+
+pub round-end : (arcs : List (Option ℕ)) (node : List ℕ) (into : Lists) (found : List ℕ) (i : ℕ) (old new : Members) → i ≡ length found → IsInRound arcs node into found i old new → IsRoundDone arcs node into found old new
+round-end arcs node into found i old new e is = record {
+  sound = is.sound;
+  closed = λ same m n t held behind.
+      let p = among-place n found held in
+      subst (λ (k : ℕ). IsTrue (is_among k old.members)) p.2 (is.closed same p.0 m (omega (arith, e, p.1)) t (subst (λ (k : ℕ). IsBehind arcs node into m k) (sym p.2) behind));
+  same = is.same;
+}
+
+-- between rounds: what is taken, and that nothing is missing where the last round added nothing
+pub record IsSpreading (arcs : List (Option ℕ)) (node : List ℕ) (into : Lists) (w : ℕ) (found : List ℕ) (before : ℕ) (taken : List ℕ) : Type 0 where
+  pub start : IsTrue (is_among w taken)
+  pub sound : (n : ℕ) → IsTrue (is_among n taken) → (n ≡ w) ⊎ (IsTrue (is_among n found) × Walk (IsBehind arcs node into) w n)
+  pub closed : length taken ≡ before → (m n : ℕ) → IsTrue (is_among m taken) → IsTrue (is_among n found) → IsBehind arcs node into m n → IsTrue (is_among n taken)
+  pub within : before ≤ length taken
+
+some-length : (k : ℕ) (xs : List ℕ) → IsTrue (is_among k xs) → 0 < length xs
+some-length k [] t = absurd (both_ways _ refl t)
+some-length k (x ∷ xs) t = omega arith
+
+pub spread-start : (arcs : List (Option ℕ)) (node : List ℕ) (into : Lists) (w : ℕ) (found : List ℕ) (none taken : Members) → none.members ≡ [] → IsWith none w taken → IsSpreading arcs node into w found 0 taken.members
+spread-start arcs node into w found none taken e is =
+    let there = (is.there w).1 (inr refl) in
+    record {
+      start = there;
+      sound = λ n t. elim ((is.there n).0 t) [ inl r ↦ absurd (both_ways _ refl (subst (λ (xs : List ℕ). IsTrue (is_among n xs)) e r)) | inr q ↦ inl q ];
+      closed = λ same. absurd (omega (arith, same, some-length w taken.members there));
+      within = omega arith;
+    }
+
+pub spread-on : (arcs : List (Option ℕ)) (node : List ℕ) (into : Lists) (w : ℕ) (found : List ℕ) (before : ℕ) (old new : Members) → IsSpreading arcs node into w found before old.members → IsRoundDone arcs node into found old new → IsSpreading arcs node into w found (length old.members) new.members
+spread-on arcs node into w found before old new was is =
+    let grown = is.same.kept.1 in
+    let stays : (k : ℕ) → IsTrue (is_among k old.members) → IsTrue (is_among k new.members) = λ k t. subst (λ (xs : List ℕ). IsTrue (is_among k xs)) (sym grown) (among-left k old.members is.same.kept.0 t) in
+    record {
+      start = stays w was.start;
+      sound = λ n t. elim (is.sound n t) [
+        | inl r ↦ was.sound n r
+        | inr r ↦ elim (was.sound r.1.0 r.1.1) [
+          | inl q ↦ inr (r.0, subst (λ (k : ℕ). Walk (IsBehind arcs node into) k n) q r.1.2)
+          | inr s ↦ inr (r.0, walk-on (IsBehind arcs node into) w r.1.0 n s.1 r.1.2)
+        ]
+      ];
+      closed = λ same m n t held behind. stays n (is.closed same m n (same-length old new m is.same same t) held behind);
+      within = grows old new is.same;
+    }
+
+pub spread-end : (arcs : List (Option ℕ)) (node : List ℕ) (into : Lists) (w : ℕ) (found : List ℕ) (before : ℕ) (taken : List ℕ) → length taken ≤ before → IsSpreading arcs node into w found before taken → IsSpread arcs node into w found taken
+spread-end arcs node into w found before taken le is = record { start = is.start; sound = is.sound; closed = is.closed (omega (arith, le, is.within)) }

@@ -1,0 +1,7 @@
+use Rattle.std.proofs.Common.{◌≤◌}
+use Rattle.std.specs.Vec.{vec_capacity}
+use Rattle.graph_nodes.proofs.Taken.{IsInRound}
+use Rattle.graph_nodes.proofs.spreading.take_round.Given as goal
+
+abbrev pub invariant-loop-i : goal.invariant-loop-i
+invariant-loop-i l = IsInRound l.arcs l.node l.into l.found.members l.i l.fn.taken l.taken × (vec_capacity l.fn.cells ≤ vec_capacity l.cells)

@@ -1,0 +1,39 @@
+-- What a search against the arcs has found.
+use Rattle.std.specs.Prelude.{◌≡◌, ℕ, ◌≤◌, ◌++◌, ◌⊎◌, ◌↔◌, IsTrue, List, Option}
+use Rattle.oper_core.specs.State.{is_among}
+use Rattle.sparse_order.specs.Digraph.{Walk}
+use Rattle.number_lists.specs.Lists.{Lists, list_at}
+use Rattle.number_lists.specs.Members.{Members}
+use Rattle.graph_nodes.specs.Arcs.{IsStartOf, IsStartAmong}
+
+-- the numbers that were there stand where they stood
+pub record AreKept (old new : Members) : Type 0 where
+  pub kept : (more : List ℕ) × (new.members ≡ old.members ++ more)
+  pub end : new.end ≡ old.end
+  pub room : old.room ≤ new.room
+
+-- where the cell has an arc, its start is found too
+pub record IsLookedBack (arcs : List (Option ℕ)) (node : List ℕ) (c : ℕ) (old new : Members) : Type 0 where
+  pub there : (n : ℕ) → IsTrue (is_among n new.members) ↔ (IsTrue (is_among n old.members) ⊎ IsStartOf arcs node c n)
+  pub same : AreKept old new
+
+-- the starts of the cells' arcs are found too
+pub record AreLookedBack (arcs : List (Option ℕ)) (node cells : List ℕ) (old new : Members) : Type 0 where
+  pub there : (n : ℕ) → IsTrue (is_among n new.members) ↔ (IsTrue (is_among n old.members) ⊎ IsStartAmong arcs node cells n)
+  pub same : AreKept old new
+
+-- an arc leads from the node m to the node n
+abbrev pub IsBehind : List (Option ℕ) → List ℕ → Lists → ℕ → ℕ → Type 0
+IsBehind arcs node into m n = IsStartAmong arcs node (list_at into.lists n) m
+
+-- what is behind n is found too, if n is not where the search stops
+pub record IsExpanded (arcs : List (Option ℕ)) (node : List ℕ) (into : Lists) (n stop : ℕ) (old new : Members) : Type 0 where
+  pub sound : (m : ℕ) → IsTrue (is_among m new.members) → IsTrue (is_among m old.members) ⊎ IsBehind arcs node into m n
+  pub closed : (n ≡ stop → ⊥) → (m : ℕ) → IsBehind arcs node into m n → IsTrue (is_among m new.members)
+  pub same : AreKept old new
+
+-- v and all that reaches it is found, without a look behind the stop
+pub record IsSearched (arcs : List (Option ℕ)) (node : List ℕ) (into : Lists) (v stop : ℕ) (found : List ℕ) : Type 0 where
+  pub start : IsTrue (is_among v found)
+  pub sound : (m : ℕ) → IsTrue (is_among m found) → Walk (IsBehind arcs node into) m v
+  pub closed : (n m : ℕ) → IsTrue (is_among n found) → (n ≡ stop → ⊥) → IsBehind arcs node into m n → IsTrue (is_among m found)

@@ -1,0 +1,110 @@
+ghost use Rattle.std.specs.Prelude.{◌≡◌, ℕ, ◌<◌, ◌≤◌, ◌/◌, ◌↔◌, length, IsTrue};
+ghost use Rattle.std.specs.Vec.{vec_capacity};
+ghost use Rattle.oper_core.specs.State.{is_among};
+ghost use Rattle.number_lists.specs.Lists.{list_at};
+ghost use Rattle.graph_nodes.specs.Arcs.{AreCells, AreBelow};
+ghost use Rattle.graph_nodes.specs.Spread.{StartsIn, StartAmongIn, IsTakenUp, IsRoundDone, IsSpread};
+
+use number_lists::{Chains, NumberSet};
+
+/// Takes the node w and all that walks from it lead to among the nodes that were found.
+pub(crate) fn spread(
+    w: u32,
+    arcs: &[Option<u32>],
+    node: &[u32],
+    into: &Chains,
+    cells: &mut Vec<u32>,
+    found: &NumberSet,
+    taken: &mut NumberSet,
+)
+    requires start { w < taken.old.end }
+    requires ends { found.now.end ≡ taken.old.end }
+    requires lists { taken.old.end ≤ length into.now.lists }
+    requires cells { (n : ℕ) → AreCells arcs.now node.now (list_at into.now.lists n) }
+    requires below { AreBelow node.now taken.old.end }
+    requires room { into.now.items ≤ vec_capacity cells.old }
+    ensures taken { IsSpread arcs.now node.now into.now w found.now.members taken.new.members }
+    ensures end { taken.new.end ≡ taken.old.end }
+    ensures room { taken.old.room ≤ taken.new.room }
+    ensures capacity { vec_capacity cells.old ≤ vec_capacity cells.new }
+{
+    taken.clear();
+    taken.add(w);
+    let mut before = 0;
+    while before < taken.len() {
+        before = taken.len();
+        take_round(arcs, node, into, cells, found, taken);
+    }
+}
+
+/// Takes each found node into which an arc leads from a taken one, in one round over the found nodes.
+fn take_round(
+    arcs: &[Option<u32>],
+    node: &[u32],
+    into: &Chains,
+    cells: &mut Vec<u32>,
+    found: &NumberSet,
+    taken: &mut NumberSet,
+)
+    requires ends { found.now.end ≡ taken.old.end }
+    requires lists { taken.old.end ≤ length into.now.lists }
+    requires cells { (n : ℕ) → AreCells arcs.now node.now (list_at into.now.lists n) }
+    requires below { AreBelow node.now taken.old.end }
+    requires room { into.now.items ≤ vec_capacity cells.old }
+    ensures taken { IsRoundDone arcs.now node.now into.now found.now.members taken.old taken.new }
+    ensures capacity { vec_capacity cells.old ≤ vec_capacity cells.new }
+{
+    for i in 0..found.len() {
+        take_up(found.get(i), arcs, node, into, cells, taken);
+    }
+}
+
+/// Takes the node, where an arc leads into it from a taken one.
+fn take_up(
+    n: u32,
+    arcs: &[Option<u32>],
+    node: &[u32],
+    into: &Chains,
+    cells: &mut Vec<u32>,
+    taken: &mut NumberSet,
+)
+    requires start { n < taken.old.end }
+    requires list { n < length into.now.lists }
+    requires cells { AreCells arcs.now node.now (list_at into.now.lists n) }
+    requires below { AreBelow node.now taken.old.end }
+    requires room { into.now.items ≤ vec_capacity cells.old }
+    ensures taken { IsTakenUp arcs.now node.now into.now n taken.old taken.new }
+    ensures capacity { vec_capacity cells.old ≤ vec_capacity cells.new }
+{
+    into.copy_to(n, cells);
+    if one_starts_in(cells.as_slice(), arcs, node, taken) {
+        taken.add(n);
+    }
+}
+
+/// Whether the arc of one of the cells starts in a taken node.
+fn one_starts_in(cells: &[u32], arcs: &[Option<u32>], node: &[u32], taken: &NumberSet) -> bool
+    requires cells { AreCells arcs.now node.now cells.now }
+    requires below { AreBelow node.now taken.now.end }
+    ensures { IsTrue result ↔ StartAmongIn arcs.now node.now cells.now taken.now.members }
+{
+    for c in cells {
+        if starts_in(*c, arcs, node, taken) {
+            return true;
+        }
+    }
+    false
+}
+
+/// Whether the cell has an arc that starts in a taken node.
+fn starts_in(cell: u32, arcs: &[Option<u32>], node: &[u32], taken: &NumberSet) -> bool
+    requires cell { cell < length arcs.now }
+    requires slot { cell / 8 < length node.now }
+    requires below { AreBelow node.now taken.now.end }
+    ensures { IsTrue result ↔ StartsIn arcs.now node.now cell taken.now.members }
+{
+    if arcs[cell as usize].is_none() {
+        return false;
+    }
+    taken.contains(node[cell as usize / 8])
+}
