@@ -1,16 +1,10 @@
-ghost use Rattle.std.specs.Prelude.{◌≡◌, length};
-ghost use Rattle.oper_core.specs.declared.bounds.Bounds.{Bounds};
 ghost use Rattle.op_codec.specs.AllOps.{all_meaning};
-ghost use Rattle.op_codec.specs.AllOpsLaws.{all_bounded, all_lawful};
+ghost use Rattle.op_codec.specs.AllOpsLaws.{all_bounded, all_lawful, all_widens};
 
-use op_meaning::{Append, Copy, Cut, Put, Sort, Swap};
+use btree_ops::NodeOp;
+use op_meaning::{AppRead, AppWrite, Append, Copy, Cut, Exec, Put, Sort, Swap};
 use oper_core::{Bounds, Memory, Objs, Oper, Refusal, Values};
 use std::alloc::Global;
-
-// A tag and two numbers, and a tag and three.
-const TWO_NUMBERS: u64 = 9;
-
-const THREE_NUMBERS: u64 = 13;
 
 /// An operation of a store.
 #[derive(Drop)]
@@ -21,6 +15,10 @@ pub enum AllOps {
     Cut(Cut),
     Sort(Sort),
     Swap(Swap),
+    Exec(Exec),
+    AppRead(AppRead),
+    AppWrite(AppWrite),
+    Node(NodeOp),
 }
 
 // What the operation's own type answers.
@@ -33,21 +31,22 @@ macro_rules! by_its_type {
             AllOps::Cut($op) => $answer,
             AllOps::Sort($op) => $answer,
             AllOps::Swap($op) => $answer,
+            AllOps::Exec($op) => $answer,
+            AllOps::AppRead($op) => $answer,
+            AllOps::AppWrite($op) => $answer,
+            AllOps::Node($op) => $answer,
         }
     };
 }
 
-impl AllOps {
-    /// How many bytes its code has.
-    pub fn code_length(&self) -> u64
-        ensures { (b : Bounds) → result ≡ length ((all_meaning b).code self.now) }
-    {
-        match self {
-            AllOps::Put(op) => op.code_length(),
-            AllOps::Copy(_) | AllOps::Append(_) | AllOps::Swap(_) => TWO_NUMBERS,
-            AllOps::Cut(_) | AllOps::Sort(_) => THREE_NUMBERS,
+// What a type reads, as an operation of a store.
+macro_rules! read_as {
+    ($variant:ident, $read:expr) => {
+        match $read? {
+            Some((op, length)) => Ok(Some((AllOps::$variant(op), length))),
+            None => Ok(None),
         }
-    }
+    };
 }
 
 impl Oper for AllOps {
@@ -73,33 +72,37 @@ impl Oper for AllOps {
         by_its_type!(self, op => op.apply(alloc, b, values))
     }
 
+    fn code_length(&self) -> u64 {
+        by_its_type!(self, op => op.code_length())
+    }
+
     fn encode(&self, out: &mut Vec<u8>) -> Result<(), Memory> {
         by_its_type!(self, op => op.encode(out))
     }
 
+    // The tag says which type may read the bytes.
     fn decode(alloc: Global, b: Bounds, bytes: &[u8]) -> Result<Option<(Self, usize)>, Memory> {
-        if let Some((op, length)) = Put::decode(alloc, b, bytes)? {
-            return Ok(Some((AllOps::Put(op), length)));
+        let Some(tag) = bytes.first() else {
+            return Ok(None);
+        };
+        match *tag {
+            1 => read_as!(Put, Put::decode(alloc, b, bytes)),
+            2 => read_as!(Copy, Copy::decode(alloc, b, bytes)),
+            3 => read_as!(Append, Append::decode(alloc, b, bytes)),
+            4 => read_as!(Cut, Cut::decode(alloc, b, bytes)),
+            5 => read_as!(Sort, Sort::decode(alloc, b, bytes)),
+            6 => read_as!(Swap, Swap::decode(alloc, b, bytes)),
+            7 => read_as!(Exec, Exec::decode(alloc, b, bytes)),
+            8 => read_as!(AppRead, AppRead::decode(alloc, b, bytes)),
+            9 => read_as!(AppWrite, AppWrite::decode(alloc, b, bytes)),
+            10..=13 => read_as!(Node, NodeOp::decode(alloc, b, bytes)),
+            _ => Ok(None),
         }
-        if let Some((op, length)) = Copy::decode(alloc, b, bytes)? {
-            return Ok(Some((AllOps::Copy(op), length)));
-        }
-        if let Some((op, length)) = Append::decode(alloc, b, bytes)? {
-            return Ok(Some((AllOps::Append(op), length)));
-        }
-        if let Some((op, length)) = Cut::decode(alloc, b, bytes)? {
-            return Ok(Some((AllOps::Cut(op), length)));
-        }
-        if let Some((op, length)) = Sort::decode(alloc, b, bytes)? {
-            return Ok(Some((AllOps::Sort(op), length)));
-        }
-        if let Some((op, length)) = Swap::decode(alloc, b, bytes)? {
-            return Ok(Some((AllOps::Swap(op), length)));
-        }
-        Ok(None)
     }
 
     ghost bounded = { all_bounded };
 
     ghost lawful = { all_lawful };
+
+    ghost widens = { all_widens };
 }

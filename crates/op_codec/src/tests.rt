@@ -1,7 +1,8 @@
 ghost use Rattle.std.specs.Prelude.{◌≡◌, ◌≤◌, All, IfOk, length};
 
 use crate::AllOps;
-use op_meaning::{Append, Copy, Cut, Put, Sort, Swap};
+use btree_ops::{NodeOp, Short};
+use op_meaning::{AppRead, AppWrite, Append, Copy, Cut, Exec, Put, Sort, Swap};
 use oper_core::{Bounds, ByteList, Oper, Refusal, Values};
 use std::alloc::{AllocError, Global};
 use std::test::Fail;
@@ -280,6 +281,7 @@ fn code_of<O: Oper>(alloc: Global, b: Bounds, op: &O) -> Result<Vec<u8>, Fail> {
 #[test]
 fn each_tag_is_read_as_its_operation(rt: HostRuntime) -> Result<(), Fail> {
     let alloc = rt.alloc();
+    let key = Short::new(b"k").ok_or("no key")?;
     for (tag, op) in vec![in alloc;
         (1, put(alloc, 3, b"\x02\x03")?),
         (2, copy(3, 1)),
@@ -287,6 +289,34 @@ fn each_tag_is_read_as_its_operation(rt: HostRuntime) -> Result<(), Fail> {
         (4, cut(3, 1, 2)),
         (5, sort(3, 1, 2)),
         (6, swap(3, 1)),
+        (7, AllOps::Exec(Exec { app: 3 })),
+        (8, AllOps::AppRead(AppRead { app: 3, from: 1 })),
+        (9, AllOps::AppWrite(AppWrite { app: 3, to: 1 })),
+        (
+            10,
+            AllOps::Node(NodeOp::Put {
+                object: 3,
+                key,
+                value: key
+            })
+        ),
+        (11, AllOps::Node(NodeOp::Delete { object: 3, key })),
+        (
+            12,
+            AllOps::Node(NodeOp::SplitChild {
+                parent: 3,
+                child: 1,
+                new: 2
+            })
+        ),
+        (
+            13,
+            AllOps::Node(NodeOp::SplitRoot {
+                root: 3,
+                left: 1,
+                right: 2
+            })
+        ),
     ]? {
         let mut code = code_of(alloc, EIGHT, &op)?;
         let length = code.len();
@@ -306,8 +336,8 @@ fn other_bytes_are_no_code(rt: HostRuntime) -> Result<(), Fail> {
         (b"".as_slice(), "nothing"),
         (b"\0\x03\0\0\0\x01\0\0\0\x02\0\0\0".as_slice(), "the tag 0"),
         (
-            b"\x07\x03\0\0\0\x01\0\0\0\x02\0\0\0".as_slice(),
-            "the tag 7",
+            b"\x0e\x03\0\0\0\x01\0\0\0\x02\0\0\0".as_slice(),
+            "the tag 14",
         ),
         (b"\x02\x03\0\0\0\x01\0\0".as_slice(), "a cut copy"),
         (b"\x04\x03\0\0\0\x01\0\0\0\x02\0\0".as_slice(), "a cut cut"),

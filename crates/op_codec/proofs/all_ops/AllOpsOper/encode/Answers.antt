@@ -17,3 +17,15 @@ returns-in-Sort-clause-ok c = λ b. rw c.in-Sort.is (c.encode-in-Sort.ensures.ok
 
 pub returns-in-Swap-clause-ok : goal.returns-in-Swap-clause-ok
 returns-in-Swap-clause-ok c = λ b. rw c.in-Swap.is (c.encode-in-Swap.ensures.ok b)
+
+pub returns-in-Exec-clause-ok : goal.returns-in-Exec-clause-ok
+returns-in-Exec-clause-ok c = λ b. rw c.in-Exec.is (c.encode-in-Exec.ensures.ok b)
+
+pub returns-in-AppRead-clause-ok : goal.returns-in-AppRead-clause-ok
+returns-in-AppRead-clause-ok c = λ b. rw c.in-AppRead.is (c.encode-in-AppRead.ensures.ok b)
+
+pub returns-in-AppWrite-clause-ok : goal.returns-in-AppWrite-clause-ok
+returns-in-AppWrite-clause-ok c = λ b. rw c.in-AppWrite.is (c.encode-in-AppWrite.ensures.ok b)
+
+pub returns-in-Node-clause-ok : goal.returns-in-Node-clause-ok
+returns-in-Node-clause-ok c = λ b. rw c.in-Node.is (c.encode-in-Node.ensures.ok b)

@@ -17,3 +17,15 @@ returns-in-Sort c = λ b. rw c.in-Sort.is (c.reads-in-Sort.ensures b)
 
 pub returns-in-Swap : goal.returns-in-Swap
 returns-in-Swap c = λ b. rw c.in-Swap.is (c.reads-in-Swap.ensures b)
+
+pub returns-in-Exec : goal.returns-in-Exec
+returns-in-Exec c = λ b. rw c.in-Exec.is (c.reads-in-Exec.ensures b)
+
+pub returns-in-AppRead : goal.returns-in-AppRead
+returns-in-AppRead c = λ b. rw c.in-AppRead.is (c.reads-in-AppRead.ensures b)
+
+pub returns-in-AppWrite : goal.returns-in-AppWrite
+returns-in-AppWrite c = λ b. rw c.in-AppWrite.is (c.reads-in-AppWrite.ensures b)
+
+pub returns-in-Node : goal.returns-in-Node
+returns-in-Node c = λ b. rw c.in-Node.is (c.reads-in-Node.ensures b)

@@ -17,3 +17,15 @@ returns-in-Sort c = λ b. rw c.in-Sort.is (c.writes-in-Sort.ensures b)
 
 pub returns-in-Swap : goal.returns-in-Swap
 returns-in-Swap c = λ b. rw c.in-Swap.is (c.writes-in-Swap.ensures b)
+
+pub returns-in-Exec : goal.returns-in-Exec
+returns-in-Exec c = λ b. rw c.in-Exec.is (c.writes-in-Exec.ensures b)
+
+pub returns-in-AppRead : goal.returns-in-AppRead
+returns-in-AppRead c = λ b. rw c.in-AppRead.is (c.writes-in-AppRead.ensures b)
+
+pub returns-in-AppWrite : goal.returns-in-AppWrite
+returns-in-AppWrite c = λ b. rw c.in-AppWrite.is (c.writes-in-AppWrite.ensures b)
+
+pub returns-in-Node : goal.returns-in-Node
+returns-in-Node c = λ b. rw c.in-Node.is (c.writes-in-Node.ensures b)

@@ -1,0 +1,31 @@
+use Rattle.op_codec.proofs.all_ops.AllOpsOper.code_length.Goals as goal
+
+pub returns-in-Put : goal.returns-in-Put
+returns-in-Put c = λ b. rw c.in-Put.is (c.code_length.ensures b)
+
+pub returns-in-Copy : goal.returns-in-Copy
+returns-in-Copy c = λ b. rw c.in-Copy.is (c.code_length-in-Copy.ensures b)
+
+pub returns-in-Append : goal.returns-in-Append
+returns-in-Append c = λ b. rw c.in-Append.is (c.code_length-in-Append.ensures b)
+
+pub returns-in-Cut : goal.returns-in-Cut
+returns-in-Cut c = λ b. rw c.in-Cut.is (c.code_length-in-Cut.ensures b)
+
+pub returns-in-Sort : goal.returns-in-Sort
+returns-in-Sort c = λ b. rw c.in-Sort.is (c.code_length-in-Sort.ensures b)
+
+pub returns-in-Swap : goal.returns-in-Swap
+returns-in-Swap c = λ b. rw c.in-Swap.is (c.code_length-in-Swap.ensures b)
+
+pub returns-in-Exec : goal.returns-in-Exec
+returns-in-Exec c = λ b. rw c.in-Exec.is (c.code_length-in-Exec.ensures b)
+
+pub returns-in-AppRead : goal.returns-in-AppRead
+returns-in-AppRead c = λ b. rw c.in-AppRead.is (c.code_length-in-AppRead.ensures b)
+
+pub returns-in-AppWrite : goal.returns-in-AppWrite
+returns-in-AppWrite c = λ b. rw c.in-AppWrite.is (c.code_length-in-AppWrite.ensures b)
+
+pub returns-in-Node : goal.returns-in-Node
+returns-in-Node c = λ b. rw c.in-Node.is (c.code_length-in-Node.ensures b)
