@@ -21,7 +21,7 @@ some-is j = search rules
 none-some : (j : ℕ) → None ≡ Some j → ⊥
 none-some j e = cc
 
-same-nodes : (E : ℕ → ℕ → Type 0) (f g : ℕ → ℕ) → ((i : ℕ) → g i ≡ f i) → AreNodes E f → AreNodes E g
+pub same-nodes : (E : ℕ → ℕ → Type 0) (f g : ℕ → ℕ) → ((i : ℕ) → g i ≡ f i) → AreNodes E f → AreNodes E g
 same-nodes E f g same are i j = (
   (λ e. (are i j).0 (sym (same i) ∙ e ∙ same j)),
   (λ joined. same i ∙ (are i j).1 joined ∙ sym (same j)),

@@ -1,5 +1,5 @@
 -- What a graph of slots keeps.
-use Rattle.std.specs.Prelude.{◌≡◌, ℕ, ◌*◌, ◌<◌, ◌≤◌, ◌/◌, ◌⊎◌, IsTrue, IsFalse, List, [], length, Option, Some}
+use Rattle.std.specs.Prelude.{◌≡◌, ℕ, ◌*◌, ◌<◌, ◌≤◌, ◌/◌, ◌⊎◌, IsTrue, IsFalse, ◌+◌, ◌++◌, ◌∷◌, replicate, List, [], length, Option, None, Some}
 use Rattle.oper_core.specs.State.{is_among}
 use Rattle.sparse_order.specs.Digraph.{AreNodes}
 use Rattle.number_lists.specs.Lists.{Lists, list_at}
@@ -43,3 +43,19 @@ AreOnWay arcs node into v w ns = (found : List ℕ) × IsSearched arcs node into
 abbrev pub AreJoined : List (Option ℕ) → ℕ → ℕ → List ℕ → List ℕ → Lists → Lists → Lists → Lists → Type 0
 AreJoined arcs v w old_node new_node old_members new_members old_into new_into =
     (ns : List ℕ) × AreOnWay arcs old_node old_into v w ns × AreRenamed (gathered ns w) old_node new_node old_members new_members old_into new_into
+
+-- the cells of one more slot, which have no arcs
+abbrev pub no_arcs : ℕ → List (Option ℕ)
+no_arcs n = replicate n None
+
+-- one more slot, whose cells have no arcs, and which is a node by itself
+pub record IsSlotAdded (old new : Graph) : Type 0 where
+  pub arcs : new.arcs ≡ old.arcs ++ no_arcs 8
+  pub node : new.node ≡ old.node ++ length old.node ∷ []
+
+-- so many more cells, which have no arcs and are in no list
+pub record AreCellsAdded (n : ℕ) (old new : List (Option ℕ)) (old_into new_into : Lists) : Type 0 where
+  pub arcs : new ≡ old ++ no_arcs n
+  pub here : (j : ℕ) → list_at new_into.lists j ≡ list_at old_into.lists j
+  pub lists : length new_into.lists ≡ length old_into.lists
+  pub items : new_into.items ≡ old_into.items + n

@@ -1,15 +1,16 @@
-ghost use Rattle.std.specs.Prelude.{◌≡◌, ℕ, ◌<◌, ◌≤◌, ◌/◌, [], None, Some, length, slice_set, IfSome};
-ghost use Rattle.std.specs.Vec.{vec_capacity};
+ghost use Rattle.std.specs.Prelude.{◌≡◌, ℕ, ◌<◌, ◌≤◌, ◌+◌, ◌/◌, ◌^◌, [], None, Some, length, slice_set, OnOk, OnErr};
+ghost use Rattle.std.specs.Vec.{vec_len, vec_capacity};
 ghost use Rattle.number_lists.specs.Lists.{list_at};
 ghost use Rattle.sparse_order.specs.Digraph.{AreNodes};
 ghost use Rattle.graph_nodes.specs.Arcs.{AreCells, AreBelow, IsArc, arc_at, node_at};
 ghost use Rattle.graph_nodes.specs.Merge.{IsFiled};
-ghost use Rattle.graph_nodes.specs.Kept.{AreJoined};
+ghost use Rattle.graph_nodes.specs.Kept.{AreJoined, IsSlotAdded, AreCellsAdded};
 
 use crate::merging::merge;
 use crate::search::search_back;
 use crate::spreading::spread;
-use number_lists::{Chains, NumberSet};
+use number_lists::{Chains, NumberSet, push_in_room};
+use oper_core::Memory;
 use std::alloc::Global;
 use std::marker::Model;
 
@@ -55,6 +56,32 @@ impl SlotGraph {
             taken: NumberSet::new(alloc),
             scratch: Vec::new(alloc),
         }
+    }
+
+    /// Adds a slot whose cells have no arcs. Nothing changes where memory is wanting.
+    pub fn add_slot(&mut self) -> Result<(), Memory>
+        requires { length self.old.node < 2 ^ 28 }
+        ensures added { OnOk result (IsSlotAdded self.old self.new) }
+        ensures same { OnErr result (self.new ≡ self.old) }
+    {
+        self.arcs.reserve(8)?;
+        self.node.reserve(1)?;
+        self.members.make_room(1, 1)?;
+        self.into.make_room(1, 8)?;
+        self.found.make_room()?;
+        self.taken.make_room()?;
+        self.scratch.clear();
+        self.scratch.reserve(self.arcs.len() + 8)?;
+        let slot = self.node.len() as u32;
+        push_in_room(&mut self.node, slot);
+        self.members.add_list();
+        self.members.add_item();
+        self.members.push(slot, slot);
+        self.into.add_list();
+        add_cells(&mut self.arcs, &mut self.into);
+        self.found.add_number();
+        self.taken.add_number();
+        Ok(())
     }
 
     /// The slot that stands for the node of this one: two slots have the same exactly if they reach each other.
@@ -125,4 +152,16 @@ fn join(
     }
     spread(w, arcs, node, into, cells, found, taken);
     merge(w, taken, node, members, into, cells);
+}
+
+/// Adds eight cells without arcs.
+fn add_cells(arcs: &mut Vec<Option<u32>>, into: &mut Chains)
+    requires arcs { vec_len arcs.old + 8 ≤ vec_capacity arcs.old }
+    requires into { 8 ≤ into.old.item_room }
+    ensures { AreCellsAdded 8 arcs.old.items arcs.new.items into.old into.new }
+{
+    for i in 0..8u32 {
+        push_in_room(arcs, None);
+        into.add_item();
+    }
 }
