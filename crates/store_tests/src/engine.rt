@@ -43,14 +43,17 @@ impl Store {
         })
     }
 
-    // Gives a value to an object.
-    fn put(&mut self, object: u32, value: &[u8]) -> Result<Result<u64, ExecErr>, Fail> {
-        let value = ByteList::new(value.to_vec(self.alloc)?);
+    // Gives a value to an object. Want of memory for the value is told as the engine tells its own.
+    fn put(&mut self, object: u32, value: &[u8]) -> Result<u64, ExecErr> {
+        let Ok(value) = value.to_vec(self.alloc) else {
+            return Err(ExecErr::Memory);
+        };
         if self.engine.is_broken() {
-            return Ok(Err(ExecErr::DiskFault));
+            return Err(ExecErr::DiskFault);
         }
+        let value = ByteList::new(value);
         let op = AllOps::Put(Put { object, value });
-        Ok(self.engine.exec(&mut self.machine, op))
+        self.engine.exec(&mut self.machine, op)
     }
 
     // Forces, on a machine that fails after so many calls. It tells whether the force succeeds, and gives the machine.
@@ -74,20 +77,21 @@ impl Store {
 }
 
 // A store with a forced put of object 3, opened again, and a second put that waits.
-fn two_puts(alloc: Global) -> Result<Store, Fail> {
+fn two_puts(alloc: Global) -> Result<(bool, Store), Fail> {
     let mut store = Store::new(alloc)?;
-    store.put(3, b"first")??;
-    let (_, machine) = store.force(4);
+    let first = store.put(3, b"first").is_ok();
+    let (forced, machine) = store.force(4);
     let mut again = Store::open(alloc, machine)?;
-    again.put(3, b"second")??;
-    Ok(again)
+    let second = again.put(3, b"second").is_ok();
+    Ok((first & forced & second, again))
 }
 
 // Whether a force that is stopped after so many of its four calls is whole, and object 3 has this value after a crash.
 fn keeps(alloc: Global, calls: u64, how: Crash, value: &[u8]) -> Result<bool, Fail> {
-    let (whole, machine) = two_puts(alloc)?.force(calls);
+    let (done, store) = two_puts(alloc)?;
+    let (whole, machine) = store.force(calls);
     let mut again = Store::open(alloc, machine.crash(how))?;
-    Ok(whole == (calls == 4) && again.holds(3, value))
+    Ok(done & again.holds(3, value) & (whole == (calls == 4)))
 }
 
 // After how many calls a force is stopped, what a crash then leaves of unsynced bytes, and the value that is found.
@@ -113,7 +117,7 @@ fn a_stopped_force_keeps_all_or_none(rt: HostRuntime) -> Result<(), Fail> {
 fn full_log(alloc: Global) -> Result<Store, Fail> {
     let mut store = Store::new(alloc)?;
     for _ in 0..120 {
-        store.put(0, SIXTEEN)??;
+        let _ = store.put(0, SIXTEEN);
     }
     Ok(store)
 }
@@ -132,9 +136,10 @@ fn is_full_at_the_end(answer: Result<u64, ExecErr>) -> bool {
 // Whether the next put finds the log full, and forces those before it.
 fn says_full(alloc: Global) -> Result<bool, Fail> {
     let mut store = full_log(alloc)?;
-    let full = is_full_at_the_end(store.put(1, SIXTEEN)?);
+    let full = is_full_at_the_end(store.put(1, SIXTEEN));
     let mut again = Store::open(alloc, store.machine.crash(Crash::Old))?;
-    Ok(full && again.holds(0, SIXTEEN) && again.holds(1, b""))
+    let values = [again.holds(0, SIXTEEN), again.holds(1, b"")];
+    Ok(full & (values == [true; 2]))
 }
 
 #[test]
@@ -143,35 +148,36 @@ fn a_full_log_is_forced(rt: HostRuntime) -> Result<(), Fail> {
     Ok(())
 }
 
-// The calls to the device that a put and the look at three objects take.
-fn calls_taken(alloc: Global) -> Result<u64, Fail> {
+// Whether a put and the look at three objects succeed, and the calls to the device that they take.
+fn calls_taken(alloc: Global) -> Result<([bool; 4], u64), Fail> {
     let mut store = Store::new(alloc)?;
     let before = store.machine.calls();
-    store.put(0, b"value")??;
-    let seen = store.holds(0, b"value") && store.holds(1, b"") && store.holds(3, b"");
-    let after = if seen {
-        store.machine.calls()
-    } else {
-        u64::MAX
-    };
-    Ok(after.saturating_sub(before))
+    let done = [
+        store.put(0, b"value").is_ok(),
+        store.holds(0, b"value"),
+        store.holds(1, b""),
+        store.holds(3, b""),
+    ];
+    Ok((done, store.machine.calls().saturating_sub(before)))
 }
 
 #[test]
 fn what_is_cached_or_in_no_slot_costs_no_call(rt: HostRuntime) -> Result<(), Fail> {
-    assert!(rt; calls_taken(rt.alloc())? == 0);
+    assert!(rt; calls_taken(rt.alloc())? == ([true; 4], 0));
     Ok(())
 }
 
 // A store of two forced puts, to the objects 0 and 1, and an open slot of object 1 with this identifier and `zz`.
-fn with_open_slot(alloc: Global, identifier: u8) -> Result<MemMachine, Fail> {
+fn with_open_slot(alloc: Global, identifier: u8) -> Result<(bool, MemMachine), Fail> {
     let mut store = Store::new(alloc)?;
-    store.put(0, b"first")??;
-    store.put(1, b"second")??;
-    let (_, mut machine) = store.force(4);
+    let puts = [
+        store.put(0, b"first").is_ok(),
+        store.put(1, b"second").is_ok(),
+    ];
+    let (forced, mut machine) = store.force(4);
     let slot = [1, identifier, 0, 0, 0, 0, 0, 0, 0, 2, 0, 0, 0, b'z', b'z'];
-    machine.write_at(FileNo::Objects, 90, &slot)?;
-    Ok(machine)
+    let written = machine.write_at(FileNo::Objects, 90, &slot).is_ok();
+    Ok((forced & written & (puts == [true; 2]), machine))
 }
 
 fn is_damaged_at_91(cause: Option<RestartErr>) -> bool {
@@ -186,11 +192,12 @@ fn is_damaged_at_91(cause: Option<RestartErr>) -> bool {
 
 // Whether object 1 then has this value, or the slot is damaged where there is no value.
 fn finds(alloc: Global, identifier: u8, value: Option<&[u8]>) -> Result<bool, Fail> {
-    let mut machine = with_open_slot(alloc, identifier)?;
-    match value {
-        Some(value) => Ok(Store::open(alloc, machine)?.holds(1, value)),
-        None => Ok(is_damaged_at_91(Engine::<AllOps>::restart(alloc, &mut machine, TUNING).err())),
-    }
+    let (done, mut machine) = with_open_slot(alloc, identifier)?;
+    let found = match value {
+        Some(value) => Store::open(alloc, machine)?.holds(1, value),
+        None => is_damaged_at_91(Engine::<AllOps>::restart(alloc, &mut machine, TUNING).err()),
+    };
+    Ok(done & found)
 }
 
 #[test]
