@@ -17,8 +17,6 @@ mod next;
 mod number;
 mod read_error;
 mod reader;
-#[cfg(test)]
-mod tests;
 mod words;
 
 pub use answer::{Answer, answer_line, answer_text};

@@ -1,6 +1,6 @@
-//! A test crate: the tests of redo_shell. The library is empty.
+//! A test crate: the tests of redo_shell and script_lines. The library is empty.
 //!
-//! They stand apart so that the proofs of that crate are made once, and not a second time with its tests. Whole scripts
+//! They stand apart so that the proofs of those crates are made once, and not a second time with their tests. Whole scripts
 //! with their answers are rows of constant tables; the examples hold more of them, which the built program runs.
 #![tactic(auto)]
 
@@ -8,6 +8,8 @@
 mod faults;
 #[cfg(test)]
 mod files;
+#[cfg(test)]
+mod lines;
 #[cfg(test)]
 mod rows;
 #[cfg(test)]

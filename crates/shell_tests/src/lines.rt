@@ -1,12 +1,13 @@
+// What no clause says of lines: that calls succeed with ample memory, and worked rows.
 ghost use Rattle.std.specs.Prelude.{⊤, []};
 
-use crate::{
-    Answer, Asked, Bad, Line, LineReader, Next, ReadError, answer_line, answer_text, hex_bytes,
-    parse_line, read_words,
-};
 use disk_model::{Failed, Source};
 use formats::Params;
 use oper_core::Refusal;
+use script_lines::{
+    Answer, Asked, Bad, Line, LineReader, Next, ReadError, answer_line, answer_text, hex_bytes,
+    parse_line, read_words,
+};
 use std::alloc::Global;
 
 // A line of each form, and what it asks.
