@@ -1,6 +1,6 @@
 -- Each operation of the table is lawful.
 use Rattle.std.proofs.Common.{◌<◌, ◌≡◌, ◌≤◌, ℕ, ◌+◌, List, [], ◌∷◌, ◌++◌, length, take, drop, slice_index, refl, inl, inr, arith, length-append, length-drop, length-take}
-use Rattle.std.specs.Prelude.{Option, None, Some, Bool, true, is_some, unwrap_or, All, nat_le, nat_lt}
+use Rattle.std.specs.Prelude.{Option, None, Some, true, is_some, unwrap_or, All, nat_le, nat_lt}
 use Rattle.std.specs.List.{concat}
 use Rattle.std.proofs.lemmas.Bool.{le-leb, leb-true, ltb-true}
 use Rattle.std.proofs.lemmas.List.Elements.{All-head, All-tail}
