@@ -3,12 +3,12 @@ use Rattle.std.proofs.Common.{◌≡◌, ◌≢◌, ◌⊎◌, ⊎_elim, ◌↔�
 use Rattle.formats.specs.declared.params.Params.{Params}
 use Rattle.oper_core.specs.declared.refusal.Refusal.{Refusal}
 use Rattle.oper_core.specs.declared.refusal.Refusal.TheVariants.{NoObject}
-use Rattle.op_codec.specs.declared.all_ops.AllOps.TheVariants.{Put, Copy, Append, Cut, Sort, Swap}
+use Rattle.op_codec.specs.declared.all_ops.AllOps.TheVariants.{Put, Copy, Append, Cut, Sort, Swap, Exec, AppRead, AppWrite, Node}
 use Rattle.script_lines.specs.Grammar.{Request, put, copy, append, cut, sort, swap, get, force, skip, AsksFor, IsBad}
 use Rattle.script_lines.specs.Replies.{Reply, ok, value, forced, bad, refused, full, end, object_value, command_count, silence}
 use Rattle.store_engine.specs.Engine.{LogLength, grown}
 use Rattle.redo_shell.specs.Store.{Command, refusal_after, state_of, record_length, Fits}
-use Rattle.redo_shell.specs.Replies.{request_for, AsksCommand, Replies, IsFull}
+use Rattle.redo_shell.specs.Replies.{AsksCommand, Replies, IsFull}
 use Rattle.redo_shell.specs.Lengths.{GoesBy}
 
 -- the kinds of request told apart by a number, and what they ask
@@ -67,23 +67,47 @@ bytes_of (get x) = []
 bytes_of force = []
 bytes_of skip = []
 
-command_kind : (op : Command) → kind (request_for op) < 6
-command_kind (Put op) = omega arith
-command_kind (Copy op) = omega arith
-command_kind (Append op) = omega arith
-command_kind (Cut op) = omega arith
-command_kind (Sort op) = omega arith
-command_kind (Swap op) = omega arith
+-- the request for a command; one that no line asks for has none of its own
+abbrev request_for : Command → Request
+request_for (Put op) = put op.object op.value
+request_for (Copy op) = copy op.from op.to
+request_for (Append op) = append op.from op.to
+request_for (Cut op) = cut op.from op.to op.place
+request_for (Sort op) = sort op.from op.to op.width
+request_for (Swap op) = swap op.first op.second
+request_for op = skip
+
+asked : (line : List ℕ) (op : Command) → AsksCommand line op → AsksFor line (request_for op)
+asked line (Put op) asks = asks
+asked line (Copy op) asks = asks
+asked line (Append op) asks = asks
+asked line (Cut op) asks = asks
+asked line (Sort op) asks = asks
+asked line (Swap op) asks = asks
+asked line op asks = absurd asks
+
+command_kind : (line : List ℕ) (op : Command) → AsksCommand line op → kind (request_for op) < 6
+command_kind line (Put op) asks = omega arith
+command_kind line (Copy op) asks = omega arith
+command_kind line (Append op) asks = omega arith
+command_kind line (Cut op) asks = omega arith
+command_kind line (Sort op) asks = omega arith
+command_kind line (Swap op) asks = omega arith
+command_kind line op asks = absurd asks
 
 -- a request is for one command
-same_command : (a b : Command) → request_for a ≡ request_for b → a ≡ b
-same_command (Put a) (Put b) same = λ i. Put (record { object = first_of (same i); value = bytes_of (same i) })
-same_command (Copy a) (Copy b) same = λ i. Copy (record { from = first_of (same i); to = second_of (same i) })
-same_command (Append a) (Append b) same = λ i. Append (record { from = first_of (same i); to = second_of (same i) })
-same_command (Cut a) (Cut b) same = λ i. Cut (record { from = first_of (same i); to = second_of (same i); place = third_of (same i) })
-same_command (Sort a) (Sort b) same = λ i. Sort (record { from = first_of (same i); to = second_of (same i); width = third_of (same i) })
-same_command (Swap a) (Swap b) same = λ i. Swap (record { first = first_of (same i); second = second_of (same i) })
-same_command a b same = let like = ap kind same in absurd (omega (arith, like))
+same_command : (line : List ℕ) (a b : Command) → AsksCommand line a → AsksCommand line b → request_for a ≡ request_for b → a ≡ b
+same_command line (Put a) (Put b) x y same = λ i. Put (record { object = first_of (same i); value = bytes_of (same i) })
+same_command line (Copy a) (Copy b) x y same = λ i. Copy (record { from = first_of (same i); to = second_of (same i) })
+same_command line (Append a) (Append b) x y same = λ i. Append (record { from = first_of (same i); to = second_of (same i) })
+same_command line (Cut a) (Cut b) x y same = λ i. Cut (record { from = first_of (same i); to = second_of (same i); place = third_of (same i) })
+same_command line (Sort a) (Sort b) x y same = λ i. Sort (record { from = first_of (same i); to = second_of (same i); width = third_of (same i) })
+same_command line (Swap a) (Swap b) x y same = λ i. Swap (record { first = first_of (same i); second = second_of (same i) })
+same_command line (Exec a) b x y same = absurd x
+same_command line (AppRead a) b x y same = absurd x
+same_command line (AppWrite a) b x y same = absurd x
+same_command line (Node a) b x y same = absurd x
+same_command line a b x y same = let like = ap kind same in absurd (omega (arith, like))
 
 module _ (p : Params) (commands : List Command) (line : List ℕ) where
   -- the line asks for a command that gets this refusal, or for an object that there is not
@@ -92,18 +116,18 @@ module _ (p : Params) (commands : List Command) (line : List ℕ) where
 
   asks_some : (why : Refusal) → IsRefused why → IsBad line → ⊥
   asks_some why is none = ⊎_elim
-      (λ (c : (op : Command) × AsksCommand line op × (refusal_after p commands op ≡ Some why)). none (request_for c.0) c.1)
+      (λ (c : (op : Command) × AsksCommand line op × (refusal_after p commands op ≡ Some why)). none (request_for c.0) (asked line c.0 c.1))
       (λ (g : (object : ℕ) × AsksFor line (get object) × (p.objects ≤ object) × (why ≡ NoObject)). none (get g.0) g.1)
       is
 
   pub bad_exactly : (reply : Reply) (added : List Command) → Replies p commands line reply added → (reply ≡ bad) ↔ IsBad line
-  bad_exactly ok added is = (λ e. cc, λ none. absurd (none (request_for is.0) is.1))
+  bad_exactly ok added is = (λ e. cc, λ none. absurd (none (request_for is.0) (asked line is.0 is.1)))
   bad_exactly (value bytes) added is = (λ e. cc, λ none. absurd (none (get is.0) is.1))
   bad_exactly (forced n) added is = (λ e. cc, λ none. absurd (none force is.0))
   bad_exactly bad added is = (λ e. is.0, λ none. refl)
   bad_exactly (refused why) added is = (λ e. cc, λ none. absurd (asks_some why is.0 none))
-  bad_exactly (full used need limit) added is = (λ e. cc, λ none. absurd (none (request_for is.0.0) is.0.1))
-  bad_exactly (end number) added is = (λ e. cc, λ none. absurd (none (request_for is.0.0) is.0.1))
+  bad_exactly (full used need limit) added is = (λ e. cc, λ none. absurd (none (request_for is.0.0) (asked line is.0.0 is.0.1)))
+  bad_exactly (end number) added is = (λ e. cc, λ none. absurd (none (request_for is.0.0) (asked line is.0.0 is.0.1)))
   bad_exactly silence added is = (λ e. cc, λ none. absurd (none skip is.0))
   bad_exactly (object_value object bytes) added is = absurd is
   bad_exactly (command_count n) added is = absurd is
@@ -114,13 +138,13 @@ module _ (p : Params) (commands : List Command) (line : List ℕ) where
     clash a b x y other = other (ap kind (one a b x y))
 
     not_get : (op : Command) (object : ℕ) → AsksCommand line op → AsksFor line (get object) → ⊥
-    not_get op object asks get_asked = clash (request_for op) (get object) asks get_asked (λ e. let low = command_kind op in omega (arith, e, low))
+    not_get op object asks get_asked = clash (request_for op) (get object) (asked line op asks) get_asked (λ e. let low = command_kind line op asks in omega (arith, e, low))
 
     not_force : (op : Command) → AsksCommand line op → AsksFor line force → ⊥
-    not_force op asks force_asked = clash (request_for op) force asks force_asked (λ e. let low = command_kind op in omega (arith, e, low))
+    not_force op asks force_asked = clash (request_for op) force (asked line op asks) force_asked (λ e. let low = command_kind line op asks in omega (arith, e, low))
 
     not_skip : (op : Command) → AsksCommand line op → AsksFor line skip → ⊥
-    not_skip op asks skip_asked = clash (request_for op) skip asks skip_asked (λ e. let low = command_kind op in omega (arith, e, low))
+    not_skip op asks skip_asked = clash (request_for op) skip (asked line op asks) skip_asked (λ e. let low = command_kind line op asks in omega (arith, e, low))
 
     get_force : (object : ℕ) → AsksFor line (get object) → AsksFor line force → ⊥
     get_force object asked other = clash (get object) force asked other (λ e. omega (arith, e))
@@ -135,7 +159,7 @@ module _ (p : Params) (commands : List Command) (line : List ℕ) where
     same_object a b x y = ap first_of (one (get a) (get b) x y)
 
     one_command : (a b : Command) → AsksCommand line a → AsksCommand line b → a ≡ b
-    one_command a b x y = same_command a b (one (request_for a) (request_for b) x y)
+    one_command a b x y = same_command line a b x y (one (request_for a) (request_for b) (asked line a x) (asked line b y))
 
     not_refused : (a b : Command) (why : Refusal) → AsksCommand line a → AsksCommand line b → refusal_after p commands a ≡ None → refusal_after p commands b ≡ Some why → ⊥
     not_refused a b why x y none some =
@@ -152,7 +176,7 @@ module _ (p : Params) (commands : List Command) (line : List ℕ) where
     refused_exactly ok added op why is asks = (λ e. cc, λ some. absurd (not_refused is.0 op why is.1 asks is.2 some))
     refused_exactly (value bytes) added op why is asks = absurd (not_get op is.0 asks is.1)
     refused_exactly (forced n) added op why is asks = absurd (not_force op asks is.0)
-    refused_exactly bad added op why is asks = absurd (is.0 (request_for op) asks)
+    refused_exactly bad added op why is asks = absurd (is.0 (request_for op) (asked line op asks))
     refused_exactly (refused other) added op why is asks =
         let mine = same_refusal op other asks is.0 in
         (λ e. cc (e, mine), λ some. cc (some, mine))
@@ -230,17 +254,17 @@ module _ (p : Params) (commands : List Command) (line : List ℕ) where
 
     fits_not : (op same : Command) (log : LogLength) → AsksCommand line op → AsksCommand line same → Fits p log op → p.limit < grown log (record_length p same) → ⊥
     fits_not op same log asks asks_same fits over =
-        let is = same_command op same (one (request_for op) (request_for same) asks asks_same) in
+        let is = one_command op same asks asks_same in
         let fits_same : grown log (record_length p same) ≤ p.limit = subst (λ (o : Command). Fits p log o) is fits in
         omega (arith, fits_same, over)
 
     over_same : (op same : Command) (log : LogLength) → AsksCommand line op → AsksCommand line same → p.limit < grown log (record_length p op) → p.limit < grown log (record_length p same)
-    over_same op same log asks asks_same over = subst (λ (o : Command). p.limit < grown log (record_length p o)) (same_command op same (one (request_for op) (request_for same) asks asks_same)) over
+    over_same op same log asks asks_same over = subst (λ (o : Command). p.limit < grown log (record_length p o)) (one_command op same asks asks_same) over
 
     accepted_not : (why : Refusal) (op : Command) → AsksCommand line op → refusal_after p commands op ≡ None → IsRefused why → ⊥
     accepted_not why op asks none is = ⊎_elim
         (λ (c : (o : Command) × AsksCommand line o × (refusal_after p commands o ≡ Some why)).
-        let same = same_command c.0 op (one (request_for c.0) (request_for op) c.1 asks) in
+        let same = one_command c.0 op c.1 asks in
         let here : refusal_after p commands op ≡ Some why = subst (λ (o : Command). refusal_after p commands o ≡ Some why) same c.2 in
         cc (here, none))
         (λ (g : (object : ℕ) × AsksFor line (get object) × (p.objects ≤ object) × (why ≡ NoObject)). not_get op g.0 asks g.1)
@@ -251,7 +275,7 @@ module _ (p : Params) (commands : List Command) (line : List ℕ) where
     full_exactly ok added op before after is goes asks none = (λ f. absurd f, λ over. fits_not goes.0 op before goes.1 asks goes.2 over)
     full_exactly (value bytes) added op before after is goes asks none = absurd (not_get op is.0 asks is.1)
     full_exactly (forced n) added op before after is goes asks none = absurd (not_force op asks is.0)
-    full_exactly bad added op before after is goes asks none = absurd (is.0 (request_for op) asks)
+    full_exactly bad added op before after is goes asks none = absurd (is.0 (request_for op) (asked line op asks))
     full_exactly (refused why) added op before after is goes asks none = absurd (accepted_not why op asks none is.0)
     full_exactly (full used need limit) added op before after is goes asks none = (λ f. over_same goes.0.0 op before goes.0.1 asks goes.0.2, λ over. tt)
     full_exactly (end number) added op before after is goes asks none = (λ f. absurd f, λ over. absurd (fits_not goes.0.0 op before goes.0.1 asks goes.0.2 over))

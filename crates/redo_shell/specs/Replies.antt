@@ -5,22 +5,19 @@ use Rattle.disk_model.specs.Disk.{Files}
 use Rattle.formats.specs.Image.{EndsAt, NextIs}
 use Rattle.formats.specs.declared.params.Params.{Params}
 use Rattle.op_codec.specs.declared.all_ops.AllOps.TheVariants.{Put, Copy, Append, Cut, Sort, Swap}
-use Rattle.script_lines.specs.Grammar.{Request, put, copy, append, cut, sort, swap, get, force, skip, AsksFor, IsBad}
+use Rattle.script_lines.specs.Grammar.{put, copy, append, cut, sort, swap, get, force, skip, AsksFor, IsBad}
 use Rattle.script_lines.specs.Replies.{Reply, ok, value, forced, bad, refused, full, end, object_value, command_count, silence}
 use Rattle.redo_shell.specs.Store.{Command, meaning_in, state_of, refusal_after, record_length}
 
--- the request for a command
-abbrev pub request_for : Command → Request
-request_for (Put op) = put op.object op.value
-request_for (Copy op) = copy op.from op.to
-request_for (Append op) = append op.from op.to
-request_for (Cut op) = cut op.from op.to op.place
-request_for (Sort op) = sort op.from op.to op.width
-request_for (Swap op) = swap op.first op.second
-
--- the line asks for this command
+-- The line asks for this command. No line asks for a step of an application or an operation on a node yet.
 abbrev pub AsksCommand : List ℕ → Command → Type 0
-AsksCommand line op = AsksFor line (request_for op)
+AsksCommand line (Put op) = AsksFor line (put op.object op.value)
+AsksCommand line (Copy op) = AsksFor line (copy op.from op.to)
+AsksCommand line (Append op) = AsksFor line (append op.from op.to)
+AsksCommand line (Cut op) = AsksFor line (cut op.from op.to op.place)
+AsksCommand line (Sort op) = AsksFor line (sort op.from op.to op.width)
+AsksCommand line (Swap op) = AsksFor line (swap op.first op.second)
+AsksCommand line op = ⊥
 
 -- the line gets this answer after the commands, and adds these
 abbrev pub Replies : Params → List Command → List ℕ → Reply → List Command → Type 0
