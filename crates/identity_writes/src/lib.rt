@@ -7,11 +7,11 @@
 #![tactic(auto)]
 
 mod object_list;
-mod parted;
 #[cfg(test)]
 mod tests;
 mod thinning;
+mod thinning_plan;
 
 pub use object_list::ObjectList;
-pub use parted::Plan;
 pub use thinning::plan;
+pub use thinning_plan::Plan;
