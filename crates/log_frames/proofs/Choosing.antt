@@ -2,7 +2,8 @@
 use Rattle.std.proofs.Common.{◌≡◌, ◌≢◌, ◌⊎◌, inl, ◌<◌, inr, ℕ, List, [], ◌∷◌, ◌++◌, length, get_or, take, drop, refl, sym, ◌∙◌, ap, subst, arith, Option, Some, None, take-append-drop}
 use Rattle.std.specs.Prelude.{IfSome}
 use Rattle.std.proofs.lemmas.List.{take_at, drop_more}
-use Rattle.disk_model.specs.Disk.{Files, Disk, Stays, Rises, read_of}
+use Rattle.disk_model.specs.Disk.{Files, Disk, Stays, Rises}
+use Rattle.disk_model.specs.Padded.{padded, get_or-padded}
 use Rattle.disk_model.specs.declared.machine.FileNo.{FileNo}
 use Rattle.disk_model.specs.declared.machine.FileNo.TheVariants.{Objects, LogA, LogB}
 use Rattle.formats.specs.Bytes.{byte_at}
@@ -11,11 +12,10 @@ use Rattle.formats.specs.Log.{Header, header_bytes, IsHeader, IsWholeLog, IsShut
 use Rattle.formats.specs.Image.{IsHeaderFault, IsBlockFault, IsLogFault, in_header, in_block}
 use Rattle.log_frames.specs.Choosing.{SeenIn, IsChosen}
 use Rattle.log_frames.specs.Laws.{length-header_bytes}
-use Rattle.log_frames.specs.Reading.{FailsBy, fails_on, filled_up, header_of, EndsBlocks}
+use Rattle.log_frames.specs.Reading.{FailsBy, fails_on, header_of, EndsBlocks}
 use Rattle.log_frames.specs.declared.log_err.LogErr.{LogErr}
 use Rattle.log_frames.specs.declared.seen.Seen.{Seen}
 use Rattle.log_frames.proofs.Causes.{size_now}
-use Rattle.log_frames.proofs.Found.{byte_read}
 use Rattle.log_frames.proofs.HeaderBytes.{file_fault}
 use Rattle.log_frames.proofs.ReadTo.{whole_log}
 
@@ -24,9 +24,9 @@ no_bytes [] n long none = refl
 no_bytes (b ∷ rest) n long none = absurd (omega (arith, long, none))
 
 -- a closed gate that is read is one of the file
-pub shut_read : (file into : List ℕ) (n : ℕ) → into ≡ filled_up 33 (read_of file 0 33) → (get_or into 0 0 ≡ 1 → ⊥) → n ≡ length file → (n ≡ 0 → ⊥) → IsShutLog file
+pub shut_read : (file into : List ℕ) (n : ℕ) → into ≡ padded file 0 33 → (get_or into 0 0 ≡ 1 → ⊥) → n ≡ length file → (n ≡ 0 → ⊥) → IsShutLog file
 shut_read [] into n is shut long some = some long
-shut_read (g ∷ rest) into n is shut long some = λ opened. shut (ap (λ (l : List ℕ). get_or l 0 0) is ∙ byte_read (g ∷ rest) 0 33 0 (omega arith) ∙ opened)
+shut_read (g ∷ rest) into n is shut long some = λ opened. shut (ap (λ (l : List ℕ). get_or l 0 0) is ∙ get_or-padded (g ∷ rest) 0 33 0 (omega arith) ∙ opened)
 
 -- 33 bytes of a header, and one behind
 pub header_stands : (h : Header) (file : List ℕ) → IsHeader h → take 33 file ≡ header_bytes h → 33 < length file → HasHeader h file
@@ -71,7 +71,7 @@ module _ (old now new : Disk) (kept : Stays old now) (e : LogErr) where
   risen later below = omega (arith, later below, kept.time.disk_faults)
 
   -- what is read of a header is wrong
-  pub by_header : (file : FileNo) (into : List ℕ) → file ≢ Objects → (now.tells_files → into ≡ filled_up 33 (read_of (now.reads file) 0 33))
+  pub by_header : (file : FileNo) (into : List ℕ) → file ≢ Objects → (now.tells_files → into ≡ padded (now.reads file) 0 33)
       → FailsBy ⊥ (λ f place. (f ≡ file) × (place < 33) × IsHeaderFault into place) e → Fails
   by_header file into a_log read fails = fails_on _ _ _ _ e (λ never. absurd never)
       (λ f place there told.

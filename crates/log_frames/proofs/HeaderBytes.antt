@@ -1,16 +1,15 @@
 -- What the bytes of a header are.
-use Rattle.std.proofs.Common.{◌≡◌, ◌<◌, ◌≤◌, ◌+◌, ◌-◌, ◌^◌, ℕ, replicate, List, [], ◌∷◌, ◌++◌, length, get_or, take, drop, sym, ◌∙◌, ap, subst, arith, append_assoc, length-take, length-drop, take-append-drop, length-append}
+use Rattle.std.proofs.Common.{◌≡◌, ◌<◌, ◌≤◌, ◌+◌, ◌^◌, ℕ, List, [], ◌∷◌, ◌++◌, length, get_or, take, drop, sym, ◌∙◌, ap, subst, arith, append_assoc, length-take, length-drop, take-append-drop}
 use Rattle.std.specs.Prelude.{codes}
-use Rattle.std.proofs.lemmas.List.{take_all, drop-drop, get_or-drop, get_or-take, same_lists, length-replicate}
+use Rattle.std.proofs.lemmas.List.{take_all, drop-drop, get_or-drop, get_or-take, same_lists}
 use Rattle.std.proofs.lemmas.Grind.{get_or_default_zero}
 use Rattle.oper_core.specs.LittleEndian.{little_bytes-little_number}
 use Rattle.byteorder.specs.Endian.{little_bytes}
-use Rattle.disk_model.specs.Disk.{read_of}
+use Rattle.disk_model.specs.Padded.{padded, get_or-padded, padded-within, length-padded}
 use Rattle.formats.specs.Bytes.{number_at, byte_at, IsOpenAt}
 use Rattle.formats.specs.Image.{IsWithin, IsHeaderFault, magic, epoch, base, commands, short}
 use Rattle.formats.specs.Log.{Header, header_bytes}
-use Rattle.log_frames.specs.Reading.{filled_up}
-use Rattle.log_frames.proofs.Found.{byte_read, number_read, full_read}
+use Rattle.log_frames.proofs.Found.{number_read}
 
 -- eight bytes at a place are those of their number
 eight : (head : List ℕ) (at : ℕ) → at + 8 ≤ length head → ((i : ℕ) → get_or head i 0 < 256) → take 8 (drop at head) ≡ little_bytes 8 (number_at 8 at head)
@@ -41,10 +40,10 @@ header_is (g ∷ xs) h long small open_gate has_magic e b k =
 -- what is read of the file's first bytes
 module _ (file : List ℕ) where
   abbrev head : List ℕ
-  head = filled_up 33 (read_of file 0 33)
+  head = padded file 0 33
 
   byte_stands : (i : ℕ) → i < 33 → get_or head i 0 ≡ byte_at i file
-  byte_stands i less = byte_read file 0 33 i less ∙ ap (λ (n : ℕ). byte_at n file) (omega arith)
+  byte_stands i less = get_or-padded file 0 33 i less ∙ ap (λ (n : ℕ). byte_at n file) (omega arith)
 
   number_stands : (n : ℕ) → n + 8 ≤ 33 → number_at 8 n head ≡ number_at 8 n file
   number_stands n within = number_read file 0 33 8 n within ∙ ap (λ (k : ℕ). number_at 8 k file) (omega arith)
@@ -55,15 +54,7 @@ module _ (file : List ℕ) where
       let one = take 8 (drop 1 head) in
       let two = take 8 (drop 1 file) in
       let long : length two ≡ 8 = ap length is in
-      let reads = length-take 33 (drop 0 file) in
-      let also : length one ≡ 8 = omega (
-        arith,
-        length-take 8 (drop 1 head),
-        length-drop 1 head,
-        length-append (read_of file 0 33) (replicate {A = ℕ} (33 - length (read_of file 0 33)) 0),
-        length-replicate {A = ℕ} (33 - length (read_of file 0 33)) 0,
-        reads,
-      ) in
+      let also : length one ≡ 8 = omega (arith, length-take 8 (drop 1 head), length-drop 1 head, length-padded file 0 33) in
       same_lists one two (also ∙ sym long) (λ k d less.
       let small : k < 8 = omega (arith, less, also) in
       get_or_default_zero one k d less ∙ get_or-take 8 (drop 1 head) k 0 small ∙ get_or-drop 1 head k 0 ∙ byte_stands (1 + k) (omega arith)
@@ -82,7 +73,7 @@ module _ (file : List ℕ) where
   file_fault _ less (short is_open cut) = absurd (omega arith)
 
   pub front_stands : 33 < length file → head ≡ take 33 file
-  front_stands within = full_read file 0 33 (omega arith)
+  front_stands within = padded-within file 0 33 (omega arith)
 
   -- the gate that is read is that of the file
   pub opened_by : (into : List ℕ) → into ≡ head → IsOpenAt 0 into → IsOpenAt 0 file

@@ -12,7 +12,7 @@ use Rattle.formats.specs.Image.{IsBlockFault}
 use Rattle.log_frames.specs.Reading.{IsReadTo, IsBlockHead, IsBroken, EndsBlocks, placed}
 use Rattle.log_frames.specs.Laws.{blocks-push, all_push, length-block, length-header_bytes, one_log, placed-push}
 use Rattle.log_frames.specs.declared.payload.Payload.{Payload}
-use Rattle.log_frames.proofs.Found.{length_read}
+use Rattle.disk_model.specs.Padded.{length-read_of}
 
 pub read_none : (file : List ℕ) → IsReadTo file 33 []
 read_none file = record { whole = All-nil IsPayload; here = refl; front = sym (append-nil (take 33 file)); within = λ first. first }
@@ -21,7 +21,7 @@ read_none file = record { whole = All-nil IsPayload; here = refl; front = sym (a
 pub read_more : (file : List ℕ) (gate len : ℕ) (payloads : List (List ℕ)) → IsReadTo file gate payloads → IsBlockHead gate len file → IsReadTo file (gate + (5 + len)) (payloads ++ read_of file (gate + 5) len ∷ [])
 read_more file gate len payloads r h =
     let payload = read_of file (gate + 5) len in
-    let long : length payload ≡ len = length_read file (gate + 5) len (omega (arith, h.within)) in
+    let long : length payload ≡ len = length-read_of file (gate + 5) len (omega (arith, h.within)) in
     let behind : drop 5 (drop gate file) ≡ drop (gate + 5) file = drop-drop 5 gate file in
     let next : take (5 + len) (drop gate file) ≡ block payload =
     take-add 5 len (drop gate file) ∙ ap (λ (l : List ℕ). l ++ take len (drop 5 (drop gate file))) h.head

@@ -1,7 +1,7 @@
 -- What a reader of a log finds, and why it fails.
-use Rattle.std.specs.Prelude.{◌≡◌, ◌≢◌, ◌<◌, ◌≤◌, ◌+◌, ◌-◌, ◌^◌, ℕ, List, [], ◌∷◌, ◌++◌, length, take, replicate, All, Option, Some, None}
+use Rattle.std.specs.Prelude.{◌≡◌, ◌<◌, ◌≤◌, ◌+◌, ◌^◌, ℕ, List, [], ◌∷◌, ◌++◌, length, take, All, Option, Some, None}
 use Rattle.byteorder.specs.Endian.{little_bytes}
-use Rattle.disk_model.specs.Disk.{Files, read_of}
+use Rattle.disk_model.specs.Disk.{read_of}
 use Rattle.disk_model.specs.declared.machine.FileNo.{FileNo}
 use Rattle.formats.specs.Log.{Header, blocks, end_of, IsPayload}
 use Rattle.formats.specs.Bytes.{number_at, IsOpenAt, IsShutAt}
@@ -36,10 +36,6 @@ TellsDamage (LogFull used need limit) = ⊥
 TellsDamage (Damaged file place) = Unit {0}
 TellsDamage (Exhausted epoch) = ⊥
 TellsDamage Memory = ⊥
-
--- n bytes of which these are the first, the others 0
-abbrev pub filled_up : ℕ → List ℕ → List ℕ
-filled_up n bytes = bytes ++ replicate (n - length bytes) 0
 
 -- at this gate stands a block whose payload has so many bytes, and a gate behind it
 pub record IsBlockHead (gate len : ℕ) (file : List ℕ) : Type 0 where

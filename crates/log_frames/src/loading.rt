@@ -15,11 +15,11 @@ use crate::layout::{
     BASE_PLACE, COMMANDS_PLACE, EPOCH_PLACE, FIRST_BLOCK, HEADER_BYTES, LENGTH_BYTES, MAGIC,
     MAGIC_PLACE, MAX_NUMBER, OPEN,
 };
-use crate::reading::{first_closed, read_at};
+use crate::reading::first_closed;
 use crate::seen::Seen;
 use crate::{LogErr, LogFile};
 use byteorder::{ByteOrder, LittleEndian};
-use disk_model::{FileNo, Machine};
+use disk_model::{FileNo, Machine, read_padded};
 use formats::BLOCK_HEAD;
 use std::alloc::Global;
 
@@ -74,7 +74,7 @@ fn see_log<M: Machine>(machine: &mut M, file: FileNo) -> Result<Option<Seen>, Lo
         return Err(LogErr::Damaged { file, place: 0 });
     }
     let mut head = [0; HEADER_BYTES];
-    read_at(machine, file, 0, &mut head)?;
+    read_padded(machine, file, 0, &mut head)?;
     if head[0] != OPEN {
         return Ok(None);
     }

@@ -6,9 +6,9 @@ ghost use Rattle.formats.specs.Image.{IsBlockFault};
 ghost use Rattle.log_frames.specs.Reading.{FailsBy, TellsDamage, placed};
 
 use crate::layout::FIRST_BLOCK;
-use crate::reading::{open_block, read_at};
+use crate::reading::open_block;
 use crate::{LogErr, LogFile, Payload};
-use disk_model::{FileNo, Machine};
+use disk_model::{FileNo, Machine, read_padded};
 use formats::BLOCK_HEAD;
 use oper_core::ByteList;
 use std::alloc::Global;
@@ -28,7 +28,7 @@ fn read_payload<M: Machine>(
     ensures cause { IfErr result (FailsBy (Rises (M.disk machine.old).disk_faults (M.disk machine.new).disk_faults) (λ f p. ⊥)) }
 {
     let mut bytes = vec![in alloc; 0; len as usize]?;
-    read_at(machine, file, place, &mut bytes)?;
+    read_padded(machine, file, place, &mut bytes)?;
     Ok(Payload {
         place,
         bytes: ByteList::new(bytes),

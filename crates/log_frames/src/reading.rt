@@ -1,31 +1,14 @@
 // Reads the blocks of a log file.
-ghost use Rattle.std.specs.Prelude.{◌≡◌, ◌<◌, ◌≤◌, ◌+◌, ◌-◌, ◌^◌, length, slice_index, ℕ, OnOk, IfErr, IfOk, IfSome};
-ghost use Rattle.disk_model.specs.Disk.{Rises, Stays, read_of};
+ghost use Rattle.std.specs.Prelude.{◌≡◌, ◌<◌, ◌+◌, ◌-◌, ◌^◌, length, IfErr, IfOk, IfSome};
+ghost use Rattle.disk_model.specs.Disk.{Rises, Stays};
 ghost use Rattle.formats.specs.Image.{IsBlockFault};
-ghost use Rattle.log_frames.specs.Reading.{filled_up, FailsBy, FoundAt, IsBroken, EndsBlocks};
+ghost use Rattle.log_frames.specs.Reading.{FailsBy, FoundAt, IsBroken, EndsBlocks};
 
 use crate::LogErr;
 use crate::layout::{FIRST_BLOCK, MAX_PAYLOAD, OPEN};
 use byteorder::{ByteOrder, LittleEndian};
-use disk_model::{FileNo, Machine};
+use disk_model::{FileNo, Machine, read_padded};
 use formats::BLOCK_HEAD;
-
-/// Reads from a place on. A byte past the file's end counts as 0.
-pub fn read_at<M: Machine>(
-    machine: &mut M,
-    file: FileNo,
-    place: u64,
-    into: &mut [u8],
-) -> Result<(), LogErr>
-    ensures kept { Stays (M.disk machine.old) (M.disk machine.new) }
-    ensures bytes { (M.disk machine.old).tells_files → OnOk result (into.new ≡ filled_up (length into.old) (read_of ((M.disk machine.old).reads file) place (length into.old))) }
-    ensures small { OnOk result ((i : ℕ) → slice_index into.new i < 256) }
-    ensures cause { IfErr result (λ e. (e ≡ LogErr.DiskFault) × Rises (M.disk machine.old).disk_faults (M.disk machine.new).disk_faults) }
-{
-    let read = machine.read(file, place, into)?;
-    into[read..].fill(0);
-    Ok(())
-}
 
 /// How many bytes the payload of the block at a gate has, or none where the gate is closed.
 pub fn open_block<M: Machine>(
@@ -42,7 +25,7 @@ pub fn open_block<M: Machine>(
         (λ f place. (f ≡ file) × (place ≡ gate + 1) × ((M.disk machine.old).tells_files → size ≡ length ((M.disk machine.old).reads file) → IsBroken gate ((M.disk machine.old).reads file)))) }
 {
     let mut head = [0; BLOCK_HEAD];
-    read_at(machine, file, gate, &mut head)?;
+    read_padded(machine, file, gate, &mut head)?;
     if head[0] != OPEN {
         return Ok(None);
     }

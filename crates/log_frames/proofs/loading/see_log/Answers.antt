@@ -1,7 +1,6 @@
-use Rattle.std.proofs.Common.{◌≡◌, ◌<◌, ◌∙◌, ap, sym, subst, arith, length, take}
+use Rattle.std.proofs.Common.{◌<◌, ◌∙◌, ap, sym, subst, arith, length, take}
 use Rattle.std.proofs.lemmas.Result.{err_from_is_err_and}
 use Rattle.disk_model.specs.Disk.{Files}
-use Rattle.disk_model.specs.Moments.{stays_twice}
 use Rattle.formats.specs.Bytes.{IsOpenAt}
 use Rattle.formats.specs.Image.{no_byte, in_header, short}
 use Rattle.formats.specs.Log.{IsShutLog}
@@ -19,22 +18,22 @@ returns-then-head-ne-OPEN-clause-seen g c told =
     let one = g.M.Machine.disk c.size.new.self in
     let same = c.size.ensures.kept.reads told in
     subst (λ (f : Files). IsShutLog (f c.args.file)) same
-    (shut_read (one.reads c.args.file) c.read_at.new.into c.in_ok-size.size (c.in_ok-read_at.ensures.bytes (c.size.ensures.kept.time.files_told.0 told)) c.if-head-ne-OPEN.true
+    (shut_read (one.reads c.args.file) c.read_padded.new.into c.in_ok-size.size (c.in_ok-read_padded.ensures.bytes (c.size.ensures.kept.time.files_told.0 told)) c.if-head-ne-OPEN.true
     (c.in_ok-size.ensures.size told ∙ ap (λ (f : Files). length (f c.args.file)) (sym same)) c.if-size-eq0.false)
 
 pub returns-in_err-header-clause-cause : goal.returns-in_err-header-clause-cause
 returns-in_err-header-clause-cause g c =
     let old = g.M.Machine.disk c.args.machine.now in
     let one = g.M.Machine.disk c.size.new.self in
-    let two = g.M.Machine.disk c.read_at.new.machine in
+    let two = g.M.Machine.disk c.read_padded.new.machine in
     let p = err_from_is_err_and c.from_residual-in_err-header.result c.from_residual-in_err-header.ensures.1 in
-    rw (p.1, p.2) (by_header old one two c.size.ensures.kept c.in_err-header.field-0.0 c.args.file c.read_at.new.into c.requires c.in_ok-read_at.ensures.bytes c.in_err-header.ensures.cause)
+    rw (p.1, p.2) (by_header old one two c.size.ensures.kept c.in_err-header.field-0.0 c.args.file c.read_padded.new.into c.requires c.in_ok-read_padded.ensures.bytes c.in_err-header.ensures.cause)
 
 pub returns-then-size-le-FIRST_BLOCK-clause-cause : goal.returns-then-size-le-FIRST_BLOCK-clause-cause
 returns-then-size-le-FIRST_BLOCK-clause-cause g c told =
     let old = g.M.Machine.disk c.args.machine.now in
     let one = g.M.Machine.disk c.size.new.self in
-    let opened = opened_by (one.reads c.args.file) c.read_at.new.into (c.in_ok-read_at.ensures.bytes (c.size.ensures.kept.time.files_told.0 told)) c.if-head-ne-OPEN.false in
+    let opened = opened_by (one.reads c.args.file) c.read_padded.new.into (c.in_ok-read_padded.ensures.bytes (c.size.ensures.kept.time.files_told.0 told)) c.if-head-ne-OPEN.false in
     let here = subst (λ (f : Files). IsOpenAt 0 (f c.args.file)) (c.size.ensures.kept.reads told) opened in
     in_header c.args.file 33 c.requires (short here (omega (arith, c.in_ok-size.ensures.size told, c.if-size-le-FIRST_BLOCK.true)))
 
@@ -48,5 +47,5 @@ returns-clause-seen g c told =
     let size = c.in_ok-size.ensures.size told in
     let read = c.in_ok-header.ensures.ok in
     let within : 33 < length (one.reads file) = omega (arith, size, ap (λ (f : Files). length (f file)) same, c.if-size-le-FIRST_BLOCK.false) in
-    let front = sym (front_stands (one.reads file) within) ∙ sym (c.in_ok-read_at.ensures.bytes (c.size.ensures.kept.time.files_told.0 told)) ∙ read.1 in
+    let front = sym (front_stands (one.reads file) within) ∙ sym (c.in_ok-read_padded.ensures.bytes (c.size.ensures.kept.time.files_told.0 told)) ∙ read.1 in
     (header_stands header (old.reads file) read.0 (ap (λ (f : Files). take 33 (f file)) (sym same) ∙ front) (omega (arith, size, c.if-size-le-FIRST_BLOCK.false)), size)
