@@ -60,8 +60,8 @@ fn parse_header(file: FileNo, head: &[u8; HEADER_BYTES]) -> Result<Header, LogEr
     })
 }
 
-// What stands in a log file: its header, or none where the header gate is closed. The header is read once.
-fn see_log<M: Machine>(machine: &mut M, file: FileNo) -> Result<Option<Seen>, LogErr>
+// The header and the length of a log file, or none where its header gate is closed. The header is read once.
+fn read_header<M: Machine>(machine: &mut M, file: FileNo) -> Result<Option<Seen>, LogErr>
     requires { file ≢ Objects }
     ensures kept { Stays (M.disk machine.old) (M.disk machine.new) }
     ensures inside { IfOk result (λ found. IfSome found (λ seen. (33 < seen.size) × IsHeader (header_of seen.header) × (seen.file ≡ file))) }
@@ -132,8 +132,8 @@ impl LogFile {
         ensures cause { IfErr result (FailsBy (Rises (M.disk machine.old).disk_faults (M.disk machine.new).disk_faults)
             (λ file place. (M.disk machine.old).tells_files → IsLogFault (M.disk machine.old).reads file place)) }
     {
-        let a = see_log(machine, FileNo::LogA)?;
-        let b = see_log(machine, FileNo::LogB)?;
+        let a = read_header(machine, FileNo::LogA)?;
+        let b = read_header(machine, FileNo::LogB)?;
         let seen = choose(a, b)?;
         let end = first_closed(machine, seen.file, seen.size)?;
         let mut buffer = Vec::with_capacity(alloc, BLOCK_HEAD)?;

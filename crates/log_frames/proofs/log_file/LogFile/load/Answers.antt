@@ -18,16 +18,16 @@ returns-in_err-a-clause-undamaged g c told active header payloads is =
 pub returns-in_err-b-clause-undamaged : goal.returns-in_err-b-clause-undamaged
 returns-in_err-b-clause-undamaged g c told active header payloads is =
     let old = g.M.Machine.disk c.args.machine.now in
-    let one = g.M.Machine.disk c.see_log.new.machine in
-    let two = g.M.Machine.disk c.see_log-2.new.machine in
+    let one = g.M.Machine.disk c.read_header.new.machine in
+    let two = g.M.Machine.disk c.read_header-2.new.machine in
     let p = err_from_is_err_and c.from_residual-in_err-b.result c.from_residual-in_err-b.ensures.1 in
     rw (p.1, p.2) (none_told _ _ c.in_err-b.field-0.0 (λ f place fault. no_log_fault active header payloads old.reads f place is (fault told))
-    (by_later old one two c.see_log.ensures.kept c.in_err-b.field-0.0 c.in_err-b.ensures.cause))
+    (by_later old one two c.read_header.ensures.kept c.in_err-b.field-0.0 c.in_err-b.ensures.cause))
 
 pub returns-in_err-seen-clause-undamaged : goal.returns-in_err-seen-clause-undamaged
 returns-in_err-seen-clause-undamaged g c told active header payloads is =
     let old = g.M.Machine.disk c.args.machine.now in
-    let kept = c.see_log.ensures.kept in
+    let kept = c.read_header.ensures.kept in
     let a = c.in_ok-a.ensures.seen told in
     let b = subst (λ (f : Files). SeenIn (f LogB) c.in_ok-b.b) (kept.reads told) (c.in_ok-b.ensures.seen (kept.time.files_told.0 told)) in
     let p = err_from_is_err_and c.from_residual-in_err-seen.result c.from_residual-in_err-seen.ensures.1 in
@@ -36,10 +36,10 @@ returns-in_err-seen-clause-undamaged g c told active header payloads is =
 pub returns-in_err-end-clause-cause : goal.returns-in_err-end-clause-cause
 returns-in_err-end-clause-cause g c =
     let old = g.M.Machine.disk c.args.machine.now in
-    let one = g.M.Machine.disk c.see_log.new.machine in
-    let two = g.M.Machine.disk c.see_log-2.new.machine in
-    let first = c.see_log.ensures.kept in
-    let second = stays_twice old one two first c.see_log-2.ensures.kept in
+    let one = g.M.Machine.disk c.read_header.new.machine in
+    let two = g.M.Machine.disk c.read_header-2.new.machine in
+    let first = c.read_header.ensures.kept in
+    let second = stays_twice old one two first c.read_header-2.ensures.kept in
     let p = err_from_is_err_and c.from_residual-in_err-end.result c.from_residual-in_err-end.ensures.1 in
     rw (p.1, p.2) (by_block old two (g.M.Machine.disk c.first_closed.new.machine) second c.in_err-end.field-0.0 c.in_ok-seen.seen
     (λ told.
@@ -50,10 +50,10 @@ returns-in_err-end-clause-cause g c =
 pub returns-in_err-end-clause-undamaged : goal.returns-in_err-end-clause-undamaged
 returns-in_err-end-clause-undamaged g c told active header payloads is =
     let old = g.M.Machine.disk c.args.machine.now in
-    let one = g.M.Machine.disk c.see_log.new.machine in
-    let two = g.M.Machine.disk c.see_log-2.new.machine in
-    let first = c.see_log.ensures.kept in
-    let second = stays_twice old one two first c.see_log-2.ensures.kept in
+    let one = g.M.Machine.disk c.read_header.new.machine in
+    let two = g.M.Machine.disk c.read_header-2.new.machine in
+    let first = c.read_header.ensures.kept in
+    let second = stays_twice old one two first c.read_header-2.ensures.kept in
     let b = subst (λ (f : Files). SeenIn (f LogB) c.in_ok-b.b) (first.reads told) (c.in_ok-b.ensures.seen (first.time.files_told.0 told)) in
     let chosen = c.in_ok-seen.ensures.chosen old.reads (file_is LogA c.in_ok-a.a c.in_ok-a.ensures.inside) (file_is LogB c.in_ok-b.b c.in_ok-b.ensures.inside) (c.in_ok-a.ensures.seen told) b in
     let p = err_from_is_err_and c.from_residual-in_err-end.result c.from_residual-in_err-end.ensures.1 in
@@ -63,10 +63,10 @@ returns-in_err-end-clause-undamaged g c told active header payloads is =
 pub returns-clause-read : goal.returns-clause-read
 returns-clause-read g c told =
     let old = g.M.Machine.disk c.args.machine.now in
-    let one = g.M.Machine.disk c.see_log.new.machine in
-    let two = g.M.Machine.disk c.see_log-2.new.machine in
-    let first = c.see_log.ensures.kept in
-    let second = stays_twice old one two first c.see_log-2.ensures.kept in
+    let one = g.M.Machine.disk c.read_header.new.machine in
+    let two = g.M.Machine.disk c.read_header-2.new.machine in
+    let first = c.read_header.ensures.kept in
+    let second = stays_twice old one two first c.read_header-2.ensures.kept in
     let seen = c.in_ok-seen.seen in
     let file = seen.file in
     let b = subst (λ (f : Files). SeenIn (f LogB) c.in_ok-b.b) (first.reads told) (c.in_ok-b.ensures.seen (first.time.files_told.0 told)) in

@@ -7,7 +7,7 @@ use Rattle.formats.specs.Log.{IsShutLog}
 use Rattle.log_frames.specs.Reading.{header_of}
 use Rattle.log_frames.proofs.Choosing.{no_bytes, shut_read, header_stands, by_header}
 use Rattle.log_frames.proofs.HeaderBytes.{front_stands, opened_by}
-use Rattle.log_frames.proofs.loading.see_log.Goals as goal
+use Rattle.log_frames.proofs.loading.read_header.Goals as goal
 
 pub returns-then-size-eq0-clause-cause : goal.returns-then-size-eq0-clause-cause
 returns-then-size-eq0-clause-cause g c told = no_byte c.args.file c.requires (no_bytes _ c.in_ok-size.size (c.in_ok-size.ensures.size told) c.if-size-eq0.true)
