@@ -4,52 +4,52 @@ use Rattle.std.specs.Prelude.{codes, Bool, true, false, not, IsTrue, ◌↔◌}
 use Rattle.std.specs.Str.{bytes_eq}
 use Rattle.std.proofs.lemmas.Slice.Eq.{bytes_eq-Decides}
 use Rattle.byteorder.specs.Numbers.{little_from-take}
-use Rattle.std.proofs.lemmas.List.{get_or-drop, get_or-take, append-nil, take_all, take-take, take-append-le, drop-take, drop-drop}
+use Rattle.std.proofs.lemmas.List.{get_or-drop, take_all, take-take, take-append-le, drop-take, drop-drop}
 use Rattle.byteorder.specs.Endian.{little_bytes, little_number}
 use Rattle.oper_core.specs.LittleEndian.{little_bytes-little_number}
-use Rattle.disk_model.specs.Disk.{Files, Disk, Stays, Rises, read_of}
+use Rattle.disk_model.specs.Disk.{Files, Disk, Stays, Rises}
+use Rattle.disk_model.specs.Padded.{padded, get_or-padded, padded-within}
 use Rattle.disk_model.specs.declared.machine.FileNo.TheVariants.{Objects}
-use Rattle.formats.specs.Bytes.{byte_at, number_at, IsShutAt}
+use Rattle.formats.specs.Bytes.{number_at, IsShutAt}
 use Rattle.formats.specs.Objects.{IsInRange, IsObjectsFile, objects_fields, last_slot}
 use Rattle.formats.specs.Image.{params_in, IsWithin, IsObjectsFault, magic, objects, cap, limit, cut, identifier, long, twice}
 use Rattle.formats.specs.declared.params.Params.{Params}
 use Rattle.stable_objects.specs.SlotGates.{slot_gate}
-use Rattle.stable_objects.specs.Reading.{filled_up, FailsBy, FailsAt, HasHeader, IsHeaderFault, IsDamagedAt, IsNoDamage, fails_on}
+use Rattle.stable_objects.specs.Reading.{FailsBy, FailsAt, HasHeader, IsHeaderFault, IsDamagedAt, IsNoDamage, fails_on}
 use Rattle.stable_objects.specs.Laws.{length-objects_fields, params_of_header, gate_is_open, no_fault}
 use Rattle.stable_objects.specs.declared.slot_err.SlotErr.{SlotErr}
 use Rattle.stable_objects.specs.declared.slot_err.SlotErr.TheVariants.{NotAStore, DiskFault, Damaged, Memory}
-use Rattle.stable_objects.proofs.Bytes.{byte_filled, number_same}
+use Rattle.stable_objects.proofs.Bytes.{number_same}
 
--- the bytes of a header that was read are those of the file
-pub byte_read : (file : List ℕ) (i : ℕ) → i < 21 → get_or (filled_up 21 (read_of file 0 21)) i 0 ≡ byte_at i file
-byte_read file i less = byte_filled (take 21 file) (21 - length (take 21 file)) i ∙ get_or-take 21 file i 0 less
+-- the numbers in what is read are those of the file
+pub number_read : (file : List ℕ) (place n at k : ℕ) → at + k ≤ n → number_at k at (padded file place n) ≡ number_at k (place + at) file
+number_read file place n at k within =
+    let bytes = padded file place n in
+    number_same 0 k (drop at bytes) (drop (place + at) file) (λ j low high.
+    let spot : place + (at + j) ≡ place + at + j = omega arith in
+    get_or-drop at bytes j 0 ∙ get_or-padded file place n (at + j) (omega (arith, high, within)) ∙ ap (λ (i : ℕ). get_or file i 0) spot ∙ sym (get_or-drop (place + at) file j 0))
 
--- and so are its numbers
-pub number_read : (file : List ℕ) (at : ℕ) → at + 4 ≤ 21 → number_at 4 at (filled_up 21 (read_of file 0 21)) ≡ number_at 4 at file
-number_read file at within = number_same 0 4 (drop at (filled_up 21 (read_of file 0 21))) (drop at file)
-    (λ j low high. get_or-drop at (filled_up 21 (read_of file 0 21)) j 0 ∙ byte_read file (at + j) (omega arith) ∙ sym (get_or-drop at file j 0))
-
-pub params_read : (file : List ℕ) → params_in (filled_up 21 (read_of file 0 21)) ≡ params_in file
+pub params_read : (file : List ℕ) → params_in (padded file 0 21) ≡ params_in file
 params_read file =
-    let first = number_read file 9 (omega arith) in
-    let second = number_read file 13 (omega arith) in
-    let third = number_read file 17 (omega arith) in
+    let first = number_read file 0 21 9 4 (omega arith) in
+    let second = number_read file 0 21 13 4 (omega arith) in
+    let third = number_read file 0 21 17 4 (omega arith) in
     λ i. record { objects = first i; cap = second i; limit = third i }
 
 -- where the file has the magic, so has what was read
-magic_read : (file : List ℕ) → take 8 (drop 1 file) ≡ codes "RDOOBJ01" → take 8 (drop 1 (filled_up 21 (read_of file 0 21))) ≡ codes "RDOOBJ01"
+magic_read : (file : List ℕ) → take 8 (drop 1 file) ≡ codes "RDOOBJ01" → take 8 (drop 1 (padded file 0 21)) ≡ codes "RDOOBJ01"
 magic_read file is =
     let nine_there : 9 ≤ length file = omega (arith, ap length is, length-take 8 (drop 1 file), length-drop 1 file) in
-    let head = filled_up 21 (read_of file 0 21) in
+    let head = padded file 0 21 in
     let nine : take 9 head ≡ take 9 file =
     take-append-le 9 (take 21 file) (replicate (21 - length (take 21 file)) 0) (omega (arith, nine_there, length-take 21 file)) ∙ take-take 9 21 file (omega arith) in
     sym (drop-take 1 8 head) ∙ ap (λ (l : List ℕ). drop 1 l) nine ∙ drop-take 1 8 file ∙ is
 
 -- a fault that the header shows is one of the file
-fault_read : (file : List ℕ) (place : ℕ) → 0 < place → place < 21 → IsObjectsFault (filled_up 21 (read_of file 0 21)) place → IsObjectsFault file place
+fault_read : (file : List ℕ) (place : ℕ) → 0 < place → place < 21 → IsObjectsFault (padded file 0 21) place → IsObjectsFault file place
 fault_read file place some within (magic wrong) = magic (λ is. wrong (magic_read file is))
-fault_read file place some within (objects wrong) = objects (subst (λ (n : ℕ). IsWithin 1 4096 n → ⊥) (number_read file 9 (omega arith)) wrong)
-fault_read file place some within (cap wrong) = cap (subst (λ (n : ℕ). IsWithin 16 16384 n → ⊥) (number_read file 13 (omega arith)) wrong)
+fault_read file place some within (objects wrong) = objects (subst (λ (n : ℕ). IsWithin 1 4096 n → ⊥) (number_read file 0 21 9 4 (omega arith)) wrong)
+fault_read file place some within (cap wrong) = cap (subst (λ (n : ℕ). IsWithin 16 16384 n → ⊥) (number_read file 0 21 13 4 (omega arith)) wrong)
 fault_read file place some within (limit wrong) =
     limit (subst (λ (q : Params). IsWithin (2 * q.cap + 4096) 536870912 q.limit → ⊥) (params_read file) wrong)
 fault_read file place some within (cut in_range short) = absurd (omega (arith, some))
@@ -57,16 +57,16 @@ fault_read file place some within (identifier x s in_range slot wrong) = absurd 
 fault_read file place some within (long x s in_range slot wrong) = absurd (omega (arith, within))
 fault_read file place some within (twice x in_range first second same) = absurd (omega (arith, within))
 
-pub damaged_read : (file head : List ℕ) (place : ℕ) → head ≡ filled_up 21 (read_of file 0 21) → IsHeaderFault head place → IsDamagedAt file place
+pub damaged_read : (file head : List ℕ) (place : ℕ) → head ≡ padded file 0 21 → IsHeaderFault head place → IsDamagedAt file place
 damaged_read file head place is fault =
-    let here : IsHeaderFault (filled_up 21 (read_of file 0 21)) place = subst (λ (l : List ℕ). IsHeaderFault l place) is fault in
+    let here : IsHeaderFault (padded file 0 21) place = subst (λ (l : List ℕ). IsHeaderFault l place) is fault in
     record {
-      gate = sym (byte_read file 0 (omega arith)) ∙ here.damaged.gate;
+      gate = sym (get_or-padded file 0 21 0 (omega arith)) ∙ here.damaged.gate;
       fault = fault_read file place here.some here.within here.damaged.fault;
     }
 
-pub shut_read : (file head : List ℕ) → head ≡ filled_up 21 (read_of file 0 21) → IsShutAt 0 head → IsShutAt 0 file
-shut_read file head is shut is_open = shut (ap (λ (l : List ℕ). get_or l 0 0) is ∙ byte_read file 0 (omega arith) ∙ is_open)
+pub shut_read : (file head : List ℕ) → head ≡ padded file 0 21 → IsShutAt 0 head → IsShutAt 0 file
+shut_read file head is shut is_open = shut (ap (λ (l : List ℕ). get_or l 0 0) is ∙ get_or-padded file 0 21 0 (omega arith) ∙ is_open)
 
 -- a number read from the rest of a header
 pub number_slice : (head : List ℕ) (at : ℕ) → length head ≡ 21 → at + 4 ≤ 21 → little_number 4 (take (length head - at) (drop at head)) ≡ number_at 4 at head
@@ -112,21 +112,19 @@ pub fails_test : (P : Type 0) (b : Bool) → IsTrue b ↔ P → b ≡ false → 
 fails_test P b test is holds = let here = test.1 holds in cc
 
 -- a header that was read whole, in a file that reaches to the last slot
-pub header_read : (p : Params) (file head : List ℕ) → head ≡ filled_up 21 (read_of file 0 21) → IsInRange p → head ≡ 1 ∷ objects_fields p → last_slot p < length file → HasHeader p file
-header_read p file head is in_range fields within =
-    let none : 21 - length (take 21 file) ≡ 0 = omega (arith, length-take 21 file, within) in
-    record {
-      header = sym (append-nil (take 21 file)) ∙ ap (λ (k : ℕ). take 21 file ++ replicate {A = ℕ} k 0) (sym none) ∙ sym is ∙ fields;
-      in_range = in_range;
-      whole = within;
-    }
+pub header_read : (p : Params) (file head : List ℕ) → head ≡ padded file 0 21 → IsInRange p → head ≡ 1 ∷ objects_fields p → last_slot p < length file → HasHeader p file
+header_read p file head is in_range fields within = record {
+  header = sym (padded-within file 0 21 (omega (arith, within))) ∙ sym is ∙ fields;
+  in_range = in_range;
+  whole = within;
+}
 
 -- the file is too short
-pub cut_short : (p : Params) (file head : List ℕ) → head ≡ filled_up 21 (read_of file 0 21) → IsInRange p → head ≡ 1 ∷ objects_fields p → length file ≤ last_slot p → IsDamagedAt file 0
+pub cut_short : (p : Params) (file head : List ℕ) → head ≡ padded file 0 21 → IsInRange p → head ≡ 1 ∷ objects_fields p → length file ≤ last_slot p → IsDamagedAt file 0
 cut_short p file head is in_range fields short =
     let same : p ≡ params_in file = sym (params_of_header p head (take_all 21 head (omega (arith, ap length fields, length-objects_fields p)) ∙ fields) in_range) ∙ ap (λ (l : List ℕ). params_in l) is ∙ params_read file in
     record {
-      gate = sym (byte_read file 0 (omega arith)) ∙ ap (λ (l : List ℕ). get_or l 0 0) (sym is ∙ fields);
+      gate = sym (get_or-padded file 0 21 0 (omega arith)) ∙ ap (λ (l : List ℕ). get_or l 0 0) (sym is ∙ fields);
       fault = cut (subst IsInRange same in_range) (subst (λ (q : Params). length file ≤ last_slot q) same short);
     }
 

@@ -1,10 +1,11 @@
 -- What the heads that were read say of the slots.
 use Rattle.std.proofs.Common.{◌≡◌, ◌≢◌, ◌<◌, ◌≤◌, ◌+◌, ◌-◌, ◌*◌, ℕ, List, [], ◌∷◌, ◌++◌, length, get_or, take, drop, sym, ◌∙◌, ap, subst, arith, inl, inr, length-append}
 use Rattle.std.proofs.lemmas.Bool.{cases_eq, cases_lt}
-use Rattle.std.proofs.lemmas.List.{get_or-drop, get_or-take, get_or_append_left, get_or_push}
+use Rattle.std.proofs.lemmas.List.{get_or-take, get_or_append_left, get_or_push}
 use Rattle.byteorder.specs.Endian.{little_number}
 use Rattle.byteorder.specs.Numbers.{little_from-take}
-use Rattle.disk_model.specs.Disk.{Files, Disk, Stays, Rises, read_of}
+use Rattle.disk_model.specs.Disk.{Files, Disk, Stays, Rises}
+use Rattle.disk_model.specs.Padded.{padded, get_or-padded}
 use Rattle.disk_model.specs.Moments.{stays_twice}
 use Rattle.disk_model.specs.declared.machine.FileNo.TheVariants.{Objects}
 use Rattle.formats.specs.Bytes.{byte_at, number_at, IsOpenAt, IsShutAt}
@@ -13,32 +14,20 @@ use Rattle.formats.specs.Image.{params_in, IsObjectsFault, identifier, long, twi
 use Rattle.formats.specs.declared.params.Params.{Params}
 use Rattle.stable_objects.specs.SlotsView.{AreOf}
 use Rattle.stable_objects.specs.Heads.{head_at, IsReadAt, IsHeadFault, no_number, too_long, IsPair, IsPairFault, in_head, alike, ArePairs, HasPairFault}
-use Rattle.stable_objects.specs.Reading.{filled_up, FailsBy, FailsAt, HasHeader, IsDamagedAt}
+use Rattle.stable_objects.specs.Reading.{FailsBy, FailsAt, HasHeader, IsDamagedAt}
 use Rattle.stable_objects.specs.Laws.{params_of_header}
 use Rattle.stable_objects.specs.SlotLaws.{shut_tells, open_tells}
 use Rattle.stable_objects.specs.declared.slot_err.SlotErr.{SlotErr}
-use Rattle.stable_objects.proofs.Bytes.{byte_filled, number_same}
-use Rattle.stable_objects.proofs.Found.{moved}
-
--- the bytes that were read are those of the file, and so are the numbers
-byte_from : (file : List ℕ) (place n i : ℕ) → i < n → get_or (filled_up n (read_of file place n)) i 0 ≡ byte_at (place + i) file
-byte_from file place n i less = byte_filled (read_of file place n) (n - length (read_of file place n)) i ∙ get_or-take n (drop place file) i 0 less ∙ get_or-drop place file i 0
-
-pub number_from : (file : List ℕ) (place n at k : ℕ) → at + k ≤ n → number_at k at (filled_up n (read_of file place n)) ≡ number_at k (place + at) file
-number_from file place n at k within =
-    let bytes = filled_up n (read_of file place n) in
-    number_same 0 k (drop at bytes) (drop (place + at) file) (λ j low high.
-    let spot : place + (at + j) ≡ place + at + j = omega arith in
-    get_or-drop at bytes j 0 ∙ byte_from file place n (at + j) (omega (arith, high, within)) ∙ ap (λ (i : ℕ). get_or file i 0) spot ∙ sym (get_or-drop (place + at) file j 0))
+use Rattle.stable_objects.proofs.Found.{number_read, moved}
 
 -- the head that was read is the file's
-pub head_read : (file bytes : List ℕ) (place : ℕ) → bytes ≡ filled_up 13 (read_of file place 13) → head_at 0 bytes ≡ head_at place file
+pub head_read : (file bytes : List ℕ) (place : ℕ) → bytes ≡ padded file place 13 → head_at 0 bytes ≡ head_at place file
 head_read file bytes place is =
-    let read = filled_up 13 (read_of file place 13) in
+    let read = padded file place 13 in
     let spot : place + 0 ≡ place = omega arith in
-    let gate : byte_at 0 read ≡ byte_at place file = byte_from file place 13 0 (omega arith) ∙ ap (λ (i : ℕ). byte_at i file) spot in
-    let number = number_from file place 13 1 8 (omega arith) in
-    let length_is = number_from file place 13 9 4 (omega arith) in
+    let gate : byte_at 0 read ≡ byte_at place file = get_or-padded file place 13 0 (omega arith) ∙ ap (λ (i : ℕ). byte_at i file) spot in
+    let number = number_read file place 13 1 8 (omega arith) in
+    let length_is = number_read file place 13 9 4 (omega arith) in
     ap (λ (l : List ℕ). head_at 0 l) is ∙ (λ i. record { gate = gate i; identifier = number i; long = length_is i })
 
 -- a number read from the rest of the bytes

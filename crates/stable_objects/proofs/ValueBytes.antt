@@ -3,20 +3,21 @@ use Rattle.std.proofs.Common.{◌≡◌, ◌≢◌, ◌<◌, ◌≤◌, ◌+◌,
 use Rattle.std.proofs.lemmas.List.{take_at, take_all}
 use Rattle.byteorder.specs.Endian.{little_number}
 use Rattle.disk_model.specs.Disk.{read_of}
+use Rattle.disk_model.specs.Padded.{padded}
 use Rattle.formats.specs.Bytes.{number_at, IsOpenAt}
 use Rattle.formats.specs.Objects.{slot_place, length_at, value_at, holder, cell_of}
 use Rattle.stable_objects.specs.SlotsView.{SlotsView, AreOf, id_in, holder_in}
-use Rattle.stable_objects.specs.Reading.{filled_up, FailsBy, FailsAt, IsLongValue, IsNoDamage}
+use Rattle.stable_objects.specs.Reading.{FailsBy, FailsAt, IsLongValue, IsNoDamage}
 use Rattle.stable_objects.specs.declared.slot_err.SlotErr.{SlotErr}
 use Rattle.stable_objects.specs.declared.slot_err.SlotErr.TheVariants.{NotAStore, DiskFault, Damaged, Memory}
 use Rattle.stable_objects.specs.SlotLaws.{open_value, told_is_open, holder_below, holder_is, id_is}
-use Rattle.stable_objects.proofs.HeadBytes.{number_from}
+use Rattle.stable_objects.proofs.Found.{number_read}
 
 -- the length that was read is the file's
-pub length_read : (file bytes : List ℕ) (place : ℕ) → bytes ≡ filled_up 4 (read_of file (place + 9) 4) → little_number 4 bytes ≡ length_at place file
+pub length_read : (file bytes : List ℕ) (place : ℕ) → bytes ≡ padded file (place + 9) 4 → little_number 4 bytes ≡ length_at place file
 length_read file bytes place is =
     let spot : place + 9 + 0 ≡ place + 9 = omega arith in
-    ap (λ (l : List ℕ). little_number 4 l) is ∙ number_from file (place + 9) 4 0 4 (omega arith) ∙ ap (λ (k : ℕ). number_at 4 k file) spot
+    ap (λ (l : List ℕ). little_number 4 l) is ∙ number_read file (place + 9) 4 0 4 (omega arith) ∙ ap (λ (k : ℕ). number_at 4 k file) spot
 
 -- a read that gave fewer bytes met the file's end
 pub value_cut : (file : List ℕ) (cap place n read : ℕ) → n ≡ length_at place file → read ≡ length (read_of file (place + 13) n) → read < n → IsLongValue cap place file (place + 9)

@@ -1,5 +1,5 @@
 -- What a reader of the objects file finds, and why it fails.
-use Rattle.std.specs.Prelude.{◌≡◌, ◌<◌, ◌≤◌, ◌+◌, ◌-◌, ⊤, ℕ, List, ◌∷◌, ◌++◌, length, take, replicate}
+use Rattle.std.specs.Prelude.{◌≡◌, ◌<◌, ◌≤◌, ◌+◌, ⊤, ℕ, List, ◌∷◌, length, take}
 use Rattle.disk_model.specs.declared.machine.FileNo.{FileNo}
 use Rattle.disk_model.specs.declared.machine.FileNo.TheVariants.{Objects}
 use Rattle.formats.specs.Bytes.{IsOpenAt}
@@ -48,10 +48,6 @@ pub record HasHeader (p : Params) (file : List ℕ) : Type 0 where
 pub record IsLongValue (cap place : ℕ) (file : List ℕ) (at : ℕ) : Type 0 where
   pub here : at ≡ place + 9
   pub long : length_at place file ≤ cap → (0 < length_at place file → place + 13 + length_at place file ≤ length file) → ⊥
-
--- n bytes of which these are the first, the others 0
-abbrev pub filled_up : ℕ → List ℕ → List ℕ
-filled_up n bytes = bytes ++ replicate (n - length bytes) 0
 
 -- a call that hands on why another failed
 pub fails_on : (rises rises' shut shut' : Type 0) (fault fault' : FileNo → ℕ → Type 0) (e : SlotErr) → (rises → rises') → (shut → shut') → ((file : FileNo) (place : ℕ) → fault file place → fault' file place)

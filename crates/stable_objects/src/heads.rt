@@ -8,10 +8,9 @@ ghost use Rattle.stable_objects.specs.Reading.{FailsBy, FailsAt};
 
 use crate::SlotErr;
 use crate::layout::{OPEN, SLOT_HEAD_BYTES, place_of};
-use crate::reading::read_at;
 use crate::slot_err::damaged_at;
 use byteorder::{ByteOrder, LittleEndian};
-use disk_model::Machine;
+use disk_model::{FileNo, Machine, read_padded};
 use formats::{NUMBERS_END, Params};
 use std::alloc::Global;
 
@@ -48,7 +47,7 @@ fn read_head<M: Machine>(machine: &mut M, cap: u32, place: u64, size: u64) -> Re
         (FailsAt (λ at. (M.disk machine.old).tells_files → IsHeadFault cap place size (head_at place ((M.disk machine.old).reads Objects)) at))) }
 {
     let mut head = [0; SLOT_HEAD_BYTES as usize];
-    read_at(machine, place, &mut head)?;
+    read_padded(machine, FileNo::Objects, place, &mut head)?;
     let id = parse_head(&head, cap, place, size)?;
     Ok(id)
 }

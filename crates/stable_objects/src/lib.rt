@@ -11,7 +11,6 @@ mod heads;
 mod layout;
 mod loading;
 mod opening;
-mod reading;
 mod replacing;
 mod slot_err;
 mod slots;

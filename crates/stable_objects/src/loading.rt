@@ -13,11 +13,10 @@ use crate::layout::{
     CAP_PLACE, HEADER_BYTES, LEAST_ROOM, LIMIT_PLACE, MAGIC, MAGIC_PLACE, MAX_CAP, MAX_LIMIT,
     MAX_OBJECTS, MIN_CAP, OBJECTS_PLACE, OPEN, gate_place,
 };
-use crate::reading::read_at;
 use crate::slot_err::damaged_at;
 use crate::{SlotErr, Slots};
 use byteorder::{ByteOrder, LittleEndian};
-use disk_model::{FileNo, Machine};
+use disk_model::{FileNo, Machine, read_padded};
 use formats::Params;
 use std::alloc::Global;
 
@@ -62,7 +61,7 @@ fn read_header<M: Machine>(machine: &mut M) -> Result<Params, SlotErr>
         (FailsAt (λ place. (M.disk machine.old).tells_files → IsDamagedAt ((M.disk machine.old).reads Objects) place))) }
 {
     let mut head = [0; HEADER_BYTES];
-    read_at(machine, 0, &mut head)?;
+    read_padded(machine, FileNo::Objects, 0, &mut head)?;
     let params = parse_header(&head)?;
     let size = machine.size(FileNo::Objects)?;
     if size <= gate_place(params.cap, 2 * params.objects - 1) {

@@ -7,11 +7,10 @@ ghost use Rattle.stable_objects.specs.SlotsView.{AreOf, id_in, holder_in};
 ghost use Rattle.stable_objects.specs.Reading.{FailsBy, FailsAt, IsLongValue, IsNoDamage};
 
 use crate::layout::{SLOT_HEAD_BYTES, gate_place};
-use crate::reading::read_at;
 use crate::slot_err::damaged_at;
 use crate::{SlotErr, Slots};
 use byteorder::{ByteOrder, LittleEndian};
-use disk_model::{FileNo, Machine};
+use disk_model::{FileNo, Machine, read_padded};
 
 // Reads the value in the slot at a place.
 fn read_value<M: Machine>(
@@ -28,7 +27,7 @@ fn read_value<M: Machine>(
         (FailsAt (λ at. (M.disk machine.old).tells_files → IsLongValue cap place ((M.disk machine.old).reads Objects) at))) }
 {
     let mut bytes = [0; 4];
-    read_at(machine, place + 9, &mut bytes)?;
+    read_padded(machine, FileNo::Objects, place + 9, &mut bytes)?;
     let long = LittleEndian::read_u32(&bytes);
     if long > cap {
         return Err(damaged_at(place + 9));

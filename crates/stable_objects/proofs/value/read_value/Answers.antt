@@ -9,9 +9,9 @@ returns-then-read-long-clause-cause g c = rw c.damaged_at-then-read-long.ensures
   refl,
   λ told.
       let file = (g.M.Machine.disk c.args.machine.now).reads Objects in
-      let kept = c.read_at.ensures.kept in
+      let kept = c.read_padded.ensures.kept in
       let n = c.read_u32-long.result in
-      let is = c.read_u32-long.ensures ∙ length_read file c.read_at.new.into c.args.place (c.in_ok-read_at.ensures.bytes told) in
+      let is = c.read_u32-long.ensures ∙ length_read file c.read_padded.new.into c.args.place (c.in_ok-read_padded.ensures.bytes told) in
       let given : length c.as_mut_slice.result.now ≡ n = c.as_mut_slice.ensures.len ∙ c.in_ok-resize.ensures.len in
       let count = c.in_ok-read.ensures.count (kept.time.files_told.0 told) ∙ ap (λ (f : Files). length (read_of (f Objects) (c.args.place + 13) (length c.as_mut_slice.result.now))) (kept.reads told)
       ∙ ap (λ (k : ℕ). length (read_of file (c.args.place + 13) k)) given in
@@ -21,9 +21,9 @@ returns-then-read-long-clause-cause g c = rw c.damaged_at-then-read-long.ensures
 pub returns-clause-value : goal.returns-clause-value
 returns-clause-value g c told =
     let file = (g.M.Machine.disk c.args.machine.now).reads Objects in
-    let kept = c.read_at.ensures.kept in
+    let kept = c.read_padded.ensures.kept in
     let n = c.read_u32-long.result in
-    let is = c.read_u32-long.ensures ∙ length_read file c.read_at.new.into c.args.place (c.in_ok-read_at.ensures.bytes told) in
+    let is = c.read_u32-long.ensures ∙ length_read file c.read_padded.new.into c.args.place (c.in_ok-read_padded.ensures.bytes told) in
     let given : length c.as_mut_slice.result.now ≡ n = c.as_mut_slice.ensures.len ∙ c.in_ok-resize.ensures.len in
     let bytes = c.in_ok-read.ensures.bytes (kept.time.files_told.0 told) ∙ ap (λ (f : Files). read_of (f Objects) (c.args.place + 13) (length c.as_mut_slice.result.now)) (kept.reads told)
     ∙ ap (λ (k : ℕ). read_of file (c.args.place + 13) k) given in
