@@ -1,13 +1,10 @@
 -- What slots hold, and what of it a change within one slot leaves.
-use Rattle.std.proofs.Common.{◌≡◌, ◌≢◌, ◌⊎◌, inl, inr, ◌<◌, ◌≤◌, ◌+◌, ◌-◌, ◌*◌, ℕ, zero, suc, Bool, true, false, if◌then◌else◌, nat_eq, nat_lt, List, [], length, get_or, take, drop, refl, sym, ◌∙◌, ap, subst, arith}
-use Rattle.std.proofs.lemmas.Bool.{cases_eq, cases_lt, eq-eqb, ne_eqb, lt-ltb, le-ltb}
+use Rattle.std.proofs.Common.{◌≡◌, ◌≢◌, inl, inr, ◌<◌, ◌≤◌, ◌-◌, ℕ, zero, suc, Bool, true, false, if◌then◌else◌, nat_lt, List, [], refl, sym, ◌∙◌, ap, arith}
+use Rattle.std.proofs.lemmas.Bool.{cases_eq, eq-eqb, ne_eqb, lt-ltb, le-ltb}
 use Rattle.formats.specs.Bytes.{byte_at, IsOpenAt, IsShutAt}
 use Rattle.oper_core.specs.Cell.{Cell}
-use Rattle.formats.specs.Objects.{IsObjectsFile, AreSlotsWhole, IsWholeSlot, slot_place, identifier_at, length_at, value_at, open_identifier, cell_at, cell_of, holder}
+use Rattle.formats.specs.Objects.{AreSlotsWhole, IsWholeSlot, slot_place, identifier_at, value_at, open_identifier, cell_at, cell_of}
 use Rattle.formats.specs.declared.params.Params.{Params}
-use Rattle.stable_objects.specs.Replacing.{AgreesOutside, IsFilled, OthersKept}
-use Rattle.stable_objects.proofs.Outside.{read_same, number_stays}
-use Rattle.stable_objects.proofs.Places.{places_apart, place_within}
 
 abbrev pub no_cell : Cell
 no_cell = record { id = 0; value = [] }

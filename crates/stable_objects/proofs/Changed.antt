@@ -1,14 +1,14 @@
 -- An objects file that changes within one slot.
-use Rattle.std.proofs.Common.{◌≡◌, ◌≢◌, ◌⊎◌, inl, inr, ◌<◌, ◌≤◌, ◌+◌, ◌-◌, ◌*◌, ◌^◌, ℕ, zero, suc, List, length, take, drop, refl, sym, ◌∙◌, ap, subst, arith}
+use Rattle.std.proofs.Common.{◌≡◌, ◌≢◌, ◌⊎◌, inl, inr, ◌<◌, ◌≤◌, ◌+◌, ◌-◌, ◌*◌, ◌^◌, ℕ, zero, suc, List, length, take, drop, sym, ◌∙◌, ap, subst, arith}
 use Rattle.std.proofs.lemmas.Bool.{cases_eq}
 use Rattle.formats.specs.Bytes.{byte_at, IsOpenAt, IsShutAt}
 use Rattle.oper_core.specs.Cell.{Cell}
-use Rattle.formats.specs.Objects.{IsObjectsFile, AreSlotsWhole, IsWholeSlot, slot_place, identifier_at, length_at, value_at, open_identifier, cell_at, cell_of, objects_fields}
+use Rattle.formats.specs.Objects.{IsObjectsFile, IsWholeSlot, slot_place, identifier_at, length_at, value_at, open_identifier, cell_at, cell_of}
 use Rattle.formats.specs.declared.params.Params.{Params}
 use Rattle.stable_objects.specs.Replacing.{AgreesOutside, IsFilled, OthersKept}
 use Rattle.stable_objects.proofs.Outside.{IsBeside, byte_beside, read_same, number_stays}
 use Rattle.stable_objects.proofs.Places.{places_apart, place_within}
-use Rattle.stable_objects.proofs.Cells.{whole_cell, no_cell, open_cell, shut_cell, greater, cell_is_greater, held_in}
+use Rattle.stable_objects.proofs.Cells.{whole_cell, open_cell, shut_cell, greater, cell_is_greater, held_in}
 
 -- a slot holds what it held
 pub record SlotStays (cap place : ℕ) (old new : List ℕ) : Type 0 where

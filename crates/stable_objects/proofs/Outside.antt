@@ -1,13 +1,13 @@
 -- A file that agrees with another outside a range: what is read there is the same.
-use Rattle.std.proofs.Common.{◌≡◌, ◌⊎◌, inl, inr, ◌<◌, ◌≤◌, ◌+◌, ◌-◌, ℕ, List, [], ◌∷◌, ◌++◌, length, get_or, take, drop, min, refl, sym, ◌∙◌, ap, subst, arith, ◌^◌, append_assoc, length-append, length-take, length-drop}
-use Rattle.std.proofs.lemmas.List.{get_or-drop, get_or-take, take_at, drop_at, drop-drop, take-append-drop}
+use Rattle.std.proofs.Common.{◌≡◌, ◌⊎◌, inl, inr, ◌<◌, ◌≤◌, ◌+◌, ◌-◌, ℕ, List, ◌++◌, length, get_or, take, drop, min, sym, ◌∙◌, ap, subst, arith, ◌^◌, append_assoc, length-append, length-take, length-drop}
+use Rattle.std.proofs.lemmas.List.{get_or-drop, get_or-take, drop_at, drop-drop, take-append-drop}
 use Rattle.std.proofs.lemmas.Grind.{same_number_lists}
 use Rattle.byteorder.specs.Endian.{little_bytes, little_number}
 use Rattle.oper_core.specs.LittleEndian.{length-little_bytes, little_number-little_bytes}
-use Rattle.disk_model.specs.Disk.{Torn, Holds, written_over, read_of}
+use Rattle.disk_model.specs.Disk.{Torn, Holds}
 use Rattle.disk_model.specs.RecordLaws.{torn_whole}
 use Rattle.formats.specs.Bytes.{byte_at, number_at}
-use Rattle.formats.specs.Objects.{identifier_at, length_at, value_at}
+use Rattle.formats.specs.Objects.{identifier_at, length_at}
 use Rattle.stable_objects.specs.Replacing.{AgreesOutside, IsFilled}
 use Rattle.stable_objects.proofs.Bytes.{number_same, written_long, written_read}
 

@@ -1,8 +1,8 @@
 -- Where slots stand.
-use Rattle.std.proofs.Common.{◌≡◌, ◌≢◌, ◌⊎◌, inl, inr, ◌<◌, ◌≤◌, ◌+◌, ◌-◌, ◌*◌, ◌^◌, ℕ, List, length, arith}
+use Rattle.std.proofs.Common.{◌≢◌, ◌⊎◌, inl, inr, ◌<◌, ◌≤◌, ◌+◌, ◌-◌, ◌*◌, ◌^◌, ℕ, List, length, arith}
 use Rattle.std.proofs.lemmas.Bool.{cases_lt}
 use Rattle.std.proofs.lemmas.Nat.{mul-le}
-use Rattle.formats.specs.Objects.{slot_place, last_slot, IsObjectsFile}
+use Rattle.formats.specs.Objects.{slot_place, last_slot}
 use Rattle.formats.specs.declared.params.Params.{Params}
 
 -- the slots before a number take no more room than those before a later one

@@ -1,6 +1,6 @@
 -- What the writes that fill a slot and open it leave.
-use Rattle.std.proofs.Common.{◌≡◌, ◌<◌, ◌≤◌, ◌+◌, inl, inr, ℕ, List, [], ◌∷◌, length, sym, ◌∙◌, ap, subst, arith}
-use Rattle.disk_model.specs.Disk.{Files, Disk, Runs, Stays, Same, In, Torn, Holds, Any, IsSettled, IsSettledIn, LeavesOnly}
+use Rattle.std.proofs.Common.{◌≡◌, ◌<◌, ◌+◌, inl, inr, ℕ, List, [], ◌∷◌, length, sym, ◌∙◌, ap, subst, arith}
+use Rattle.disk_model.specs.Disk.{Disk, Runs, Stays, Same, In, Torn, Holds, Any, IsSettled, IsSettledIn, LeavesOnly}
 use Rattle.disk_model.specs.Moments.{runs_join, runs_wider, runs_then_stays, settled_again, from_reads, first_call, goes_on}
 use Rattle.disk_model.specs.Ranges.{torn_wider, run_apart}
 use Rattle.disk_model.specs.declared.machine.FileNo.TheVariants.{Objects}

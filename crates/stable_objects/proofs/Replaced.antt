@@ -1,22 +1,22 @@
 -- The steps of a replacement, each of them from a settled machine.
-use Rattle.std.proofs.Common.{◌≡◌, ◌≢◌, ◌⊎◌, inl, inr, ⊎_elim, ◌<◌, ◌≤◌, ◌+◌, ◌-◌, ◌*◌, ◌^◌, ℕ, Bool, true, false, if◌then◌else◌, nat_lt, List, length, set, get_or, refl, sym, ◌∙◌, ap, subst, arith}
+use Rattle.std.proofs.Common.{◌≡◌, ◌≢◌, inl, inr, ⊎_elim, ◌<◌, ◌≤◌, ◌+◌, ◌-◌, ◌*◌, ◌^◌, ℕ, Bool, true, false, if◌then◌else◌, nat_lt, List, length, set, get_or, refl, sym, ◌∙◌, ap, subst, arith}
 use Rattle.std.proofs.lemmas.Bool.{cases_eq, ltb-true, ltb-false}
 use Rattle.std.proofs.lemmas.List.{get_or-set_other, get_or_default, length-set}
 use Rattle.std.proofs.lemmas.Grind.{get_or-set_at}
-use Rattle.disk_model.specs.Disk.{Files, Disk, Runs, Stays, Same, In, Torn, Any, IsSettled, LeavesOnly}
+use Rattle.disk_model.specs.Disk.{Files, Disk, Runs, Stays, Same, In, Torn, IsSettled, LeavesOnly}
 use Rattle.disk_model.specs.Moments.{from_reads, first_call, runs_on, weaker}
 use Rattle.disk_model.specs.declared.machine.FileNo.TheVariants.{Objects}
 use Rattle.formats.specs.Bytes.{byte_at, IsOpenAt, IsShutAt}
 use Rattle.oper_core.specs.Cell.{Cell}
-use Rattle.formats.specs.Objects.{IsObjectsFile, IsWholeSlot, slot_place, identifier_at, open_identifier, cell_at, cell_of}
+use Rattle.formats.specs.Objects.{IsWholeSlot, slot_place, open_identifier}
 use Rattle.formats.specs.declared.params.Params.{Params}
-use Rattle.stable_objects.specs.SlotsView.{SlotsView, AreOf, AreHeads, head, holder_in, id_in}
+use Rattle.stable_objects.specs.SlotsView.{SlotsView, AreOf, AreHeads, head, id_in}
 use Rattle.stable_objects.specs.SlotGates.{slot_gate}
 use Rattle.stable_objects.specs.Replacing.{AgreesOutside, IsFilled, IsPut, IsHalfPut, IsOldOrNew, IsReplaced, spare_in}
 use Rattle.stable_objects.proofs.Outside.{torn_agrees, agrees_wider, agrees_twice, agrees_same}
 use Rattle.stable_objects.proofs.Places.{place_within}
-use Rattle.stable_objects.proofs.Cells.{open_cell, shut_cell, closed_where_none, open_where_some, less_where_open}
-use Rattle.stable_objects.proofs.Changed.{IsLower, IsKept, IsRenewed, kept, renewed, shut_lower, torn_lower, each_stays}
+use Rattle.stable_objects.proofs.Cells.{open_cell, closed_where_none, open_where_some, less_where_open}
+use Rattle.stable_objects.proofs.Changed.{IsLower, kept, renewed, shut_lower, torn_lower, each_stays}
 
 -- of two identifiers that of the spare slot is no greater, and the other is the object's
 pub record IsSpare (slots : SlotsView) (x s : ℕ) : Type 0 where
