@@ -1,6 +1,6 @@
 -- How a search against the arcs goes on.
-use Rattle.std.proofs.Common.{◌≡◌, ◌∙◌, ap, sym, subst, ℕ, zero, suc, ◌+◌, ◌/◌, ◌<◌, ◌≤◌, Bool, List, [], ◌∷◌, ◌++◌, append_assoc, append-nil, length, length-append, refl, arith, inl, inr}
-use Rattle.std.specs.Prelude.{IsTrue, ◌==◌, ◌↔◌, ◌⊎◌, Option, None, Some, IsSome, IsNone, slice_index, slice_index_or}
+use Rattle.std.proofs.Common.{◌≡◌, ◌∙◌, ap, sym, subst, ℕ, zero, suc, ◌+◌, ◌/◌, ◌<◌, ◌≤◌, List, [], ◌∷◌, ◌++◌, append_assoc, append-nil, length, length-append, refl, arith, inl, inr}
+use Rattle.std.specs.Prelude.{IsTrue, ◌==◌, ◌↔◌, ◌⊎◌, Option, IsSome, slice_index}
 use Rattle.std.proofs.lemmas.Bool.{cases_eq, cases_lt, both_ways, or_left, or_right, or_cases, eqb-true, eq-eqb}
 use Rattle.std.proofs.lemmas.List.{get_or_default}
 use Rattle.oper_core.specs.State.{is_among}
@@ -9,7 +9,7 @@ use Rattle.sparse_order.specs.Digraph.Walk.{Here, Then}
 use Rattle.sparse_order.specs.MergeLaws.{walk-on}
 use Rattle.number_lists.specs.Lists.{Lists, list_at}
 use Rattle.number_lists.specs.Members.{Members, IsWith}
-use Rattle.graph_nodes.specs.Arcs.{arc_at, node_at, IsStartOf, IsStartAmong}
+use Rattle.graph_nodes.specs.Arcs.{arc_at, node_at, IsStartOf}
 use Rattle.graph_nodes.specs.Search.{AreKept, IsLookedBack, AreLookedBack, IsBehind, IsExpanded, IsSearched}
 
 pub kept-twice : (a b c : Members) → AreKept a b → AreKept b c → AreKept a c

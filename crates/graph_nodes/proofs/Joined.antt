@@ -1,12 +1,12 @@
 -- How nodes are merged.
-use Rattle.std.proofs.Common.{◌≡◌, ◌≢◌, ◌∙◌, ap, sym, subst, ℕ, zero, suc, ◌+◌, ◌<◌, ◌≤◌, Bool, false, List, [], ◌∷◌, ◌++◌, take, length, refl, arith, inl, inr}
-use Rattle.std.specs.Prelude.{IsTrue, IsFalse, ◌==◌, ◌||◌, ◌↔◌, ◌⊎◌, if◌then◌else◌, slice_index, slice_set}
-use Rattle.std.proofs.lemmas.Bool.{cases_eq, cases_lt, cases_Bool, both_ways, or_left, or_right, or_cases, or_from, eqb-true, eq-eqb, ne_eqb, cond-true, cond-false, false_from_ne_true}
+use Rattle.std.proofs.Common.{◌≡◌, ◌≢◌, ◌∙◌, ap, sym, subst, ℕ, ◌+◌, ◌<◌, Bool, false, List, [], ◌∷◌, ◌++◌, length, refl, arith, inl, inr}
+use Rattle.std.specs.Prelude.{IsTrue, ◌==◌, ◌||◌, ◌⊎◌, if◌then◌else◌, slice_index, slice_set}
+use Rattle.std.proofs.lemmas.Bool.{cases_eq, cases_Bool, both_ways, or_left, or_from, eq-eqb, ne_eqb, cond-true, cond-false}
 use Rattle.std.proofs.lemmas.List.{get_or-set_same, get_or-set_other, length-set}
 use Rattle.oper_core.specs.State.{is_among}
 use Rattle.number_lists.specs.Lists.{Lists, list_at, AreAsMany, IsPoured}
 use Rattle.graph_nodes.specs.Arcs.{node_at}
-use Rattle.graph_nodes.specs.Merge.{IsFiled, IsRelabelled, renamed, gathered, AreMoved, AreRenamed, IsAbsorbed, AreMerged}
+use Rattle.graph_nodes.specs.Merge.{IsFiled, IsRelabelled, renamed, gathered, AreMoved, IsAbsorbed, AreMerged}
 use Rattle.graph_nodes.proofs.Found.{among-place, place-among}
 
 -- the first so many of the slots

@@ -1,6 +1,6 @@
 -- The nodes with one arc more.
-use Rattle.std.proofs.Common.{rules, ◌≡◌, ◌≢◌, ◌∙◌, ap, sym, subst, ℕ, zero, suc, ◌+◌, ◌*◌, ◌/◌, ◌<◌, ◌≤◌, Bool, List, [], ◌∷◌, ◌++◌, take, drop, append-nil, length, refl, arith, inl, inr}
-use Rattle.std.specs.Prelude.{IsTrue, IsFalse, ◌==◌, ◌↔◌, ◌⊎◌, Option, None, Some, IsSome, if◌then◌else◌, slice_index, slice_index_or, slice_set}
+use Rattle.std.proofs.Common.{rules, ◌≡◌, ◌≢◌, ◌∙◌, ap, sym, subst, ℕ, zero, suc, ◌*◌, ◌/◌, ◌<◌, ◌≤◌, List, [], ◌∷◌, ◌++◌, take, drop, append-nil, length, refl, arith, inl, inr}
+use Rattle.std.specs.Prelude.{IsTrue, IsFalse, ◌==◌, ◌↔◌, ◌⊎◌, Option, None, Some, IsSome, slice_index_or, slice_set}
 use Rattle.std.proofs.lemmas.Bool.{cases_eq, cases_lt, cases_Bool, both_ways, or_left, or_right, or_cases, eqb-true, eq-eqb, cond-true, cond-false, false_from_ne_true}
 use Rattle.std.proofs.lemmas.List.{get_or-set_same, get_or-set_other, length-set, get_or_default, take_all}
 use Rattle.std.proofs.Math.ListN.{get_or-eq_default}
@@ -8,12 +8,12 @@ use Rattle.oper_core.specs.State.{is_among}
 use Rattle.sparse_order.specs.Digraph.{Walk, Joined, AreNodes, AreLevels, with_arc, IsOnWay, IsFound, AreWhole, merged}
 use Rattle.sparse_order.specs.Digraph.Walk.{Here, Then}
 use Rattle.sparse_order.specs.MergeLaws.{walk-on, nodes-stay, found-way, closure-way, nodes-merged}
-use Rattle.number_lists.specs.Lists.{Lists, list_at, AreAsMany, IsFree, IsPushed}
-use Rattle.graph_nodes.specs.Arcs.{arc_at, node_at, IsArc, IsStartOf, IsStartAmong, AreCells}
+use Rattle.number_lists.specs.Lists.{Lists, list_at, IsFree, IsPushed}
+use Rattle.graph_nodes.specs.Arcs.{arc_at, node_at, IsArc, AreCells}
 use Rattle.graph_nodes.specs.Search.{IsBehind, IsSearched}
 use Rattle.graph_nodes.specs.Spread.{IsSpread}
-use Rattle.graph_nodes.specs.Merge.{IsFiled, gathered, AreMoved, AreRenamed}
-use Rattle.graph_nodes.specs.Kept.{AreInto, AreInRange, IsKept, AreOnWay, AreJoined}
+use Rattle.graph_nodes.specs.Merge.{gathered, AreMoved}
+use Rattle.graph_nodes.specs.Kept.{AreInto, IsKept, AreOnWay, AreJoined}
 
 some-is : (j : ℕ) → IsSome (Some j)
 some-is j = search rules

@@ -1,15 +1,13 @@
 -- One slot more.
-use Rattle.std.proofs.Common.{◌≡◌, ◌≢◌, ◌∙◌, ap, sym, subst, ℕ, zero, suc, ◌+◌, ◌*◌, ◌/◌, ◌<◌, ◌≤◌, Bool, List, [], ◌∷◌, ◌++◌, append_assoc, append-nil, length, length-append, refl, arith, inl, inr}
-use Rattle.std.specs.Prelude.{IsTrue, ◌==◌, ◌↔◌, ◌⊎◌, Option, None, Some, replicate, slice_index_or}
-use Rattle.std.specs.Vec.{vec_capacity}
-use Rattle.std.proofs.lemmas.Bool.{cases_eq, cases_lt, both_ways, or_left, or_right, or_cases, eqb-true, eq-eqb}
+use Rattle.std.proofs.Common.{◌≡◌, ◌∙◌, ap, sym, subst, ℕ, zero, suc, ◌+◌, ◌<◌, ◌≤◌, List, [], ◌∷◌, ◌++◌, append_assoc, append-nil, length, length-append, refl, arith, inl, inr}
+use Rattle.std.specs.Prelude.{IsTrue, ◌==◌, Option, None, slice_index_or}
+use Rattle.std.proofs.lemmas.Bool.{cases_eq, cases_lt, both_ways, or_left, or_cases, eqb-true, eq-eqb}
 use Rattle.std.proofs.Math.ListN.{get_or-eq_default}
 use Rattle.oper_core.specs.State.{is_among}
-use Rattle.sparse_order.specs.Digraph.{AreNodes}
-use Rattle.number_lists.specs.Lists.{Lists, list_at, IsFree, IsWider, IsLonger, IsPushed}
+use Rattle.number_lists.specs.Lists.{Lists, list_at, IsWider, IsLonger, IsPushed}
 use Rattle.graph_nodes.specs.Arcs.{arc_at, node_at, IsArc}
 use Rattle.graph_nodes.specs.Merge.{IsFiled}
-use Rattle.graph_nodes.specs.Kept.{AreInto, AreInRange, IsKept, no_arcs, AreCellsAdded}
+use Rattle.graph_nodes.specs.Kept.{IsKept, no_arcs, AreCellsAdded}
 use Rattle.graph_nodes.proofs.Ordered.{nodes-iff, same-nodes}
 
 -- one more cell

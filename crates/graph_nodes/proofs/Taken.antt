@@ -1,14 +1,14 @@
 -- How the nodes spread that walks lead to.
-use Rattle.std.proofs.Common.{◌≡◌, ◌∙◌, ap, sym, subst, ℕ, zero, suc, ◌+◌, ◌/◌, ◌<◌, ◌≤◌, Bool, List, [], ◌∷◌, ◌++◌, append_assoc, append-nil, length, length-append, refl, arith, inl, inr}
-use Rattle.std.specs.Prelude.{IsTrue, ◌==◌, ◌↔◌, ◌⊎◌, Option, None, Some, IsSome, slice_index}
-use Rattle.std.proofs.lemmas.Bool.{cases_eq, cases_lt, both_ways}
+use Rattle.std.proofs.Common.{◌≡◌, ◌∙◌, ap, sym, subst, ℕ, ◌+◌, ◌/◌, ◌<◌, ◌≤◌, List, [], ◌∷◌, ◌++◌, append-nil, length, length-append, refl, arith, inl, inr}
+use Rattle.std.specs.Prelude.{IsTrue, ◌↔◌, ◌⊎◌, Option, IsSome, slice_index}
+use Rattle.std.proofs.lemmas.Bool.{cases_eq, both_ways}
 use Rattle.oper_core.specs.State.{is_among}
 use Rattle.sparse_order.specs.Digraph.{Walk}
 use Rattle.sparse_order.specs.Digraph.Walk.{Here, Then}
 use Rattle.sparse_order.specs.MergeLaws.{walk-on}
 use Rattle.number_lists.specs.Lists.{Lists, list_at}
 use Rattle.number_lists.specs.Members.{Members, IsWith}
-use Rattle.graph_nodes.specs.Arcs.{arc_at, node_at, IsStartOf, IsStartAmong}
+use Rattle.graph_nodes.specs.Arcs.{arc_at, node_at}
 use Rattle.graph_nodes.specs.Search.{AreKept, IsBehind}
 use Rattle.graph_nodes.specs.Spread.{StartsIn, StartAmongIn, IsTakenUp, IsRoundDone, IsSpread}
 use Rattle.graph_nodes.proofs.Found.{kept-twice, kept-none, among-left, among-place, place-among}

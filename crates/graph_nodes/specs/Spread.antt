@@ -4,7 +4,7 @@ use Rattle.oper_core.specs.State.{is_among}
 use Rattle.sparse_order.specs.Digraph.{Walk}
 use Rattle.number_lists.specs.Lists.{Lists, list_at}
 use Rattle.number_lists.specs.Members.{Members}
-use Rattle.graph_nodes.specs.Arcs.{IsStartOf, IsStartAmong}
+use Rattle.graph_nodes.specs.Arcs.{IsStartOf}
 use Rattle.graph_nodes.specs.Search.{AreKept, IsBehind}
 
 -- the cell has an arc that starts in one of the nodes

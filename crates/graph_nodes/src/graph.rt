@@ -1,4 +1,4 @@
-ghost use Rattle.std.specs.Prelude.{◌≡◌, ℕ, ◌<◌, ◌≤◌, ◌+◌, ◌/◌, ◌^◌, [], None, Some, length, slice_set, OnOk, OnErr};
+ghost use Rattle.std.specs.Prelude.{◌≡◌, ℕ, ◌<◌, ◌≤◌, ◌+◌, ◌*◌, ◌/◌, ◌^◌, [], None, Some, length, slice_set, OnOk, OnErr};
 ghost use Rattle.std.specs.Vec.{vec_len, vec_capacity};
 ghost use Rattle.number_lists.specs.Lists.{list_at};
 ghost use Rattle.sparse_order.specs.Digraph.{AreNodes};
@@ -56,6 +56,23 @@ impl SlotGraph {
             taken: NumberSet::new(alloc),
             scratch: Vec::new(alloc),
         }
+    }
+
+    /// How many slots there are, each with eight cells.
+    pub fn len(&self) -> usize
+        ensures count { result ≡ length self.now.node }
+        ensures cells { length self.now.arcs ≡ 8 * result }
+    {
+        let _members = &self.members;
+        self.node.len()
+    }
+
+    /// Where the arc of the cell leads, if it has one.
+    pub fn arc(&self, cell: u32) -> Option<u32>
+        requires { cell < length self.now.arcs }
+        ensures { result ≡ arc_at self.now.arcs cell }
+    {
+        self.arcs[cell as usize]
     }
 
     /// Adds a slot whose cells have no arcs. Nothing changes where memory is wanting.

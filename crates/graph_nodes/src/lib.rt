@@ -8,5 +8,7 @@ mod graph;
 mod merging;
 mod search;
 mod spreading;
+#[cfg(test)]
+mod tests;
 
 pub use graph::SlotGraph;

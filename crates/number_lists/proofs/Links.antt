@@ -1,17 +1,16 @@
 -- Chains in one table, when a number is put in front of one of them.
-use Rattle.std.proofs.Common.{◌≡◌, ◌≢◌, ◌∙◌, ap, sym, subst, ℕ, zero, suc, ◌+◌, ◌<◌, ◌≤◌, ◌^◌, Fits, w64, Bool, List, [], ◌∷◌, ◌++◌, length, map, get_or, refl, arith, inl, inr}
-use Rattle.std.specs.Prelude.{IsTrue, ◌==◌, ◌⊎◌, nat_eq, slice_set, slice_index, slice_index_or}
+use Rattle.std.proofs.Common.{◌≡◌, ◌≢◌, ◌∙◌, ap, sym, subst, ℕ, zero, suc, ◌+◌, ◌<◌, ◌≤◌, Bool, List, [], ◌∷◌, length, map, get_or, refl, arith, inl, inr}
+use Rattle.std.specs.Prelude.{IsTrue, ◌==◌, ◌⊎◌, nat_eq, slice_set, slice_index}
 use Rattle.std.specs.List.{IsDistinct, AllByRecursion}
 use Rattle.std.proofs.lemmas.Bool.{cases_eq, both_ways, or_left, or_right, or_cases, eqb-true, eq-eqb, false_from_ne_true}
-use Rattle.std.proofs.lemmas.List.{map-set, get_or-set_same, get_or-set_other, length-set}
+use Rattle.std.proofs.lemmas.List.{map-set, get_or-set_same, get_or-set_other}
 use Rattle.std.proofs.lemmas.Map.Keys.{IsDistinct-cons}
 use Rattle.std.proofs.lemmas.Map.Steps.{length-le_from_distinct_below}
-use Rattle.std.proofs.Math.Facts.{Fits-of_lt}
 use Rattle.oper_core.specs.State.{is_among}
 use Rattle.number_lists.specs.declared.chains.Chain.{Chain}
 use Rattle.number_lists.specs.Lists.{list_at, AreApart, IsFree}
 use Rattle.number_lists.specs.Links.{follow}
-use Rattle.number_lists.specs.Followed.{chain_list, lists_of}
+use Rattle.number_lists.specs.Followed.{chain_list}
 
 -- a chain without x is as it was when the link at x changes
 follow-set : (next : List ℕ) (k first x v : ℕ) → (IsTrue (is_among x (follow next k first)) → ⊥) → follow (slice_set next x v) k first ≡ follow next k first

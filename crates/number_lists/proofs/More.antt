@@ -1,13 +1,13 @@
 -- One list more, and one number more.
-use Rattle.std.proofs.Common.{◌≡◌, ◌∙◌, ap, sym, subst, ℕ, zero, suc, ◌+◌, ◌-◌, ◌<◌, ◌≤◌, List, [], ◌∷◌, ◌++◌, length, length-append, map, refl, arith, get_or}
+use Rattle.std.proofs.Common.{◌≡◌, ◌∙◌, ap, sym, subst, ℕ, zero, suc, ◌+◌, ◌-◌, ◌<◌, ◌≤◌, List, [], ◌∷◌, ◌++◌, length, length-append, refl, arith}
 use Rattle.std.specs.Prelude.{IsTrue, ◌==◌, slice_index, nat_eq}
 use Rattle.std.specs.List.{IsDistinct}
 use Rattle.std.proofs.lemmas.Bool.{or_left, or_right, eq-eqb}
 use Rattle.oper_core.specs.State.{is_among}
 use Rattle.number_lists.specs.declared.chains.Chain.{Chain}
-use Rattle.number_lists.specs.Lists.{Lists, list_at, AreApart, IsFree, IsWider, IsLonger}
+use Rattle.number_lists.specs.Lists.{list_at, AreApart, IsWider, IsLonger}
 use Rattle.number_lists.specs.Links.{follow}
-use Rattle.number_lists.specs.Followed.{chain_list, lists_of, view_of}
+use Rattle.number_lists.specs.Followed.{lists_of, view_of}
 use Rattle.number_lists.proofs.Links.{length-lists}
 
 apart-same : (old new : List (List ℕ)) (items more : ℕ) → ((j : ℕ) → list_at new j ≡ list_at old j) → items ≤ more → AreApart old items → AreApart new more

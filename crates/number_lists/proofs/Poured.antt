@@ -1,9 +1,9 @@
 -- Numbers are moved from list to list.
-use Rattle.std.proofs.Common.{◌≡◌, ◌∙◌, ap, sym, subst, ℕ, suc, ◌+◌, ◌<◌, List, [], ◌∷◌, length, refl, arith, inl, inr}
-use Rattle.std.specs.Prelude.{IsTrue, ◌↔◌, ◌⊎◌, ◌==◌, ◌||◌}
+use Rattle.std.proofs.Common.{◌≡◌, ◌∙◌, ap, sym, subst, ℕ, ◌<◌, List, [], ◌∷◌, length, refl, arith, inl, inr}
+use Rattle.std.specs.Prelude.{IsTrue, ◌↔◌, ◌⊎◌, ◌==◌}
 use Rattle.std.proofs.lemmas.Bool.{both_ways, or_left, or_right, or_cases}
 use Rattle.oper_core.specs.State.{is_among}
-use Rattle.number_lists.specs.Lists.{Lists, list_at, AreAsMany, OthersStay, IsPushed, IsPopped, IsEmptied, IsPoured}
+use Rattle.number_lists.specs.Lists.{Lists, list_at, AreAsMany, IsPushed, IsPopped, IsEmptied, IsPoured}
 
 -- what was in the two lists is in them, and no other list has changed
 pub record IsPouring (old : Lists) (from to : ℕ) (now : Lists) : Type 0 where

@@ -1,13 +1,12 @@
 -- A number is put in front of a list, and the first is taken out.
-use Rattle.std.proofs.Common.{◌≡◌, ◌∙◌, ap, sym, subst, ℕ, zero, suc, ◌+◌, ◌-◌, ◌<◌, ◌≤◌, ◌^◌, Fits, w64, List, [], ◌∷◌, ◌++◌, append_assoc, length, map, refl, arith}
-use Rattle.std.specs.Prelude.{IsTrue, ◌==◌, slice_set, slice_index, slice_index_or, nat_eq}
-use Rattle.std.specs.List.{IsDistinct}
+use Rattle.std.proofs.Common.{◌≡◌, ◌∙◌, ap, sym, subst, ℕ, zero, suc, ◌+◌, ◌-◌, ◌<◌, ◌≤◌, ◌^◌, Fits, w64, List, [], ◌∷◌, ◌++◌, append_assoc, length, refl, arith}
+use Rattle.std.specs.Prelude.{IsTrue, ◌==◌, slice_set, slice_index, slice_index_or}
 use Rattle.std.proofs.lemmas.Bool.{or_left, or_right, eq-eqb}
 use Rattle.std.proofs.lemmas.List.{map-set, length-set, get_or_default}
 use Rattle.std.proofs.Math.Facts.{Fits-of_lt}
 use Rattle.oper_core.specs.State.{is_among}
 use Rattle.number_lists.specs.declared.chains.Chain.{Chain}
-use Rattle.number_lists.specs.Lists.{Lists, list_at, AreApart, IsFree, AreAsMany, IsPushed, IsPopped, IsEmptied}
+use Rattle.number_lists.specs.Lists.{list_at, AreApart, IsFree, AreAsMany, IsPushed, IsPopped, IsEmptied}
 use Rattle.number_lists.specs.Links.{follow}
 use Rattle.number_lists.specs.Followed.{chain_list, lists_of, view_of}
 use Rattle.number_lists.proofs.Links.{empty-apart, list_at-map, length-lists, lists-pushed, apart-pushed, few, set-same, set-other, apart-popped}

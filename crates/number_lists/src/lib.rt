@@ -7,6 +7,8 @@
 mod chains;
 mod number_set;
 mod push;
+#[cfg(test)]
+mod tests;
 
 pub use chains::Chains;
 pub use number_set::NumberSet;

@@ -1,4 +1,4 @@
-use Rattle.std.proofs.Common.{◌≡◌, ◌∙◌, ◌<◌, ◌≤◌, length, arith}
+use Rattle.std.proofs.Common.{◌∙◌, ◌<◌, ◌≤◌, length, arith}
 use Rattle.graph_nodes.proofs.Found.{searching-start, searching-on, searching-end}
 use Rattle.graph_nodes.proofs.search.search_back.Goals as goal
 

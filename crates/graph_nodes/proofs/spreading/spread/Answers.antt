@@ -1,5 +1,5 @@
-use Rattle.std.proofs.Common.{◌≡◌, ◌∙◌, sym, subst, ℕ, length, arith}
-use Rattle.graph_nodes.proofs.Taken.{IsSpreading, spread-start, spread-on, spread-end}
+use Rattle.std.proofs.Common.{◌∙◌, sym, subst, ℕ, arith}
+use Rattle.graph_nodes.proofs.Taken.{IsSpreading, spread-on}
 use Rattle.graph_nodes.proofs.spreading.spread.Goals as goal
 
 pub loop-before-preserved : goal.loop-before-preserved

@@ -1,6 +1,5 @@
-use Rattle.std.proofs.Common.{◌∙◌, ◌≡◌, ap, sym, subst, ℕ, List, [], ◌∷◌, length, ◌<◌, ◌≤◌, ◌-◌, ◌+◌, arith, length-append}
+use Rattle.std.proofs.Common.{◌∙◌, ◌≡◌, ap, subst, ℕ, List, [], ◌∷◌, length, ◌-◌, ◌+◌, arith, length-append}
 use Rattle.std.specs.Prelude.{IsTrue}
-use Rattle.std.specs.Vec.{vec_capacity}
 use Rattle.oper_core.specs.State.{is_among}
 use Rattle.number_lists.specs.Links.{follow}
 use Rattle.number_lists.proofs.Steps.{walk-on, walk-in}

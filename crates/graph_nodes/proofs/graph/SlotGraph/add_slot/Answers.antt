@@ -1,5 +1,4 @@
-use Rattle.std.proofs.Common.{◌≡◌, ◌∙◌, ap, sym, subst, ℕ, List, [], ◌∷◌, ◌++◌, ◌+◌, ◌≤◌, length, length-append, arith}
-use Rattle.std.specs.Vec.{vec_capacity}
+use Rattle.std.proofs.Common.{◌≡◌, ◌∙◌, ap, sym, subst, ℕ, List, [], ◌∷◌, ◌++◌, ◌+◌, length, length-append, arith}
 use Rattle.number_lists.specs.Lists.{IsPushed}
 use Rattle.graph_nodes.specs.Kept.{IsKept, no_arcs}
 use Rattle.graph_nodes.proofs.Slot.{kept-room, kept-slot}

@@ -1,12 +1,12 @@
-use Rattle.std.proofs.Common.{◌≡◌, ◌∙◌, ap, sym, subst, ℕ, List, ◌/◌, ◌<◌, ◌≤◌, length, arith}
-use Rattle.std.specs.Prelude.{Option, None, Some, slice_index_or, slice_set}
+use Rattle.std.proofs.Common.{◌≡◌, ◌∙◌, sym, subst, ℕ, List, ◌/◌, ◌<◌, ◌≤◌, length, arith}
+use Rattle.std.specs.Prelude.{None, Some, slice_index_or, slice_set}
 use Rattle.std.specs.Vec.{vec_capacity}
 use Rattle.std.proofs.lemmas.List.{length-set}
 use Rattle.sparse_order.specs.Digraph.{AreNodes}
 use Rattle.number_lists.specs.Lists.{IsPushed}
 use Rattle.graph_nodes.specs.Arcs.{arc_at, node_at, IsArc}
 use Rattle.graph_nodes.specs.Kept.{Graph, IsKept}
-use Rattle.graph_nodes.proofs.Ordered.{value-at, slot-in, joined-at, back-is, joined-below, cell-free, kept-inserted}
+use Rattle.graph_nodes.proofs.Ordered.{value-at, slot-in, joined-at, back-is, joined-below, kept-inserted}
 use Rattle.graph_nodes.proofs.graph.SlotGraph.insert.Goals as goal
 
 pub join-requires-clause-v : goal.join-requires-clause-v

@@ -1,4 +1,4 @@
-use Rattle.std.proofs.Common.{◌≡◌, ◌∙◌, ℕ, sym, subst, List, length, arith}
+use Rattle.std.proofs.Common.{ℕ, sym, subst, List, length}
 use Rattle.std.specs.Vec.{vec_capacity}
 use Rattle.number_lists.specs.Lists.{AreApart, IsLonger}
 use Rattle.number_lists.specs.Followed.{lists_of, view_of}

@@ -1,4 +1,4 @@
-use Rattle.std.proofs.Common.{◌≡◌, ◌∙◌, sym, subst, List, length, arith}
+use Rattle.std.proofs.Common.{sym, subst, List, length}
 use Rattle.number_lists.specs.declared.chains.Chain.{Chain}
 use Rattle.std.specs.Vec.{vec_capacity}
 use Rattle.number_lists.specs.Lists.{AreApart, IsWider}

@@ -1,5 +1,5 @@
-use Rattle.std.proofs.Common.{sym, ◌∙◌, subst, length, ◌<◌, arith}
-use Rattle.number_lists.specs.Lists.{Lists, IsFree}
+use Rattle.std.proofs.Common.{sym, subst, length, ◌<◌, arith}
+use Rattle.number_lists.specs.Lists.{Lists}
 use Rattle.number_lists.proofs.Steps.{popped, popped-apart, first-below, emptied}
 use Rattle.number_lists.proofs.chains.Chains.pop.Goals as goal
 

@@ -1,4 +1,4 @@
-use Rattle.std.proofs.Common.{◌≡◌, ◌∙◌, sym, subst}
+use Rattle.std.proofs.Common.{◌∙◌, sym}
 use Rattle.number_lists.proofs.Placed.{with-new, with-old}
 use Rattle.number_lists.proofs.number_set.NumberSet.add.Goals as goal
 

@@ -1,4 +1,4 @@
-use Rattle.std.proofs.Common.{◌≡◌, ◌≤◌, length, subst, arith}
+use Rattle.std.proofs.Common.{◌≤◌, length, subst, arith}
 use Rattle.number_lists.specs.Members.{Members}
 use Rattle.number_lists.proofs.Placed.{few-all}
 use Rattle.number_lists.proofs.number_set.NumberSet.len.Goals as goal
