@@ -1,6 +1,6 @@
 -- The nodes with one arc more.
 use Rattle.std.proofs.Common.{rules, ◌≡◌, ◌≢◌, ◌∙◌, ap, sym, subst, ℕ, zero, suc, ◌*◌, ◌/◌, ◌<◌, ◌≤◌, List, [], ◌∷◌, ◌++◌, take, drop, append-nil, length, refl, arith, inl, inr}
-use Rattle.std.specs.Prelude.{IsTrue, IsFalse, ◌==◌, ◌↔◌, ◌⊎◌, Option, None, Some, IsSome, slice_index_or, slice_set}
+use Rattle.std.specs.Prelude.{IsTrue, if◌then◌else◌, IsFalse, ◌==◌, ◌↔◌, ◌⊎◌, Option, None, Some, IsSome, slice_index_or, slice_set}
 use Rattle.std.proofs.lemmas.Bool.{cases_eq, cases_lt, cases_Bool, both_ways, or_left, or_right, or_cases, eqb-true, eq-eqb, cond-true, cond-false, false_from_ne_true}
 use Rattle.std.proofs.lemmas.List.{get_or-set_same, get_or-set_other, length-set, get_or_default, take_all}
 use Rattle.std.proofs.Math.ListN.{get_or-eq_default}
@@ -94,16 +94,41 @@ on-way arcs node into vs ws found taken nodes are is held spread i =
           (λ o p arc t g. spread.closed (node_at node o) (node_at node p) t g (arc-behind arcs node into o p are arc)) both.0 (way.0 both).1),
     )
 
--- the nodes after the merge are those with the arc
-pub nodes-joined : (arcs : List (Option ℕ)) (old new : List ℕ) (into : Lists) (vs ws : ℕ) (ns : List ℕ) → AreNodes (IsArc arcs) (node_at old) → AreInto arcs old into → AreOnWay arcs old into (node_at old vs) (node_at old ws) ns →
-    ((i : ℕ) → node_at new i ≡ gathered ns (node_at old ws) (node_at old i)) → AreNodes (with_arc (IsArc arcs) vs ws) (node_at new)
-nodes-joined arcs old new into vs ws ns nodes are way at = elim way.2 [
-  | inl none ↦ same-nodes (with_arc (IsArc arcs) vs ws) (node_at old) (node_at new)
-      (λ i. at i ∙ ap (λ (xs : List ℕ). gathered xs (node_at old ws) (node_at old i)) none.1)
-      (nodes-stay (IsArc arcs) (node_at old) vs ws nodes (apart arcs old into vs ws way.0 nodes are way.1 none.0))
-  | inr some ↦ same-nodes (with_arc (IsArc arcs) vs ws) (merged (λ i. is_among (node_at old i) ns) (node_at old) ws) (node_at new) at
-      (nodes-merged (IsArc arcs) (node_at old) (λ i. is_among (node_at old i) ns) vs ws ws nodes (on-way arcs old into vs ws way.0 ns nodes are way.1 some.0 some.1) some.1.start)
+-- a walk ends at the node of a slot
+where-walk : (arcs : List (Option ℕ)) (node : List ℕ) (into : Lists) (ws n : ℕ) → AreInto arcs node into → ((c j : ℕ) → arc_at arcs c ≡ Some j → j < length node) → ws < length node → Walk (IsBehind arcs node into) (node_at node ws) n → (s : ℕ) × (s < length node) × (node_at node s ≡ n)
+where-walk arcs node into ws n are ends low Here = (ws, low, refl)
+where-walk arcs node into ws n are ends low (Then m q walk behind) =
+    let end = are.only q behind.0 behind.1 in
+    (end.0, ends behind.0 end.0 end.1, end.2)
+
+-- a node on the way is the node of a slot
+way-slot : (arcs : List (Option ℕ)) (node : List ℕ) (into : Lists) (v ws n : ℕ) (ns : List ℕ) → AreInto arcs node into → ((c j : ℕ) → arc_at arcs c ≡ Some j → j < length node) → ws < length node → AreOnWay arcs node into v (node_at node ws) ns → IsTrue (is_among n ns) →
+    (s : ℕ) × (s < length node) × (node_at node s ≡ n)
+way-slot arcs node into v ws n ns are ends low way t = elim way.2 [
+  | inl none ↦ absurd (both_ways _ refl (subst (λ (xs : List ℕ). IsTrue (is_among n xs)) none.1 t))
+  | inr some ↦ elim (some.1.sound n t) [ inl e ↦ (ws, low, sym e) | inr r ↦ where-walk arcs node into ws n are ends low r.1 ]
 ]
+
+-- the nodes after the merge are those with the arc
+pub nodes-joined : (arcs : List (Option ℕ)) (old new : List ℕ) (members into : Lists) (vs ws one : ℕ) (ns : List ℕ) → IsKept arcs old members into → ws < length old → AreOnWay arcs old into (node_at old vs) (node_at old ws) ns → (ns ≡ []) ⊎ IsTrue (is_among one ns) →
+    ((i : ℕ) → node_at new i ≡ gathered ns one (node_at old i)) → AreNodes (with_arc (IsArc arcs) vs ws) (node_at new)
+nodes-joined arcs old new members into vs ws one ns kept low way is at =
+    let nodes = kept.nodes in
+    let are = kept.leads in
+    elim way.2 [
+      | inl none ↦ same-nodes (with_arc (IsArc arcs) vs ws) (node_at old) (node_at new)
+          (λ i. at i ∙ ap (λ (xs : List ℕ). gathered xs one (node_at old i)) none.1)
+          (nodes-stay (IsArc arcs) (node_at old) vs ws nodes (apart arcs old into vs ws way.0 nodes are way.1 none.0))
+      | inr some ↦
+          let held : IsTrue (is_among one ns) = elim is [
+            | inl e ↦ absurd (both_ways _ refl (subst (λ (xs : List ℕ). IsTrue (is_among (node_at old ws) xs)) e some.1.start))
+            | inr t ↦ t
+          ] in
+          let slot = way-slot arcs old into (node_at old vs) ws one ns are kept.range.ends low way held in
+          same-nodes (with_arc (IsArc arcs) vs ws) (merged (λ i. is_among (node_at old i) ns) (node_at old) slot.0) (node_at new)
+          (λ i. at i ∙ ap (λ (k : ℕ). if is_among (node_at old i) ns then k else node_at old i) (sym slot.2))
+          (nodes-merged (IsArc arcs) (node_at old) (λ i. is_among (node_at old i) ns) vs ws slot.0 nodes (on-way arcs old into vs ws way.0 ns nodes are way.1 some.0 some.1) (subst (λ (k : ℕ). IsTrue (is_among k ns)) (sym slot.2) held))
+    ]
 
 -- the arcs after the cell got its own
 pub arcs-more : (arcs : List (Option ℕ)) (c to i j : ℕ) → c < length arcs → arc_at arcs c ≡ None → IsArc (slice_set arcs c (Some to)) i j ↔ with_arc (IsArc arcs) (c / 8) to i j
@@ -160,36 +185,23 @@ into-more arcs old new ia ib ic name c to lt none are at moved push =
       ];
     }
 
--- a walk ends at the node of a slot
-where-walk : (arcs : List (Option ℕ)) (node : List ℕ) (into : Lists) (w n : ℕ) → AreInto arcs node into → ((c j : ℕ) → arc_at arcs c ≡ Some j → j < length node) → ((i : ℕ) → i < length node → node_at node i < length node) → w < length node → Walk (IsBehind arcs node into) w n → n < length node
-where-walk arcs node into w n are ends nodes low Here = low
-where-walk arcs node into w n are ends nodes low (Then m q walk behind) =
-    let end = are.only q behind.0 behind.1 in
-    omega (arith, nodes end.0 (ends behind.0 end.0 end.1), end.2)
-
--- a node on the way is the node of a slot
-way-below : (arcs : List (Option ℕ)) (node : List ℕ) (into : Lists) (v w n : ℕ) (ns : List ℕ) → AreInto arcs node into → ((c j : ℕ) → arc_at arcs c ≡ Some j → j < length node) → ((i : ℕ) → i < length node → node_at node i < length node) → w < length node →
-    AreOnWay arcs node into v w ns → IsTrue (is_among n ns) → n < length node
-way-below arcs node into v w n ns are ends nodes low way t = elim way.2 [
-  | inl none ↦ absurd (both_ways _ refl (subst (λ (xs : List ℕ). IsTrue (is_among n xs)) none.1 t))
-  | inr some ↦ elim (some.1.sound n t) [
-    | inl e ↦ omega (arith, e, low)
-    | inr r ↦ where-walk arcs node into w n are ends nodes low r.1
-  ]
-]
+way-below : (arcs : List (Option ℕ)) (node : List ℕ) (members into : Lists) (v ws n : ℕ) (ns : List ℕ) → IsKept arcs node members into → ws < length node → AreOnWay arcs node into v (node_at node ws) ns → IsTrue (is_among n ns) → n < length node
+way-below arcs node members into v ws n ns kept low way t =
+    let s = way-slot arcs node into v ws n ns kept.leads kept.range.ends low way t in
+    omega (arith, kept.range.nodes s.0 s.1, s.2)
 
 -- the names are those of all numbers, also past the end
-pub names-all : (arcs : List (Option ℕ)) (old new : List ℕ) (members into : Lists) (v w : ℕ) (ns : List ℕ) → IsKept arcs old members into → w < length old → AreOnWay arcs old into v w ns → length new ≡ length old →
-    ((i : ℕ) → i < length old → node_at new i ≡ gathered ns w (node_at old i)) → (i : ℕ) → node_at new i ≡ gathered ns w (node_at old i)
-names-all arcs old new members into v w ns kept low way size at i = elim (cases_lt i (length old)) [
+pub names-all : (arcs : List (Option ℕ)) (old new : List ℕ) (members into : Lists) (v ws one : ℕ) (ns : List ℕ) → IsKept arcs old members into → ws < length old → AreOnWay arcs old into v (node_at old ws) ns → length new ≡ length old →
+    ((i : ℕ) → i < length old → node_at new i ≡ gathered ns one (node_at old i)) → (i : ℕ) → node_at new i ≡ gathered ns one (node_at old i)
+names-all arcs old new members into v ws one ns kept low way size at i = elim (cases_lt i (length old)) [
   | inl lt ↦ at i lt
   | inr ge ↦
       let past_old : node_at old i ≡ i = get_or-eq_default old i ge in
       let past_new : node_at new i ≡ i = get_or-eq_default new i (omega (arith, ge, size)) in
       let out : IsFalse (is_among (node_at old i) ns) = false_from_ne_true _ (λ t.
-      let r = way-below arcs old into v w (node_at old i) ns kept.leads kept.range.ends kept.range.nodes low way t in
+      let r = way-below arcs old members into v ws (node_at old i) ns kept low way t in
       omega (arith, r, past_old, ge)) in
-      past_new ∙ sym past_old ∙ sym (cond-false (is_among (node_at old i) ns) w (node_at old i) out)
+      past_new ∙ sym past_old ∙ sym (cond-false (is_among (node_at old i) ns) one (node_at old i) out)
 ]
 
 slot-of : (c n : ℕ) → c < 8 * n → c / 8 < n
@@ -214,10 +226,17 @@ cell-free arcs node ia ib name c none are moved m t =
     let a = are.only b.0 c b.1 in
     none-some a.0 (sym none ∙ a.1)
 
-named-below : (ns : List ℕ) (w m end : ℕ) → w < end → m < end → gathered ns w m < end
-named-below ns w m end lw lm = elim (cases_Bool (is_among m ns)) [
-  | inl t ↦ omega (arith, cond-true (is_among m ns) w m t, lw)
-  | inr f ↦ omega (arith, cond-false (is_among m ns) w m f, lm)
+named-below : (ns : List ℕ) (one m end : ℕ) → (IsTrue (is_among m ns) → one < end) → m < end → gathered ns one m < end
+named-below ns one m end low lm = elim (cases_Bool (is_among m ns)) [
+  | inl t ↦ omega (arith, cond-true (is_among m ns) one m t, low t)
+  | inr f ↦ omega (arith, cond-false (is_among m ns) one m f, lm)
+]
+
+-- what all on the way are merged into is below the end
+one-below : (arcs : List (Option ℕ)) (node : List ℕ) (members into : Lists) (v ws one m : ℕ) (ns : List ℕ) → IsKept arcs node members into → ws < length node → AreOnWay arcs node into v (node_at node ws) ns → (ns ≡ []) ⊎ IsTrue (is_among one ns) → IsTrue (is_among m ns) → one < length node
+one-below arcs node members into v ws one m ns kept low way is t = elim is [
+  | inl e ↦ absurd (both_ways _ refl (subst (λ (xs : List ℕ). IsTrue (is_among m xs)) e t))
+  | inr u ↦ way-below arcs node members into v ws one ns kept low way u
 ]
 
 pub kept-inserted : (arcs : List (Option ℕ)) (old new : List ℕ) (ma mb ia ib ic : Lists) (c to : ℕ) → IsKept arcs old ma ia → c < length arcs → arc_at arcs c ≡ None → to < length old → AreJoined arcs (node_at old (c / 8)) (node_at old to) old new ma mb ia ib →
@@ -225,15 +244,15 @@ pub kept-inserted : (arcs : List (Option ℕ)) (old new : List ℕ) (ma mb ia ib
 kept-inserted arcs old new ma mb ia ib ic c to kept lt none low join push =
     let ns = join.0 in
     let way = join.1 in
-    let are = join.2 in
-    let w = node_at old to in
-    let low_w : w < length old = kept.range.nodes to low in
-    let at = names-all arcs old new ma ia (node_at old (c / 8)) w ns kept low_w way are.size are.node in
+    let one = join.2.0 in
+    let is = join.2.1 in
+    let are = join.2.2 in
+    let at = names-all arcs old new ma ia (node_at old (c / 8)) to one ns kept low way are.size are.node in
     let set = slice_set arcs c (Some to) in
     record {
-      nodes = nodes-iff (with_arc (IsArc arcs) (c / 8) to) (IsArc set) (node_at new) (λ i j. arcs-more arcs c to i j lt none) (nodes-joined arcs old new ia (c / 8) to ns kept.nodes kept.leads way at);
+      nodes = nodes-iff (with_arc (IsArc arcs) (c / 8) to) (IsArc set) (node_at new) (λ i j. arcs-more arcs c to i j lt none) (nodes-joined arcs old new ma ia (c / 8) to one ns kept low way is at);
       filed = are.filed;
-      leads = into-more arcs old new ia ib ic (gathered ns w) c to lt none kept.leads at are.into push;
+      leads = into-more arcs old new ia ib ic (gathered ns one) c to lt none kept.leads at are.into push;
       range = record {
         cells = length-set arcs c (Some to) ∙ kept.range.cells ∙ ap (λ (n : ℕ). 8 * n) (sym are.size);
         ends = λ d j arc. elim (cases_eq d c) [
@@ -245,7 +264,7 @@ kept-inserted arcs old new ma mb ia ib ic c to kept lt none low join push =
         ];
         nodes = λ i li.
             let li_old : i < length old = omega (arith, li, are.size) in
-            let r = named-below ns w (node_at old i) (length old) low_w (kept.range.nodes i li_old) in
+            let r = named-below ns one (node_at old i) (length old) (one-below arcs old ma ia (node_at old (c / 8)) to one (node_at old i) ns kept low way is) (kept.range.nodes i li_old) in
             omega (arith, r, are.node i li_old, are.size);
         member_lists = are.members.lists ∙ kept.range.member_lists ∙ sym are.size;
         into_lists = push.same.lists ∙ are.into.same.lists ∙ kept.range.into_lists ∙ sym are.size;
@@ -308,5 +327,5 @@ back-is old new n same e =
 
 pub joined-below : (arcs : List (Option ℕ)) (old new : List ℕ) (ma mb ia ib : Lists) (v to : ℕ) → IsKept arcs old ma ia → to < length old → AreJoined arcs v (node_at old to) old new ma mb ia ib → node_at new to < length ib.lists
 joined-below arcs old new ma mb ia ib v to kept low join =
-    let r = named-below join.0 (node_at old to) (node_at old to) (length old) (kept.range.nodes to low) (kept.range.nodes to low) in
-    omega (arith, r, join.2.node to low, join.2.into.same.lists, kept.range.into_lists)
+    let r = named-below join.0 join.2.0 (node_at old to) (length old) (one-below arcs old ma ia v to join.2.0 (node_at old to) join.0 kept low join.1 join.2.1) (kept.range.nodes to low) in
+    omega (arith, r, join.2.2.node to low, join.2.2.into.same.lists, kept.range.into_lists)

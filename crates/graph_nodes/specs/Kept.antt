@@ -42,7 +42,7 @@ AreOnWay arcs node into v w ns = (found : List ℕ) × IsSearched arcs node into
 -- the nodes on the way from w to v are one
 abbrev pub AreJoined : List (Option ℕ) → ℕ → ℕ → List ℕ → List ℕ → Lists → Lists → Lists → Lists → Type 0
 AreJoined arcs v w old_node new_node old_members new_members old_into new_into =
-    (ns : List ℕ) × AreOnWay arcs old_node old_into v w ns × AreRenamed (gathered ns w) old_node new_node old_members new_members old_into new_into
+    (ns : List ℕ) × AreOnWay arcs old_node old_into v w ns × ((one : ℕ) × ((ns ≡ []) ⊎ IsTrue (is_among one ns)) × AreRenamed (gathered ns one) old_node new_node old_members new_members old_into new_into)
 
 -- the cells of one more slot, which have no arcs
 abbrev pub no_arcs : ℕ → List (Option ℕ)

@@ -6,7 +6,7 @@ ghost use Rattle.graph_nodes.specs.Arcs.{AreCells, AreBelow, IsArc, arc_at, node
 ghost use Rattle.graph_nodes.specs.Merge.{IsFiled};
 ghost use Rattle.graph_nodes.specs.Kept.{AreJoined, IsSlotAdded, AreCellsAdded};
 
-use crate::merging::merge;
+use crate::merging::{largest, merge};
 use crate::search::search_back;
 use crate::spreading::spread;
 use number_lists::{Chains, NumberSet, push_in_room};
@@ -168,7 +168,8 @@ fn join(
         return;
     }
     spread(w, arcs, node, into, cells, found, taken);
-    merge(w, taken, node, members, into, cells);
+    let one = largest(taken, members);
+    merge(one, taken, node, members, into, cells);
 }
 
 /// Adds eight cells without arcs.

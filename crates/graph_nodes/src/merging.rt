@@ -1,4 +1,4 @@
-ghost use Rattle.std.specs.Prelude.{◌≡◌, ℕ, ◌<◌, ◌≤◌, length, IsTrue};
+ghost use Rattle.std.specs.Prelude.{◌≡◌, ℕ, ◌<◌, ◌≤◌, ◌⊎◌, length, IsTrue};
 ghost use Rattle.std.specs.Vec.{vec_capacity};
 ghost use Rattle.oper_core.specs.State.{is_among};
 ghost use Rattle.graph_nodes.specs.Merge.{IsFiled, IsRelabelled, IsAbsorbed, AreMerged};
@@ -24,6 +24,33 @@ pub(crate) fn merge(
 {
     for i in 0..taken.len() {
         absorb(taken.get(i), one, node, members, into, slots);
+    }
+}
+
+/// The taken node with most members.
+pub(crate) fn largest(taken: &NumberSet, members: &Chains) -> u32
+    requires some { 0 < length taken.now.members }
+    requires lists { taken.now.end ≤ length members.now.lists }
+    ensures there { IsTrue (is_among result taken.now.members) }
+    ensures below { result < taken.now.end }
+{
+    let mut one = taken.get(0);
+    for i in 0..taken.len() {
+        one = larger(one, taken.get(i), members);
+    }
+    one
+}
+
+/// Of two nodes the one with more members.
+fn larger(left: u32, right: u32, members: &Chains) -> u32
+    requires left { left < length members.now.lists }
+    requires right { right < length members.now.lists }
+    ensures { (result ≡ left) ⊎ (result ≡ right) }
+{
+    if members.count(left) < members.count(right) {
+        right
+    } else {
+        left
     }
 }
 

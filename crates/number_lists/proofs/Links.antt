@@ -88,7 +88,7 @@ apart-pushed lists items i x below free are = record {
   below = λ j k there. elim (among-set lists i j x k there) [ inl old ↦ are.below j k old | inr new ↦ omega (arith, new.1) ];
 }
 
-length-follow : (next : List ℕ) (k first : ℕ) → length (follow next k first) ≡ k
+pub length-follow : (next : List ℕ) (k first : ℕ) → length (follow next k first) ≡ k
 length-follow next zero first = refl
 length-follow next (suc k) first = ap suc (length-follow next k (slice_index next first))
 

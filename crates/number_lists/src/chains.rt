@@ -49,6 +49,15 @@ impl Chains {
         }
     }
 
+    /// How many numbers a list has.
+    pub fn count(&self, list: u32) -> usize
+        requires { list < length self.now.lists }
+        ensures { result ≡ length (list_at self.now.lists list) }
+    {
+        let chain = self.chains[list as usize];
+        chain.count
+    }
+
     /// Puts a number that is in no list in front of a list.
     pub fn push(&mut self, list: u32, item: u32)
         requires list { list < length self.old.lists }

@@ -45,8 +45,8 @@ push-requires-clause-list c =
     let w = value-at old c.args.to c.index-2.result.now to c.index-2.ensures in
     let new = c.join.new.node in
     let join = joined-at arcs c.as_slice.result.now old c.as_mut_slice.result.now c.index.result.now (node_at old (c.args.cell / 8)) c.index-2.result.now (node_at old c.args.to) new c.self.inside.members c.join.new.members c.self.inside.into c.join.new.into c.as_slice.ensures.value c.as_mut_slice.ensures.value v w c.join.ensures.joined in
-    let back = back-is old new c.self.inside.node.len join.2.size c.self.inside.node.ok.0 in
-    let low : c.args.to < length new = omega (arith, to, join.2.size) in
+    let back = back-is old new c.self.inside.node.len join.2.2.size c.self.inside.node.ok.0 in
+    let low : c.args.to < length new = omega (arith, to, join.2.2.size) in
     let at = value-at new c.args.to c.index-3.result.now low (subst (λ (xs : List ℕ). c.index-3.result.now ≡ slice_index_or xs c.args.to c.index-3.result.now) back c.index-3.ensures) in
     omega (arith, at, joined-below arcs old new c.self.inside.members c.join.new.members c.self.inside.into c.join.new.into (node_at old (c.args.cell / 8)) c.args.to kept to join)
 
@@ -62,8 +62,8 @@ invariant_of-self c =
     let w = value-at old c.args.to c.index-2.result.now to c.index-2.ensures in
     let new = c.join.new.node in
     let join = joined-at arcs c.as_slice.result.now old c.as_mut_slice.result.now c.index.result.now (node_at old (c.args.cell / 8)) c.index-2.result.now (node_at old c.args.to) new c.self.inside.members c.join.new.members c.self.inside.into c.join.new.into c.as_slice.ensures.value c.as_mut_slice.ensures.value v w c.join.ensures.joined in
-    let back = back-is old new c.self.inside.node.len join.2.size c.self.inside.node.ok.0 in
-    let low : c.args.to < length new = omega (arith, to, join.2.size) in
+    let back = back-is old new c.self.inside.node.len join.2.2.size c.self.inside.node.ok.0 in
+    let low : c.args.to < length new = omega (arith, to, join.2.2.size) in
     let at = value-at new c.args.to c.index-3.result.now low (subst (λ (xs : List ℕ). c.index-3.result.now ≡ slice_index_or xs c.args.to c.index-3.result.now) back c.index-3.ensures) in
     let none : arc_at arcs c.args.cell ≡ None = subst (λ (g : Graph). arc_at g.arcs c.args.cell ≡ None) (sym c.self.view_is) c.requires.none in
     let push : IsPushed c.join.new.into (node_at new c.args.to) c.args.cell c.push.new.self = subst (λ (k : ℕ). IsPushed c.join.new.into k c.args.cell c.push.new.self) at c.push.ensures in
@@ -71,8 +71,8 @@ invariant_of-self c =
     let after : IsKept set new c.join.new.members c.push.new.self = kept-inserted arcs old new c.self.inside.members c.join.new.members c.self.inside.into c.join.new.into c.push.new.self c.args.cell c.args.to kept cell none to join push in
     subst (λ (xs : List ℕ). IsKept set xs c.join.new.members c.push.new.self × (c.join.new.found.end ≡ length xs) × (c.join.new.taken.end ≡ length xs) × (length set ≤ vec_capacity c.join.new.cells)) (sym back) (
       after,
-      c.join.ensures.ends ∙ c.self.invariant.1 ∙ sym join.2.size,
-      c.join.ensures.taken ∙ c.self.invariant.2 ∙ sym join.2.size,
+      c.join.ensures.ends ∙ c.self.invariant.1 ∙ sym join.2.2.size,
+      c.join.ensures.taken ∙ c.self.invariant.2 ∙ sym join.2.2.size,
       omega (arith, length-set arcs c.args.cell (Some c.args.to), c.join.ensures.capacity, c.self.invariant.3),
     )
 
@@ -88,8 +88,8 @@ returns-clause-nodes c =
     let w = value-at old c.args.to c.index-2.result.now to c.index-2.ensures in
     let new = c.join.new.node in
     let join = joined-at arcs c.as_slice.result.now old c.as_mut_slice.result.now c.index.result.now (node_at old (c.args.cell / 8)) c.index-2.result.now (node_at old c.args.to) new c.self.inside.members c.join.new.members c.self.inside.into c.join.new.into c.as_slice.ensures.value c.as_mut_slice.ensures.value v w c.join.ensures.joined in
-    let back = back-is old new c.self.inside.node.len join.2.size c.self.inside.node.ok.0 in
-    let low : c.args.to < length new = omega (arith, to, join.2.size) in
+    let back = back-is old new c.self.inside.node.len join.2.2.size c.self.inside.node.ok.0 in
+    let low : c.args.to < length new = omega (arith, to, join.2.2.size) in
     let at = value-at new c.args.to c.index-3.result.now low (subst (λ (xs : List ℕ). c.index-3.result.now ≡ slice_index_or xs c.args.to c.index-3.result.now) back c.index-3.ensures) in
     let none : arc_at arcs c.args.cell ≡ None = subst (λ (g : Graph). arc_at g.arcs c.args.cell ≡ None) (sym c.self.view_is) c.requires.none in
     let push : IsPushed c.join.new.into (node_at new c.args.to) c.args.cell c.push.new.self = subst (λ (k : ℕ). IsPushed c.join.new.into k c.args.cell c.push.new.self) at c.push.ensures in
