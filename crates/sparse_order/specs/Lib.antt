@@ -4,3 +4,4 @@ pub mod Digraph
 pub mod Renamed
 pub mod MergeLaws
 pub mod RaiseLaws
+pub mod RemovalLaws

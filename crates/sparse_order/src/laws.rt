@@ -1,7 +1,7 @@
 ghost use Rattle.std.specs.Prelude.{◌≡◌, ℕ, suc, ◌<◌, ◌≤◌, ◌==◌, ◌↔◌, ◌⊎◌, Bool, not, IsTrue, IsFalse};
 ghost use Rattle.sparse_order.specs.Renamed.{IsRenamed, numbers_of, places_of};
 ghost use Rattle.sparse_order.specs.More.{IsAdded, NewArc};
-ghost use Rattle.sparse_order.specs.Digraph.{Walk, Joined, AreNodes, AreLevels, with_arc, IsOnWay, IsRaised, IsRaising, lift, merged, IsFound, AreWhole, arcs};
+ghost use Rattle.sparse_order.specs.Digraph.{Walk, Joined, AreNodes, AreLevels, with_arc, outside, IsOnWay, IsRaised, IsRaising, lift, merged, IsFound, AreWhole, arcs};
 ghost use Rattle.install_order.specs.Order.{Access, Reaches, within, NoEdgeInto, IsNode, IsName, IsLastWriter};
 ghost use Rattle.sparse_order.specs.Arcs.{Arc, ReachesByArcs, NoArcInto};
 
@@ -77,6 +77,13 @@ pub fn nodes_stand_for_nodes()
         NoEdgeInto a set ↔ NoEdgeInto b (numbers_of end number set) }
     ensures last { (a b : Access) (end : ℕ) (number : ℕ → ℕ) (x i : ℕ) → IsRenamed a b end number → i < end →
         IsLastWriter b x (number i) ↔ IsLastWriter a x i }
+{}
+
+/// Where a set into which no arc leads from outside is taken out, the other nodes are as they were.
+pub fn nodes_left_by_a_removal()
+    ensures { (e : ℕ → ℕ → Bool) (node : ℕ → ℕ) (gone : ℕ → Bool) (i j : ℕ) → AreNodes (arcs e) node →
+        ((o p : ℕ) → arcs e o p → IsTrue (gone p) → IsTrue (gone o)) → IsFalse (gone i) → IsFalse (gone j) →
+        (node i ≡ node j) ↔ Joined (outside gone (arcs e)) i j }
 {}
 
 /// How levels are raised: the start, one node more, one node done, the end.
