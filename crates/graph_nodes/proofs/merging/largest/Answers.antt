@@ -1,4 +1,4 @@
-use Rattle.std.proofs.Common.{◌≡◌, ◌∙◌, sym, subst, ℕ, ◌<◌, length, arith, inl, inr}
+use Rattle.std.proofs.Common.{sym, subst, ℕ, ◌<◌, length, arith, inl, inr}
 use Rattle.std.specs.Prelude.{IsTrue}
 use Rattle.oper_core.specs.State.{is_among}
 use Rattle.graph_nodes.proofs.Found.{place-among}

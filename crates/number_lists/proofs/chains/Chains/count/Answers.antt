@@ -1,4 +1,4 @@
-use Rattle.std.proofs.Common.{◌≡◌, ◌∙◌, ap, sym, subst, length, ◌<◌}
+use Rattle.std.proofs.Common.{◌∙◌, ap, sym, subst, length, ◌<◌}
 use Rattle.number_lists.specs.Lists.{Lists, list_at}
 use Rattle.number_lists.proofs.Links.{length-follow}
 use Rattle.number_lists.proofs.Steps.{walk-start}
