@@ -9,7 +9,7 @@ use Rattle.log_records.specs.RecordLaws.{keeps_stay}
 use Rattle.formats.specs.declared.params.Params.{Params}
 use Rattle.redo_shell.specs.Store.{Command, meaning_in, state_of, Stands, IsMapOf, Carries, Holds, Between}
 use Rattle.store_engine.specs.Laid.{IsLaidOn, values_in}
-use Rattle.store_engine.specs.Engine.{EngineView, InEachImage, log_length}
+use Rattle.store_engine.specs.Engine.{EngineView, InEachImage, IsAttached, log_length}
 
 -- what is true of each image stays so
 pub each_stays : {d new : Disk} {says : List ℕ → List ℕ → Type 0} {P : Files → Type 0} → Runs Same says d new → d.tells_files → InEachImage d P → InEachImage new P
@@ -20,6 +20,13 @@ each_stays {d} {new} {says} {P} run told here = (
       let from = run.crash told_old f s (run.ends.among d.clock new.clock f s run.time.later (omega arith) left) in
       subst P (sym from.0.2) (here.1 told_old from.0.0 d.said from.0.1),
 )
+
+-- an engine that is on its files stays on them while something is said
+pub attached_said : {says : List ℕ → List ℕ → Type 0} (old new : Disk) (engine : EngineView) → Runs Same says old new → IsAttached old engine → IsAttached new engine
+attached_said old new engine runs attached told_new =
+    let told = runs.time.files_told.1 told_new in
+    let is = attached told in
+    (subst (λ (f : Files). IsLaidOn engine.objects (f Objects)) (sym (runs.reads told)) is.0, is.1)
 
 -- a settled machine stays so
 pub still_settled : {d new : Disk} {says : List ℕ → List ℕ → Type 0} → Runs Same says d new → d.tells_files → IsSettled d → IsSettled new

@@ -86,7 +86,7 @@ fn answer_line<M: Machine>(
     match asked {
         Line::Put { object, hex } => {
             let value = ByteList::new(hex_bytes(alloc, hex)?);
-            run_command(alloc, engine, machine, AllOps::Put(Put { object, value }))
+            run_command(alloc, engine, machine, AllOps::Put(Put::new(object, value)))
         }
         Line::Copy { from, to } => {
             run_command(alloc, engine, machine, AllOps::Copy(Copy { from, to }))
