@@ -9,7 +9,7 @@ use oper_core::{ByteList, Memory};
 
 impl Objects {
     /// Whether an object is cached. A clean one becomes the one used last.
-    pub(crate) fn look(&mut self, object: u32) -> bool
+    pub(crate) fn is_cached(&mut self, object: u32) -> bool
         ensures found { result ≡ is_some (held self.old.cache object) }
         ensures slots { self.new.slots ≡ self.old.slots }
         ensures entries { (x : ℕ) → held self.new.cache x ≡ held self.old.cache x }

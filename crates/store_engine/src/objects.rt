@@ -100,7 +100,7 @@ impl Objects {
         ensures cause { IfErr result (FailsBy (Rises (M.disk machine.old).disk_faults (M.disk machine.new).disk_faults) ⊥
             (λ file place. (file ≡ ObjectsFile) × ((M.disk machine.old).tells_files → AreOf self.old.slots ((M.disk machine.old).reads ObjectsFile) → ⊥))) }
     {
-        if self.look(object) {
+        if self.is_cached(object) {
             return Ok(());
         }
         let mut bytes = Vec::new(self.alloc);

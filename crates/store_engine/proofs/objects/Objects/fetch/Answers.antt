@@ -6,24 +6,24 @@ use Rattle.store_engine.specs.Laid.{Laid, IsLaidOn}
 use Rattle.store_engine.proofs.FetchLemmas.{read_pair, cells_same, cells_twice}
 use Rattle.store_engine.proofs.objects.Objects.fetch.Goals as goal
 
-pub returns-then-look-clause-cells : goal.returns-then-look-clause-cells
-returns-then-look-clause-cells g c = λ told laid.
+pub returns-then-is_cached-clause-cells : goal.returns-then-is_cached-clause-cells
+returns-then-is_cached-clause-cells g c = λ told laid.
     let file = (g.M.Machine.disk c.args.machine.now).reads Objects in
-    (cells_same file c.args.self.now c.look.new.self c.look.ensures.slots c.look.ensures.entries, c.look.ensures.laid file laid)
+    (cells_same file c.args.self.now c.is_cached.new.self c.is_cached.ensures.slots c.is_cached.ensures.entries, c.is_cached.ensures.laid file laid)
 
 pub returns-in_err-lsn-clause-cells : goal.returns-in_err-lsn-clause-cells
 returns-in_err-lsn-clause-cells g c = λ told laid.
     let file = (g.M.Machine.disk c.args.machine.now).reads Objects in
-    (cells_same file c.args.self.now c.look.new.self c.look.ensures.slots c.look.ensures.entries, c.look.ensures.laid file laid)
+    (cells_same file c.args.self.now c.is_cached.new.self c.is_cached.ensures.slots c.is_cached.ensures.entries, c.is_cached.ensures.laid file laid)
 
 pub returns-clause-cells : goal.returns-clause-cells
 returns-clause-cells g c = λ told laid.
     let file = (g.M.Machine.disk c.args.machine.now).reads Objects in
-    let looked : IsLaidOn c.look.new.self file = c.look.ensures.laid file laid in
-    let slots : c.self.inside.slots ≡ c.look.new.self.slots = ap (λ (l : Laid). l.slots) c.self.view_is in
+    let looked : IsLaidOn c.is_cached.new.self file = c.is_cached.ensures.laid file laid in
+    let slots : c.self.inside.slots ≡ c.is_cached.new.self.slots = ap (λ (l : Laid). l.slots) c.self.view_is in
     let are : AreOf c.self.inside.slots file = subst (λ (l : Laid). AreOf l.slots file) (sym c.self.view_is) looked.slots in
-    let below : c.args.object < c.self.inside.slots.params.objects = subst (λ (s : _). c.args.object < s.params.objects) (sym (slots ∙ c.look.ensures.slots)) c.requires in
+    let below : c.args.object < c.self.inside.slots.params.objects = subst (λ (s : _). c.args.object < s.params.objects) (sym (slots ∙ c.is_cached.ensures.slots)) c.requires in
     let pair = read_pair c.self.inside.slots file c.args.object c.in_ok-lsn.lsn c.read.new.into.items are below c.in_ok-lsn.ensures.id (c.in_ok-lsn.ensures.value told are) in
     let pair_there = subst (λ (l : Laid). cell_of l.slots.params.cap c.args.object file ≡ record { id = c.in_ok-lsn.lsn; value = c.read.new.into.items }) c.self.view_is pair in
     let kept = c.keep.ensures.cells file looked pair_there in
-    (cells_twice file c.args.self.now c.look.new.self c.keep.new.self c.look.ensures.slots (cells_same file c.args.self.now c.look.new.self c.look.ensures.slots c.look.ensures.entries) kept.0, kept.1)
+    (cells_twice file c.args.self.now c.is_cached.new.self c.keep.new.self c.is_cached.ensures.slots (cells_same file c.args.self.now c.is_cached.new.self c.is_cached.ensures.slots c.is_cached.ensures.entries) kept.0, kept.1)

@@ -1,5 +1,5 @@
 use Rattle.store_engine.proofs.LaidLemmas.{cached_same, laid_same}
-use Rattle.store_engine.proofs.objects.Objects.look.Goals as goal
+use Rattle.store_engine.proofs.objects.Objects.is_cached.Goals as goal
 
 pub invariant_of-self : goal.invariant_of-self
 invariant_of-self c = cached_same c.self.inside.slots.params c.self.inside.cache c.view.follows.lender-at-none c.self.invariant (λ x. (c.view.follows.holds-at-none.0.each x).entry)
