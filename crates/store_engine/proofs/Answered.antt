@@ -16,7 +16,6 @@ use Rattle.log_records.specs.RecordLog.{RecordLogView}
 use Rattle.store_engine.specs.Laid.{IsLaidOn, cell_or, values_in}
 use Rattle.store_engine.specs.Store.{meaning_in, record_length, refusal_after, state_of}
 use Rattle.store_engine.specs.Engine.{EngineView, params_of, IsAttached, IsSameMap, Holds, Kept, Between, IsReady, TookIn, LogLength, log_length, LacksPlace, HasCause, Lengthens}
-use Rattle.store_engine.specs.Opening.{IsExecFailure}
 use Rattle.store_engine.specs.declared.exec_err.ExecErr.{ExecErr}
 use Rattle.store_engine.specs.declared.exec_err.ExecErr.TheVariants.{Refused, LogFull, LsnEnd, DiskFault, Damaged, Memory}
 use Rattle.store_engine.proofs.Holding.{between_here}
@@ -26,11 +25,6 @@ use Rattle.store_engine.proofs.Executed.{same_length, refused_length, took_in, k
 -- a step that did not fail
 pub fine : {T : Type 0} (v : T) (P : Type 0) → IsErrOf {T = T} (Ok v) DiskFault ⊎ P → P
 fine v P either = ⊎_elim (λ failed. absurd (cc failed)) (λ here. here) either
-
--- what holds anyway holds at an answer
-pub ok_anyway : {T : Type 0} (result : Result T ExecErr) (P : Type 0) → P → OnOk result P
-ok_anyway (Ok v) P here = here
-ok_anyway (Err e) P here = tt
 
 -- and one that failed, but not by the disk
 pub unless_failed : {T : Type 0} (e : ExecErr) (P Q : Type 0) → IsErrOf {T = T} (Err e) DiskFault ⊎ P → (P → Q) → e ≢ DiskFault → Q
@@ -91,39 +85,6 @@ module _ {O : Type 0} (meaning : Bounds → Meaning O) where
         subst (λ (x : EngineView). IsLaidOn x.objects (d.reads Objects)) (sym kept) is.0,
         λ same. is.1 (ap (λ (x : EngineView). x.log.log.active) (sym kept) ∙ same),
       )
-
-  -- why an admitted command whose record of n bytes gets no place is not done: engine has its memory
-  pub unplaced : (old mid new : Disk) (before engine : EngineView) (op : O) (values : List (List ℕ)) (n : ℕ) (e : ExecErr) → Stays old mid → IsSameMap old before engine
-      → IsReady meaning (params_of before) op values → n ≡ record_length meaning (params_of engine) op → LacksPlace engine n e → (e ≡ DiskFault → Rises mid.disk_faults new.disk_faults)
-      → IsExecFailure meaning old new before op e
-  unplaced old mid new before engine op values n e stays same ready long lacks fault = by_cause e lacks fault
-    where
-      params : params_of engine ≡ params_of before
-      params = ap (λ (s : SlotsView). s.params) same.slots
-
-      limit_is : (params_of engine).limit ≡ (params_of before).limit
-      limit_is = ap (λ (q : Params). q.limit) params
-
-      n_is : n ≡ record_length meaning (params_of before) op
-      n_is = long ∙ ap (λ (q : Params). record_length meaning q op) params
-
-      used_is : used_of engine.log.log ≡ used_of before.log.log
-      used_is = ap (λ (v : RecordLogView). used_of v.log) same.log
-
-      next_is : engine.log.next ≡ before.log.next
-      next_is = ap (λ (v : RecordLogView). v.next) same.log
-
-      grows : growth_of engine.log.log.pending n ≡ growth_of before.log.log.pending (record_length meaning (params_of before) op)
-      grows = ap (λ (v : RecordLogView). growth_of v.log.pending n) same.log ∙ ap (λ (k : ℕ). growth_of before.log.log.pending k) n_is
-
-      by_cause : (e : ExecErr) → LacksPlace engine n e → (e ≡ DiskFault → Rises mid.disk_faults new.disk_faults) → IsExecFailure meaning old new before op e
-      by_cause (Refused r) lacks fault = absurd lacks
-      by_cause (LogFull used need limit) lacks fault =
-          ((values, ready), (omega (arith, lacks.0, limit_is, used_is, grows), lacks.1 ∙ used_is, lacks.2 ∙ ap (λ (k : ℕ). k + 5) n_is, lacks.3 ∙ limit_is))
-      by_cause (LsnEnd number) lacks fault = ((values, ready), (omega (arith, lacks.0, limit_is, used_is, grows), omega (arith, lacks.1, next_is), lacks.2 ∙ next_is))
-      by_cause DiskFault lacks fault = λ below. let rose = fault refl below in omega (arith, rose, stays.time.disk_faults)
-      by_cause (Damaged file place) lacks fault = absurd lacks
-      by_cause Memory lacks fault = absurd lacks
 
   -- where nothing is refused by the disk, no call was made, and what a crash leaves is what it left before
   pub moments_here : (p : Params) (old new : Disk) (before : EngineView) (commands : List O) → new ≡ old → IsDisk old → Holds meaning p old before commands → old.tells_moments

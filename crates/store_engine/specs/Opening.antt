@@ -1,5 +1,5 @@
 -- What an opening reads, and why it and the reading of a slot fail.
-use Rattle.std.specs.Prelude.{◌≡◌, ◌⊎◌, ◌<◌, ◌≤◌, ◌+◌, ⊤, false, ℕ, List, [], length, fold, None, Some}
+use Rattle.std.specs.Prelude.{◌≡◌, ◌⊎◌, ◌<◌, ◌≤◌, ◌+◌, ◌^◌, ⊤, false, ℕ, List, [], length, fold, None, Some}
 use Rattle.disk_model.specs.Disk.{Files, Disk, Rises}
 use Rattle.disk_model.specs.declared.machine.FileNo.{FileNo}
 use Rattle.disk_model.specs.declared.machine.FileNo.TheVariants.{Objects}
@@ -17,7 +17,7 @@ use Rattle.log_frames.specs.declared.log_err.LogErr.TheVariants as of_log
 use Rattle.stable_objects.specs.declared.slot_err.SlotErr.{SlotErr}
 use Rattle.stable_objects.specs.declared.slot_err.SlotErr.TheVariants as of_slots
 use Rattle.log_records.specs.RecordLog.{Keeps}
-use Rattle.store_engine.specs.Engine.{EngineView, IsAttached, IsReady, LacksPlace, params_of}
+use Rattle.store_engine.specs.Engine.{EngineView, IsAttached, IsReady, HasPlace, LacksPlace, params_of}
 use Rattle.store_engine.specs.Laid.{IsLaidOn, cell_in, redone}
 use Rattle.store_engine.specs.Store.{meaning_in, record_length}
 use Rattle.store_engine.specs.declared.exec_err.ExecErr.{ExecErr}
@@ -95,14 +95,20 @@ module _ {O : Type 0} (meaning : Bounds → Meaning O) where
   abbrev pub IsAdmissible : Params → O → Type 0
   IsAdmissible p op = (values : List (List ℕ)) × IsReady meaning p op values
 
-  -- Why a command is not admitted: it is refused, or a read of a slot fails.
+  -- where memory may run out for a command before its place in the log is known: it reads objects, or no memory holds its code
+  abbrev pub NeedsMemory : Params → O → Type 0
+  NeedsMemory p op = (0 < length ((meaning_in meaning p).reads op)) ⊎ (2 ^ 63 ≤ length ((meaning_in meaning p).code op))
+
+  -- Why a command is not admitted: it is refused, or a read of a slot fails, or memory runs out.
   abbrev pub IsAdmitFailure : Disk → Disk → EngineView → O → ExecErr → Type 0
   IsAdmitFailure old new engine op (of_exec.Refused refusal) = IsRefused (params_of engine) op refusal
+  IsAdmitFailure old new engine op of_exec.Memory = NeedsMemory (params_of engine) op
   IsAdmitFailure old new engine op e = IsReadFailure old new engine e
 
   -- Why a command is not done, on every machine: it gets no place, though some values admit it, or else it is not admitted.
-  -- Where a force fails for it, the disk counts that.
+  -- Where a force fails for it, the disk counts that. Memory runs out for one that is admitted only where it has its place.
   abbrev pub IsExecFailure : Disk → Disk → EngineView → O → ExecErr → Type 0
   IsExecFailure old new engine op (of_exec.LogFull used need limit) = IsAdmissible (params_of engine) op × LacksPlace engine (record_length meaning (params_of engine) op) (of_exec.LogFull used need limit)
   IsExecFailure old new engine op (of_exec.LsnEnd number) = IsAdmissible (params_of engine) op × LacksPlace engine (record_length meaning (params_of engine) op) (of_exec.LsnEnd number)
+  IsExecFailure old new engine op of_exec.Memory = NeedsMemory (params_of engine) op ⊎ (IsAdmissible (params_of engine) op × HasPlace engine (record_length meaning (params_of engine) op))
   IsExecFailure old new engine op e = IsAdmitFailure old new engine op e

@@ -2,8 +2,7 @@
 ghost use Rattle.std.specs.Prelude.{◌≡◌, ◌≢◌, ◌⊎◌, ◌<◌, ◌≤◌, ◌+◌, ◌^◌, ◌↔◌, ◌++◌, [], ◌∷◌, All, List, ℕ, true, false, length, None, Some, OnOk, OnErr, IfOk, IfErr, IsErrOf};
 ghost use Rattle.disk_model.specs.Disk.{Rises, Passes, Stays, LeavesOnly};
 ghost use Rattle.disk_model.specs.declared.machine.FileNo.TheVariants.{Objects};
-ghost use Rattle.oper_core.specs.Meaning.{IsInGrammar, IsSmall, FitsReads, refusal_of, read_values};
-ghost use Rattle.oper_core.specs.declared.bounds.Bounds.{Bounds};
+ghost use Rattle.oper_core.specs.Meaning.{IsInGrammar, FitsReads, refusal_of, read_values};
 ghost use Rattle.formats.specs.declared.params.Params.{Params};
 ghost use Rattle.dirty_cache.specs.Contents.{held, HasRoom};
 ghost use Rattle.stable_objects.specs.SlotsView.{id_in};
@@ -17,29 +16,32 @@ use crate::exec_err::ExecErr;
 use disk_model::Machine;
 use formats::{BLOCK_HEAD, NUMBERS_END, RECORD_HEAD, Record};
 use oper_core::{Memory, Oper, Refusal, Values};
-use std::alloc::Global;
 
-// How many bytes the operation's record has. Its code is made for this alone, before anything changes.
-fn length_of<O: Oper>(alloc: Global, op: &O) -> Result<u64, Memory>
-    requires { (b : Bounds) × IsSmall b × IsInGrammar (O.meaning b) op.now }
+// How many bytes the operation's record has. No memory holds a code of 2^63 bytes or more.
+fn length_of<O: Oper>(op: &O) -> Result<u64, Memory>
     ensures length { (p : Params) → IfOk result (λ n. n ≡ record_length O.meaning p op.now) }
     ensures range { IfOk result (λ n. (0 < n) × (n < 2 ^ 63 + 9)) }
+    ensures long { (p : Params) → OnErr result (2 ^ 63 ≤ length ((meaning_in O.meaning p).code op.now)) }
 {
-    let mut code = Vec::new(alloc);
-    op.encode(&mut code)?;
-    Ok((RECORD_HEAD + code.len()) as u64)
+    let code = op.code_length();
+    if code > i64::MAX as u64 {
+        return Err(Memory);
+    }
+    Ok(RECORD_HEAD as u64 + code)
 }
 
 impl<O: Oper> Engine<O> {
-    // The values of the objects that an operation reads, where nothing refuses it on them.
-    fn admit<M: Machine>(&mut self, machine: &mut M, op: &O) -> Result<Values, ExecErr>
+    // The values of the objects that an operation reads, where nothing refuses it on them, and the length of its record.
+    fn admit<M: Machine>(&mut self, machine: &mut M, op: &O) -> Result<(Values, u64), ExecErr>
         requires { self.old.broken ≡ false }
         ensures kept { Stays (M.disk machine.old) (M.disk machine.new) }
         ensures same { IsErrOf result ExecErr.DiskFault ⊎ IsSameMap (M.disk machine.old) self.old self.new }
         ensures attached { IsAttached (M.disk machine.old) self.old → IsAttached (M.disk machine.new) self.new }
-        ensures ready { IfOk result (IsReady O.meaning (params_of self.old) op.now) }
+        ensures ready { IfOk result (λ pair. IsReady O.meaning (params_of self.old) op.now pair.0) }
+        ensures length { IfOk result (λ pair. pair.1 ≡ record_length O.meaning (params_of self.old) op.now) }
+        ensures range { IfOk result (λ pair. (0 < pair.1) × (pair.1 < 2 ^ 63 + 9)) }
         ensures read { (M.disk machine.old).tells_files → IsLaidOn self.old.objects ((M.disk machine.old).reads Objects) →
-            IfOk result (λ values. values ≡ read_values (meaning_in O.meaning (params_of self.old)) (values_in self.old.objects ((M.disk machine.old).reads Objects)) op.now) }
+            IfOk result (λ pair. pair.0 ≡ read_values (meaning_in O.meaning (params_of self.old)) (values_in self.old.objects ((M.disk machine.old).reads Objects)) op.now) }
         ensures refused { (M.disk machine.old).tells_files → IsLaidOn self.old.objects ((M.disk machine.old).reads Objects) → (r : Refusal) → IsErrOf result (ExecErr.Refused r) →
             refusal_of (meaning_in O.meaning (params_of self.old)) (values_in self.old.objects ((M.disk machine.old).reads Objects)) op.now ≡ Some r }
 
@@ -61,29 +63,27 @@ impl<O: Oper> Engine<O> {
         if let Err(refusal) = op.check(bounds, &values) {
             return Err(ExecErr::Refused(refusal));
         }
-        Ok(values)
+        let length = length_of(op)?;
+        Ok((values, length))
     }
 
-    // Makes the operation's values, and takes all other memory that they need. It answers them with the length of the
-    // operation's record.
-    fn prepare(&mut self, op: &O, values: &Values) -> Result<(Values, u64), Memory>
+    // Makes the operation's values, and takes the room that they need in the cache.
+    fn prepare(&mut self, op: &O, values: &Values) -> Result<Values, Memory>
         requires { IsReady O.meaning (params_of self.old) op.now values.now }
-        ensures made { IfOk result (λ pair. pair.0 ≡ (meaning_in O.meaning (params_of self.old)).effect op.now values.now) }
-        ensures length { IfOk result (λ pair. pair.1 ≡ record_length O.meaning (params_of self.old) op.now) }
-        ensures range { IfOk result (λ pair. (0 < pair.1) × (pair.1 < 2 ^ 63 + 9)) }
+        ensures made { IfOk result (λ made. made ≡ (meaning_in O.meaning (params_of self.old)).effect op.now values.now) }
         ensures room { OnOk result (All (HasRoom self.new.objects.cache) ((meaning_in O.meaning (params_of self.old)).writes op.now)) }
         ensures same { self.new ≡ record self.old { objects = record self.old.objects { cache = self.new.objects.cache } } }
         ensures entries { (x : ℕ) → held self.new.objects.cache x ≡ held self.old.objects.cache x }
         ensures laid { (file : List ℕ) → IsLaidOn self.old.objects file → IsLaidOn self.new.objects file }
     {
         let made = op.apply(self.alloc, self.bounds(), values)?;
-        let length = length_of(self.alloc, op)?;
         self.objects.make_room(op.writes().as_slice())?;
-        Ok((made, length))
+        Ok(made)
     }
 
-    // Sees that the log has a place and a number for a record of this length. Where it has none, all that waits is forced.
-    fn see_place<M: Machine>(&mut self, machine: &mut M, length: u64) -> Result<(), ExecErr>
+    // Requires that the log has a place and a number for a record of this length. Where it has none, all that waits is
+    // forced.
+    fn require_log_room<M: Machine>(&mut self, machine: &mut M, length: u64) -> Result<(), ExecErr>
         requires unbroken { self.old.broken ≡ false }
         requires range { (0 < length) × (length < 2 ^ 63 + 9) }
         ensures time { Passes (M.disk machine.old) (M.disk machine.new) }
@@ -122,7 +122,7 @@ impl<O: Oper> Engine<O> {
     }
 
     // Appends the operation's record and gives the objects their values. Without memory nothing changes but the room.
-    fn take_in(&mut self, op: O, values: Values) -> Result<u64, ExecErr>
+    fn log_and_set(&mut self, op: O, values: Values) -> Result<u64, ExecErr>
         requires grammar { IsInGrammar (meaning_in O.meaning (params_of self.old)) op }
         requires made { (read : List (List ℕ)) × FitsReads (meaning_in O.meaning (params_of self.old)) op read × (values ≡ (meaning_in O.meaning (params_of self.old)).effect op read) }
         requires room { All (HasRoom self.old.objects.cache) ((meaning_in O.meaning (params_of self.old)).writes op) }
@@ -145,8 +145,9 @@ impl<O: Oper> Engine<O> {
     /// Adds a command to the log's buffer and to the map. It answers how many were accepted since the store was made.
     ///
     /// The first that applies is answered: `Refused`, on the command alone; `DiskFault`, `Damaged` and `Memory` while the
-    /// objects that it reads are fetched; `Refused`, on their values; `Memory`, before anything changes; `LogFull` and
-    /// `LsnEnd`, after a force; `Memory` for its record. Where it isn't done the map is as it was.
+    /// objects that it reads are fetched; `Refused`, on their values; `Memory`, where its code has 2^63 bytes or more;
+    /// `LogFull` and `LsnEnd`, after a force; `Memory` for its values and its record. Where it isn't done the map is as it
+    /// was.
     pub fn exec<M: Machine>(&mut self, machine: &mut M, op: O) -> Result<u64, ExecErr>
         requires { self.old.broken ≡ false }
         ensures time { Passes (M.disk machine.old) (M.disk machine.new) }
@@ -178,9 +179,9 @@ impl<O: Oper> Engine<O> {
         ensures attached { IsAttached (M.disk machine.old) self.old → IsAttached (M.disk machine.new) self.new }
         ensures broken { (self.new.broken ≡ true) ↔ IsErrOf result ExecErr.DiskFault }
     {
-        let values = self.admit(machine, &op)?;
-        let (made, length) = self.prepare(&op, &values)?;
-        self.see_place(machine, length)?;
-        self.take_in(op, made)
+        let (values, length) = self.admit(machine, &op)?;
+        self.require_log_room(machine, length)?;
+        let made = self.prepare(&op, &values)?;
+        self.log_and_set(op, made)
     }
 }

@@ -129,6 +129,7 @@ impl Objects {
         ensures cells { (M.disk machine.old).tells_files → IsLaidOn self.old ((M.disk machine.old).reads ObjectsFile) →
             KeepsCells ((M.disk machine.old).reads ObjectsFile) self.old self.new × IsLaidOn self.new ((M.disk machine.old).reads ObjectsFile) }
         ensures none { All (λ x. id_in self.old.slots x ≡ 0) objects.now → (machine.new ≡ machine.old) × IfErr result (λ e. e ≡ SlotErr.Memory) }
+        ensures some { OnErr result (0 < length objects.now) }
         ensures cause { IfErr result (FailsBy (Rises (M.disk machine.old).disk_faults (M.disk machine.new).disk_faults) ⊥
             (λ file place. (file ≡ ObjectsFile) × ((M.disk machine.old).tells_files → AreOf self.old.slots ((M.disk machine.old).reads ObjectsFile) → ⊥))) }
     {

@@ -33,3 +33,16 @@ returns-in-Err-check-clause-refused g c told laid r is =
 pub returns-clause-same : goal.returns-clause-same
 returns-clause-same g c =
     inr (same_objects (g.M.Machine.disk c.args.machine.now) c.self.inside.objects c.values_of.new.self c.self.inside.log c.self.inside.broken c.args.self.now c.self.view_is c.values_of.ensures.slots c.values_of.ensures.cells)
+
+pub returns-in_err-length-clause-same : goal.returns-in_err-length-clause-same
+returns-in_err-length-clause-same g c =
+    inr (same_objects (g.M.Machine.disk c.args.machine.now) c.self.inside.objects c.values_of.new.self c.self.inside.log c.self.inside.broken c.args.self.now c.self.view_is c.values_of.ensures.slots c.values_of.ensures.cells)
+
+pub returns-clause-read : goal.returns-clause-read
+returns-clause-read g c told laid =
+    let p = params_of c.args.self.now in
+    let file = (g.M.Machine.disk c.args.machine.now).reads Objects in
+    let same : c.self.inside.objects ≡ c.args.self.now.objects = ap (λ (e : EngineView). e.objects) c.self.view_is in
+    let here = c.in-Ok.ensures.values told (subst (λ (l : Laid). IsLaidOn l file) (sym same) laid) in
+    own_read g.O.Oper.meaning p c.bounds-bounds.result c.bounds-bounds.ensures c.args.op.now file c.self.inside.objects c.args.self.now.objects c.as_slice.result.now c.in-Ok.values same
+    (c.as_slice.ensures.value ∙ c.reads.ensures c.bounds-bounds.result) here

@@ -1,32 +1,32 @@
-use Rattle.std.proofs.Common.{◌≡◌, ◌≢◌, ◌<◌, ◌^◌, ◌∙◌, List, None, Err, ap, sym, subst}
+use Rattle.std.proofs.Common.{◌≡◌, ◌≢◌, ◌<◌, ◌^◌, ◌∙◌, ℕ, List, None, Err, ap, sym, subst}
 use Rattle.std.specs.Prelude.{IfOk}
 use Rattle.std.proofs.lemmas.Result.{err_from_is_err_and, IfOk-weaker}
 use Rattle.disk_model.specs.Disk.{Disk, Stays}
-use Rattle.disk_model.specs.Moments.{passes_twice}
+use Rattle.stable_objects.specs.SlotsView.{SlotsView}
 use Rattle.formats.specs.declared.params.Params.{Params}
 use Rattle.store_engine.specs.Store.{meaning_in, record_length, refusal_after}
-use Rattle.store_engine.specs.Opening.{IsAdmissible}
 use Rattle.store_engine.specs.Engine.{EngineView, params_of, IsSameMap, Holds, Kept, TookIn, LogLength, LacksPlace, HasCause, Lengthens, log_length}
 use Rattle.store_engine.specs.declared.exec_err.ExecErr.{ExecErr}
 use Rattle.store_engine.specs.declared.exec_err.ExecErr.TheVariants.{LogFull, LsnEnd, DiskFault}
 use Rattle.store_engine.proofs.SameMap.{all_shut, same_map_kept, same_map_twice, attached_stays}
 use Rattle.store_engine.proofs.Admitted.{same_refusal}
 use Rattle.store_engine.proofs.Executed.{same_length, kept_twice, lacks_cause, place_cause, is_full, is_at_end, taken_length}
-use Rattle.store_engine.proofs.Answered.{fine, ok_anyway, unless_failed, unplaced, err_anyway, on_err, prepared, unlogged, taken_attached, moments_here, moments_after, admit_cause, admit_length, admitted, executed}
+use Rattle.store_engine.proofs.Answered.{fine, unless_failed, err_anyway, on_err, prepared, unlogged, taken_attached, moments_here, moments_after, admit_cause, admit_length, admitted, executed}
 use Rattle.store_engine.proofs.engine.Engine.exec.Given.{Over}
-use Rattle.store_engine.proofs.engine.Engine.exec.Goals.{After-prepare, In_ok-made, After-take_in}
+use Rattle.store_engine.proofs.engine.Engine.exec.Goals.{In_ok-values, After-prepare, After-log_and_set}
 use Rattle.store_engine.proofs.engine.Engine.exec.Goals as goal
 
--- the engine whose memory is taken has the objects that it had
-same_map : (g : Over) (c : After-prepare g) → IsSameMap (g.M.Machine.disk c.args.machine.now) c.args.self.now c.prepare.new.self
-same_map g c =
-    let old = g.M.Machine.disk c.args.machine.now in
-    same_map_twice old c.args.self.now c.admit.new.self c.prepare.new.self (fine c.in_ok-values.values _ c.in_ok-values.ensures.same)
-    (prepared old c.admit.new.self c.prepare.new.self c.prepare.ensures.same c.prepare.ensures.entries c.prepare.ensures.laid)
+-- the engine that admitted the operation has the objects that it had
+same_map : (g : Over) (c : In_ok-values g) → IsSameMap (g.M.Machine.disk c.args.machine.now) c.args.self.now c.admit.new.self
+same_map g c = fine _ _ c.in_ok-values.ensures.same
 
-module _ (g : Over) (c : After-prepare g) (p : Params) (commands : List g.row.O.Denot) (h : Holds g.O.Oper.meaning p (g.M.Machine.disk c.args.machine.now) c.args.self.now commands) where
-  kept : Kept g.O.Oper.meaning p c.args.self.now (g.M.Machine.disk c.admit.new.machine) c.prepare.new.self commands
-  kept = same_map_kept g.O.Oper.meaning p (g.M.Machine.disk c.args.machine.now) c.args.self.now commands h (g.M.Machine.disk c.admit.new.machine) c.prepare.new.self c.admit.ensures.kept (same_map g c)
+-- the length of the record
+long : (g : Over) (c : In_ok-values g) → c.in_ok-values.length ≡ record_length g.O.Oper.meaning (params_of c.admit.new.self) c.args.op
+long g c = c.in_ok-values.ensures.length ∙ ap (λ (q : Params). record_length g.O.Oper.meaning q c.args.op) (sym (ap (λ (s : SlotsView). s.params) (same_map g c).slots))
+
+module _ (g : Over) (c : In_ok-values g) (p : Params) (commands : List g.row.O.Denot) (h : Holds g.O.Oper.meaning p (g.M.Machine.disk c.args.machine.now) c.args.self.now commands) where
+  kept : Kept g.O.Oper.meaning p c.args.self.now (g.M.Machine.disk c.admit.new.machine) c.admit.new.self commands
+  kept = same_map_kept g.O.Oper.meaning p (g.M.Machine.disk c.args.machine.now) c.args.self.now commands h (g.M.Machine.disk c.admit.new.machine) c.admit.new.self c.admit.ensures.kept (same_map g c)
 
   accepted : refusal_after g.O.Oper.meaning p commands c.args.op ≡ None
   accepted = admitted g.O.Oper.meaning g.met.O.Oper.bounded g.met.O.Oper.lawful p (g.M.Machine.disk c.args.machine.now) c.args.self.now commands h c.args.op c.in_ok-values.values
@@ -35,15 +35,28 @@ module _ (g : Over) (c : After-prepare g) (p : Params) (commands : List g.row.O.
   no_call : g.M.Machine.disk c.admit.new.machine ≡ g.M.Machine.disk c.args.machine.now
   no_call = ap (λ m. g.M.Machine.disk m) (c.in_ok-values.ensures.none (all_shut g.O.Oper.meaning p (g.M.Machine.disk c.args.machine.now) c.args.self.now commands h)).0
 
--- the length of the record
-long : (g : Over) (c : In_ok-made g) → c.in_ok-made.length ≡ record_length g.O.Oper.meaning (params_of c.prepare.new.self) c.args.op
-long g c = c.in_ok-made.ensures.length ∙ ap (λ (q : Params). record_length g.O.Oper.meaning q c.args.op) (sym (ap (λ (e : EngineView). params_of e) c.prepare.ensures.same))
+-- so has the one whose memory is taken, and the machine stays
+module _ (g : Over) (c : After-prepare g) where
+  same_made : IsSameMap (g.M.Machine.disk c.args.machine.now) c.args.self.now c.admit.new.self → IsSameMap (g.M.Machine.disk c.args.machine.now) c.args.self.now c.prepare.new.self
+  same_made same =
+      let old = g.M.Machine.disk c.args.machine.now in
+      same_map_twice old c.args.self.now c.require_log_room.new.self c.prepare.new.self
+      (subst (λ (e : EngineView). IsSameMap old c.args.self.now e) (sym c.in_ok-require_log_room.ensures.untouched.1) same)
+      (prepared old c.require_log_room.new.self c.prepare.new.self c.prepare.ensures.same c.prepare.ensures.entries c.prepare.ensures.laid)
 
--- the operation was taken in with the values that it makes
-took : (g : Over) (c : After-take_in g) → IfOk c.take_in.result (λ n. (n ≡ c.take_in.new.self.accepted) × TookIn g.O.Oper.meaning c.args.op c.in_ok-values.values c.see_place.new.self c.take_in.new.self)
-took g c = c.take_in.ensures.ok c.in_ok-values.values
-    (c.in_ok-made.ensures.made ∙ ap (λ (q : Params). (meaning_in g.O.Oper.meaning q).effect c.args.op c.in_ok-values.values)
-    (sym (ap (λ (e : EngineView). params_of e) c.in_ok-see_place.ensures.untouched.1 ∙ ap (λ (e : EngineView). params_of e) c.prepare.ensures.same)))
+  stays : Stays (g.M.Machine.disk c.args.machine.now) (g.M.Machine.disk c.require_log_room.new.machine)
+  stays = subst (λ (d : Disk). Stays (g.M.Machine.disk c.args.machine.now) d) (sym (ap (λ m. g.M.Machine.disk m) c.in_ok-require_log_room.ensures.untouched.0)) c.admit.ensures.kept
+
+  kept_made : IsSameMap (g.M.Machine.disk c.args.machine.now) c.args.self.now c.admit.new.self → (p : Params) (commands : List g.row.O.Denot)
+      → Holds g.O.Oper.meaning p (g.M.Machine.disk c.args.machine.now) c.args.self.now commands
+      → Kept g.O.Oper.meaning p c.args.self.now (g.M.Machine.disk c.require_log_room.new.machine) c.prepare.new.self commands
+  kept_made same p commands h =
+      same_map_kept g.O.Oper.meaning p (g.M.Machine.disk c.args.machine.now) c.args.self.now commands h (g.M.Machine.disk c.require_log_room.new.machine) c.prepare.new.self stays (same_made same)
+
+-- the operation was logged, and the objects have the values that it makes
+took : (g : Over) (c : After-log_and_set g) → IfOk c.log_and_set.result (λ n. (n ≡ c.log_and_set.new.self.accepted) × TookIn g.O.Oper.meaning c.args.op c.in_ok-values.values c.prepare.new.self c.log_and_set.new.self)
+took g c = c.log_and_set.ensures.ok c.in_ok-values.values
+    (c.in_ok-made.ensures.made ∙ ap (λ (q : Params). (meaning_in g.O.Oper.meaning q).effect c.args.op c.in_ok-values.values) (sym (ap (λ (e : EngineView). params_of e) c.prepare.ensures.same)))
 
 pub returns-in_err-values-clause-err : goal.returns-in_err-values-clause-err
 returns-in_err-values-clause-err g c p commands h =
@@ -82,132 +95,111 @@ returns-in_err-values-clause-moments g c p commands h told =
     let none = (c.in_err-values.ensures.none (all_shut g.O.Oper.meaning p old c.args.self.now commands h)).0 in
     moments_here g.O.Oper.meaning p old new c.args.self.now commands (ap (λ m. g.M.Machine.disk m) none) c.admit.ensures.kept.begins h told
 
+pub returns-in_err-require_log_room-clause-err : goal.returns-in_err-require_log_room-clause-err
+returns-in_err-require_log_room-clause-err g c p commands h =
+    let q = err_from_is_err_and c.from_residual-in_err-require_log_room.result c.from_residual-in_err-require_log_room.ensures.1 in
+    let before = kept g (goal.at.returns-in_err-require_log_room-clause-err g c).In_ok-values p commands h in
+    rw (q.1, q.2) (λ other.
+    kept_twice g.O.Oper.meaning p (g.M.Machine.disk c.admit.new.machine) (g.M.Machine.disk c.require_log_room.new.machine) c.args.self.now c.admit.new.self c.require_log_room.new.self commands commands before
+    (c.in_err-require_log_room.ensures.forced p commands before.holds other).1)
+
+pub returns-in_err-require_log_room-clause-exactly : goal.returns-in_err-require_log_room-clause-exactly
+returns-in_err-require_log_room-clause-exactly g c p commands h =
+    let q = err_from_is_err_and c.from_residual-in_err-require_log_room.result c.from_residual-in_err-require_log_room.ensures.1 in
+    let here = (goal.at.returns-in_err-require_log_room-clause-exactly g c).In_ok-values in
+    let cause = lacks_cause g.O.Oper.meaning p (g.M.Machine.disk c.admit.new.machine) c.admit.new.self commands (kept g here p commands h).holds c.args.op (accepted g here p commands h)
+    c.in_ok-values.length (long g here) c.in_err-require_log_room.field-0.0 c.in_err-require_log_room.ensures.lacks in
+    rw (q.1, q.2) (subst (λ (l : LogLength). HasCause g.O.Oper.meaning p commands l c.args.op (Err c.in_err-require_log_room.field-0.0)) (same_length (g.M.Machine.disk c.args.machine.now) c.args.self.now c.admit.new.self (same_map g here)) cause)
+
+pub returns-in_err-require_log_room-clause-full : goal.returns-in_err-require_log_room-clause-full
+returns-in_err-require_log_room-clause-full g c p commands h used need limit is =
+    let q = err_from_is_err_and c.from_residual-in_err-require_log_room.result c.from_residual-in_err-require_log_room.ensures.1 in
+    let here = (goal.at.returns-in_err-require_log_room-clause-full g c).In_ok-values in
+    let holds = (kept g here p commands h).holds in
+    let e : c.in_err-require_log_room.field-0.0 ≡ LogFull used need limit = cc (q.1, q.2, is) in
+    let other : c.in_err-require_log_room.field-0.0 ≢ DiskFault = λ failed. cc (e, failed) in
+    let forced = c.in_err-require_log_room.ensures.forced p commands holds other in
+    is_full g.O.Oper.meaning p (g.M.Machine.disk c.admit.new.machine) c.admit.new.self commands holds c.args.op (accepted g here p commands h)
+    c.in_ok-values.length (long g here) (g.M.Machine.disk c.require_log_room.new.machine) c.require_log_room.new.self forced.0 forced.1 used need limit
+    (subst (λ (x : ExecErr). LacksPlace c.admit.new.self c.in_ok-values.length x) e c.in_err-require_log_room.ensures.lacks) (c.in_err-require_log_room.ensures.emptied other)
+
+pub returns-in_err-require_log_room-clause-end : goal.returns-in_err-require_log_room-clause-end
+returns-in_err-require_log_room-clause-end g c p commands h number is =
+    let q = err_from_is_err_and c.from_residual-in_err-require_log_room.result c.from_residual-in_err-require_log_room.ensures.1 in
+    let here = (goal.at.returns-in_err-require_log_room-clause-end g c).In_ok-values in
+    let holds = (kept g here p commands h).holds in
+    let e : c.in_err-require_log_room.field-0.0 ≡ LsnEnd number = cc (q.1, q.2, is) in
+    let other : c.in_err-require_log_room.field-0.0 ≢ DiskFault = λ failed. cc (e, failed) in
+    let forced = c.in_err-require_log_room.ensures.forced p commands holds other in
+    is_at_end g.O.Oper.meaning p (g.M.Machine.disk c.admit.new.machine) c.admit.new.self commands holds c.args.op (accepted g here p commands h)
+    c.in_ok-values.length (long g here) (g.M.Machine.disk c.require_log_room.new.machine) c.require_log_room.new.self forced.0 forced.1 number
+    (subst (λ (x : ExecErr). LacksPlace c.admit.new.self c.in_ok-values.length x) e c.in_err-require_log_room.ensures.lacks)
+
+pub returns-in_err-require_log_room-clause-moments : goal.returns-in_err-require_log_room-clause-moments
+returns-in_err-require_log_room-clause-moments g c p commands h =
+    let here = (goal.at.returns-in_err-require_log_room-clause-moments g c).In_ok-values in
+    moments_after g.O.Oper.meaning p (g.M.Machine.disk c.args.machine.now) (g.M.Machine.disk c.admit.new.machine) (g.M.Machine.disk c.require_log_room.new.machine) c.args.self.now.forced c.admit.new.self.forced commands
+    (no_call g here p commands h) (same_map g here).forced (c.require_log_room.ensures.moments p commands (kept g here p commands h).holds)
+
+pub returns-in_err-require_log_room-clause-attached : goal.returns-in_err-require_log_room-clause-attached
+returns-in_err-require_log_room-clause-attached g c attached =
+    c.require_log_room.ensures.attached (c.admit.ensures.attached attached)
+
 pub returns-in_err-made-clause-err : goal.returns-in_err-made-clause-err
 returns-in_err-made-clause-err g c p commands h =
-    err_anyway c.from_residual-in_err-made.result _ (kept g (goal.at.returns-in_err-made-clause-err g c).After-prepare p commands h)
+    let at = goal.at.returns-in_err-made-clause-err g c in
+    err_anyway c.from_residual-in_err-made.result _ (kept_made g at.After-prepare (same_map g at.In_ok-values) p commands h)
 
 pub returns-in_err-made-clause-moments : goal.returns-in_err-made-clause-moments
 returns-in_err-made-clause-moments g c p commands h told =
-    moments_here g.O.Oper.meaning p (g.M.Machine.disk c.args.machine.now) (g.M.Machine.disk c.admit.new.machine) c.args.self.now commands
-    (no_call g (goal.at.returns-in_err-made-clause-moments g c).After-prepare p commands h) c.admit.ensures.kept.begins h told
-
-pub returns-in_err-see_place-clause-time : goal.returns-in_err-see_place-clause-time
-returns-in_err-see_place-clause-time g c =
-    passes_twice (g.M.Machine.disk c.args.machine.now) (g.M.Machine.disk c.admit.new.machine) (g.M.Machine.disk c.see_place.new.machine) (g.met.M.Machine.lawful c.see_place.new.machine)
-    c.admit.ensures.kept.time c.see_place.ensures.time
-
-pub returns-in_err-see_place-clause-err : goal.returns-in_err-see_place-clause-err
-returns-in_err-see_place-clause-err g c p commands h =
-    let q = err_from_is_err_and c.from_residual-in_err-see_place.result c.from_residual-in_err-see_place.ensures.1 in
-    let before = kept g (goal.at.returns-in_err-see_place-clause-err g c).After-prepare p commands h in
-    rw (q.1, q.2) (λ other.
-    kept_twice g.O.Oper.meaning p (g.M.Machine.disk c.admit.new.machine) (g.M.Machine.disk c.see_place.new.machine) c.args.self.now c.prepare.new.self c.see_place.new.self commands commands before
-    (c.in_err-see_place.ensures.forced p commands before.holds other).1)
-
-pub returns-in_err-see_place-clause-cause : goal.returns-in_err-see_place-clause-cause
-returns-in_err-see_place-clause-cause g c =
-    let q = err_from_is_err_and c.from_residual-in_err-see_place.result c.from_residual-in_err-see_place.ensures.1 in
-    rw (q.1, q.2) (unplaced g.O.Oper.meaning (g.M.Machine.disk c.args.machine.now) (g.M.Machine.disk c.admit.new.machine) (g.M.Machine.disk c.see_place.new.machine) c.args.self.now c.prepare.new.self c.args.op c.in_ok-values.values
-    c.in_ok-made.length c.in_err-see_place.field-0.0 c.admit.ensures.kept (same_map g (goal.at.returns-in_err-see_place-clause-cause g c).After-prepare) c.in_ok-values.ensures.ready
-    (long g (goal.at.returns-in_err-see_place-clause-cause g c).In_ok-made) c.in_err-see_place.ensures.lacks (λ failed. c.in_err-see_place.ensures.fault (λ i. Err (failed i))))
-
-pub returns-in_err-see_place-clause-exactly : goal.returns-in_err-see_place-clause-exactly
-returns-in_err-see_place-clause-exactly g c p commands h =
-    let q = err_from_is_err_and c.from_residual-in_err-see_place.result c.from_residual-in_err-see_place.ensures.1 in
-    let here = (goal.at.returns-in_err-see_place-clause-exactly g c).After-prepare in
-    let cause = lacks_cause g.O.Oper.meaning p (g.M.Machine.disk c.admit.new.machine) c.prepare.new.self commands (kept g here p commands h).holds c.args.op (accepted g here p commands h)
-    c.in_ok-made.length (long g (goal.at.returns-in_err-see_place-clause-exactly g c).In_ok-made) c.in_err-see_place.field-0.0 c.in_err-see_place.ensures.lacks in
-    rw (q.1, q.2) (subst (λ (l : LogLength). HasCause g.O.Oper.meaning p commands l c.args.op (Err c.in_err-see_place.field-0.0)) (same_length (g.M.Machine.disk c.args.machine.now) c.args.self.now c.prepare.new.self (same_map g here)) cause)
-
-pub returns-in_err-see_place-clause-full : goal.returns-in_err-see_place-clause-full
-returns-in_err-see_place-clause-full g c p commands h used need limit is =
-    let q = err_from_is_err_and c.from_residual-in_err-see_place.result c.from_residual-in_err-see_place.ensures.1 in
-    let here = (goal.at.returns-in_err-see_place-clause-full g c).After-prepare in
-    let holds = (kept g here p commands h).holds in
-    let e : c.in_err-see_place.field-0.0 ≡ LogFull used need limit = cc (q.1, q.2, is) in
-    let other : c.in_err-see_place.field-0.0 ≢ DiskFault = λ failed. cc (e, failed) in
-    let forced = c.in_err-see_place.ensures.forced p commands holds other in
-    is_full g.O.Oper.meaning p (g.M.Machine.disk c.admit.new.machine) c.prepare.new.self commands holds c.args.op (accepted g here p commands h)
-    c.in_ok-made.length (long g (goal.at.returns-in_err-see_place-clause-full g c).In_ok-made) (g.M.Machine.disk c.see_place.new.machine) c.see_place.new.self forced.0 forced.1 used need limit
-    (subst (λ (x : ExecErr). LacksPlace c.prepare.new.self c.in_ok-made.length x) e c.in_err-see_place.ensures.lacks) (c.in_err-see_place.ensures.emptied other)
-
-pub returns-in_err-see_place-clause-end : goal.returns-in_err-see_place-clause-end
-returns-in_err-see_place-clause-end g c p commands h number is =
-    let q = err_from_is_err_and c.from_residual-in_err-see_place.result c.from_residual-in_err-see_place.ensures.1 in
-    let here = (goal.at.returns-in_err-see_place-clause-end g c).After-prepare in
-    let holds = (kept g here p commands h).holds in
-    let e : c.in_err-see_place.field-0.0 ≡ LsnEnd number = cc (q.1, q.2, is) in
-    let other : c.in_err-see_place.field-0.0 ≢ DiskFault = λ failed. cc (e, failed) in
-    let forced = c.in_err-see_place.ensures.forced p commands holds other in
-    is_at_end g.O.Oper.meaning p (g.M.Machine.disk c.admit.new.machine) c.prepare.new.self commands holds c.args.op (accepted g here p commands h)
-    c.in_ok-made.length (long g (goal.at.returns-in_err-see_place-clause-end g c).In_ok-made) (g.M.Machine.disk c.see_place.new.machine) c.see_place.new.self forced.0 forced.1 number
-    (subst (λ (x : ExecErr). LacksPlace c.prepare.new.self c.in_ok-made.length x) e c.in_err-see_place.ensures.lacks)
-
-pub returns-in_err-see_place-clause-moments : goal.returns-in_err-see_place-clause-moments
-returns-in_err-see_place-clause-moments g c p commands h =
-    let here = (goal.at.returns-in_err-see_place-clause-moments g c).After-prepare in
-    moments_after g.O.Oper.meaning p (g.M.Machine.disk c.args.machine.now) (g.M.Machine.disk c.admit.new.machine) (g.M.Machine.disk c.see_place.new.machine) c.args.self.now.forced c.prepare.new.self.forced commands
-    (no_call g here p commands h) (same_map g here).forced (c.see_place.ensures.moments p commands (kept g here p commands h).holds)
-
-pub returns-in_err-see_place-clause-attached : goal.returns-in_err-see_place-clause-attached
-returns-in_err-see_place-clause-attached g c attached =
-    c.see_place.ensures.attached (attached_stays (g.M.Machine.disk c.args.machine.now) (g.M.Machine.disk c.admit.new.machine) c.args.self.now c.prepare.new.self c.admit.ensures.kept
-    (same_map g (goal.at.returns-in_err-see_place-clause-attached g c).After-prepare) attached)
+    moments_here g.O.Oper.meaning p (g.M.Machine.disk c.args.machine.now) (g.M.Machine.disk c.require_log_room.new.machine) c.args.self.now commands
+    (ap (λ m. g.M.Machine.disk m) c.in_ok-require_log_room.ensures.untouched.0 ∙ no_call g (goal.at.returns-in_err-made-clause-moments g c).In_ok-values p commands h) c.admit.ensures.kept.begins h told
 
 pub returns-clause-ok : goal.returns-clause-ok
 returns-clause-ok g c p commands h =
-    let untouched = c.in_ok-see_place.ensures.untouched in
-    let new = g.M.Machine.disk c.see_place.new.machine in
-    let before = subst (λ (e : EngineView). Kept g.O.Oper.meaning p c.args.self.now new e commands) (sym untouched.1)
-    (subst (λ (d : Disk). Kept g.O.Oper.meaning p c.args.self.now d c.prepare.new.self commands) (sym (ap (λ m. g.M.Machine.disk m) untouched.0))
-    (kept g (goal.at.returns-clause-ok g c).After-prepare p commands h)) in
-    IfOk-weaker c.take_in.result _ _
+    let at = goal.at.returns-clause-ok g c in
+    let number : c.prepare.new.self.log.next ≡ c.admit.new.self.log.next
+    = ap (λ (e : EngineView). e.log.next) c.prepare.ensures.same ∙ ap (λ (e : EngineView). e.log.next) c.in_ok-require_log_room.ensures.untouched.1 in
+    IfOk-weaker c.log_and_set.result _ _
     (λ n t. executed g.O.Oper.meaning g.met.O.Oper.bounded g.met.O.Oper.lawful p (g.M.Machine.disk c.args.machine.now) c.args.self.now commands h c.args.op c.in_ok-values.values
-    c.in_ok-values.ensures.ready (c.in_ok-values.ensures.read h.told h.carried.laid) new c.see_place.new.self c.take_in.new.self n before
-    (subst (λ (e : EngineView). e.log.next < 2 ^ 62) (sym untouched.1) c.in_ok-see_place.ensures.has.number) t)
-    (took g (goal.at.returns-clause-ok g c).After-take_in)
+    c.in_ok-values.ensures.ready (c.in_ok-values.ensures.read h.told h.carried.laid) (g.M.Machine.disk c.require_log_room.new.machine) c.prepare.new.self c.log_and_set.new.self n
+    (kept_made g at.After-prepare (same_map g at.In_ok-values) p commands h)
+    (subst (λ (n : ℕ). n < 2 ^ 62) (sym number) c.in_ok-require_log_room.ensures.has.number) t)
+    (took g at.After-log_and_set)
 
 pub returns-clause-err : goal.returns-clause-err
 returns-clause-err g c p commands h =
-    let untouched = c.in_ok-see_place.ensures.untouched in
+    let at = goal.at.returns-clause-err g c in
     let old = g.M.Machine.disk c.args.machine.now in
-    let new = g.M.Machine.disk c.see_place.new.machine in
-    let before = same_map g (goal.at.returns-clause-err g c).After-prepare in
-    on_err c.take_in.result _ _ c.take_in.ensures.err
-    (λ is. same_map_kept g.O.Oper.meaning p old c.args.self.now commands h new c.take_in.new.self
-    (subst (λ (d : Disk). Stays old d) (sym (ap (λ m. g.M.Machine.disk m) untouched.0)) c.admit.ensures.kept)
-    (same_map_twice old c.args.self.now c.see_place.new.self c.take_in.new.self (subst (λ (e : EngineView). IsSameMap old c.args.self.now e) (sym untouched.1) before)
-    (unlogged old c.see_place.new.self c.take_in.new.self is)))
-
-pub returns-clause-admissible : goal.returns-clause-admissible
-returns-clause-admissible g c =
-    ok_anyway c.take_in.result (IsAdmissible g.O.Oper.meaning (params_of c.args.self.now) c.args.op) (c.in_ok-values.values, c.in_ok-values.ensures.ready)
+    on_err c.log_and_set.result _ _ c.log_and_set.ensures.err
+    (λ is. same_map_kept g.O.Oper.meaning p old c.args.self.now commands h (g.M.Machine.disk c.require_log_room.new.machine) c.log_and_set.new.self (stays g at.After-prepare)
+    (same_map_twice old c.args.self.now c.prepare.new.self c.log_and_set.new.self (same_made g at.After-prepare (same_map g at.In_ok-values))
+    (unlogged old c.prepare.new.self c.log_and_set.new.self is)))
 
 pub returns-clause-exactly : goal.returns-clause-exactly
 returns-clause-exactly g c p commands h =
-    let here = (goal.at.returns-clause-exactly g c).After-prepare in
-    subst (λ (l : LogLength). HasCause g.O.Oper.meaning p commands l c.args.op c.take_in.result) (same_length (g.M.Machine.disk c.args.machine.now) c.args.self.now c.prepare.new.self (same_map g here))
-    (place_cause g.O.Oper.meaning p (g.M.Machine.disk c.admit.new.machine) c.prepare.new.self commands (kept g here p commands h).holds c.args.op (accepted g here p commands h)
-    c.in_ok-made.length (long g (goal.at.returns-clause-exactly g c).In_ok-made) c.take_in.result c.in_ok-see_place.ensures.has c.take_in.ensures.only)
+    let here = (goal.at.returns-clause-exactly g c).In_ok-values in
+    subst (λ (l : LogLength). HasCause g.O.Oper.meaning p commands l c.args.op c.log_and_set.result) (same_length (g.M.Machine.disk c.args.machine.now) c.args.self.now c.admit.new.self (same_map g here))
+    (place_cause g.O.Oper.meaning p (g.M.Machine.disk c.admit.new.machine) c.admit.new.self commands (kept g here p commands h).holds c.args.op (accepted g here p commands h)
+    c.in_ok-values.length (long g here) c.log_and_set.result c.in_ok-require_log_room.ensures.has c.log_and_set.ensures.only)
 
 pub returns-clause-lengthens : goal.returns-clause-lengthens
 returns-clause-lengthens g c p commands h =
-    let here = (goal.at.returns-clause-lengthens g c).After-prepare in
-    let untouched = c.in_ok-see_place.ensures.untouched.1 in
-    let length : log_length c.see_place.new.self ≡ log_length c.args.self.now
-    = ap (λ (e : EngineView). log_length e) untouched ∙ same_length (g.M.Machine.disk c.args.machine.now) c.args.self.now c.prepare.new.self (same_map g here) in
-    subst (λ (l : LogLength). Lengthens g.O.Oper.meaning p l c.args.op c.take_in.result (log_length c.take_in.new.self)) length
-    (taken_length g.O.Oper.meaning p c.see_place.new.self c.take_in.new.self c.args.op c.in_ok-values.values
-    (ap (λ (e : EngineView). params_of e) untouched ∙ (kept g here p commands h).holds.params) c.take_in.result (took g (goal.at.returns-clause-lengthens g c).After-take_in) c.take_in.ensures.only c.take_in.ensures.err)
+    let at = goal.at.returns-clause-lengthens g c in
+    let same = same_made g at.After-prepare (same_map g at.In_ok-values) in
+    subst (λ (l : LogLength). Lengthens g.O.Oper.meaning p l c.args.op c.log_and_set.result (log_length c.log_and_set.new.self)) (same_length (g.M.Machine.disk c.args.machine.now) c.args.self.now c.prepare.new.self same)
+    (taken_length g.O.Oper.meaning p c.prepare.new.self c.log_and_set.new.self c.args.op c.in_ok-values.values
+    (ap (λ (s : SlotsView). s.params) same.slots ∙ h.params) c.log_and_set.result (took g at.After-log_and_set) c.log_and_set.ensures.only c.log_and_set.ensures.err)
 
 pub returns-clause-moments : goal.returns-clause-moments
 returns-clause-moments g c p commands h told =
-    moments_here g.O.Oper.meaning p (g.M.Machine.disk c.args.machine.now) (g.M.Machine.disk c.see_place.new.machine) c.args.self.now commands
-    (ap (λ m. g.M.Machine.disk m) c.in_ok-see_place.ensures.untouched.0 ∙ no_call g (goal.at.returns-clause-moments g c).After-prepare p commands h) c.admit.ensures.kept.begins h told
+    moments_here g.O.Oper.meaning p (g.M.Machine.disk c.args.machine.now) (g.M.Machine.disk c.require_log_room.new.machine) c.args.self.now commands
+    (ap (λ m. g.M.Machine.disk m) c.in_ok-require_log_room.ensures.untouched.0 ∙ no_call g (goal.at.returns-clause-moments g c).In_ok-values p commands h) c.admit.ensures.kept.begins h told
 
 pub returns-clause-attached : goal.returns-clause-attached
 returns-clause-attached g c attached =
-    taken_attached g.O.Oper.meaning (g.M.Machine.disk c.see_place.new.machine) c.see_place.new.self c.take_in.new.self c.args.op c.in_ok-values.values c.take_in.result
-    (took g (goal.at.returns-clause-attached g c).After-take_in) c.take_in.ensures.err
-    (c.see_place.ensures.attached (attached_stays (g.M.Machine.disk c.args.machine.now) (g.M.Machine.disk c.admit.new.machine) c.args.self.now c.prepare.new.self c.admit.ensures.kept
-    (same_map g (goal.at.returns-clause-attached g c).After-prepare) attached))
+    let at = goal.at.returns-clause-attached g c in
+    taken_attached g.O.Oper.meaning (g.M.Machine.disk c.require_log_room.new.machine) c.prepare.new.self c.log_and_set.new.self c.args.op c.in_ok-values.values c.log_and_set.result
+    (took g at.After-log_and_set) c.log_and_set.ensures.err
+    (attached_stays (g.M.Machine.disk c.args.machine.now) (g.M.Machine.disk c.require_log_room.new.machine) c.args.self.now c.prepare.new.self (stays g at.After-prepare)
+    (same_made g at.After-prepare (same_map g at.In_ok-values)) attached)

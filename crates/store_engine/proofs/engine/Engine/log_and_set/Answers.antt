@@ -5,7 +5,7 @@ use Rattle.formats.specs.declared.params.Params.{Params}
 use Rattle.store_engine.specs.Engine.{EngineView, params_of}
 use Rattle.store_engine.proofs.Admitted.{writes_there, made_count, made_short}
 use Rattle.store_engine.proofs.Executed.{append_short, append_place}
-use Rattle.store_engine.proofs.engine.Engine.take_in.Goals as goal
+use Rattle.store_engine.proofs.engine.Engine.log_and_set.Goals as goal
 
 pub append-requires-clause-short : goal.append-requires-clause-short
 append-requires-clause-short g c =

@@ -1,5 +1,5 @@
 use Rattle.store_engine.proofs.Holding.{between_here}
-use Rattle.store_engine.proofs.engine.Engine.see_place.Goals as goal
+use Rattle.store_engine.proofs.engine.Engine.require_log_room.Goals as goal
 
 pub returns-then-length-limit-clause-forced : goal.returns-then-length-limit-clause-forced
 returns-then-length-limit-clause-forced g c p commands h other =
