@@ -1,8 +1,8 @@
 // Reads and checks the header, and loads the slots.
-ghost use Rattle.std.specs.Prelude.{◌≡◌, ◌∷◌, ◌<◌, length, IfOk, IfErr};
+ghost use Rattle.std.specs.Prelude.{◌≡◌, ◌≢◌, ◌∷◌, ◌<◌, length, IfOk, IfErr, IsErrOf};
 ghost use Rattle.disk_model.specs.Disk.{Rises, Stays};
 ghost use Rattle.disk_model.specs.declared.machine.FileNo.TheVariants.{Objects};
-ghost use Rattle.formats.specs.Bytes.{IsShutAt};
+ghost use Rattle.formats.specs.Bytes.{IsOpenAt, IsShutAt};
 ghost use Rattle.formats.specs.Objects.{IsInRange, IsObjectsFile, objects_fields};
 ghost use Rattle.formats.specs.declared.params.Params.{Params as Numbers};
 ghost use Rattle.stable_objects.specs.SlotsView.{AreOf};
@@ -25,6 +25,7 @@ fn parse_header(head: &[u8]) -> Result<Params, SlotErr>
     requires { length head.now ≡ 21 }
     ensures ok { IfOk result (λ p. IsInRange p × (head.now ≡ 1 ∷ objects_fields p)) }
     ensures cause { IfErr result (FailsBy ⊥ (IsShutAt 0 head.now) (FailsAt (IsHeaderFault head.now))) }
+    ensures no_memory { IfErr result (λ e. e ≢ SlotErr.Memory) }
 {
     if head[0] != OPEN {
         return Err(SlotErr::NotAStore);
@@ -59,6 +60,7 @@ fn read_header<M: Machine>(machine: &mut M) -> Result<Params, SlotErr>
     ensures cause { IfErr result (FailsBy (Rises (M.disk machine.old).disk_faults (M.disk machine.new).disk_faults)
         ((M.disk machine.old).tells_files → IsShutAt 0 ((M.disk machine.old).reads Objects))
         (FailsAt (λ place. (M.disk machine.old).tells_files → IsDamagedAt ((M.disk machine.old).reads Objects) place))) }
+    ensures no_memory { IfErr result (λ e. e ≢ SlotErr.Memory) }
 {
     let mut head = [0; HEADER_BYTES];
     read_padded(machine, FileNo::Objects, 0, &mut head)?;
@@ -74,7 +76,7 @@ impl Slots {
     /// The slots of the store in the objects file. The head of each slot is read once.
     ///
     /// It answers `NotAStore` where the objects gate is not open, `Damaged` where the file breaks its format,
-    /// `DiskFault` where the device fails, and `Memory`.
+    /// `DiskFault` where the device fails, and `Memory`. The gate is looked at before memory is taken.
     pub fn load<M: Machine>(alloc: Global, machine: &mut M) -> Result<Slots, SlotErr>
         ensures kept { Stays (M.disk machine.old) (M.disk machine.new) }
         ensures read { (M.disk machine.old).tells_files → IfOk result (λ s. AreOf s ((M.disk machine.old).reads Objects)) }
@@ -82,6 +84,7 @@ impl Slots {
             ((M.disk machine.old).tells_files → IsShutAt 0 ((M.disk machine.old).reads Objects))
             (FailsAt (λ place. (M.disk machine.old).tells_files → IsDamagedAt ((M.disk machine.old).reads Objects) place))) }
         ensures whole { (M.disk machine.old).tells_files → (p : Numbers) → IsObjectsFile p ((M.disk machine.old).reads Objects) → IfErr result IsNoDamage }
+        ensures memory { (M.disk machine.old).tells_files → IsErrOf result SlotErr.Memory → IsOpenAt 0 ((M.disk machine.old).reads Objects) }
     {
         let params = read_header(machine)?;
         let size = machine.size(FileNo::Objects)?;
