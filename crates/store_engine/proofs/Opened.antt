@@ -73,6 +73,10 @@ has_slots old first mid objects kept settled more laid empty = record {
 pub slots_on : (old d new : Disk) (objects : Laid) → HasSlots old d objects → Stays d new → HasSlots old new objects
 slots_on old d new objects has kept = record { kept = stays_twice old d new has.kept kept; settled = all_settled d new kept has.settled; laid = has.laid; empty = has.empty }
 
+-- their gate is open
+pub slots_gate : (old d : Disk) (objects : Laid) → HasSlots old d objects → old.tells_files → IsOpenAt 0 (old.reads Objects)
+slots_gate old d objects has told = gate_is_open objects.slots.params (old.reads Objects) (has.laid told).slots.whole
+
 -- The place is that of the identifier of the first open slot that has this number or a later one.
 abbrev pub IsLateAt : SlotsView → ℕ → ℕ → Type 0
 IsLateAt slots next place =

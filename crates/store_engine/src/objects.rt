@@ -1,9 +1,9 @@
 // The objects of a store in use: a cache, laid over the slots.
-ghost use Rattle.std.specs.Prelude.{◌≡◌, ◌≢◌, ◌<◌, ◌≤◌, ℕ, All, List, length, map, None, IsSome, nat_eq, OnOk, OnErr, IfOk, IfErr};
+ghost use Rattle.std.specs.Prelude.{◌≡◌, ◌≢◌, ◌<◌, ◌≤◌, ℕ, All, List, length, map, None, IsSome, nat_eq, OnOk, OnErr, IfOk, IfErr, IsErrOf};
 ghost use Rattle.std.specs.List.{IsDistinct};
 ghost use Rattle.disk_model.specs.Disk.{Rises, Stays};
 ghost use Rattle.disk_model.specs.declared.machine.FileNo.TheVariants.{Objects as ObjectsFile};
-ghost use Rattle.formats.specs.Bytes.{IsShutAt};
+ghost use Rattle.formats.specs.Bytes.{IsOpenAt, IsShutAt};
 ghost use Rattle.formats.specs.Objects.{IsObjectsFile};
 ghost use Rattle.formats.specs.declared.params.Params.{Params};
 ghost use Rattle.stable_objects.specs.Reading.{FailsBy, FailsAt, IsDamagedAt, IsNoDamage};
@@ -52,6 +52,7 @@ impl Objects {
             ((M.disk machine.old).tells_files → IsShutAt 0 ((M.disk machine.old).reads ObjectsFile))
             (FailsAt (λ place. (M.disk machine.old).tells_files → IsDamagedAt ((M.disk machine.old).reads ObjectsFile) place))) }
         ensures whole { (M.disk machine.old).tells_files → (p : Params) → IsObjectsFile p ((M.disk machine.old).reads ObjectsFile) → IfErr result IsNoDamage }
+        ensures memory { (M.disk machine.old).tells_files → IsErrOf result SlotErr.Memory → IsOpenAt 0 ((M.disk machine.old).reads ObjectsFile) }
     {
         let slots = Slots::load(alloc, machine)?;
         let cache = Cache::new(alloc, clean)?;

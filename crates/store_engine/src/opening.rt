@@ -2,7 +2,7 @@
 ghost use Rattle.std.specs.Prelude.{◌≡◌, ◌≢◌, ◌<◌, false, List, ℕ, length, OnOk, IfOk, IfErr, IsErrOf};
 ghost use Rattle.disk_model.specs.Disk.{Rises, Passes, Stays, LeavesOnly, IsSettled};
 ghost use Rattle.disk_model.specs.declared.machine.FileNo.TheVariants.{Objects as ObjectsFile};
-ghost use Rattle.formats.specs.Bytes.{IsShutAt};
+ghost use Rattle.formats.specs.Bytes.{IsOpenAt, IsShutAt};
 ghost use Rattle.formats.specs.Image.{IsDamaged};
 ghost use Rattle.formats.specs.declared.params.Params.{Params};
 ghost use Rattle.store_engine.specs.Engine.{Opens, Holds, Between, IsAttached, IsNoDamage};
@@ -35,6 +35,7 @@ impl<O: Oper> Engine<O> {
         ensures cause { IfErr result (FailsBy (Rises (M.disk machine.old).disk_faults (M.disk machine.new).disk_faults)
             ((M.disk machine.old).tells_files → IsShutAt 0 ((M.disk machine.old).reads ObjectsFile))
             (λ file place. (M.disk machine.old).tells_files → IsDamaged O.meaning (M.disk machine.old).reads file place)) }
+        ensures memory { (M.disk machine.old).tells_files → IsErrOf result RestartErr.Memory → IsOpenAt 0 ((M.disk machine.old).reads ObjectsFile) }
     {
         settle(machine)?;
         let mut objects = Objects::load(alloc, machine, tuning.clean)?;
@@ -56,7 +57,8 @@ impl<O: Oper> Engine<O> {
     }
 
     /// Opens the files. What a crash leaves meanwhile a crash at the start could have left: it begins with a sync of each
-    /// file. The machine need not be settled: what reads give is what the files stand for.
+    /// file. The machine need not be settled: what reads give is what the files stand for. The objects gate is looked at
+    /// before memory is taken.
     pub fn restart<M: Machine>(
         alloc: Global,
         machine: &mut M,
@@ -80,6 +82,7 @@ impl<O: Oper> Engine<O> {
         ensures no_store { (M.disk machine.old).tells_files → IsErrOf result RestartErr.NotAStore → IsShutAt 0 ((M.disk machine.old).reads ObjectsFile) }
         ensures damaged { (M.disk machine.old).tells_files → (file : FileNo) (place : ℕ) → IsErrOf result (RestartErr.Damaged file place) → IsDamaged O.meaning (M.disk machine.old).reads file place }
         ensures fault { IsErrOf result RestartErr.DiskFault → Rises (M.disk machine.old).disk_faults (M.disk machine.new).disk_faults }
+        ensures memory { (M.disk machine.old).tells_files → IsErrOf result RestartErr.Memory → IsOpenAt 0 ((M.disk machine.old).reads ObjectsFile) }
     {
         Engine::load(alloc, machine, tuning)
     }

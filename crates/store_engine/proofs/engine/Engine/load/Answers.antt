@@ -8,7 +8,7 @@ use Rattle.formats.specs.declared.record.Record.{Record}
 use Rattle.log_records.specs.Loading.{IsTailFault}
 use Rattle.stable_objects.specs.SlotsView.{IsLate}
 use Rattle.store_engine.specs.Laid.{Laid}
-use Rattle.store_engine.proofs.Opened.{IsLateAt, all_settled, three_stay, four_stay, five_stay, has_slots, has_log, slots_on, slots_fail, log_fails, log_unharmed, late_fails, late_never, unharmed, records_fail, keeps_own, in_grammar, redo_fails, redo_unharmed, is_read}
+use Rattle.store_engine.proofs.Opened.{IsLateAt, all_settled, three_stay, four_stay, five_stay, has_slots, has_log, slots_on, slots_gate, slots_fail, log_fails, log_unharmed, late_fails, late_never, unharmed, records_fail, keeps_own, in_grammar, redo_fails, redo_unharmed, is_read}
 use Rattle.store_engine.proofs.engine.Engine.load.Goals as goal
 
 pub returns-in_err-objects-clause-cause : goal.returns-in_err-objects-clause-cause
@@ -81,6 +81,12 @@ returns-in_err-records-clause-cause g c =
     rw (p.1, p.2) (records_fail g.O.Oper.meaning (g.M.Machine.disk c.args.machine.now) (g.M.Machine.disk c.load-2.new.m) (g.M.Machine.disk c.stable.new.m) (IsTailFault (g.O.Oper.meaning c.in_ok-log.log.bounds) (g.M.Machine.disk c.load-2.new.m) c.in_ok-log.log.log) c.in_err-records.field-0.0 has.slots.kept c.in_err-records.ensures.cause
     (λ told. c.in_err-records.ensures.undamaged (has.slots.kept.time.files_told.0 told) _ _ (keeps_own g.O.Oper.meaning (g.M.Machine.disk c.args.machine.now) (g.M.Machine.disk c.load-2.new.m) c.in_ok-objects.objects c.in_ok-log.log has told)))
 
+pub returns-in_err-records-clause-memory : goal.returns-in_err-records-clause-memory
+returns-in_err-records-clause-memory g c told refused =
+    let has_objects = has_slots (g.M.Machine.disk c.args.machine.now) (g.M.Machine.disk c.settle.new.machine) (g.M.Machine.disk c.load.new.machine) c.in_ok-objects.objects
+    c.settle.ensures.kept c.in_ok-settle.ensures.settled c.load.ensures.kept c.in_ok-objects.ensures.read c.in_ok-objects.ensures.empty in
+    slots_gate (g.M.Machine.disk c.args.machine.now) (g.M.Machine.disk c.load.new.machine) c.in_ok-objects.objects has_objects told
+
 pub redo-requires : goal.redo-requires
 redo-requires g c =
     let has_objects = has_slots (g.M.Machine.disk c.args.machine.now) (g.M.Machine.disk c.settle.new.machine) (g.M.Machine.disk c.load.new.machine) c.in_ok-objects.objects
@@ -114,6 +120,12 @@ returns-in_err-redo-clause-cause g c =
     let has_far = slots_on (g.M.Machine.disk c.args.machine.now) (g.M.Machine.disk c.load-2.new.m) (g.M.Machine.disk c.stable.new.m) c.in_ok-objects.objects has.slots c.stable.ensures.kept in
     let p = err_from_is_err_and c.from_residual-in_err-redo.result c.from_residual-in_err-redo.ensures.1 in
     rw (p.1, p.2) (redo_fails g.O.Oper.meaning (g.M.Machine.disk c.args.machine.now) (g.M.Machine.disk c.stable.new.m) (g.M.Machine.disk c.redo.new.machine) c.in_ok-objects.objects c.in_err-redo.field-0.0 has_far c.in_err-redo.ensures.cause)
+
+pub returns-in_err-redo-clause-memory : goal.returns-in_err-redo-clause-memory
+returns-in_err-redo-clause-memory g c told refused =
+    let has_objects = has_slots (g.M.Machine.disk c.args.machine.now) (g.M.Machine.disk c.settle.new.machine) (g.M.Machine.disk c.load.new.machine) c.in_ok-objects.objects
+    c.settle.ensures.kept c.in_ok-settle.ensures.settled c.load.ensures.kept c.in_ok-objects.ensures.read c.in_ok-objects.ensures.empty in
+    slots_gate (g.M.Machine.disk c.args.machine.now) (g.M.Machine.disk c.load.new.machine) c.in_ok-objects.objects has_objects told
 
 pub returns-clause-kept : goal.returns-clause-kept
 returns-clause-kept g c =
