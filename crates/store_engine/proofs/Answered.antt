@@ -1,7 +1,7 @@
 -- What the steps of an execution give together.
-use Rattle.std.proofs.Common.{◌≡◌, ◌≢◌, ◌⊎◌, ⊎_elim, ◌<◌, ◌+◌, ◌^◌, ℕ, Result, Ok, Err, List, [], ◌∷◌, ◌++◌, length, refl, sym, ap, ◌∙◌, subst, arith}
-use Rattle.std.specs.Prelude.{Option, None, Some, OnOk, OnErr, IfOk, IfErr, IsErrOf}
-use Rattle.disk_model.specs.Disk.{Disk, IsDisk, Stays, Rises, LeavesOnly}
+use Rattle.std.proofs.Common.{◌≡◌, ◌≢◌, ◌⊎◌, ⊎_elim, ◌<◌, ◌+◌, ◌^◌, ℕ, Result, Ok, Err, List, [], ◌∷◌, ◌++◌, length, refl, sym, ap, ◌∙◌, subst}
+use Rattle.std.specs.Prelude.{Option, None, Some, OnErr, IfOk, IfErr, IsErrOf}
+use Rattle.disk_model.specs.Disk.{Disk, IsDisk, LeavesOnly}
 use Rattle.disk_model.specs.declared.machine.FileNo.TheVariants.{Objects}
 use Rattle.oper_core.specs.Meaning.{Meaning, HasBounds, IsSmall, IsLawful, IsInGrammar, read_values, refusal_of}
 use Rattle.oper_core.specs.declared.bounds.Bounds.{Bounds}
@@ -11,13 +11,12 @@ use Rattle.formats.specs.declared.params.Params.{Params}
 use Rattle.stable_objects.specs.SlotsView.{SlotsView}
 use Rattle.dirty_cache.specs.Contents.{held}
 use Rattle.dirty_cache.specs.declared.entry.Entry.{Entry}
-use Rattle.log_frames.specs.LogView.{used_of, growth_of}
 use Rattle.log_records.specs.RecordLog.{RecordLogView}
 use Rattle.store_engine.specs.Laid.{IsLaidOn, cell_or, values_in}
-use Rattle.store_engine.specs.Store.{meaning_in, record_length, refusal_after, state_of}
-use Rattle.store_engine.specs.Engine.{EngineView, params_of, IsAttached, IsSameMap, Holds, Kept, Between, IsReady, TookIn, LogLength, log_length, LacksPlace, HasCause, Lengthens}
+use Rattle.store_engine.specs.Store.{meaning_in, refusal_after, state_of}
+use Rattle.store_engine.specs.Engine.{EngineView, params_of, IsAttached, IsSameMap, Holds, Kept, Between, IsReady, TookIn, LogLength, log_length, HasCause, Lengthens}
 use Rattle.store_engine.specs.declared.exec_err.ExecErr.{ExecErr}
-use Rattle.store_engine.specs.declared.exec_err.ExecErr.TheVariants.{Refused, LogFull, LsnEnd, DiskFault, Damaged, Memory}
+use Rattle.store_engine.specs.declared.exec_err.ExecErr.TheVariants.{Refused, DiskFault, Memory}
 use Rattle.store_engine.proofs.Holding.{between_here}
 use Rattle.store_engine.proofs.Admitted.{refused_by_check, same_read, same_refusal}
 use Rattle.store_engine.proofs.Executed.{same_length, refused_length, took_in, kept_twice}

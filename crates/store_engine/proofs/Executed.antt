@@ -29,7 +29,7 @@ use Rattle.store_engine.specs.Store.{meaning_in, record_length, refusal_after, s
 use Rattle.store_engine.specs.Engine.{EngineView, view_of, params_of, AreParts, Carries, Holds, Kept, InEachImage, IsFull, IsAtEnd, TookIn, IsSameMap, LogLength, something_waits, log_length, grown, forced_length, HasPlace, LacksPlace, Fits, HasCause, Lengthens}
 use Rattle.store_engine.specs.declared.exec_err.ExecErr.{ExecErr}
 use Rattle.store_engine.specs.declared.exec_err.ExecErr.TheVariants.{Refused, LogFull, LsnEnd, DiskFault, Damaged, Memory}
-use Rattle.store_engine.proofs.Holding.{commands-append, accepted_is, none_waits, ends_here, held_stable, image_is, make_holds}
+use Rattle.store_engine.proofs.Holding.{commands-append, accepted_is, none_waits, ends_here, image_is, make_holds}
 
 -- what is cached with new entries, laid over a slot
 with_value : (b : Bool) (entry : Entry) (old : Option Entry) (cell : Cell) (value : List ℕ) → (cell_or old cell).value ≡ value

@@ -1,5 +1,5 @@
 -- What an engine that carries commands stands for, and what a force makes of it.
-use Rattle.std.proofs.Common.{◌≡◌, ◌≤◌, ⊎_elim, ◌⊎◌, ℕ, ◌+◌, Bool, List, [], ◌∷◌, ◌++◌, length, map, false, take, refl, sym, ap, ◌∙◌, subst, arith, length-append}
+use Rattle.std.proofs.Common.{◌≡◌, ◌≤◌, ⊎_elim, ℕ, ◌+◌, Bool, List, [], ◌∷◌, ◌++◌, length, map, false, take, refl, sym, ap, ◌∙◌, subst, arith, length-append}
 use Rattle.std.proofs.lemmas.List.{append-nil, take_at, take_all}
 use Rattle.disk_model.specs.Disk.{Files, Disk, IsDisk, Runs, Same, Any, In, LeavesOnly}
 use Rattle.disk_model.specs.Moments.{started, weaker}

@@ -7,9 +7,7 @@ use Rattle.oper_core.specs.Meaning.{Meaning}
 use Rattle.oper_core.specs.declared.bounds.Bounds.{Bounds}
 use Rattle.oper_core.specs.Cell.{Cell}
 use Rattle.formats.specs.Objects.{AreSlotsShut, cell_of}
-use Rattle.formats.specs.Records.{IsRecordLog}
 use Rattle.formats.specs.declared.params.Params.{Params}
-use Rattle.formats.specs.declared.record.Record.{Record}
 use Rattle.stable_objects.specs.SlotsView.{SlotsView, id_in}
 use Rattle.stable_objects.specs.SlotLaws.{shut_ids}
 use Rattle.stable_objects.specs.declared.slot_err.SlotErr.{SlotErr}
