@@ -59,10 +59,10 @@ pub record IsMaking (p : Params) (old new : Disk) (status : Status) : Type 0 whe
   -- a store that is there is kept
   pub keeps : old.tells_files → BeginsStore (old.reads Objects) → KeepsFiles old new
 
--- the files are refused exactly where they are no store, or break their format
+-- the files are refused exactly where they are no store, whether there is memory or not, or break their format
 pub record OpensExactly (old : Disk) (status : Status) : Type 0 where
   pub no_store : (status ≡ NotAStore) ↔ IsShutAt 0 (old.reads Objects)
-  pub damaged : (status ≡ Damaged) ↔ (IsOpenAt 0 (old.reads Objects) × (IsWellFormed old.reads → ⊥))
+  pub damaged : status ≢ Memory → (status ≡ Damaged) ↔ (IsOpenAt 0 (old.reads Objects) × (IsWellFormed old.reads → ⊥))
 
 -- a store is made exactly where none begins
 pub record MakesExactly (old : Disk) (status : Status) : Type 0 where

@@ -4,7 +4,7 @@ ghost use Rattle.std.specs.List.{flat_map};
 ghost use Rattle.disk_model.specs.Disk.{Rises, Passes, Stays, LeavesOnly, IsSettled};
 ghost use Rattle.disk_model.specs.declared.machine.FileNo.{FileNo};
 ghost use Rattle.disk_model.specs.declared.machine.FileNo.TheVariants.{Objects};
-ghost use Rattle.formats.specs.Bytes.{IsShutAt};
+ghost use Rattle.formats.specs.Bytes.{IsOpenAt, IsShutAt};
 ghost use Rattle.formats.specs.Image.{IsDamaged};
 ghost use Rattle.formats.specs.declared.params.Params.{Params};
 ghost use Rattle.op_codec.specs.AllOps.{all_meaning};
@@ -137,6 +137,8 @@ pub fn dump<M: Machine>(alloc: Global, machine: &mut M) -> Status
     ensures status { IsOfDump result }
     ensures disk_fault { result ≡ Status.DiskFault → Rises (M.disk machine.old).disk_faults (M.disk machine.new).disk_faults }
     ensures say_fault { result ≡ Status.SayFault → Rises (M.disk machine.old).say_faults (M.disk machine.new).say_faults }
+    // No memory is taken before the objects gate is looked at.
+    ensures memory { (M.disk machine.old).tells_files → result ≡ Status.Memory → IsOpenAt 0 ((M.disk machine.old).reads Objects) }
 {
     match open_store(alloc, machine) {
         Ok(mut engine) => dump_open(alloc, &mut engine, machine),

@@ -1,9 +1,9 @@
 // How a store is opened, and what is said where it is not.
-ghost use Rattle.std.specs.Prelude.{◌≡◌, ◌≢◌, ◌++◌, false, List, ℕ, length, OnOk, IfOk, IfErr, IsErrOf};
+ghost use Rattle.std.specs.Prelude.{◌≡◌, ◌≢◌, ◌⊎◌, ◌++◌, false, List, ℕ, length, OnOk, IfOk, IfErr, IsErrOf};
 ghost use Rattle.disk_model.specs.Disk.{Rises, Passes, Stays, IsSettled};
 ghost use Rattle.disk_model.specs.declared.machine.FileNo.{FileNo};
 ghost use Rattle.disk_model.specs.declared.machine.FileNo.TheVariants.{Objects};
-ghost use Rattle.formats.specs.Bytes.{IsShutAt};
+ghost use Rattle.formats.specs.Bytes.{IsOpenAt, IsShutAt};
 ghost use Rattle.formats.specs.Image.{IsDamaged};
 ghost use Rattle.formats.specs.declared.params.Params.{Params};
 ghost use Rattle.op_codec.specs.AllOps.{all_meaning};
@@ -38,6 +38,7 @@ fn end_unopened<M: Machine>(alloc: Global, machine: &mut M, cause: RestartErr) -
     ensures status { IsOfUnopened result }
     ensures disk_fault { result ≡ Status.DiskFault → cause ≡ RestartErr.DiskFault }
     ensures say_fault { result ≡ Status.SayFault → Rises (M.disk machine.old).say_faults (M.disk machine.new).say_faults }
+    ensures memory { result ≡ Status.Memory → (cause ≡ RestartErr.Memory) ⊎ ((file : FileNo) × (place : ℕ) × (cause ≡ RestartErr.Damaged file place)) }
 {
     match cause {
         RestartErr::NotAStore => end_with(machine, b"not a store\n", Status::NotAStore),
@@ -69,6 +70,7 @@ pub fn open_store<M: Machine>(alloc: Global, machine: &mut M) -> Result<Engine<A
     ensures status { IfErr result IsOfUnopened }
     ensures disk_fault { IsErrOf result Status.DiskFault → Rises (M.disk machine.old).disk_faults (M.disk machine.new).disk_faults }
     ensures say_fault { IsErrOf result Status.SayFault → Rises (M.disk machine.old).say_faults (M.disk machine.new).say_faults }
+    ensures memory { (M.disk machine.old).tells_files → IsErrOf result Status.Memory → IsOpenAt 0 ((M.disk machine.old).reads Objects) }
 {
     match Engine::restart(alloc, machine, TUNING) {
         Ok(engine) => Ok(engine),

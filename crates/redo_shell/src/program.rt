@@ -17,7 +17,7 @@ ghost use Rattle.redo_shell.specs.Store.{Command, IsWellFormed, Opens};
 ghost use Rattle.redo_shell.specs.Notices.{not_a_store, already_a_store, damaged, usage};
 ghost use Rattle.redo_shell.specs.Calls.{IsRunOn, IsDumpOn, IsMaking, OpensExactly, MakesExactly, GoesOn};
 ghost use Rattle.redo_shell.specs.Keeps.{KeepsFiles};
-ghost use Rattle.redo_shell.specs.Exactly.{IsUndisturbed};
+ghost use Rattle.redo_shell.specs.Exactly.{IsFaultless, IsUndisturbed};
 ghost use Rattle.redo_shell.specs.Status.{IsOfRun, IsOfDump};
 
 use crate::dump::dump;
@@ -79,12 +79,13 @@ pub fn top<M: Machine, S: Source>(
     ensures too_long { S.tells input.old → result ≡ Status.TooLong → Takes (S.left input.old) (S.left input.new) 0 (2 ^ 40) }
     // What the call does goes on any calls of the program before it.
     ensures session { GoesOn M.disk (map string_bytes words.now) (S.tells input.old) (lines_of (S.left input.old)) machine.old machine.new }
-    // Where no count of faults rises and memory is there, each status comes exactly where its cause holds, and a run on
-    // files that stand for commands, or the making of a store where there is none, succeeds.
-    ensures exactly_usage { IsUndisturbed (M.disk machine.old) (M.disk machine.new) (S.faults input.old) (S.faults input.new) result →
+    // Where no count of faults rises, each status comes exactly where its cause holds, those of damaged files and of an
+    // input that is too long where memory is there too. So does a run or a dump of files that stand for commands succeed,
+    // and without memory the making of a store where there is none.
+    ensures exactly_usage { IsFaultless (M.disk machine.old) (M.disk machine.new) (S.faults input.old) (S.faults input.new) →
         (result ≡ Status.Usage) ↔ ((asked : Asked) → Asks (map string_bytes words.now) asked → ⊥) }
     ensures exactly_run { Asks (map string_bytes words.now) Run → (M.disk machine.old).tells_files →
-        IsUndisturbed (M.disk machine.old) (M.disk machine.new) (S.faults input.old) (S.faults input.new) result → OpensExactly (M.disk machine.old) result }
+        IsFaultless (M.disk machine.old) (M.disk machine.new) (S.faults input.old) (S.faults input.new) → OpensExactly (M.disk machine.old) result }
     ensures exactly_too_long { Asks (map string_bytes words.now) Run → (M.disk machine.old).tells_files → IsWellFormed (M.disk machine.old).reads → S.tells input.old →
         IsUndisturbed (M.disk machine.old) (M.disk machine.new) (S.faults input.old) (S.faults input.new) result →
         (result ≡ Status.TooLong) ↔ (2 ^ 40 ≤ length (S.left input.old)) }
@@ -92,11 +93,11 @@ pub fn top<M: Machine, S: Source>(
         IsUndisturbed (M.disk machine.old) (M.disk machine.new) (S.faults input.old) (S.faults input.new) result → length (S.left input.old) < 2 ^ 40 →
         (result ≡ Status.Done) ⊎ (result ≡ Status.DoneWithRefusals) }
     ensures exactly_dump { Asks (map string_bytes words.now) Dump → (M.disk machine.old).tells_files →
-        IsUndisturbed (M.disk machine.old) (M.disk machine.new) (S.faults input.old) (S.faults input.new) result → OpensExactly (M.disk machine.old) result }
+        IsFaultless (M.disk machine.old) (M.disk machine.new) (S.faults input.old) (S.faults input.new) → OpensExactly (M.disk machine.old) result }
     ensures dump_succeeds { (p : Params) (commands : List Command) → Asks (map string_bytes words.now) Dump → Opens p (M.disk machine.old) commands →
         IsUndisturbed (M.disk machine.old) (M.disk machine.new) (S.faults input.old) (S.faults input.new) result → result ≡ Status.Done }
     ensures exactly_init { (p : Params) → Asks (map string_bytes words.now) (Init p) → (M.disk machine.old).tells_files →
-        IsUndisturbed (M.disk machine.old) (M.disk machine.new) (S.faults input.old) (S.faults input.new) result → MakesExactly (M.disk machine.old) result }
+        IsFaultless (M.disk machine.old) (M.disk machine.new) (S.faults input.old) (S.faults input.new) → MakesExactly (M.disk machine.old) result }
 {
     match read_words(words) {
         Some(Asked::Run) => run(alloc, machine, input),

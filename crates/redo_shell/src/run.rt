@@ -3,7 +3,7 @@ ghost use Rattle.std.specs.Prelude.{◌≡◌, ◌≢◌, ◌^◌, ◌⊎◌, �
 ghost use Rattle.disk_model.specs.Disk.{Rises, Passes};
 ghost use Rattle.disk_model.specs.declared.machine.FileNo.{FileNo};
 ghost use Rattle.disk_model.specs.declared.machine.FileNo.TheVariants.{Objects};
-ghost use Rattle.formats.specs.Bytes.{IsShutAt};
+ghost use Rattle.formats.specs.Bytes.{IsOpenAt, IsShutAt};
 ghost use Rattle.formats.specs.Image.{IsDamaged};
 ghost use Rattle.formats.specs.declared.params.Params.{Params};
 ghost use Rattle.op_codec.specs.AllOps.{all_meaning};
@@ -84,6 +84,8 @@ pub fn run<M: Machine, S: Source>(alloc: Global, machine: &mut M, input: &mut S)
     ensures read_fault { result ≡ Status.ReadFault → Rises (S.faults input.old) (S.faults input.new) }
     ensures say_fault { result ≡ Status.SayFault → Rises (M.disk machine.old).say_faults (M.disk machine.new).say_faults }
     ensures too_long { S.tells input.old → result ≡ Status.TooLong → Takes (S.left input.old) (S.left input.new) 0 (2 ^ 40) }
+    // No memory is taken before the objects gate is looked at.
+    ensures memory { (M.disk machine.old).tells_files → result ≡ Status.Memory → IsOpenAt 0 ((M.disk machine.old).reads Objects) }
 {
     match open_store(alloc, machine) {
         Ok(mut engine) => run_open(alloc, &mut engine, machine, input),

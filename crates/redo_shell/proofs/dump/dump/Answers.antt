@@ -1,6 +1,6 @@
 use Rattle.disk_model.specs.Moments.{passes_twice}
 use Rattle.op_codec.specs.AllOps.{all_meaning}
-use Rattle.store_engine.specs.ImageLaws.{well_formed}
+use Rattle.store_engine.specs.ImageLaws.{well_formed, opens_gate}
 use Rattle.redo_shell.proofs.DumpLemmas.{dump_on, dump_unopened}
 use Rattle.redo_shell.proofs.KeepLemmas.{keeps_behind, keeps_settled}
 use Rattle.redo_shell.proofs.dump.dump.Goals as goal
@@ -37,3 +37,6 @@ pub returns-in-Ok-clause-settled : goal.returns-in-Ok-clause-settled
 returns-in-Ok-clause-settled g c = λ done.
     keeps_settled (g.M.Machine.disk c.open_store.new.machine) (g.M.Machine.disk c.dump_open.new.machine) (g.met.M.Machine.lawful c.open_store.new.machine) (g.met.M.Machine.lawful c.dump_open.new.machine)
     c.dump_open.ensures.time c.dump_open.ensures.keeps c.in-Ok.ensures.settled
+
+pub returns-in-Ok-clause-memory : goal.returns-in-Ok-clause-memory
+returns-in-Ok-clause-memory g c = λ told refused. opens_gate all_meaning (c.in-Ok.ensures.opened told)

@@ -1,4 +1,4 @@
-use Rattle.std.proofs.Common.{◌++◌, List, ℕ, ap, sym, subst, ◌∙◌}
+use Rattle.std.proofs.Common.{◌++◌, List, ℕ, ⊎_elim, ap, sym, subst, ◌∙◌}
 use Rattle.disk_model.specs.Disk.{Disk, Stays}
 use Rattle.redo_shell.specs.Notices.{damaged}
 use Rattle.redo_shell.proofs.KeepLemmas.{keeps_once, keeps_behind}
@@ -36,3 +36,7 @@ pub returns-in-Err-clause-calm : goal.returns-in-Err-clause-calm
 returns-in-Err-clause-calm g c = λ p commands opens.
     let whole = c.in-Err.ensures.whole p commands opens in
     (c.end_unopened.ensures.quiet whole.0 whole.1).3
+
+pub returns-in-Err-clause-memory : goal.returns-in-Err-clause-memory
+returns-in-Err-clause-memory g c = λ told is.
+    ⊎_elim (λ e. c.in-Err.ensures.memory told (cc e)) (λ broken. (c.in-Err.ensures.damaged told broken.0 broken.1 (cc (broken.2))).gate) (c.end_unopened.ensures.memory (cc is))

@@ -39,22 +39,22 @@ returns-in-Some-Run-clause-session g c = record {
 pub returns-in-Some-Run-clause-exactly_run : goal.returns-in-Some-Run-clause-exactly_run
 returns-in-Some-Run-clause-exactly_run g c = λ asks told calm. record {
   no_store = no_store_exactly c.run.result (calm_run c.run.result calm c.run.ensures.status c.run.ensures.disk_fault c.run.ensures.read_fault c.run.ensures.say_fault)
-      (λ is. (c.run.ensures.no_store told is).0) (λ is. (c.run.ensures.damaged told is).2.gate) (c.run.ensures.opened told) (opens_gate all_meaning);
-  damaged = damaged_exactly c.run.result (calm_run c.run.result calm c.run.ensures.status c.run.ensures.disk_fault c.run.ensures.read_fault c.run.ensures.say_fault)
+      (λ is. (c.run.ensures.no_store told is).0) (λ is. (c.run.ensures.damaged told is).2.gate) (c.run.ensures.memory told) (c.run.ensures.opened told) (opens_gate all_meaning);
+  damaged = λ memory. damaged_exactly c.run.result (calm_run c.run.result calm c.run.ensures.status c.run.ensures.disk_fault c.run.ensures.read_fault c.run.ensures.say_fault) memory
       (λ is. (c.run.ensures.no_store told is).0) (λ is. (c.run.ensures.damaged told is).2.gate) (c.run.ensures.opened told) (λ image. (c.run.ensures.store told image).1);
 }
 
 pub returns-in-Some-Run-clause-exactly_too_long : goal.returns-in-Some-Run-clause-exactly_too_long
 returns-in-Some-Run-clause-exactly_too_long g c = λ asks files image told calm.
-    let calm' = calm_run c.run.result calm c.run.ensures.status c.run.ensures.disk_fault c.run.ensures.read_fault c.run.ensures.say_fault in (
+    let calm' = calm_run c.run.result calm.faultless c.run.ensures.status c.run.ensures.disk_fault c.run.ensures.read_fault c.run.ensures.say_fault in (
       λ is. enough_taken (c.run.ensures.too_long told is),
-      λ enough. ⊎_elim (λ e. e) (λ e. absurd (not_so_few (c.run.ensures.input told e).1 enough)) (whole_run c.run.result calm' (c.run.ensures.store files image)),
+      λ enough. ⊎_elim (λ e. e) (λ e. absurd (not_so_few (c.run.ensures.input told e).1 enough)) (whole_run c.run.result calm' calm.memory (c.run.ensures.store files image)),
     )
 
 pub returns-in-Some-Run-clause-run_succeeds : goal.returns-in-Some-Run-clause-run_succeeds
 returns-in-Some-Run-clause-run_succeeds g c = λ p commands asks opens told calm few.
-    let calm' = calm_run c.run.result calm c.run.ensures.status c.run.ensures.disk_fault c.run.ensures.read_fault c.run.ensures.say_fault in
-    ⊎_elim (λ e. absurd (not_so_few few (enough_taken (c.run.ensures.too_long told e)))) (λ e. e) (whole_run c.run.result calm' (c.run.ensures.store opens.told (well_formed all_meaning opens.stands)))
+    let calm' = calm_run c.run.result calm.faultless c.run.ensures.status c.run.ensures.disk_fault c.run.ensures.read_fault c.run.ensures.say_fault in
+    ⊎_elim (λ e. absurd (not_so_few few (enough_taken (c.run.ensures.too_long told e)))) (λ e. e) (whole_run c.run.result calm' calm.memory (c.run.ensures.store opens.told (well_formed all_meaning opens.stands)))
 
 pub returns-in-Some-Run-clause-exactly_dump : goal.returns-in-Some-Run-clause-exactly_dump
 returns-in-Some-Run-clause-exactly_dump g c = λ asks. absurd (run_not_dump (map string_bytes c.args.words.now) (subst (λ (a : Asked). Asks (map string_bytes c.args.words.now) a) c.in-Some-Run.field-0-is c.in-Some-Run.ensures.some) asks)
@@ -90,8 +90,8 @@ returns-in-Some-Dump-clause-exactly_run g c = λ asks. absurd (run_not_dump (map
 pub returns-in-Some-Dump-clause-exactly_dump : goal.returns-in-Some-Dump-clause-exactly_dump
 returns-in-Some-Dump-clause-exactly_dump g c = λ asks told calm. record {
   no_store = no_store_exactly c.dump.result (calm_told c.dump.result calm c.dump.ensures.status c.dump.ensures.disk_fault c.dump.ensures.say_fault)
-      (λ is. (c.dump.ensures.no_store told is).0) (λ is. (c.dump.ensures.damaged told is).2.gate) (c.dump.ensures.opened told) (opens_gate all_meaning);
-  damaged = damaged_exactly c.dump.result (calm_told c.dump.result calm c.dump.ensures.status c.dump.ensures.disk_fault c.dump.ensures.say_fault)
+      (λ is. (c.dump.ensures.no_store told is).0) (λ is. (c.dump.ensures.damaged told is).2.gate) (c.dump.ensures.memory told) (c.dump.ensures.opened told) (opens_gate all_meaning);
+  damaged = λ memory. damaged_exactly c.dump.result (calm_told c.dump.result calm c.dump.ensures.status c.dump.ensures.disk_fault c.dump.ensures.say_fault) memory
       (λ is. (c.dump.ensures.no_store told is).0) (λ is. (c.dump.ensures.damaged told is).2.gate) (c.dump.ensures.opened told) (λ image. (c.dump.ensures.store told image).1);
 }
 

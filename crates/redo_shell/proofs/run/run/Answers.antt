@@ -1,7 +1,7 @@
 use Rattle.std.proofs.Common.{[]}
 use Rattle.disk_model.specs.Moments.{passes_twice}
 use Rattle.script_lines.specs.Grammar.{lines_of}
-use Rattle.store_engine.specs.ImageLaws.{well_formed}
+use Rattle.store_engine.specs.ImageLaws.{well_formed, opens_gate}
 use Rattle.op_codec.specs.AllOps.{all_meaning}
 use Rattle.redo_shell.proofs.OpenLemmas.{run_on, run_unopened}
 use Rattle.redo_shell.proofs.run.run.Goals as goal
@@ -48,3 +48,6 @@ returns-in-Err-clause-untold g c = λ p commands opens. (
 
 pub returns-in-Ok-clause-unopened : goal.returns-in-Ok-clause-unopened
 returns-in-Ok-clause-unopened g c = λ told broken. absurd (broken (c.in-Ok.ensures.opened told))
+
+pub returns-in-Ok-clause-memory : goal.returns-in-Ok-clause-memory
+returns-in-Ok-clause-memory g c = λ told refused. opens_gate all_meaning (c.in-Ok.ensures.opened told)
