@@ -1,5 +1,5 @@
 -- What a dump says, row by row, and what its moments leave.
-use Rattle.std.proofs.Common.{◌≡◌, ◌≢◌, refl, ◌<◌, ◌+◌, ◌++◌, List, ℕ, suc, [], ◌∷◌, length, take, sym, ap, ◌∙◌, subst, arith}
+use Rattle.std.proofs.Common.{◌≡◌, ◌≢◌, ◌<◌, ◌+◌, ◌++◌, List, ℕ, suc, [], ◌∷◌, length, take, sym, ap, ◌∙◌, subst, arith}
 use Rattle.std.proofs.lemmas.List.{append-nil, take_all}
 use Rattle.std.proofs.lemmas.List.Concat.{flat_map-append}
 use Rattle.std.specs.List.{flat_map}
@@ -15,8 +15,9 @@ use Rattle.redo_shell.specs.Calls.{IsDumpOn}
 use Rattle.redo_shell.specs.Dump.{row_of, rows_below, dump_of, DumpMoment}
 use Rattle.redo_shell.specs.Status.{IsOfUnopened}
 use Rattle.redo_shell.specs.declared.status.Status.{Status}
-use Rattle.redo_shell.specs.declared.status.Status.TheVariants.{Done, NotAStore, Damaged, DiskFault, SayFault, Memory}
+use Rattle.redo_shell.specs.declared.status.Status.TheVariants.{Done, NotAStore, Damaged, SayFault}
 use Rattle.redo_shell.proofs.HoldLemmas.{holds_stays, stays_between}
+use Rattle.redo_shell.proofs.OpenLemmas.{opening_failed}
 
 -- an object that is empty has no row, and any other one
 pub no_row : (x : ℕ) (value text : List ℕ) → length value ≡ 0 → text ≡ text ++ flat_map said_line (row_of x value)
@@ -117,15 +118,6 @@ dump_on p old mid new commands status lawful opens kept dumping said all store s
       store = store;
       settled = λ disk memory. settled;
     }
-
--- where no store was opened, the disk or memory has failed
-opening_failed : (status : Status) → IsOfUnopened status → (status ≢ NotAStore) × (status ≢ Damaged) → status ≢ SayFault → status ≢ DiskFault → status ≢ Memory → ⊥
-opening_failed NotAStore of store output disk memory = store.0 refl
-opening_failed Damaged of store output disk memory = store.1 refl
-opening_failed DiskFault of store output disk memory = disk refl
-opening_failed SayFault of store output disk memory = output refl
-opening_failed Memory of store output disk memory = memory refl
-opening_failed status of store output disk memory = of
 
 pub dump_unopened : (p : Params) (old mid : Disk) (commands : List Command) (status : Status) → IsDisk old → Opens p old commands → Stays old mid → IsOfUnopened status
     → (status ≢ NotAStore) × (status ≢ Damaged) → status ≢ SayFault → IsDumpOn p commands old mid status

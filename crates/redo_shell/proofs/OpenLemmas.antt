@@ -8,7 +8,7 @@ use Rattle.disk_model.specs.Moments.{first_call, runs_on}
 use Rattle.formats.specs.declared.params.Params.{Params}
 use Rattle.script_lines.specs.Replies.{Reply, said_line}
 use Rattle.op_codec.specs.AllOps.{all_meaning}
-use Rattle.store_engine.specs.Engine.{LogLength}
+use Rattle.store_engine.specs.Engine.{InEachImage, LogLength}
 use Rattle.store_engine.specs.ImageLaws.{stands_end}
 use Rattle.store_engine.specs.Starts.{OrAtStart, at_start, then_leaves, from_settled}
 use Rattle.redo_shell.specs.Store.{Command, Stands, Opens, Between}
@@ -17,7 +17,7 @@ use Rattle.redo_shell.specs.Answers.{Moment, TrueWithin, with_begun, with_line, 
 use Rattle.redo_shell.specs.Calls.{IsRunOn}
 use Rattle.redo_shell.specs.Status.{status_of, status_after, IsOfUnopened}
 use Rattle.redo_shell.specs.declared.status.Status.{Status}
-use Rattle.redo_shell.specs.declared.status.Status.TheVariants.{Done, DoneWithRefusals, NotAStore, Damaged}
+use Rattle.redo_shell.specs.declared.status.Status.TheVariants.{Done, DoneWithRefusals, NotAStore, Damaged, DiskFault as DiskFailed, SayFault as OutputFailed, Memory as OutOfMemory}
 use Rattle.redo_shell.specs.declared.stop.Stop.{Stop}
 use Rattle.redo_shell.specs.declared.stop.Stop.TheVariants.{DiskFault, Damaged as SlotDamaged, ReadFault, SayFault, Memory, TooLong}
 use Rattle.redo_shell.specs.Run.{IsRun, IsComplete}
@@ -103,19 +103,41 @@ pub run_completes : {p : Params} (start mid new : Disk) {commands : List Command
 run_completes {p} start mid new {commands} {script} (Ok refusing) status is quiet same all done = subst (λ (s : Status). IsComplete p start new commands script s) (sym is) (complete_from quiet same all)
 run_completes start mid new (Err stop) status is quiet same all done = absurd (not_early stop (subst (λ (s : Status). (s ≡ Done) ⊎ (s ≡ DoneWithRefusals)) is done))
 
+-- each image at its end is one at a moment behind the opening
+ends_behind : {p : Params} (old mid new : Disk) {commands : List Command} (script : List (List ℕ)) → IsDisk new → Stays old mid → Passes mid new → mid.said ≡ old.said → IsRun p mid new commands script
+    → old.tells_moments → InEachImage new (λ files. Moment p commands script old.said files new.said)
+ends_behind {p} old mid new {commands} script lawful kept time quiet run told =
+    let told_mid = kept.time.moments_told.0 told in
+    let image : (files : Files) (said : List ℕ) → new.left_since new.clock files said → Moment p commands script old.said files new.said
+    = λ files said left.
+    let same : said ≡ new.said = lawful.said_now (time.moments_told.0 told_mid) files said left in
+    let here : Moment p commands script mid.said files said = (run.moments told_mid).each files said (lawful.among mid.clock new.clock files said time.later (omega arith) left) in
+    subst (λ (l : List ℕ). Moment p commands script l files new.said) quiet (subst (λ (l : List ℕ). Moment p commands script mid.said files l) same here) in
+    (image new.reads new.said (lawful.as_read (time.moments_told.0 told_mid)), λ told_new. image)
+
 -- a run on files that stand for commands, from before they were opened
-pub run_on : {p : Params} (old mid new : Disk) {commands : List Command} (script : List (List ℕ)) (status : Status) → IsDisk old → Opens p old commands → Stays old mid → IsRun p mid new commands script
+pub run_on : {p : Params} (old mid new : Disk) {commands : List Command} (script : List (List ℕ)) (status : Status) → IsDisk old → IsDisk new → Opens p old commands → Stays old mid → Passes mid new → IsRun p mid new commands script
     → ((status ≡ Done) ⊎ (status ≡ DoneWithRefusals) → IsComplete p mid new commands script status) → (status ≢ NotAStore) × (status ≢ Damaged) → IsRunOn p commands script old new status
-run_on {p} old mid new {commands} script status lawful opens kept run complete store =
+run_on {p} old mid new {commands} script status lawful ends opens kept time run complete store =
     let quiet = kept.said opens.told in
     let moments : old.tells_moments → LeavesOnly old new (OrAtStart old (Moment p commands script old.said)) = run_moments script kept run in
     record {
       moments = moments;
       from_settled = λ told settled. from_settled old new (Moment p commands script old.said) lawful told settled (start_moment old script opens.stands) (moments told);
+      opened = λ told disk memory. ends_behind old mid new script ends kept time quiet run told;
       answers = run_says opens.told kept quiet run;
       complete = λ done. complete_from quiet (kept.reads opens.told) (complete done);
       store = store;
     }
+
+-- where no store was opened, the disk or memory has failed
+pub opening_failed : (status : Status) → IsOfUnopened status → (status ≢ NotAStore) × (status ≢ Damaged) → status ≢ OutputFailed → status ≢ DiskFailed → status ≢ OutOfMemory → ⊥
+opening_failed NotAStore of store output disk memory = store.0 refl
+opening_failed Damaged of store output disk memory = store.1 refl
+opening_failed DiskFailed of store output disk memory = disk refl
+opening_failed OutputFailed of store output disk memory = output refl
+opening_failed OutOfMemory of store output disk memory = memory refl
+opening_failed status of store output disk memory = of
 
 -- a run that ended where no store was opened
 not_done : (status : Status) → IsOfUnopened status → (status ≡ Done) ⊎ (status ≡ DoneWithRefusals) → ⊥
@@ -125,12 +147,13 @@ not_done status of done = ⊎_elim
     done
 
 pub run_unopened : {p : Params} (old mid : Disk) {commands : List Command} (script : List (List ℕ)) (status : Status) → IsDisk old → Opens p old commands → Stays old mid → IsOfUnopened status
-    → (status ≢ NotAStore) × (status ≢ Damaged) → IsRunOn p commands script old mid status
-run_unopened {p} old mid {commands} script status lawful opens kept of store =
+    → (status ≢ NotAStore) × (status ≢ Damaged) → status ≢ OutputFailed → IsRunOn p commands script old mid status
+run_unopened {p} old mid {commands} script status lawful opens kept of store output =
     let moments : old.tells_moments → LeavesOnly old mid (OrAtStart old (Moment p commands script old.said)) = opening_moments script kept in
     record {
       moments = moments;
       from_settled = λ told settled. from_settled old mid (Moment p commands script old.said) lawful told settled (start_moment old script opens.stands) (moments told);
+      opened = λ told disk memory. absurd (opening_failed status of store output disk memory);
       answers = says_nothing script opens.stands kept.time (kept.said opens.told);
       complete = λ done. absurd (not_done status of done);
       store = store;

@@ -28,6 +28,9 @@ pub record IsRunOn (p : Params) (commands : List Command) (script : List (List �
   pub moments : old.tells_moments → LeavesOnly old new (OrAtStart old (Moment p commands script old.said))
   -- from a settled start what a crash at the start could leave is what reads give
   pub from_settled : old.tells_moments → IsSettled old → LeavesOnly old new (Moment p commands script old.said)
+  -- but where the disk or memory may have failed the opening, the syncs at its start are done: what a crash then leaves
+  -- stands for these commands and a beginning of those that the script has added, with all that was said
+  pub opened : old.tells_moments → status ≢ DiskFault → status ≢ Memory → InEachImage new (λ files. Moment p commands script old.said files new.said)
   -- what was said is the answers to the script's lines, whatever the status
   pub answers : SaysTruly p commands script old new
   -- with status 0 or 1 the whole script is answered, and the files stand for all of it
@@ -55,7 +58,8 @@ pub record IsMaking (p : Params) (old new : Disk) (status : Status) : Type 0 whe
   -- at each moment there is what a crash at the start could leave, no store, or one without commands; nothing is said
   pub moments : old.tells_moments → (BeginsStore (old.reads Objects) → ⊥) → LeavesOnly old new (OrAtStart old (λ files said. IsNew p files × (said ≡ old.said)))
   pub from_settled : old.tells_moments → IsSettled old → (BeginsStore (old.reads Objects) → ⊥) → LeavesOnly old new (λ files said. IsNew p files × (said ≡ old.said))
-  pub settled : old.tells_files → (status ≡ Done) ⊎ (status ≡ AlreadyStore) → IsSettled new
+  -- but where the disk fails, the machine is settled then
+  pub settled : old.tells_files → status ≢ DiskFault → IsSettled new
   -- a store that is there is kept
   pub keeps : old.tells_files → BeginsStore (old.reads Objects) → KeepsFiles old new
 

@@ -1,5 +1,5 @@
 // A store is laid out.
-ghost use Rattle.std.specs.Prelude.{◌≡◌, ◌⊎◌, ◌++◌, []};
+ghost use Rattle.std.specs.Prelude.{◌≡◌, ◌≢◌, ◌++◌, []};
 ghost use Rattle.disk_model.specs.Disk.{Rises, Passes, LeavesOnly, IsSettled};
 ghost use Rattle.disk_model.specs.declared.machine.FileNo.TheVariants.{Objects};
 ghost use Rattle.formats.specs.Objects.{IsInRange};
@@ -26,7 +26,7 @@ pub fn init<M: Machine>(machine: &mut M, params: Params) -> Status
         InEachImage (M.disk machine.new) (λ files. Stands params files []) }
     ensures moments { (M.disk machine.old).tells_moments → (BeginsStore ((M.disk machine.old).reads Objects) → ⊥) →
         LeavesOnly (M.disk machine.old) (M.disk machine.new) (OrAtStart (M.disk machine.old) (λ files said. IsNew params files × (said ≡ (M.disk machine.old).said))) }
-    ensures settled { (M.disk machine.old).tells_files → (result ≡ Status.Done) ⊎ (result ≡ Status.AlreadyStore) → IsSettled (M.disk machine.new) }
+    ensures settled { (M.disk machine.old).tells_files → result ≢ Status.DiskFault → IsSettled (M.disk machine.new) }
     ensures keeps { (M.disk machine.old).tells_files → BeginsStore ((M.disk machine.old).reads Objects) → KeepsFiles (M.disk machine.old) (M.disk machine.new) }
     ensures already { (M.disk machine.old).tells_files → result ≡ Status.AlreadyStore → BeginsStore ((M.disk machine.old).reads Objects)
         × ((M.disk machine.new).reads ≡ (M.disk machine.old).reads) × ((M.disk machine.new).said ≡ (M.disk machine.old).said ++ already_a_store) }
