@@ -130,8 +130,8 @@ pub fn answer_next<M: Machine>(
     ensures answers { (p : Params) (commands : List Command) (line : List ℕ) → IsLine next bytes.now line → Holds p (M.disk machine.old) engine.old commands →
         Answering p (M.disk machine.old) (M.disk machine.new) engine.old engine.new commands line result }
     // Whatever a source that tells nothing gave, it is the answer to some line.
-    ensures some { (p : Params) (commands : List Command) → next ≢ Next.End → Holds p (M.disk machine.old) engine.old commands →
-        (line : List ℕ) × Answering p (M.disk machine.old) (M.disk machine.new) engine.old engine.new commands line result }
+    ensures some { next ≢ Next.End → (line : List ℕ) × ((p : Params) (commands : List Command) → Holds p (M.disk machine.old) engine.old commands →
+        Answering p (M.disk machine.old) (M.disk machine.new) engine.old engine.new commands line result) }
     ensures cause { IfErr result (λ stop. IsCaused stop (M.disk machine.old) (M.disk machine.new)) }
     ensures undamaged { (M.disk machine.old).tells_files → IsAttached (M.disk machine.old) engine.old → IfErr result IsUndamaged }
     ensures attached { IsAttached (M.disk machine.old) engine.old → IsAttached (M.disk machine.new) engine.new }

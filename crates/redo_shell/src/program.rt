@@ -44,8 +44,8 @@ pub fn top<M: Machine, S: Source>(
     // `run` on files that stand for commands. Of a source that tells nothing the same holds with some script.
     ensures run { (p : Params) (commands : List Command) → Asks (map string_bytes words.now) Run → Opens p (M.disk machine.old) commands → S.tells input.old →
         IsRunOn p commands (lines_of (S.left input.old)) (M.disk machine.old) (M.disk machine.new) result }
-    ensures run_untold { (p : Params) (commands : List Command) → Asks (map string_bytes words.now) Run → Opens p (M.disk machine.old) commands →
-        (script : List (List ℕ)) × IsRunOn p commands script (M.disk machine.old) (M.disk machine.new) result }
+    ensures run_untold { Asks (map string_bytes words.now) Run → (script : List (List ℕ)) × ((p : Params) (commands : List Command) → Opens p (M.disk machine.old) commands →
+        IsRunOn p commands script (M.disk machine.old) (M.disk machine.new) result) }
     // Files that are no store, or a damaged one, are kept.
     ensures run_keeps { Asks (map string_bytes words.now) Run → (M.disk machine.old).tells_files → (IsWellFormed (M.disk machine.old).reads → ⊥) → KeepsFiles (M.disk machine.old) (M.disk machine.new) }
     // With status 0 or 1 the input is read to its end, and has fewer bytes than it may have.

@@ -43,9 +43,9 @@ fn run_open<M: Machine, S: Source>(
         (result ≡ Status.Done) ⊎ (result ≡ Status.DoneWithRefusals) →
         IsComplete p (M.disk machine.old) (M.disk machine.new) commands (lines_of (S.left input.old)) result }
     // Whatever a source that tells nothing gave, it is some script.
-    ensures some { (p : Params) (commands : List Command) → Holds p (M.disk machine.old) engine.old commands → engine.old.forced ≡ length commands →
-        (script : List (List ℕ)) × IsRun p (M.disk machine.old) (M.disk machine.new) commands script
-        × ((result ≡ Status.Done) ⊎ (result ≡ Status.DoneWithRefusals) → IsComplete p (M.disk machine.old) (M.disk machine.new) commands script result) }
+    ensures some { (script : List (List ℕ)) × ((p : Params) (commands : List Command) → Holds p (M.disk machine.old) engine.old commands → engine.old.forced ≡ length commands →
+        IsRun p (M.disk machine.old) (M.disk machine.new) commands script
+        × ((result ≡ Status.Done) ⊎ (result ≡ Status.DoneWithRefusals) → IsComplete p (M.disk machine.old) (M.disk machine.new) commands script result)) }
     ensures input { S.tells input.old → (result ≡ Status.Done) ⊎ (result ≡ Status.DoneWithRefusals) → (S.left input.new ≡ []) × (length (S.left input.old) < 2 ^ 40) }
     // No slot of the files that were opened is damaged.
     ensures store { (M.disk machine.old).tells_files → IsAttached (M.disk machine.old) engine.old → (result ≢ Status.NotAStore) × (result ≢ Status.Damaged) }
@@ -69,8 +69,8 @@ pub fn run<M: Machine, S: Source>(alloc: Global, machine: &mut M, input: &mut S)
     // Of a source that tells nothing the same holds with some script.
     ensures run { (p : Params) (commands : List Command) → Opens p (M.disk machine.old) commands → S.tells input.old →
         IsRunOn p commands (lines_of (S.left input.old)) (M.disk machine.old) (M.disk machine.new) result }
-    ensures untold { (p : Params) (commands : List Command) → Opens p (M.disk machine.old) commands →
-        (script : List (List ℕ)) × IsRunOn p commands script (M.disk machine.old) (M.disk machine.new) result }
+    ensures untold { (script : List (List ℕ)) × ((p : Params) (commands : List Command) → Opens p (M.disk machine.old) commands →
+        IsRunOn p commands script (M.disk machine.old) (M.disk machine.new) result) }
     ensures input { S.tells input.old → (result ≡ Status.Done) ⊎ (result ≡ Status.DoneWithRefusals) → (S.left input.new ≡ []) × (length (S.left input.old) < 2 ^ 40) }
     ensures opened { (M.disk machine.old).tells_files → IsOfStore result → IsWellFormed (M.disk machine.old).reads }
     ensures store { (M.disk machine.old).tells_files → IsWellFormed (M.disk machine.old).reads → (result ≢ Status.NotAStore) × (result ≢ Status.Damaged) }

@@ -31,9 +31,9 @@ pub fn answer_script<M: Machine, S: Source>(
     ensures complete { (p : Params) (commands : List Command) → Holds p (M.disk machine.old) engine.old commands → engine.old.forced ≡ length commands → S.tells input.old →
         IfOk result (λ refusing. IsComplete p (M.disk machine.old) (M.disk machine.new) commands (lines_of (S.left input.old)) (status_after (Ok refusing))) }
     // Whatever a source that tells nothing gave, it is some script.
-    ensures some { (p : Params) (commands : List Command) → Holds p (M.disk machine.old) engine.old commands → engine.old.forced ≡ length commands →
-        (script : List (List ℕ)) × IsRun p (M.disk machine.old) (M.disk machine.new) commands script
-        × IfOk result (λ refusing. IsComplete p (M.disk machine.old) (M.disk machine.new) commands script (status_after (Ok refusing))) }
+    ensures some { (script : List (List ℕ)) × ((p : Params) (commands : List Command) → Holds p (M.disk machine.old) engine.old commands → engine.old.forced ≡ length commands →
+        IsRun p (M.disk machine.old) (M.disk machine.new) commands script
+        × IfOk result (λ refusing. IsComplete p (M.disk machine.old) (M.disk machine.new) commands script (status_after (Ok refusing)))) }
     ensures input { S.tells input.old → IfOk result (λ _. (S.left input.new ≡ []) × (length (S.left input.old) < 2 ^ 40)) }
     ensures cause { IfErr result (λ stop. IsStopped stop (M.disk machine.old) (M.disk machine.new) (S.faults input.old) (S.faults input.new)) }
     ensures undamaged { (M.disk machine.old).tells_files → IsAttached (M.disk machine.old) engine.old → IfErr result IsUndamaged }

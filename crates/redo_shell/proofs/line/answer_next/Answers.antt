@@ -17,10 +17,13 @@ returns-in-Long-clause-answers g c = λ p commands line is holds.
     said_at_once c.say_answer.result (g.met.M.Machine.lawful c.args.machine.now) found holds c.say_answer.ensures.runs c.say_answer.ensures.all c.say_answer.ensures.kind
 
 pub returns-in-Line-clause-some : goal.returns-in-Line-clause-some
-returns-in-Line-clause-some g c = λ p commands is holds. (c.args.bytes.now, c.answer_line.ensures.answers p commands holds)
+returns-in-Line-clause-some g c = λ is. (c.args.bytes.now, λ p commands holds. c.answer_line.ensures.answers p commands holds)
 
 pub returns-in-Long-clause-some : goal.returns-in-Long-clause-some
-returns-in-Long-clause-some g c = λ p commands is holds.
-    let (line, long) = long_line in
-    let found = found_at_once {line = line} bad holds (long_is_bad line long, refl) (λ f. tt) (λ n is. cc) (λ log. refl) in
-    (line, said_at_once c.say_answer.result (g.met.M.Machine.lawful c.args.machine.now) found holds c.say_answer.ensures.runs c.say_answer.ensures.all c.say_answer.ensures.kind)
+returns-in-Long-clause-some g c = λ is.
+    let (line, long) = long_line in (
+      line,
+      λ p commands holds.
+          let found = found_at_once {line = line} bad holds (long_is_bad line long, refl) (λ f. tt) (λ n is. cc) (λ log. refl) in
+          said_at_once c.say_answer.result (g.met.M.Machine.lawful c.args.machine.now) found holds c.say_answer.ensures.runs c.say_answer.ensures.all c.say_answer.ensures.kind,
+    )

@@ -20,7 +20,7 @@ pub returns-in-Some-Run-clause-run : goal.returns-in-Some-Run-clause-run
 returns-in-Some-Run-clause-run g c = λ p commands asks. c.run.ensures.run p commands
 
 pub returns-in-Some-Run-clause-run_untold : goal.returns-in-Some-Run-clause-run_untold
-returns-in-Some-Run-clause-run_untold g c = λ p commands asks. c.run.ensures.untold p commands
+returns-in-Some-Run-clause-run_untold g c = λ asks. c.run.ensures.untold
 
 pub returns-in-Some-Run-clause-dump : goal.returns-in-Some-Run-clause-dump
 returns-in-Some-Run-clause-dump g c = λ p commands asks. absurd (run_not_dump (map string_bytes c.args.words.now) (subst (λ (a : Asked). Asks (map string_bytes c.args.words.now) a) c.in-Some-Run.field-0-is c.in-Some-Run.ensures.some) asks)
@@ -32,6 +32,11 @@ pub returns-in-Some-Run-clause-session : goal.returns-in-Some-Run-clause-session
 returns-in-Some-Run-clause-session g c = record {
   run = λ first next runs bytes asks told begins before follows.
       run c.args.machine.now c.run.new.machine next (record { script = lines_of (g.S.Source.left c.args.input.now); bytes = bytes }) before begins (λ p commands opens. (c.run.ensures.run p commands opens told).moments) follows;
+  run_untold = λ asks.
+      let (script, each) = c.run.ensures.untold in (
+        script,
+        λ first next runs bytes begins before follows. run c.args.machine.now c.run.new.machine next (record { script = script; bytes = bytes }) before begins (λ p commands opens. (each p commands opens).moments) follows,
+      );
   init = λ p first next runs said asks. absurd (run_not_init (map string_bytes c.args.words.now) p (subst (λ (a : Asked). Asks (map string_bytes c.args.words.now) a) c.in-Some-Run.field-0-is c.in-Some-Run.ensures.some) asks);
   dump = λ first next runs said asks. absurd (run_not_dump (map string_bytes c.args.words.now) (subst (λ (a : Asked). Asks (map string_bytes c.args.words.now) a) c.in-Some-Run.field-0-is c.in-Some-Run.ensures.some) asks);
 }
@@ -69,7 +74,7 @@ pub returns-in-Some-Dump-clause-run : goal.returns-in-Some-Dump-clause-run
 returns-in-Some-Dump-clause-run g c = λ p commands asks. absurd (run_not_dump (map string_bytes c.args.words.now) asks (subst (λ (a : Asked). Asks (map string_bytes c.args.words.now) a) c.in-Some-Dump.field-0-is c.in-Some-Dump.ensures.some))
 
 pub returns-in-Some-Dump-clause-run_untold : goal.returns-in-Some-Dump-clause-run_untold
-returns-in-Some-Dump-clause-run_untold g c = λ p commands asks. absurd (run_not_dump (map string_bytes c.args.words.now) asks (subst (λ (a : Asked). Asks (map string_bytes c.args.words.now) a) c.in-Some-Dump.field-0-is c.in-Some-Dump.ensures.some))
+returns-in-Some-Dump-clause-run_untold g c = λ asks. absurd (run_not_dump (map string_bytes c.args.words.now) asks (subst (λ (a : Asked). Asks (map string_bytes c.args.words.now) a) c.in-Some-Dump.field-0-is c.in-Some-Dump.ensures.some))
 
 pub returns-in-Some-Dump-clause-dump : goal.returns-in-Some-Dump-clause-dump
 returns-in-Some-Dump-clause-dump g c = λ p commands asks. c.dump.ensures.dump p commands
@@ -80,6 +85,7 @@ returns-in-Some-Dump-clause-init g c = λ p asks. absurd (dump_not_init (map str
 pub returns-in-Some-Dump-clause-session : goal.returns-in-Some-Dump-clause-session
 returns-in-Some-Dump-clause-session g c = record {
   run = λ first next runs bytes asks. absurd (run_not_dump (map string_bytes c.args.words.now) asks (subst (λ (a : Asked). Asks (map string_bytes c.args.words.now) a) c.in-Some-Dump.field-0-is c.in-Some-Dump.ensures.some));
+  run_untold = λ asks. absurd (run_not_dump (map string_bytes c.args.words.now) asks (subst (λ (a : Asked). Asks (map string_bytes c.args.words.now) a) c.in-Some-Dump.field-0-is c.in-Some-Dump.ensures.some));
   init = λ p first next runs said asks. absurd (dump_not_init (map string_bytes c.args.words.now) p (subst (λ (a : Asked). Asks (map string_bytes c.args.words.now) a) c.in-Some-Dump.field-0-is c.in-Some-Dump.ensures.some) asks);
   dump = λ first next runs said asks before follows. other c.args.machine.now c.dump.new.machine next said before c.dump.ensures.keeps follows;
 }
@@ -125,7 +131,7 @@ pub returns-in-Some-Init-clause-run : goal.returns-in-Some-Init-clause-run
 returns-in-Some-Init-clause-run g c = λ p commands asks. absurd (run_not_init (map string_bytes c.args.words.now) c.in-Some-Init.params asks (subst (λ (a : Asked). Asks (map string_bytes c.args.words.now) a) c.in-Some-Init.field-0-is c.in-Some-Init.ensures.some))
 
 pub returns-in-Some-Init-clause-run_untold : goal.returns-in-Some-Init-clause-run_untold
-returns-in-Some-Init-clause-run_untold g c = λ p commands asks. absurd (run_not_init (map string_bytes c.args.words.now) c.in-Some-Init.params asks (subst (λ (a : Asked). Asks (map string_bytes c.args.words.now) a) c.in-Some-Init.field-0-is c.in-Some-Init.ensures.some))
+returns-in-Some-Init-clause-run_untold g c = λ asks. absurd (run_not_init (map string_bytes c.args.words.now) c.in-Some-Init.params asks (subst (λ (a : Asked). Asks (map string_bytes c.args.words.now) a) c.in-Some-Init.field-0-is c.in-Some-Init.ensures.some))
 
 pub returns-in-Some-Init-clause-dump : goal.returns-in-Some-Init-clause-dump
 returns-in-Some-Init-clause-dump g c = λ p commands asks. absurd (dump_not_init (map string_bytes c.args.words.now) c.in-Some-Init.params asks (subst (λ (a : Asked). Asks (map string_bytes c.args.words.now) a) c.in-Some-Init.field-0-is c.in-Some-Init.ensures.some))
@@ -139,6 +145,7 @@ returns-in-Some-Init-clause-exactly_dump g c = λ asks. absurd (dump_not_init (m
 pub returns-in-Some-Init-clause-session : goal.returns-in-Some-Init-clause-session
 returns-in-Some-Init-clause-session g c = record {
   run = λ first next runs bytes asks. absurd (run_not_init (map string_bytes c.args.words.now) c.in-Some-Init.params asks (subst (λ (a : Asked). Asks (map string_bytes c.args.words.now) a) c.in-Some-Init.field-0-is c.in-Some-Init.ensures.some));
+  run_untold = λ asks. absurd (run_not_init (map string_bytes c.args.words.now) c.in-Some-Init.params asks (subst (λ (a : Asked). Asks (map string_bytes c.args.words.now) a) c.in-Some-Init.field-0-is c.in-Some-Init.ensures.some));
   init = λ p first next runs said asks no_store before follows.
       let old = g.M.Machine.disk c.args.machine.now in
       let same = only_params (map string_bytes c.args.words.now) c.in-Some-Init.field-0 c.in-Some-Init.params p c.in-Some-Init.field-0-is c.in-Some-Init.ensures.some asks in
@@ -162,7 +169,7 @@ pub returns-in-None-clause-run : goal.returns-in-None-clause-run
 returns-in-None-clause-run g c = λ p commands asks. absurd (c.in-None.ensures.none _ asks)
 
 pub returns-in-None-clause-run_untold : goal.returns-in-None-clause-run_untold
-returns-in-None-clause-run_untold g c = λ p commands asks. absurd (c.in-None.ensures.none _ asks)
+returns-in-None-clause-run_untold g c = λ asks. absurd (c.in-None.ensures.none _ asks)
 
 pub returns-in-None-clause-run_keeps : goal.returns-in-None-clause-run_keeps
 returns-in-None-clause-run_keeps g c = λ asks. absurd (c.in-None.ensures.none _ asks)
@@ -212,6 +219,7 @@ returns-in-None-clause-exactly_init g c = λ p asks. absurd (c.in-None.ensures.n
 pub returns-in-None-clause-session : goal.returns-in-None-clause-session
 returns-in-None-clause-session g c = record {
   run = λ first next runs bytes asks. absurd (c.in-None.ensures.none _ asks);
+  run_untold = λ asks. absurd (c.in-None.ensures.none _ asks);
   init = λ p first next runs said asks. absurd (c.in-None.ensures.none _ asks);
   dump = λ first next runs said asks. absurd (c.in-None.ensures.none _ asks);
 }

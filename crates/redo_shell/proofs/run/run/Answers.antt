@@ -25,11 +25,13 @@ returns-in-Ok-clause-run g c = λ p commands opens told.
     (c.run_open.ensures.store (c.open_store.ensures.time.files_told.0 opens.told) c.in-Ok.ensures.attached)
 
 pub returns-in-Ok-clause-untold : goal.returns-in-Ok-clause-untold
-returns-in-Ok-clause-untold g c = λ p commands opens.
-    let opened = c.in-Ok.ensures.ok p commands opens in
-    let (script, answers, complete) = c.run_open.ensures.some p commands opened.0 opened.1 in (
+returns-in-Ok-clause-untold g c =
+    let (script, each) = c.run_open.ensures.some in (
       script,
-      run_on (g.M.Machine.disk c.args.machine.now) (g.M.Machine.disk c.open_store.new.machine) (g.M.Machine.disk c.run_open.new.machine) script c.run_open.result
+      λ p commands opens.
+          let opened = c.in-Ok.ensures.ok p commands opens in
+          let (answers, complete) = each p commands opened.0 opened.1 in
+          run_on (g.M.Machine.disk c.args.machine.now) (g.M.Machine.disk c.open_store.new.machine) (g.M.Machine.disk c.run_open.new.machine) script c.run_open.result
           (g.met.M.Machine.lawful c.args.machine.now) (g.met.M.Machine.lawful c.run_open.new.machine) opens c.in-Ok.ensures.kept c.run_open.ensures.time answers complete
           (c.run_open.ensures.store (c.open_store.ensures.time.files_told.0 opens.told) c.in-Ok.ensures.attached),
     )
@@ -40,9 +42,10 @@ returns-in-Err-clause-run g c = λ p commands opens told.
     (g.met.M.Machine.lawful c.args.machine.now) opens (c.open_store.ensures.stays p commands opens) c.in-Err.ensures.status (c.in-Err.ensures.store opens.told (well_formed all_meaning opens.stands)) (c.in-Err.ensures.calm p commands opens)
 
 pub returns-in-Err-clause-untold : goal.returns-in-Err-clause-untold
-returns-in-Err-clause-untold g c = λ p commands opens. (
+returns-in-Err-clause-untold g c = (
   [],
-  run_unopened (g.M.Machine.disk c.args.machine.now) (g.M.Machine.disk c.open_store.new.machine) [] c.in-Err.status
+  λ p commands opens.
+      run_unopened (g.M.Machine.disk c.args.machine.now) (g.M.Machine.disk c.open_store.new.machine) [] c.in-Err.status
       (g.met.M.Machine.lawful c.args.machine.now) opens (c.open_store.ensures.stays p commands opens) c.in-Err.ensures.status (c.in-Err.ensures.store opens.told (well_formed all_meaning opens.stands)) (c.in-Err.ensures.calm p commands opens),
 )
 

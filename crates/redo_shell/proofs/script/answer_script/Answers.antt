@@ -13,8 +13,8 @@ returns-in_err-lines-clause-answers g c = λ p commands holds all told.
     ends_here (opened (lines_of (g.S.Source.left c.args.input.now)) (g.met.M.Machine.lawful c.args.machine.now) holds all)
 
 pub returns-in_err-lines-clause-some : goal.returns-in_err-lines-clause-some
-returns-in_err-lines-clause-some g c = λ p commands holds all.
-    ([], ends_here (opened [] (g.met.M.Machine.lawful c.args.machine.now) holds all), IfOk-from_err c.from_residual.result _ c.from_residual.ensures.0)
+returns-in_err-lines-clause-some g c =
+    ([], λ p commands holds all. (ends_here (opened [] (g.met.M.Machine.lawful c.args.machine.now) holds all), IfOk-from_err c.from_residual.result _ c.from_residual.ensures.0))
 
 pub loop-lines-init : goal.loop-lines-init
 loop-lines-init g c = record {
@@ -25,7 +25,7 @@ loop-lines-init g c = record {
   going = λ p commands holds all told.
       subst (λ (l : List ℕ). Going p (g.M.Machine.disk c.args.machine.now) (g.M.Machine.disk c.args.machine.now) c.args.engine.now commands (lines_of (g.S.Source.left c.args.input.now)) (lines_of (l ++ g.S.Source.left c.args.input.now)) false)
       (sym c.in_ok-lines.ensures.0) (opened (lines_of (g.S.Source.left c.args.input.now)) (g.met.M.Machine.lawful c.args.machine.now) holds all);
-  some = λ p commands holds all. ([], opened [] (g.met.M.Machine.lawful c.args.machine.now) holds all);
+  some = ([], λ p commands holds all. opened [] (g.met.M.Machine.lawful c.args.machine.now) holds all);
   reads = omega arith;
   takes = λ told. record { bytes = []; front = refl; count = omega (arith, c.in_ok-lines.ensures.1) };
 }
@@ -34,9 +34,9 @@ pub returns-in_err-next-clause-answers : goal.returns-in_err-next-clause-answers
 returns-in_err-next-clause-answers g c = λ p commands holds all told. ends_here (c.loop-lines.invariant.going p commands holds all told)
 
 pub returns-in_err-next-clause-some : goal.returns-in_err-next-clause-some
-returns-in_err-next-clause-some g c = λ p commands holds all.
-    let (script, so_far) = c.loop-lines.invariant.some p commands holds all in
-    (script, ends_here so_far, IfOk-from_err c.from_residual-in_err-next.result _ c.from_residual-in_err-next.ensures.0)
+returns-in_err-next-clause-some g c =
+    let (script, so_far) = c.loop-lines.invariant.some in
+    (script, λ p commands holds all. (ends_here (so_far p commands holds all), IfOk-from_err c.from_residual-in_err-next.result _ c.from_residual-in_err-next.ensures.0))
 
 pub returns-in_err-next-clause-too_long : goal.returns-in_err-next-clause-too_long
 returns-in_err-next-clause-too_long g c = λ told long.
@@ -54,12 +54,15 @@ returns-in_err-refusing-in_default g c = record {
       let is_line = subst (λ (s : List ℕ). IsLine c.in_ok-next.next s l.0) (sym c.line.ensures) l.1 in
       ends_in_line l.0 here c.loop-lines.invariant.time c.in_err-refusing-in_default.was (c.answer_next.ensures.answers p (commands ++ here.acc) l.0 is_line here.holds);
   complete = λ p commands holds all told. IfOk-from_err c.from_residual-in_err-refusing-in_default.result _ c.from_residual-in_err-refusing-in_default.ensures.0;
-  some = λ p commands holds all.
-      let (script, so_far) = c.loop-lines.invariant.some p commands holds all in
-      let (line, answering) = c.answer_next.ensures.some p (commands ++ so_far.acc) c.in_default.not-End so_far.holds in (
+  some =
+      let (script, so_far) = c.loop-lines.invariant.some in
+      let (line, answering) = c.answer_next.ensures.some c.in_default.not-End in (
         script ++ line ∷ [],
-        ends_in_line line (with_next line so_far) c.loop-lines.invariant.time c.in_err-refusing-in_default.was answering,
-        IfOk-from_err c.from_residual-in_err-refusing-in_default.result _ c.from_residual-in_err-refusing-in_default.ensures.0,
+        λ p commands holds all.
+            let here = so_far p commands holds all in (
+              ends_in_line line (with_next line here) c.loop-lines.invariant.time c.in_err-refusing-in_default.was (answering p (commands ++ here.acc) here.holds),
+              IfOk-from_err c.from_residual-in_err-refusing-in_default.result _ c.from_residual-in_err-refusing-in_default.ensures.0,
+            ),
       );
   input = λ told. IfOk-from_err c.from_residual-in_err-refusing-in_default.result _ c.from_residual-in_err-refusing-in_default.ensures.0;
   cause = line_stops c.from_residual-in_err-refusing-in_default.result c.answer_next.result c.in_err-refusing-in_default.field-0.0 (g.M.Machine.disk c.args.machine.now) (g.M.Machine.disk c.loop-lines.machine) (g.M.Machine.disk c.answer_next.new.machine)
@@ -83,10 +86,14 @@ loop-lines-preserved g c = record {
       let here = goes_to l.0 _ so_far l.2 in
       let is_line = subst (λ (s : List ℕ). IsLine c.in_ok-next.next s l.0) (sym c.line.ensures) l.1 in
       goes_on l.0 here c.loop-lines.invariant.time c.in_ok-refusing-in_default.was (c.answer_next.ensures.answers p (commands ++ here.acc) l.0 is_line here.holds);
-  some = λ p commands holds all.
-      let (script, so_far) = c.loop-lines.invariant.some p commands holds all in
-      let (line, answering) = c.answer_next.ensures.some p (commands ++ so_far.acc) c.in_default.not-End so_far.holds in
-      (script ++ line ∷ [], goes_on line (with_next line so_far) c.loop-lines.invariant.time c.in_ok-refusing-in_default.was answering);
+  some =
+      let (script, so_far) = c.loop-lines.invariant.some in
+      let (line, answering) = c.answer_next.ensures.some c.in_default.not-End in (
+        script ++ line ∷ [],
+        λ p commands holds all.
+            let here = so_far p commands holds all in
+            goes_on line (with_next line here) c.loop-lines.invariant.time c.in_ok-refusing-in_default.was (answering p (commands ++ here.acc) here.holds),
+      );
   reads = omega (arith, c.loop-lines.invariant.reads, c.next.ensures.later);
   takes = λ told. takes_on (c.loop-lines.invariant.takes told) (c.next.ensures.takes (c.loop-lines.invariant.told told));
 }
@@ -97,20 +104,26 @@ returns-in_err-force-clause-answers g c = λ p commands holds all told.
     ends_in_force so_far c.loop-lines.invariant.time (c.force.ensures.quiet so_far.holds.told) (c.force.ensures.moments p (commands ++ so_far.acc) so_far.holds)
 
 pub returns-in_err-force-clause-some : goal.returns-in_err-force-clause-some
-returns-in_err-force-clause-some g c = λ p commands holds all.
-    let (script, so_far) = c.loop-lines.invariant.some p commands holds all in (
+returns-in_err-force-clause-some g c =
+    let (script, so_far) = c.loop-lines.invariant.some in (
       script,
-      ends_in_force so_far c.loop-lines.invariant.time (c.force.ensures.quiet so_far.holds.told) (c.force.ensures.moments p (commands ++ so_far.acc) so_far.holds),
-      IfOk-from_err c.from_residual-in_err-force.result _ c.from_residual-in_err-force.ensures.0,
+      λ p commands holds all.
+          let here = so_far p commands holds all in (
+            ends_in_force here c.loop-lines.invariant.time (c.force.ensures.quiet here.holds.told) (c.force.ensures.moments p (commands ++ here.acc) here.holds),
+            IfOk-from_err c.from_residual-in_err-force.result _ c.from_residual-in_err-force.ensures.0,
+          ),
     )
 
 pub returns-clause-some : goal.returns-clause-some
-returns-clause-some g c = λ p commands holds all.
-    let (script, so_far) = c.loop-lines.invariant.some p commands holds all in
-    let forced = c.in_ok-force.ensures.ok p (commands ++ so_far.acc) so_far.holds in (
+returns-clause-some g c =
+    let (script, so_far) = c.loop-lines.invariant.some in (
       script,
-      ends_in_force so_far c.loop-lines.invariant.time (c.force.ensures.quiet so_far.holds.told) (c.force.ensures.moments p (commands ++ so_far.acc) so_far.holds),
-      completes so_far refl (c.force.ensures.quiet so_far.holds.told) forced.1 forced.2.holds c.in_ok-force.ensures.emptied,
+      λ p commands holds all.
+          let here = so_far p commands holds all in
+          let forced = c.in_ok-force.ensures.ok p (commands ++ here.acc) here.holds in (
+            ends_in_force here c.loop-lines.invariant.time (c.force.ensures.quiet here.holds.told) (c.force.ensures.moments p (commands ++ here.acc) here.holds),
+            completes here refl (c.force.ensures.quiet here.holds.told) forced.1 forced.2.holds c.in_ok-force.ensures.emptied,
+          ),
     )
 
 pub returns-clause-answers : goal.returns-clause-answers

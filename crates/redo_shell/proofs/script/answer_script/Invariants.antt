@@ -16,8 +16,8 @@ invariant-loop-lines g l = record {
   time : Passes (g.M.Machine.disk l.fn.machine) (g.M.Machine.disk l.machine);
   going : (p : Params) (commands : List Command) → Holds p (g.M.Machine.disk l.fn.machine) l.fn.engine commands → l.fn.engine.forced ≡ length commands → g.S.Source.tells l.fn.input →
       Going p (g.M.Machine.disk l.fn.machine) (g.M.Machine.disk l.machine) l.engine commands (lines_of (g.S.Source.left l.fn.input)) (lines_of (l.lines.ahead ++ g.S.Source.left l.input)) l.refusing;
-  some : (p : Params) (commands : List Command) → Holds p (g.M.Machine.disk l.fn.machine) l.fn.engine commands → l.fn.engine.forced ≡ length commands →
-      (script : List (List ℕ)) × Going p (g.M.Machine.disk l.fn.machine) (g.M.Machine.disk l.machine) l.engine commands script [] l.refusing;
+  some : (script : List (List ℕ)) × ((p : Params) (commands : List Command) → Holds p (g.M.Machine.disk l.fn.machine) l.fn.engine commands → l.fn.engine.forced ≡ length commands →
+      Going p (g.M.Machine.disk l.fn.machine) (g.M.Machine.disk l.machine) l.engine commands script [] l.refusing);
   reads : g.S.Source.faults l.fn.input ≤ g.S.Source.faults l.input;
   takes : g.S.Source.tells l.fn.input → Takes (g.S.Source.left l.fn.input) (g.S.Source.left l.input) 0 l.lines.taken;
 }
