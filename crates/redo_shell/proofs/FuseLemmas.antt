@@ -39,7 +39,7 @@ module _ {M : Type 0} (disk : M → Disk) where
   follows_around old new next said f = record { told = f.told; within = f.within }
 
   -- a list of calls on fuses is one on the machines inside
-  pub inside : {first last : Fuse M} {runs : List Ran} → Sessions (disk_through disk) first runs last → Sessions disk first.inner runs last.inner
+  pub inside : {first last : Fuse M} {inits : List Params} {runs : List Ran} → Sessions (disk_through disk) first inits runs last → Sessions disk first.inner inits runs last.inner
   inside start = start
   inside (run old new next ran before begins leaves follows) =
       run old.inner new.inner next.inner ran (inside before) begins
@@ -50,13 +50,13 @@ module _ {M : Type 0} (disk : M → Disk) where
       other old.inner new.inner next.inner said (inside before) (keeps_inside old new kept) (follows_inside old new next said follows)
 
   -- a list of calls on fuses that ends with this one
-  pub record Around (first : M) (runs : List Ran) (end : Fuse M) : Type 0 where
+  pub record Around (first : M) (inits : List Params) (runs : List Ran) (end : Fuse M) : Type 0 where
     pub begin : Fuse M
     pub begins : begin.inner ≡ first
-    pub calls : Sessions (disk_through disk) begin runs end
+    pub calls : Sessions (disk_through disk) begin inits runs end
 
   -- and a list of calls on machines is one on fuses around them
-  pub around : {first last : M} {runs : List Ran} → Sessions disk first runs last → (end : Fuse M) → end.inner ≡ last → Around first runs end
+  pub around : {first last : M} {inits : List Params} {runs : List Ran} → Sessions disk first inits runs last → (end : Fuse M) → end.inner ≡ last → Around first inits runs end
   around start end is = record { begin = end; begins = is; calls = start }
   around (run old new next ran before begins leaves follows) end is =
       let so_far = around before (fresh old) refl in

@@ -1,5 +1,5 @@
 -- What several calls leave.
-use Rattle.std.proofs.Common.{◌≡◌, ◌↔◌, inl, inr, ⊎_elim, ◌+◌, ◌-◌, ◌++◌, List, ℕ, [], ◌∷◌, length, take, append_assoc, refl, ap, ◌∙◌, sym, subst, arith}
+use Rattle.std.proofs.Common.{◌≡◌, ◌↔◌, ◌⊎◌, inl, inr, ⊎_elim, ◌+◌, ◌-◌, ◌++◌, List, ℕ, [], ◌∷◌, length, take, append_assoc, refl, ap, ◌∙◌, sym, subst, arith}
 use Rattle.std.specs.Prelude.{⊤}
 use Rattle.std.proofs.Math.Seq.{take-append-add}
 use Rattle.std.proofs.lemmas.List.{append-nil, append_cancel_left, length-take-le, take_all}
@@ -10,7 +10,7 @@ use Rattle.store_engine.specs.ImageLaws.{stands_begins}
 use Rattle.script_lines.specs.Replies.{Reply}
 use Rattle.redo_shell.specs.Store.{Command, Stands, IsNew}
 use Rattle.redo_shell.specs.Answers.{Said, Begun, Moment}
-use Rattle.redo_shell.specs.Sessions.{Ran, Adds, Survives, Follows, Sessions, AllSilent, Arises, none, more, start, run, init, other}
+use Rattle.redo_shell.specs.Sessions.{Ran, Adds, Survives, Follows, Sessions, AllSilent, IsAsked, IsThere, Arises, none, more, start, run, init, other}
 use Rattle.redo_shell.proofs.PrintedLemmas.{nothing_printed}
 use Rattle.redo_shell.proofs.StoryLemmas.{story_start, told_whole}
 
@@ -84,7 +84,7 @@ survives_silent p files (ran ∷ runs) (first, rest) stands =
 module _ {T : Type 0} (disk : T → Disk) (lawful : (m : T) → IsDisk (disk m)) (p : Params) (commands : List Command) (first : T) (told : (disk first).tells_moments)
     (here : (files : Files) (said : List ℕ) → (disk first).left_since (disk first).clock files said → Stands p files commands) where
   -- whatever a crash leaves behind the last of the calls
-  pub survive : {runs : List Ran} {last : T} → Sessions disk first runs last
+  pub survive : {inits : List Params} {runs : List Ran} {last : T} → Sessions disk first inits runs last
       → (disk last).tells_moments × ((files : Files) (said : List ℕ) → (disk last).left_since (disk last).clock files said → Survives p commands runs files)
   survive start = (
     told,
@@ -115,48 +115,56 @@ module _ {T : Type 0} (disk : T → Disk) (lawful : (m : T) → IsDisk (disk m))
         λ files said left. each_old files (disk old).said ((kept.images told_old).each files bytes (follows.within told_next files said left)),
       )
 
+-- one `init` more has asked
+arises_more : (first : Disk) (inits : List Params) (runs : List Ran) (files : Files) (p : Params) → Arises first inits runs files → Arises first (p ∷ inits) runs files
+arises_more first inits runs files p here = ⊎_elim (λ none. inl none)
+    (λ (is : (q : Params) × (IsAsked inits q ⊎ IsThere first q) × Survives q [] runs files).
+    let (q, from, survives) = is in
+    inr (q, ⊎_elim (λ (asked : IsAsked inits q). inl (inr asked)) (λ (there : IsThere first q). inr there) from, survives))
+    here
+
 module _ {T : Type 0} (disk : T → Disk) (lawful : (m : T) → IsDisk (disk m)) (first : T) (told : (disk first).tells_moments)
     (here : (files : Files) (said : List ℕ) → (disk first).left_since (disk first).clock files said → (p : Params) × IsNew p files) where
   -- the same from files that are no store yet
-  pub arise : {runs : List Ran} {last : T} → Sessions disk first runs last
-      → (disk last).tells_moments × ((files : Files) (said : List ℕ) → (disk last).left_since (disk last).clock files said → Arises runs files)
+  pub arise : {inits : List Params} {runs : List Ran} {last : T} → Sessions disk first inits runs last
+      → (disk last).tells_moments × ((files : Files) (said : List ℕ) → (disk last).left_since (disk last).clock files said → Arises (disk first) inits runs files)
   arise start = (
     told,
-    λ files said left. let (p, is) = here files said left in ⊎_elim (λ no_store. inl (no_store, tt)) (λ stands. inr (p, survives_start p [] files stands)) is,
+    λ files said left. let (p, is) = here files said left in ⊎_elim (λ no_store. inl (no_store, tt)) (λ stands. inr (p, inr (files, said, left, stands), survives_start p [] files stands)) is,
   )
-  arise (run {runs} old new next ran before begins leaves follows) =
+  arise (run {inits} {runs} old new next ran before begins leaves follows) =
       let (told_old, each_old) = arise before in
       let read_or = each_old (disk old).reads (disk old).said ((lawful old).as_read told_old) in
       let told_next = follows.told told_old in (
         told_next,
         λ files said left. ⊎_elim
             (λ no_store. absurd (no_store.0 begins))
-            (λ (is_read : (p : Params) × Survives p [] runs (disk old).reads).
-            let (p, read) = is_read in
+            (λ (is_read : (p : Params) × (IsAsked inits p ⊎ IsThere (disk first) p) × Survives p [] runs (disk old).reads).
+            let (p, from, read) = is_read in
             let moments = leaves p read.now (record { told = (lawful old).telling told_old; stands = read.stands }) told_old in
             ⊎_elim
             (λ was.
             let silent = append_cancel_left (disk old).said ran.bytes [] ((lawful old).said_now told_old files _ was ∙ sym (append-nil (disk old).said)) in
             ⊎_elim (λ no_store. inl (no_store.0, (silent, no_store.1)))
-            (λ (is : (q : Params) × Survives q [] runs files).
-            let (q, image) = is in
-            inr (q, survives_run ran image.now image (adds_none q image.now ran silent) image.stands))
+            (λ (is : (q : Params) × (IsAsked inits q ⊎ IsThere (disk first) q) × Survives q [] runs files).
+            let (q, from_q, image) = is in
+            inr (q, from_q, survives_run ran image.now image (adds_none q image.now ran silent) image.stands))
             (each_old files _ was))
-            (λ m. inr (p, survives_run ran (take m.kept (read.now ++ m.story.acc ++ m.story.added)) read (adds_moment p read.now ran (disk old).said files m) m.stands))
+            (λ m. inr (p, from, survives_run ran (take m.kept (read.now ++ m.story.acc ++ m.story.added)) read (adds_moment p read.now ran (disk old).said files m) m.stands))
             (moments.each files _ (follows.within told_next files said left)))
             read_or,
       )
-  arise (init {runs} old new next p bytes before no_store leaves follows) =
+  arise (init {inits} {runs} old new next p bytes before no_store leaves follows) =
       let (told_old, each_old) = arise before in
       let read_or = each_old (disk old).reads (disk old).said ((lawful old).as_read told_old) in
       let told_next = follows.told told_old in (
         told_next,
         λ files said left. ⊎_elim
             (λ none_read. ⊎_elim
-            (λ was. each_old files _ was)
-            (λ is. ⊎_elim (λ still. inl (still, none_read.1)) (λ stands. inr (p, (survives_silent p files runs none_read.1 stands).0)) is.0)
+            (λ was. arises_more (disk first) inits runs files p (each_old files _ was))
+            (λ is. ⊎_elim (λ still. inl (still, none_read.1)) (λ stands. inr (p, inl (inl refl), (survives_silent p files runs none_read.1 stands).0)) is.0)
             ((leaves told_old).each files _ (follows.within told_next files said left)))
-            (λ (is_read : (q : Params) × Survives q [] runs (disk old).reads). absurd (no_store (stands_begins all_meaning is_read.1.stands)))
+            (λ (is_read : (q : Params) × (IsAsked inits q ⊎ IsThere (disk first) q) × Survives q [] runs (disk old).reads). absurd (no_store (stands_begins all_meaning is_read.2.stands)))
             read_or,
       )
   arise (other old new next bytes before kept follows) =

@@ -76,10 +76,10 @@ pub record MakesExactly (old : Disk) (status : Status) : Type 0 where
 -- A call with these words, and this script where its source tells it, or some script where it does not, goes on any calls
 -- before it, whatever follows it: nothing, a kill at one of its moments, or a crash.
 pub record GoesOn {T : Type 0} (disk : T → Disk) (words : List (List ℕ)) (told : Type 0) (script : List (List ℕ)) (old new : T) : Type 0 where
-  pub run : (first next : T) (runs : List Ran) (bytes : List ℕ) → Asks words Run → told → BeginsStore ((disk old).reads Objects) → Sessions disk first runs old
-      → Follows (disk old) (disk new) (disk next) ((disk old).said ++ bytes) → Sessions disk first (record { script = script; bytes = bytes } ∷ runs) next
-  pub run_untold : Asks words Run → (script : List (List ℕ)) × ((first next : T) (runs : List Ran) (bytes : List ℕ) → BeginsStore ((disk old).reads Objects) → Sessions disk first runs old
-      → Follows (disk old) (disk new) (disk next) ((disk old).said ++ bytes) → Sessions disk first (record { script = script; bytes = bytes } ∷ runs) next)
-  pub init : (p : Params) (first next : T) (runs : List Ran) (said : List ℕ) → Asks words (Init p) → (BeginsStore ((disk old).reads Objects) → ⊥) → Sessions disk first runs old
-      → Follows (disk old) (disk new) (disk next) said → Sessions disk first runs next
-  pub dump : (first next : T) (runs : List Ran) (said : List ℕ) → Asks words Dump → Sessions disk first runs old → Follows (disk old) (disk new) (disk next) said → Sessions disk first runs next
+  pub run : (first next : T) (inits : List Params) (runs : List Ran) (bytes : List ℕ) → Asks words Run → told → BeginsStore ((disk old).reads Objects) → Sessions disk first inits runs old
+      → Follows (disk old) (disk new) (disk next) ((disk old).said ++ bytes) → Sessions disk first inits (record { script = script; bytes = bytes } ∷ runs) next
+  pub run_untold : Asks words Run → (script : List (List ℕ)) × ((first next : T) (inits : List Params) (runs : List Ran) (bytes : List ℕ) → BeginsStore ((disk old).reads Objects) → Sessions disk first inits runs old
+      → Follows (disk old) (disk new) (disk next) ((disk old).said ++ bytes) → Sessions disk first inits (record { script = script; bytes = bytes } ∷ runs) next)
+  pub init : (p : Params) (first next : T) (inits : List Params) (runs : List Ran) (said : List ℕ) → Asks words (Init p) → (BeginsStore ((disk old).reads Objects) → ⊥) → Sessions disk first inits runs old
+      → Follows (disk old) (disk new) (disk next) said → Sessions disk first (p ∷ inits) runs next
+  pub dump : (first next : T) (inits : List Params) (runs : List Ran) (said : List ℕ) → Asks words Dump → Sessions disk first inits runs old → Follows (disk old) (disk new) (disk next) said → Sessions disk first inits runs next

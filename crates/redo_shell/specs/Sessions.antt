@@ -52,26 +52,37 @@ pub record Follows (old new next : Disk) (said : List ℕ) : Type 0 where
   pub told : old.tells_moments → next.tells_moments
   pub within : next.tells_moments → (files : Files) (s : List ℕ) → next.left_since next.clock files s → new.left_since old.clock files said
 
--- Calls of the program on machines, from the first to the last, each with what the clauses of `top` say of it.
-pub data Sessions {T : Type 0} (disk : T → Disk) (first : T) : List Ran → T → Type 0 where
-  start : Sessions disk first [] first
+-- Calls of the program on machines, from the first to the last, each with what the clauses of `top` say of it: the numbers
+-- of the stores that were made, and the runs, the latest first.
+pub data Sessions {T : Type 0} (disk : T → Disk) (first : T) : List Params → List Ran → T → Type 0 where
+  start : Sessions disk first [] [] first
   -- a run on a store, by `run`, its part `moments`
-  run : {runs : List Ran} → (old new next : T) (ran : Ran) → Sessions disk first runs old → BeginsStore ((disk old).reads Objects)
+  run : {inits : List Params} {runs : List Ran} → (old new next : T) (ran : Ran) → Sessions disk first inits runs old → BeginsStore ((disk old).reads Objects)
       → ((p : Params) (commands : List Command) → Opens p (disk old) commands → (disk old).tells_moments → LeavesOnly (disk old) (disk new) (OrAtStart (disk old) (Moment p commands ran.script (disk old).said)))
-      → Follows (disk old) (disk new) (disk next) ((disk old).said ++ ran.bytes) → Sessions disk first (ran ∷ runs) next
+      → Follows (disk old) (disk new) (disk next) ((disk old).said ++ ran.bytes) → Sessions disk first inits (ran ∷ runs) next
   -- the making of a store with these numbers where there is none, by `init`, its part `moments`
-  init : {runs : List Ran} → (old new next : T) (p : Params) (said : List ℕ) → Sessions disk first runs old → (BeginsStore ((disk old).reads Objects) → ⊥)
+  init : {inits : List Params} {runs : List Ran} → (old new next : T) (p : Params) (said : List ℕ) → Sessions disk first inits runs old → (BeginsStore ((disk old).reads Objects) → ⊥)
       → ((disk old).tells_moments → LeavesOnly (disk old) (disk new) (OrAtStart (disk old) (λ files bytes. IsNew p files × (bytes ≡ (disk old).said))))
-      → Follows (disk old) (disk new) (disk next) said → Sessions disk first runs next
+      → Follows (disk old) (disk new) (disk next) said → Sessions disk first (p ∷ inits) runs next
   -- any other call, by `dump_keeps`, `run_keeps`, `usage_keeps`, or `init`, its part `keeps`
-  other : {runs : List Ran} → (old new next : T) (said : List ℕ) → Sessions disk first runs old → KeepsFiles (disk old) (disk new)
-      → Follows (disk old) (disk new) (disk next) said → Sessions disk first runs next
+  other : {inits : List Params} {runs : List Ran} → (old new next : T) (said : List ℕ) → Sessions disk first inits runs old → KeepsFiles (disk old) (disk new)
+      → Follows (disk old) (disk new) (disk next) said → Sessions disk first inits runs next
 
 -- no run has said anything yet
 abbrev pub AllSilent : List Ran → Type 0
 AllSilent [] = ⊤
 AllSilent (ran ∷ runs) = (ran.bytes ≡ []) × AllSilent runs
 
--- No store is there, and no run has said anything; or a store, with what the runs have made of one without commands.
-abbrev pub Arises : List Ran → Files → Type 0
-Arises runs files = ((BeginsStore (files Objects) → ⊥) × AllSilent runs) ⊎ ((p : Params) × Survives p [] runs files)
+-- an `init` has asked for a store with these numbers
+abbrev pub IsAsked : List Params → Params → Type 0
+IsAsked [] p = ⊥
+IsAsked (q ∷ inits) p = (p ≡ q) ⊎ IsAsked inits p
+
+-- a crash at the start could leave a store with these numbers that has no commands
+abbrev pub IsThere : Disk → Params → Type 0
+IsThere first p = (files : Files) × (said : List ℕ) × first.left_since first.clock files said × Stands p files []
+
+-- No store is there, and no run has said anything; or a store, with what the runs have made of one without commands, and
+-- its numbers are those that an `init` has asked for, or of a store that was there at the start.
+abbrev pub Arises : Disk → List Params → List Ran → Files → Type 0
+Arises first inits runs files = ((BeginsStore (files Objects) → ⊥) × AllSilent runs) ⊎ ((p : Params) × (IsAsked inits p ⊎ IsThere first p) × Survives p [] runs files)

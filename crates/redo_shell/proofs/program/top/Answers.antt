@@ -30,15 +30,15 @@ returns-in-Some-Run-clause-init g c = λ p asks. absurd (run_not_init (map strin
 
 pub returns-in-Some-Run-clause-session : goal.returns-in-Some-Run-clause-session
 returns-in-Some-Run-clause-session g c = record {
-  run = λ first next runs bytes asks told begins before follows.
+  run = λ first next inits runs bytes asks told begins before follows.
       run c.args.machine.now c.run.new.machine next (record { script = lines_of (g.S.Source.left c.args.input.now); bytes = bytes }) before begins (λ p commands opens. (c.run.ensures.run p commands opens told).moments) follows;
   run_untold = λ asks.
       let (script, each) = c.run.ensures.untold in (
         script,
-        λ first next runs bytes begins before follows. run c.args.machine.now c.run.new.machine next (record { script = script; bytes = bytes }) before begins (λ p commands opens. (each p commands opens).moments) follows,
+        λ first next inits runs bytes begins before follows. run c.args.machine.now c.run.new.machine next (record { script = script; bytes = bytes }) before begins (λ p commands opens. (each p commands opens).moments) follows,
       );
-  init = λ p first next runs said asks. absurd (run_not_init (map string_bytes c.args.words.now) p (subst (λ (a : Asked). Asks (map string_bytes c.args.words.now) a) c.in-Some-Run.field-0-is c.in-Some-Run.ensures.some) asks);
-  dump = λ first next runs said asks. absurd (run_not_dump (map string_bytes c.args.words.now) (subst (λ (a : Asked). Asks (map string_bytes c.args.words.now) a) c.in-Some-Run.field-0-is c.in-Some-Run.ensures.some) asks);
+  init = λ p first next inits runs said asks. absurd (run_not_init (map string_bytes c.args.words.now) p (subst (λ (a : Asked). Asks (map string_bytes c.args.words.now) a) c.in-Some-Run.field-0-is c.in-Some-Run.ensures.some) asks);
+  dump = λ first next inits runs said asks. absurd (run_not_dump (map string_bytes c.args.words.now) (subst (λ (a : Asked). Asks (map string_bytes c.args.words.now) a) c.in-Some-Run.field-0-is c.in-Some-Run.ensures.some) asks);
 }
 
 pub returns-in-Some-Run-clause-exactly_run : goal.returns-in-Some-Run-clause-exactly_run
@@ -84,10 +84,10 @@ returns-in-Some-Dump-clause-init g c = λ p asks. absurd (dump_not_init (map str
 
 pub returns-in-Some-Dump-clause-session : goal.returns-in-Some-Dump-clause-session
 returns-in-Some-Dump-clause-session g c = record {
-  run = λ first next runs bytes asks. absurd (run_not_dump (map string_bytes c.args.words.now) asks (subst (λ (a : Asked). Asks (map string_bytes c.args.words.now) a) c.in-Some-Dump.field-0-is c.in-Some-Dump.ensures.some));
+  run = λ first next inits runs bytes asks. absurd (run_not_dump (map string_bytes c.args.words.now) asks (subst (λ (a : Asked). Asks (map string_bytes c.args.words.now) a) c.in-Some-Dump.field-0-is c.in-Some-Dump.ensures.some));
   run_untold = λ asks. absurd (run_not_dump (map string_bytes c.args.words.now) asks (subst (λ (a : Asked). Asks (map string_bytes c.args.words.now) a) c.in-Some-Dump.field-0-is c.in-Some-Dump.ensures.some));
-  init = λ p first next runs said asks. absurd (dump_not_init (map string_bytes c.args.words.now) p (subst (λ (a : Asked). Asks (map string_bytes c.args.words.now) a) c.in-Some-Dump.field-0-is c.in-Some-Dump.ensures.some) asks);
-  dump = λ first next runs said asks before follows. other c.args.machine.now c.dump.new.machine next said before c.dump.ensures.keeps follows;
+  init = λ p first next inits runs said asks. absurd (dump_not_init (map string_bytes c.args.words.now) p (subst (λ (a : Asked). Asks (map string_bytes c.args.words.now) a) c.in-Some-Dump.field-0-is c.in-Some-Dump.ensures.some) asks);
+  dump = λ first next inits runs said asks before follows. other c.args.machine.now c.dump.new.machine next said before c.dump.ensures.keeps follows;
 }
 
 pub returns-in-Some-Dump-clause-exactly_run : goal.returns-in-Some-Dump-clause-exactly_run
@@ -144,14 +144,14 @@ returns-in-Some-Init-clause-exactly_dump g c = λ asks. absurd (dump_not_init (m
 
 pub returns-in-Some-Init-clause-session : goal.returns-in-Some-Init-clause-session
 returns-in-Some-Init-clause-session g c = record {
-  run = λ first next runs bytes asks. absurd (run_not_init (map string_bytes c.args.words.now) c.in-Some-Init.params asks (subst (λ (a : Asked). Asks (map string_bytes c.args.words.now) a) c.in-Some-Init.field-0-is c.in-Some-Init.ensures.some));
+  run = λ first next inits runs bytes asks. absurd (run_not_init (map string_bytes c.args.words.now) c.in-Some-Init.params asks (subst (λ (a : Asked). Asks (map string_bytes c.args.words.now) a) c.in-Some-Init.field-0-is c.in-Some-Init.ensures.some));
   run_untold = λ asks. absurd (run_not_init (map string_bytes c.args.words.now) c.in-Some-Init.params asks (subst (λ (a : Asked). Asks (map string_bytes c.args.words.now) a) c.in-Some-Init.field-0-is c.in-Some-Init.ensures.some));
-  init = λ p first next runs said asks no_store before follows.
+  init = λ p first next inits runs said asks no_store before follows.
       let old = g.M.Machine.disk c.args.machine.now in
       let same = only_params (map string_bytes c.args.words.now) c.in-Some-Init.field-0 c.in-Some-Init.params p c.in-Some-Init.field-0-is c.in-Some-Init.ensures.some asks in
       init c.args.machine.now c.init.new.machine next p said before no_store
       (λ telling. subst (λ (q : Params). LeavesOnly old (g.M.Machine.disk c.init.new.machine) (OrAtStart old (λ files bytes. IsNew q files × (bytes ≡ old.said)))) same (c.init.ensures.moments telling no_store)) follows;
-  dump = λ first next runs said asks. absurd (dump_not_init (map string_bytes c.args.words.now) c.in-Some-Init.params asks (subst (λ (a : Asked). Asks (map string_bytes c.args.words.now) a) c.in-Some-Init.field-0-is c.in-Some-Init.ensures.some));
+  dump = λ first next inits runs said asks. absurd (dump_not_init (map string_bytes c.args.words.now) c.in-Some-Init.params asks (subst (λ (a : Asked). Asks (map string_bytes c.args.words.now) a) c.in-Some-Init.field-0-is c.in-Some-Init.ensures.some));
 }
 
 pub returns-in-Some-Init-clause-exactly_init : goal.returns-in-Some-Init-clause-exactly_init
@@ -218,10 +218,10 @@ returns-in-None-clause-exactly_init g c = λ p asks. absurd (c.in-None.ensures.n
 
 pub returns-in-None-clause-session : goal.returns-in-None-clause-session
 returns-in-None-clause-session g c = record {
-  run = λ first next runs bytes asks. absurd (c.in-None.ensures.none _ asks);
+  run = λ first next inits runs bytes asks. absurd (c.in-None.ensures.none _ asks);
   run_untold = λ asks. absurd (c.in-None.ensures.none _ asks);
-  init = λ p first next runs said asks. absurd (c.in-None.ensures.none _ asks);
-  dump = λ first next runs said asks. absurd (c.in-None.ensures.none _ asks);
+  init = λ p first next inits runs said asks. absurd (c.in-None.ensures.none _ asks);
+  dump = λ first next inits runs said asks. absurd (c.in-None.ensures.none _ asks);
 }
 
 pub returns-in-None-clause-usage_said : goal.returns-in-None-clause-usage_said
