@@ -106,7 +106,8 @@ module _ {O : Type 0} (meaning : Bounds → Meaning O) where
   IsAdmitFailure old new engine op e = IsReadFailure old new engine e
 
   -- Why a command is not done, on every machine: it gets no place, though some values admit it, or else it is not admitted.
-  -- Where a force fails for it, the disk counts that. Memory runs out for one that is admitted only where it has its place.
+  -- Where a force fails for it, the disk counts that. For a command that reads no object, and whose code memory can hold,
+  -- memory runs out only where it has its place.
   abbrev pub IsExecFailure : Disk → Disk → EngineView → O → ExecErr → Type 0
   IsExecFailure old new engine op (of_exec.LogFull used need limit) = IsAdmissible (params_of engine) op × LacksPlace engine (record_length meaning (params_of engine) op) (of_exec.LogFull used need limit)
   IsExecFailure old new engine op (of_exec.LsnEnd number) = IsAdmissible (params_of engine) op × LacksPlace engine (record_length meaning (params_of engine) op) (of_exec.LsnEnd number)
