@@ -9,7 +9,9 @@ redo run <&-
 echo "run: status $?"
 
 # The program itself, started without the launcher: an input that is closed is an empty script.
-program=$(dirname "$(readlink -f "$(command -v redo)")")/crates/redo/out/redo
+top=$(dirname "$(readlink -f "$(command -v redo)")")
+program=$top/release/redo-x86_64-linux
+[ -x "$program" ] || program=$top/crates/redo/out/redo
 "$program" init 2 16 4128 >&-
 echo "init: status $?"
 "$program" dump <&- >&-

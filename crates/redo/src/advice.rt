@@ -1,0 +1,36 @@
+use redo_shell::Status;
+
+/// What happened, and what to do next, for a status that tells of trouble; none for the others.
+pub fn advice(status: Status) -> Option<&'static str> {
+    match status {
+        Status::Done | Status::DoneWithRefusals | Status::Usage => None,
+        Status::NotAStore => Some(
+            "no store is in this folder. If it is the folder of your store, copy its files before anything else; \
+             `redo init N CAP LIMIT` makes a new store here.",
+        ),
+        Status::AlreadyStore => Some(
+            "a store is in this folder already, and it was left as it is. Make the new one in another folder.",
+        ),
+        Status::Damaged => Some(
+            "a file of the store breaks its format at the offset given. Copy objects.rdo, log_a.rdo and log_b.rdo before \
+             anything else.",
+        ),
+        Status::DiskFault => Some(
+            "a file of the store could not be read, written or synced. See to free space and rights, then run again: \
+             all that was answered `forced` is there.",
+        ),
+        Status::ReadFault => Some(
+            "the input could not be read to its end. Commands after the last `forced` may be lost: run again with these.",
+        ),
+        Status::SayFault => Some(
+            "an answer could not be written. In a run, commands after the last `forced` may be lost: run again with these.",
+        ),
+        Status::Memory => Some(
+            "out of memory. A restart takes about 100 bytes for each record of the log, beside the values: run again with \
+             more. All that was answered `forced` is there.",
+        ),
+        Status::TooLong => Some(
+            "the input has 2^40 bytes or more. Run again with the rest of it: `redo dump` says how many commands are done.",
+        ),
+    }
+}
