@@ -7,8 +7,6 @@
 
 mod all_ops;
 mod laws;
-#[cfg(test)]
-mod tests;
 
 pub use all_ops::AllOps;
 pub use laws::refused_makes_empty;

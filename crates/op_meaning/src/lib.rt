@@ -8,8 +8,6 @@
 
 mod app_read;
 mod app_state;
-#[cfg(test)]
-mod app_tests;
 mod app_write;
 mod append;
 mod copy;
@@ -22,8 +20,6 @@ mod order;
 mod put;
 mod sort;
 mod swap;
-#[cfg(test)]
-mod tests;
 
 pub use app_read::AppRead;
 pub use app_state::AppState;

@@ -1,0 +1,111 @@
+// Each command on values of its own: its code, its first refusal, and what it makes.
+ghost use Rattle.std.specs.Prelude.{◌≡◌, ◌≤◌, All, IfOk, length};
+
+use crate::rows::{APPLICATIONS, NODES, OBJECTS, Row, VALUES};
+use op_codec::AllOps;
+use oper_core::{Bounds, ByteList, Oper, Refusal, Values};
+use std::alloc::Global;
+use std::test::Fail;
+
+// The command that the code is of, where another byte stands behind it.
+fn decoded<O: Oper>(alloc: Global, b: Bounds, code: &[u8]) -> Result<O, Fail> {
+    let mut bytes = code.to_vec(alloc)?;
+    bytes.push(0xff)?;
+    let (op, length): (O, usize) = O::decode(alloc, b, bytes.as_slice())?.ok_or("no code")?;
+    if length == code.len() {
+        Ok(op)
+    } else {
+        Err(Fail::new("another length"))
+    }
+}
+
+// The code of a command of the grammar.
+fn encoded<O: Oper>(alloc: Global, b: Bounds, op: &O) -> Result<Vec<u8>, Fail> {
+    let mut out = Vec::new(alloc);
+    if op.shape(b).is_err() {
+        return Err(Fail::new("refused"));
+    }
+    op.encode(&mut out)?;
+    Ok(out)
+}
+
+// A value for each of the objects, none longer than the cap.
+fn values(alloc: Global, cap: u32, objects: &[u32], read: &[&[u8]]) -> Result<Values, Fail>
+    requires { length objects.now ≤ 4 }
+    ensures count { IfOk result (λ values. length values ≡ length objects.now) }
+    ensures short { IfOk result (λ values. All (λ v. length v ≤ cap) values) }
+{
+    let mut values = Values::new(alloc);
+    for i in 0..objects.len() {
+        let value = read.get(i).ok_or("a value is missing")?;
+        if value.len() > cap as usize {
+            return Err(Fail::new("a value is too long"));
+        }
+        values.push(value)?;
+    }
+    Ok(values)
+}
+
+// The first refusal on these values, and the values that the command makes of them.
+fn outcome<O: Oper>(
+    alloc: Global,
+    b: Bounds,
+    op: &O,
+    read: &[&[u8]],
+) -> Result<(Result<(), Refusal>, Vec<ByteList>), Fail> {
+    let objects = op.reads();
+    let values = values(alloc, b.cap, objects.as_slice(), read)?;
+    let refused = op.check(b, &values);
+    let made = op.apply(alloc, b, &values)?.into_lists();
+    Ok((refused, made))
+}
+
+fn are(lists: &[ByteList], want: &[&[u8]]) -> bool {
+    let mut good = lists.len() == want.len();
+    for (list, bytes) in lists.iter().zip(want.iter()) {
+        good = good && list.as_slice() == *bytes;
+    }
+    good
+}
+
+// The code is read and written again, and the command does what the row says.
+fn is_as_worked(alloc: Global, row: &Row) -> Result<bool, Fail> {
+    let (code, cap, read, want, new) = *row;
+    let b = Bounds {
+        objects: OBJECTS,
+        cap,
+    };
+    let op: AllOps = decoded(alloc, b, code)?;
+    let again = encoded(alloc, b, &op)?;
+    let (refused, made) = outcome(alloc, b, &op, read)?;
+    let length = op.code_length() == code.len() as u64;
+    Ok((again.as_slice() == code) & length & (refused == want) & are(made.as_slice(), new))
+}
+
+// The place of the first row that is not as it says; none where all are.
+fn first_wrong(alloc: Global, rows: &[Row]) -> Result<Option<usize>, Fail> {
+    for (i, row) in rows.iter().enumerate() {
+        if !is_as_worked(alloc, row)? {
+            return Ok(Some(i));
+        }
+    }
+    Ok(None)
+}
+
+#[test]
+fn values_go_from_object_to_object(rt: HostRuntime) -> Result<(), Fail> {
+    assert_eq!(rt; first_wrong(rt.alloc(), VALUES)?, None);
+    Ok(())
+}
+
+#[test]
+fn applications_take_steps(rt: HostRuntime) -> Result<(), Fail> {
+    assert_eq!(rt; first_wrong(rt.alloc(), APPLICATIONS)?, None);
+    Ok(())
+}
+
+#[test]
+fn nodes_change_and_split(rt: HostRuntime) -> Result<(), Fail> {
+    assert_eq!(rt; first_wrong(rt.alloc(), NODES)?, None);
+    Ok(())
+}

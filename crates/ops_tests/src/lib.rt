@@ -1,0 +1,13 @@
+//! A test crate: the tests of op_meaning, btree_ops and op_codec. The library is empty.
+//!
+//! They stand apart so that the proofs of the three crates are made once, and not a second time with their tests.
+#![tactic(auto)]
+
+#[cfg(test)]
+mod codes;
+#[cfg(test)]
+mod commands;
+#[cfg(test)]
+mod nodes;
+#[cfg(test)]
+mod rows;
