@@ -3,5 +3,3 @@ pub mod OneByOne
 pub mod PlaceLemmas
 pub mod SplitLemmas
 pub mod Outcomes
-pub mod LawLemmas
-pub mod Fitting

@@ -6,6 +6,7 @@ use Rattle.std.specs.FinMap.Entries.{is_sorted, below_all}
 use Rattle.btree_ops.specs.NodeLaws.{truth}
 use Rattle.btree_ops.specs.Short.{short_code, short_in}
 use Rattle.btree_ops.specs.Entries.{Field, byte_order, beside, entry_code, entry_in, entries_in}
+use Rattle.btree_ops.specs.KeyLaws.{both, first, second, less_if}
 
 module _ {X : Type 0} (field : Field X) where
   -- a key and a field give an entry
@@ -74,24 +75,6 @@ module _ {X : Type 0} (field : Field X) where
   read_past count bytes front left [] so_far last some = absurd (true≢false (sym some))
   read_past count bytes front left (b ∷ rest) so_far last some =
       so_far ∙ ap (λ (n : ℕ). option_map (λ (es : List (List ℕ × X)). front ++ es) (entries_in field n (b ∷ rest))) last
-
--- Bools
-pub both : (a b : Bool) → T a → T b → T (a && b)
-both true b p q = q
-both false b p q = p
-
-pub first : (a b : Bool) → T (a && b) → T a
-first true b p = tt
-first false b p = p
-
-pub second : (a b : Bool) → T (a && b) → T b
-second true b p = p
-second false b p = absurd p
-
-pub less_if : (o : Ordering) → T (is_lt o) → o ≡ Less
-less_if Less p = refl
-less_if Equal p = absurd p
-less_if Greater p = absurd p
 
 pub if_less : (o : Ordering) → o ≡ Less → T (is_lt o)
 if_less o e = subst (λ (o : Ordering). T (is_lt o)) (sym e) tt

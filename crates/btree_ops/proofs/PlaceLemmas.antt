@@ -1,6 +1,5 @@
 -- What the place of a key says of a leaf.
 use Rattle.std.proofs.Common.{◌≡◌, ◌≤◌, ◌<◌, ℕ, zero, suc, ◌+◌, ◌==◌, Bool, true, false, not, ◌&&◌, cond, if◌then◌else◌, T, Option, None, Some, is_some, Result, Ok, Err, List, [], ◌∷◌, length, drop, insert, remove, get_or, refl, sym, ap, ◌∙◌, subst, arith, drop-cons, option_map, Ordering, Less, Equal, Greater, is_lt, is_eq}
-use Rattle.std.specs.FinMap.{slice_cmp-IsAntisymmetric, nat_cmp-IsAntisymmetric}
 use Rattle.std.specs.FinMap.Entries.{by_order, put, find, is_sorted, below_all}
 use Rattle.oper_core.specs.declared.refusal.Refusal.TheVariants.{NotNode, NoKey, NodeFull}
 use Rattle.btree_ops.specs.declared.made.Made.TheVariants.{One}
@@ -8,11 +7,8 @@ use Rattle.btree_ops.specs.Entries.{byte_order, listed}
 use Rattle.btree_ops.specs.Node.{leaf}
 use Rattle.btree_ops.specs.Places.{one_on, place_in}
 use Rattle.btree_ops.specs.Effects.{has, without, put_made, delete_made}
-use Rattle.btree_ops.proofs.OneByOne.{first, second, less_if, below_less}
-
--- equal in the order of bytes is equal
-pub same_key : (x y : List ℕ) → byte_order x y ≡ Equal → x ≡ y
-same_key = slice_cmp-IsAntisymmetric nat_cmp-IsAntisymmetric
+use Rattle.btree_ops.specs.KeyLaws.{first, second, less_if, same_key}
+use Rattle.btree_ops.proofs.OneByOne.{below_less}
 
 -- so many places on
 abbrev pub moved : ℕ → Result ℕ ℕ → Result ℕ ℕ

@@ -9,3 +9,5 @@ pub mod Places
 pub mod Operation
 pub mod OperationLaws
 pub mod Laws
+pub mod KeyLaws
+pub mod MapLaws

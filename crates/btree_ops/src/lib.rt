@@ -18,8 +18,6 @@ mod node_op;
 mod reading;
 mod short;
 mod split;
-#[cfg(test)]
-mod tests;
 mod writing;
 
 pub use halves::Halves;

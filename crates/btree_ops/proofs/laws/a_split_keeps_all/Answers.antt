@@ -1,4 +1,4 @@
-use Rattle.btree_ops.proofs.LawLemmas.{leaf_splits, inner_splits, leaf_cut, inner_cut}
+use Rattle.btree_ops.specs.MapLaws.{leaf_splits, inner_splits, leaf_cut, inner_cut}
 use Rattle.btree_ops.proofs.laws.a_split_keeps_all.Goals as goal
 
 pub returns : goal.returns

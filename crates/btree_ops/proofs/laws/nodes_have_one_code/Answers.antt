@@ -1,5 +1,5 @@
 use Rattle.btree_ops.specs.NodeLaws.{node_found, node_is}
-use Rattle.btree_ops.proofs.LawLemmas.{leaf_size, inner_size}
+use Rattle.btree_ops.specs.MapLaws.{leaf_size, inner_size}
 use Rattle.btree_ops.proofs.laws.nodes_have_one_code.Goals as goal
 
 pub returns : goal.returns

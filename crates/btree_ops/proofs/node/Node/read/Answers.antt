@@ -1,5 +1,5 @@
 use Rattle.std.proofs.Common.{arith}
-use Rattle.btree_ops.proofs.LawLemmas.{read_some, read_none}
+use Rattle.btree_ops.specs.MapLaws.{read_some, read_none}
 use Rattle.btree_ops.proofs.node.Node.read.Goals as goal
 
 pub returns-clause-some : goal.returns-clause-some

@@ -10,6 +10,7 @@ use Rattle.std.proofs.lemmas.Bool.Decides.{eqb_tells}
 use Rattle.byteorder.specs.Endian.{little_bytes}
 use Rattle.oper_core.specs.LittleEndian.{length-little_bytes}
 use Rattle.btree_ops.specs.Short.{is_short, short_code}
+use Rattle.btree_ops.specs.KeyLaws.{both, first, second, less_if, same_key}
 use Rattle.btree_ops.specs.Entries.{Field, byte_order, short_field, child_field, entry_code, entries_code}
 use Rattle.btree_ops.specs.EntryLaws.{AreBytes, short_bounds, same_some, map_some}
 use Rattle.btree_ops.specs.Node.{leaf, inner, node_code, node_in, IsNode}
@@ -18,8 +19,6 @@ use Rattle.btree_ops.specs.Effects.{has, without, leaf_halves, inner_halves, beh
 use Rattle.btree_ops.specs.Laws.{SplitsLeaf, SplitsInner, IsUpdate, IsBehindBranch}
 use Rattle.btree_ops.specs.declared.halves.Halves.{Halves}
 use Rattle.btree_ops.specs.declared.node.Node.{Node}
-use Rattle.btree_ops.proofs.OneByOne.{both, first, second, less_if}
-use Rattle.btree_ops.proofs.PlaceLemmas.{same_key}
 
 -- what a reader of nodes answers
 pub read_some : (bytes : List ℕ) (r : Option Node) → AreBytes bytes → r ≡ node_in bytes → IfSome r (λ node. IsNodeOf bytes node)

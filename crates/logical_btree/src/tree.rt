@@ -1,0 +1,107 @@
+ghost use Rattle.std.specs.Prelude.{◌≡◌, ◌≤◌, nat_le, None, Some, map, if◌then◌else◌};
+ghost use Rattle.std.specs.List.{list_all};
+ghost use Rattle.oper_core.specs.State.{State};
+ghost use Rattle.logical_btree.specs.Walk as walks;
+ghost use Rattle.logical_btree.specs.Walk.{children_of, node_at};
+
+use arrayvec::ArrayVec;
+use btree_ops::{Node, Short};
+use std::marker::Model;
+
+/// A range of objects for an ordered map. Its first object is the root.
+pub struct Tree {
+    lo: u32,
+    hi: u32,
+}
+
+impl Model for Tree {
+    ghost use Rattle.std.specs.Prelude.{◌≤◌};
+    ghost use Rattle.logical_btree.specs.Walk.{Range};
+
+    ghost Value = { Range };
+
+    ghost view = { λ t. record { lo = t.lo; hi = t.hi } };
+
+    ghost invariant = { λ t. t.lo ≤ t.hi };
+}
+
+impl Tree {
+    /// The range from `lo` to `hi`, both in it. There is none exactly where `hi` is below `lo`.
+    pub fn new(lo: u32, hi: u32) -> Option<Self>
+        ensures { result ≡ (if nat_le lo hi then Some (record { lo = lo; hi = hi }) else None) }
+    {
+        if lo <= hi {
+            Some(Tree { lo, hi })
+        } else {
+            None
+        }
+    }
+
+    /// The first object, the root.
+    pub fn root(&self) -> u32
+        ensures { result ≡ self.now.lo }
+    {
+        self.lo
+    }
+
+    /// The last object.
+    pub fn last(&self) -> u32
+        ensures value { result ≡ self.now.hi }
+        ensures order { self.now.lo ≤ result }
+    {
+        self.hi
+    }
+
+    /// The node of an object of this value, unless the object is bad. The empty value of the root is a leaf without pairs.
+    pub fn node(&self, object: u32, value: &[u8]) -> Option<Node>
+        ensures { (s : State) → s object ≡ value.now → result ≡ node_at self.now.lo self.now.hi s object }
+    {
+        let node = self.read(object, value)?;
+        if self.names_children(&node) {
+            Some(node)
+        } else {
+            None
+        }
+    }
+
+    /// The node of an object of this value, whatever children it names.
+    fn read(&self, object: u32, value: &[u8]) -> Option<Node>
+        ensures { result ≡ walks.read_as self.now.lo object value.now }
+    {
+        if object == self.lo && value.is_empty() {
+            return Some(Node::Leaf(ArrayVec::new()));
+        }
+        Node::read(value)
+    }
+
+    /// Each object that the node names stands in the range and is not the root.
+    fn names_children(&self, node: &Node) -> bool
+        ensures { result ≡ list_all (walks.is_child self.now.lo self.now.hi) (children_of node.now) }
+    {
+        match node {
+            Node::Leaf(_) => true,
+            Node::Inner(first, branches) => {
+                self.is_child(*first) && self.are_children(branches.as_slice())
+            }
+        }
+    }
+
+    /// Each branch leads to an object of the range that is not the root.
+    fn are_children(&self, branches: &[(Short, u32)]) -> bool
+        ensures { result ≡ list_all (walks.is_child self.now.lo self.now.hi) (map (λ b. b.1) branches.now) }
+    {
+        for i in 0..branches.len() {
+            if !self.is_child(branches[i].1) {
+                return false;
+            }
+        }
+        true
+    }
+
+    /// The object stands in the range and is not the root.
+    fn is_child(&self, object: u32) -> bool
+        ensures { result ≡ walks.is_child self.now.lo self.now.hi object }
+    {
+        self.lo < object && object <= self.hi
+    }
+}
