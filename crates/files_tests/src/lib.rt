@@ -1,23 +1,13 @@
-//! A test crate: the tests of disk_model, log_frames, log_records and stable_objects. The library is empty.
+//! A test crate: the tests of log_frames and log_records. The library is empty.
 //!
 //! They stand apart so that the proofs of those crates are made once, and not a second time with their tests.
 #![tactic(auto)]
 
 #[cfg(test)]
-mod disk;
-#[cfg(test)]
-mod file_machine;
-#[cfg(test)]
-mod frail_files;
-#[cfg(test)]
-mod growing;
-#[cfg(test)]
 mod log;
 #[cfg(test)]
 mod records;
 #[cfg(test)]
-mod replacing;
-#[cfg(test)]
 mod rewriting;
 #[cfg(test)]
-mod slots;
+mod shortening;

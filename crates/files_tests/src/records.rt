@@ -1,6 +1,7 @@
 // The codec of records and their log: that calls succeed, and worked bytes.
-ghost use Rattle.std.specs.Prelude.{◌≡◌, ◌<◌, ◌^◌, IfOk, length};
+ghost use Rattle.std.specs.Prelude.{◌≡◌, ◌<◌, ◌^◌, ◌∷◌, [], IfOk, length};
 
+use checkpoint::{Starts, Table};
 use disk_model::{Crash, FileNo, Fuse, Machine, MemMachine};
 use formats::Record;
 use log_frames::LogErr;
@@ -10,23 +11,24 @@ use oper_core::{Bounds, ByteList, Oper};
 use std::alloc::Global;
 use std::test::Fail;
 
-const BOUNDS: Bounds = Bounds { objects: 4, cap: 3 };
+pub const BOUNDS: Bounds = Bounds { objects: 4, cap: 3 };
 
-// A put's record: its number, its object and its value.
-type Row = (u64, u32, &'static [u8]);
+// A record: its kind, its number, its object and its value; of a check its next number and the object of its only start,
+// which is 1.
+type Row = (u8, u64, u32, &'static [u8]);
 
-// Records, and their codes.
+// Puts, and the codes of their records.
 const CODES: [(Row, &[u8]); 3] = [
     (
-        (1, 0, b"\xaa"),
+        (1, 1, 0, b"\xaa"),
         b"\x01\x01\0\0\0\0\0\0\0\x01\0\0\0\0\x01\0\0\0\xaa",
     ),
     (
-        (0x0102, 3, b""),
+        (1, 0x0102, 3, b""),
         b"\x01\x02\x01\0\0\0\0\0\0\x01\x03\0\0\0\0\0\0\0",
     ),
     (
-        (u64::MAX, 2, b"abc"),
+        (1, u64::MAX, 2, b"abc"),
         b"\x01\xff\xff\xff\xff\xff\xff\xff\xff\x01\x02\0\0\0\x03\0\0\0abc",
     ),
 ];
@@ -46,8 +48,18 @@ fn coded(alloc: Global, number: u64, object: u32, value: &[u8]) -> Result<Vec<u8
 
 // Whether a record is that of a row.
 fn is_of(record: &Record<Put>, row: Row) -> bool {
-    let Record::Command(number, op) = record;
-    *number == row.0 && op.object == row.1 && op.value.as_slice() == row.2
+    let (kind, number, object, value) = row;
+    match record {
+        Record::Command(n, op) => {
+            kind == 1 && *n == number && op.object == object && op.value.as_slice() == value
+        }
+        Record::Identity(n, x, held) => {
+            kind == 2 && *n == number && *x == object && held.as_slice() == value
+        }
+        Record::Check(table) => {
+            kind == 3 && table.next == number && table.starts.as_slice() == [(object, 1)].as_slice()
+        }
+    }
 }
 
 // Whether the record of a row is decoded from these bytes, and how many of them it takes.
@@ -60,7 +72,7 @@ fn reads(alloc: Global, bytes: &[u8], row: Row, length: usize) -> Result<bool, F
 
 // Whether a record has this code, and is read back where another byte follows.
 fn is_coded(alloc: Global, row: Row, code: &[u8]) -> Result<bool, Fail> {
-    let (number, object, value) = row;
+    let (_, number, object, value) = row;
     if value.len() > 3 {
         return Ok(false);
     }
@@ -81,7 +93,7 @@ fn a_code_is_as_worked_and_reads_back(rt: HostRuntime) -> Result<(), Fail> {
 }
 
 // Bytes that do not begin with a record, and why.
-const OTHERS: [(&[u8], &str); 8] = [
+const OTHERS: [(&[u8], &str); 12] = [
     (b"", "nothing"),
     (b"\x01\x01\0\0\0\0\0\0", "a cut number"),
     (b"\x01\x01\0\0\0\0\0\0\0", "no operation"),
@@ -94,16 +106,32 @@ const OTHERS: [(&[u8], &str); 8] = [
         "kind 0",
     ),
     (
-        b"\x02\x01\0\0\0\0\0\0\0\x01\0\0\0\0\x01\0\0\0\xaa",
-        "kind 2",
-    ),
-    (
-        b"\x03\x01\0\0\0\0\0\0\0\x01\0\0\0\0\x01\0\0\0\xaa",
-        "kind 3",
+        b"\x04\x01\0\0\0\0\0\0\0\x01\0\0\0\0\x01\0\0\0\xaa",
+        "kind 4",
     ),
     (
         b"\x01\x01\0\0\0\0\0\0\0\x01\x04\0\0\0\x01\0\0\0\xaa",
         "no such object",
+    ),
+    (
+        b"\x02\x01\0\0\0\0\0\0\0\0\0\0\0\0\0\0",
+        "an identity write's cut length",
+    ),
+    (
+        b"\x02\x01\0\0\0\0\0\0\0\0\0\0\0\x02\0\0\0\xaa",
+        "its cut value",
+    ),
+    (
+        b"\x02\x01\0\0\0\0\0\0\0\0\0\0\0\x04\0\0\0abcd",
+        "its value beyond CAP",
+    ),
+    (
+        b"\x02\x01\0\0\0\0\0\0\0\x04\0\0\0\0\0\0\0",
+        "its object beyond N",
+    ),
+    (
+        b"\x03\x03\0\0\0\0\0\0\0\x01\0\0\0\0\0\0\0\x01\0\0\0\0\0\0",
+        "a check's cut start",
     ),
 ];
 
@@ -120,13 +148,17 @@ fn other_bytes_are_no_record(rt: HostRuntime) -> Result<(), Fail> {
 
 // A settled machine with a new log.
 fn new_store(alloc: Global) -> Result<MemMachine, Fail> {
-    let mut machine = MemMachine::new(alloc, [64, 512, 64], 64, 1024, Vec::new(alloc))?;
+    let mut machine = MemMachine::new(alloc, [64, 512, 512], 64, 1024, Vec::new(alloc))?;
     RecordLog::<Put>::create(&mut machine)?;
     Ok(machine.crash(Crash::New))
 }
 
 // The log of a machine.
-fn loaded<M: Machine>(alloc: Global, machine: &mut M, b: Bounds) -> Result<RecordLog<Put>, LogErr>
+pub fn loaded<M: Machine>(
+    alloc: Global,
+    machine: &mut M,
+    b: Bounds,
+) -> Result<RecordLog<Put>, LogErr>
     ensures { IfOk result (λ log. log.bounds ≡ b) }
 {
     RecordLog::load(alloc, machine, b)
@@ -152,56 +184,127 @@ fn add(log: &mut RecordLog<Put>, b: Bounds, op: Put) -> Result<(), Fail>
     Ok(())
 }
 
+// Appends an identity write of object 1 with the next number.
+fn add_identity(log: &mut RecordLog<Put>, b: Bounds, value: ByteList) -> Result<(), Fail>
+    requires { log.old.bounds ≡ b }
+    ensures { log.new.bounds ≡ b }
+{
+    let number = log.next();
+    let is_small = value.as_slice().len() <= b.cap as usize && b.objects > 1 && b.cap < 1 << 20;
+    if is_small && number < 1 << 20 && log.used() < 1 << 20 {
+        log.append(Record::Identity(number, 1, value))?;
+    }
+    Ok(())
+}
+
+// Appends a check with the redo start 1 of object 0.
+fn add_check(log: &mut RecordLog<Put>, b: Bounds, starts: Starts) -> Result<(), Fail>
+    requires bounds { log.old.bounds ≡ b }
+    requires starts { starts ≡ (0, 1) ∷ [] }
+    ensures { log.new.bounds ≡ b }
+{
+    let next = log.next();
+    let is_placed = b.objects > 0 && log.base() <= 1 && next > 1;
+    if is_placed && next < 1 << 20 && log.used() < 1 << 20 {
+        log.append(Record::Check(Table { next, starts }))?;
+    }
+    Ok(())
+}
+
 // The log's length, the next number, and how many commands are accepted and forced.
-fn counts(log: &RecordLog<Put>) -> [u64; 4] {
+pub fn counts(log: &RecordLog<Put>) -> [u64; 4] {
     [log.used(), log.next(), log.accepted(), log.forced()]
 }
 
-// A log of two blocks with three records, and its counts before each record and at the end.
-fn three_records(alloc: Global) -> Result<(MemMachine, [[u64; 4]; 4]), Fail> {
+// A log of two blocks with four records, and its counts before each record and at the end.
+pub fn four_records(alloc: Global) -> Result<(MemMachine, [[u64; 4]; 5]), Fail> {
     let mut machine = new_store(alloc)?;
     let mut log = loaded(alloc, &mut machine, BOUNDS)?;
     let new = counts(&log);
     add(&mut log, BOUNDS, put(alloc, 2, b"a")?)?;
     let one = counts(&log);
-    add(&mut log, BOUNDS, put(alloc, 0, b"")?)?;
+    add_identity(&mut log, BOUNDS, ByteList::new(b"ab".to_vec(alloc)?))?;
     log.force(&mut machine)?;
     let two = counts(&log);
+    add_check(
+        &mut log,
+        BOUNDS,
+        Starts::new(Vec::from_slice(alloc, &[(0, 1)])?),
+    )?;
+    let three = counts(&log);
     add(&mut log, BOUNDS, put(alloc, 3, b"abc")?)?;
     log.force(&mut machine)?;
-    Ok((machine.crash(Crash::Old), [new, one, two, counts(&log)]))
+    let all = [new, one, two, three, counts(&log)];
+    Ok((machine.crash(Crash::Old), all))
 }
 
 #[test]
-fn an_append_counts_one_command(rt: HostRuntime) -> Result<(), Fail> {
-    let (_, counts) = three_records(rt.alloc())?;
-    assert!(rt; counts == [[33, 1, 0, 0], [57, 2, 1, 0], [75, 3, 2, 2], [101, 4, 3, 3]]);
+fn commands_alone_are_counted(rt: HostRuntime) -> Result<(), Fail> {
+    let (_, counts) = four_records(rt.alloc())?;
+    assert!(rt;
+        counts
+            == [
+                [33, 1, 0, 0],
+                [57, 2, 1, 0],
+                [76, 3, 1, 1],
+                [106, 3, 1, 1],
+                [127, 4, 2, 2]
+            ]
+    );
     Ok(())
 }
 
-// Whether records are the last ones of the three.
-fn are_last(records: &[Record<Put>], count: usize) -> bool {
-    const ALL: [Row; 3] = [(1, 2, b"a"), (2, 0, b""), (3, 3, b"abc")];
+// The blocks of the four records, and the closed gate behind them.
+const BLOCKS: &[u8] = b"\x01\x26\0\0\0\
+    \x01\x01\0\0\0\0\0\0\0\x01\x02\0\0\0\x01\0\0\0a\
+    \x02\x02\0\0\0\0\0\0\0\x01\0\0\0\x02\0\0\0ab\
+    \x01\x2e\0\0\0\
+    \x03\x03\0\0\0\0\0\0\0\x01\0\0\0\0\0\0\0\x01\0\0\0\0\0\0\0\
+    \x01\x03\0\0\0\0\0\0\0\x01\x03\0\0\0\x03\0\0\0abc\
+    \0";
+
+// Whether log A has these bytes from its first gate on.
+fn holds(machine: &MemMachine, blocks: &[u8]) -> bool {
+    machine.bytes(FileNo::LogA).get(33..) == Some(blocks)
+}
+
+#[test]
+fn blocks_are_as_worked(rt: HostRuntime) -> Result<(), Fail> {
+    let (machine, _) = four_records(rt.alloc())?;
+    assert!(rt; holds(&machine, BLOCKS));
+    Ok(())
+}
+
+// Whether records are so many of the four, from this one on.
+fn are_some(records: &[Record<Put>], first: usize, count: usize) -> bool {
+    const ALL: [Row; 4] = [
+        (1, 1, 2, b"a"),
+        (2, 2, 1, b"ab"),
+        (3, 3, 0, b""),
+        (1, 3, 3, b"abc"),
+    ];
     let mut are = records.len() == count;
-    for (record, row) in records.iter().rev().zip(ALL.iter().rev()) {
+    for (record, row) in records.iter().zip(ALL.iter().skip(first)) {
         are &= is_of(record, *row);
     }
     are
 }
 
-// Whether the three records are found again, and the tail from each number on; what waits is not among them.
-fn are_found(alloc: Global, from: u64, count: usize) -> Result<bool, Fail> {
-    let (mut machine, _) = three_records(alloc)?;
+// Whether the four records are found again, and so many in the tail from a number on, behind so many others; what waits
+// is not among them.
+fn are_found(alloc: Global, from: u64, first: usize, count: usize) -> Result<bool, Fail> {
+    let (mut machine, _) = four_records(alloc)?;
     let mut log = loaded(alloc, &mut machine, BOUNDS)?;
     add(&mut log, BOUNDS, put(alloc, 1, b"")?)?;
-    let all = are_last(log.stable(&mut machine)?.as_slice(), 3);
-    Ok(all && are_last(log.tail(&mut machine, from)?.as_slice(), count))
+    let all = are_some(log.stable(&mut machine)?.as_slice(), 0, 4);
+    let tail = log.tail(&mut machine, from)?;
+    Ok(all && are_some(tail.as_slice(), first, count))
 }
 
 #[test]
-fn a_tail_begins_at_its_number(rt: HostRuntime) -> Result<(), Fail> {
-    for (from, count) in [(0, 3), (1, 3), (2, 2), (3, 1), (4, 0)] {
-        assert!(rt; are_found(rt.alloc(), from, count)?, "from {from}");
+fn a_tail_begins_at_its_number_and_keeps_checks(rt: HostRuntime) -> Result<(), Fail> {
+    for (from, first, count) in [(0, 0, 4), (1, 0, 4), (2, 1, 3), (3, 2, 2), (4, 2, 1)] {
+        assert!(rt; are_found(rt.alloc(), from, first, count)?, "from {from}");
     }
     Ok(())
 }
@@ -241,19 +344,39 @@ fn a_stopped_force_keeps_all_or_none(rt: HostRuntime) -> Result<(), Fail> {
     Ok(())
 }
 
-// Whether a load says log A to be damaged at this offset, where it has these bytes from its first gate on.
-fn is_damaged(alloc: Global, block: &[u8], place: u64) -> Result<bool, Fail> {
+// What a load finds where log A has these bytes from its first gate on: the counts, or why there are none.
+fn found_in(alloc: Global, block: &[u8]) -> Result<Result<[u64; 4], LogErr>, Fail> {
     let mut machine = new_store(alloc)?;
     machine.write_at(FileNo::LogA, 33, block)?;
-    let damage = LogErr::Damaged {
+    match loaded(alloc, &mut machine, BOUNDS) {
+        Ok(log) => Ok(Ok(counts(&log))),
+        Err(e) => Ok(Err(e)),
+    }
+}
+
+// That log A is damaged at this offset.
+fn damaged(place: u64) -> Result<[u64; 4], LogErr> {
+    Err(LogErr::Damaged {
         file: FileNo::LogA,
         place,
-    };
-    Ok(loaded(alloc, &mut machine, BOUNDS).err() == Some(damage))
+    })
+}
+
+// A put, an identity write and a check in one block.
+const THREE_KINDS: &[u8] = b"\x01\x40\0\0\0\
+    \x01\x01\0\0\0\0\0\0\0\x01\0\0\0\0\x01\0\0\0\xaa\
+    \x02\x02\0\0\0\0\0\0\0\x01\0\0\0\x03\0\0\0abc\
+    \x03\x03\0\0\0\0\0\0\0\x01\0\0\0\0\0\0\0\x01\0\0\0\0\0\0\0\
+    \0";
+
+#[test]
+fn a_load_counts_commands_alone(rt: HostRuntime) -> Result<(), Fail> {
+    assert!(rt; found_in(rt.alloc(), THREE_KINDS)? == Ok([102, 3, 1, 1]));
+    Ok(())
 }
 
 // Blocks, each with a closed gate behind it, and where the log is then damaged.
-const BLOCKS: [(&[u8], u64); 5] = [
+const BROKEN: [(&[u8], u64); 5] = [
     (b"\x01\x01\0\0\0\x02\0", 38),
     (
         b"\x01\x12\0\0\0\x01\x02\0\0\0\0\0\0\0\x01\0\0\0\0\0\0\0\0\0",
@@ -276,8 +399,55 @@ const BLOCKS: [(&[u8], u64); 5] = [
 
 #[test]
 fn a_broken_record_is_damaged(rt: HostRuntime) -> Result<(), Fail> {
-    for (block, place) in BLOCKS {
-        assert!(rt; is_damaged(rt.alloc(), block, place)?, "{block:?}");
+    for (block, place) in BROKEN {
+        assert!(rt; found_in(rt.alloc(), block)? == damaged(place), "{block:?}");
+    }
+    Ok(())
+}
+
+// Blocks with a put and behind it an identity write or a check that is not right in its place, and why.
+const MISPLACED: [(&[u8], &str); 7] = [
+    (
+        b"\x01\x23\0\0\0\x01\x01\0\0\0\0\0\0\0\x01\0\0\0\0\0\0\0\0\
+            \x02\x01\0\0\0\0\0\0\0\0\0\0\0\0\0\0\0\0",
+        "a number that was taken",
+    ),
+    (
+        b"\x01\x1f\0\0\0\x01\x01\0\0\0\0\0\0\0\x01\0\0\0\0\0\0\0\0\
+            \x03\x03\0\0\0\0\0\0\0\0\0\0\0\0",
+        "a next number one late",
+    ),
+    (
+        b"\x01\x2b\0\0\0\x01\x01\0\0\0\0\0\0\0\x01\0\0\0\0\0\0\0\0\
+            \x03\x02\0\0\0\0\0\0\0\x01\0\0\0\x04\0\0\0\x01\0\0\0\0\0\0\0\0",
+        "an object beyond N",
+    ),
+    (
+        b"\x01\x2b\0\0\0\x01\x01\0\0\0\0\0\0\0\x01\0\0\0\0\0\0\0\0\
+            \x03\x02\0\0\0\0\0\0\0\x01\0\0\0\0\0\0\0\0\0\0\0\0\0\0\0\0",
+        "a start before the base",
+    ),
+    (
+        b"\x01\x2b\0\0\0\x01\x01\0\0\0\0\0\0\0\x01\0\0\0\0\0\0\0\0\
+            \x03\x02\0\0\0\0\0\0\0\x01\0\0\0\0\0\0\0\x02\0\0\0\0\0\0\0\0",
+        "a start at the next number",
+    ),
+    (
+        b"\x01\x37\0\0\0\x01\x01\0\0\0\0\0\0\0\x01\0\0\0\0\0\0\0\0\
+            \x03\x02\0\0\0\0\0\0\0\x02\0\0\0\0\0\0\0\x01\0\0\0\0\0\0\0\0\0\0\0\x01\0\0\0\0\0\0\0\0",
+        "an object twice",
+    ),
+    (
+        b"\x01\x37\0\0\0\x01\x01\0\0\0\0\0\0\0\x01\0\0\0\0\0\0\0\0\
+            \x03\x02\0\0\0\0\0\0\0\x02\0\0\0\x01\0\0\0\x01\0\0\0\0\0\0\0\0\0\0\0\x01\0\0\0\0\0\0\0\0",
+        "objects that fall",
+    ),
+];
+
+#[test]
+fn a_misplaced_record_is_damaged(rt: HostRuntime) -> Result<(), Fail> {
+    for (block, why) in MISPLACED {
+        assert!(rt; found_in(rt.alloc(), block)? == damaged(56), "{why}");
     }
     Ok(())
 }

@@ -6,22 +6,23 @@ use Rattle.disk_model.specs.Disk.{Files, Disk, Stays, Rises}
 use Rattle.disk_model.specs.Padded.{padded, get_or-padded}
 use Rattle.disk_model.specs.declared.machine.FileNo.{FileNo}
 use Rattle.disk_model.specs.declared.machine.FileNo.TheVariants.{Objects, LogA, LogB}
-use Rattle.formats.specs.Bytes.{byte_at}
+use Rattle.formats.specs.Bytes.{byte_at, IsOpenAt}
 use Rattle.formats.specs.InForce.{other_of, HasHeader, IsPassive, IsInForce}
 use Rattle.formats.specs.Log.{Header, header_bytes, IsHeader, IsWholeLog, IsShutLog}
-use Rattle.formats.specs.Image.{IsHeaderFault, IsBlockFault, IsLogFault, in_header, in_block}
+use Rattle.formats.specs.Image.{IsBlockFault}
+use Rattle.formats.specs.FirstFault.{NoMore, LogChecks, IsFirstHeaderFault, opened, IsFineLog, IsFirstLogFault, in_log_a, in_log_b, at_block}
 use Rattle.log_frames.specs.Choosing.{SeenIn, IsChosen}
 use Rattle.log_frames.specs.Laws.{length-header_bytes}
 use Rattle.log_frames.specs.Reading.{FailsBy, fails_on, header_of, EndsBlocks}
 use Rattle.log_frames.specs.declared.log_err.LogErr.{LogErr}
 use Rattle.log_frames.specs.declared.seen.Seen.{Seen}
 use Rattle.log_frames.proofs.Causes.{size_now}
-use Rattle.log_frames.proofs.HeaderBytes.{file_fault}
+use Rattle.log_frames.proofs.HeaderBytes.{checks_read, opened_by}
 use Rattle.log_frames.proofs.ReadTo.{whole_log}
 
-pub no_bytes : (file : List ℕ) (n : ℕ) → n ≡ length file → n ≡ 0 → file ≡ []
-no_bytes [] n long none = refl
-no_bytes (b ∷ rest) n long none = absurd (omega (arith, long, none))
+pub is_empty : (file : List ℕ) (n : ℕ) → n ≡ length file → n ≡ 0 → file ≡ []
+is_empty [] n long none = refl
+is_empty (b ∷ rest) n long none = absurd (omega (arith, long, none))
 
 -- a closed gate that is read is one of the file
 pub shut_read : (file into : List ℕ) (n : ℕ) → into ≡ padded file 0 33 → (get_or into 0 0 ≡ 1 → ⊥) → n ≡ length file → (n ≡ 0 → ⊥) → IsShutLog file
@@ -63,21 +64,46 @@ pub inside_of : (a b : Option Seen) (seen : Seen) → IfSome a (λ s. (33 < s.si
 inside_of a b seen in_a in_b (inl is) = inside_one a LogA seen in_a is
 inside_of a b seen in_a in_b (inr is) = inside_one b LogB seen in_b is
 
+-- a log file that was seen has no fault by itself
+pub fine : (file : List ℕ) (found : Option Seen) → SeenIn file found → IsFineLog file
+fine file None seen = inl seen
+fine file (Some found) seen = inr (header_of found.header, seen.0)
+
 module _ (old now new : Disk) (kept : Stays old now) (e : LogErr) where
   abbrev Fails : Type 0
-  Fails = FailsBy (Rises old.disk_faults new.disk_faults) (λ file place. old.tells_files → IsLogFault old.reads file place) e
+  Fails = FailsBy (Rises old.disk_faults new.disk_faults) (λ file place. old.tells_files → IsFirstLogFault old.reads file place) e
 
   risen : Rises now.disk_faults new.disk_faults → Rises old.disk_faults new.disk_faults
   risen later below = omega (arith, later below, kept.time.disk_faults)
 
   -- what is read of a header is wrong
-  pub by_header : (file : FileNo) (into : List ℕ) → file ≢ Objects → (now.tells_files → into ≡ padded (now.reads file) 0 33)
-      → FailsBy ⊥ (λ f place. (f ≡ file) × (place < 33) × IsHeaderFault into place) e → Fails
-  by_header file into a_log read fails = fails_on _ _ _ _ e (λ never. absurd never)
-      (λ f place there told.
-      let here = subst (λ (l : List ℕ). IsHeaderFault l place) (read (kept.time.files_told.0 told)) there.2 in
-      subst (λ (x : FileNo). IsLogFault old.reads x place) (sym there.0)
-      (in_header file place a_log (subst (λ (x : Files). IsHeaderFault (x file) place) (kept.reads told) (file_fault (now.reads file) place there.1 here))))
+  pub by_header : (file : FileNo) (into : List ℕ) → (now.tells_files → into ≡ padded (now.reads file) 0 33) → IsOpenAt 0 into
+      → FailsBy ⊥ (λ f place. (f ≡ file) × LogChecks into NoMore place) e
+      → FailsBy (Rises old.disk_faults new.disk_faults) (λ f place. (f ≡ file) × (old.tells_files → IsFirstHeaderFault (old.reads file) place)) e
+  by_header file into read is_open fails = fails_on _ _ _ _ e (λ never. absurd never)
+      (λ f place there. (
+        there.0,
+        λ told.
+            let same = read (kept.time.files_told.0 told) in
+            let here = subst (λ (l : List ℕ). LogChecks l NoMore place) same there.1 in
+            subst (λ (x : Files). IsFirstHeaderFault (x file) place) (kept.reads told)
+            (opened place (opened_by (now.reads file) into same is_open) (checks_read (now.reads file) _ place here)),
+      ))
+      fails
+
+  -- the first log shows it
+  pub by_first : FailsBy (Rises now.disk_faults new.disk_faults) (λ f place. (f ≡ LogA) × (now.tells_files → IsFirstHeaderFault (now.reads LogA) place)) e → Fails
+  by_first fails = fails_on _ _ _ _ e risen
+      (λ f place there told. subst (λ (x : FileNo). IsFirstLogFault old.reads x place) (sym there.0)
+      (in_log_a place (subst (λ (x : Files). IsFirstHeaderFault (x LogA) place) (kept.reads told) (there.1 (kept.time.files_told.0 told)))))
+      fails
+
+  -- or the second, beside a first that was seen
+  pub by_second : (a : Option Seen) → (old.tells_files → SeenIn (old.reads LogA) a)
+      → FailsBy (Rises now.disk_faults new.disk_faults) (λ f place. (f ≡ LogB) × (now.tells_files → IsFirstHeaderFault (now.reads LogB) place)) e → Fails
+  by_second a seen fails = fails_on _ _ _ _ e risen
+      (λ f place there told. subst (λ (x : FileNo). IsFirstLogFault old.reads x place) (sym there.0)
+      (in_log_b place (fine (old.reads LogA) a (seen told)) (subst (λ (x : Files). IsFirstHeaderFault (x LogB) place) (kept.reads told) (there.1 (kept.time.files_told.0 told)))))
       fails
 
   pub by_block : (seen : Seen) → (old.tells_files → IsChosen old.reads seen)
@@ -86,13 +112,8 @@ module _ (old now new : Disk) (kept : Stays old now) (e : LogErr) where
       (λ f place there told.
       let is = chosen told in
       let file = seen.file in
-      subst (λ (x : FileNo). IsLogFault old.reads x place) (sym there.0)
-      (in_block file (header_of seen.header) place is.in_force is.header (subst (λ (x : Files). IsBlockFault (x file) place) (kept.reads told) (there.1 (kept.time.files_told.0 told) (size_now old now new kept e seen.size file told is.size)))))
-      fails
-
-  pub by_later : FailsBy (Rises now.disk_faults new.disk_faults) (λ f place. now.tells_files → IsLogFault now.reads f place) e → Fails
-  by_later fails = fails_on _ _ _ _ e risen
-      (λ f place there told. subst (λ (x : Files). IsLogFault x f place) (kept.reads told) (there (kept.time.files_told.0 told)))
+      subst (λ (x : FileNo). IsFirstLogFault old.reads x place) (sym there.0)
+      (at_block file (header_of seen.header) place is.in_force is.header (subst (λ (x : Files). IsBlockFault (x file) place) (kept.reads told) (there.1 (kept.time.files_told.0 told) (size_now old now new kept e seen.size file told is.size)))))
       fails
 
 -- the log that was chosen is whole

@@ -1,14 +1,17 @@
 -- What the bytes of a header are.
-use Rattle.std.proofs.Common.{◌≡◌, ◌<◌, ◌≤◌, ◌+◌, ◌^◌, ℕ, List, [], ◌∷◌, ◌++◌, length, get_or, take, drop, sym, ◌∙◌, ap, subst, arith, append_assoc, length-take, length-drop, take-append-drop}
+use Rattle.std.proofs.Common.{◌≡◌, ◌<◌, ◌≤◌, ◌+◌, ◌^◌, ℕ, List, [], ◌∷◌, ◌++◌, length, get_or, take, drop, inl, inr, sym, ◌∙◌, ap, subst, arith, append_assoc, length-take, length-drop, take-append-drop}
 use Rattle.std.specs.Prelude.{codes}
-use Rattle.std.proofs.lemmas.List.{take_all, drop-drop, get_or-drop, get_or-take, same_lists}
+use Rattle.std.proofs.lemmas.List.{take_all, drop-drop, get_or-drop, get_or-take, get_or_past, same_lists, append-nil}
+use Rattle.std.proofs.lemmas.Bool.{cases_lt}
 use Rattle.std.proofs.lemmas.Grind.{get_or_default_zero}
 use Rattle.oper_core.specs.LittleEndian.{little_bytes-little_number}
 use Rattle.byteorder.specs.Endian.{little_bytes}
 use Rattle.disk_model.specs.Padded.{padded, get_or-padded, padded-within, length-padded}
 use Rattle.formats.specs.Bytes.{number_at, byte_at, IsOpenAt}
-use Rattle.formats.specs.Image.{IsWithin, IsHeaderFault, magic, epoch, base, commands, short}
-use Rattle.formats.specs.Log.{Header, header_bytes}
+use Rattle.formats.specs.Image.{IsWithin}
+use Rattle.formats.specs.FirstFault.{goes_on, check_moved, NoMore, LogChecks}
+use Rattle.formats.specs.Log.{Header, IsHeader, header_bytes}
+use Rattle.log_frames.specs.Laws.{epoch_stands, base_stands, commands_stand}
 use Rattle.log_frames.proofs.Found.{number_read}
 
 -- eight bytes at a place are those of their number
@@ -48,29 +51,57 @@ module _ (file : List ℕ) where
   number_stands : (n : ℕ) → n + 8 ≤ 33 → number_at 8 n head ≡ number_at 8 n file
   number_stands n within = number_read file 0 33 8 n within ∙ ap (λ (k : ℕ). number_at 8 k file) (omega arith)
 
-  -- a file with a magic is long enough for it
-  magic_stands : take 8 (drop 1 file) ≡ codes "RDOLOG01" → take 8 (drop 1 head) ≡ codes "RDOLOG01"
-  magic_stands is =
+  -- a file of nine bytes has those that were read
+  nine_stand : 9 ≤ length file → take 8 (drop 1 head) ≡ take 8 (drop 1 file)
+  nine_stand there =
       let one = take 8 (drop 1 head) in
       let two = take 8 (drop 1 file) in
-      let long : length two ≡ 8 = ap length is in
+      let long : length two ≡ 8 = omega (arith, there, length-take 8 (drop 1 file), length-drop 1 file) in
       let also : length one ≡ 8 = omega (arith, length-take 8 (drop 1 head), length-drop 1 head, length-padded file 0 33) in
       same_lists one two (also ∙ sym long) (λ k d less.
       let small : k < 8 = omega (arith, less, also) in
       get_or_default_zero one k d less ∙ get_or-take 8 (drop 1 head) k 0 small ∙ get_or-drop 1 head k 0 ∙ byte_stands (1 + k) (omega arith)
       ∙ sym (get_or-drop 1 file k 0) ∙ sym (get_or-take 8 (drop 1 file) k 0 small) ∙ sym (get_or_default_zero two k d (omega (arith, long, small))))
-      ∙ is
+
+  -- a file with a magic is long enough for it
+  magic_stands : take 8 (drop 1 file) ≡ codes "RDOLOG01" → take 8 (drop 1 head) ≡ codes "RDOLOG01"
+  magic_stands is = nine_stand (omega (arith, ap length is, length-take 8 (drop 1 file), length-drop 1 file)) ∙ is
 
   opens : IsOpenAt 0 head → IsOpenAt 0 file
   opens is = sym (byte_stands 0 (omega arith)) ∙ is
 
-  -- a fault in what is read is one of the file
-  pub file_fault : (place : ℕ) → place < 33 → IsHeaderFault head place → IsHeaderFault file place
-  file_fault _ less (magic is_open other) = magic (opens is_open) (λ is. other (magic_stands is))
-  file_fault _ less (epoch is_open out) = epoch (opens is_open) (subst (λ (n : ℕ). IsWithin 1 (2 ^ 62) n → ⊥) (number_stands 9 (omega arith)) out)
-  file_fault _ less (base is_open out) = base (opens is_open) (subst (λ (n : ℕ). IsWithin 1 (2 ^ 62) n → ⊥) (number_stands 17 (omega arith)) out)
-  file_fault _ less (commands is_open over) = commands (opens is_open) (omega (arith, over, number_stands 17 (omega arith), number_stands 25 (omega arith)))
-  file_fault _ less (short is_open cut) = absurd (omega arith)
+  -- and one whose first bytes have it, padded with zeros, has it: its last byte is not 0
+  magic_there : take 8 (drop 1 head) ≡ codes "RDOLOG01" → take 8 (drop 1 file) ≡ codes "RDOLOG01"
+  magic_there is =
+      let last : byte_at 8 file ≡ 49 = sym (byte_stands 8 (omega arith)) ∙ sym (get_or-drop 1 head 7 0) ∙ sym (get_or-take 8 (drop 1 head) 7 0 (omega arith)) ∙ ap (λ (l : List ℕ). get_or l 7 0) is in
+      elim (cases_lt 8 (length file)) [
+        | inl there ↦ sym (nine_stand there) ∙ is
+        | inr short ↦ absurd (omega (arith, last, get_or_past file 8 0 short))
+      ]
+
+  -- the first check of what is read that fails is the file's
+  pub checks_read : (behind : ℕ → Type 0) (place : ℕ) → LogChecks head NoMore place → LogChecks file behind place
+  checks_read behind place fault =
+      let first = number_stands 9 (omega arith) in
+      let second = number_stands 17 (omega arith) in
+      let third = number_stands 25 (omega arith) in
+      check_moved 1 place magic_there magic_stands
+      (check_moved 9 place (subst (λ (n : ℕ). IsWithin 1 (2 ^ 62) n) first) (subst (λ (n : ℕ). IsWithin 1 (2 ^ 62) n) (sym first))
+      (check_moved 17 place (subst (λ (n : ℕ). IsWithin 1 (2 ^ 62) n) second) (subst (λ (n : ℕ). IsWithin 1 (2 ^ 62) n) (sym second))
+      (check_moved 25 place (λ less. omega (arith, less, second, third)) (λ less. omega (arith, less, second, third)) (λ never. absurd never))))
+      fault
+
+  -- behind a header that was read
+  pub behind_header : (h : Header) (into : List ℕ) (behind : ℕ → Type 0) (place : ℕ) → into ≡ head → IsHeader h → into ≡ header_bytes h → behind place → LogChecks file behind place
+  behind_header h into behind place read is fields later =
+      let whole : head ≡ header_bytes h ++ [] = sym read ∙ fields ∙ sym (append-nil (header_bytes h)) in
+      let first = sym (number_stands 9 (omega arith)) ∙ ap (λ (l : List ℕ). number_at 8 9 l) whole ∙ epoch_stands h is [] in
+      let second = sym (number_stands 17 (omega arith)) ∙ ap (λ (l : List ℕ). number_at 8 17 l) whole ∙ base_stands h is [] in
+      let third = sym (number_stands 25 (omega arith)) ∙ ap (λ (l : List ℕ). number_at 8 25 l) whole ∙ commands_stand h is [] in
+      goes_on (magic_there (ap (λ (l : List ℕ). take 8 (drop 1 l)) (sym read ∙ fields)))
+      (goes_on (omega (arith, first, is.epoch_low), omega (arith, first, is.epoch_high))
+      (goes_on (omega (arith, second, is.base_low), omega (arith, second, is.base_high))
+      (goes_on (omega (arith, second, third, is.commands)) later)))
 
   pub front_stands : 33 < length file → head ≡ take 33 file
   front_stands within = padded-within file 0 33 (omega arith)

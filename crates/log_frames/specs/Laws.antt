@@ -2,6 +2,7 @@
 -- log has no fault.
 use Rattle.std.proofs.Common.{◌≡◌, ◌≢◌, inl, inr, ◌<◌, ◌+◌, ℕ, List, [], ◌∷◌, ◌++◌, length, get_or, take, drop, refl, sym, ◌∙◌, ap, subst, arith, append_assoc, length-append}
 use Rattle.std.specs.Prelude.{All}
+use Rattle.std.proofs.lemmas.Bool.{cases_lt}
 use Rattle.std.proofs.lemmas.List.{append-nil, append_cancel_left, take_at, drop_at, drop-drop}
 use Rattle.std.proofs.lemmas.List.Elements.{All-push, All-head, All-tail}
 use Rattle.byteorder.specs.Endian.{little_bytes, little_number}
@@ -15,6 +16,7 @@ use Rattle.disk_model.specs.declared.machine.FileNo.TheVariants.{Objects, LogA, 
 use Rattle.log_frames.specs.Reading.{placed_from}
 use Rattle.log_frames.specs.declared.payload.Payload.{Payload}
 use Rattle.formats.specs.Image.{IsHeaderFault, magic, epoch, base, commands, short, IsBlockFault, IsLogFault, no_byte, in_header, none_open, one_epoch, in_block}
+use Rattle.formats.specs.FirstFault.{stops, goes_on, one_check, NoMore, HeaderChecks, IsFineLog, IsFirstHeaderFault, no_bytes, opened, IsFirstLogFault, in_log_a, in_log_b, both_shut, same_epoch, at_block}
 
 -- a header is 33 bytes
 pub length-header_bytes : (h : Header) → length (header_bytes h) ≡ 33
@@ -143,15 +145,9 @@ ahead (p ∷ ps) (q ∷ qs) g x y all_p all_q shut same =
     (sym (append_assoc (block p) (blocks ps) (g ∷ x)) ∙ same ∙ append_assoc (block q) (blocks qs) (1 ∷ y)) in
     ahead ps qs g x y (All-tail IsPayload p ps all_p) (All-tail IsPayload q qs all_q) shut both.1
 
--- a whole log has no fault in its blocks
-pub no_block_fault : (h : Header) (ps : List (List ℕ)) (file : List ℕ) (place : ℕ) → IsWholeLog h ps file → IsBlockFault file place → ⊥
-no_block_fault h ps file place is fault =
-    let split = fault.split ∙ append_assoc fault.header (blocks fault.payloads) (1 ∷ fault.rest) in
-    let same : header_bytes h ++ (blocks ps ++ is.log.gate ∷ is.log.rest) ≡ fault.header ++ (blocks fault.payloads ++ 1 ∷ fault.rest) =
-    sym (append_assoc (header_bytes h) (blocks ps) (is.log.gate ∷ is.log.rest)) ∙ sym is.log.split ∙ split in
-    let behind : blocks ps ++ is.log.gate ∷ is.log.rest ≡ blocks fault.payloads ++ 1 ∷ fault.rest =
-    sym (drop_at (header_bytes h) (blocks ps ++ is.log.gate ∷ is.log.rest) 33 (length-header_bytes h)) ∙ ap (λ (l : List ℕ). drop 33 l) same ∙ drop_at fault.header (blocks fault.payloads ++ 1 ∷ fault.rest) 33 fault.long in
-    let next = ahead ps fault.payloads is.log.gate is.log.rest fault.rest is.whole fault.whole is.log.shut behind in
+-- where a block fault is, no whole block stands
+not_ahead : (file : List ℕ) (place : ℕ) (fault : IsBlockFault file place) → Ahead (1 ∷ fault.rest) → ⊥
+not_ahead file place fault next =
     let front : length (fault.header ++ blocks fault.payloads) ≡ end_of fault.payloads = omega (arith, length-append fault.header (blocks fault.payloads), fault.long) in
     let from : drop (end_of fault.payloads) file ≡ 1 ∷ fault.rest = ap (λ (l : List ℕ). drop (end_of fault.payloads) l) fault.split ∙ drop_at (fault.header ++ blocks fault.payloads) (1 ∷ fault.rest) (end_of fault.payloads) front in
     let there : drop place file ≡ drop 1 (block next.payload ++ next.rest) =
@@ -167,6 +163,47 @@ no_block_fault h ps file place is fault =
       length-block next.payload,
     ) in
     fault.broken (omega (arith, number, next.is_payload.some), omega (arith, number, next.is_payload.short)) (omega (arith, number, long, fault.here, next.some))
+
+-- a whole log has no fault in its blocks
+pub no_block_fault : (h : Header) (ps : List (List ℕ)) (file : List ℕ) (place : ℕ) → IsWholeLog h ps file → IsBlockFault file place → ⊥
+no_block_fault h ps file place is fault =
+    let split = fault.split ∙ append_assoc fault.header (blocks fault.payloads) (1 ∷ fault.rest) in
+    let same : header_bytes h ++ (blocks ps ++ is.log.gate ∷ is.log.rest) ≡ fault.header ++ (blocks fault.payloads ++ 1 ∷ fault.rest) =
+    sym (append_assoc (header_bytes h) (blocks ps) (is.log.gate ∷ is.log.rest)) ∙ sym is.log.split ∙ split in
+    let behind : blocks ps ++ is.log.gate ∷ is.log.rest ≡ blocks fault.payloads ++ 1 ∷ fault.rest =
+    sym (drop_at (header_bytes h) (blocks ps ++ is.log.gate ∷ is.log.rest) 33 (length-header_bytes h)) ∙ ap (λ (l : List ℕ). drop 33 l) same ∙ drop_at fault.header (blocks fault.payloads ++ 1 ∷ fault.rest) 33 fault.long in
+    not_ahead file place fault (ahead ps fault.payloads is.log.gate is.log.rest fault.rest is.whole fault.whole is.log.shut behind)
+
+-- the same bytes are of one list of blocks, up to the first open gate behind which no whole block stands
+one_open : (ps qs : List (List ℕ)) (x y : List ℕ) → All IsPayload ps → All IsPayload qs → blocks ps ++ 1 ∷ x ≡ blocks qs ++ 1 ∷ y → (Ahead (1 ∷ x) → ⊥) → (Ahead (1 ∷ y) → ⊥) → ps ≡ qs
+one_open [] [] x y all_p all_q same none_x none_y = refl
+one_open [] (q ∷ qs) x y all_p all_q same none_x none_y = absurd (none_x (record {
+  payload = q;
+  rest = blocks qs ++ 1 ∷ y;
+  is_payload = All-head IsPayload q qs all_q;
+  split = same ∙ append_assoc (block q) (blocks qs) (1 ∷ y);
+  some = omega (arith, length-append (blocks qs) (1 ∷ y));
+}))
+one_open (p ∷ ps) [] x y all_p all_q same none_x none_y = absurd (none_y (record {
+  payload = p;
+  rest = blocks ps ++ 1 ∷ x;
+  is_payload = All-head IsPayload p ps all_p;
+  split = sym same ∙ append_assoc (block p) (blocks ps) (1 ∷ x);
+  some = omega (arith, length-append (blocks ps) (1 ∷ x));
+}))
+one_open (p ∷ ps) (q ∷ qs) x y all_p all_q same none_x none_y =
+    let both = block_cancel p q (blocks ps ++ 1 ∷ x) (blocks qs ++ 1 ∷ y) (All-head IsPayload p ps all_p) (All-head IsPayload q qs all_q)
+    (sym (append_assoc (block p) (blocks ps) (1 ∷ x)) ∙ same ∙ append_assoc (block q) (blocks qs) (1 ∷ y)) in
+    let rest = one_open ps qs x y (All-tail IsPayload p ps all_p) (All-tail IsPayload q qs all_q) both.1 none_x none_y in
+    λ i. both.0 i ∷ rest i
+
+-- the blocks of a file break at one place
+pub one_block_fault : (file : List ℕ) (p q : ℕ) → IsBlockFault file p → IsBlockFault file q → p ≡ q
+one_block_fault file p q a b =
+    let behind : (place : ℕ) (f : IsBlockFault file place) → drop 33 file ≡ blocks f.payloads ++ 1 ∷ f.rest =
+    λ place f. ap (λ (l : List ℕ). drop 33 l) (f.split ∙ append_assoc f.header (blocks f.payloads) (1 ∷ f.rest)) ∙ drop_at f.header (blocks f.payloads ++ 1 ∷ f.rest) 33 f.long in
+    let same = one_open a.payloads b.payloads a.rest b.rest a.whole b.whole (sym (behind p a) ∙ behind q b) (not_ahead file p a) (not_ahead file q b) in
+    a.here ∙ ap (λ (l : List (List ℕ)). end_of l + 1) same ∙ sym b.here
 
 -- a file with a header has no fault in it
 pub no_fault_of_header : (h : Header) (file : List ℕ) (place : ℕ) → HasHeader h file → IsHeaderFault file place → ⊥
@@ -309,3 +346,113 @@ log_stays LogB h ps change old new is log = record {
   in_force = record { a_log = log.in_force.a_log; other = subst (IsPassive h.epoch) (sym (is.others LogA (λ e. cc))) log.in_force.other };
   log = subst (IsWholeLog h ps) (sym (is.others LogB (λ e. cc))) log.log;
 }
+
+-- the first check of an open header that fails is a fault of it
+checks_fault : (file : List ℕ) (place : ℕ) → IsOpenAt 0 file → HeaderChecks file place → IsHeaderFault file place
+checks_fault file place is_open (stops at wrong) = subst (λ (n : ℕ). IsHeaderFault file n) (sym at) (magic is_open wrong)
+checks_fault file place is_open (goes_on _ (stops at wrong)) = subst (λ (n : ℕ). IsHeaderFault file n) (sym at) (epoch is_open wrong)
+checks_fault file place is_open (goes_on _ (goes_on _ (stops at wrong))) = subst (λ (n : ℕ). IsHeaderFault file n) (sym at) (base is_open wrong)
+checks_fault file place is_open (goes_on _ (goes_on _ (goes_on _ (stops at wrong)))) = elim (cases_lt (number_at 8 25 file) (number_at 8 17 file)) [
+  | inl less ↦ absurd (wrong less)
+  | inr more ↦ subst (λ (n : ℕ). IsHeaderFault file n) (sym at) (commands is_open more)
+]
+checks_fault file place is_open (goes_on _ (goes_on _ (goes_on _ (goes_on _ (stops at wrong))))) = elim (cases_lt 33 (length file)) [
+  | inl less ↦ absurd (wrong less)
+  | inr more ↦ subst (λ (n : ℕ). IsHeaderFault file n) (sym at) (short is_open (omega (arith, more)))
+]
+checks_fault file place is_open (goes_on _ (goes_on _ (goes_on _ (goes_on _ (goes_on _ never))))) = absurd never
+
+header_fault_is : (files : Files) (file : FileNo) (place : ℕ) → file ≢ Objects → IsFirstHeaderFault (files file) place → IsLogFault files file place
+header_fault_is files file _ a_log (no_bytes none) = no_byte file a_log none
+header_fault_is files file _ a_log (opened place is_open fault) = in_header file place a_log (checks_fault (files file) place is_open fault)
+
+-- the first check of the logs that fails is a fault of them
+pub first_is_log_fault : (files : Files) (file : FileNo) (place : ℕ) → IsFirstLogFault files file place → IsLogFault files file place
+first_is_log_fault files _ _ (in_log_a place fault) = header_fault_is files LogA place (λ e. cc) fault
+first_is_log_fault files _ _ (in_log_b place fine fault) = header_fault_is files LogB place (λ e. cc) fault
+first_is_log_fault files _ _ (both_shut a b) = none_open a b
+first_is_log_fault files _ _ (same_epoch a b has_a has_b same) = one_epoch a b has_a has_b same
+first_is_log_fault files _ _ (at_block active header place in_force has fault) = in_block active header place in_force has fault
+
+-- files with a log in force, whole, pass all their checks
+pub no_first_log_fault : (active : FileNo) (h : Header) (ps : List (List ℕ)) (files : Files) (file : FileNo) (place : ℕ) → HoldsLog active h ps files → IsFirstLogFault files file place → ⊥
+no_first_log_fault active h ps files file place is fault = no_log_fault active h ps files file place is (first_is_log_fault files file place fault)
+
+-- a log file that has no fault by itself passes its checks
+fine_passes : (file : List ℕ) (place : ℕ) → IsFineLog file → IsFirstHeaderFault file place → ⊥
+fine_passes [] _ (inl shut) fault = shut
+fine_passes (g ∷ rest) _ (inl shut) (no_bytes none) = absurd (omega (arith, ap length none))
+fine_passes (g ∷ rest) _ (inl shut) (opened place is_open fault) = shut is_open
+fine_passes file _ (inr other) (no_bytes none) = not_empty other.0 file other.1 none
+fine_passes file _ (inr other) (opened place is_open fault) = no_fault_of_header other.0 file place other.1 (checks_fault file place is_open fault)
+
+one_header_fault : (file : List ℕ) (p q : ℕ) → IsFirstHeaderFault file p → IsFirstHeaderFault file q → p ≡ q
+one_header_fault file _ _ (no_bytes none) (no_bytes also) = refl
+one_header_fault file _ _ (no_bytes none) (opened q is_open b) = let here = subst (λ (l : List ℕ). IsOpenAt 0 l) none is_open in absurd (omega (arith, here))
+one_header_fault file _ _ (opened p is_open a) (no_bytes none) = let here = subst (λ (l : List ℕ). IsOpenAt 0 l) none is_open in absurd (omega (arith, here))
+one_header_fault file _ _ (opened p is_open a) (opened q also b) =
+    let never : NoMore p → NoMore q → p ≡ q = λ none. absurd none in
+    one_check 1 p q (one_check 9 p q (one_check 17 p q (one_check 25 p q (one_check 33 p q never)))) a b
+
+passive_fine : (n : ℕ) (file : List ℕ) → IsPassive n file → IsFineLog file
+passive_fine n file (inl shut) = inl shut
+passive_fine n file (inr other) = inr (other.0, other.1)
+
+-- beside a log in force with its header, both files have no fault by themselves
+both_fine : (active : FileNo) (h : Header) (files : Files) → IsInForce active h.epoch files → HasHeader h (files active) → IsFineLog (files LogA) × IsFineLog (files LogB)
+both_fine Objects h files in_force has = absurd (in_force.a_log refl)
+both_fine LogA h files in_force has = (inr (h, has), passive_fine h.epoch (files LogB) in_force.other)
+both_fine LogB h files in_force has = (passive_fine h.epoch (files LogA) in_force.other, inr (h, has))
+
+-- two logs in force are one
+pub one_active : (a b : FileNo) (h k : Header) (files : Files) → IsInForce a h.epoch files → HasHeader h (files a) → IsInForce b k.epoch files → HasHeader k (files b) → a ≡ b
+one_active Objects b h k files in_a has_a in_b has_b = absurd (in_a.a_log refl)
+one_active LogA Objects h k files in_a has_a in_b has_b = absurd (in_b.a_log refl)
+one_active LogB Objects h k files in_a has_a in_b has_b = absurd (in_b.a_log refl)
+one_active LogA LogA h k files in_a has_a in_b has_b = refl
+one_active LogB LogB h k files in_a has_a in_b has_b = refl
+one_active LogA LogB h k files in_a has_a in_b has_b = absurd (not_both h k (files LogA) (files LogB) has_a has_b in_a.other in_b.other)
+one_active LogB LogA h k files in_a has_a in_b has_b = absurd (not_both h k (files LogB) (files LogA) has_a has_b in_a.other in_b.other)
+
+-- beside a log in force not both are shut, and no other has its epoch
+not_both_shut : (active : FileNo) (h : Header) (files : Files) → IsInForce active h.epoch files → HasHeader h (files active) → IsShutLog (files LogA) → IsShutLog (files LogB) → ⊥
+not_both_shut Objects h files in_force has a b = in_force.a_log refl
+not_both_shut LogA h files in_force has a b = not_shut h (files LogA) has a
+not_both_shut LogB h files in_force has a b = not_shut h (files LogB) has b
+
+not_same_epoch : (active : FileNo) (h j k : Header) (files : Files) → IsInForce active h.epoch files → HasHeader h (files active) → HasHeader j (files LogA) → HasHeader k (files LogB) → j.epoch ≡ k.epoch → ⊥
+not_same_epoch Objects h j k files in_force has has_j has_k same = in_force.a_log refl
+not_same_epoch LogA h j k files in_force has has_j has_k same =
+    omega (arith, same, smaller h.epoch k (files LogB) in_force.other has_k, ap (λ (x : Header). x.epoch) (same_header h j (files LogA) has has_j))
+not_same_epoch LogB h j k files in_force has has_j has_k same =
+    omega (arith, same, smaller h.epoch j (files LogA) in_force.other has_j, ap (λ (x : Header). x.epoch) (same_header h k (files LogB) has has_k))
+
+-- the first check of the logs that fails is one
+pub one_log_fault : (files : Files) (f g : FileNo) (p q : ℕ) → IsFirstLogFault files f p → IsFirstLogFault files g q → (f ≡ g) × (p ≡ q)
+one_log_fault files _ _ _ _ (in_log_a p a) (in_log_a q b) = (refl, one_header_fault (files LogA) p q a b)
+one_log_fault files _ _ _ _ (in_log_a p a) (in_log_b q also b) = absurd (fine_passes (files LogA) p also a)
+one_log_fault files _ _ _ _ (in_log_a p a) (both_shut u v) = absurd (fine_passes (files LogA) p (inl u) a)
+one_log_fault files _ _ _ _ (in_log_a p a) (same_epoch j l has_j has_l alike) = absurd (fine_passes (files LogA) p (inr (j, has_j)) a)
+one_log_fault files _ _ _ _ (in_log_a p a) (at_block y k q in_y has_y b) = absurd (fine_passes (files LogA) p (both_fine y k files in_y has_y).0 a)
+one_log_fault files _ _ _ _ (in_log_b p fine a) (in_log_a q b) = absurd (fine_passes (files LogA) q fine b)
+one_log_fault files _ _ _ _ (in_log_b p fine a) (in_log_b q also b) = (refl, one_header_fault (files LogB) p q a b)
+one_log_fault files _ _ _ _ (in_log_b p fine a) (both_shut u v) = absurd (fine_passes (files LogB) p (inl v) a)
+one_log_fault files _ _ _ _ (in_log_b p fine a) (same_epoch j l has_j has_l alike) = absurd (fine_passes (files LogB) p (inr (l, has_l)) a)
+one_log_fault files _ _ _ _ (in_log_b p fine a) (at_block y k q in_y has_y b) = absurd (fine_passes (files LogB) p (both_fine y k files in_y has_y).1 a)
+one_log_fault files _ _ _ _ (both_shut s t) (in_log_a q b) = absurd (fine_passes (files LogA) q (inl s) b)
+one_log_fault files _ _ _ _ (both_shut s t) (in_log_b q also b) = absurd (fine_passes (files LogB) q (inl t) b)
+one_log_fault files _ _ _ _ (both_shut s t) (both_shut u v) = (refl, refl)
+one_log_fault files _ _ _ _ (both_shut s t) (same_epoch j l has_j has_l alike) = absurd (not_shut j (files LogA) has_j s)
+one_log_fault files _ _ _ _ (both_shut s t) (at_block y k q in_y has_y b) = absurd (not_both_shut y k files in_y has_y s t)
+one_log_fault files _ _ _ _ (same_epoch h k has_h has_k same) (in_log_a q b) = absurd (fine_passes (files LogA) q (inr (h, has_h)) b)
+one_log_fault files _ _ _ _ (same_epoch h k has_h has_k same) (in_log_b q also b) = absurd (fine_passes (files LogB) q (inr (k, has_k)) b)
+one_log_fault files _ _ _ _ (same_epoch h k has_h has_k same) (both_shut u v) = absurd (not_shut h (files LogA) has_h u)
+one_log_fault files _ _ _ _ (same_epoch h k has_h has_k same) (same_epoch j l has_j has_l alike) = (refl, refl)
+one_log_fault files _ _ _ _ (same_epoch h k has_h has_k same) (at_block y n q in_y has_y b) = absurd (not_same_epoch y n h k files in_y has_y has_h has_k same)
+one_log_fault files _ _ _ _ (at_block x h p in_x has_x a) (in_log_a q b) = absurd (fine_passes (files LogA) q (both_fine x h files in_x has_x).0 b)
+one_log_fault files _ _ _ _ (at_block x h p in_x has_x a) (in_log_b q also b) = absurd (fine_passes (files LogB) q (both_fine x h files in_x has_x).1 b)
+one_log_fault files _ _ _ _ (at_block x h p in_x has_x a) (both_shut u v) = absurd (not_both_shut x h files in_x has_x u v)
+one_log_fault files _ _ _ _ (at_block x h p in_x has_x a) (same_epoch j l has_j has_l alike) = absurd (not_same_epoch x h j l files in_x has_x has_j has_l alike)
+one_log_fault files _ _ _ _ (at_block x h p in_x has_x a) (at_block y k q in_y has_y b) =
+    let same = one_active x y h k files in_x has_x in_y has_y in
+    (same, one_block_fault (files x) p q a (subst (λ (f : FileNo). IsBlockFault (files f) q) (sym same) b))

@@ -7,7 +7,7 @@ ghost use Rattle.disk_model.specs.declared.machine.FileNo.{FileNo};
 ghost use Rattle.formats.specs.InForce.{HoldsLog};
 ghost use Rattle.log_frames.specs.Choosing.{SeenIn, IsChosen};
 ghost use Rattle.formats.specs.Bytes.{IsOpenAt};
-ghost use Rattle.formats.specs.Image.{IsHeaderFault, IsLogFault};
+ghost use Rattle.formats.specs.FirstFault.{NoMore, LogChecks, IsFirstHeaderFault, IsFirstLogFault};
 ghost use Rattle.log_frames.specs.Reading.{FailsBy, TellsDamage, header_of};
 
 use crate::header::Header;
@@ -33,7 +33,7 @@ fn has_magic(head: &[u8; HEADER_BYTES]) -> bool
 fn parse_header(file: FileNo, head: &[u8; HEADER_BYTES]) -> Result<Header, LogErr>
     requires { IsOpenAt 0 head.now }
     ensures ok { IfOk result (λ h. IsHeader (header_of h) × (head.now ≡ header_bytes (header_of h))) }
-    ensures cause { IfErr result (FailsBy ⊥ (λ f place. (f ≡ file) × (place < 33) × IsHeaderFault head.now place)) }
+    ensures cause { IfErr result (FailsBy ⊥ (λ f place. (f ≡ file) × LogChecks head.now NoMore place)) }
 {
     let damaged_at = |place: u64| -> Result<Header, LogErr>
         ensures { result ≡ Err (LogErr.Damaged file place) }
@@ -67,7 +67,7 @@ fn read_header<M: Machine>(machine: &mut M, file: FileNo) -> Result<Option<Seen>
     ensures inside { IfOk result (λ found. IfSome found (λ seen. (33 < seen.size) × IsHeader (header_of seen.header) × (seen.file ≡ file))) }
     ensures seen { (M.disk machine.old).tells_files → IfOk result (SeenIn ((M.disk machine.old).reads file)) }
     ensures cause { IfErr result (FailsBy (Rises (M.disk machine.old).disk_faults (M.disk machine.new).disk_faults)
-        (λ f place. (M.disk machine.old).tells_files → IsLogFault (M.disk machine.old).reads f place)) }
+        (λ f place. (f ≡ file) × ((M.disk machine.old).tells_files → IsFirstHeaderFault ((M.disk machine.old).reads file) place))) }
 {
     let size = machine.size(file)?;
     if size == 0 {
@@ -92,7 +92,7 @@ fn read_header<M: Machine>(machine: &mut M, file: FileNo) -> Result<Option<Seen>
 fn choose(a: Option<Seen>, b: Option<Seen>) -> Result<Seen, LogErr>
     ensures one { IfOk result (λ seen. (a ≡ Some seen) ⊎ (b ≡ Some seen)) }
     ensures chosen { (files : Files) → IfSome a (λ seen. seen.file ≡ LogA) → IfSome b (λ seen. seen.file ≡ LogB) → SeenIn (files LogA) a → SeenIn (files LogB) b → IfOk result (IsChosen files) }
-    ensures cause { IfErr result (FailsBy ⊥ (λ f place. (files : Files) → SeenIn (files LogA) a → SeenIn (files LogB) b → IsLogFault files f place)) }
+    ensures cause { IfErr result (FailsBy ⊥ (λ f place. (files : Files) → SeenIn (files LogA) a → SeenIn (files LogB) b → IsFirstLogFault files f place)) }
 {
     match a {
         None => match b {
@@ -130,7 +130,7 @@ impl LogFile {
         ensures undamaged { (M.disk machine.old).tells_files → (active : FileNo) (header : Fields) (payloads : List (List ℕ))
             → HoldsLog active header payloads (M.disk machine.old).reads → IfErr result (λ e. TellsDamage e → ⊥) }
         ensures cause { IfErr result (FailsBy (Rises (M.disk machine.old).disk_faults (M.disk machine.new).disk_faults)
-            (λ file place. (M.disk machine.old).tells_files → IsLogFault (M.disk machine.old).reads file place)) }
+            (λ file place. (M.disk machine.old).tells_files → IsFirstLogFault (M.disk machine.old).reads file place)) }
     {
         let a = read_header(machine, FileNo::LogA)?;
         let b = read_header(machine, FileNo::LogB)?;

@@ -44,6 +44,13 @@ impl LogFile {
         self.active
     }
 
+    /// How many logs there were, this one counted. At 2^62 there is no other.
+    pub fn epoch(&self) -> u64
+        ensures { result ≡ self.now.header.epoch }
+    {
+        self.header.epoch
+    }
+
     /// The number of the log's first numbered record, or of the next one where it has none.
     pub fn base(&self) -> u64
         ensures { result ≡ self.now.header.base }

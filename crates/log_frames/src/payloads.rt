@@ -1,7 +1,7 @@
 // The forced payloads of a log.
 ghost use Rattle.std.specs.Prelude.{◌≡◌, ◌+◌, ◌<◌, ◌≤◌, ◌^◌, All, length, List, ℕ, IfErr, IfOk};
 ghost use Rattle.disk_model.specs.Disk.{Rises, Stays, read_of};
-ghost use Rattle.formats.specs.Log.{Header, IsWholeLog};
+ghost use Rattle.formats.specs.Log.{Header, IsPayload, IsWholeLog};
 ghost use Rattle.formats.specs.Image.{IsBlockFault};
 ghost use Rattle.log_frames.specs.Reading.{FailsBy, TellsDamage, placed};
 
@@ -44,6 +44,7 @@ fn read_payloads<M: Machine>(
 ) -> Result<Vec<Payload>, LogErr>
     ensures kept { Stays (M.disk machine.old) (M.disk machine.new) }
     ensures fit { IfOk result (λ found. All (λ payload. payload.place + length payload.bytes < 2 ^ 64) found.items) }
+    ensures whole { IfOk result (λ found. All (λ payload. IsPayload payload.bytes) found.items) }
     ensures all { (M.disk machine.old).tells_files → size ≡ length ((M.disk machine.old).reads file) → (header : Header) (payloads : List (List ℕ))
         → IsWholeLog header payloads ((M.disk machine.old).reads file) → IfOk result (λ found. found.items ≡ placed payloads) }
     ensures cause { IfErr result (FailsBy (Rises (M.disk machine.old).disk_faults (M.disk machine.new).disk_faults)
@@ -70,6 +71,7 @@ impl LogFile {
         ensures payloads { (M.disk machine.old).tells_files → (payloads : List (List ℕ)) → IsWholeLog self.now.header payloads ((M.disk machine.old).reads self.now.active)
             → IfOk result (λ found. found.items ≡ placed payloads) }
         ensures fit { IfOk result (λ found. All (λ payload. payload.place + length payload.bytes < 2 ^ 64) found.items) }
+        ensures whole { IfOk result (λ found. All (λ payload. IsPayload payload.bytes) found.items) }
         ensures undamaged { (M.disk machine.old).tells_files → (payloads : List (List ℕ)) → IsWholeLog self.now.header payloads ((M.disk machine.old).reads self.now.active)
             → IfErr result (λ e. TellsDamage e → ⊥) }
         ensures cause { IfErr result (FailsBy (Rises (M.disk machine.old).disk_faults (M.disk machine.new).disk_faults)

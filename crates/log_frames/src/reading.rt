@@ -1,5 +1,5 @@
 // Reads the blocks of a log file.
-ghost use Rattle.std.specs.Prelude.{◌≡◌, ◌<◌, ◌+◌, ◌-◌, ◌^◌, length, IfErr, IfOk, IfSome};
+ghost use Rattle.std.specs.Prelude.{◌≤◌, ◌≡◌, ◌<◌, ◌+◌, ◌-◌, ◌^◌, length, IfErr, IfOk, IfSome};
 ghost use Rattle.disk_model.specs.Disk.{Rises, Stays};
 ghost use Rattle.formats.specs.Image.{IsBlockFault};
 ghost use Rattle.log_frames.specs.Reading.{FailsBy, FoundAt, IsBroken, EndsBlocks};
@@ -20,6 +20,7 @@ pub fn open_block<M: Machine>(
     requires { gate < 2 ^ 64 - 1 }
     ensures kept { Stays (M.disk machine.old) (M.disk machine.new) }
     ensures within { IfOk result (λ found. IfSome found (λ len. gate + 5 + len < size)) }
+    ensures whole { IfOk result (λ found. IfSome found (λ len. (0 < len) × (len ≤ 2 ^ 30))) }
     ensures found { (M.disk machine.old).tells_files → size ≡ length ((M.disk machine.old).reads file) → IfOk result (FoundAt gate ((M.disk machine.old).reads file)) }
     ensures cause { IfErr result (FailsBy (Rises (M.disk machine.old).disk_faults (M.disk machine.new).disk_faults)
         (λ f place. (f ≡ file) × (place ≡ gate + 1) × ((M.disk machine.old).tells_files → size ≡ length ((M.disk machine.old).reads file) → IsBroken gate ((M.disk machine.old).reads file)))) }

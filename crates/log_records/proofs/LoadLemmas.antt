@@ -1,28 +1,29 @@
 -- What a loaded log holds, and why a load fails.
-use Rattle.std.proofs.Common.{◌≡◌, ℕ, ◌+◌, ◌-◌, ◌^◌, ◌<◌, List, [], ◌∷◌, ◌++◌, length, map, min, refl, sym, ap, ◌∙◌, subst, arith, append_assoc, length-append, Result, Ok, Err}
-use Rattle.std.specs.Prelude.{All, IfErr, IfOk, nat_le}
+use Rattle.std.proofs.Common.{◌≡◌, ℕ, ◌+◌, ◌-◌, ◌^◌, ◌<◌, ◌≤◌, List, [], ◌∷◌, ◌++◌, length, map, min, refl, sym, ap, ◌∙◌, subst, arith, append_assoc, length-append, Result, Ok, Err}
+use Rattle.std.specs.Prelude.{All, IfErr, IfOk}
 use Rattle.std.proofs.lemmas.List.{append-nil, map-append}
-use Rattle.std.proofs.lemmas.List.Elements.{All-cons, All-nil, All-filter}
+use Rattle.std.proofs.lemmas.List.Elements.{All-cons, All-nil, All-head, All-tail, All-append, All-filter}
 use Rattle.disk_model.specs.Disk.{Files, Disk, Stays, Rises}
 use Rattle.disk_model.specs.Moments.{stays_settled}
 use Rattle.disk_model.specs.declared.machine.FileNo.{FileNo}
 use Rattle.formats.specs.InForce.{IsInForce, HoldsLog}
-use Rattle.oper_core.specs.Meaning.{Meaning, IsLawful}
+use Rattle.oper_core.specs.Meaning.{Meaning}
 use Rattle.oper_core.specs.declared.bounds.Bounds.{Bounds}
-use Rattle.formats.specs.Log.{Header, block, blocks, end_of, IsWholeLog}
-use Rattle.formats.specs.Records.{payload_of, records_of, commands_of, IsRecord, AreRecords, IsRecordLog, HoldsRecordLog}
+use Rattle.formats.specs.Log.{Header, block, blocks, end_of, IsPayload, IsWholeLog}
+use Rattle.formats.specs.Records.{record_code, payload_of, records_of, commands_of, next_behind, next_after, IsRecord, AreRecords, IsRecordLog, HoldsRecordLog}
 use Rattle.formats.specs.Image.{IsRecordFault}
 use Rattle.formats.specs.declared.record.Record.{Record}
-use Rattle.formats.specs.declared.record.Record.TheVariants.{Command}
-use Rattle.log_frames.specs.Laws.{length-block, no_log_fault, one_place}
+use Rattle.log_frames.specs.Laws.{length-block, no_first_log_fault, one_place}
 use Rattle.log_frames.specs.Reading.{placed, placed_from}
 use Rattle.log_frames.specs.declared.log_err.LogErr.{LogErr}
 use Rattle.log_frames.specs.declared.payload.Payload.{Payload}
-use Rattle.log_records.specs.RecordLog.{RecordLogView, Keeps, IsLoaded, number_of, from_number}
-use Rattle.log_records.specs.Loading.{bytes_of, AreGroups, IsBrokenIn, IsLoadFault, in_blocks, in_record}
-use Rattle.log_records.specs.RecordLaws.{AreRecords-behind, numbered_append}
+use Rattle.log_records.specs.RecordLog.{RecordLogView, Keeps, IsLoaded, is_from, from_number}
+use Rattle.log_records.specs.Codec.{AreShort}
+use Rattle.log_frames.specs.Rewriting.{bytes_of}
+use Rattle.log_records.specs.Loading.{AreGroups, IsBrokenIn, IsLoadFault, in_blocks, in_record}
+use Rattle.log_records.specs.CodecLaws.{HasCodes}
+use Rattle.log_records.specs.RecordLaws.{AreRecords-behind, placed-append, numbers_end, next_rises}
 use Rattle.log_records.specs.Uniqueness.{log_of, one_grouping, no_record_fault}
-use Rattle.log_records.proofs.LoadingLemmas.{numbers_end}
 
 pub bytes_placed : (gate : ℕ) (ps : List (List ℕ)) → bytes_of (placed_from gate ps) ≡ ps
 bytes_placed gate [] = refl
@@ -69,52 +70,78 @@ module _ {O : Type 0} (m : Meaning O) where
         wrong = is.break.wrong;
         later = bytes_of is.later;
         log = subst (λ (l : List (List ℕ)). IsWholeLog header l file) bytes whole;
-        numbered = numbered_append m header.base (records_of is.groups) is.break.before is.numbered is.break.numbered;
+        placed = placed-append m header.base header.base (records_of is.groups) is.break.before is.placed is.break.placed;
         some = is.break.some;
         here = omega (arith, is.here, place_placed 33 ps is.before is.broken is.later is.split, is.break.here, ap (λ (l : List (List ℕ)). length (blocks l)) is.bytes_are);
         no_record = λ other rest split are. is.break.no_record other rest split
-            (AreRecords-behind m header.base (records_of is.groups) (is.break.before ++ other ∷ [])
-            (subst (λ (l : List (Record O)). AreRecords m header.base l) (append_assoc (records_of is.groups) is.break.before (other ∷ [])) are));
+            (AreRecords-behind m header.base header.base (records_of is.groups) (is.break.before ++ other ∷ [])
+            (subst (λ (l : List (Record O)). AreRecords m header.base header.base l) (append_assoc (records_of is.groups) is.break.before (other ∷ [])) are));
       }
 
   -- a whole log of records has no fault
-  pub no_load_fault : IsLawful m → (active : FileNo) (header : Header) (groups : List (List (Record O))) (files : Files) (file : FileNo) (place : ℕ) → HoldsRecordLog m active header groups files
+  pub no_load_fault : HasCodes m → (active : FileNo) (header : Header) (groups : List (List (Record O))) (files : Files) (file : FileNo) (place : ℕ) → HoldsRecordLog m active header groups files
       → IsLoadFault m files file place → ⊥
-  no_load_fault lawful active header groups files f p is (in_blocks file place fault) = no_log_fault active header (map (payload_of m) groups) files file place (log_of m is) fault
-  no_load_fault lawful active header groups files f p is (in_record other k place beside has fault) =
+  no_load_fault codes active header groups files f p is (in_blocks file place fault) = no_first_log_fault active header (map (payload_of m) groups) files file place (log_of m is) fault
+  no_load_fault codes active header groups files f p is (in_record other k place beside has fault) =
       let same = one_place active other header k (map (payload_of m) groups) files (log_of m is) beside has in
-      no_record_fault m lawful header groups (files active) place is.log (subst (λ (x : FileNo). IsRecordFault m (files x) place) same fault)
+      no_record_fault m codes header groups (files active) place is.log (subst (λ (x : FileNo). IsRecordFault m (files x) place) same fault)
 
-  commands_length : (records : List (Record O)) → length (commands_of records) ≡ length records
-  commands_length [] = refl
-  commands_length (Command number op ∷ records) = let rest = commands_length records in omega (arith, rest)
-
-  -- numbered records are in the grammar
-  all_in_grammar : (next : ℕ) (records : List (Record O)) → AreRecords m next records → All (IsRecord m) records
-  all_in_grammar next [] are = All-nil (IsRecord m)
-  all_in_grammar next (r ∷ records) are = All-cons (IsRecord m) r records are.0 (all_in_grammar (next + 1) records are.2)
+  -- records in their places are in the grammar
+  all_in_grammar : (base next : ℕ) (records : List (Record O)) → AreRecords m base next records → All (IsRecord m) records
+  all_in_grammar base next [] are = All-nil (IsRecord m)
+  all_in_grammar base next (r ∷ records) are = All-cons (IsRecord m) r records are.0 (all_in_grammar base (next_behind next r) records are.2)
 
   -- and so are those that were read
   pub found_in_grammar : (base : ℕ) (payloads : List Payload) (found : List (Record O)) → AreGroups m base payloads found → All (IsRecord m) found
-  found_in_grammar base payloads found so = subst (λ (l : List (Record O)). All (IsRecord m) l) (sym so.records_are) (all_in_grammar base (records_of so.groups) so.numbered)
+  found_in_grammar base payloads found so = subst (λ (l : List (Record O)). All (IsRecord m) l) (sym so.records_are) (all_in_grammar base base (records_of so.groups) so.placed)
+
+  -- they are in their places
+  pub found_placed : (base : ℕ) (payloads : List Payload) (found : List (Record O)) → AreGroups m base payloads found → AreRecords m base base found
+  found_placed base payloads found so = subst (λ (l : List (Record O)). AreRecords m base base l) (sym so.records_are) so.placed
+
+  -- the numbers end with those that a store may give
+  pub found_last : (base next : ℕ) (payloads : List Payload) (found : List (Record O)) → AreGroups m base payloads found → next ≡ next_after base found → base ≤ 2 ^ 62 → next ≤ 2 ^ 62
+  found_last base next payloads found so next_is low = omega (arith, next_is, numbers_end m base base found low (found_placed base payloads found so))
+
+  -- each record of a payload goes into one
+  codes_within : (records : List (Record O)) → length (payload_of m records) ≤ 2 ^ 30 → AreShort m records
+  codes_within [] short = All-nil (λ r. length (record_code m r) ≤ 2 ^ 30)
+  codes_within (r ∷ records) short =
+      let both = length-append (record_code m r) (payload_of m records) in
+      All-cons (λ r. length (record_code m r) ≤ 2 ^ 30) r records (omega (arith, short, both)) (codes_within records (omega (arith, short, both)))
+
+  groups_within : (groups : List (List (Record O))) (payloads : List Payload) → bytes_of payloads ≡ map (payload_of m) groups → All (λ p. IsPayload p.bytes) payloads → AreShort m (records_of groups)
+  groups_within [] payloads same whole = All-nil (λ r. length (record_code m r) ≤ 2 ^ 30)
+  groups_within (g ∷ groups) [] same whole = cc
+  groups_within (g ∷ groups) (p ∷ payloads) same whole =
+      let here : p.bytes ≡ payload_of m g = cc in
+      let later : bytes_of payloads ≡ map (payload_of m) groups = cc in
+      let first = All-head (λ p. IsPayload p.bytes) p payloads whole in
+      All-append (λ r. length (record_code m r) ≤ 2 ^ 30) g (records_of groups) (codes_within g (omega (arith, first.short, ap length here)))
+      (groups_within groups payloads later (All-tail (λ p. IsPayload p.bytes) p payloads whole))
+
+  -- and so does each that was read
+  pub found_short : (base : ℕ) (payloads : List Payload) (found : List (Record O)) → AreGroups m base payloads found → All (λ p. IsPayload p.bytes) payloads → AreShort m found
+  found_short base payloads found so whole = subst (λ (l : List (Record O)). AreShort m l) (sym so.records_are) (groups_within so.groups payloads so.bytes_are whole)
 
   -- the groups that were read make the file a log of records
   pub groups_log : (header : Header) (ps : List (List ℕ)) (file : List ℕ) (found : List (Record O)) → IsWholeLog header ps file → (so : AreGroups m header.base (placed ps) found) → IsRecordLog m header so.groups file
-  groups_log header ps file found whole so = record { log = subst (λ (l : List (List ℕ)). IsWholeLog header l file) (sym (bytes_placed 33 ps) ∙ so.bytes_are) whole; numbered = so.numbered }
+  groups_log header ps file found whole so = record { log = subst (λ (l : List (List ℕ)). IsWholeLog header l file) (sym (bytes_placed 33 ps) ∙ so.bytes_are) whole; placed = so.placed }
 
   pub is_loaded : (b : Bounds) (old new : Disk) (log : RecordLogView) (ps : List (List ℕ)) (found : List (Record O)) (count : ℕ) → old.tells_files → Stays old new
       → HoldsLog log.log.active log.log.header ps old.reads → log.log.end ≡ end_of ps → log.log.pending ≡ [] → log.bounds ≡ b
-      → AreGroups m log.log.header.base (placed ps) found → count ≡ length found → log.next ≡ min (log.log.header.base + count) (2 ^ 64 - 1)
+      → AreGroups m log.log.header.base (placed ps) found → log.next ≡ next_after log.log.header.base found → count ≡ length (commands_of found)
       → log.accepted ≡ min (log.log.header.commands + count) (2 ^ 64 - 1) → log.forced ≡ log.accepted → IsLoaded m b old new log
-  is_loaded b old new log ps found count told kept holds end none bounds so count_is next accepted forced =
+  is_loaded b old new log ps found count told kept holds end none bounds so next count_is accepted forced =
       let whole = holds.log in
+      let base = log.log.header.base in
+      let records = records_of so.groups in
       let file = groups_log log.log.header ps (old.reads log.log.active) found whole so in
-      let small : log.log.header.base < 2 ^ 64 = omega (arith, whole.in_range.base_high) in
-      let fits = numbers_end m log.log.header.base (records_of so.groups) small so.numbered in
-      let many : count ≡ length (records_of so.groups) = count_is ∙ ap length so.records_are in
-      let commands = commands_length (records_of so.groups) in
-      let all : records_of so.groups ++ [] ≡ records_of so.groups = append-nil (records_of so.groups) in
-      let accepted_is : log.accepted ≡ log.log.header.commands + length (records_of so.groups) = omega (arith, accepted, many, fits, whole.in_range.commands) in
+      let fits = numbers_end m base base records (omega (arith, whole.in_range.base_high)) so.placed in
+      let many : count ≡ length (commands_of records) = count_is ∙ ap (λ (l : List (Record O)). length (commands_of l)) so.records_are in
+      let rises = next_rises m base records in
+      let all : records ++ [] ≡ records = append-nil records in
+      let accepted_is : log.accepted ≡ log.log.header.commands + length (commands_of records) = omega (arith, accepted, many, fits, rises, whole.in_range.commands) in
       record {
         groups = so.groups;
         file = record { in_force = holds.in_force; log = file };
@@ -127,22 +154,28 @@ module _ {O : Type 0} (m : Meaning O) where
           stable_are = refl;
           place = end ∙ ap end_of (sym (bytes_placed 33 ps) ∙ so.bytes_are);
           pending_are = none;
-          numbered = subst (λ (l : List (Record O)). AreRecords m log.log.header.base l) (sym all) so.numbered;
-          next_is = omega (arith, next, many, fits, ap length all);
-          accepted_are = omega (arith, accepted_is, commands, ap (λ (l : List (Record O)). length (commands_of l)) all);
-          forced_are = omega (arith, forced, accepted_is, commands);
+          placed = subst (λ (l : List (Record O)). AreRecords m base base l) (sym all) so.placed;
+          next_is = next ∙ ap (λ (l : List (Record O)). next_after base l) (so.records_are ∙ sym all);
+          accepted_are = accepted_is ∙ ap (λ (l : List (Record O)). log.log.header.commands + length (commands_of l)) (sym all);
+          forced_are = forced ∙ accepted_is;
         };
       }
 
+  -- fewer commands were accepted than there are numbers before the next
+  pub few_accepted : (base commands next count : ℕ) (payloads : List Payload) (found : List (Record O)) → AreGroups m base payloads found → commands < base → next ≡ next_after base found
+      → count ≡ length (commands_of found) → min (commands + count) (2 ^ 64 - 1) < next
+  few_accepted base commands next count payloads found so less next_is count_is =
+      let rises = next_rises m base found in omega (arith, less, next_is, count_is, rises)
+
   -- the groups that were read are those that the log keeps
-  pub found_stable : IsLawful m → (d : Disk) (log : RecordLogView) (stable pending found : List (Record O)) (keeps : Keeps m d log stable pending)
+  pub found_stable : HasCodes m → (d : Disk) (log : RecordLogView) (stable pending found : List (Record O)) (keeps : Keeps m d log stable pending)
       → AreGroups m log.log.header.base (placed (map (payload_of m) keeps.groups)) found → found ≡ stable
-  found_stable lawful d log stable pending found keeps so =
+  found_stable codes d log stable pending found keeps so =
       so.records_are
-      ∙ one_grouping m lawful log.log.header.base log.log.header.base so.groups keeps.groups so.numbered keeps.file.numbered
+      ∙ one_grouping m codes log.log.header.base log.log.header.base log.log.header.base log.log.header.base so.groups keeps.groups so.placed keeps.file.placed
       (sym so.bytes_are ∙ bytes_placed 33 (map (payload_of m) keeps.groups))
       ∙ keeps.stable_are
 
   -- the records from a number on are of the grammar, as all are
   pub from_in_grammar : (from : ℕ) (found kept : List (Record O)) → kept ≡ from_number from found → All (IsRecord m) found → All (IsRecord m) kept
-  from_in_grammar from found kept is all = subst (λ (l : List (Record O)). All (IsRecord m) l) (sym is) (All-filter (λ r. nat_le from (number_of r)) (IsRecord m) found all)
+  from_in_grammar from found kept is all = subst (λ (l : List (Record O)). All (IsRecord m) l) (sym is) (All-filter (is_from from) (IsRecord m) found all)

@@ -1,10 +1,10 @@
 -- Bytes that begin with a record.
-use Rattle.std.specs.Prelude.{◌≡◌, IsTrue, List, ℕ, ◌++◌}
+use Rattle.std.specs.Prelude.{◌≡◌, ◌<◌, ◌≤◌, ◌^◌, All, IsTrue, List, ℕ, ◌++◌, length}
 use Rattle.oper_core.specs.Meaning.{Meaning}
 use Rattle.oper_core.specs.declared.bounds.Bounds.{Bounds}
 use Rattle.formats.specs.Records.{IsRecord, record_code}
 use Rattle.formats.specs.declared.record.Record.{Record}
-use Rattle.formats.specs.declared.record.Record.TheVariants.{Command}
+use Rattle.formats.specs.declared.record.Record.TheVariants.{Command, Identity, Check}
 
 -- the bytes begin with its code, and it is in the grammar
 pub record StartsWithRecord {O : Type 0} (m : Meaning O) (bytes : List ℕ) (it : Record O) : Type 0 where
@@ -12,6 +12,12 @@ pub record StartsWithRecord {O : Type 0} (m : Meaning O) (bytes : List ℕ) (it 
   pub split : bytes ≡ record_code m it ++ rest
   pub in_grammar : IsRecord m it
 
--- its operation has a code, whatever the bounds: each list of bytes in it has a length of four bytes
+-- it has a code, whatever the bounds: each list in it has a length of four bytes
 abbrev pub IsEncodable : {O : Type 0} → (Bounds → Meaning O) → Record O → Type 0
 IsEncodable meaning (Command number op) = (b : Bounds) × IsTrue ((meaning b).is_encodable op)
+IsEncodable meaning (Identity number x value) = length value < 2 ^ 32
+IsEncodable meaning (Check table) = length table.starts < 2 ^ 32
+
+-- each record's code goes into a block
+abbrev pub AreShort : {O : Type 0} → Meaning O → List (Record O) → Type 0
+AreShort m records = All (λ r. length (record_code m r) ≤ 2 ^ 30) records

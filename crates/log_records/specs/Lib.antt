@@ -2,5 +2,8 @@ pub mod Codec
 pub mod CodecLaws
 pub mod RecordLog
 pub mod RecordLaws
+pub mod Rewriting
+pub mod Packing
+pub mod RewriteLaws
 pub mod Loading
 pub mod Uniqueness

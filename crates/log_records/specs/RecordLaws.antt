@@ -1,5 +1,5 @@
 -- How a log of records goes on.
-use Rattle.std.proofs.Common.{◌≡◌, ⊎_elim, inl, inr, ℕ, ◌+◌, List, [], ◌∷◌, ◌++◌, length, map, refl, sym, ap, ◌∙◌, subst, arith, length-append, append_assoc}
+use Rattle.std.proofs.Common.{◌≡◌, ⊎_elim, inl, inr, ℕ, ◌+◌, ◌≤◌, ◌^◌, List, [], ◌∷◌, ◌++◌, length, map, refl, sym, ap, ◌∙◌, subst, arith, length-append, append_assoc}
 use Rattle.std.proofs.lemmas.List.{append-nil}
 use Rattle.std.proofs.lemmas.List.Concat.{flat_map-append}
 use Rattle.disk_model.specs.Disk.{Files, Disk, Runs, In, Any, Same, LeavesOnly}
@@ -8,12 +8,12 @@ use Rattle.disk_model.specs.declared.machine.FileNo.{FileNo}
 use Rattle.oper_core.specs.Meaning.{Meaning}
 use Rattle.formats.specs.InForce.{IsInForce}
 use Rattle.formats.specs.Log.{Header, end_of, IsWholeLog}
-use Rattle.formats.specs.Records.{record_code, payload_of, records_of, commands_of, IsRecord, HasNumber, AreRecords, IsRecordLog}
+use Rattle.formats.specs.Records.{record_code, payload_of, records_of, commands_of, next_behind, next_after, IsRecord, IsPlaced, AreRecords, IsRecordLog}
 use Rattle.formats.specs.declared.record.Record.{Record}
-use Rattle.formats.specs.declared.record.Record.TheVariants.{Command}
+use Rattle.formats.specs.declared.record.Record.TheVariants.{Command, Identity, Check}
 use Rattle.log_frames.specs.Forcing.{with_block, IsAtRest, IsBeforeOrAfter}
 use Rattle.log_frames.specs.Laws.{in_force_stays}
-use Rattle.log_records.specs.RecordLog.{RecordLogView, HoldsRecords, Keeps, IsForcedPartly}
+use Rattle.log_records.specs.RecordLog.{RecordLogView, HoldsRecords, Keeps, IsForcedPartly, counts}
 
 -- the groups with one more for a force: none for no records
 pub with_group : {O : Type 0} → List (List (Record O)) → List (Record O) → List (List (Record O))
@@ -31,6 +31,8 @@ module _ {O : Type 0} (m : Meaning O) where
   unfolding with_group
   payloads-with_group groups [] = refl
   payloads-with_group groups (Command number op ∷ records) = sym (map_push groups (Command number op ∷ records))
+  payloads-with_group groups (Identity number x value ∷ records) = sym (map_push groups (Identity number x value ∷ records))
+  payloads-with_group groups (Check table ∷ records) = sym (map_push groups (Check table ∷ records))
 
   pub records-with_group : (groups : List (List (Record O))) (records : List (Record O)) → records_of (with_group groups records) ≡ records_of groups ++ records
   unfolding with_group
@@ -38,33 +40,56 @@ module _ {O : Type 0} (m : Meaning O) where
   records-with_group groups (r ∷ records) =
       flat_map-append (λ (g : List (Record O)). g) groups ((r ∷ records) ∷ []) ∙ ap (λ (l : List (Record O)). records_of groups ++ l) (append-nil (r ∷ records))
 
-  -- the first of numbered records are numbered
-  pub AreRecords-front : (next : ℕ) (xs ys : List (Record O)) → AreRecords m next (xs ++ ys) → AreRecords m next xs
-  AreRecords-front next [] ys all = tt
-  AreRecords-front next (x ∷ xs) ys all = (all.0, all.1, AreRecords-front (next + 1) xs ys all.2)
+  -- the next number behind some records and then others
+  pub next-append : (next : ℕ) (xs ys : List (Record O)) → next_after next (xs ++ ys) ≡ next_after (next_after next xs) ys
+  next-append next [] ys = refl
+  next-append next (x ∷ xs) ys = next-append (next_behind next x) xs ys
+
+  -- the first of records in their places are in their places
+  pub AreRecords-front : (base next : ℕ) (xs ys : List (Record O)) → AreRecords m base next (xs ++ ys) → AreRecords m base next xs
+  AreRecords-front base next [] ys all = tt
+  AreRecords-front base next (x ∷ xs) ys all = (all.0, all.1, AreRecords-front base (next_behind next x) xs ys all.2)
 
   -- and so are the last
-  pub AreRecords-behind : (next : ℕ) (xs ys : List (Record O)) → AreRecords m next (xs ++ ys) → AreRecords m (next + length xs) ys
-  AreRecords-behind next [] ys all = subst (λ (n : ℕ). AreRecords m n ys) (omega arith) all
-  AreRecords-behind next (x ∷ xs) ys all = subst (λ (n : ℕ). AreRecords m n ys) (omega arith) (AreRecords-behind (next + 1) xs ys all.2)
+  pub AreRecords-behind : (base next : ℕ) (xs ys : List (Record O)) → AreRecords m base next (xs ++ ys) → AreRecords m base (next_after next xs) ys
+  AreRecords-behind base next [] ys all = all
+  AreRecords-behind base next (x ∷ xs) ys all = AreRecords-behind base (next_behind next x) xs ys all.2
 
   -- records behind others go on with the numbers
-  pub numbered_append : (base : ℕ) (xs ys : List (Record O)) → AreRecords m base xs → AreRecords m (base + length xs) ys → AreRecords m base (xs ++ ys)
-  numbered_append base [] ys all more = subst (λ (n : ℕ). AreRecords m n ys) (omega arith) more
-  numbered_append base (x ∷ xs) ys all more = (all.0, all.1, numbered_append (base + 1) xs ys all.2 (subst (λ (n : ℕ). AreRecords m n ys) (omega arith) more))
+  pub placed-append : (base next : ℕ) (xs ys : List (Record O)) → AreRecords m base next xs → AreRecords m base (next_after next xs) ys → AreRecords m base next (xs ++ ys)
+  placed-append base next [] ys all more = more
+  placed-append base next (x ∷ xs) ys all more = (all.0, all.1, placed-append base (next_behind next x) xs ys all.2 more)
 
-  -- one record more, with the next number
-  pub AreRecords-push : (next : ℕ) (xs : List (Record O)) (new : Record O) → AreRecords m next xs → IsRecord m new → HasNumber (next + length xs) new → AreRecords m next (xs ++ new ∷ [])
-  AreRecords-push next [] new all grammar number = (grammar, subst (λ (n : ℕ). HasNumber n new) (omega arith) number, tt)
-  AreRecords-push next (x ∷ xs) new all grammar number =
-      (all.0, all.1, AreRecords-push (next + 1) xs new all.2 grammar (subst (λ (n : ℕ). HasNumber n new) (omega arith) number))
+  -- one record more, in its place
+  pub AreRecords-push : (base next : ℕ) (xs : List (Record O)) (new : Record O) → AreRecords m base next xs → IsRecord m new → IsPlaced m base (next_after next xs) new → AreRecords m base next (xs ++ new ∷ [])
+  AreRecords-push base next xs new all grammar place = placed-append base next xs (new ∷ []) all (grammar, place, tt)
 
   pub payload_push : (records : List (Record O)) (new : Record O) → payload_of m (records ++ new ∷ []) ≡ payload_of m records ++ record_code m new
   payload_push records new = flat_map-append (record_code m) records (new ∷ []) ∙ ap (λ (l : List ℕ). payload_of m records ++ l) (append-nil (record_code m new))
 
-  commands_push : (records : List (Record O)) (new : Record O) → length (commands_of (records ++ new ∷ [])) ≡ length (commands_of records) + 1
-  commands_push [] (Command number op) = refl
-  commands_push (Command n o ∷ records) new = let so_far = commands_push records new in omega (arith, so_far)
+  -- the commands of some records and then of others
+  pub commands-append : (xs ys : List (Record O)) → commands_of (xs ++ ys) ≡ commands_of xs ++ commands_of ys
+  commands-append [] ys = refl
+  commands-append (Command number op ∷ xs) ys = ap (λ (l : List O). op ∷ l) (commands-append xs ys)
+  commands-append (Identity number x value ∷ xs) ys = commands-append xs ys
+  commands-append (Check table ∷ xs) ys = commands-append xs ys
+
+  pub count-append : (xs ys : List (Record O)) → length (commands_of (xs ++ ys)) ≡ length (commands_of xs) + length (commands_of ys)
+  count-append xs ys = ap (λ (l : List O). length l) (commands-append xs ys) ∙ length-append (commands_of xs) (commands_of ys)
+
+  -- the next number never falls
+  pub next_rises : (next : ℕ) (records : List (Record O)) → next + length (commands_of records) ≤ next_after next records
+  next_rises next [] = omega arith
+  next_rises next (Command number op ∷ records) = let rest = next_rises (next + 1) records in omega (arith, rest)
+  next_rises next (Identity number x value ∷ records) = let rest = next_rises (next + 1) records in omega (arith, rest)
+  next_rises next (Check table ∷ records) = next_rises next records
+
+  -- the numbers of records end at 2^62
+  pub numbers_end : (base next : ℕ) (records : List (Record O)) → next ≤ 2 ^ 62 → AreRecords m base next records → next_after next records ≤ 2 ^ 62
+  numbers_end base next [] small all = small
+  numbers_end base next (Command number op ∷ records) small all = let place = all.1 in numbers_end base (next + 1) records (omega (arith, place.0, place.1)) all.2
+  numbers_end base next (Identity number x value ∷ records) small all = let place = all.1 in numbers_end base (next + 1) records (omega (arith, place.0, place.1)) all.2
+  numbers_end base next (Check table ∷ records) small all = numbers_end base next records small all.2
 
   -- a file of these payloads holds the stable records
   pub holds_stable : (d : Disk) (log : RecordLogView) (stable pending : List (Record O)) (k : Keeps m d log stable pending) (file : List ℕ)
@@ -73,7 +98,7 @@ module _ {O : Type 0} (m : Meaning O) where
     groups = k.groups;
     log = record {
       log = whole;
-      numbered = subst (λ (l : List (Record O)). AreRecords m log.log.header.base l) (sym k.stable_are) (AreRecords-front log.log.header.base stable pending k.numbered);
+      placed = subst (λ (l : List (Record O)). AreRecords m log.log.header.base log.log.header.base l) (sym k.stable_are) (AreRecords-front log.log.header.base log.log.header.base stable pending k.placed);
     };
     records_are = k.stable_are;
   }
@@ -89,7 +114,7 @@ module _ {O : Type 0} (m : Meaning O) where
         groups = with_group k.groups pending;
         log = record {
           log = subst (λ (ps : List (List ℕ)). IsWholeLog log.log.header ps file) payloads whole;
-          numbered = subst (λ (l : List (Record O)). AreRecords m log.log.header.base l) (sym all) k.numbered;
+          placed = subst (λ (l : List (Record O)). AreRecords m log.log.header.base log.log.header.base l) (sym all) k.placed;
         };
         records_are = all;
       }
@@ -128,9 +153,9 @@ module _ {O : Type 0} (m : Meaning O) where
         stable_are = held.records_are;
         place = rest.place ∙ ap end_of payloads;
         pending_are = none;
-        numbered = subst (λ (h : Header). AreRecords m h.base ((stable ++ pending) ++ [])) (sym header)
-            (subst (λ (l : List (Record O)). AreRecords m log.log.header.base l) (sym all) k.numbered);
-        next_is = next ∙ k.next_is ∙ ap (λ (h : Header). h.base + length (stable ++ pending)) (sym header) ∙ ap (λ (l : List (Record O)). after.log.header.base + length l) (sym all);
+        placed = subst (λ (h : Header). AreRecords m h.base h.base ((stable ++ pending) ++ [])) (sym header)
+            (subst (λ (l : List (Record O)). AreRecords m log.log.header.base log.log.header.base l) (sym all) k.placed);
+        next_is = next ∙ k.next_is ∙ ap (λ (h : Header). next_after h.base (stable ++ pending)) (sym header) ∙ ap (λ (l : List (Record O)). next_after after.log.header.base l) (sym all);
         accepted_are = accepted ∙ k.accepted_are ∙ ap (λ (h : Header). h.commands + length (commands_of (stable ++ pending))) (sym header)
             ∙ ap (λ (l : List (Record O)). after.log.header.commands + length (commands_of l)) (sym all);
         forced_are = forced ∙ k.accepted_are ∙ ap (λ (h : Header). h.commands + length (commands_of (stable ++ pending))) (sym header);
@@ -161,10 +186,11 @@ module _ {O : Type 0} (m : Meaning O) where
 
   -- an append adds the record behind those that wait
   pub keeps_append : (d : Disk) (log after : RecordLogView) (stable pending : List (Record O)) (new : Record O) → Keeps m d log stable pending
-      → IsRecord m new → HasNumber log.next new → after.log.active ≡ log.log.active → after.log.header ≡ log.log.header → after.log.end ≡ log.log.end
-      → after.log.pending ≡ log.log.pending ++ record_code m new → after.next ≡ log.next + 1 → after.accepted ≡ log.accepted + 1 → after.forced ≡ log.forced
+      → IsRecord m new → IsPlaced m log.log.header.base log.next new → after.log.active ≡ log.log.active → after.log.header ≡ log.log.header → after.log.end ≡ log.log.end
+      → after.log.pending ≡ log.log.pending ++ record_code m new → after.next ≡ next_behind log.next new → after.accepted ≡ log.accepted + counts new → after.forced ≡ log.forced
       → Keeps m d after stable (pending ++ new ∷ [])
-  keeps_append d log after stable pending new k grammar number active header place waits next accepted forced =
+  keeps_append d log after stable pending new k grammar place active header end waits next accepted forced =
+      let base = log.log.header.base in
       let all : (stable ++ pending) ++ new ∷ [] ≡ stable ++ (pending ++ new ∷ []) = append_assoc stable pending (new ∷ []) in
       record {
         settled = k.settled;
@@ -172,13 +198,15 @@ module _ {O : Type 0} (m : Meaning O) where
         groups = k.groups;
         file = subst (λ (h : Header). IsRecordLog m h k.groups (d.reads after.log.active)) (sym header) (subst (λ (f : FileNo). IsRecordLog m log.log.header k.groups (d.reads f)) (sym active) k.file);
         stable_are = k.stable_are;
-        place = place ∙ k.place;
+        place = end ∙ k.place;
         pending_are = waits ∙ ap (λ (p : List ℕ). p ++ record_code m new) k.pending_are ∙ sym (payload_push pending new);
-        numbered = subst (λ (h : Header). AreRecords m h.base (stable ++ (pending ++ new ∷ []))) (sym header)
-            (subst (λ (l : List (Record O)). AreRecords m log.log.header.base l) all
-            (AreRecords-push log.log.header.base (stable ++ pending) new k.numbered grammar (subst (λ (n : ℕ). HasNumber n new) k.next_is number)));
-        next_is = next ∙ ap (λ (n : ℕ). n + 1) k.next_is ∙ omega (arith, length-append (stable ++ pending) (new ∷ []), ap length all, ap (λ (h : Header). h.base) header);
-        accepted_are = accepted ∙ ap (λ (n : ℕ). n + 1) k.accepted_are ∙ omega (arith, commands_push (stable ++ pending) new, ap (λ (l : List (Record O)). length (commands_of l)) all, ap (λ (h : Header). h.commands) header);
+        placed = subst (λ (h : Header). AreRecords m h.base h.base (stable ++ (pending ++ new ∷ []))) (sym header)
+            (subst (λ (l : List (Record O)). AreRecords m base base l) all
+            (AreRecords-push base base (stable ++ pending) new k.placed grammar (subst (λ (n : ℕ). IsPlaced m base n new) k.next_is place)));
+        next_is = next ∙ ap (λ (n : ℕ). next_behind n new) k.next_is ∙ sym (next-append base (stable ++ pending) (new ∷ [])) ∙ ap (λ (l : List (Record O)). next_after base l) all
+            ∙ ap (λ (h : Header). next_after h.base (stable ++ (pending ++ new ∷ []))) (sym header);
+        accepted_are = accepted ∙ ap (λ (n : ℕ). n + counts new) k.accepted_are
+            ∙ omega (arith, count-append (stable ++ pending) (new ∷ []), ap (λ (l : List (Record O)). length (commands_of l)) all, ap (λ (h : Header). h.commands) header);
         forced_are = forced ∙ k.forced_are ∙ ap (λ (h : Header). h.commands + length (commands_of stable)) (sym header);
       }
 
@@ -198,7 +226,7 @@ module _ {O : Type 0} (m : Meaning O) where
         stable_are = k.stable_are;
         place = k.place;
         pending_are = k.pending_are;
-        numbered = k.numbered;
+        placed = k.placed;
         next_is = k.next_is;
         accepted_are = k.accepted_are;
         forced_are = k.forced_are;
@@ -215,7 +243,7 @@ module _ {O : Type 0} (m : Meaning O) where
     stable_are = k.stable_are;
     place = k.place;
     pending_are = k.pending_are;
-    numbered = k.numbered;
+    placed = k.placed;
     next_is = k.next_is;
     accepted_are = k.accepted_are;
     forced_are = k.forced_are;

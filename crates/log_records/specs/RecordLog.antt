@@ -1,13 +1,13 @@
 -- What a log of records holds, in its files and in the buffer behind them.
-use Rattle.std.specs.Prelude.{◌≡◌, ◌⊎◌, ◌<◌, ℕ, ◌+◌, List, [], ◌++◌, length, map, filter, nat_le}
+use Rattle.std.specs.Prelude.{◌≡◌, ◌⊎◌, ◌<◌, ◌≤◌, ◌^◌, ℕ, ◌+◌, Bool, true, List, [], ◌∷◌, ◌++◌, length, map, filter, nat_le}
 use Rattle.disk_model.specs.Disk.{Files, Disk, In, IsSettled}
 use Rattle.oper_core.specs.Meaning.{Meaning, IsSmall}
 use Rattle.oper_core.specs.declared.bounds.Bounds.{Bounds}
 use Rattle.formats.specs.InForce.{IsInForce}
-use Rattle.formats.specs.Log.{Header, end_of}
-use Rattle.formats.specs.Records.{payload_of, records_of, commands_of, AreRecords, IsRecordLog, HoldsRecordLog}
+use Rattle.formats.specs.Log.{Header, IsHeader, end_of}
+use Rattle.formats.specs.Records.{payload_of, records_of, commands_of, next_after, AreRecords, IsRecordLog, HoldsRecordLog}
 use Rattle.formats.specs.declared.record.Record.{Record}
-use Rattle.formats.specs.declared.record.Record.TheVariants.{Command}
+use Rattle.formats.specs.declared.record.Record.TheVariants.{Command, Identity, Check}
 use Rattle.log_frames.specs.LogView.{LogView}
 
 -- a log of records, as contracts see it
@@ -21,9 +21,14 @@ pub record RecordLogView : Type 0 where
   -- so many of them are stable
   pub forced : ℕ
 
--- the bounds are small, and fewer commands were accepted than there are numbers before the next
-pub record IsCounted (b : Bounds) (accepted next : ℕ) : Type 0 where
+-- the bounds are small, and the numbers of the log's header, of the next record and of the accepted commands are within
+-- their ranges
+pub record IsCounted (b : Bounds) (h : Header) (accepted next : ℕ) : Type 0 where
   pub small : IsSmall b
+  pub in_range : IsHeader h
+  pub base : h.base ≤ next
+  pub last : next ≤ 2 ^ 62
+  -- each of them has a number before the next
   pub count : accepted < next
 
 -- a file is a log of these records
@@ -41,8 +46,8 @@ pub record Keeps {O : Type 0} (m : Meaning O) (d : Disk) (log : RecordLogView) (
   pub stable_are : records_of groups ≡ stable
   pub place : log.log.end ≡ end_of (map (payload_of m) groups)
   pub pending_are : log.log.pending ≡ payload_of m pending
-  pub numbered : AreRecords m log.log.header.base (stable ++ pending)
-  pub next_is : log.next ≡ log.log.header.base + length (stable ++ pending)
+  pub placed : AreRecords m log.log.header.base log.log.header.base (stable ++ pending)
+  pub next_is : log.next ≡ next_after log.log.header.base (stable ++ pending)
   pub accepted_are : log.accepted ≡ log.log.header.commands + length (commands_of (stable ++ pending))
   pub forced_are : log.forced ≡ log.log.header.commands + length (commands_of stable)
 
@@ -51,13 +56,19 @@ pub record IsForcedPartly {O : Type 0} (m : Meaning O) (d : Disk) (log : RecordL
   pub each_file : In log.log.active (λ old new. HoldsRecords m log.log.header stable new ⊎ HoldsRecords m log.log.header (stable ++ pending) new) d.reads files
   pub nothing_said : said ≡ d.said
 
--- the number of a record
-abbrev pub number_of : {O : Type 0} → Record O → ℕ
-number_of (Command number op) = number
+-- a record has no number, or one from this one on
+abbrev pub is_from : {O : Type 0} → ℕ → Record O → Bool
+is_from from (Command number op) = nat_le from number
+is_from from (Identity number x value) = nat_le from number
+is_from from (Check table) = true
 
--- the records from a number on
+-- the records without the numbered ones below a number
 abbrev pub from_number : {O : Type 0} → ℕ → List (Record O) → List (Record O)
-from_number from records = filter (λ r. nat_le from (number_of r)) records
+from_number from records = filter (is_from from) records
+
+-- how many commands a record is
+abbrev pub counts : {O : Type 0} → Record O → ℕ
+counts r = length (commands_of (r ∷ []))
 
 -- a log that was loaded: the files hold its records, and nothing waits
 pub record IsLoaded {O : Type 0} (m : Meaning O) (b : Bounds) (old new : Disk) (log : RecordLogView) : Type 0 where

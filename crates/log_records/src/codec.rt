@@ -1,5 +1,6 @@
 // Records as bytes.
-ghost use Rattle.std.specs.Prelude.{◌≡◌, ◌++◌, List, ℕ, IfNone, IfOk, IfSome, OnErr, OnOk, length, take};
+ghost use Rattle.std.specs.Prelude.{◌≡◌, ◌<◌, ◌≤◌, ◌^◌, ◌↔◌, ◌∷◌, ◌++◌, List, ℕ, IsTrue, IfNone, IfOk, IfSome, OnErr, OnOk, length, take, slice_index};
+ghost use Rattle.byteorder.specs.Endian.{little_bytes};
 ghost use Rattle.oper_core.specs.Meaning.{IsSmall};
 ghost use Rattle.oper_core.specs.declared.bounds.Bounds.{Bounds};
 ghost use Rattle.formats.specs.Records.{record_code};
@@ -8,10 +9,17 @@ ghost use Rattle.log_records.specs.Codec.{IsEncodable, StartsWithRecord};
 
 use byteorder::{ByteOrder, LittleEndian};
 use formats::{RECORD_HEAD, Record};
-use oper_core::{Bounds, Memory, Oper};
+use oper_core::{Bounds, ByteList, Memory, Oper};
 use std::alloc::Global;
 
 const COMMAND: u8 = 1;
+
+const IDENTITY: u8 = 2;
+
+const CHECK: u8 = 3;
+
+// The kind, the number, the object and the length of an identity write.
+const IDENTITY_HEAD: usize = 17;
 
 /// Appends a record's code. Without memory for it the bytes stay as they are.
 pub fn encode<O: Oper>(record: &Record<O>, out: &mut Vec<u8>) -> Result<(), Memory>
@@ -35,6 +43,13 @@ fn append<O: Oper>(record: &Record<O>, out: &mut Vec<u8>) -> Result<(), Memory>
 {
     match record {
         Record::Command(number, op) => append_command(*number, op, out)?,
+        Record::Identity(number, object, value) => {
+            append_identity(*number, *object, value.as_slice(), out)?
+        }
+        Record::Check(table) => {
+            out.push(CHECK)?;
+            checkpoint::encode(table, out)?
+        }
     }
     Ok(())
 }
@@ -50,6 +65,19 @@ fn append_command<O: Oper>(number: u64, op: &O, out: &mut Vec<u8>) -> Result<(),
     Ok(())
 }
 
+fn append_identity(number: u64, object: u32, value: &[u8], out: &mut Vec<u8>) -> Result<(), Memory>
+    requires { length value.now < 2 ^ 32 }
+    ensures ok { OnOk result (out.new.items ≡ out.old.items ++ (2 ∷ (little_bytes 8 number ++ (little_bytes 4 object ++ (little_bytes 4 (length value.now) ++ value.now))))) }
+    ensures err { OnErr result (take (length out.old.items) out.new.items ≡ out.old.items) }
+{
+    out.push(IDENTITY)?;
+    out.extend_from_slice(&number.to_le_bytes())?;
+    out.extend_from_slice(&object.to_le_bytes())?;
+    out.extend_from_slice(&(value.len() as u32).to_le_bytes())?;
+    out.extend_from_slice(value)?;
+    Ok(())
+}
+
 /// The record whose code the bytes begin with, and the code's length; none exactly where they begin with no code of
 /// the grammar for these bounds.
 pub fn decode<O: Oper>(
@@ -61,12 +89,90 @@ pub fn decode<O: Oper>(
         StartsWithRecord (O.meaning b) bytes.now pair.0 × (pair.1 ≡ length (record_code (O.meaning b) pair.0)))) }
     ensures none { IfOk result (λ found. IfNone found ((other : Record O) → StartsWithRecord (O.meaning b) bytes.now other → ⊥)) }
 {
-    if bytes.len() < RECORD_HEAD || bytes[0] != COMMAND {
+    if bytes.len() == 0 {
+        return Ok(None);
+    }
+    let kind = bytes[0];
+    if kind == COMMAND {
+        return decode_command(alloc, b, bytes);
+    }
+    if kind == IDENTITY {
+        return decode_identity(alloc, b, bytes);
+    }
+    if kind == CHECK {
+        return decode_check(alloc, b, bytes);
+    }
+    Ok(None)
+}
+
+// The same, where the bytes begin with the kind of a command.
+fn decode_command<O: Oper>(
+    alloc: Global,
+    b: Bounds,
+    bytes: &[u8],
+) -> Result<Option<(Record<O>, usize)>, Memory>
+    requires { slice_index bytes.now 0 ≡ 1 }
+    ensures some { IfOk result (λ found. IfSome found (λ pair.
+        StartsWithRecord (O.meaning b) bytes.now pair.0 × (pair.1 ≡ length (record_code (O.meaning b) pair.0)))) }
+    ensures none { IfOk result (λ found. IfNone found ((other : Record O) → StartsWithRecord (O.meaning b) bytes.now other → ⊥)) }
+{
+    if bytes.len() < RECORD_HEAD {
         return Ok(None);
     }
     let number = LittleEndian::read_u64(&bytes[1..]);
     match O::decode(alloc, b, &bytes[RECORD_HEAD..])? {
         Some((op, length)) => Ok(Some((Record::Command(number, op), RECORD_HEAD + length))),
+        None => Ok(None),
+    }
+}
+
+// Whether the object is there, and a value of this length within the cap and within so many bytes.
+fn is_within(b: Bounds, object: u32, length: u32, room: usize) -> bool
+    ensures { IsTrue result ↔ ((object < b.objects) × (length ≤ b.cap) × (length ≤ room)) }
+{
+    object < b.objects && length <= b.cap && length as usize <= room
+}
+
+// The same, where they begin with the kind of an identity write.
+fn decode_identity<O: Oper>(
+    alloc: Global,
+    b: Bounds,
+    bytes: &[u8],
+) -> Result<Option<(Record<O>, usize)>, Memory>
+    requires { slice_index bytes.now 0 ≡ 2 }
+    ensures some { IfOk result (λ found. IfSome found (λ pair.
+        StartsWithRecord (O.meaning b) bytes.now pair.0 × (pair.1 ≡ length (record_code (O.meaning b) pair.0)))) }
+    ensures none { IfOk result (λ found. IfNone found ((other : Record O) → StartsWithRecord (O.meaning b) bytes.now other → ⊥)) }
+{
+    if bytes.len() < IDENTITY_HEAD {
+        return Ok(None);
+    }
+    let number = LittleEndian::read_u64(&bytes[1..]);
+    let object = LittleEndian::read_u32(&bytes[9..]);
+    let length = LittleEndian::read_u32(&bytes[13..]);
+    let behind = &bytes[IDENTITY_HEAD..];
+    if !is_within(b, object, length, behind.len()) {
+        return Ok(None);
+    }
+    let value = behind[..length as usize].to_vec(alloc)?;
+    let found = Record::Identity(number, object, ByteList::new(value));
+    Ok(Some((found, IDENTITY_HEAD + length as usize)))
+}
+
+// The same, where they begin with the kind of a check.
+fn decode_check<O: Oper>(
+    alloc: Global,
+    b: Bounds,
+    bytes: &[u8],
+) -> Result<Option<(Record<O>, usize)>, Memory>
+    requires some { 0 < length bytes.now }
+    requires kind { slice_index bytes.now 0 ≡ 3 }
+    ensures some { IfOk result (λ found. IfSome found (λ pair.
+        StartsWithRecord (O.meaning b) bytes.now pair.0 × (pair.1 ≡ length (record_code (O.meaning b) pair.0)))) }
+    ensures none { IfOk result (λ found. IfNone found ((other : Record O) → StartsWithRecord (O.meaning b) bytes.now other → ⊥)) }
+{
+    match checkpoint::decode(alloc, &bytes[1..])? {
+        Some((table, length)) => Ok(Some((Record::Check(table), 1 + length))),
         None => Ok(None),
     }
 }

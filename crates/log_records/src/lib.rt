@@ -1,15 +1,18 @@
-//! The log's records: commands with their numbers, as bytes and as a log.
+//! The log's records: commands, identity writes and checks, as bytes and as a log.
 //!
-//! The one contract is [`RecordLog`]: its records have consecutive numbers, an append adds exactly one, and a force
-//! makes all of them stable or leaves those that were. Below it stands the codec: a record is decoded exactly where the
-//! bytes begin with the code of one in the grammar, and no code is another's beginning. The crate stands on
-//! log_frames, whose blocks hold the records, on formats, whose grammar this is, and on oper_core for the operations.
+//! The one contract is [`RecordLog`]: commands and identity writes have consecutive numbers, and a check names the one
+//! that comes next. An append adds exactly one record, a force makes all of them stable or leaves those that were, and a
+//! rewrite puts the numbered records from a base on, and a check, in the place of the log, or leaves the old one. Below
+//! it stands the codec: a record is decoded exactly where the bytes begin with the code of one in the grammar, and no
+//! code is another's beginning. The crate stands on log_frames, whose blocks hold the records, on formats, whose grammar
+//! this is, on checkpoint for the tables, and on oper_core for the operations.
 #![tactic(auto)]
 
 mod codec;
 mod forcing;
 mod loading;
 mod record_log;
+mod rewriting;
 mod tail;
 
 pub use codec::{decode, encode, one_record};

@@ -1,12 +1,14 @@
 // The log in force, and its counts.
 ghost use Rattle.std.specs.Prelude.{◌≡◌, ◌≤◌, ◌<◌, ◌+◌, ◌^◌, ◌++◌, [], length, OnOk, OnErr, IfErr};
 ghost use Rattle.disk_model.specs.Disk.{Rises, Runs, Same, IsSettled};
-ghost use Rattle.formats.specs.Records.{record_code, IsRecord, HasNumber};
+ghost use Rattle.formats.specs.Records.{record_code, next_behind, IsRecord, IsPlaced};
 ghost use Rattle.log_frames.specs.LogView.{used_of, growth_of};
 ghost use Rattle.log_frames.specs.Creating.{LogsAlone, IsNewLog};
 ghost use Rattle.log_records.specs.Codec.{IsEncodable};
+ghost use Rattle.log_records.specs.RecordLog.{counts};
 
 use crate::codec::encode;
+use crate::loading::{commands_in, next_behind};
 use disk_model::Machine;
 use formats::Record;
 use log_frames::{LogErr, LogFile};
@@ -33,10 +35,17 @@ impl<O: Oper> Model for RecordLog<O> {
 
     ghost view = { λ s. record { bounds = s.bounds; log = s.log; next = s.next; accepted = s.accepted; forced = s.forced } };
 
-    ghost invariant = { λ s. IsCounted s.bounds s.accepted s.next };
+    ghost invariant = { λ s. IsCounted s.bounds s.log.header s.accepted s.next };
 }
 
 impl<O: Oper> RecordLog<O> {
+    /// How many logs the store had, this one counted. At 2^62 it is the last.
+    pub fn epoch(&self) -> u64
+        ensures { result ≡ self.now.log.header.epoch }
+    {
+        self.log.epoch()
+    }
+
     /// The number of the log's first numbered record, or of the next one where it has none.
     pub fn base(&self) -> u64
         ensures { result ≡ self.now.log.header.base }
@@ -97,26 +106,29 @@ impl<O: Oper> RecordLog<O> {
         LogFile::create(m)
     }
 
-    /// Adds a record behind those that wait. Without memory nothing changes but the room.
+    /// Adds a record behind those that wait. A command is counted; a check takes no number. Without memory nothing changes
+    /// but the room.
     pub fn append(&mut self, new: Record<O>) -> Result<(), LogErr>
-        requires number { HasNumber self.old.next new }
+        requires placed { IsPlaced (O.meaning self.old.bounds) self.old.log.header.base self.old.next new }
         requires grammar { IsRecord (O.meaning self.old.bounds) new }
         requires short { length self.old.log.pending + length (record_code (O.meaning self.old.bounds) new) ≤ 2 ^ 30 }
         requires place { self.old.log.end + 5 + length self.old.log.pending + length (record_code (O.meaning self.old.bounds) new) < 2 ^ 49 }
         ensures ok { OnOk result (self.new ≡ record self.old {
           log = record self.old.log { pending = self.old.log.pending ++ record_code (O.meaning self.old.bounds) new; room = self.new.log.room };
-          next = self.old.next + 1;
-          accepted = self.old.accepted + 1;
+          next = next_behind self.old.next new;
+          accepted = self.old.accepted + counts new;
         }) }
         ensures err { OnErr result (self.new ≡ record self.old { log = record self.old.log { room = self.new.log.room } }) }
         ensures only { IfErr result (λ e. e ≡ LogErr.Memory) }
     {
+        let next = next_behind(&new, self.next);
+        let commands = commands_in(&new);
         let mut code = Vec::new(self.alloc);
         encode(&new, &mut code)?;
         self.log.make_room(code.len() as u64)?;
         self.log.push(&code);
-        self.next += 1;
-        self.accepted += 1;
+        self.next = next;
+        self.accepted += commands;
         Ok(())
     }
 }

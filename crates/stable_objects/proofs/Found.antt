@@ -3,8 +3,10 @@ use Rattle.std.proofs.Common.{◌≡◌, ◌≢◌, ◌<◌, ◌≤◌, ◌+◌,
 use Rattle.std.specs.Prelude.{codes, Bool, true, false, not, IsTrue, ◌↔◌}
 use Rattle.std.specs.Str.{bytes_eq}
 use Rattle.std.proofs.lemmas.Slice.Eq.{bytes_eq-Decides}
+use Rattle.std.proofs.Common.{inl, inr}
+use Rattle.std.proofs.lemmas.Bool.{cases_lt}
 use Rattle.byteorder.specs.Numbers.{little_from-take}
-use Rattle.std.proofs.lemmas.List.{get_or-drop, take_all, take-take, take-append-le, drop-take, drop-drop}
+use Rattle.std.proofs.lemmas.List.{get_or-drop, get_or-take, get_or_past, take_all, take-take, take-append-le, drop-take, drop-drop}
 use Rattle.byteorder.specs.Endian.{little_bytes, little_number}
 use Rattle.oper_core.specs.LittleEndian.{little_bytes-little_number}
 use Rattle.disk_model.specs.Disk.{Files, Disk, Stays, Rises}
@@ -12,11 +14,12 @@ use Rattle.disk_model.specs.Padded.{padded, get_or-padded, padded-within}
 use Rattle.disk_model.specs.declared.machine.FileNo.TheVariants.{Objects}
 use Rattle.formats.specs.Bytes.{number_at, IsShutAt}
 use Rattle.formats.specs.Objects.{IsInRange, IsObjectsFile, objects_fields, last_slot}
-use Rattle.formats.specs.Image.{params_in, IsWithin, IsObjectsFault, magic, objects, cap, limit, cut, identifier, long, twice}
+use Rattle.formats.specs.Image.{params_in, IsWithin}
+use Rattle.formats.specs.FirstFault.{stops, goes_on, check_moved, NoMore, ObjectsChecks, IsFirstObjectsFault}
 use Rattle.formats.specs.declared.params.Params.{Params}
 use Rattle.stable_objects.specs.SlotGates.{slot_gate}
 use Rattle.stable_objects.specs.Reading.{FailsBy, FailsAt, HasHeader, IsHeaderFault, IsDamagedAt, IsNoDamage, fails_on}
-use Rattle.stable_objects.specs.Laws.{length-objects_fields, params_of_header, gate_is_open, no_fault}
+use Rattle.stable_objects.specs.Laws.{length-objects_fields, params_of_header, gate_is_open, no_fault, first_is_fault}
 use Rattle.stable_objects.specs.declared.slot_err.SlotErr.{SlotErr}
 use Rattle.stable_objects.specs.declared.slot_err.SlotErr.TheVariants.{NotAStore, DiskFault, Damaged, Memory}
 use Rattle.stable_objects.proofs.Bytes.{number_same}
@@ -36,33 +39,51 @@ params_read file =
     let third = number_read file 0 21 17 4 (omega arith) in
     λ i. record { objects = first i; cap = second i; limit = third i }
 
--- where the file has the magic, so has what was read
-magic_read : (file : List ℕ) → take 8 (drop 1 file) ≡ codes "RDOOBJ01" → take 8 (drop 1 (padded file 0 21)) ≡ codes "RDOOBJ01"
-magic_read file is =
-    let nine_there : 9 ≤ length file = omega (arith, ap length is, length-take 8 (drop 1 file), length-drop 1 file) in
+-- a file of nine bytes has those that were read
+nine_read : (file : List ℕ) → 9 ≤ length file → take 8 (drop 1 (padded file 0 21)) ≡ take 8 (drop 1 file)
+nine_read file there =
     let head = padded file 0 21 in
     let nine : take 9 head ≡ take 9 file =
-    take-append-le 9 (take 21 file) (replicate (21 - length (take 21 file)) 0) (omega (arith, nine_there, length-take 21 file)) ∙ take-take 9 21 file (omega arith) in
-    sym (drop-take 1 8 head) ∙ ap (λ (l : List ℕ). drop 1 l) nine ∙ drop-take 1 8 file ∙ is
+    take-append-le 9 (take 21 file) (replicate (21 - length (take 21 file)) 0) (omega (arith, there, length-take 21 file)) ∙ take-take 9 21 file (omega arith) in
+    sym (drop-take 1 8 head) ∙ ap (λ (l : List ℕ). drop 1 l) nine ∙ drop-take 1 8 file
 
--- a fault that the header shows is one of the file
-fault_read : (file : List ℕ) (place : ℕ) → 0 < place → place < 21 → IsObjectsFault (padded file 0 21) place → IsObjectsFault file place
-fault_read file place some within (magic wrong) = magic (λ is. wrong (magic_read file is))
-fault_read file place some within (objects wrong) = objects (subst (λ (n : ℕ). IsWithin 1 4096 n → ⊥) (number_read file 0 21 9 4 (omega arith)) wrong)
-fault_read file place some within (cap wrong) = cap (subst (λ (n : ℕ). IsWithin 16 16384 n → ⊥) (number_read file 0 21 13 4 (omega arith)) wrong)
-fault_read file place some within (limit wrong) =
-    limit (subst (λ (q : Params). IsWithin (2 * q.cap + 4096) 536870912 q.limit → ⊥) (params_read file) wrong)
-fault_read file place some within (cut in_range short) = absurd (omega (arith, some))
-fault_read file place some within (identifier x s in_range slot wrong) = absurd (omega (arith, within))
-fault_read file place some within (long x s in_range slot wrong) = absurd (omega (arith, within))
-fault_read file place some within (twice x in_range first second same) = absurd (omega (arith, within))
+-- where the file has the magic, so has what was read
+magic_read : (file : List ℕ) → take 8 (drop 1 file) ≡ codes "RDOOBJ01" → take 8 (drop 1 (padded file 0 21)) ≡ codes "RDOOBJ01"
+magic_read file is = nine_read file (omega (arith, ap length is, length-take 8 (drop 1 file), length-drop 1 file)) ∙ is
+
+-- and the other way: the last byte of the magic is not 0, so the file reaches to it
+pub magic_there : (file : List ℕ) → take 8 (drop 1 (padded file 0 21)) ≡ codes "RDOOBJ01" → take 8 (drop 1 file) ≡ codes "RDOOBJ01"
+magic_there file is =
+    let head = padded file 0 21 in
+    let last : get_or file 8 0 ≡ 49 = sym (get_or-padded file 0 21 8 (omega arith)) ∙ sym (get_or-drop 1 head 7 0) ∙ sym (get_or-take 8 (drop 1 head) 7 0 (omega arith)) ∙ ap (λ (l : List ℕ). get_or l 7 0) is in
+    elim (cases_lt 8 (length file)) [
+      | inl there ↦ sym (nine_read file there) ∙ is
+      | inr short ↦ absurd (omega (arith, last, get_or_past file 8 0 short))
+    ]
+
+-- the first check of a header that was read that fails is the file's
+checks_read : (file : List ℕ) (behind : ℕ → Type 0) (place : ℕ) → ObjectsChecks (padded file 0 21) NoMore place → ObjectsChecks file behind place
+checks_read file behind place fault =
+    let first = number_read file 0 21 9 4 (omega arith) in
+    let second = number_read file 0 21 13 4 (omega arith) in
+    let all = params_read file in
+    let limits : (q : Params) → Type 0 = λ q. IsWithin (2 * q.cap + 4096) 536870912 q.limit in
+    check_moved 1 place (magic_there file) (magic_read file)
+    (check_moved 9 place (subst (λ (n : ℕ). IsWithin 1 4096 n) first) (subst (λ (n : ℕ). IsWithin 1 4096 n) (sym first))
+    (check_moved 13 place (subst (λ (n : ℕ). IsWithin 16 16384 n) second) (subst (λ (n : ℕ). IsWithin 16 16384 n) (sym second))
+    (check_moved 17 place (subst limits all) (subst limits (sym all)) (λ never. absurd never))))
+    fault
+
+-- behind a header without a fault
+pub behind_header : (file : List ℕ) (behind : ℕ → Type 0) (place : ℕ) → take 8 (drop 1 file) ≡ codes "RDOOBJ01" → IsInRange (params_in file) → behind place → ObjectsChecks file behind place
+behind_header file behind place name is later = goes_on name (goes_on (is.some, is.objects) (goes_on (is.low, is.cap) (goes_on (is.least, is.limit) later)))
 
 pub damaged_read : (file head : List ℕ) (place : ℕ) → head ≡ padded file 0 21 → IsHeaderFault head place → IsDamagedAt file place
 damaged_read file head place is fault =
     let here : IsHeaderFault (padded file 0 21) place = subst (λ (l : List ℕ). IsHeaderFault l place) is fault in
     record {
-      gate = sym (get_or-padded file 0 21 0 (omega arith)) ∙ here.damaged.gate;
-      fault = fault_read file place here.some here.within here.damaged.fault;
+      gate = sym (get_or-padded file 0 21 0 (omega arith)) ∙ here.gate;
+      fault = checks_read file _ place here.fault;
     }
 
 pub shut_read : (file head : List ℕ) → head ≡ padded file 0 21 → IsShutAt 0 head → IsShutAt 0 file
@@ -125,7 +146,8 @@ cut_short p file head is in_range fields short =
     let same : p ≡ params_in file = sym (params_of_header p head (take_all 21 head (omega (arith, ap length fields, length-objects_fields p)) ∙ fields) in_range) ∙ ap (λ (l : List ℕ). params_in l) is ∙ params_read file in
     record {
       gate = sym (get_or-padded file 0 21 0 (omega arith)) ∙ ap (λ (l : List ℕ). get_or l 0 0) (sym is ∙ fields);
-      fault = cut (subst IsInRange same in_range) (subst (λ (q : Params). length file ≤ last_slot q) same short);
+      fault = behind_header file _ 0 (magic_there file (ap (λ (l : List ℕ). take 8 (drop 1 l)) (sym is ∙ fields))) (subst IsInRange same in_range)
+          (stops refl (λ within. let reach = subst (λ (q : Params). length file ≤ last_slot q) same short in omega (arith, within, reach)));
     }
 
 -- the last of all slots, counted through the file
@@ -137,7 +159,7 @@ pub only_the_disk : (rises told : Type 0) (file : List ℕ) (p : Params) (e : Sl
     → FailsBy rises (told → IsShutAt 0 file) (FailsAt (λ place. told → IsDamagedAt file place)) e → IsNoDamage e
 only_the_disk rises told file p NotAStore is_told is fails = fails is_told (gate_is_open p file is)
 only_the_disk rises told file p DiskFault is_told is fails = tt
-only_the_disk rises told file p (Damaged number place) is_told is fails = no_fault p file place is (fails.1 is_told).fault
+only_the_disk rises told file p (Damaged number place) is_told is fails = no_fault p file place is (first_is_fault file place (fails.1 is_told).fault)
 only_the_disk rises told file p Memory is_told is fails = tt
 
 -- why a call failed behind calls that changed nothing, for a caller who knows more of the fault

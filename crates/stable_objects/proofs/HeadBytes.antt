@@ -1,5 +1,5 @@
 -- What the heads that were read say of the slots.
-use Rattle.std.proofs.Common.{◌≡◌, ◌≢◌, ◌<◌, ◌≤◌, ◌+◌, ◌-◌, ◌*◌, ℕ, List, [], ◌∷◌, ◌++◌, length, get_or, take, drop, sym, ◌∙◌, ap, subst, arith, inl, inr, length-append}
+use Rattle.std.proofs.Common.{◌≡◌, ◌≢◌, ◌<◌, ◌≤◌, ◌+◌, ◌-◌, ◌*◌, ℕ, List, [], ◌∷◌, ◌++◌, length, get_or, take, drop, refl, sym, ◌∙◌, ap, subst, arith, inl, inr, length-append}
 use Rattle.std.proofs.lemmas.Bool.{cases_eq, cases_lt}
 use Rattle.std.proofs.lemmas.List.{get_or-take, get_or_append_left, get_or_push}
 use Rattle.byteorder.specs.Endian.{little_number}
@@ -9,16 +9,17 @@ use Rattle.disk_model.specs.Padded.{padded, get_or-padded}
 use Rattle.disk_model.specs.Moments.{stays_twice}
 use Rattle.disk_model.specs.declared.machine.FileNo.TheVariants.{Objects}
 use Rattle.formats.specs.Bytes.{byte_at, number_at, IsOpenAt, IsShutAt}
-use Rattle.formats.specs.Objects.{IsInRange, slot_place, identifier_at, open_identifier}
-use Rattle.formats.specs.Image.{params_in, IsObjectsFault, identifier, long, twice}
+use Rattle.formats.specs.Objects.{IsInRange, slot_place, identifier_at, open_identifier, last_slot}
+use Rattle.formats.specs.Image.{params_in}
+use Rattle.formats.specs.FirstFault.{Checks, stops, goes_on, HasNumber, HasValue, AreApart, PairChecks}
 use Rattle.formats.specs.declared.params.Params.{Params}
 use Rattle.stable_objects.specs.SlotsView.{AreOf}
-use Rattle.stable_objects.specs.Heads.{head_at, IsReadAt, IsHeadFault, no_number, too_long, IsPair, IsPairFault, in_head, alike, ArePairs, HasPairFault}
+use Rattle.stable_objects.specs.Heads.{head_at, IsRead, IsReadAt, IsHeadFault, no_number, too_long, IsPair, IsPairFault, in_first, in_second, alike, ArePairs, HasPairFault}
 use Rattle.stable_objects.specs.Reading.{FailsBy, FailsAt, HasHeader, IsDamagedAt}
-use Rattle.stable_objects.specs.Laws.{params_of_header}
+use Rattle.stable_objects.specs.Laws.{params_of_header, header_magic}
 use Rattle.stable_objects.specs.SlotLaws.{shut_tells, open_tells}
 use Rattle.stable_objects.specs.declared.slot_err.SlotErr.{SlotErr}
-use Rattle.stable_objects.proofs.Found.{number_read, moved}
+use Rattle.stable_objects.proofs.Found.{number_read, behind_header, moved}
 
 -- the head that was read is the file's
 pub head_read : (file bytes : List ℕ) (place : ℕ) → bytes ≡ padded file place 13 → head_at 0 bytes ≡ head_at place file
@@ -73,19 +74,54 @@ more_pairs cap size n file heads half whole first second count pairs pair half_i
     ap_pair : (cap x size : ℕ) (file : List ℕ) (a a' b b' : ℕ) → a ≡ a' → b ≡ b' → IsPair cap x size file a b → IsPair cap x size file a' b'
     ap_pair cap x size file a a' b b' first second is = subst (λ (n : ℕ). IsPair cap x size file a' n) second (subst (λ (n : ℕ). IsPair cap x size file n b) first is)
 
--- faults of heads are faults of the file
-head_damage : (file : List ℕ) (x s size place : ℕ) → IsInRange (params_in file) → size ≡ length file → x < (params_in file).objects → s < 2
-    → IsHeadFault (params_in file).cap (slot_place (params_in file).cap x s) size (head_at (slot_place (params_in file).cap x s) file) place → IsObjectsFault file place
-head_damage file x s size place in_range is below two (no_number is_open wrong) = identifier x s in_range (record { below = below; two = two; open_gate = is_open }) wrong
-head_damage file x s size place in_range is below two (too_long is_open wrong) =
-    long x s in_range (record { below = below; two = two; open_gate = is_open }) (λ short within. wrong short (λ some. omega (arith, within some, is)))
+-- a head that was read passes its checks
+module _ (cap place size id : ℕ) (file : List ℕ) (read : IsRead cap place size (head_at place file) id) where
+  pub number_passes : HasNumber place file
+  number_passes is_open = let fits = read.fits is_open in (fits.some, omega (arith, fits.numbered))
 
-pair_damage : (file : List ℕ) (x size place : ℕ) → IsInRange (params_in file) → size ≡ length file → x < (params_in file).objects → IsPairFault (params_in file).cap x size file place → IsObjectsFault file place
-pair_damage file x size place in_range is below (in_head s at two fault) = head_damage file x s size place in_range is below two fault
-pair_damage file x size place in_range is below (alike id some first second) =
-    let one = open_head (params_in file).cap x 0 size id file first some in
-    let other = open_head (params_in file).cap x 1 size id file second some in
-    twice x in_range (record { below = below; two = omega arith; open_gate = one.0 }) (record { below = below; two = omega arith; open_gate = other.0 }) (sym one.1 ∙ other.1)
+  pub value_passes : size ≡ length file → HasValue cap place file
+  value_passes is is_open = let fits = read.fits is_open in (fits.short, λ some. omega (arith, fits.within some, is))
+
+-- the first fault of a head is that of its checks
+head_checks : (cap at size place : ℕ) (file : List ℕ) (behind : ℕ → Type 0) → size ≡ length file → IsHeadFault cap at size (head_at at file) place
+    → Checks (at + 1) (HasNumber at file) (Checks (at + 9) (HasValue cap at file) behind) place
+head_checks cap at size place file behind is (no_number is_open wrong) = stops refl (λ has. wrong (has is_open))
+head_checks cap at size place file behind is (too_long is_open number wrong) =
+    goes_on (λ _. number) (stops refl (λ has. let value = has is_open in wrong value.0 (λ some. omega (arith, value.1 some, is))))
+
+-- the identifiers of a pair differ
+pub pair_apart : (cap x size first second : ℕ) (file : List ℕ) → IsPair cap x size file first second → AreApart (slot_place cap x 0) (slot_place cap x 1) file
+pair_apart cap x size first second file pair one_open other_open same =
+    let one : first ≡ identifier_at (slot_place cap x 0) file = pair.first_read.is ∙ open_tells (slot_place cap x 0) file one_open in
+    let other : second ≡ identifier_at (slot_place cap x 1) file = pair.second_read.is ∙ open_tells (slot_place cap x 1) file other_open in
+    let some = (pair.first_read.fits one_open).some in
+    pair.apart (λ none. omega (arith, none, one, some)) (one ∙ same ∙ sym other)
+
+module _ (file : List ℕ) (x size : ℕ) (is : size ≡ length file) where
+  abbrev cap : ℕ
+  cap = number_at 4 13 file
+
+  -- the first fault of a pair is that of its checks
+  pair_checks : (place : ℕ) → IsPairFault cap x size file place → PairChecks file x place
+  pair_checks _ (in_first place fault) = head_checks cap (slot_place cap x 0) size place file _ is fault
+  pair_checks _ (in_second id place read fault) =
+      goes_on (number_passes cap (slot_place cap x 0) size id file read) (goes_on (value_passes cap (slot_place cap x 0) size id file read is)
+      (head_checks cap (slot_place cap x 1) size place file _ is fault))
+  pair_checks _ (alike id some first second) =
+      let one = open_head cap x 0 size id file first some in
+      let other = open_head cap x 1 size id file second some in
+      goes_on (number_passes cap (slot_place cap x 0) size id file first) (goes_on (value_passes cap (slot_place cap x 0) size id file first is)
+      (goes_on (number_passes cap (slot_place cap x 1) size id file second) (goes_on (value_passes cap (slot_place cap x 1) size id file second is)
+      (stops refl (λ apart. apart one.0 other.0 (sym one.1 ∙ other.1))))))
+
+  -- a pair without a fault passes them
+  pair_passes : (first second place : ℕ) → IsPair cap x size file first second → PairChecks file x place → ⊥
+  pair_passes first second place pair (stops _ wrong) = wrong (number_passes cap (slot_place cap x 0) size first file pair.first_read)
+  pair_passes first second place pair (goes_on _ (stops _ wrong)) = wrong (value_passes cap (slot_place cap x 0) size first file pair.first_read is)
+  pair_passes first second place pair (goes_on _ (goes_on _ (stops _ wrong))) = wrong (number_passes cap (slot_place cap x 1) size second file pair.second_read)
+  pair_passes first second place pair (goes_on _ (goes_on _ (goes_on _ (stops _ wrong)))) = wrong (value_passes cap (slot_place cap x 1) size second file pair.second_read is)
+  pair_passes first second place pair (goes_on _ (goes_on _ (goes_on _ (goes_on _ (stops _ wrong))))) = wrong (pair_apart cap x size first second file pair)
+  pair_passes first second place pair (goes_on _ (goes_on _ (goes_on _ (goes_on _ (goes_on _ never))))) = never
 
 pub slots_damage : (p : Params) (file : List ℕ) (size place : ℕ) → HasHeader p file → size ≡ length file → HasPairFault p size file place → IsDamagedAt file place
 slots_damage p file size place header is found =
@@ -93,7 +129,13 @@ slots_damage p file size place header is found =
     let here : HasPairFault (params_in file) size file place = subst (λ (q : Params). HasPairFault q size file place) same found in
     record {
       gate = sym (get_or-take 21 file 0 0 (omega arith)) ∙ ap (λ (l : List ℕ). get_or l 0 0) header.header;
-      fault = pair_damage file here.x size place (subst IsInRange same header.in_range) is here.below here.fault;
+      fault = behind_header file _ place (header_magic p file header.header) (subst IsInRange same header.in_range)
+          (goes_on (subst (λ (q : Params). last_slot q < length file) same header.whole) (record {
+            x = here.x;
+            below = here.below;
+            before = λ y other less. pair_passes file y size is _ _ other (here.before y less);
+            fault = pair_checks file here.x size is place here.fault;
+          }));
     }
 
 -- without a fault the slots are those of the file
@@ -109,12 +151,7 @@ loaded p file heads size header is pairs =
           each = λ x s below two is_open.
               let fits = (read x s below two).fits is_open in
               record { some = fits.some; numbered = fits.numbered; short = fits.short; within = λ some. omega (arith, fits.within some, is) };
-          apart = λ x below first second same.
-              let pair = pairs x below in
-              let one : get_or heads (2 * x + 0) 0 ≡ identifier_at (slot_place p.cap x 0) file = pair.first_read.is ∙ open_tells (slot_place p.cap x 0) file first in
-              let other : get_or heads (2 * x + 1) 0 ≡ identifier_at (slot_place p.cap x 1) file = pair.second_read.is ∙ open_tells (slot_place p.cap x 1) file second in
-              let some = (pair.first_read.fits first).some in
-              pair.apart (λ none. omega (arith, none, one, some)) (one ∙ same ∙ sym other);
+          apart = λ x below. pair_apart p.cap x size _ _ file (pairs x below);
         };
       };
       heads = λ x s below two. (read x s below two).is;

@@ -1,6 +1,6 @@
 -- The steps of a replacement, each of them from a settled machine.
-use Rattle.std.proofs.Common.{◌≡◌, ◌≢◌, inl, inr, ⊎_elim, ◌<◌, ◌≤◌, ◌+◌, ◌-◌, ◌*◌, ◌^◌, ℕ, Bool, true, false, if◌then◌else◌, nat_lt, List, length, set, get_or, refl, sym, ◌∙◌, ap, subst, arith}
-use Rattle.std.proofs.lemmas.Bool.{cases_eq, ltb-true, ltb-false}
+use Rattle.std.proofs.Common.{◌≡◌, ◌≢◌, inl, inr, ⊎_elim, ◌<◌, ◌≤◌, ◌+◌, ◌-◌, ◌*◌, ◌^◌, ℕ, Bool, true, false, if◌then◌else◌, nat_lt, zero, suc, List, length, set, get_or, refl, sym, ◌∙◌, ap, subst, arith}
+use Rattle.std.proofs.lemmas.Bool.{cases_eq, ltb-true, ltb-false, lt-ltb, le-ltb}
 use Rattle.std.proofs.lemmas.List.{get_or-set_other, get_or_default, length-set}
 use Rattle.std.proofs.lemmas.Grind.{get_or-set_at}
 use Rattle.disk_model.specs.Disk.{Files, Disk, Runs, Stays, Same, In, Torn, IsSettled, LeavesOnly}
@@ -157,6 +157,16 @@ module _ (slots : SlotsView) (x s id : ℕ) (value : List ℕ) (is : IsReplacing
         record { held = has.held; others = has.others },
       )
 
+-- an object has the greater of its two identifiers
+greater_id : (slots : SlotsView) (x s id : ℕ) → s < 2 → head slots x s ≡ id → head slots x (1 - s) < id → id_in slots x ≡ id
+greater_id slots x zero id two here less =
+    let held : nat_lt (head slots x 0) (head slots x 1) ≡ false = le-ltb (head slots x 0) (head slots x 1) (omega (arith, here, less)) in
+    ap (λ (b : Bool). head slots x (if b then 1 else 0)) held ∙ here
+greater_id slots x (suc zero) id two here less =
+    let held : nat_lt (head slots x 0) (head slots x 1) ≡ true = lt-ltb (head slots x 0) (head slots x 1) (omega (arith, here, less)) in
+    ap (λ (b : Bool). head slots x (if b then 1 else 0)) held ∙ here
+greater_id slots x (suc (suc s)) id two here less = absurd (omega (arith, two))
+
 -- the spare slot has an identifier among those of all slots
 pub slot_room : (inside slots : SlotsView) (x slot : ℕ) → inside ≡ slots → AreHeads inside.params inside.heads → x < slots.params.objects → slot ≡ 2 * x + spare_in slots x → slot < length inside.heads
 slot_room inside slots x slot same heads below slot_is =
@@ -214,3 +224,18 @@ module _ (inside slots : SlotsView) (x slot at found id : ℕ) (value : List ℕ
       ap (λ (k : ℕ). record { params = slots.params; heads = set (set slots.heads k 0) k id }) (sym slot_is)
       ∙ ap (λ (w : SlotsView). record { params = w.params; heads = set (set w.heads slot 0) slot id }) (sym same) in
       (subst (λ (w : SlotsView). AreOf w (new.reads Objects)) views has.0, has.1)
+
+  -- the object's identifier is the new one
+  pub id_replaced : id_in (record { params = inside.params; heads = set (set inside.heads slot 0) slot id }) x ≡ id
+  id_replaced =
+      let s = spare_in slots x in
+      let found = spare slots x in
+      let room = slot_room inside slots x slot same heads below slot_is in
+      let after : SlotsView = record { params = inside.params; heads = set (set inside.heads slot 0) slot id } in
+      let here : head after x s ≡ id = get_or-set_at (set inside.heads slot 0) slot (2 * x + s) id 0 (sym slot_is) (omega (arith, length-set inside.heads slot 0, room)) in
+      let apart : 2 * x + (1 - s) ≢ slot = λ e. absurd (omega (arith, e, slot_is, found.two)) in
+      let there : head after x (1 - s) ≡ head slots x (1 - s) =
+      get_or-set_other (set inside.heads slot 0) slot (2 * x + (1 - s)) id 0 apart
+      ∙ get_or-set_other inside.heads slot (2 * x + (1 - s)) 0 0 apart
+      ∙ ap (λ (w : SlotsView). head w x (1 - s)) same in
+      greater_id after x s id found.two here (omega (arith, there, found.other, later))

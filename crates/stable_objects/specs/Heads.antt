@@ -27,11 +27,11 @@ pub record IsRead (cap place size : ℕ) (h : Head) (id : ℕ) : Type 0 where
   pub is : id ≡ (if nat_eq h.gate 1 then h.identifier else 0)
   pub fits : h.gate ≡ 1 → Fits cap place size h
 
--- An open slot's head shows a fault at a place of the file: no record's number, or a value that is too long or not
--- within the file.
+-- An open slot's head shows its first fault at a place of the file: no record's number, or a value that is too long or
+-- not within the file.
 pub data IsHeadFault (cap place size : ℕ) (h : Head) : ℕ → Type 0 where
   no_number : h.gate ≡ 1 → (IsWithin 1 (2 ^ 62 - 1) h.identifier → ⊥) → IsHeadFault cap place size h (place + 1)
-  too_long : h.gate ≡ 1 → (h.long ≤ cap → (0 < h.long → place + 13 + h.long ≤ size) → ⊥) → IsHeadFault cap place size h (place + 9)
+  too_long : h.gate ≡ 1 → IsWithin 1 (2 ^ 62 - 1) h.identifier → (h.long ≤ cap → (0 < h.long → place + 13 + h.long ≤ size) → ⊥) → IsHeadFault cap place size h (place + 9)
 
 -- the slot s of object x was read so
 abbrev pub IsReadAt : ℕ → ℕ → ℕ → ℕ → List ℕ → ℕ → Type 0
@@ -43,17 +43,20 @@ pub record IsPair (cap x size : ℕ) (file : List ℕ) (first second : ℕ) : Ty
   pub second_read : IsReadAt cap x 1 size file second
   pub apart : first ≢ 0 → first ≢ second
 
--- the slots of an object show a fault at a place of the file
+-- the slots of an object show their first fault at a place of the file
 pub data IsPairFault (cap x size : ℕ) (file : List ℕ) : ℕ → Type 0 where
-  in_head : (s place : ℕ) → s < 2 → IsHeadFault cap (slot_place cap x s) size (head_at (slot_place cap x s) file) place → IsPairFault cap x size file place
+  in_first : (place : ℕ) → IsHeadFault cap (slot_place cap x 0) size (head_at (slot_place cap x 0) file) place → IsPairFault cap x size file place
+  in_second : (id place : ℕ) → IsReadAt cap x 0 size file id → IsHeadFault cap (slot_place cap x 1) size (head_at (slot_place cap x 1) file) place → IsPairFault cap x size file place
   alike : (id : ℕ) → id ≢ 0 → IsReadAt cap x 0 size file id → IsReadAt cap x 1 size file id → IsPairFault cap x size file (slot_place cap x 1 + 1)
 
 -- the heads of the first n objects were read
 abbrev pub ArePairs : ℕ → ℕ → List ℕ → ℕ → List ℕ → Type 0
 ArePairs cap size file n heads = (x : ℕ) → x < n → IsPair cap x size file (slice_index_or heads (2 * x + 0) 0) (slice_index_or heads (2 * x + 1) 0)
 
--- the slots of some object show a fault at a place of the file
+-- the slots of an object show their first fault at a place of the file, and those of the objects before it show none
 pub record HasPairFault (p : Params) (size : ℕ) (file : List ℕ) (place : ℕ) : Type 0 where
   pub x : ℕ
   pub below : x < p.objects
+  pub heads : List ℕ
+  pub before : ArePairs p.cap size file x heads
   pub fault : IsPairFault p.cap x size file place

@@ -1,12 +1,15 @@
 -- Laws of the objects file: its header names one store, it begins a store, and it has no fault.
 use Rattle.std.proofs.Common.{◌≡◌, ℕ, List, ◌∷◌, ◌++◌, length, get_or, take, drop, sym, ◌∙◌, ap, subst, arith, append_assoc, length-append, take-append-drop}
-use Rattle.std.specs.Prelude.{codes}
+use Rattle.std.specs.Prelude.{◌<◌, codes}
+use Rattle.std.proofs.Common.{inl, inr}
+use Rattle.std.proofs.lemmas.Bool.{cases_eq, cases_lt}
 use Rattle.std.proofs.lemmas.List.{drop-drop, drop_at, take-take, drop-take, get_or-take}
 use Rattle.byteorder.specs.Endian.{little_bytes, little_number}
 use Rattle.oper_core.specs.LittleEndian.{length-little_bytes, little_number-little_bytes}
-use Rattle.formats.specs.Bytes.{number_at, IsOpenAt}
-use Rattle.formats.specs.Objects.{IsInRange, IsObjectsFile, objects_fields}
-use Rattle.formats.specs.Image.{BeginsStore, params_in, IsObjectsFault, magic, objects, cap, limit, cut, identifier, long, twice}
+use Rattle.formats.specs.Bytes.{byte_at, number_at, IsOpenAt}
+use Rattle.formats.specs.FirstFault.{Checks, stops, goes_on, one_check, NoMore, PairChecks, SlotChecks, IsFirstObjectsFault}
+use Rattle.formats.specs.Objects.{IsInRange, IsObjectsFile, objects_fields, last_slot, identifier_at}
+use Rattle.formats.specs.Image.{BeginsStore, params_in, place_in, IsOpenSlot, IsObjectsFault, magic, objects, cap, limit, cut, identifier, long, twice}
 use Rattle.formats.specs.declared.params.Params.{Params}
 
 -- the fields of a header are 20 bytes
@@ -98,3 +101,72 @@ nowhere file place is (twice x in_range first second same) = is.slots.apart x fi
 -- an objects file breaks its format nowhere
 pub no_fault : (p : Params) (file : List ℕ) (place : ℕ) → IsObjectsFile p file → IsObjectsFault file place → ⊥
 no_fault p file place is fault = nowhere file place (subst (λ (q : Params). IsObjectsFile q file) (sym (params_of_file p file is)) is) fault
+
+-- the magic stands behind the gate of a header
+pub header_magic : (p : Params) (file : List ℕ) → take 21 file ≡ 1 ∷ objects_fields p → take 8 (drop 1 file) ≡ codes "RDOOBJ01"
+header_magic p file header = magic_stands file (sym (take-take 9 21 file (omega arith)) ∙ ap (λ (l : List ℕ). take 9 l) header)
+
+-- where a check of an open slot fails, the slot is open
+slot_open : (file : List ℕ) (x s : ℕ) (Check : Type 0) → x < number_at 4 9 file → s < 2 → ((IsOpenAt (place_in file x s) file → Check) → ⊥) → IsOpenSlot file x s × (Check → ⊥)
+slot_open file x s Check below two wrong = elim (cases_eq (byte_at (place_in file x s) file) 1) [
+  | inl is_open ↦ (record { below = below; two = two; open_gate = is_open }, λ holds. wrong (λ _. holds))
+  | inr shut ↦ absurd (wrong (λ is_open. absurd (shut is_open)))
+]
+
+-- the first check of an object's slots that fails is a fault of the file
+pair_fault : (file : List ℕ) (x place : ℕ) → IsInRange (params_in file) → x < number_at 4 9 file → PairChecks file x place → IsObjectsFault file place
+pair_fault file x place is below (stops at wrong) =
+    let slot = slot_open file x 0 _ below (omega arith) wrong in subst (λ (n : ℕ). IsObjectsFault file n) (sym at) (identifier x 0 is slot.0 slot.1)
+pair_fault file x place is below (goes_on _ (stops at wrong)) =
+    let slot = slot_open file x 0 _ below (omega arith) wrong in subst (λ (n : ℕ). IsObjectsFault file n) (sym at) (long x 0 is slot.0 (λ short within. slot.1 (short, within)))
+pair_fault file x place is below (goes_on _ (goes_on _ (stops at wrong))) =
+    let slot = slot_open file x 1 _ below (omega arith) wrong in subst (λ (n : ℕ). IsObjectsFault file n) (sym at) (identifier x 1 is slot.0 slot.1)
+pair_fault file x place is below (goes_on _ (goes_on _ (goes_on _ (stops at wrong)))) =
+    let slot = slot_open file x 1 _ below (omega arith) wrong in subst (λ (n : ℕ). IsObjectsFault file n) (sym at) (long x 1 is slot.0 (λ short within. slot.1 (short, within)))
+pair_fault file x place is below (goes_on _ (goes_on _ (goes_on _ (goes_on _ (stops at wrong))))) =
+    let first = slot_open file x 0 _ below (omega arith) wrong in
+    let second = slot_open file x 1 _ below (omega arith) first.1 in
+    let same : identifier_at (place_in file x 0) file ≡ identifier_at (place_in file x 1) file = elim (cases_eq (identifier_at (place_in file x 0) file) (identifier_at (place_in file x 1) file)) [
+      | inl is ↦ is
+      | inr differ ↦ absurd (second.1 differ)
+    ] in
+    subst (λ (n : ℕ). IsObjectsFault file n) (sym at) (twice x is first.0 second.0 same)
+pair_fault file x place is below (goes_on _ (goes_on _ (goes_on _ (goes_on _ (goes_on _ never))))) = absurd never
+
+-- the first check of the objects file that fails is a fault of it
+pub first_is_fault : (file : List ℕ) (place : ℕ) → IsFirstObjectsFault file place → IsObjectsFault file place
+first_is_fault file place (stops at wrong) = subst (λ (n : ℕ). IsObjectsFault file n) (sym at) (magic wrong)
+first_is_fault file place (goes_on _ (stops at wrong)) = subst (λ (n : ℕ). IsObjectsFault file n) (sym at) (objects wrong)
+first_is_fault file place (goes_on _ (goes_on _ (stops at wrong))) = subst (λ (n : ℕ). IsObjectsFault file n) (sym at) (cap wrong)
+first_is_fault file place (goes_on _ (goes_on _ (goes_on _ (stops at wrong)))) = subst (λ (n : ℕ). IsObjectsFault file n) (sym at) (limit wrong)
+first_is_fault file place (goes_on m (goes_on o (goes_on c (goes_on l behind)))) = slots behind
+  where
+    is : IsInRange (params_in file)
+    is = record { some = o.0; objects = o.1; low = c.0; cap = c.1; least = l.0; limit = l.1 }
+
+    slots : Checks 0 (last_slot (params_in file) < length file) (SlotChecks file) place → IsObjectsFault file place
+    slots (stops at wrong) = elim (cases_lt (last_slot (params_in file)) (length file)) [
+      | inl less ↦ absurd (wrong less)
+      | inr more ↦ subst (λ (n : ℕ). IsObjectsFault file n) (sym at) (cut is more)
+    ]
+    slots (goes_on _ found) = pair_fault file found.x place is found.below found.fault
+
+slots_one : (file : List ℕ) (p q : ℕ) → SlotChecks file p → SlotChecks file q → p ≡ q
+slots_one file p q a b = elim (cases_lt a.x b.x) [
+  | inl less ↦ absurd (b.before a.x p less a.fault)
+  | inr more ↦ elim (cases_lt b.x a.x) [
+    | inl less ↦ absurd (a.before b.x q less b.fault)
+    | inr again ↦
+        let same : b.x ≡ a.x = omega (arith, more, again) in
+        let never : NoMore p → NoMore q → p ≡ q = λ none. absurd none in
+        one_check _ p q (one_check _ p q (one_check _ p q (one_check _ p q (one_check _ p q never)))) a.fault (subst (λ (n : ℕ). PairChecks file n q) same b.fault)
+  ]
+]
+
+-- the first check of the objects file that fails is one
+pub one_objects_fault : (file : List ℕ) (p q : ℕ) → IsFirstObjectsFault file p → IsFirstObjectsFault file q → p ≡ q
+one_objects_fault file p q a b = one_check 1 p q (one_check 9 p q (one_check 13 p q (one_check 17 p q (one_check 0 p q (slots_one file p q))))) a b
+
+-- an objects file passes them all
+pub no_first_fault : (p : Params) (file : List ℕ) (place : ℕ) → IsObjectsFile p file → IsFirstObjectsFault file place → ⊥
+no_first_fault p file place is fault = no_fault p file place is (first_is_fault file place fault)

@@ -4,7 +4,7 @@ use Rattle.disk_model.specs.declared.machine.FileNo.{FileNo}
 use Rattle.disk_model.specs.declared.machine.FileNo.TheVariants.{Objects}
 use Rattle.formats.specs.Bytes.{IsOpenAt}
 use Rattle.formats.specs.Objects.{IsInRange, last_slot, objects_fields, length_at}
-use Rattle.formats.specs.Image.{IsObjectsFault}
+use Rattle.formats.specs.FirstFault.{NoMore, ObjectsChecks, IsFirstObjectsFault}
 use Rattle.formats.specs.declared.params.Params.{Params}
 use Rattle.stable_objects.specs.declared.slot_err.SlotErr.{SlotErr}
 use Rattle.stable_objects.specs.declared.slot_err.SlotErr.TheVariants.{NotAStore, DiskFault, Damaged, Memory}
@@ -27,16 +27,15 @@ IsNoDamage NotAStore = ⊥
 IsNoDamage (Damaged file place) = ⊥
 IsNoDamage e = ⊤
 
--- the objects gate is open, and the file breaks its format at this place
+-- the objects gate is open, and the first check of the file that fails is told at this place
 pub record IsDamagedAt (file : List ℕ) (place : ℕ) : Type 0 where
   pub gate : IsOpenAt 0 file
-  pub fault : IsObjectsFault file place
+  pub fault : IsFirstObjectsFault file place
 
--- the fault is one that the first 21 bytes show
+-- the objects gate is open, and the first check of the header that fails is told at this place
 pub record IsHeaderFault (head : List ℕ) (place : ℕ) : Type 0 where
-  pub damaged : IsDamagedAt head place
-  pub some : 0 < place
-  pub within : place < 21
+  pub gate : IsOpenAt 0 head
+  pub fault : ObjectsChecks head NoMore place
 
 -- an open gate and the header of these numbers; the file reaches to the last slot's gate
 pub record HasHeader (p : Params) (file : List ℕ) : Type 0 where

@@ -100,3 +100,15 @@ late_slot slots file next x s are late =
       },
       subst (λ (n : ℕ). next ≤ identifier_at (slot_place n x s) file) cap (omega (arith, tells, open_tells place file is_open, late.3)),
     )
+
+-- an open slot with this number or a later one is late
+pub is_late : (slots : SlotsView) (file : List ℕ) (next x s : ℕ) → AreOf slots file → IsOpenSlot file x s → next ≤ identifier_at (place_in file x s) file → IsLate slots next x s
+is_late slots file next x s are slot late =
+    let p = slots.params in
+    let place = slot_place p.cap x s in
+    let same : params_in file ≡ p = params_of_file p file are.whole in
+    let below : x < p.objects = subst (λ (q : Params). x < q.objects) same slot.below in
+    let is_open : IsOpenAt place file = subst (λ (q : Params). IsOpenAt (slot_place q.cap x s) file) same slot.open_gate in
+    let tells : head slots x s ≡ identifier_at place file = are.heads x s below slot.two ∙ open_tells place file is_open in
+    let number = subst (λ (q : Params). next ≤ identifier_at (slot_place q.cap x s) file) same late in
+    (omega (arith, tells, (are.whole.slots.each x s below slot.two is_open).some), below, slot.two, omega (arith, tells, number))

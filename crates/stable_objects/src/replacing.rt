@@ -1,5 +1,5 @@
 // An object gets a new value: its other slot is closed, filled, and opened last.
-ghost use Rattle.std.specs.Prelude.{◌≡◌, ◌<◌, ◌≤◌, ◌+◌, ◌*◌, ◌^◌, ◌++◌, length, OnOk, IsErr};
+ghost use Rattle.std.specs.Prelude.{◌≡◌, ◌≢◌, ℕ, ◌<◌, ◌≤◌, ◌+◌, ◌*◌, ◌^◌, ◌++◌, length, OnOk, IsErr};
 ghost use Rattle.byteorder.specs.Endian.{little_bytes};
 ghost use Rattle.disk_model.specs.Disk.{Rises, Runs, Stays, In, Torn, Any, Same, IsSettled, LeavesOnly};
 ghost use Rattle.disk_model.specs.declared.machine.FileNo.TheVariants.{Objects};
@@ -98,6 +98,8 @@ impl Slots {
         requires short { length bytes.now ≤ self.old.params.cap }
         ensures runs { Runs (In Objects Any) Same (M.disk machine.old) (M.disk machine.new) }
         ensures params { self.new.params ≡ self.old.params }
+        ensures id { OnOk result (id_in self.new object ≡ lsn) }
+        ensures other_ids { OnOk result ((y : ℕ) → y ≢ object → id_in self.new y ≡ id_in self.old y) }
         ensures replaced { (M.disk machine.old).tells_files → AreOf self.old ((M.disk machine.old).reads Objects) →
             OnOk result (AreOf self.new ((M.disk machine.new).reads Objects)
             × IsReplaced self.old.params object (record { id = lsn; value = bytes.now }) ((M.disk machine.old).reads Objects) ((M.disk machine.new).reads Objects)) }

@@ -2,7 +2,7 @@ use Rattle.std.proofs.Common.{◌≡◌, subst, arith, Option}
 use Rattle.std.specs.Prelude.{IfSome}
 use Rattle.disk_model.specs.declared.machine.FileNo.TheVariants.{LogA, LogB}
 use Rattle.log_frames.specs.Choosing.{SeenIn}
-use Rattle.formats.specs.Image.{none_open, one_epoch}
+use Rattle.formats.specs.FirstFault.{both_shut, same_epoch}
 use Rattle.log_frames.specs.Reading.{header_of}
 use Rattle.log_frames.specs.declared.seen.Seen.{Seen}
 use Rattle.log_frames.proofs.Choosing.{chosen_first}
@@ -12,7 +12,7 @@ pub returns-then-first-second-clause-cause : goal.returns-then-first-second-clau
 returns-then-first-second-clause-cause c files a b =
     let first = subst (λ (o : Option Seen). SeenIn (files LogA) o) c.in-Some.is a in
     let second = subst (λ (o : Option Seen). SeenIn (files LogB) o) c.in-Some-b-2.is b in
-    one_epoch (header_of c.in-Some.first.header) (header_of c.in-Some-b-2.second.header) first.0 second.0 c.if-first-second.true
+    same_epoch (header_of c.in-Some.first.header) (header_of c.in-Some-b-2.second.header) first.0 second.0 c.if-first-second.true
 
 pub returns-then-first-second-2-clause-chosen : goal.returns-then-first-second-2-clause-chosen
 returns-then-first-second-2-clause-chosen c files a_file b_file a b =
@@ -22,4 +22,4 @@ returns-then-first-second-2-clause-chosen c files a_file b_file a b =
 
 pub returns-in-None-b-clause-cause : goal.returns-in-None-b-clause-cause
 returns-in-None-b-clause-cause c files a b =
-    none_open (subst (λ (o : Option Seen). SeenIn (files LogA) o) c.in-None.is a) (subst (λ (o : Option Seen). SeenIn (files LogB) o) c.in-None-b.is b)
+    both_shut (subst (λ (o : Option Seen). SeenIn (files LogA) o) c.in-None.is a) (subst (λ (o : Option Seen). SeenIn (files LogB) o) c.in-None-b.is b)

@@ -1,16 +1,15 @@
-use Rattle.std.proofs.Common.{◌<◌, ◌∙◌, ap, sym, subst, arith, length, take}
+use Rattle.std.proofs.Common.{◌≡◌, refl, ◌<◌, ◌∙◌, ap, sym, subst, arith, length, take}
 use Rattle.std.proofs.lemmas.Result.{err_from_is_err_and}
 use Rattle.disk_model.specs.Disk.{Files}
-use Rattle.formats.specs.Bytes.{IsOpenAt}
-use Rattle.formats.specs.Image.{no_byte, in_header, short}
+use Rattle.formats.specs.FirstFault.{stops, IsFirstHeaderFault, no_bytes, opened}
 use Rattle.formats.specs.Log.{IsShutLog}
 use Rattle.log_frames.specs.Reading.{header_of}
-use Rattle.log_frames.proofs.Choosing.{no_bytes, shut_read, header_stands, by_header}
-use Rattle.log_frames.proofs.HeaderBytes.{front_stands, opened_by}
+use Rattle.log_frames.proofs.Choosing.{is_empty, shut_read, header_stands, by_header}
+use Rattle.log_frames.proofs.HeaderBytes.{front_stands, opened_by, behind_header}
 use Rattle.log_frames.proofs.loading.read_header.Goals as goal
 
 pub returns-then-size-eq0-clause-cause : goal.returns-then-size-eq0-clause-cause
-returns-then-size-eq0-clause-cause g c told = no_byte c.args.file c.requires (no_bytes _ c.in_ok-size.size (c.in_ok-size.ensures.size told) c.if-size-eq0.true)
+returns-then-size-eq0-clause-cause g c = (refl, λ told. no_bytes (is_empty _ c.in_ok-size.size (c.in_ok-size.ensures.size told) c.if-size-eq0.true))
 
 pub returns-then-head-ne-OPEN-clause-seen : goal.returns-then-head-ne-OPEN-clause-seen
 returns-then-head-ne-OPEN-clause-seen g c told =
@@ -27,15 +26,22 @@ returns-in_err-header-clause-cause g c =
     let one = g.M.Machine.disk c.size.new.self in
     let two = g.M.Machine.disk c.read_padded.new.machine in
     let p = err_from_is_err_and c.from_residual-in_err-header.result c.from_residual-in_err-header.ensures.1 in
-    rw (p.1, p.2) (by_header old one two c.size.ensures.kept c.in_err-header.field-0.0 c.args.file c.read_padded.new.into c.requires c.in_ok-read_padded.ensures.bytes c.in_err-header.ensures.cause)
+    rw (p.1, p.2) (by_header old one two c.size.ensures.kept c.in_err-header.field-0.0 c.args.file c.read_padded.new.into c.in_ok-read_padded.ensures.bytes c.if-head-ne-OPEN.false c.in_err-header.ensures.cause)
 
 pub returns-then-size-le-FIRST_BLOCK-clause-cause : goal.returns-then-size-le-FIRST_BLOCK-clause-cause
-returns-then-size-le-FIRST_BLOCK-clause-cause g c told =
-    let old = g.M.Machine.disk c.args.machine.now in
-    let one = g.M.Machine.disk c.size.new.self in
-    let opened = opened_by (one.reads c.args.file) c.read_padded.new.into (c.in_ok-read_padded.ensures.bytes (c.size.ensures.kept.time.files_told.0 told)) c.if-head-ne-OPEN.false in
-    let here = subst (λ (f : Files). IsOpenAt 0 (f c.args.file)) (c.size.ensures.kept.reads told) opened in
-    in_header c.args.file 33 c.requires (short here (omega (arith, c.in_ok-size.ensures.size told, c.if-size-le-FIRST_BLOCK.true)))
+returns-then-size-le-FIRST_BLOCK-clause-cause g c = (
+  refl,
+  λ told.
+      let old = g.M.Machine.disk c.args.machine.now in
+      let one = g.M.Machine.disk c.size.new.self in
+      let read = c.in_ok-read_padded.ensures.bytes (c.size.ensures.kept.time.files_told.0 told) in
+      let same = c.size.ensures.kept.reads told in
+      let is_open = opened_by (one.reads c.args.file) c.read_padded.new.into (c.in_ok-read_padded.ensures.bytes (c.size.ensures.kept.time.files_told.0 told)) c.if-head-ne-OPEN.false in
+      let ok = c.in_ok-header.ensures.ok in
+      let long : c.in_ok-size.size ≡ length (one.reads c.args.file) = c.in_ok-size.ensures.size told ∙ ap (λ (f : Files). length (f c.args.file)) (sym same) in
+      subst (λ (f : Files). IsFirstHeaderFault (f c.args.file) 33) same
+      (opened 33 is_open (behind_header (one.reads c.args.file) (header_of c.in_ok-header.header) c.read_padded.new.into _ 33 read ok.0 ok.1 (stops refl (λ within. omega (arith, within, long, c.if-size-le-FIRST_BLOCK.true))))),
+)
 
 pub returns-clause-seen : goal.returns-clause-seen
 returns-clause-seen g c told =

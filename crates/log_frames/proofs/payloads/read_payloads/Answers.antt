@@ -1,10 +1,11 @@
-use Rattle.std.proofs.Common.{◌<◌, ◌+◌, ◌^◌, ◌∙◌, ℕ, List, ap, subst, sym, arith, Option, length}
+use Rattle.std.proofs.Common.{◌<◌, ◌≤◌, ◌+◌, ◌^◌, ◌∙◌, ℕ, List, ap, subst, sym, arith, Option, length}
 use Rattle.std.specs.Prelude.{IfSome, All}
 use Rattle.std.proofs.lemmas.List.Elements.{All-push}
 use Rattle.std.proofs.lemmas.Result.{err_from_is_err_and}
 use Rattle.disk_model.specs.Disk.{Files, read_of}
 use Rattle.disk_model.specs.Moments.{stays_here, stays_twice}
 use Rattle.formats.specs.Bytes.{IsShutAt}
+use Rattle.formats.specs.Log.{IsPayload}
 use Rattle.log_frames.specs.Reading.{FoundAt, IsBlockHead}
 use Rattle.log_frames.specs.declared.payload.Payload.{Payload}
 use Rattle.log_frames.proofs.Causes.{at_gate}
@@ -16,6 +17,7 @@ loop-found-init g c = record {
   kept = stays_here (g.M.Machine.disk c.args.machine.now) (g.met.M.Machine.lawful c.args.machine.now);
   small = omega arith;
   fit = subst (λ (l : List Payload). All (λ payload. payload.place + length payload.bytes < 2 ^ 64) l) (sym c.new-found.ensures.items) (λ k d h. absurd (omega arith));
+  whole = subst (λ (l : List Payload). All (λ payload. IsPayload payload.bytes) l) (sym c.new-found.ensures.items) (λ k d h. absurd (omega arith));
   so_far = λ told size. subst (λ (l : List Payload). Finds ((g.M.Machine.disk c.args.machine.now).reads c.args.file) 33 l) (sym c.new-found.ensures.items) (finds_none ((g.M.Machine.disk c.args.machine.now).reads c.args.file));
 }
 
@@ -29,6 +31,7 @@ loop-found-preserved g c =
     let gate = c.loop-found.gate in
     let len = c.in-Some.len in
     let within : gate + 5 + len < c.args.size = subst (λ (o : Option ℕ). IfSome o (λ n. gate + 5 + n < c.args.size)) c.in-Some.is c.in_ok-len.ensures.within in
+    let range : (0 < len) × (len ≤ 2 ^ 30) = subst (λ (o : Option ℕ). IfSome o (λ n. (0 < n) × (n ≤ 2 ^ 30))) c.in-Some.is c.in_ok-len.ensures.whole in
     let kept = stays_twice old mid after inv.kept c.open_block.ensures.kept in
     record {
       kept = stays_twice old after new kept c.read_payload.ensures.kept;
@@ -36,6 +39,9 @@ loop-found-preserved g c =
       fit = subst (λ (l : List Payload). All (λ payload. payload.place + length payload.bytes < 2 ^ 64) l) (sym c.in_ok-push.ensures.items)
           (All-push (λ payload. payload.place + length payload.bytes < 2 ^ 64) c.loop-found.found.items c.in_ok-read_payload.field-0 inv.fit
           (omega (arith, within, c.ranges.size, c.in_ok-read_payload.ensures.place, c.in_ok-read_payload.ensures.long)));
+      whole = subst (λ (l : List Payload). All (λ payload. IsPayload payload.bytes) l) (sym c.in_ok-push.ensures.items)
+          (All-push (λ payload. IsPayload payload.bytes) c.loop-found.found.items c.in_ok-read_payload.field-0 inv.whole
+          (record { some = omega (arith, range.0, c.in_ok-read_payload.ensures.long); short = omega (arith, range.1, c.in_ok-read_payload.ensures.long) }));
       so_far = λ told size.
           let file = old.reads c.args.file in
           let same = inv.kept.reads told in

@@ -11,9 +11,11 @@ returns-then-id-eq0-clause-cause c =
 pub returns-then-long-cap-clause-cause : goal.returns-then-long-cap-clause-cause
 returns-then-long-cap-clause-cause c =
     let is = c.read_u32-long.ensures ∙ number_behind 4 9 c.args.head.now (omega (arith, c.requires.long)) in
-    rw c.damaged_at-then-long-cap.ensures (refl, too_long c.if-head-ne-OPEN.false (λ short within. omega (arith, is, short, c.if-long-cap.true)))
+    let id = c.read_u64-id.ensures ∙ number_behind 8 1 c.args.head.now (omega (arith, c.requires.long)) in
+    rw c.damaged_at-then-long-cap.ensures (refl, too_long c.if-head-ne-OPEN.false (omega (arith, id, c.if-id-eq0.false), omega (arith, id, c.if-id-ge-NUMBERS_END.false)) (λ short within. omega (arith, is, short, c.if-long-cap.true)))
 
 pub returns-then-size-place-clause-cause : goal.returns-then-size-place-clause-cause
 returns-then-size-place-clause-cause c =
     let is = c.read_u32-long.ensures ∙ number_behind 4 9 c.args.head.now (omega (arith, c.requires.long)) in
-    rw c.damaged_at-then-size-place.ensures (refl, too_long c.if-head-ne-OPEN.false (λ short within. omega (arith, is, within (omega (arith, is, c.if-long-ne0.true)), c.if-size-place.true)))
+    let id = c.read_u64-id.ensures ∙ number_behind 8 1 c.args.head.now (omega (arith, c.requires.long)) in
+    rw c.damaged_at-then-size-place.ensures (refl, too_long c.if-head-ne-OPEN.false (omega (arith, id, c.if-id-eq0.false), omega (arith, id, c.if-id-ge-NUMBERS_END.false)) (λ short within. omega (arith, is, within (omega (arith, is, c.if-long-ne0.true)), c.if-size-place.true)))

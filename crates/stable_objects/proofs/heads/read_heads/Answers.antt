@@ -1,13 +1,26 @@
 use Rattle.std.proofs.Common.{[], ◌∷◌, length, ap, subst, arith, length-append}
+use Rattle.std.proofs.lemmas.Result.{err_from_is_err_and}
 use Rattle.disk_model.specs.Disk.{Files}
 use Rattle.disk_model.specs.Moments.{stays_twice}
 use Rattle.disk_model.specs.declared.machine.FileNo.TheVariants.{Objects}
-use Rattle.stable_objects.specs.Heads.{IsPair}
+use Rattle.stable_objects.specs.Heads.{IsPair, IsPairFault, HasPairFault}
 use Rattle.stable_objects.proofs.HeadBytes.{more_pairs}
+use Rattle.stable_objects.proofs.Found.{moved}
 use Rattle.stable_objects.proofs.heads.read_heads.Goals as goal
 
 pub returns-in_err-push-2-clause-kept : goal.returns-in_err-push-2-clause-kept
 returns-in_err-push-2-clause-kept g c = stays_twice _ _ _ c.loop-object.invariant.kept c.read_pair.ensures.kept
+
+pub returns-in_err-first-clause-cause : goal.returns-in_err-first-clause-cause
+returns-in_err-first-clause-cause g c =
+    let inv = c.loop-object.invariant in
+    let a = c.args in
+    let x = c.loop-object.object in
+    let e = err_from_is_err_and c.from_residual-in_err-first.result c.from_residual-in_err-first.ensures.1 in
+    rw (e.1, e.2) (moved (g.M.Machine.disk a.machine.now) (g.M.Machine.disk c.loop-object.machine) (g.M.Machine.disk c.read_pair.new.machine) ⊥ ⊥ (λ file at. IsPairFault a.params.cap x a.size file at) (λ file at. HasPairFault a.params a.size file at) _
+    inv.kept (λ none. none)
+    (λ told at fault. record { x = x; below = search; heads = c.loop-object.heads.items; before = inv.pairs told; fault = fault })
+    c.in_err-first.ensures.cause)
 
 pub loop-object-preserved : goal.loop-object-preserved
 loop-object-preserved g c =

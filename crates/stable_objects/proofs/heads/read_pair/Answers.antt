@@ -4,7 +4,7 @@ use Rattle.disk_model.specs.Disk.{Files}
 use Rattle.disk_model.specs.Moments.{stays_here, stays_twice}
 use Rattle.disk_model.specs.declared.machine.FileNo.TheVariants.{Objects}
 use Rattle.formats.specs.Objects.{slot_place}
-use Rattle.stable_objects.specs.Heads.{head_at, IsRead, IsHeadFault, IsPairFault, in_head, alike}
+use Rattle.stable_objects.specs.Heads.{head_at, IsRead, IsHeadFault, IsPairFault, in_first, in_second, alike}
 use Rattle.stable_objects.proofs.Found.{moved}
 use Rattle.stable_objects.proofs.heads.read_pair.Goals as goal
 
@@ -15,7 +15,7 @@ returns-in_err-first-clause-cause g c =
     let e = err_from_is_err_and c.from_residual.result c.from_residual.ensures.1 in
     rw (e.1, e.2) (moved old old (g.M.Machine.disk c.read_head.new.machine) ⊥ ⊥ (λ file at. IsHeadFault a.cap c.place_of.result a.size (head_at c.place_of.result file) at) (λ file at. IsPairFault a.cap a.object a.size file at) _
     (stays_here old (g.met.M.Machine.lawful c.args.machine.now)) (λ none. none)
-    (λ told at fault. in_head 0 at (omega arith) (subst (λ (p : ℕ). IsHeadFault a.cap p a.size (head_at p (old.reads Objects)) at) c.place_of.ensures fault))
+    (λ told at fault. in_first at (subst (λ (p : ℕ). IsHeadFault a.cap p a.size (head_at p (old.reads Objects)) at) c.place_of.ensures fault))
     c.in_err-first.ensures.cause)
 
 pub returns-in_err-second-clause-kept : goal.returns-in_err-second-clause-kept
@@ -29,7 +29,8 @@ returns-in_err-second-clause-cause g c =
     let e = err_from_is_err_and c.from_residual-in_err-second.result c.from_residual-in_err-second.ensures.1 in
     rw (e.1, e.2) (moved old (g.M.Machine.disk c.read_head.new.machine) (g.M.Machine.disk c.read_head-2.new.machine) ⊥ ⊥ (λ file at. IsHeadFault a.cap at_place a.size (head_at at_place file) at) (λ file at. IsPairFault a.cap a.object a.size file at) _
     c.read_head.ensures.kept (λ none. none)
-    (λ told at fault. in_head 1 at (omega arith) (subst (λ (p : ℕ). IsHeadFault a.cap p a.size (head_at p (old.reads Objects)) at) c.place_of-place.ensures fault))
+    (λ told at fault. in_second c.in_ok-first.first at
+    (subst (λ (p : ℕ). IsRead a.cap p a.size (head_at p (old.reads Objects)) c.in_ok-first.first) c.place_of.ensures (c.in_ok-first.ensures.read told)) (subst (λ (p : ℕ). IsHeadFault a.cap p a.size (head_at p (old.reads Objects)) at) c.place_of-place.ensures fault))
     c.in_err-second.ensures.cause)
 
 pub returns-then-first-second-clause-kept : goal.returns-then-first-second-clause-kept

@@ -1,6 +1,6 @@
 use Rattle.std.proofs.Common.{◌∙◌, inl, inr, refl, arith}
 use Rattle.std.proofs.Math.Facts.{Fits-lt-pow}
-use Rattle.formats.specs.Image.{magic, objects, cap, limit}
+use Rattle.formats.specs.FirstFault.{stops, goes_on}
 use Rattle.formats.specs.declared.params.Params.{Params}
 use Rattle.stable_objects.proofs.Found.{number_slice, header_fields, differ, agree}
 use Rattle.stable_objects.proofs.loading.parse_header.Goals as goal
@@ -9,9 +9,8 @@ pub returns-then-ne-clause-cause : goal.returns-then-ne-clause-cause
 returns-then-ne-clause-cause c = rw c.damaged_at.ensures (
   refl,
   record {
-    damaged = record { gate = c.if-head-ne-OPEN.false; fault = magic (differ _ _ c.ne.result c.ne.ensures c.if-ne.true) };
-    some = omega arith;
-    within = omega arith;
+    gate = c.if-head-ne-OPEN.false;
+    fault = stops refl (differ _ _ c.ne.result c.ne.ensures c.if-ne.true);
   },
 )
 
@@ -21,43 +20,33 @@ returns-then-objects-eq0-clause-cause c =
     rw c.damaged_at-then-objects-eq0.ensures (
       refl,
       record {
-        damaged = record {
-          gate = c.if-head-ne-OPEN.false;
-          fault = objects (λ within. elim c.then-objects-eq0.either [ inl none ↦ omega (arith, is, within.0, none) | inr more ↦ omega (arith, is, within.1, more.1) ]);
-        };
-        some = omega arith;
-        within = omega arith;
+        gate = c.if-head-ne-OPEN.false;
+        fault = goes_on (agree _ _ c.ne.result c.ne.ensures c.if-ne.false) (stops refl (λ within. elim c.then-objects-eq0.either [ inl none ↦ omega (arith, is, within.0, none) | inr more ↦ omega (arith, is, within.1, more.1) ]));
       },
     )
 
 pub returns-then-cap-lt-MIN_CAP-clause-cause : goal.returns-then-cap-lt-MIN_CAP-clause-cause
 returns-then-cap-lt-MIN_CAP-clause-cause c =
+    let count = c.read_u32-objects.ensures ∙ number_slice c.args.head.now 9 c.requires (omega arith) in
     let is = c.read_u32-cap.ensures ∙ number_slice c.args.head.now 13 c.requires (omega arith) in
     rw c.damaged_at-then-cap-lt-MIN_CAP.ensures (
       refl,
       record {
-        damaged = record {
-          gate = c.if-head-ne-OPEN.false;
-          fault = cap (λ within. elim c.then-cap-lt-MIN_CAP.either [ inl less ↦ omega (arith, is, within.0, less) | inr more ↦ omega (arith, is, within.1, more.1) ]);
-        };
-        some = omega arith;
-        within = omega arith;
+        gate = c.if-head-ne-OPEN.false;
+        fault = goes_on (agree _ _ c.ne.result c.ne.ensures c.if-ne.false) (goes_on (omega (arith, count, c.if-objects-eq0.false), omega (arith, count, c.if-objects-gt-MAX_OBJECTS.false)) (stops refl (λ within. elim c.then-cap-lt-MIN_CAP.either [ inl less ↦ omega (arith, is, within.0, less) | inr more ↦ omega (arith, is, within.1, more.1) ])));
       },
     )
 
 pub returns-then-limit-cap-clause-cause : goal.returns-then-limit-cap-clause-cause
 returns-then-limit-cap-clause-cause c =
+    let count = c.read_u32-objects.ensures ∙ number_slice c.args.head.now 9 c.requires (omega arith) in
     let cap_is = c.read_u32-cap.ensures ∙ number_slice c.args.head.now 13 c.requires (omega arith) in
     let is = c.read_u32-limit.ensures ∙ number_slice c.args.head.now 17 c.requires (omega arith) in
     rw c.damaged_at-then-limit-cap.ensures (
       refl,
       record {
-        damaged = record {
-          gate = c.if-head-ne-OPEN.false;
-          fault = limit (λ within. elim c.then-limit-cap.either [ inl less ↦ omega (arith, is, cap_is, within.0, less) | inr more ↦ omega (arith, is, within.1, more.1) ]);
-        };
-        some = omega arith;
-        within = omega arith;
+        gate = c.if-head-ne-OPEN.false;
+        fault = goes_on (agree _ _ c.ne.result c.ne.ensures c.if-ne.false) (goes_on (omega (arith, count, c.if-objects-eq0.false), omega (arith, count, c.if-objects-gt-MAX_OBJECTS.false)) (goes_on (omega (arith, cap_is, c.if-cap-lt-MIN_CAP.false), omega (arith, cap_is, c.if-cap-gt-MAX_CAP.false)) (stops refl (λ within. elim c.then-limit-cap.either [ inl less ↦ omega (arith, is, cap_is, within.0, less) | inr more ↦ omega (arith, is, within.1, more.1) ]))));
       },
     )
 

@@ -1,7 +1,7 @@
 use Rattle.std.proofs.Common.{◌<◌, ◌^◌, ℕ, sym, subst, arith}
 use Rattle.stable_objects.proofs.Put.{any_run, any_join}
 use Rattle.stable_objects.proofs.Places.{place_small}
-use Rattle.stable_objects.proofs.Replaced.{slot_room, closing_moments, putting_moments, replaced_by}
+use Rattle.stable_objects.proofs.Replaced.{slot_room, closing_moments, putting_moments, replaced_by, id_replaced}
 use Rattle.stable_objects.proofs.slots.Slots.replace.Goals as goal
 
 pub index_mut-requires : goal.index_mut-requires
@@ -53,3 +53,9 @@ returns-clause-replaced g c told of =
     replaced_by _ _ c.args.object c.spare-slot.result c.gate_place-place.result c.index.result.now c.args.lsn c.args.bytes.now c.self.view_is c.self.invariant
     c.requires.object c.requires.later c.requires.numbered c.requires.short c.spare-slot.ensures c.gate_place-place.ensures c.index.ensures
     _ _ c.close_slot.ensures.runs c.close_slot.ensures.idle (g.M.Machine.disk c.put.new.machine) told of (c.in_ok-put.ensures.put (c.close_slot.ensures.runs.time.files_told.0 told))
+
+pub returns-clause-id : goal.returns-clause-id
+returns-clause-id g c =
+    id_replaced _ _ c.args.object c.spare-slot.result c.gate_place-place.result c.index.result.now c.args.lsn c.args.bytes.now c.self.view_is c.self.invariant
+    c.requires.object c.requires.later c.requires.numbered c.requires.short c.spare-slot.ensures c.gate_place-place.ensures c.index.ensures
+    _ _ c.close_slot.ensures.runs c.close_slot.ensures.idle

@@ -7,28 +7,35 @@ fn machine(alloc: Global, calls: u64, pool: u64, fails: &[u64]) -> Result<MemMac
     MemMachine::new(alloc, [8, 8, 8], calls, pool, fails.to_vec(alloc)?)
 }
 
-// Four synced bytes, two written over, and one behind a gap; the log A is synced.
-fn unsynced(alloc: Global) -> Result<MemMachine, Fail> {
-    let mut machine = machine(alloc, 9, 9, &[])?;
-    machine.write_at(FileNo::Objects, 0, &[1, 2, 3, 4])?;
-    machine.sync(FileNo::Objects)?;
-    machine.write_at(FileNo::Objects, 1, &[9, 9])?;
-    machine.write_at(FileNo::LogA, 0, &[5])?;
-    machine.sync(FileNo::LogA)?;
-    machine.write_at(FileNo::Objects, 6, &[6])?;
-    machine.say(b"a")?;
-    Ok(machine)
+// Four synced bytes, two written over, and one behind a gap; the log A is synced. It tells which calls succeed.
+fn some_unsynced(machine: &mut MemMachine) -> [bool; 7] {
+    [
+        machine.write_at(FileNo::Objects, 0, &[1, 2, 3, 4]).is_ok(),
+        machine.sync(FileNo::Objects).is_ok(),
+        machine.write_at(FileNo::Objects, 1, &[9, 9]).is_ok(),
+        machine.write_at(FileNo::LogA, 0, &[5]).is_ok(),
+        machine.sync(FileNo::LogA).is_ok(),
+        machine.write_at(FileNo::Objects, 6, &[6]).is_ok(),
+        machine.say(b"a").is_ok(),
+    ]
+}
+
+// Whether a machine with nothing said can be used; that takes five calls.
+fn is_usable(machine: &mut MemMachine) -> bool {
+    let is_new = machine.said().is_empty();
+    let writes = write_through(machine, FileNo::LogB, 0, &[1; 8]).is_ok();
+    let settles = settle(machine).is_ok();
+    is_new & writes & settles & (machine.calls() == 5)
 }
 
 // Whether a crash leaves these bytes, and a machine that can be used.
-fn leaves(alloc: Global, how: Crash, objects: &[u8]) -> Result<bool, Fail> {
-    let mut after = unsynced(alloc)?.crash(how);
-    let left = after.bytes(FileNo::Objects) == objects
-        && after.bytes(FileNo::LogA) == [5].as_slice()
-        && after.said().is_empty();
-    write_through(&mut after, FileNo::LogB, 0, &[1; 8])?;
-    settle(&mut after)?;
-    Ok(left && after.calls() == 5)
+fn leaves(alloc: Global, how: Crash, objects: &[u8]) -> Result<bool, AllocError> {
+    let mut before = machine(alloc, 9, 9, &[])?;
+    let done = some_unsynced(&mut before) == [true; 7];
+    let mut after = before.crash(how);
+    let left = after.bytes(FileNo::Objects) == objects;
+    let log = after.bytes(FileNo::LogA) == [5].as_slice();
+    Ok(done & left & log & is_usable(&mut after))
 }
 
 const CRASHES: [(Crash, &[u8]); 6] = [
@@ -194,33 +201,51 @@ fn blows(rt: HostRuntime) -> Result<(), Fail> {
     Ok(())
 }
 
-// Whether a file is made by a write alone, and what is written there is read through another machine.
-fn makes_a_file(rt: &HostRuntime) -> Result<bool, Fail> {
-    let mut first = FileMachine::new(rt.clone()?);
-    settle(&mut first)?;
-    let empty = first.size(FileNo::Objects)? == 0
-        && first.read(FileNo::Objects, 2, &mut [0; 2])? == 0
-        && std::fs::metadata(rt, "objects.rdo").is_err();
-    first.write_at(FileNo::Objects, 2, b"abc")?;
-    first.write_at(FileNo::Objects, 3, b"x")?;
-    first.sync(FileNo::Objects)?;
-    Ok(empty)
+// Whether a settling succeeds, and the objects file is empty by its length and by a read.
+fn finds_nothing<M: Machine>(machine: &mut M) -> [bool; 3] {
+    [
+        settle(machine).is_ok(),
+        machine.size(FileNo::Objects).unwrap_or(9) == 0,
+        machine.read(FileNo::Objects, 2, &mut [0; 2]).unwrap_or(9) == 0,
+    ]
 }
 
-fn finds_the_file(rt: &HostRuntime) -> Result<bool, Fail> {
-    let mut second = FileMachine::new(rt.clone()?);
-    second.write_at(FileNo::Objects, 7, &[])?;
+// Which of two writes and a sync succeed.
+fn writes_twice<M: Machine>(machine: &mut M) -> [bool; 3] {
+    [
+        machine.write_at(FileNo::Objects, 2, b"abc").is_ok(),
+        machine.write_at(FileNo::Objects, 3, b"x").is_ok(),
+        machine.sync(FileNo::Objects).is_ok(),
+    ]
+}
+
+// What is found of the file through another machine, which a write of no bytes lengthens.
+fn finds_all<M: Machine>(machine: &mut M) -> [bool; 6] {
     let mut into = [9; 9];
-    let count = second.read(FileNo::Objects, 1, &mut into)?;
-    let sizes = second.size(FileNo::Objects)? == 7 && second.size(FileNo::LogA)? == 0;
-    second.say(b"said\n")?;
-    Ok(sizes && count == 6 && into == *b"\0axc\0\0\x09\x09\x09")
+    [
+        machine.write_at(FileNo::Objects, 7, &[]).is_ok(),
+        machine.read(FileNo::Objects, 1, &mut into).unwrap_or(9) == 6,
+        into == *b"\0axc\0\0\x09\x09\x09",
+        machine.size(FileNo::Objects).unwrap_or(9) == 7,
+        machine.size(FileNo::LogA).unwrap_or(9) == 0,
+        machine.say(b"said\n").is_ok(),
+    ]
+}
+
+// Whether a file is made by a write alone, and what is written there is read through another machine.
+fn is_made_by_writes(rt: &HostRuntime) -> Result<bool, AllocError> {
+    let mut first = FileMachine::new(rt.clone()?);
+    let mut second = FileMachine::new(rt.clone()?);
+    let nothing = finds_nothing(&mut first) == [true; 3];
+    let absent = std::fs::metadata(rt, "objects.rdo").is_err();
+    let written = writes_twice(&mut first) == [true; 3];
+    let found = finds_all(&mut second) == [true; 6];
+    Ok(nothing & absent & written & found)
 }
 
 #[test]
 fn files_are_made_by_writes_alone(rt: HostRuntime) -> Result<(), Fail> {
-    assert!(rt; makes_a_file(&rt)?);
-    assert!(rt; finds_the_file(&rt)?);
+    assert!(rt; is_made_by_writes(&rt)?);
     Ok(())
 }
 

@@ -1,0 +1,71 @@
+// A rewrite of the log of four records: the new file's bytes, and what is found in it.
+ghost use Rattle.std.specs.Prelude.{◌≡◌, []};
+
+use crate::records::{BOUNDS, counts, four_records, loaded};
+use checkpoint::{Starts, Table};
+use disk_model::{Crash, FileNo, MemMachine};
+use log_records::RecordLog;
+use op_meaning::Put;
+use std::alloc::Global;
+use std::test::Fail;
+
+// A base, the file of the new log, and the counts of that log.
+type Row = (u64, &'static [u8], [u64; 4]);
+
+const REWRITTEN: [Row; 2] = [
+    (
+        2,
+        b"\x01RDOLOG01\x02\0\0\0\0\0\0\0\x02\0\0\0\0\0\0\0\x01\0\0\0\0\0\0\0\
+            \x01\x35\0\0\0\
+            \x02\x02\0\0\0\0\0\0\0\x01\0\0\0\x02\0\0\0ab\
+            \x01\x03\0\0\0\0\0\0\0\x01\x03\0\0\0\x03\0\0\0abc\
+            \x03\x04\0\0\0\0\0\0\0\0\0\0\0\
+            \0",
+        [91, 4, 2, 2],
+    ),
+    (
+        4,
+        b"\x01RDOLOG01\x02\0\0\0\0\0\0\0\x04\0\0\0\0\0\0\0\x02\0\0\0\0\0\0\0\
+            \x01\x0d\0\0\0\
+            \x03\x04\0\0\0\0\0\0\0\0\0\0\0\
+            \0",
+        [51, 4, 2, 2],
+    ),
+];
+
+// Puts a log from a base on, with an empty check for its end, in the place of this one, where it has that base and
+// nothing waits.
+fn shorten(
+    log: &mut RecordLog<Put>,
+    machine: &mut MemMachine,
+    base: u64,
+    starts: Starts,
+) -> Result<(), Fail>
+    requires { starts ≡ [] }
+{
+    let next = log.next();
+    if log.buffered() == 0 && log.base() <= base && base <= next {
+        log.rewrite(machine, base, Table { next, starts })?;
+    }
+    Ok(())
+}
+
+// Whether a rewrite from a base on makes this file, and its log has these counts, at once and after a crash.
+fn is_as_worked(alloc: Global, row: Row) -> Result<bool, Fail> {
+    let (base, file, wanted) = row;
+    let (mut machine, _) = four_records(alloc)?;
+    let mut log = loaded(alloc, &mut machine, BOUNDS)?;
+    shorten(&mut log, &mut machine, base, Starts::new(Vec::new(alloc)))?;
+    let mut left = machine.crash(Crash::Old);
+    let found = loaded(alloc, &mut left, BOUNDS)?;
+    let is_file = left.bytes(FileNo::LogB) == file;
+    Ok(is_file & ([counts(&log), counts(&found)] == [wanted; 2]))
+}
+
+#[test]
+fn a_rewritten_log_is_as_worked(rt: HostRuntime) -> Result<(), Fail> {
+    for row in REWRITTEN {
+        assert!(rt; is_as_worked(rt.alloc(), row)?, "from {}", row.0);
+    }
+    Ok(())
+}

@@ -1,0 +1,114 @@
+-- What a rewrite of a log of records leaves.
+use Rattle.std.specs.Prelude.{◌≡◌, ⊤, ◌⊎◌, ◌<◌, ◌≤◌, ◌+◌, ◌^◌, ℕ, Bool, false, not, nat_le, nat_lt, if◌then◌else◌, List, [], ◌∷◌, ◌++◌, length, map, filter}
+use Rattle.disk_model.specs.Disk.{Files, Disk, In, Any}
+use Rattle.disk_model.specs.declared.machine.FileNo.{FileNo}
+use Rattle.checkpoint.specs.declared.table.Table.{Table}
+use Rattle.oper_core.specs.Meaning.{Meaning}
+use Rattle.formats.specs.InForce.{other_of}
+use Rattle.formats.specs.Log.{Header}
+use Rattle.formats.specs.Records.{record_code, payload_of, records_of, commands_of, IsRecord, IsPlaced, HoldsRecordLog}
+use Rattle.formats.specs.declared.record.Record.{Record}
+use Rattle.formats.specs.declared.record.Record.TheVariants.{Command, Identity, Check}
+use Rattle.log_frames.specs.LogView.{LogView, used_of}
+use Rattle.log_frames.specs.Rewriting.{next_header, rewritten, file_length}
+use Rattle.log_frames.specs.declared.log_err.LogErr.{LogErr}
+use Rattle.log_frames.specs.declared.log_err.LogErr.TheVariants.{DiskFault, LogFull, Damaged, Exhausted, Memory}
+use Rattle.log_records.specs.RecordLog.{RecordLogView, Keeps}
+
+-- a record has a number, from this one on
+abbrev pub is_numbered_from : {O : Type 0} → ℕ → Record O → Bool
+is_numbered_from from (Command number op) = nat_le from number
+is_numbered_from from (Identity number x value) = nat_le from number
+is_numbered_from from (Check table) = false
+
+-- the commands and identity writes from a number on
+abbrev pub numbered_from : {O : Type 0} → ℕ → List (Record O) → List (Record O)
+numbered_from from records = filter (is_numbered_from from) records
+
+-- all other records
+abbrev pub left_out : {O : Type 0} → ℕ → List (Record O) → List (Record O)
+left_out from records = filter (λ r. not (is_numbered_from from r)) records
+
+-- the records of the new log, where the old one has these: the numbered ones from its base on, and then this check
+abbrev pub rewritten_records : {O : Type 0} → ℕ → Table → List (Record O) → List (Record O)
+rewritten_records base table records = numbered_from base records ++ Check table ∷ []
+
+-- Records in blocks, of which the first begins with those in hand: a record goes into the block of the one before it,
+-- where that then has at most 2^30 bytes, and else begins the next.
+abbrev pub blocks_behind : {O : Type 0} → Meaning O → List (Record O) → List (Record O) → List (List (Record O))
+blocks_behind m hand [] = hand ∷ []
+blocks_behind m hand (r ∷ records) =
+    if nat_le (length (payload_of m (hand ++ r ∷ []))) (2 ^ 30) then blocks_behind m (hand ++ r ∷ []) records else hand ∷ blocks_behind m (r ∷ []) records
+
+-- blocks are as full as whole records allow: the first record of the next one had no room
+abbrev pub AreFull : {O : Type 0} → Meaning O → List (List (Record O)) → Type 0
+AreFull m [] = ⊤
+AreFull m (g ∷ []) = ⊤
+AreFull m (g ∷ [] ∷ groups) = ⊥
+AreFull m (g ∷ (r ∷ h) ∷ groups) = (2 ^ 30 < length (payload_of m g) + length (record_code m r)) × AreFull m ((r ∷ h) ∷ groups)
+
+-- records in blocks, each as full as whole records allow
+abbrev pub in_full_blocks : {O : Type 0} → Meaning O → List (Record O) → List (List (Record O))
+in_full_blocks m records = blocks_behind m [] records
+
+-- the bytes of the blocks of records of these lengths behind so many bytes of a block in hand, whose head is not counted
+abbrev pub blocks_length : ℕ → List ℕ → ℕ
+blocks_length filled [] = 0
+blocks_length filled (n ∷ lengths) = if nat_lt (2 ^ 30) (filled + n) then 5 + n + blocks_length n lengths else n + blocks_length (filled + n) lengths
+
+-- the lengths of the codes of records
+abbrev pub code_lengths : {O : Type 0} → Meaning O → List (Record O) → List ℕ
+code_lengths m records = map (λ r. length (record_code m r)) records
+
+-- the payloads of the new log
+abbrev pub new_payloads : {O : Type 0} → Meaning O → ℕ → Table → List (Record O) → List (List ℕ)
+new_payloads m base table stable = map (payload_of m) (in_full_blocks m (rewritten_records base table stable))
+
+-- how many commands were accepted before its base
+abbrev pub commands_before : {O : Type 0} → LogView → ℕ → List (Record O) → ℕ
+commands_before log base stable = log.header.commands + length (commands_of (left_out base stable))
+
+-- the log file after the rewrite
+abbrev pub rewritten_log : {O : Type 0} → Meaning O → LogView → ℕ → Table → List (Record O) → LogView
+rewritten_log m log base table stable = rewritten log base (commands_before log base stable) (new_payloads m base table stable)
+
+-- A log may be rewritten from this base on, with this check: nothing waits, the base is a number of the log or the next
+-- one, and the check is right behind the records from there on, and goes into a block.
+pub record IsRewritable {O : Type 0} (m : Meaning O) (log : RecordLogView) (base : ℕ) (table : Table) : Type 0 where
+  pub waits : log.log.pending ≡ []
+  pub low : log.log.header.base ≤ base
+  pub high : base ≤ log.next
+  pub place : IsPlaced m base log.next (Check table)
+  pub grammar : IsRecord m (Check table)
+  pub short : length (record_code m (Check table)) ≤ 2 ^ 30
+
+-- the log in force stands in this file, with this header, and holds these records
+pub record HoldsInForce {O : Type 0} (m : Meaning O) (active : FileNo) (header : Header) (records : List (Record O)) (files : Files) : Type 0 where
+  pub groups : List (List (Record O))
+  pub log : HoldsRecordLog m active header groups files
+  pub records_are : records_of groups ≡ records
+
+-- What a crash within a rewrite leaves: the log in force is the old one, or, whole, the new one in the other file. The
+-- objects and the old log are as they were, and nothing was said.
+pub record IsRewrittenPartly {O : Type 0} (m : Meaning O) (d : Disk) (log : LogView) (base : ℕ) (table : Table) (stable : List (Record O)) (files : Files) (said : List ℕ) : Type 0 where
+  pub others : In (other_of log.active) Any d.reads files
+  pub in_force : HoldsInForce m log.active log.header stable files
+      ⊎ HoldsInForce m (other_of log.active) (next_header log base (commands_before log base stable)) (rewritten_records base table stable) files
+  pub nothing_said : said ≡ d.said
+
+-- over files that are told, and hold these records, the number is the length of the new log file
+abbrev pub IsNewLength : {O : Type 0} → Meaning O → Disk → RecordLogView → ℕ → Table → ℕ → Type 0
+IsNewLength {O = O} m d log base table n = d.tells_files → (stable : List (Record O)) → Keeps m d log stable [] → n ≡ file_length (new_payloads m base table stable)
+
+-- and over such files that length is within its range
+abbrev pub IsWithinLength : {O : Type 0} → Meaning O → Disk → RecordLogView → ℕ → Table → Type 0
+IsWithinLength {O = O} m d log base table = d.tells_files → (stable : List (Record O)) → Keeps m d log stable [] → file_length (new_payloads m base table stable) ≤ 2 ^ 48
+
+-- Why a rewrite fails: at the last epoch; or else by a fault of the disk, by damage in the old log, for want of memory,
+-- or where the new file would be longer than 2^48 bytes.
+abbrev pub RewriteFails : Type 0 → (FileNo → ℕ → Type 0) → (ℕ → Type 0) → LogView → LogErr → Type 0
+RewriteFails rises fault length_is log DiskFault = rises × (log.header.epoch < 2 ^ 62)
+RewriteFails rises fault length_is log (LogFull used need limit) = (used ≡ used_of log) × length_is need × (limit ≡ 2 ^ 48) × (limit < need) × (log.header.epoch < 2 ^ 62)
+RewriteFails rises fault length_is log (Damaged file place) = fault file place × (log.header.epoch < 2 ^ 62)
+RewriteFails rises fault length_is log (Exhausted epoch) = (epoch ≡ log.header.epoch) × (epoch ≡ 2 ^ 62)
+RewriteFails rises fault length_is log Memory = log.header.epoch < 2 ^ 62
