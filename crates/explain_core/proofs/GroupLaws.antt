@@ -8,7 +8,8 @@ use Rattle.explain_core.specs.History.Member.{Command, Identity}
 use Rattle.explain_core.specs.World.{World, step, end_of}
 use Rattle.explain_core.specs.World.Step.{Crash}
 use Rattle.explain_core.specs.Sound.{IsSound, IsGroup}
-use Rattle.explain_core.proofs.OneState.{slice_get-drop, commands_of-append}
+use Rattle.explain_core.specs.StableLaws.{commands_of-append}
+use Rattle.explain_core.proofs.OneState.{slice_get-drop}
 
 pub the-group : {O : Type 0} (m : Meaning O) (w : World O) (begun : ℕ) → IsSound m w → w.group ≡ Some begun → IsGroup w.history w.forced begun
 the-group m w begun s e = subst (λ (o : Option ℕ). IfSome o (IsGroup w.history w.forced)) e s.group

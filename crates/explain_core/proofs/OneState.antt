@@ -1,19 +1,18 @@
 -- Stable parts stand for one state.
-use Rattle.std.proofs.Common.{◌++◌, ◌≡◌, ◌∙◌, sym, subst, ℕ, zero, suc, ◌+◌, ◌-◌, ◌<◌, ◌≤◌, Bool, List, [], ◌∷◌, length, take, drop, refl, ap, arith, inl, inr, Option, length-drop, length-append, length-take-le}
+use Rattle.std.proofs.Common.{◌≡◌, ◌∙◌, sym, subst, ℕ, zero, suc, ◌+◌, ◌-◌, ◌<◌, ◌≤◌, Bool, List, [], ◌∷◌, length, take, drop, refl, ap, arith, inl, inr, Option, length-take-le}
 use Rattle.std.specs.Prelude.{IsTrue, ◌&&◌, nat_lt, nat_le, slice_get}
 use Rattle.std.specs.List.{AllByRecursion}
 use Rattle.std.proofs.lemmas.List.{take_all, take-take}
-use Rattle.std.proofs.Math.ListN.{take-append-drop}
 use Rattle.std.proofs.lemmas.Bool.{both_ways}
 use Rattle.oper_core.specs.Meaning.{Meaning, IsLawful, state_after}
 use Rattle.explain_core.specs.History.{Member, accesses_of, value_at, numbered, writes_some, commands_of}
-use Rattle.explain_core.specs.History.Member.{Command, Identity}
 use Rattle.oper_core.specs.Cell.{Cell}
 use Rattle.explain_core.specs.Explains.{Explains}
 use Rattle.explain_core.specs.World.{World, Table, step, run, replays, plan_of, start_of, end_of, set_by}
 use Rattle.explain_core.specs.World.Step.{Replay, Crash}
 use Rattle.explain_core.specs.Sound.{IsSound, SkipsNothing, and_below}
 use Rattle.explain_core.specs.Stable.{Stable, IsStableOf, world_of, stable_of}
+use Rattle.explain_core.specs.StableLaws.{stand-length}
 use Rattle.explain_core.proofs.Basics.{front-take}
 use Rattle.explain_core.proofs.Crash.{history-take, all_fit-front, base-within, plan_fits, least_of-le, least_of-from, start-installed, same-below}
 use Rattle.explain_core.proofs.Core.{Explains-same}
@@ -101,9 +100,6 @@ standing_sound m law parts h i s =
       group = tt;
     }
 
-stand-length : {O : Type 0} (m : Meaning O) (parts : Stable O) (h : List (Member O)) (i : ℕ → Bool) → IsStableOf m parts h i → length h ≡ (parts.base - 1) + length parts.records
-stand-length m parts h i s = omega (arith, s.base, s.reached, length-drop (parts.base - 1) h, ap length s.records)
-
 stand-member : {O : Type 0} (m : Meaning O) (parts : Stable O) (h : List (Member O)) (i : ℕ → Bool) → IsStableOf m parts h i → (n : ℕ) → parts.base ≤ suc n → slice_get h n ≡ slice_get parts.records (n - (parts.base - 1))
 stand-member {O} m parts h i s n le =
     let d = parts.base - 1 in
@@ -113,18 +109,6 @@ stand-member {O} m parts h i s n le =
 member-same : {O : Type 0} (m : Meaning O) (parts : Stable O) (h k : List (Member O)) (i j : ℕ → Bool) → IsStableOf m parts h i → IsStableOf m parts k j → (n : ℕ) → parts.base ≤ n → numbered h n ≡ numbered k n
 member-same m parts h k i j s t zero le = refl
 member-same m parts h k i j s t (suc n) le = stand-member m parts h i s n le ∙ sym (stand-member m parts k j t n le)
-
-pub commands_of-append : {O : Type 0} (xs ys : List (Member O)) → commands_of (xs ++ ys) ≡ commands_of xs ++ commands_of ys
-commands_of-append [] ys = refl
-commands_of-append (Command op ∷ xs) ys = ap (λ l. op ∷ l) (commands_of-append xs ys)
-commands_of-append (Identity x v ∷ xs) ys = commands_of-append xs ys
-
--- how many commands they stand for
-pub stand-commands : {O : Type 0} (m : Meaning O) (parts : Stable O) (h : List (Member O)) (i : ℕ → Bool) → IsStableOf m parts h i → length (commands_of h) ≡ parts.commands_before + length (commands_of parts.records)
-stand-commands {O} m parts h i s =
-    let d = parts.base - 1 in
-    let e : length (commands_of (take d h ++ drop d h)) ≡ length (commands_of (take d h)) + length (commands_of (drop d h)) = ap length (commands_of-append (take d h) (drop d h)) ∙ length-append (commands_of (take d h)) (commands_of (drop d h)) in
-    ap (λ (l : List (Member O)). length (commands_of l)) (sym (take-append-drop d h)) ∙ e ∙ ap (λ n. n + length (commands_of (drop d h))) (sym s.counted) ∙ ap (λ (l : List (Member O)). parts.commands_before + length (commands_of l)) s.records
 
 -- stable parts are those of one state
 pub one-state : {O : Type 0} (m : Meaning O) → IsLawful m → (parts : Stable O) (h k : List (Member O)) (i j : ℕ → Bool) → IsStableOf m parts h i → IsStableOf m parts k j → (x : ℕ) → state_after m (commands_of h) x ≡ state_after m (commands_of k) x

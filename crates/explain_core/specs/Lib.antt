@@ -12,6 +12,7 @@ pub mod CountLaws
 pub mod KeptLog
 pub mod ThinLaws
 pub mod Stable
+pub mod StableLaws
 pub mod Backup
 pub mod Exact
 pub mod ByteOps

@@ -89,7 +89,7 @@ module _ {O : Type 0} (m : Meaning O) (lawful : IsLawful m) (w : World O) (sound
     abbrev node : ℕ → Bool
     node = node_named m w name
 
-    is_so : IsTrue (is_thin m w name)
+    pub is_so : IsTrue (is_thin m w name)
     is_so = (least-is (is_thin m w) end).1 (ltb-true _ _ thin)
 
     held_there : IsTrue (w.graph name)
@@ -114,10 +114,10 @@ module _ {O : Type 0} (m : Meaning O) (lawful : IsLawful m) (w : World O) (sound
         chosen_walk w.graph (accesses_of m w.history) name n held_there
         (reach-gives a (edge_test a m.objects end) (λ o p. test-gives a m.objects end o p) end name n (and_parts (reach (edge_test a m.objects end) end name n) _ on).0)
 
-    ready : IsReady m w node
+    pub ready : IsReady m w node
     ready = (in_graph, ((node-is a m.objects end name is_within).0, no_edge), stable)
 
-    one_work : (x y : ℕ) → work_of m w node x → work_of m w node y → y ≡ x
+    pub one_work : (x y : ℕ) → work_of m w node x → work_of m w node y → y ≡ x
     one_work x y wx wy = count_one m.objects (has_work m w node) few x y (work_there node x wx) (work_there node y wy) (work_gives node x wx) (work_gives node y wy)
 
     -- after the slot gate nothing is left to flush
@@ -134,7 +134,7 @@ module _ {O : Type 0} (m : Meaning O) (lawful : IsLawful m) (w : World O) (sound
       tt,
     )
 
-    steps_allowed : AreAllowed m w (thin_steps m w)
+    pub steps_allowed : AreAllowed m w (thin_steps m w)
     steps_allowed = elim (cases_Bool (some_below m.objects (has_work m w node))) [
       | inl some ↦
           let g = some-gives m.objects (has_work m w node) some in

@@ -1,5 +1,6 @@
 use Rattle.std.proofs.Common.{◌∙◌, sym}
-use Rattle.explain_core.proofs.OneState.{one-state, stand-commands}
+use Rattle.explain_core.specs.StableLaws.{stand-commands}
+use Rattle.explain_core.proofs.OneState.{one-state}
 use Rattle.explain_core.proofs.recovery.one_state.Goals as goal
 
 pub returns : goal.returns

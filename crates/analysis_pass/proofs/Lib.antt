@@ -1,0 +1,4 @@
+mod Lasts
+mod Objects
+mod Least
+mod Checks
