@@ -108,7 +108,7 @@ pub among-left : (k : ℕ) (xs ys : List ℕ) → IsTrue (is_among k xs) → IsT
 among-left k [] ys t = absurd (both_ways _ refl t)
 among-left k (x ∷ xs) ys t = elim (or_cases (k == x) (is_among k xs) t) [ inl e ↦ or_left (k == x) (is_among k (xs ++ ys)) e | inr r ↦ or_right (k == x) (is_among k (xs ++ ys)) (among-left k xs ys r) ]
 
-read-left : (xs ys : List ℕ) (i : ℕ) → i < length xs → slice_index (xs ++ ys) i ≡ slice_index xs i
+pub read-left : (xs ys : List ℕ) (i : ℕ) → i < length xs → slice_index (xs ++ ys) i ≡ slice_index xs i
 read-left [] ys i lt = absurd (omega arith)
 read-left (x ∷ xs) ys zero lt = refl
 read-left (x ∷ xs) ys (suc i) lt = read-left xs ys i (omega arith)

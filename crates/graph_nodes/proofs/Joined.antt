@@ -77,7 +77,7 @@ moved-poured n one old new apart is = record {
 same-name : (one m : ℕ) → renamed one one m ≡ m
 same-name one m = elim (cases_eq m one) [ inl q ↦ renamed-at one one m q ∙ sym q | inr ne ↦ renamed-off one one m ne ]
 
-many-same : (a : Lists) → AreAsMany a a
+pub many-same : (a : Lists) → AreAsMany a a
 many-same a = record { lists = refl; items = refl; list_room = refl; item_room = refl }
 
 -- a node and itself
@@ -137,7 +137,7 @@ skip a b e = ap (λ (x : Bool). x || b) e
 one-stays : (n one : ℕ) → renamed n one one ≡ one
 one-stays n one = elim (cases_eq one n) [ inl q ↦ renamed-at n one one q | inr ne ↦ renamed-off n one one ne ]
 
-many-twice : (a b c : Lists) → AreAsMany a b → AreAsMany b c → AreAsMany a c
+pub many-twice : (a b c : Lists) → AreAsMany a b → AreAsMany b c → AreAsMany a c
 many-twice a b c f g = record { lists = g.lists ∙ f.lists; items = g.items ∙ f.items; list_room = g.list_room ∙ f.list_room; item_room = g.item_room ∙ f.item_room }
 
 among-push : (k n : ℕ) (xs : List ℕ) → is_among k (xs ++ n ∷ []) ≡ (is_among k xs || (k == n))

@@ -1,5 +1,16 @@
+pub mod Options
 pub mod Found
+pub mod Followed
+pub mod Turned
 pub mod Taken
 pub mod Joined
+pub mod Settled
 pub mod Ordered
+pub mod Bare
 pub mod Slot
+pub mod Cleared
+pub mod Scattered
+pub mod Gone
+pub mod Asked
+pub mod Told
+pub mod Least

@@ -1,18 +1,21 @@
 -- One slot more.
 use Rattle.std.proofs.Common.{◌≡◌, ◌∙◌, ap, sym, subst, ℕ, zero, suc, ◌+◌, ◌<◌, ◌≤◌, List, [], ◌∷◌, ◌++◌, append_assoc, append-nil, length, length-append, refl, arith, inl, inr}
-use Rattle.std.specs.Prelude.{IsTrue, ◌==◌, Option, None, slice_index_or}
+use Rattle.std.specs.Prelude.{IsTrue, ◌==◌, ◌/◌, ◌^◌, Bool, true, Option, None, IsSome, slice_index_or, false}
 use Rattle.std.proofs.lemmas.Bool.{cases_eq, cases_lt, both_ways, or_left, or_cases, eqb-true, eq-eqb}
 use Rattle.std.proofs.Math.ListN.{get_or-eq_default}
 use Rattle.oper_core.specs.State.{is_among}
 use Rattle.number_lists.specs.Lists.{Lists, list_at, IsWider, IsLonger, IsPushed}
-use Rattle.graph_nodes.specs.Arcs.{arc_at, node_at, IsArc}
+use Rattle.number_lists.specs.Members.{Members}
+use Rattle.graph_nodes.specs.Arcs.{arc_at, node_at, name_at, held_at, IsArc}
+use Rattle.graph_nodes.specs.Into.{AreLed}
+use Rattle.graph_nodes.specs.Named.{Naming, AreNamed}
 use Rattle.graph_nodes.specs.Merge.{IsFiled}
-use Rattle.graph_nodes.specs.Kept.{IsKept, no_arcs, AreCellsAdded}
-use Rattle.graph_nodes.proofs.Ordered.{nodes-iff, same-nodes}
+use Rattle.graph_nodes.specs.Kept.{IsKept, HasRoom, no_arcs, AreCellsAdded}
+use Rattle.graph_nodes.proofs.Ordered.{nodes-iff, same-nodes, slot-of}
 
 -- one more cell
 pub cells-none : (old : List (Option ℕ)) (into : Lists) → AreCellsAdded 0 old old into into
-cells-none old into = record { arcs = sym (append-nil old); here = λ j. refl; lists = refl; items = omega arith }
+cells-none old into = record { arcs = sym (append-nil old); here = λ j. refl; lists = refl; items = omega arith; list_room = refl; item_room = omega arith }
 
 nones-more : (n : ℕ) → no_arcs n ++ None ∷ [] ≡ no_arcs (n + 1)
 nones-more zero = refl
@@ -24,6 +27,8 @@ cells-on n a b c ia ib ic was e is = record {
   here = λ j. is.here j ∙ was.here j;
   lists = is.lists ∙ was.lists;
   items = omega (arith, is.items, was.items);
+  list_room = is.list_room ∙ was.list_room;
+  item_room = omega (arith, is.item_room, was.item_room);
 }
 
 nones-at : (n c : ℕ) → arc_at (no_arcs n) c ≡ None
@@ -47,7 +52,7 @@ read-last [] v d = refl
 read-last (x ∷ node) v d = read-last node v d
 
 -- the nodes are the same
-node-same : (node : List ℕ) (i : ℕ) → node_at (node ++ length node ∷ []) i ≡ node_at node i
+pub node-same : (node : List ℕ) (i : ℕ) → node_at (node ++ length node ∷ []) i ≡ node_at node i
 node-same node i = elim (cases_lt i (length node)) [
   | inl lt ↦ read-left node i (length node) i lt
   | inr ge ↦ elim (cases_eq i (length node)) [
@@ -56,7 +61,7 @@ node-same node i = elim (cases_lt i (length node)) [
   ]
 ]
 
-past-empty : (ls : List (List ℕ)) (j : ℕ) → length ls ≤ j → list_at ls j ≡ []
+pub past-empty : (ls : List (List ℕ)) (j : ℕ) → length ls ≤ j → list_at ls j ≡ []
 past-empty [] j le = refl
 past-empty (xs ∷ ls) zero le = absurd (omega (arith, le))
 past-empty (xs ∷ ls) (suc j) le = past-empty ls j (omega (arith, le))
@@ -94,60 +99,143 @@ filed-more node a b c d filed count wide long push =
       ];
     }
 
-pub kept-slot : (arcs more : List (Option ℕ)) (node : List ℕ) (ma mb mc md ia ib ic : Lists) → IsKept arcs node ma ia → IsWider ma mb → IsLonger mb mc → IsPushed mc (length node) (length node) md → IsWider ia ib → AreCellsAdded 8 arcs more ib ic →
-    IsKept more (node ++ length node ∷ []) md ic
-kept-slot arcs more node ma mb mc md ia ib ic kept wide long push wide_into cells =
+-- the slots before are held as they were
+pub held-same : (held : List Bool) (i : ℕ) → i < length held → held_at (held ++ true ∷ []) i ≡ held_at held i
+held-same [] i lt = absurd (omega arith)
+held-same (h ∷ held) zero lt = refl
+held-same (h ∷ held) (suc i) lt = held-same held i (omega arith)
+
+pub held-last : (held : List Bool) → IsTrue (held_at (held ++ true ∷ []) (length held))
+held-last [] = refl
+held-last (h ∷ held) = held-last held
+
+-- all but the last are held as they were, past the end too
+pub held-other : (held : List Bool) (i : ℕ) → (i ≡ length held → ⊥) → held_at (held ++ true ∷ []) i ≡ held_at held i
+held-other held i ne = elim (cases_lt i (length held)) [
+  | inl lt ↦ held-same held i lt
+  | inr ge ↦ get_or-eq_default (held ++ true ∷ []) false (omega (arith, ge, ne, length-append held (true ∷ []))) ∙ sym (get_or-eq_default held false ge)
+]
+
+named-slot : (node name names : List ℕ) → AreNamed node name → length name ≡ length node → names ≡ name ++ length node ∷ [] → AreNamed (node ++ length node ∷ []) names
+named-slot node name names are size e =
+    let new = node ++ length node ∷ [] in
+    let same : (m : ℕ) → name_at names m ≡ name_at name m = λ m. ap (λ (xs : List ℕ). name_at xs m) (e ∙ ap (λ (n : ℕ). name ++ n ∷ []) (sym size)) ∙ node-same name m in
+    let at : (i : ℕ) → name_at names (node_at new i) ≡ name_at name (node_at node i) = λ i. same (node_at new i) ∙ ap (λ (m : ℕ). name_at name m) (node-same node i) in
+    record {
+      least = λ i. omega (arith, at i, are.least i);
+      member = λ i. ap (λ (m : ℕ). node_at new m) (at i) ∙ node-same node (name_at name (node_at node i)) ∙ are.member i ∙ sym (node-same node i);
+    }
+
+-- the lists are the same, and so are the arcs
+led-slot : (arcs more : List (Option ℕ)) (node : List ℕ) (ia ic : Lists) → AreLed arcs node ia → ((c : ℕ) → arc_at more c ≡ arc_at arcs c) → length arcs ≤ length more → ((j : ℕ) → list_at ic.lists j ≡ list_at ia.lists j) → AreLed more (node ++ length node ∷ []) ic
+led-slot arcs more node ia ic led arc le lists =
+    let new = node ++ length node ∷ [] in
+    let was : (m c : ℕ) → IsTrue (is_among c (list_at ic.lists m)) → IsTrue (is_among c (list_at ia.lists m)) = λ m c t. subst (λ (xs : List ℕ). IsTrue (is_among c xs)) (lists m) t in
+    let is : (m c : ℕ) → IsTrue (is_among c (list_at ia.lists m)) → IsTrue (is_among c (list_at ic.lists m)) = λ m c t. subst (λ (xs : List ℕ). IsTrue (is_among c xs)) (sym (lists m)) t in
+    record {
+      leads = record {
+        there = λ c j a out. subst (λ (m : ℕ). IsTrue (is_among c (list_at ic.lists m))) (sym (node-same node j))
+            (is (node_at node j) c (led.leads.there c j (sym (arc c) ∙ a) (λ e. out (node-same node (c / 8) ∙ e ∙ sym (node-same node j)))));
+        only = λ m c t. let r = led.leads.only m c (was m c t) in (omega (arith, r.0, le), λ j a. node-same node j ∙ r.1 j (sym (arc c) ∙ a));
+      };
+      live = λ m c t.
+          let d = led.live m c (was m c t) in
+          (d.0, is m d.0 d.1, (subst (λ (a : Option ℕ). IsSome a) (sym (arc d.0)) d.2.0, λ e. d.2.1 (sym (node-same node (d.0 / 8)) ∙ e)));
+    }
+
+pub kept-slot : (arcs more : List (Option ℕ)) (node : List ℕ) (held : List Bool) (name names : List ℕ) (ma mb mc md ia ib ic : Lists) → IsKept arcs node held name ma ia → length node < 2 ^ 28 → names ≡ name ++ length node ∷ [] → IsWider ma mb → IsLonger mb mc → IsPushed mc (length node) (length node) md → IsWider ia ib →
+    AreCellsAdded 8 arcs more ib ic → IsKept more (node ++ length node ∷ []) (held ++ true ∷ []) names md ic
+kept-slot arcs more node held name names ma mb mc md ia ib ic kept few e wide long push wide_into cells =
     let n = length node in
     let new = node ++ n ∷ [] in
     let size : length new ≡ n + 1 = length-append node (n ∷ []) in
     let arc : (c : ℕ) → arc_at more c ≡ arc_at arcs c = λ c. ap (λ (xs : List (Option ℕ)). arc_at xs c) cells.arcs ∙ arc-same arcs 8 c in
     let lists : (j : ℕ) → list_at ic.lists j ≡ list_at ia.lists j = λ j. cells.here j ∙ wide_into.here j in
+    let count : length more ≡ length arcs + 8 = ap length cells.arcs ∙ length-append arcs (no_arcs 8) in
     record {
       nodes = nodes-iff (IsArc arcs) (IsArc more) (node_at new)
           (λ i j. ((λ a. (a.0, a.1, sym (arc a.0) ∙ a.2)), (λ a. (a.0, a.1, arc a.0 ∙ a.2))))
           (same-nodes (IsArc arcs) (node_at node) (node_at new) (node-same node) kept.nodes);
+      own = λ i. ap (λ (k : ℕ). node_at new k) (node-same node i) ∙ node-same node (node_at node i) ∙ kept.own i ∙ sym (node-same node i);
       filed = filed-more node ma mb mc md kept.filed kept.range.member_lists wide long push;
-      leads = record {
-        there = λ c j a. subst (λ (m : ℕ). IsTrue (is_among c (list_at ic.lists m))) (sym (node-same node j)) (subst (λ (xs : List ℕ). IsTrue (is_among c xs)) (sym (lists (node_at node j))) (kept.leads.there c j (sym (arc c) ∙ a)));
-        only = λ m c t.
-            let r = kept.leads.only m c (subst (λ (xs : List ℕ). IsTrue (is_among c xs)) (lists m) t) in
-            (r.0, arc c ∙ r.1, node-same node r.0 ∙ r.2);
-      };
+      named = named-slot node name names kept.named kept.range.names e;
+      led = led-slot arcs more node ia ic kept.led arc (omega (arith, count)) lists;
+      lost = λ m c t none.
+          let was = subst (λ (xs : List ℕ). IsTrue (is_among c xs)) (lists m) t in
+          let low = slot-of c n (omega (arith, (kept.led.leads.only m c was).0, kept.range.cells)) in
+          held-same held (c / 8) (omega (arith, low, kept.range.holds)) ∙ kept.lost m c was (sym (arc c) ∙ none);
       range = record {
-        cells = omega (arith, ap length cells.arcs, length-append arcs (no_arcs 8), size, kept.range.cells);
+        cells = omega (arith, count, size, kept.range.cells);
         ends = λ c j a. omega (arith, kept.range.ends c j (sym (arc c) ∙ a), size);
         nodes = λ i lt. elim (cases_lt i n) [
           | inl low ↦ omega (arith, node-same node i, kept.range.nodes i low, size)
           | inr ge ↦ omega (arith, node-same node i, get_or-eq_default node i ge, lt)
         ];
+        holds = omega (arith, length-append held (true ∷ []), kept.range.holds, size);
+        names = omega (arith, ap length e, length-append name (n ∷ []), kept.range.names, size);
         member_lists = omega (arith, push.same.lists, long.lists, wide.lists, kept.range.member_lists, size);
         into_lists = omega (arith, cells.lists, wide_into.lists, kept.range.into_lists, size);
         member_items = omega (arith, push.same.items, long.items, wide.items, kept.range.member_items, size);
-        into_items = omega (arith, cells.items, wide_into.items, kept.range.into_items, ap length cells.arcs, length-append arcs (no_arcs 8));
+        into_items = omega (arith, cells.items, wide_into.items, kept.range.into_items, count);
+        small = omega (arith, size, few);
       };
     }
 
 -- more room changes nothing
-pub kept-room : (arcs a : List (Option ℕ)) (node b : List ℕ) (ma mb ia ib : Lists) → IsKept arcs node ma ia → a ≡ arcs → b ≡ node → mb.lists ≡ ma.lists → mb.items ≡ ma.items → ib.lists ≡ ia.lists → ib.items ≡ ia.items → IsKept a b mb ib
-kept-room arcs a node b ma mb ia ib kept ea eb el ei fl fi =
-    let m : IsKept arcs node mb ib = record {
-      nodes = kept.nodes;
-      filed = record {
-        there = λ i lt. subst (λ (ls : List (List ℕ)). IsTrue (is_among i (list_at ls (node_at node i)))) (sym el) (kept.filed.there i lt);
-        only = λ m i t. kept.filed.only m i (subst (λ (ls : List (List ℕ)). IsTrue (is_among i (list_at ls m))) el t);
-      };
-      leads = record {
-        there = λ c j arc. subst (λ (ls : List (List ℕ)). IsTrue (is_among c (list_at ls (node_at node j)))) (sym fl) (kept.leads.there c j arc);
-        only = λ m c t. kept.leads.only m c (subst (λ (ls : List (List ℕ)). IsTrue (is_among c (list_at ls m))) fl t);
-      };
-      range = record {
-        cells = kept.range.cells;
-        ends = kept.range.ends;
-        nodes = kept.range.nodes;
-        member_lists = ap length el ∙ kept.range.member_lists;
-        into_lists = ap length fl ∙ kept.range.into_lists;
-        member_items = ei ∙ kept.range.member_items;
-        into_items = fi ∙ kept.range.into_items;
-      };
-    } in
-    subst (λ (xs : List (Option ℕ)). IsKept xs b mb ib) (sym ea) (subst (λ (xs : List ℕ). IsKept arcs xs mb ib) (sym eb) m)
+kept-lists : (arcs : List (Option ℕ)) (node : List ℕ) (held : List Bool) (name : List ℕ) (ma mb ia ib : Lists) → IsKept arcs node held name ma ia → mb.lists ≡ ma.lists → mb.items ≡ ma.items → ib.lists ≡ ia.lists → ib.items ≡ ia.items → IsKept arcs node held name mb ib
+kept-lists arcs node held name ma mb ia ib kept el ei fl fi = record {
+  nodes = kept.nodes;
+  own = kept.own;
+  filed = record {
+    there = λ i lt. subst (λ (ls : List (List ℕ)). IsTrue (is_among i (list_at ls (node_at node i)))) (sym el) (kept.filed.there i lt);
+    only = λ m i t. kept.filed.only m i (subst (λ (ls : List (List ℕ)). IsTrue (is_among i (list_at ls m))) el t);
+  };
+  named = kept.named;
+  led = record {
+    leads = record {
+      there = λ c j arc out. subst (λ (ls : List (List ℕ)). IsTrue (is_among c (list_at ls (node_at node j)))) (sym fl) (kept.led.leads.there c j arc out);
+      only = λ m c t. kept.led.leads.only m c (subst (λ (ls : List (List ℕ)). IsTrue (is_among c (list_at ls m))) fl t);
+    };
+    live = λ m c t.
+        let d = kept.led.live m c (subst (λ (ls : List (List ℕ)). IsTrue (is_among c (list_at ls m))) fl t) in
+        (d.0, subst (λ (ls : List (List ℕ)). IsTrue (is_among d.0 (list_at ls m))) (sym fl) d.1, d.2);
+  };
+  lost = λ m c t none. kept.lost m c (subst (λ (ls : List (List ℕ)). IsTrue (is_among c (list_at ls m))) fl t) none;
+  range = record {
+    cells = kept.range.cells;
+    ends = kept.range.ends;
+    nodes = kept.range.nodes;
+    holds = kept.range.holds;
+    names = kept.range.names;
+    member_lists = ap length el ∙ kept.range.member_lists;
+    into_lists = ap length fl ∙ kept.range.into_lists;
+    member_items = ei ∙ kept.range.member_items;
+    into_items = fi ∙ kept.range.into_items;
+    small = kept.range.small;
+  };
+}
+
+pub kept-room : (arcs a : List (Option ℕ)) (node b : List ℕ) (held h : List Bool) (name n : List ℕ) (ma mb ia ib : Lists) → IsKept arcs node held name ma ia → a ≡ arcs → b ≡ node → h ≡ held → n ≡ name → mb.lists ≡ ma.lists → mb.items ≡ ma.items → ib.lists ≡ ia.lists → ib.items ≡ ia.items → IsKept a b h n mb ib
+kept-room arcs a node b held h name n ma mb ia ib kept ea eb eh en el ei fl fi =
+    subst (λ (xs : List (Option ℕ)). IsKept xs b h n mb ib) (sym ea)
+    (subst (λ (xs : List ℕ). IsKept arcs xs h n mb ib) (sym eb)
+    (subst (λ (xs : List Bool). IsKept arcs node xs n mb ib) (sym eh)
+    (subst (λ (xs : List ℕ). IsKept arcs node held xs mb ib) (sym en)
+    (kept-lists arcs node held name ma mb ia ib kept el ei fl fi))))
+
+-- no capacity is less
+pub room-more : (room slots more a b c d e f i j : ℕ) (na nb : Naming) (ma mb ia ib : Lists) (fa fb ta tb : Members) → more ≡ slots → a ≤ b → c ≤ d → e ≤ f → i ≤ j → na.room ≤ nb.room → ma.list_room ≤ mb.list_room → ma.item_room ≤ mb.item_room → ia.list_room ≤ ib.list_room → ia.item_room ≤ ib.item_room →
+    fa.room ≤ fb.room → ta.room ≤ tb.room → HasRoom room slots a c e i na ma ia fa ta → HasRoom room more b d f j nb mb ib fb tb
+room-more room slots more a b c d e f i j na nb ma mb ia ib fa fb ta tb same ab cd ef ij nn ml mi il ii fr tr is = record {
+  arcs = omega (arith, is.arcs, same, ab);
+  node = omega (arith, is.node, same, cd);
+  held = omega (arith, is.held, same, ef);
+  name = omega (arith, is.name, nn);
+  scratch = omega (arith, is.scratch, same, ij);
+  member_lists = omega (arith, is.member_lists, ml);
+  members = omega (arith, is.members, mi);
+  into_lists = omega (arith, is.into_lists, il);
+  into = omega (arith, is.into, ii);
+  found = omega (arith, is.found, fr);
+  taken = omega (arith, is.taken, tr);
+}

@@ -1,5 +1,5 @@
 -- Arcs between slots: each slot has eight cells, and each cell at most one arc.
-use Rattle.std.specs.Prelude.{◌≡◌, ℕ, ◌/◌, ◌<◌, IsTrue, List, length, Option, None, Some, IsSome, slice_index_or}
+use Rattle.std.specs.Prelude.{◌≡◌, ℕ, ◌/◌, ◌<◌, Bool, false, IsTrue, List, length, Option, None, Some, IsSome, slice_index_or}
 use Rattle.oper_core.specs.State.{is_among}
 
 -- where the cell's arc leads
@@ -29,3 +29,19 @@ AreCells arcs node cells = (c : ℕ) → IsTrue (is_among c cells) → (c < leng
 -- each node is below the end
 abbrev pub AreBelow : List ℕ → ℕ → Type 0
 AreBelow node end = (i : ℕ) → i < length node → node_at node i < end
+
+-- the slot is held
+abbrev pub held_at : List Bool → ℕ → Bool
+held_at held i = slice_index_or held i false
+
+-- the name that the table has for the node m, which is m itself where it has none
+abbrev pub name_at : List ℕ → ℕ → ℕ
+name_at name m = slice_index_or name m m
+
+-- the cell has an arc, which starts in another node than m
+abbrev pub IsFromOutside : List (Option ℕ) → List ℕ → ℕ → ℕ → Type 0
+IsFromOutside arcs node c m = IsSome (arc_at arcs c) × (node_at node (c / 8) ≡ m → ⊥)
+
+-- each arc ends at a slot whose node is below the end
+abbrev pub AreEnds : List (Option ℕ) → List ℕ → ℕ → Type 0
+AreEnds arcs node end = (c j : ℕ) → arc_at arcs c ≡ Some j → (j < length node) × (node_at node j < end)

@@ -1,57 +1,87 @@
 -- What a graph of slots keeps.
-use Rattle.std.specs.Prelude.{◌≡◌, ℕ, ◌*◌, ◌<◌, ◌⊎◌, IsTrue, IsFalse, ◌+◌, ◌++◌, ◌∷◌, replicate, List, [], length, Option, None, Some}
+use Rattle.std.specs.Prelude.{◌≡◌, ℕ, ◌*◌, ◌^◌, ◌<◌, ◌≤◌, ◌⊎◌, ◌↔◌, Bool, true, IsTrue, IsFalse, ◌+◌, ◌++◌, ◌∷◌, replicate, List, [], length, Option, None, Some}
 use Rattle.oper_core.specs.State.{is_among}
 use Rattle.sparse_order.specs.Digraph.{AreNodes}
 use Rattle.number_lists.specs.Lists.{Lists, list_at}
-use Rattle.graph_nodes.specs.Arcs.{arc_at, node_at, IsArc}
-use Rattle.graph_nodes.specs.Search.{IsSearched}
+use Rattle.number_lists.specs.Members.{Members}
+use Rattle.number_lists.specs.Marks.{mark_at}
+use Rattle.graph_nodes.specs.Arcs.{arc_at, node_at, name_at, held_at, IsArc}
+use Rattle.graph_nodes.specs.Into.{AreLed, AreLost}
+use Rattle.graph_nodes.specs.Named.{Graph, Naming, AreNamed, AreNamesMerged}
+use Rattle.graph_nodes.specs.Search.{IsSearched, IsApart}
 use Rattle.graph_nodes.specs.Spread.{IsSpread}
 use Rattle.graph_nodes.specs.Merge.{IsFiled, gathered, AreRenamed}
 
--- what contracts see of a graph: the arcs by cell, and what stands for the node of each slot
-pub record Graph : Type 0 where
-  pub arcs : List (Option ℕ)
-  pub node : List ℕ
-
--- the cells of each node are those whose arcs lead into it
-pub record AreInto (arcs : List (Option ℕ)) (node : List ℕ) (into : Lists) : Type 0 where
-  pub there : (c j : ℕ) → arc_at arcs c ≡ Some j → IsTrue (is_among c (list_at into.lists (node_at node j)))
-  pub only : (m c : ℕ) → IsTrue (is_among c (list_at into.lists m)) → (j : ℕ) × (arc_at arcs c ≡ Some j) × (node_at node j ≡ m)
+-- each node is stood for by a slot of its own
+abbrev pub AreOwn : List ℕ → Type 0
+AreOwn node = (i : ℕ) → node_at node (node_at node i) ≡ node_at node i
 
 -- all numbers are in their range
-pub record AreInRange (arcs : List (Option ℕ)) (node : List ℕ) (members into : Lists) : Type 0 where
+pub record AreInRange (arcs : List (Option ℕ)) (node : List ℕ) (held : List Bool) (name : List ℕ) (members into : Lists) : Type 0 where
   pub cells : length arcs ≡ 8 * length node
   pub ends : (c j : ℕ) → arc_at arcs c ≡ Some j → j < length node
   pub nodes : (i : ℕ) → i < length node → node_at node i < length node
+  pub holds : length held ≡ length node
+  pub names : length name ≡ length node
   pub member_lists : length members.lists ≡ length node
   pub into_lists : length into.lists ≡ length node
   pub member_items : members.items ≡ length node
   pub into_items : into.items ≡ length arcs
+  pub small : length node ≤ 2 ^ 28
 
 -- the slots with one node are those that reach each other, and all tables agree
-pub record IsKept (arcs : List (Option ℕ)) (node : List ℕ) (members into : Lists) : Type 0 where
+pub record IsKept (arcs : List (Option ℕ)) (node : List ℕ) (held : List Bool) (name : List ℕ) (members into : Lists) : Type 0 where
   pub nodes : AreNodes (IsArc arcs) (node_at node)
+  pub own : AreOwn node
   pub filed : IsFiled node members
-  pub leads : AreInto arcs node into
-  pub range : AreInRange arcs node members into
+  pub named : AreNamed node name
+  pub led : AreLed arcs node into
+  pub lost : AreLost arcs held into
+  pub range : AreInRange arcs node held name members into
 
--- the nodes that walks from w to v go through, none where w does not reach v
+-- the marked names are those of the nodes whose slots are held, and those marked as minimal are those of nodes without cells
+pub record IsMarked (node : List ℕ) (held : List Bool) (into : Lists) (n : Naming) : Type 0 where
+  pub names : (k : ℕ) → IsTrue (mark_at n.names k) ↔ (IsTrue (held_at held k) × (name_at n.name (node_at node k) ≡ k))
+  pub told : (k : ℕ) → IsTrue (mark_at n.minimal k) ↔ (IsTrue (mark_at n.names k) × (list_at into.lists (node_at node k) ≡ []))
+
+-- with so many slots, there is memory for so many more: these are the capacities
+pub record HasRoom (room slots arc_cap node_cap held_cap scratch_cap : ℕ) (name_room : Naming) (member_room into_room : Lists) (found_room taken_room : Members) : Type 0 where
+  pub arcs : 8 * (slots + room) ≤ arc_cap
+  pub node : slots + room ≤ node_cap
+  pub held : slots + room ≤ held_cap
+  pub name : room ≤ name_room.room
+  pub scratch : 8 * (slots + room) ≤ scratch_cap
+  pub member_lists : room ≤ member_room.list_room
+  pub members : room ≤ member_room.item_room
+  pub into_lists : room ≤ into_room.list_room
+  pub into : 8 * room ≤ into_room.item_room
+  pub found : room ≤ found_room.room
+  pub taken : room ≤ taken_room.room
+
+-- the numbers end where they did, and there is as much room
+pub record IsWide (old new : Members) : Type 0 where
+  pub end : new.end ≡ old.end
+  pub room : old.room ≤ new.room
+
+-- the nodes that walks from w to v go through, none where w does not reach v or is v
 abbrev pub AreOnWay : List (Option ℕ) → List ℕ → Lists → ℕ → ℕ → List ℕ → Type 0
-AreOnWay arcs node into v w ns = (found : List ℕ) × IsSearched arcs node into v w found × ((IsFalse (is_among w found) × (ns ≡ [])) ⊎ (IsTrue (is_among w found) × IsSpread arcs node into w found ns))
+AreOnWay arcs node into v w ns = (IsApart arcs node into v w × (ns ≡ [])) ⊎ ((found : List ℕ) × IsSearched arcs node into v w found × IsTrue (is_among w found) × IsSpread arcs node into w found ns)
 
 -- the nodes on the way from w to v are one
-abbrev pub AreJoined : List (Option ℕ) → ℕ → ℕ → List ℕ → List ℕ → Lists → Lists → Lists → Lists → Type 0
-AreJoined arcs v w old_node new_node old_members new_members old_into new_into =
-    (ns : List ℕ) × AreOnWay arcs old_node old_into v w ns × ((one : ℕ) × ((ns ≡ []) ⊎ IsTrue (is_among one ns)) × AreRenamed (gathered ns one) old_node new_node old_members new_members old_into new_into)
+abbrev pub AreJoined : List (Option ℕ) → ℕ → ℕ → List ℕ → List ℕ → Naming → Naming → Lists → Lists → Lists → Lists → Type 0
+AreJoined arcs v w old_node new_node old_names new_names old_members new_members old_into new_into =
+    (ns : List ℕ) × AreOnWay arcs old_node old_into v w ns × ((one : ℕ) × ((ns ≡ []) ⊎ IsTrue (is_among one ns)) × AreNamesMerged ns one old_names new_names × AreRenamed (gathered ns one) old_node new_node old_members new_members old_into new_into)
 
 -- the cells of one more slot, which have no arcs
 abbrev pub no_arcs : ℕ → List (Option ℕ)
 no_arcs n = replicate n None
 
--- one more slot, whose cells have no arcs, and which is a node by itself
+-- one more slot, which is held, whose cells have no arcs, and which is a node by itself
 pub record IsSlotAdded (old new : Graph) : Type 0 where
   pub arcs : new.arcs ≡ old.arcs ++ no_arcs 8
   pub node : new.node ≡ old.node ++ length old.node ∷ []
+  pub held : new.held ≡ old.held ++ true ∷ []
+  pub room : old.room ≡ new.room + 1
 
 -- so many more cells, which have no arcs and are in no list
 pub record AreCellsAdded (n : ℕ) (old new : List (Option ℕ)) (old_into new_into : Lists) : Type 0 where
@@ -59,3 +89,5 @@ pub record AreCellsAdded (n : ℕ) (old new : List (Option ℕ)) (old_into new_i
   pub here : (j : ℕ) → list_at new_into.lists j ≡ list_at old_into.lists j
   pub lists : length new_into.lists ≡ length old_into.lists
   pub items : new_into.items ≡ old_into.items + n
+  pub list_room : new_into.list_room ≡ old_into.list_room
+  pub item_room : old_into.item_room ≤ new_into.item_room + n

@@ -1,5 +1,9 @@
 pub mod Arcs
 pub mod Search
+pub mod Ahead
 pub mod Spread
 pub mod Merge
+pub mod Into
+pub mod Named
+pub mod Removed
 pub mod Kept

@@ -1,10 +1,10 @@
 -- What a search against the arcs has found.
-use Rattle.std.specs.Prelude.{◌≡◌, ℕ, ◌≤◌, ◌++◌, ◌⊎◌, ◌↔◌, IsTrue, List, Option}
+use Rattle.std.specs.Prelude.{◌≡◌, ℕ, ◌/◌, ◌*◌, ◌+◌, ◌<◌, ◌≤◌, ◌++◌, ◌⊎◌, ◌↔◌, IsTrue, List, length, Option, None}
 use Rattle.oper_core.specs.State.{is_among}
 use Rattle.sparse_order.specs.Digraph.{Walk}
 use Rattle.number_lists.specs.Lists.{Lists, list_at}
 use Rattle.number_lists.specs.Members.{Members}
-use Rattle.graph_nodes.specs.Arcs.{IsStartOf, IsStartAmong}
+use Rattle.graph_nodes.specs.Arcs.{arc_at, node_at, IsStartOf, IsStartAmong}
 
 -- the numbers that were there stand where they stood
 pub record AreKept (old new : Members) : Type 0 where
@@ -37,3 +37,21 @@ pub record IsSearched (arcs : List (Option ℕ)) (node : List ℕ) (into : Lists
   pub start : IsTrue (is_among v found)
   pub sound : (m : ℕ) → IsTrue (is_among m found) → Walk (IsBehind arcs node into) m v
   pub closed : (n m : ℕ) → IsTrue (is_among n found) → (n ≡ stop → ⊥) → IsBehind arcs node into m n → IsTrue (is_among m found)
+
+-- the slot m stands for its node, and its cells are there
+pub record IsOwn (arcs : List (Option ℕ)) (node : List ℕ) (m : ℕ) : Type 0 where
+  pub self : node_at node m ≡ m
+  pub slot : m < length node
+  pub cells : 8 * m + 8 ≤ length arcs
+
+-- none of the slot's cells has an arc
+abbrev pub HasNoArcs : List (Option ℕ) → ℕ → Type 0
+HasNoArcs arcs i = (c : ℕ) → c / 8 ≡ i → arc_at arcs c ≡ None
+
+-- the node m is one slot, which has no arcs
+abbrev pub IsBare : List (Option ℕ) → Lists → ℕ → Type 0
+IsBare arcs members m = (length (list_at members.lists m) ≡ 1) × HasNoArcs arcs m
+
+-- v and w are one node, or no walk leads from w to v
+abbrev pub IsApart : List (Option ℕ) → List ℕ → Lists → ℕ → ℕ → Type 0
+IsApart arcs node into v w = (v ≡ w) ⊎ (Walk (IsBehind arcs node into) w v → ⊥)

@@ -1,14 +1,26 @@
-ghost use Rattle.std.specs.Prelude.{◌≡◌, ℕ, ◌<◌, ◌≤◌, ◌+◌, ◌*◌, ◌/◌, ◌^◌, [], None, Some, length, slice_set, OnOk, OnErr};
+ghost use Rattle.std.specs.Prelude.{◌≡◌, ℕ, ◌<◌, ◌≤◌, ◌+◌, ◌*◌, ◌/◌, ◌^◌, [], None, Some, ◌↔◌, IsTrue, IfSome, IfNone, length, nat_eq, slice_set, OnOk};
+ghost use Rattle.std.specs.List.{IsDistinct};
 ghost use Rattle.std.specs.Vec.{vec_len, vec_capacity};
+ghost use Rattle.oper_core.specs.State.{is_among};
 ghost use Rattle.number_lists.specs.Lists.{list_at};
 ghost use Rattle.sparse_order.specs.Digraph.{AreNodes};
-ghost use Rattle.graph_nodes.specs.Arcs.{AreCells, AreBelow, IsArc, arc_at, node_at};
+ghost use Rattle.graph_nodes.specs.Arcs.{AreCells, AreBelow, IsArc, arc_at, node_at, held_at};
+ghost use Rattle.graph_nodes.specs.Ahead.{IsWalkable};
 ghost use Rattle.graph_nodes.specs.Merge.{IsFiled};
-ghost use Rattle.graph_nodes.specs.Kept.{AreJoined, IsSlotAdded, AreCellsAdded};
+ghost use Rattle.graph_nodes.specs.Search.{IsOwn};
+ghost use Rattle.graph_nodes.specs.Named.{IsMinimal, IsName, NamesMinimal, IsLeast};
+ghost use Rattle.number_lists.specs.Marks.{IsCount};
+ghost use Rattle.graph_nodes.specs.Removed.{IsRemoved};
+ghost use Rattle.graph_nodes.specs.Kept.{AreJoined, IsSlotAdded, AreCellsAdded, IsWide};
 
+use crate::apart::joins_nothing;
+use crate::clearing::clear_slots;
 use crate::merging::{largest, merge};
-use crate::search::search_back;
+use crate::names::Names;
+use crate::removing::{release, scatter};
+use crate::settling::settle;
 use crate::spreading::spread;
+use crate::turns::search;
 use number_lists::{Chains, NumberSet, push_in_room};
 use oper_core::Memory;
 use std::alloc::Global;
@@ -21,24 +33,31 @@ pub struct SlotGraph {
     arcs: Vec<Option<u32>>,
     /// The slot that stands for the node of each slot.
     node: Vec<u32>,
+    /// Whether each slot is held, that is, not removed.
+    held: Vec<bool>,
+    names: Names,
     members: Chains,
-    /// By node, the cells whose arcs lead into it.
+    /// By node, the cells whose arcs lead into it from another, and some without such an arc, but never those alone.
     into: Chains,
     found: NumberSet,
     taken: NumberSet,
     scratch: Vec<u32>,
+    /// For how many more slots all tables have memory.
+    room: usize,
 }
 
 impl Model for SlotGraph {
     ghost use Rattle.std.specs.Prelude.{◌≡◌, ◌≤◌, length};
     ghost use Rattle.std.specs.Vec.{vec_capacity};
-    ghost use Rattle.graph_nodes.specs.Kept.{Graph, IsKept};
+    ghost use Rattle.graph_nodes.specs.Named.{Graph};
+    ghost use Rattle.graph_nodes.specs.Kept.{IsKept, IsMarked, HasRoom};
 
     ghost Value = { Graph };
 
-    ghost view = { λ g. record { arcs = g.arcs.items; node = g.node.items } };
+    ghost view = { λ g. record { arcs = g.arcs.items; node = g.node.items; held = g.held.items; room = g.room } };
 
-    ghost invariant = { λ g. IsKept g.arcs.items g.node.items g.members g.into × (g.found.end ≡ length g.node.items) × (g.taken.end ≡ length g.node.items) × (length g.arcs.items ≤ vec_capacity g.scratch) };
+    ghost invariant = { λ g. IsKept g.arcs.items g.node.items g.held.items g.names.name g.members g.into × (g.found.end ≡ length g.node.items) × (g.taken.end ≡ length g.node.items) ×
+        HasRoom g.room (length g.node.items) (vec_capacity g.arcs) (vec_capacity g.node) (vec_capacity g.held) (vec_capacity g.scratch) g.names g.members g.into g.found g.taken × IsMarked g.node.items g.held.items g.into g.names };
 }
 
 impl SlotGraph {
@@ -46,15 +65,19 @@ impl SlotGraph {
     pub fn new(alloc: Global) -> Self
         ensures arcs { result.arcs ≡ [] }
         ensures node { result.node ≡ [] }
+        ensures held { result.held ≡ [] }
     {
         SlotGraph {
             arcs: Vec::new(alloc),
             node: Vec::new(alloc),
+            held: Vec::new(alloc),
+            names: Names::new(alloc),
             members: Chains::new(alloc),
             into: Chains::new(alloc),
             found: NumberSet::new(alloc),
             taken: NumberSet::new(alloc),
             scratch: Vec::new(alloc),
+            room: 0,
         }
     }
 
@@ -62,6 +85,7 @@ impl SlotGraph {
     pub fn len(&self) -> usize
         ensures count { result ≡ length self.now.node }
         ensures cells { length self.now.arcs ≡ 8 * result }
+        ensures held { length self.now.held ≡ result }
     {
         let _members = &self.members;
         self.node.len()
@@ -75,30 +99,13 @@ impl SlotGraph {
         self.arcs[cell as usize]
     }
 
-    /// Adds a slot whose cells have no arcs. Nothing changes where memory is wanting.
-    pub fn add_slot(&mut self) -> Result<(), Memory>
-        requires { length self.old.node < 2 ^ 28 }
-        ensures added { OnOk result (IsSlotAdded self.old self.new) }
-        ensures same { OnErr result (self.new ≡ self.old) }
+    /// Whether the slot is held: it is until it is removed.
+    pub fn is_held(&self, slot: u32) -> bool
+        requires { slot < length self.now.node }
+        ensures { result ≡ held_at self.now.held slot }
     {
-        self.arcs.reserve(8)?;
-        self.node.reserve(1)?;
-        self.members.make_room(1, 1)?;
-        self.into.make_room(1, 8)?;
-        self.found.make_room()?;
-        self.taken.make_room()?;
-        self.scratch.clear();
-        self.scratch.reserve(self.arcs.len() + 8)?;
-        let slot = self.node.len() as u32;
-        push_in_room(&mut self.node, slot);
-        self.members.add_list();
-        self.members.add_item();
-        self.members.push(slot, slot);
-        self.into.add_list();
-        add_cells(&mut self.arcs, &mut self.into);
-        self.found.add_number();
-        self.taken.add_number();
-        Ok(())
+        let _members = &self.members;
+        self.held[slot as usize]
     }
 
     /// The slot that stands for the node of this one: two slots have the same exactly if they reach each other.
@@ -111,20 +118,66 @@ impl SlotGraph {
         self.node[slot as usize]
     }
 
+    /// Takes the memory that the next `add_slot` needs. Nothing else changes, also where memory is wanting.
+    pub fn make_room(&mut self) -> Result<(), Memory>
+        ensures arcs { self.new.arcs ≡ self.old.arcs }
+        ensures node { self.new.node ≡ self.old.node }
+        ensures held { self.new.held ≡ self.old.held }
+        ensures room { OnOk result (0 < self.new.room) }
+    {
+        self.arcs.reserve(8)?;
+        self.node.reserve(1)?;
+        self.held.reserve(1)?;
+        self.names.make_room()?;
+        self.members.make_room(1, 1)?;
+        self.into.make_room(1, 8)?;
+        self.found.make_room()?;
+        self.taken.make_room()?;
+        self.scratch.clear();
+        self.scratch.reserve(self.arcs.len() + 8)?;
+        self.room = 1;
+        Ok(())
+    }
+
+    /// Adds a slot, which is held and whose cells have no arcs.
+    pub fn add_slot(&mut self)
+        requires room { 0 < self.old.room }
+        requires small { length self.old.node < 2 ^ 28 }
+        ensures added { IsSlotAdded self.old self.new }
+        ensures nodes { AreNodes (IsArc self.new.arcs) (node_at self.new.node) }
+    {
+        let slot = self.node.len() as u32;
+        push_in_room(&mut self.node, slot);
+        push_in_room(&mut self.held, true);
+        self.names.add();
+        self.members.add_list();
+        self.members.add_item();
+        self.members.push(slot, slot);
+        self.into.add_list();
+        add_cells(&mut self.arcs, &mut self.into);
+        self.found.add_number();
+        self.taken.add_number();
+        self.room -= 1;
+    }
+
     /// Gives a cell its arc.
     pub fn insert(&mut self, cell: u32, to: u32)
         requires cell { cell < length self.old.arcs }
         requires none { arc_at self.old.arcs cell ≡ None }
-        requires to { to < length self.old.node }
+        requires from_held { IsTrue (held_at self.old.held (cell / 8)) }
+        requires to_held { IsTrue (held_at self.old.held to) }
         ensures arcs { self.new.arcs ≡ slice_set self.old.arcs cell (Some to) }
         ensures slots { length self.new.node ≡ length self.old.node }
+        ensures held { self.new.held ≡ self.old.held }
         ensures nodes { AreNodes (IsArc self.new.arcs) (node_at self.new.node) }
+        ensures room { self.new.room ≡ self.old.room }
     {
         join(
             self.node[cell as usize / 8],
             self.node[to as usize],
             self.arcs.as_slice(),
             self.node.as_mut_slice(),
+            &mut self.names,
             &mut self.members,
             &mut self.into,
             &mut self.scratch,
@@ -132,7 +185,75 @@ impl SlotGraph {
             &mut self.taken,
         );
         self.arcs[cell as usize] = Some(to);
-        self.into.push(self.node[to as usize], cell);
+        let n = self.node[to as usize];
+        self.into.push(n, cell);
+        settle(
+            n,
+            self.arcs.as_slice(),
+            self.node.as_slice(),
+            &mut self.into,
+        );
+        self.names.tell(n, self.into.count(n) == 0);
+    }
+
+    /// Takes out the slots of a minimal node: they are held no more, have no arcs, and are nodes by themselves.
+    pub fn remove(&mut self, slot: u32)
+        requires held { IsTrue (held_at self.old.held slot) }
+        requires minimal { IsMinimal self.old.arcs self.old.node (node_at self.old.node slot) }
+        ensures removed { IsRemoved self.old (node_at self.old.node slot) self.new }
+        ensures nodes { AreNodes (IsArc self.new.arcs) (node_at self.new.node) }
+    {
+        let n = self.node[slot as usize];
+        self.members.copy_to(n, &mut self.scratch);
+        release(self.scratch.as_slice(), self.held.as_mut_slice());
+        clear_slots(
+            self.scratch.as_slice(),
+            self.arcs.as_mut_slice(),
+            self.node.as_slice(),
+            &mut self.into,
+            &mut self.names,
+        );
+        scatter(
+            n,
+            self.scratch.as_slice(),
+            self.node.as_mut_slice(),
+            &mut self.members,
+        );
+        self.names.remove(n, self.scratch.as_slice());
+    }
+
+    /// Whether the slot's node has no other slot.
+    pub fn is_single(&self, slot: u32) -> bool
+        requires { slot < length self.now.node }
+        ensures { IsTrue result ↔ ((i : ℕ) → node_at self.now.node i ≡ node_at self.now.node slot → i ≡ slot) }
+    {
+        self.members.count(self.node[slot as usize]) == 1
+    }
+
+    /// Writes down the slots of the slot's node, in any order.
+    pub fn members(&self, slot: u32, out: &mut Vec<u32>)
+        requires slot { slot < length self.now.node }
+        requires room { length self.now.node ≤ vec_capacity out.old }
+        ensures members { (i : ℕ) → IsTrue (is_among i out.new.items) ↔ (node_at self.now.node i ≡ node_at self.now.node slot) }
+        ensures distinct { IsDistinct nat_eq out.new.items }
+        ensures capacity { vec_capacity out.old ≤ vec_capacity out.new }
+    {
+        self.members.copy_to(self.node[slot as usize], out);
+    }
+
+    /// The least slot, at or above the given one, that is the name of a minimal node. None exactly where there is none.
+    pub fn minimal_from(&self, from: u32) -> Option<u32>
+        ensures some { IfSome result (IsLeast (λ i. (from ≤ i) × NamesMinimal self.now i)) }
+        ensures none { IfNone result ((i : ℕ) → from ≤ i → NamesMinimal self.now i → ⊥) }
+    {
+        self.names.next_minimal(from)
+    }
+
+    /// How many nodes there are of slots that are held: so many slots are the names of nodes.
+    pub fn node_count(&self) -> usize
+        ensures { IsCount (IsName self.now) result }
+    {
+        self.names.count()
     }
 }
 
@@ -142,6 +263,7 @@ fn join(
     w: u32,
     arcs: &[Option<u32>],
     node: &mut [u32],
+    names: &mut Names,
     members: &mut Chains,
     into: &mut Chains,
     cells: &mut Vec<u32>,
@@ -151,24 +273,30 @@ fn join(
     requires v { v < found.old.end }
     requires w { w < found.old.end }
     requires ends { found.old.end ≡ taken.old.end }
+    requires names { length names.old.name ≡ taken.old.end }
     requires members { taken.old.end ≡ length members.old.lists }
     requires into { length into.old.lists ≡ length members.old.lists }
     requires cells { (n : ℕ) → AreCells arcs.now node.old (list_at into.old.lists n) }
     requires below { AreBelow node.old found.old.end }
     requires filed { IsFiled node.old members.old }
+    requires own { IsOwn arcs.now node.old w }
+    requires walkable { IsWalkable arcs.now node.old into.old found.old.end }
     requires room { into.old.items ≤ vec_capacity cells.old }
     requires small { members.old.items ≤ vec_capacity cells.old }
-    ensures joined { AreJoined arcs.now v w node.old node.new members.old members.new into.old into.new }
-    ensures ends { found.new.end ≡ found.old.end }
-    ensures taken { taken.new.end ≡ taken.old.end }
+    ensures joined { AreJoined arcs.now v w node.old node.new names.old names.new members.old members.new into.old into.new }
+    ensures found { IsWide found.old found.new }
+    ensures taken { IsWide taken.old taken.new }
     ensures capacity { vec_capacity cells.old ≤ vec_capacity cells.new }
 {
-    search_back(v, w, arcs, node, into, cells, found);
-    if !found.contains(w) {
+    if joins_nothing(v, w, arcs, members) {
+        return;
+    }
+    if !search(v, w, arcs, node, members, into, cells, found, taken) {
         return;
     }
     spread(w, arcs, node, into, cells, found, taken);
     let one = largest(taken, members);
+    names.merge(one, taken);
     merge(one, taken, node, members, into, cells);
 }
 
@@ -176,7 +304,8 @@ fn join(
 fn add_cells(arcs: &mut Vec<Option<u32>>, into: &mut Chains)
     requires arcs { vec_len arcs.old + 8 ≤ vec_capacity arcs.old }
     requires into { 8 ≤ into.old.item_room }
-    ensures { AreCellsAdded 8 arcs.old.items arcs.new.items into.old into.new }
+    ensures added { AreCellsAdded 8 arcs.old.items arcs.new.items into.old into.new }
+    ensures capacity { vec_capacity arcs.old ≤ vec_capacity arcs.new }
 {
     for i in 0..8u32 {
         push_in_room(arcs, None);

@@ -1,14 +1,22 @@
-//! The nodes of a graph whose arcs come one after the other.
+//! The nodes of a graph whose arcs come one after the other, and whose minimal nodes are taken out.
 //!
 //! The one contract: the slots with one representative are those that reach each other along the arcs. The crate
 //! depends on `number_lists`, `sparse_order` and `oper_core`.
 #![tactic(auto)]
 
+mod ahead;
+mod apart;
+mod clearing;
+mod front;
 mod graph;
 mod merging;
+mod names;
+mod removing;
 mod search;
+mod settling;
 mod spreading;
 #[cfg(test)]
 mod tests;
+mod turns;
 
 pub use graph::SlotGraph;

@@ -3,42 +3,12 @@ ghost use Rattle.std.specs.Vec.{vec_capacity};
 ghost use Rattle.oper_core.specs.State.{is_among};
 ghost use Rattle.number_lists.specs.Lists.{list_at};
 ghost use Rattle.graph_nodes.specs.Arcs.{AreCells, AreBelow};
-ghost use Rattle.graph_nodes.specs.Search.{IsLookedBack, AreLookedBack, IsExpanded, IsSearched};
+ghost use Rattle.graph_nodes.specs.Search.{IsLookedBack, AreLookedBack, IsExpanded};
 
 use number_lists::{Chains, NumberSet};
 
-/// Finds the nodes that reach v along the arcs, and doesn't look behind the node `stop`.
-pub(crate) fn search_back(
-    v: u32,
-    stop: u32,
-    arcs: &[Option<u32>],
-    node: &[u32],
-    into: &Chains,
-    cells: &mut Vec<u32>,
-    found: &mut NumberSet,
-)
-    requires start { v < found.old.end }
-    requires lists { found.old.end ≤ length into.now.lists }
-    requires cells { (n : ℕ) → AreCells arcs.now node.now (list_at into.now.lists n) }
-    requires below { AreBelow node.now found.old.end }
-    requires room { into.now.items ≤ vec_capacity cells.old }
-    ensures found { IsSearched arcs.now node.now into.now v stop found.new.members }
-    ensures end { found.new.end ≡ found.old.end }
-    ensures room { found.old.room ≤ found.new.room }
-    ensures capacity { vec_capacity cells.old ≤ vec_capacity cells.new }
-{
-    found.clear();
-    found.add(v);
-    let mut next = 0;
-    while next < found.len() {
-        let n = found.get(next);
-        expand(n, stop, arcs, node, into, cells, found);
-        next += 1;
-    }
-}
-
 /// Finds the nodes from which an arc leads to the node n, if that is not where the search stops.
-fn expand(
+pub(crate) fn expand(
     n: u32,
     stop: u32,
     arcs: &[Option<u32>],

@@ -1,5 +1,10 @@
 -- Which object is kept.
-use Rattle.std.specs.Prelude.{◌≡◌, ◌<◌, ◌≤◌, ℕ, List, Some, All, length, slice_get, slice_index}
+use Rattle.std.specs.Prelude.{◌≡◌, ◌<◌, ◌≤◌, ◌==◌, ℕ, not, List, Some, All, length, slice_get, slice_index}
+use Rattle.std.specs.List.{filter}
+
+-- the objects that are not x
+abbrev pub without : ℕ → List ℕ → List ℕ
+without x objects = filter (λ y. not (y == x)) objects
 
 -- x is one of the objects, no value is longer than that of x, and no object with a value as long has a lesser number;
 -- the lengths of the values stand in the order of the objects

@@ -1,6 +1,6 @@
 ghost use Rattle.std.specs.Prelude.{◌≡◌, ◌++◌, ◌↔◌, [], length, IfOk, IfSome, IfNone, IsNone, option_to_list};
 ghost use Rattle.std.specs.List.Sorted.{IsPermutation, IsStrictlyIncreasing};
-ghost use Rattle.identity_writes.specs.Plan.{IsKept, IsFirstLongest};
+ghost use Rattle.identity_writes.specs.Plan.{IsKept, IsFirstLongest, without};
 
 use crate::{ObjectList, Plan};
 use oper_core::Memory;
@@ -13,6 +13,7 @@ pub fn plan(alloc: Global, objects: &[u32], lengths: &[u32]) -> Result<Plan, Mem
     requires beside { length lengths.now ≡ length objects.now }
     ensures keep { IfOk result (λ plan. IfSome plan.keep (IsKept objects.now lengths.now)) }
     ensures none { IfOk result (λ plan. IsNone plan.keep ↔ (objects.now ≡ [])) }
+    ensures others { IfOk result (λ plan. IfSome plan.keep (λ x. plan.log ≡ without x objects.now)) }
     ensures rising { IfOk result (λ plan. IsStrictlyIncreasing plan.log) }
 
     // What is kept and what is logged are the objects, each once.

@@ -3,3 +3,4 @@ pub mod Steps
 pub mod Poured
 pub mod More
 pub mod Placed
+pub mod Marked

@@ -165,3 +165,32 @@ apart-popped ls items i x xs e are =
         | inr r ↦ parts.0 (subst (λ (ys : List ℕ). IsTrue (is_among x ys)) r.1 there)
       ]),
     )
+
+-- where the list at i is emptied, no list gets more
+among-cleared : (ls : List (List ℕ)) (i j k : ℕ) → IsTrue (is_among k (list_at (slice_set ls i []) j)) → IsTrue (is_among k (list_at ls j)) × (j ≡ i → i < length ls → ⊥)
+among-cleared ls i j k there = elim (set-at ls i j []) [
+  | inl same ↦ (
+    subst (λ (ys : List ℕ). IsTrue (is_among k ys)) same there,
+    (λ e lt. both_ways _ refl (subst (λ (ys : List ℕ). IsTrue (is_among k ys)) (ap (λ (m : ℕ). list_at (slice_set ls i []) m) e ∙ set-same ls i [] lt) there)),
+  )
+  | inr r ↦ absurd (both_ways _ refl (subst (λ (ys : List ℕ). IsTrue (is_among k ys)) r.1 there))
+]
+
+none-distinct : IsDistinct nat_eq []
+unfolding IsDistinct
+none-distinct = tt
+
+pub apart-cleared : (ls : List (List ℕ)) (items i : ℕ) → AreApart ls items → AreApart (slice_set ls i []) items
+apart-cleared ls items i are = record {
+  distinct = λ j. elim (set-at ls i j []) [
+    | inl same ↦ subst (λ (ys : List ℕ). IsDistinct nat_eq ys) (sym same) (are.distinct j)
+    | inr r ↦ subst (λ (ys : List ℕ). IsDistinct nat_eq ys) (sym r.1) none-distinct
+  ];
+  apart = λ j l k in_j in_l. are.apart j l k (among-cleared ls i j k in_j).0 (among-cleared ls i l k in_l).0;
+  below = λ j k there. are.below j k (among-cleared ls i j k there).0;
+}
+
+pub free-cleared : (ls : List (List ℕ)) (items i k : ℕ) → i < length ls → AreApart ls items → IsTrue (is_among k (list_at ls i)) → IsFree (slice_set ls i []) k
+free-cleared ls items i k lt are was j there =
+    let r = among-cleared ls i j k there in
+    r.1 (are.apart j i k r.0 was) lt

@@ -6,10 +6,10 @@ use Rattle.std.proofs.lemmas.List.{map-set, length-set, get_or_default}
 use Rattle.std.proofs.Math.Facts.{Fits-of_lt}
 use Rattle.oper_core.specs.State.{is_among}
 use Rattle.number_lists.specs.declared.chains.Chain.{Chain}
-use Rattle.number_lists.specs.Lists.{list_at, AreApart, IsFree, AreAsMany, IsPushed, IsPopped, IsEmptied}
+use Rattle.number_lists.specs.Lists.{list_at, AreApart, IsFree, AreAsMany, IsPushed, IsPopped, IsEmptied, IsCleared}
 use Rattle.number_lists.specs.Links.{follow}
 use Rattle.number_lists.specs.Followed.{chain_list, lists_of, view_of}
-use Rattle.number_lists.proofs.Links.{empty-apart, list_at-map, length-lists, lists-pushed, apart-pushed, few, set-same, set-other, apart-popped}
+use Rattle.number_lists.proofs.Links.{empty-apart, list_at-map, length-lists, lists-pushed, apart-pushed, few, set-same, set-other, apart-popped, apart-cleared, free-cleared}
 
 low : (next : List ℕ) (cs : List Chain) (i : ℕ) → i < length (lists_of next cs) → i < length cs
 low next cs i lt = omega (arith, length-lists next cs)
@@ -92,6 +92,25 @@ popped next nr cs cr i f c lt at some e are =
 
 pub emptied : (next : List ℕ) (nr : ℕ) (cs : List Chain) (cr i : ℕ) (c : Chain) → i < length (lists_of next cs) → c ≡ slice_index_or cs i c → c.count ≡ 0 → IsEmptied (view_of next nr cs cr) i (view_of next nr cs cr)
 emptied next nr cs cr i c lt at none = record { was = listed next cs i c lt at ∙ ap (λ (n : ℕ). follow next n c.first) none; same = refl }
+
+cleared-lists : (next : List ℕ) (cs : List Chain) (i : ℕ) → lists_of next (slice_set cs i record { first = 0; count = 0 }) ≡ slice_set (lists_of next cs) i []
+cleared-lists next cs i = map-set (chain_list next) cs i record { first = 0; count = 0 }
+
+pub cleared-apart : (next : List ℕ) (cs : List Chain) (i : ℕ) → AreApart (lists_of next cs) (length next) → AreApart (lists_of next (slice_set cs i record { first = 0; count = 0 })) (length next)
+cleared-apart next cs i are = subst (λ (ls : List (List ℕ)). AreApart ls (length next)) (sym (cleared-lists next cs i)) (apart-cleared (lists_of next cs) (length next) i are)
+
+pub cleared : (next : List ℕ) (nr : ℕ) (cs : List Chain) (cr i : ℕ) → i < length (lists_of next cs) → AreApart (lists_of next cs) (length next) →
+    IsCleared (view_of next nr cs cr) i (view_of next nr (slice_set cs i record { first = 0; count = 0 }) cr)
+cleared next nr cs cr i lt are =
+    let was = lists_of next cs in
+    let new : Chain = record { first = 0; count = 0 } in
+    let e = cleared-lists next cs i in
+    record {
+      here = ap (λ (ls : List (List ℕ)). list_at ls i) e ∙ set-same was i [] lt;
+      others = λ j ne. ap (λ (ls : List (List ℕ)). list_at ls j) e ∙ set-other was i j [] ne;
+      free = λ k there. subst (λ (ls : List (List ℕ)). IsFree ls k) (sym e) (free-cleared was (length next) i k lt are there);
+      same = same-sizes next next nr cs cr i new refl;
+    }
 
 pub none-apart : (next : List ℕ) (items : ℕ) → AreApart (lists_of next []) items
 none-apart next items = empty-apart items

@@ -56,6 +56,13 @@ pub record IsEmptied (old : Lists) (list : ℕ) (new : Lists) : Type 0 where
   pub was : list_at old.lists list ≡ []
   pub same : new ≡ old
 
+-- the list is empty, and what was in it is in no list
+pub record IsCleared (old : Lists) (list : ℕ) (new : Lists) : Type 0 where
+  pub here : list_at new.lists list ≡ []
+  pub others : OthersStay old list new
+  pub free : (k : ℕ) → IsTrue (is_among k (list_at old.lists list)) → IsFree new.lists k
+  pub same : AreAsMany old new
+
 -- one list has what was in it and what was in the other, which is empty
 pub record IsPoured (old : Lists) (from to : ℕ) (new : Lists) : Type 0 where
   pub here : (k : ℕ) → IsTrue (is_among k (list_at new.lists to)) ↔ (IsTrue (is_among k (list_at old.lists to)) ⊎ IsTrue (is_among k (list_at old.lists from)))

@@ -1,8 +1,9 @@
-ghost use Rattle.std.specs.Prelude.{◌≡◌, ℕ, ◌<◌, ◌≤◌, ◌++◌, ◌∷◌, [], length, IsTrue, OnOk, MatchOption};
+ghost use Rattle.std.specs.Prelude.{◌≡◌, ℕ, ◌<◌, ◌≤◌, ◌++◌, ◌∷◌, [], length, nat_eq, IsTrue, OnOk, MatchOption};
+ghost use Rattle.std.specs.List.{IsDistinct};
 ghost use Rattle.oper_core.specs.State.{is_among};
 ghost use Rattle.number_lists.specs.Links.{follow};
 ghost use Rattle.std.specs.Vec.{vec_capacity};
-ghost use Rattle.number_lists.specs.Lists.{list_at, IsFree, IsEmptied, IsPushed, IsPopped, IsPoured, IsWider, IsLonger};
+ghost use Rattle.number_lists.specs.Lists.{list_at, IsFree, IsCleared, IsEmptied, IsPushed, IsPopped, IsPoured, IsWider, IsLonger};
 
 use crate::push::push_in_room;
 use oper_core::Memory;
@@ -52,7 +53,8 @@ impl Chains {
     /// How many numbers a list has.
     pub fn count(&self, list: u32) -> usize
         requires { list < length self.now.lists }
-        ensures { result ≡ length (list_at self.now.lists list) }
+        ensures value { result ≡ length (list_at self.now.lists list) }
+        ensures distinct { IsDistinct nat_eq (list_at self.now.lists list) }
     {
         let chain = self.chains[list as usize];
         chain.count
@@ -88,6 +90,14 @@ impl Chains {
         Some(chain.first)
     }
 
+    /// Takes all numbers out of a list.
+    pub fn clear(&mut self, list: u32)
+        requires { list < length self.old.lists }
+        ensures { IsCleared self.old list self.new }
+    {
+        self.chains[list as usize] = Chain { first: 0, count: 0 };
+    }
+
     /// Moves all numbers of one list to another.
     pub fn pour(&mut self, from: u32, to: u32)
         requires from { from < length self.old.lists }
@@ -105,6 +115,7 @@ impl Chains {
         requires list { list < length self.now.lists }
         requires room { self.now.items ≤ vec_capacity out.old }
         ensures items { out.new.items ≡ list_at self.now.lists list }
+        ensures distinct { IsDistinct nat_eq out.new.items }
         ensures capacity { vec_capacity out.old ≤ vec_capacity out.new }
     {
         let chain = self.chains[list as usize];
@@ -117,6 +128,8 @@ impl Chains {
         ensures items { self.new.items ≡ self.old.items }
         ensures list_room { OnOk result (lists ≤ self.new.list_room) }
         ensures item_room { OnOk result (items ≤ self.new.item_room) }
+        ensures lists_kept { self.old.list_room ≤ self.new.list_room }
+        ensures items_kept { self.old.item_room ≤ self.new.item_room }
     {
         self.chains.reserve(lists)?;
         self.next.reserve(items)?;

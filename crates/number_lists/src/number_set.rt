@@ -108,6 +108,7 @@ impl NumberSet {
         ensures members { self.new.members ≡ self.old.members }
         ensures end { self.new.end ≡ self.old.end }
         ensures room { OnOk result (0 < self.new.room) }
+        ensures kept { self.old.room ≤ self.new.room }
     {
         self.members
             .reserve(self.place.len() + 1 - self.members.len())?;

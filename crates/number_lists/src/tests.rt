@@ -1,4 +1,4 @@
-use crate::{Chains, NumberSet};
+use crate::{Chains, NumberSet, NumberTree};
 use oper_core::Memory;
 use std::alloc::Global;
 use std::test::Fail;
@@ -39,4 +39,23 @@ fn member(alloc: Global) -> Result<bool, Memory> {
     let between = set.contains(0);
     set.clear();
     Ok(!before && between && !set.contains(0))
+}
+
+#[test]
+fn a_number_is_next(rt: HostRuntime) -> Result<(), Fail> {
+    let found = next(rt.alloc())?;
+    assert!(rt; found == [None, Some(0), None]);
+    Ok(())
+}
+
+/// The next member before a number is put in, while it is in, and once it is taken out.
+fn next(alloc: Global) -> Result<[Option<u32>; 3], Memory> {
+    let mut tree = NumberTree::new(alloc);
+    tree.make_room()?;
+    tree.add_number();
+    let before = tree.next(0);
+    tree.insert(0);
+    let between = tree.next(0);
+    tree.remove(0);
+    Ok([before, between, tree.next(0)])
 }

@@ -60,22 +60,22 @@ pub fn one_arc_more()
 
 /// Under other numbers in the same order the same operations reach each other.
 pub fn places_stand_for_numbers()
-    ensures { (a b : Access) (end : ℕ) (number : ℕ → ℕ) (i j : ℕ) → IsRenamed a b end number → i < end → j < end →
+    ensures { (a b : Access) (dom : ℕ → Bool) (end : ℕ) (number : ℕ → ℕ) (i j : ℕ) → IsRenamed a b dom end number → IsTrue (dom i) → IsTrue (dom j) →
         Reaches b (number i) (number j) ↔ Reaches a i j }
 {}
 
 /// Under other numbers in the same order, nodes, names, minimal nodes and last writers are the same too.
 pub fn nodes_stand_for_nodes()
-    ensures numbers { (a b : Access) (end : ℕ) (number : ℕ → ℕ) (set : ℕ → Bool) (i : ℕ) → IsRenamed a b end number →
-        IsNode a set → IsTrue (set i) → i < end →
-        IsNode b (numbers_of end number set) × IsTrue (numbers_of end number set (number i)) }
-    ensures places { (a b : Access) (end : ℕ) (number : ℕ → ℕ) (node : ℕ → Bool) (i : ℕ) → IsRenamed a b end number →
-        IsNode b node → i < end → IsTrue (node (number i)) → IsNode a (places_of end number node) }
-    ensures name { (a b : Access) (end : ℕ) (number : ℕ → ℕ) (set : ℕ → Bool) (i : ℕ) → IsRenamed a b end number →
-        i < end → IsName set i → IsName (numbers_of end number set) (number i) }
-    ensures free { (a b : Access) (end : ℕ) (number : ℕ → ℕ) (set : ℕ → Bool) → IsRenamed a b end number →
-        NoEdgeInto a set ↔ NoEdgeInto b (numbers_of end number set) }
-    ensures last { (a b : Access) (end : ℕ) (number : ℕ → ℕ) (x i : ℕ) → IsRenamed a b end number → i < end →
+    ensures numbers { (a b : Access) (dom : ℕ → Bool) (end : ℕ) (number : ℕ → ℕ) (set : ℕ → Bool) (i : ℕ) → IsRenamed a b dom end number →
+        IsNode a set → IsTrue (set i) → IsTrue (dom i) →
+        IsNode b (numbers_of dom end number set) × IsTrue (numbers_of dom end number set (number i)) }
+    ensures places { (a b : Access) (dom : ℕ → Bool) (end : ℕ) (number : ℕ → ℕ) (node : ℕ → Bool) (i : ℕ) → IsRenamed a b dom end number →
+        IsNode b node → IsTrue (dom i) → IsTrue (node (number i)) → IsNode a (places_of dom number node) }
+    ensures name { (a b : Access) (dom : ℕ → Bool) (end : ℕ) (number : ℕ → ℕ) (set : ℕ → Bool) (i : ℕ) → IsRenamed a b dom end number →
+        IsTrue (dom i) → IsName set i → IsName (numbers_of dom end number set) (number i) }
+    ensures free { (a b : Access) (dom : ℕ → Bool) (end : ℕ) (number : ℕ → ℕ) (set : ℕ → Bool) → IsRenamed a b dom end number →
+        NoEdgeInto a set ↔ NoEdgeInto b (numbers_of dom end number set) }
+    ensures last { (a b : Access) (dom : ℕ → Bool) (end : ℕ) (number : ℕ → ℕ) (x i : ℕ) → IsRenamed a b dom end number → IsTrue (dom i) →
         IsLastWriter b x (number i) ↔ IsLastWriter a x i }
 {}
 

@@ -1,13 +1,12 @@
 -- The numbers of a list, and those of the entries.
-use Rattle.std.proofs.Common.{◌≡◌, ◌∙◌, ap, sym, subst, ℕ, zero, suc, ◌<◌, ◌≤◌, Bool, List, [], ◌∷◌, ◌++◌, length, get_or, refl, arith, inl, inr}
-use Rattle.std.specs.Prelude.{IsTrue, IsFalse, ◌&&◌, ◌==◌, ◌⊎◌, nat_eq, slice_index}
-use Rattle.std.specs.List.{list_any, IsDistinct}
-use Rattle.std.proofs.lemmas.Bool.{both_ways, or_left, or_right, or_cases, and_parts, eqb-true, eq-eqb}
-use Rattle.std.proofs.lemmas.List.{length_push}
+use Rattle.std.proofs.Common.{◌≡◌, ◌∙◌, ap, sym, subst, ℕ, zero, suc, ◌<◌, Bool, List, [], ◌∷◌, ◌++◌, length, get_or, refl, arith, inl, inr}
+use Rattle.std.specs.Prelude.{IsTrue, ◌&&◌, ◌==◌, ◌⊎◌, ◌↔◌, slice_index}
+use Rattle.std.specs.List.{list_any, filter}
+use Rattle.std.proofs.lemmas.Bool.{cases_Bool, both_ways, or_left, or_right, or_cases, and_parts, and_from, eqb-true, eq-eqb}
+use Rattle.std.proofs.lemmas.List.{map-append}
 use Rattle.std.proofs.lemmas.List.Folds.{list_any-append}
 use Rattle.std.proofs.lemmas.Cmp.{nat_eq_equiv}
-use Rattle.std.proofs.lemmas.Map.Keys.{IsDistinct-push}
-use Rattle.std.proofs.lemmas.Map.Made.{length-le_from_is_member}
+use Rattle.std.proofs.lemmas.Map.Made.{is_member-filter}
 use Rattle.oper_core.specs.State.{is_among}
 use Rattle.install_order.specs.declared.entry.Entry.{Entry}
 use Rattle.install_order.specs.Order.{Edge, Reaches}
@@ -88,27 +87,22 @@ pub reaching-held : (entries : List Entry) (o p : ℕ) → Reaches (accesses ent
 reaching-held entries o p Here held = held
 reaching-held entries o p (Then m q walk edge) held = reaching-held entries o m walk (edge-held entries m q edge).0
 
--- numbers of entries, each once, are at most as many as the entries
-pub few : (entries : List Entry) (found : List ℕ) → IsDistinct nat_eq found → ((p : ℕ) → IsTrue (is_among p found) → IsTrue (is_among p (numbers entries))) → length found ≤ length entries
-few entries found once held = subst (λ (n : ℕ). length found ≤ n) (length-numbers entries) (length-le_from_is_member nat_eq_equiv found (numbers entries) once held)
+-- what a filter keeps
+pub among-filter : (t : ℕ → Bool) (xs : List ℕ) (k : ℕ) → IsTrue (is_among k (filter t xs)) ↔ (IsTrue (is_among k xs) × IsTrue (t k))
+among-filter t xs k =
+    let e : is_among k (filter t xs) ≡ (is_among k xs && t k) = is_member-filter nat_eq_equiv t k (λ j same. ap t (eqb-true k j same)) xs in (
+      (λ there. let u = and_parts (is_among k xs) (t k) (sym e ∙ there) in (u.0, u.1)),
+      (λ u. e ∙ and_from (is_among k xs) (t k) u.0 u.1),
+    )
 
--- one number more is one number more
-pub once-push : (found : List ℕ) (p : ℕ) → IsDistinct nat_eq found → IsFalse (is_among p found) → IsDistinct nat_eq (found ++ p ∷ [])
-once-push found p once none = IsDistinct-push nat_eq_equiv found p once none
+-- the numbers, with one entry more
+pub numbers-push : (entries : List Entry) (e : Entry) → numbers (entries ++ e ∷ []) ≡ numbers entries ++ e.number ∷ []
+numbers-push entries e = map-append (λ (f : Entry). f.number) entries (e ∷ [])
 
--- while a number is not found yet, there are fewer than entries
-pub fewer : (entries : List Entry) (found : List ℕ) (p : ℕ) → IsDistinct nat_eq found → ((q : ℕ) → IsTrue (is_among q found) → IsTrue (is_among q (numbers entries))) →
-    IsFalse (is_among p found) → IsTrue (is_among p (numbers entries)) → length found < length entries
-fewer entries found p once held none there =
-    let le = few entries (found ++ p ∷ []) (once-push found p once none) (λ q among. elim (among-push q p found among) [
-      | inl yet ↦ held q yet
-      | inr new ↦ subst (λ (k : ℕ). IsTrue (is_among k (numbers entries))) (sym new) there
-    ]) in
-    omega (arith, le, length_push found p)
-
--- the entry at a place: its number stands there, and is one of the numbers
-pub number-item : (entries : List Entry) (i : ℕ) (e : Entry) → i < length entries → e ≡ get_or entries i e → e.number ≡ slice_index (numbers entries) i
-number-item entries i e lt is = ap (λ (f : Entry). f.number) is ∙ sym (number-at entries i e lt)
-
-pub held-item : (entries : List Entry) (i : ℕ) (e : Entry) → i < length entries → e ≡ get_or entries i e → IsTrue (is_among e.number (numbers entries))
-held-item entries i e lt is = subst (λ (n : ℕ). IsTrue (is_among n (numbers entries))) (sym (ap (λ (f : Entry). f.number) is)) (held-at entries i e lt)
+-- the numbers of the entries that a test on numbers keeps
+pub numbers-filter : (t : ℕ → Bool) (entries : List Entry) → numbers (filter (λ e. t e.number) entries) ≡ filter t (numbers entries)
+numbers-filter t [] = refl
+numbers-filter t (e ∷ entries) = elim (cases_Bool (t e.number)) [
+  | inl out ↦ rw out (ap (λ (ns : List ℕ). e.number ∷ ns) (numbers-filter t entries))
+  | inr off ↦ rw off (numbers-filter t entries)
+]

@@ -13,8 +13,7 @@ use Rattle.install_order.specs.Order.Reaches.{Here, Then}
 use Rattle.install_order.specs.Entries.{accesses, reads_at, writes_at}
 use Rattle.install_order.specs.NodeLaws.{node-unique, walk-on, walk-in}
 use Rattle.write_graph.specs.Graph.{numbers, IsNodeNamed}
-use Rattle.write_graph.proofs.Rising.{numbers-filter}
-use Rattle.write_graph.proofs.Written.{among-filter}
+use Rattle.write_graph.proofs.Held.{among-filter, numbers-filter}
 
 -- the numbers outside the node
 abbrev pub outside : (ℕ → Bool) → ℕ → Bool

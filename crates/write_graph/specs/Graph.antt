@@ -1,5 +1,6 @@
 -- The nodes of a list of entries, each named by its least number.
-use Rattle.std.specs.Prelude.{◌≡◌, ℕ, ◌≤◌, Bool, ◌↔◌, IsTrue, List, map, length}
+use Rattle.std.specs.Prelude.{◌==◌, ◌&&◌, ◌≡◌, ℕ, ◌≤◌, Bool, ◌↔◌, IsTrue, List, map, length}
+use Rattle.std.specs.List.{list_any}
 use Rattle.std.specs.List.Sorted.{IsStrictlyIncreasing}
 use Rattle.oper_core.specs.State.{is_among}
 use Rattle.install_order.specs.declared.entry.Entry.{Entry}
@@ -41,3 +42,7 @@ pub record Lists (P : ℕ → Type 0) (xs : List ℕ) : Type 0 where
 -- so many numbers have the property
 abbrev pub IsCount : (ℕ → Type 0) → ℕ → Type 0
 IsCount P count = (xs : List ℕ) × Lists P xs × (count ≡ length xs)
+
+-- the node has the number n alone, which is that of an identity write
+abbrev pub IsSingleIdentity : List Entry → ℕ → (ℕ → Bool) → Type 0
+IsSingleIdentity entries n node = IsTrue (list_any (λ e. (e.number == n) && e.identity) entries) × ((k : ℕ) → IsTrue (node k) → k ≡ n)

@@ -1,3 +1,12 @@
 pub mod Graph
-pub mod Walk
+pub mod Places
+pub mod Cells
+pub mod Rows
+pub mod Linked
+pub mod Steps
 pub mod Objects
+pub mod RowTables
+pub mod Naming
+pub mod Listing
+pub mod Firsts
+pub mod Lowered

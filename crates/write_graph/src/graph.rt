@@ -3,16 +3,19 @@ ghost use Rattle.std.specs.List.{filter};
 ghost use Rattle.std.specs.List.Sorted.{IsStrictlyIncreasing};
 ghost use Rattle.install_order.specs.Order.{Edge, flush_set_of};
 ghost use Rattle.install_order.specs.Entries.{accesses};
-ghost use Rattle.write_graph.specs.Graph.{numbers, IsNodeNamed, NamesNode, NamesMinimal, IsLeast, Lists, IsCount};
 ghost use Rattle.write_graph.specs.Objects.{IsWriter, IsWritten};
-ghost use Rattle.write_graph.specs.Walk.{AreWalks};
+ghost use Rattle.write_graph.specs.Graph.{numbers, IsNodeNamed, NamesNode, NamesMinimal, IsLeast, Lists, IsCount, IsSingleIdentity};
 
-use crate::objects::{first_writer, is_flushed, written};
-use crate::push::push_in_room;
-use crate::questions::{count_nodes, least_minimal, members};
-use crate::walks::Walks;
+use crate::firsts::first_writers;
+use crate::laws::slots_name_nodes;
+use crate::links::Links;
+use crate::listing::{held_slots, numbers_of, slots_of, written_by};
+use crate::lowering::lower_last;
+use crate::places::{slot_from, slot_of};
 use install_order::Entry;
+use number_lists::push_in_room;
 use oper_core::Memory;
+use sparse_order::nodes_stand_for_nodes;
 use std::alloc::Global;
 use std::marker::Model;
 
@@ -23,22 +26,32 @@ pub type NodeNo = u64;
 #[derive(Drop)]
 pub struct WriteGraph {
     alloc: Global,
+    /// By slot, the entries, also those that were taken out: of these, the numbers may be lowered.
     entries: Vec<Entry>,
-    walks: Walks,
+    links: Links,
+    /// How many of the slots are held.
+    held: usize,
+    /// The slots of a node that is taken out.
+    members: Vec<u32>,
 }
 
 impl Model for WriteGraph {
-    ghost use Rattle.std.specs.Prelude.{◌-◌, ◌≤◌, min, length};
+    ghost use Rattle.std.specs.Prelude.{◌≡◌, ◌-◌, ◌≤◌, min, length};
     ghost use Rattle.std.specs.Vec.{vec_capacity};
-    ghost use Rattle.std.specs.List.Sorted.{IsStrictlyIncreasing};
     ghost use Rattle.write_graph.specs.Graph.{Graph, numbers};
-    ghost use Rattle.write_graph.specs.Walk.{walks_room};
+    ghost use Rattle.write_graph.specs.Cells.{held_entries};
+    ghost use Rattle.write_graph.specs.Linked.{AreLinked, links_room};
+    ghost use Rattle.write_graph.specs.Naming.{AreClimbing};
 
     ghost Value = { Graph };
 
-    ghost view = { λ g. record { entries = g.entries.items; room = min (vec_capacity g.entries) (walks_room g.walks) - length g.entries.items } };
+    ghost view = { λ g. record {
+      entries = held_entries g.links.graph.held g.entries.items;
+      room = min (links_room g.links.graph g.links.rows) (min (vec_capacity g.entries) (vec_capacity g.members) - length g.entries.items);
+    } };
 
-    ghost invariant = { λ g. IsStrictlyIncreasing (numbers g.entries.items) × (length g.entries.items ≤ walks_room g.walks) };
+    ghost invariant = { λ g. AreClimbing g.links.graph.held (numbers g.entries.items) × AreLinked g.entries.items g.links.graph g.links.rows ×
+        (g.held ≡ length (held_entries g.links.graph.held g.entries.items)) × (length g.entries.items ≤ vec_capacity g.members) };
 }
 
 impl WriteGraph {
@@ -49,7 +62,9 @@ impl WriteGraph {
         Ok(WriteGraph {
             alloc,
             entries: Vec::new(alloc),
-            walks: Walks::new(alloc),
+            links: Links::new(alloc),
+            held: 0,
+            members: Vec::new(alloc),
         })
     }
 
@@ -58,8 +73,11 @@ impl WriteGraph {
         ensures room { OnOk result (0 < self.new.room) }
         ensures same { self.new.entries ≡ self.old.entries }
     {
+        let count = self.entries.len() + 1;
         self.entries.reserve(1)?;
-        self.walks.make_room(self.entries.len() + 1)?;
+        self.members.clear();
+        self.members.reserve(count)?;
+        self.links.make_room(self.entries.as_slice())?;
         Ok(())
     }
 
@@ -69,27 +87,29 @@ impl WriteGraph {
         requires room { 0 < self.old.room }
         ensures { self.new.entries ≡ self.old.entries ++ entry ∷ [] }
     {
+        lower_last(entry.number, &mut self.entries);
+        self.links.add(&entry, self.entries.as_slice());
         push_in_room(&mut self.entries, entry);
+        self.held += 1;
     }
 
     /// The minimal node with the least name. None exactly where there is no entry.
-    pub fn minimal(&mut self) -> Option<NodeNo>
-        ensures some { IfSome result (IsLeast (NamesMinimal self.old.entries)) }
-        ensures none { IfNone result (self.old.entries ≡ []) }
-        ensures same { self.new.entries ≡ self.old.entries }
-        ensures room { self.old.room ≤ self.new.room }
+    pub fn minimal(&self) -> Option<NodeNo>
+        ensures some { IfSome result (IsLeast (NamesMinimal self.now.entries)) }
+        ensures none { IfNone result (self.now.entries ≡ []) }
     {
         self.minimal_from(0)
     }
 
     /// The minimal node with the least name at or above the number. None exactly where there is none such.
-    pub fn minimal_from(&mut self, n: NodeNo) -> Option<NodeNo>
-        ensures some { IfSome result (IsLeast (λ k. (n ≤ k) × NamesMinimal self.old.entries k)) }
-        ensures none { IfNone result ((k : ℕ) → n ≤ k → NamesMinimal self.old.entries k → ⊥) }
-        ensures same { self.new.entries ≡ self.old.entries }
-        ensures room { self.old.room ≤ self.new.room }
+    pub fn minimal_from(&self, n: NodeNo) -> Option<NodeNo>
+        ensures some { IfSome result (IsLeast (λ k. (n ≤ k) × NamesMinimal self.now.entries k)) }
+        ensures none { IfNone result ((k : ℕ) → n ≤ k → NamesMinimal self.now.entries k → ⊥) }
     {
-        least_minimal(n, self.entries.as_slice(), &mut self.walks)
+        slots_name_nodes();
+        let from = slot_from(n, self.entries.as_slice());
+        let slot = self.links.graph.minimal_from(from)?;
+        Some(self.entries[slot as usize].number)
     }
 
     /// The numbers of the node's entries, rising.
@@ -98,8 +118,9 @@ impl WriteGraph {
         ensures { IfOk result (λ found. (node : ℕ → Bool) → IsNodeNamed self.now.entries n node →
             Lists (λ k. IsTrue (node k)) found.items) }
     {
-        let walks = self.walks_of(n)?;
-        members(self.alloc, self.entries.as_slice(), &walks)
+        let entries = self.entries.as_slice();
+        let slots = slots_of(self.alloc, n, entries, &self.links.graph)?;
+        numbers_of(self.alloc, slots.as_slice(), entries)
     }
 
     /// The objects whose last writer is in the node, rising.
@@ -108,11 +129,28 @@ impl WriteGraph {
         ensures { IfOk result (λ objects. (node : ℕ → Bool) → IsNodeNamed self.now.entries n node →
             Lists (flush_set_of (accesses self.now.entries) node) objects.items) }
     {
-        let walks = self.walks_of(n)?;
+        slots_name_nodes();
+        nodes_stand_for_nodes();
         let entries = self.entries.as_slice();
-        let mut objects = written(self.alloc, entries)?;
-        objects.retain(|x| is_flushed(*x, entries, &walks));
-        Ok(objects)
+        let slot = slot_of(n, entries);
+        let slots = slots_of(self.alloc, n, entries, &self.links.graph)?;
+        let objects = written_by(self.alloc, slots.as_slice(), entries)?;
+        self.links
+            .last_written(self.alloc, objects.as_slice(), slot)
+    }
+
+    /// Whether the node has one entry alone, which is an identity write.
+    pub fn single_identity(&self, n: NodeNo) -> bool
+        requires { NamesNode self.now.entries n }
+        ensures { (node : ℕ → Bool) → IsNodeNamed self.now.entries n node →
+            IsTrue result ↔ IsSingleIdentity self.now.entries n node }
+    {
+        slots_name_nodes();
+        let slot = slot_of(n, self.entries.as_slice());
+        if !self.links.graph.is_single(slot) {
+            return false;
+        }
+        self.entries[slot as usize].identity
     }
 
     /// Takes out the entries of a minimal node, and leaves every other node as it was.
@@ -129,9 +167,11 @@ impl WriteGraph {
         ensures fewer { length self.new.entries < length self.old.entries }
         ensures room { self.old.room ≤ self.new.room }
     {
-        self.walks.follow(n, self.entries.as_slice());
-        let walks = &self.walks;
-        self.entries.retain(|e| !walks.have_both(e.number));
+        slots_name_nodes();
+        let slot = slot_of(n, self.entries.as_slice());
+        self.links.graph.members(slot, &mut self.members);
+        self.held -= self.members.len();
+        self.links.remove(slot, self.entries.as_slice());
     }
 
     /// The objects that entries write, rising, each with the least number of an entry that writes it.
@@ -140,21 +180,25 @@ impl WriteGraph {
         ensures numbers { IfOk result (λ starts. All (λ s. IsLeast (IsWriter (accesses self.now.entries) s.0) s.1) starts.items) }
     {
         let entries = self.entries.as_slice();
-        let objects = written(self.alloc, entries)?;
+        let slots = held_slots(self.alloc, &self.links.graph)?;
+        let objects = written_by(self.alloc, slots.as_slice(), entries)?;
+        let firsts = first_writers(self.alloc, entries, &self.links.graph)?;
         let mut starts = Vec::new(self.alloc);
         for x in &objects {
-            starts.push((*x, first_writer(*x, entries)))?;
+            let Some(first) = firsts.get(x) else {
+                unreachable!()
+            };
+            starts.push((*x, *first))?;
         }
         Ok(starts)
     }
 
     /// How many nodes there are.
-    pub fn node_count(&mut self) -> u64
-        ensures count { IsCount (NamesNode self.old.entries) result }
-        ensures same { self.new.entries ≡ self.old.entries }
-        ensures room { self.old.room ≤ self.new.room }
+    pub fn node_count(&self) -> u64
+        ensures count { IsCount (NamesNode self.now.entries) result }
     {
-        count_nodes(self.entries.as_slice(), &mut self.walks) as u64
+        slots_name_nodes();
+        self.links.graph.node_count() as u64
     }
 
     /// How many entries there are, whose numbers rise.
@@ -162,17 +206,6 @@ impl WriteGraph {
         ensures count { result ≡ length self.now.entries }
         ensures rising { IsStrictlyIncreasing (numbers self.now.entries) }
     {
-        self.entries.len() as u64
-    }
-
-    /// What the number of an entry reaches and what reaches it, in memory of their own.
-    fn walks_of(&self, n: NodeNo) -> Result<Walks, Memory>
-        requires { NamesNode self.now.entries n }
-        ensures { IfOk result (λ walks. AreWalks (accesses self.now.entries) n walks) }
-    {
-        let mut walks = Walks::new(self.alloc);
-        walks.make_room(self.entries.len())?;
-        walks.follow(n, self.entries.as_slice());
-        Ok(walks)
+        self.held as u64
     }
 }

@@ -1,18 +1,22 @@
 //! The write graph: the logged operations that are not installed yet, as nodes that are installed one after the other.
 //!
 //! The one contract: every call of [`WriteGraph`] answers what the definitions of `specs/Graph.antt` say of the list
-//! of its entries, whose nodes, edges and flush sets are those of `install_order`. Each question is worked out anew
-//! over the list. The crate stands on `install_order` and `oper_core`.
+//! of its entries, whose nodes, edges and flush sets are those of `install_order`. An added or a removed entry changes
+//! only the arcs that it brings or takes: at most one for each object that it reads or writes. The crate depends on
+//! `graph_nodes`, which keeps the nodes, on `sparse_order`, `number_lists`, `install_order` and `oper_core`, and on `indexmap`.
 #![tactic(auto)]
 
-mod direction;
+mod cells;
+mod firsts;
 mod graph;
-mod objects;
-mod push;
-mod questions;
+mod laws;
+mod linking;
+mod links;
+mod listing;
+mod lowering;
+mod places;
+mod rows;
 #[cfg(test)]
 mod tests;
-mod walk;
-mod walks;
 
 pub use graph::{NodeNo, WriteGraph};

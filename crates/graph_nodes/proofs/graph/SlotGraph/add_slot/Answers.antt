@@ -1,23 +1,66 @@
-use Rattle.std.proofs.Common.{◌≡◌, ◌∙◌, ap, sym, subst, ℕ, List, [], ◌∷◌, ◌++◌, ◌+◌, length, length-append, arith}
+use Rattle.std.proofs.Common.{◌≡◌, ◌∙◌, ap, sym, subst, ℕ, List, [], ◌∷◌, ◌++◌, ◌+◌, ◌<◌, ◌^◌, length, length-append, refl, arith}
+use Rattle.std.specs.Prelude.{true, IsTrue}
+use Rattle.sparse_order.specs.Digraph.{AreNodes}
 use Rattle.number_lists.specs.Lists.{IsPushed}
-use Rattle.graph_nodes.specs.Kept.{IsKept, no_arcs}
-use Rattle.graph_nodes.proofs.Slot.{kept-room, kept-slot}
+use Rattle.graph_nodes.specs.Arcs.{node_at, name_at, held_at, IsArc}
+use Rattle.graph_nodes.specs.Named.{Graph}
+use Rattle.graph_nodes.proofs.Slot.{kept-slot, kept-room, node-same, held-other, held-last, past-empty}
+use Rattle.graph_nodes.proofs.Told.{marked-slot, marked-as}
 use Rattle.graph_nodes.proofs.graph.SlotGraph.add_slot.Goals as goal
 
-pub invariant_of-self-2 : goal.invariant_of-self-2
-invariant_of-self-2 c =
-    let arcs = c.reserve.new.self.items in
-    let nodes = c.reserve-2.new.self.items in
+pub add-requires-clause-room : goal.add-requires-clause-room
+add-requires-clause-room c = omega (arith, subst (λ (g : Graph). 0 < g.room) (sym c.self.view_is) c.requires.room, c.self.invariant.3.name)
+
+pub invariant_of-self : goal.invariant_of-self
+invariant_of-self c =
+    let nodes = c.self.inside.node.items in
     let n = length nodes in
-    let room = kept-room c.self.inside.arcs.items arcs c.self.inside.node.items nodes c.self.inside.members c.make_room.new.self c.self.inside.into c.make_room-2.new.self c.self.invariant.0 c.reserve.ensures.items c.reserve-2.ensures.items c.make_room.ensures.lists c.make_room.ensures.items c.make_room-2.ensures.lists c.make_room-2.ensures.items in
-    let e : c.len-slot.result ≡ n = omega (arith, c.len-slot.ensures, c.reserve-2.new.self.ok.0) in
+    let small : n < 2 ^ 28 = subst (λ (g : Graph). length g.node < 2 ^ 28) (sym c.self.view_is) c.requires.small in
+    let e : c.len-slot.result ≡ n = omega (arith, c.len-slot.ensures, c.self.inside.node.ok.0) in
     let push : IsPushed c.add_item.new.self n n c.push.new.self = subst (λ (k : ℕ). IsPushed c.add_item.new.self k k c.push.new.self) e c.push.ensures in
-    let after = kept-slot arcs c.add_cells.new.arcs.items nodes c.make_room.new.self c.add_list.new.self c.add_item.new.self c.push.new.self c.make_room-2.new.self c.add_list-2.new.self c.add_cells.new.into room c.add_list.ensures c.add_item.ensures push c.add_list-2.ensures c.add_cells.ensures in
+    let sizes = c.self.invariant.0.range.names in
+    let names : c.add.new.self.name ≡ c.self.inside.names.name ++ n ∷ [] = c.add.ensures.name ∙ ap (λ (k : ℕ). c.self.inside.names.name ++ k ∷ []) sizes in
+    let after = kept-slot c.self.inside.arcs.items c.add_cells.new.arcs.items nodes c.self.inside.held.items c.self.inside.names.name c.add.new.self.name c.self.inside.members c.add_list.new.self c.add_item.new.self c.push.new.self c.self.inside.into c.add_list-2.new.self c.add_cells.new.into
+    c.self.invariant.0 small names c.add_list.ensures c.add_item.ensures push c.add_list-2.ensures c.add_cells.ensures.added in
     let now : c.push_in_room.new.items.items ≡ nodes ++ n ∷ [] = c.push_in_room.ensures.items ∙ ap (λ (k : ℕ). nodes ++ k ∷ []) e in
+    let was = c.self.invariant.3 in
+    let some : 0 < c.self.inside.room = subst (λ (g : Graph). 0 < g.room) (sym c.self.view_is) c.requires.room in
     let size : length c.push_in_room.new.items.items ≡ n + 1 = ap length now ∙ length-append nodes (n ∷ []) in
-    let count : n ≡ length c.self.inside.node.items = ap length c.reserve-2.ensures.items in (
-      subst (λ (xs : List ℕ). IsKept c.add_cells.new.arcs.items xs c.push.new.self c.add_cells.new.into) (sym now) after,
-      omega (arith, size, count, c.add_number.ensures.end, c.make_room-3.ensures.end, c.self.invariant.1),
-      omega (arith, size, count, c.add_number-2.ensures.end, c.make_room-4.ensures.end, c.self.invariant.2),
-      omega (arith, ap length c.add_cells.ensures.arcs, length-append arcs (no_arcs 8), c.in_ok-reserve-3.ensures.capacity, c.in_ok-reserve-3.ensures.succeeds, c.in_ok-reserve-3.ensures.ok, c.clear.ensures.len, c.len.ensures, c.reserve.new.self.ok.0),
+    let held = c.self.inside.held.items in
+    let name_same : (k : ℕ) → name_at c.add.new.self.name k ≡ name_at c.self.inside.names.name k = λ k. ap (λ (xs : List ℕ). name_at xs k) c.add.ensures.name ∙ node-same c.self.inside.names.name k in
+    let marks = marked-slot nodes (nodes ++ n ∷ []) held (held ++ true ∷ []) c.self.inside.into c.add_cells.new.into c.self.inside.names c.add.new.self c.self.invariant.4 c.self.invariant.0.range.holds sizes c.add.ensures (node-same nodes) name_same
+    (λ k ne. held-other held k (λ q. ne (q ∙ c.self.invariant.0.range.holds))) (subst (λ (k : ℕ). IsTrue (held_at (held ++ true ∷ []) k)) c.self.invariant.0.range.holds (held-last held))
+    (λ j. c.add_cells.ensures.added.here j ∙ c.add_list-2.ensures.here j) (past-empty c.self.inside.into.lists n (omega (arith, c.self.invariant.0.range.into_lists))) in (
+      kept-room c.add_cells.new.arcs.items c.add_cells.new.arcs.items (nodes ++ n ∷ []) c.push_in_room.new.items.items (held ++ true ∷ []) c.push_in_room-2.new.items.items c.add.new.self.name c.add.new.self.name c.push.new.self c.push.new.self c.add_cells.new.into c.add_cells.new.into
+          after refl now c.push_in_room-2.ensures.items refl refl refl refl refl,
+      omega (arith, size, c.add_number.ensures.end, c.self.invariant.1),
+      omega (arith, size, c.add_number-2.ensures.end, c.self.invariant.2),
+      record {
+        arcs = omega (arith, size, some, was.arcs, c.add_cells.ensures.capacity);
+        node = omega (arith, size, some, was.node, c.push_in_room.ensures.capacity);
+        held = omega (arith, size, some, was.held, c.push_in_room-2.ensures.capacity);
+        name = omega (arith, some, was.name, c.add.ensures.room);
+        scratch = omega (arith, size, some, was.scratch);
+        member_lists = omega (arith, some, was.member_lists, c.add_list.ensures.list_room, c.add_item.ensures.list_room, c.push.ensures.same.list_room);
+        members = omega (arith, some, was.members, c.add_list.ensures.item_room, c.add_item.ensures.item_room, c.push.ensures.same.item_room);
+        into_lists = omega (arith, some, was.into_lists, c.add_list-2.ensures.list_room, c.add_cells.ensures.added.list_room);
+        into = omega (arith, some, was.into, c.add_list-2.ensures.item_room, c.add_cells.ensures.added.item_room);
+        found = omega (arith, some, was.found, c.add_number.ensures.room);
+        taken = omega (arith, some, was.taken, c.add_number-2.ensures.room);
+      },
+      marked-as (nodes ++ n ∷ []) c.push_in_room.new.items.items (held ++ true ∷ []) c.push_in_room-2.new.items.items c.add_cells.new.into c.add_cells.new.into c.add.new.self c.add.new.self now c.push_in_room-2.ensures.items refl refl refl refl marks,
     )
+
+pub returns-clause-nodes : goal.returns-clause-nodes
+returns-clause-nodes c =
+    let nodes = c.self.inside.node.items in
+    let n = length nodes in
+    let small : n < 2 ^ 28 = subst (λ (g : Graph). length g.node < 2 ^ 28) (sym c.self.view_is) c.requires.small in
+    let e : c.len-slot.result ≡ n = omega (arith, c.len-slot.ensures, c.self.inside.node.ok.0) in
+    let push : IsPushed c.add_item.new.self n n c.push.new.self = subst (λ (k : ℕ). IsPushed c.add_item.new.self k k c.push.new.self) e c.push.ensures in
+    let sizes = c.self.invariant.0.range.names in
+    let names : c.add.new.self.name ≡ c.self.inside.names.name ++ n ∷ [] = c.add.ensures.name ∙ ap (λ (k : ℕ). c.self.inside.names.name ++ k ∷ []) sizes in
+    let after = kept-slot c.self.inside.arcs.items c.add_cells.new.arcs.items nodes c.self.inside.held.items c.self.inside.names.name c.add.new.self.name c.self.inside.members c.add_list.new.self c.add_item.new.self c.push.new.self c.self.inside.into c.add_list-2.new.self c.add_cells.new.into
+    c.self.invariant.0 small names c.add_list.ensures c.add_item.ensures push c.add_list-2.ensures c.add_cells.ensures.added in
+    let now : c.push_in_room.new.items.items ≡ nodes ++ n ∷ [] = c.push_in_room.ensures.items ∙ ap (λ (k : ℕ). nodes ++ k ∷ []) e in
+    subst (λ (xs : List ℕ). AreNodes (IsArc c.add_cells.new.arcs.items) (node_at xs)) (sym now) after.nodes

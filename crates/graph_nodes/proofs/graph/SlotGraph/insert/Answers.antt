@@ -1,21 +1,32 @@
-use Rattle.std.proofs.Common.{◌≡◌, ◌∙◌, sym, subst, ℕ, List, ◌/◌, ◌<◌, ◌≤◌, length, arith}
-use Rattle.std.specs.Prelude.{None, Some, slice_index_or, slice_set}
+use Rattle.std.proofs.Common.{◌≡◌, ◌∙◌, ap, sym, subst, ℕ, List, ◌/◌, ◌<◌, length, refl, arith}
+use Rattle.std.specs.Prelude.{Option, None, Some, IsTrue, slice_index_or, slice_set, nat_eq}
 use Rattle.std.specs.Vec.{vec_capacity}
-use Rattle.std.proofs.lemmas.List.{length-set}
 use Rattle.sparse_order.specs.Digraph.{AreNodes}
-use Rattle.number_lists.specs.Lists.{IsPushed}
-use Rattle.graph_nodes.specs.Arcs.{arc_at, node_at, IsArc}
-use Rattle.graph_nodes.specs.Kept.{Graph, IsKept}
-use Rattle.graph_nodes.proofs.Ordered.{value-at, slot-in, joined-at, back-is, joined-below, kept-inserted}
+use Rattle.number_lists.specs.Lists.{list_at, IsPushed}
+use Rattle.graph_nodes.specs.Arcs.{arc_at, node_at, held_at, IsArc}
+use Rattle.graph_nodes.specs.Into.{IsSettled}
+use Rattle.graph_nodes.specs.Merge.{gathered}
+use Rattle.graph_nodes.specs.Named.{Graph}
+use Rattle.number_lists.specs.MarkLaws.{mark-below}
+use Rattle.number_lists.specs.Back.{back-is}
+use Rattle.graph_nodes.proofs.Ordered.{value-at, slot-in, joined-at, joined-below, kept-inserted, cell-free, pushed-cells}
+use Rattle.graph_nodes.proofs.Bare.{own-end}
+use Rattle.graph_nodes.proofs.Followed.{walkable-at}
+use Rattle.graph_nodes.proofs.Slot.{kept-room, room-more}
+use Rattle.graph_nodes.proofs.Told.{marked-inserted, marked-as}
+use Rattle.graph_nodes.proofs.Asked.{free-iff}
+use Rattle.graph_nodes.specs.Named.{IsTold}
 use Rattle.graph_nodes.proofs.graph.SlotGraph.insert.Goals as goal
 
 pub join-requires-clause-v : goal.join-requires-clause-v
 join-requires-clause-v c =
     let arcs = c.self.inside.arcs.items in
     let old = c.self.inside.node.items in
+    let held = c.self.inside.held.items in
     let kept = c.self.invariant.0 in
     let cell : c.args.cell < length arcs = subst (λ (g : Graph). c.args.cell < length g.arcs) (sym c.self.view_is) c.requires.cell in
-    let to : c.args.to < length old = subst (λ (g : Graph). c.args.to < length g.node) (sym c.self.view_is) c.requires.to in
+    let to_held : IsTrue (held_at held c.args.to) = subst (λ (g : Graph). IsTrue (held_at g.held c.args.to)) (sym c.self.view_is) c.requires.to_held in
+    let to : c.args.to < length old = omega (arith, mark-below held c.args.to to_held, kept.range.holds) in
     let slot : c.args.cell / 8 < length old = slot-in c.args.cell (length old) (length arcs) kept.range.cells cell in
     let v = value-at old (c.args.cell / 8) c.index.result.now slot c.index.ensures in
     let w = value-at old c.args.to c.index-2.result.now to c.index-2.ensures in
@@ -25,74 +36,239 @@ pub join-requires-clause-w : goal.join-requires-clause-w
 join-requires-clause-w c =
     let arcs = c.self.inside.arcs.items in
     let old = c.self.inside.node.items in
+    let held = c.self.inside.held.items in
     let kept = c.self.invariant.0 in
     let cell : c.args.cell < length arcs = subst (λ (g : Graph). c.args.cell < length g.arcs) (sym c.self.view_is) c.requires.cell in
-    let to : c.args.to < length old = subst (λ (g : Graph). c.args.to < length g.node) (sym c.self.view_is) c.requires.to in
+    let to_held : IsTrue (held_at held c.args.to) = subst (λ (g : Graph). IsTrue (held_at g.held c.args.to)) (sym c.self.view_is) c.requires.to_held in
+    let to : c.args.to < length old = omega (arith, mark-below held c.args.to to_held, kept.range.holds) in
     let slot : c.args.cell / 8 < length old = slot-in c.args.cell (length old) (length arcs) kept.range.cells cell in
     let v = value-at old (c.args.cell / 8) c.index.result.now slot c.index.ensures in
     let w = value-at old c.args.to c.index-2.result.now to c.index-2.ensures in
     omega (arith, w, kept.range.nodes c.args.to to, c.self.invariant.1)
 
+pub join-requires-clause-own : goal.join-requires-clause-own
+join-requires-clause-own c =
+    let old = c.self.inside.node.items in
+    let held = c.self.inside.held.items in
+    let kept = c.self.invariant.0 in
+    let to_held : IsTrue (held_at held c.args.to) = subst (λ (g : Graph). IsTrue (held_at g.held c.args.to)) (sym c.self.view_is) c.requires.to_held in
+    let to : c.args.to < length old = omega (arith, mark-below held c.args.to to_held, kept.range.holds) in
+    let w = value-at old c.args.to c.index-2.result.now to c.index-2.ensures in
+    own-end c.self.inside.arcs.items c.as_slice.result.now old c.as_mut_slice.result.now held c.self.inside.names.name c.self.inside.members c.self.inside.into c.args.to c.index-2.result.now kept to c.as_slice.ensures.value c.as_mut_slice.ensures.value w
+
+pub join-requires-clause-walkable : goal.join-requires-clause-walkable
+join-requires-clause-walkable c =
+    walkable-at c.self.inside.arcs.items c.as_slice.result.now c.self.inside.node.items c.as_mut_slice.result.now c.self.inside.held.items c.self.inside.names.name c.self.inside.members c.self.inside.into c.self.inside.found.end c.self.invariant.0 c.self.invariant.1 c.as_slice.ensures.value c.as_mut_slice.ensures.value
+
 pub push-requires-clause-list : goal.push-requires-clause-list
 push-requires-clause-list c =
     let arcs = c.self.inside.arcs.items in
     let old = c.self.inside.node.items in
+    let held = c.self.inside.held.items in
     let kept = c.self.invariant.0 in
     let cell : c.args.cell < length arcs = subst (λ (g : Graph). c.args.cell < length g.arcs) (sym c.self.view_is) c.requires.cell in
-    let to : c.args.to < length old = subst (λ (g : Graph). c.args.to < length g.node) (sym c.self.view_is) c.requires.to in
+    let to_held : IsTrue (held_at held c.args.to) = subst (λ (g : Graph). IsTrue (held_at g.held c.args.to)) (sym c.self.view_is) c.requires.to_held in
+    let to : c.args.to < length old = omega (arith, mark-below held c.args.to to_held, kept.range.holds) in
     let slot : c.args.cell / 8 < length old = slot-in c.args.cell (length old) (length arcs) kept.range.cells cell in
     let v = value-at old (c.args.cell / 8) c.index.result.now slot c.index.ensures in
     let w = value-at old c.args.to c.index-2.result.now to c.index-2.ensures in
     let new = c.join.new.node in
-    let join = joined-at arcs c.as_slice.result.now old c.as_mut_slice.result.now c.index.result.now (node_at old (c.args.cell / 8)) c.index-2.result.now (node_at old c.args.to) new c.self.inside.members c.join.new.members c.self.inside.into c.join.new.into c.as_slice.ensures.value c.as_mut_slice.ensures.value v w c.join.ensures.joined in
-    let back = back-is old new c.self.inside.node.len join.2.2.size c.self.inside.node.ok.0 in
-    let low : c.args.to < length new = omega (arith, to, join.2.2.size) in
-    let at = value-at new c.args.to c.index-3.result.now low (subst (λ (xs : List ℕ). c.index-3.result.now ≡ slice_index_or xs c.args.to c.index-3.result.now) back c.index-3.ensures) in
-    omega (arith, at, joined-below arcs old new c.self.inside.members c.join.new.members c.self.inside.into c.join.new.into (node_at old (c.args.cell / 8)) c.args.to kept to join)
+    let name = c.self.inside.names in
+    let names = c.join.new.names in
+    let join = joined-at arcs c.as_slice.result.now old c.as_mut_slice.result.now c.index.result.now (node_at old (c.args.cell / 8)) c.index-2.result.now (node_at old c.args.to) new name names c.self.inside.members c.join.new.members c.self.inside.into c.join.new.into
+    c.as_slice.ensures.value c.as_mut_slice.ensures.value v w c.join.ensures.joined in
+    let back = back-is old new c.self.inside.node.len join.2.3.size c.self.inside.node.ok.0 in
+    let low : c.args.to < length new = omega (arith, to, join.2.3.size) in
+    let at = value-at new c.args.to c.index-n.result.now low (subst (λ (xs : List ℕ). c.index-n.result.now ≡ slice_index_or xs c.args.to c.index-n.result.now) back c.index-n.ensures) in
+    omega (arith, at, joined-below arcs old new held name names c.self.inside.members c.join.new.members c.self.inside.into c.join.new.into (node_at old (c.args.cell / 8)) c.args.to kept to join)
+
+pub push-requires-clause-free : goal.push-requires-clause-free
+push-requires-clause-free c =
+    let arcs = c.self.inside.arcs.items in
+    let old = c.self.inside.node.items in
+    let held = c.self.inside.held.items in
+    let kept = c.self.invariant.0 in
+    let cell : c.args.cell < length arcs = subst (λ (g : Graph). c.args.cell < length g.arcs) (sym c.self.view_is) c.requires.cell in
+    let to_held : IsTrue (held_at held c.args.to) = subst (λ (g : Graph). IsTrue (held_at g.held c.args.to)) (sym c.self.view_is) c.requires.to_held in
+    let to : c.args.to < length old = omega (arith, mark-below held c.args.to to_held, kept.range.holds) in
+    let slot : c.args.cell / 8 < length old = slot-in c.args.cell (length old) (length arcs) kept.range.cells cell in
+    let v = value-at old (c.args.cell / 8) c.index.result.now slot c.index.ensures in
+    let w = value-at old c.args.to c.index-2.result.now to c.index-2.ensures in
+    let new = c.join.new.node in
+    let name = c.self.inside.names in
+    let names = c.join.new.names in
+    let join = joined-at arcs c.as_slice.result.now old c.as_mut_slice.result.now c.index.result.now (node_at old (c.args.cell / 8)) c.index-2.result.now (node_at old c.args.to) new name names c.self.inside.members c.join.new.members c.self.inside.into c.join.new.into
+    c.as_slice.ensures.value c.as_mut_slice.ensures.value v w c.join.ensures.joined in
+    let back = back-is old new c.self.inside.node.len join.2.3.size c.self.inside.node.ok.0 in
+    let low : c.args.to < length new = omega (arith, to, join.2.3.size) in
+    let at = value-at new c.args.to c.index-n.result.now low (subst (λ (xs : List ℕ). c.index-n.result.now ≡ slice_index_or xs c.args.to c.index-n.result.now) back c.index-n.ensures) in
+    let none : arc_at arcs c.args.cell ≡ None = subst (λ (g : Graph). arc_at g.arcs c.args.cell ≡ None) (sym c.self.view_is) c.requires.none in
+    let holds : IsTrue (held_at held (c.args.cell / 8)) = subst (λ (g : Graph). IsTrue (held_at g.held (c.args.cell / 8))) (sym c.self.view_is) c.requires.from_held in
+    cell-free arcs held c.self.inside.into c.join.new.into (gathered join.0 join.2.0) c.args.cell none holds kept.lost join.2.3.into
+
+pub settle-requires-clause-list : goal.settle-requires-clause-list
+settle-requires-clause-list c =
+    let arcs = c.self.inside.arcs.items in
+    let old = c.self.inside.node.items in
+    let held = c.self.inside.held.items in
+    let kept = c.self.invariant.0 in
+    let cell : c.args.cell < length arcs = subst (λ (g : Graph). c.args.cell < length g.arcs) (sym c.self.view_is) c.requires.cell in
+    let to_held : IsTrue (held_at held c.args.to) = subst (λ (g : Graph). IsTrue (held_at g.held c.args.to)) (sym c.self.view_is) c.requires.to_held in
+    let to : c.args.to < length old = omega (arith, mark-below held c.args.to to_held, kept.range.holds) in
+    let slot : c.args.cell / 8 < length old = slot-in c.args.cell (length old) (length arcs) kept.range.cells cell in
+    let v = value-at old (c.args.cell / 8) c.index.result.now slot c.index.ensures in
+    let w = value-at old c.args.to c.index-2.result.now to c.index-2.ensures in
+    let new = c.join.new.node in
+    let name = c.self.inside.names in
+    let names = c.join.new.names in
+    let join = joined-at arcs c.as_slice.result.now old c.as_mut_slice.result.now c.index.result.now (node_at old (c.args.cell / 8)) c.index-2.result.now (node_at old c.args.to) new name names c.self.inside.members c.join.new.members c.self.inside.into c.join.new.into
+    c.as_slice.ensures.value c.as_mut_slice.ensures.value v w c.join.ensures.joined in
+    let back = back-is old new c.self.inside.node.len join.2.3.size c.self.inside.node.ok.0 in
+    let low : c.args.to < length new = omega (arith, to, join.2.3.size) in
+    let at = value-at new c.args.to c.index-n.result.now low (subst (λ (xs : List ℕ). c.index-n.result.now ≡ slice_index_or xs c.args.to c.index-n.result.now) back c.index-n.ensures) in
+    omega (arith, at, joined-below arcs old new held name names c.self.inside.members c.join.new.members c.self.inside.into c.join.new.into (node_at old (c.args.cell / 8)) c.args.to kept to join, c.push.ensures.same.lists)
+
+pub settle-requires-clause-cells : goal.settle-requires-clause-cells
+settle-requires-clause-cells c =
+    let arcs = c.self.inside.arcs.items in
+    let old = c.self.inside.node.items in
+    let held = c.self.inside.held.items in
+    let kept = c.self.invariant.0 in
+    let cell : c.args.cell < length arcs = subst (λ (g : Graph). c.args.cell < length g.arcs) (sym c.self.view_is) c.requires.cell in
+    let to_held : IsTrue (held_at held c.args.to) = subst (λ (g : Graph). IsTrue (held_at g.held c.args.to)) (sym c.self.view_is) c.requires.to_held in
+    let to : c.args.to < length old = omega (arith, mark-below held c.args.to to_held, kept.range.holds) in
+    let slot : c.args.cell / 8 < length old = slot-in c.args.cell (length old) (length arcs) kept.range.cells cell in
+    let v = value-at old (c.args.cell / 8) c.index.result.now slot c.index.ensures in
+    let w = value-at old c.args.to c.index-2.result.now to c.index-2.ensures in
+    let new = c.join.new.node in
+    let name = c.self.inside.names in
+    let names = c.join.new.names in
+    let join = joined-at arcs c.as_slice.result.now old c.as_mut_slice.result.now c.index.result.now (node_at old (c.args.cell / 8)) c.index-2.result.now (node_at old c.args.to) new name names c.self.inside.members c.join.new.members c.self.inside.into c.join.new.into
+    c.as_slice.ensures.value c.as_mut_slice.ensures.value v w c.join.ensures.joined in
+    let back = back-is old new c.self.inside.node.len join.2.3.size c.self.inside.node.ok.0 in
+    let low : c.args.to < length new = omega (arith, to, join.2.3.size) in
+    let at = value-at new c.args.to c.index-n.result.now low (subst (λ (xs : List ℕ). c.index-n.result.now ≡ slice_index_or xs c.args.to c.index-n.result.now) back c.index-n.ensures) in
+    let none : arc_at arcs c.args.cell ≡ None = subst (λ (g : Graph). arc_at g.arcs c.args.cell ≡ None) (sym c.self.view_is) c.requires.none in
+    let holds : IsTrue (held_at held (c.args.cell / 8)) = subst (λ (g : Graph). IsTrue (held_at g.held (c.args.cell / 8))) (sym c.self.view_is) c.requires.from_held in
+    let push : IsPushed c.join.new.into (node_at new c.args.to) c.args.cell c.push.new.self = subst (λ (k : ℕ). IsPushed c.join.new.into k c.args.cell c.push.new.self) at c.push.ensures in
+    let set = slice_set arcs c.args.cell (Some c.args.to) in
+    rw (c.as_slice-2.ensures.value, c.as_slice-3.ensures.value, back)
+    (pushed-cells arcs old new held name names c.self.inside.members c.join.new.members c.self.inside.into c.join.new.into c.push.new.self c.args.cell c.args.to c.index-n.result.now kept cell none holds to join push)
 
 pub invariant_of-self : goal.invariant_of-self
 invariant_of-self c =
     let arcs = c.self.inside.arcs.items in
     let old = c.self.inside.node.items in
+    let held = c.self.inside.held.items in
     let kept = c.self.invariant.0 in
     let cell : c.args.cell < length arcs = subst (λ (g : Graph). c.args.cell < length g.arcs) (sym c.self.view_is) c.requires.cell in
-    let to : c.args.to < length old = subst (λ (g : Graph). c.args.to < length g.node) (sym c.self.view_is) c.requires.to in
+    let to_held : IsTrue (held_at held c.args.to) = subst (λ (g : Graph). IsTrue (held_at g.held c.args.to)) (sym c.self.view_is) c.requires.to_held in
+    let to : c.args.to < length old = omega (arith, mark-below held c.args.to to_held, kept.range.holds) in
     let slot : c.args.cell / 8 < length old = slot-in c.args.cell (length old) (length arcs) kept.range.cells cell in
     let v = value-at old (c.args.cell / 8) c.index.result.now slot c.index.ensures in
     let w = value-at old c.args.to c.index-2.result.now to c.index-2.ensures in
     let new = c.join.new.node in
-    let join = joined-at arcs c.as_slice.result.now old c.as_mut_slice.result.now c.index.result.now (node_at old (c.args.cell / 8)) c.index-2.result.now (node_at old c.args.to) new c.self.inside.members c.join.new.members c.self.inside.into c.join.new.into c.as_slice.ensures.value c.as_mut_slice.ensures.value v w c.join.ensures.joined in
-    let back = back-is old new c.self.inside.node.len join.2.2.size c.self.inside.node.ok.0 in
-    let low : c.args.to < length new = omega (arith, to, join.2.2.size) in
-    let at = value-at new c.args.to c.index-3.result.now low (subst (λ (xs : List ℕ). c.index-3.result.now ≡ slice_index_or xs c.args.to c.index-3.result.now) back c.index-3.ensures) in
+    let name = c.self.inside.names in
+    let names = c.join.new.names in
+    let join = joined-at arcs c.as_slice.result.now old c.as_mut_slice.result.now c.index.result.now (node_at old (c.args.cell / 8)) c.index-2.result.now (node_at old c.args.to) new name names c.self.inside.members c.join.new.members c.self.inside.into c.join.new.into
+    c.as_slice.ensures.value c.as_mut_slice.ensures.value v w c.join.ensures.joined in
+    let back = back-is old new c.self.inside.node.len join.2.3.size c.self.inside.node.ok.0 in
+    let low : c.args.to < length new = omega (arith, to, join.2.3.size) in
+    let at = value-at new c.args.to c.index-n.result.now low (subst (λ (xs : List ℕ). c.index-n.result.now ≡ slice_index_or xs c.args.to c.index-n.result.now) back c.index-n.ensures) in
     let none : arc_at arcs c.args.cell ≡ None = subst (λ (g : Graph). arc_at g.arcs c.args.cell ≡ None) (sym c.self.view_is) c.requires.none in
+    let holds : IsTrue (held_at held (c.args.cell / 8)) = subst (λ (g : Graph). IsTrue (held_at g.held (c.args.cell / 8))) (sym c.self.view_is) c.requires.from_held in
     let push : IsPushed c.join.new.into (node_at new c.args.to) c.args.cell c.push.new.self = subst (λ (k : ℕ). IsPushed c.join.new.into k c.args.cell c.push.new.self) at c.push.ensures in
     let set = slice_set arcs c.args.cell (Some c.args.to) in
-    let after : IsKept set new c.join.new.members c.push.new.self = kept-inserted arcs old new c.self.inside.members c.join.new.members c.self.inside.into c.join.new.into c.push.new.self c.args.cell c.args.to kept cell none to join push in
-    subst (λ (xs : List ℕ). IsKept set xs c.join.new.members c.push.new.self × (c.join.new.found.end ≡ length xs) × (c.join.new.taken.end ≡ length xs) × (length set ≤ vec_capacity c.join.new.cells)) (sym back) (
-      after,
-      c.join.ensures.ends ∙ c.self.invariant.1 ∙ sym join.2.2.size,
-      c.join.ensures.taken ∙ c.self.invariant.2 ∙ sym join.2.2.size,
-      omega (arith, length-set arcs c.args.cell (Some c.args.to), c.join.ensures.capacity, c.self.invariant.3),
+    let settle : IsSettled set new (node_at new c.args.to) c.push.new.self c.settle.new.into =
+    subst (λ (k : ℕ). IsSettled set new k c.push.new.self c.settle.new.into) at
+    (subst (λ (xs : List ℕ). IsSettled set xs c.index-n.result.now c.push.new.self c.settle.new.into) (c.as_slice-3.ensures.value ∙ back)
+    (subst (λ (xs : List (Option ℕ)). IsSettled xs c.as_slice-3.result.now c.index-n.result.now c.push.new.self c.settle.new.into) c.as_slice-2.ensures.value c.settle.ensures)) in
+    let after = kept-inserted arcs old new held name names c.self.inside.members c.join.new.members c.self.inside.into c.join.new.into c.push.new.self c.settle.new.into c.args.cell c.args.to kept cell none holds to join push settle in
+    let told = c.tell.new.self in
+    let tell : IsTold (node_at new c.args.to) (nat_eq c.count.result 0) names told = subst (λ (k : ℕ). IsTold k (nat_eq c.count.result 0) names told) at c.tell.ensures in
+    let count : c.count.result ≡ length (list_at c.settle.new.into.lists (node_at new c.args.to)) = subst (λ (k : ℕ). c.count.result ≡ length (list_at c.settle.new.into.lists k)) at c.count.ensures.value in
+    let marks = marked-inserted arcs old new held name names told c.self.inside.members c.join.new.members c.self.inside.into c.join.new.into c.settle.new.into (node_at old (c.args.cell / 8)) c.args.to (nat_eq c.count.result 0) kept c.self.invariant.4 to join after.named
+    (λ m ne. settle.others m ne ∙ push.others m ne) (free-iff (list_at c.settle.new.into.lists (node_at new c.args.to)) c.count.result count) tell in (
+      kept-room set set new _ held held names.name told.name c.join.new.members c.join.new.members c.settle.new.into c.settle.new.into after refl back refl tell.name refl refl refl refl,
+      c.join.ensures.found.end ∙ c.self.invariant.1 ∙ sym (ap length back ∙ join.2.3.size),
+      c.join.ensures.taken.end ∙ c.self.invariant.2 ∙ sym (ap length back ∙ join.2.3.size),
+      room-more c.self.inside.room (length old) _ (vec_capacity c.self.inside.arcs) _ (vec_capacity c.self.inside.node) _ (vec_capacity c.self.inside.held) _ (vec_capacity c.self.inside.scratch) _ name told c.self.inside.members c.join.new.members c.self.inside.into c.settle.new.into
+          c.self.inside.found c.join.new.found c.self.inside.taken c.join.new.taken (ap length back ∙ join.2.3.size) (omega arith) (omega arith) (omega arith) c.join.ensures.capacity (omega (arith, join.2.2.room, tell.room)) (omega (arith, join.2.3.members.list_room)) (omega (arith, join.2.3.members.item_room))
+          (omega (arith, join.2.3.into.same.list_room, push.same.list_room, settle.same.list_room)) (omega (arith, join.2.3.into.same.item_room, push.same.item_room, settle.same.item_room)) c.join.ensures.found.room c.join.ensures.taken.room c.self.invariant.3,
+      marked-as new _ held held c.settle.new.into c.settle.new.into told told back refl refl refl refl refl marks,
     )
 
 pub returns-clause-nodes : goal.returns-clause-nodes
 returns-clause-nodes c =
     let arcs = c.self.inside.arcs.items in
     let old = c.self.inside.node.items in
+    let held = c.self.inside.held.items in
     let kept = c.self.invariant.0 in
     let cell : c.args.cell < length arcs = subst (λ (g : Graph). c.args.cell < length g.arcs) (sym c.self.view_is) c.requires.cell in
-    let to : c.args.to < length old = subst (λ (g : Graph). c.args.to < length g.node) (sym c.self.view_is) c.requires.to in
+    let to_held : IsTrue (held_at held c.args.to) = subst (λ (g : Graph). IsTrue (held_at g.held c.args.to)) (sym c.self.view_is) c.requires.to_held in
+    let to : c.args.to < length old = omega (arith, mark-below held c.args.to to_held, kept.range.holds) in
     let slot : c.args.cell / 8 < length old = slot-in c.args.cell (length old) (length arcs) kept.range.cells cell in
     let v = value-at old (c.args.cell / 8) c.index.result.now slot c.index.ensures in
     let w = value-at old c.args.to c.index-2.result.now to c.index-2.ensures in
     let new = c.join.new.node in
-    let join = joined-at arcs c.as_slice.result.now old c.as_mut_slice.result.now c.index.result.now (node_at old (c.args.cell / 8)) c.index-2.result.now (node_at old c.args.to) new c.self.inside.members c.join.new.members c.self.inside.into c.join.new.into c.as_slice.ensures.value c.as_mut_slice.ensures.value v w c.join.ensures.joined in
-    let back = back-is old new c.self.inside.node.len join.2.2.size c.self.inside.node.ok.0 in
-    let low : c.args.to < length new = omega (arith, to, join.2.2.size) in
-    let at = value-at new c.args.to c.index-3.result.now low (subst (λ (xs : List ℕ). c.index-3.result.now ≡ slice_index_or xs c.args.to c.index-3.result.now) back c.index-3.ensures) in
+    let name = c.self.inside.names in
+    let names = c.join.new.names in
+    let join = joined-at arcs c.as_slice.result.now old c.as_mut_slice.result.now c.index.result.now (node_at old (c.args.cell / 8)) c.index-2.result.now (node_at old c.args.to) new name names c.self.inside.members c.join.new.members c.self.inside.into c.join.new.into
+    c.as_slice.ensures.value c.as_mut_slice.ensures.value v w c.join.ensures.joined in
+    let back = back-is old new c.self.inside.node.len join.2.3.size c.self.inside.node.ok.0 in
+    let low : c.args.to < length new = omega (arith, to, join.2.3.size) in
+    let at = value-at new c.args.to c.index-n.result.now low (subst (λ (xs : List ℕ). c.index-n.result.now ≡ slice_index_or xs c.args.to c.index-n.result.now) back c.index-n.ensures) in
     let none : arc_at arcs c.args.cell ≡ None = subst (λ (g : Graph). arc_at g.arcs c.args.cell ≡ None) (sym c.self.view_is) c.requires.none in
+    let holds : IsTrue (held_at held (c.args.cell / 8)) = subst (λ (g : Graph). IsTrue (held_at g.held (c.args.cell / 8))) (sym c.self.view_is) c.requires.from_held in
     let push : IsPushed c.join.new.into (node_at new c.args.to) c.args.cell c.push.new.self = subst (λ (k : ℕ). IsPushed c.join.new.into k c.args.cell c.push.new.self) at c.push.ensures in
     let set = slice_set arcs c.args.cell (Some c.args.to) in
-    let after : IsKept set new c.join.new.members c.push.new.self = kept-inserted arcs old new c.self.inside.members c.join.new.members c.self.inside.into c.join.new.into c.push.new.self c.args.cell c.args.to kept cell none to join push in
+    let settle : IsSettled set new (node_at new c.args.to) c.push.new.self c.settle.new.into =
+    subst (λ (k : ℕ). IsSettled set new k c.push.new.self c.settle.new.into) at
+    (subst (λ (xs : List ℕ). IsSettled set xs c.index-n.result.now c.push.new.self c.settle.new.into) (c.as_slice-3.ensures.value ∙ back)
+    (subst (λ (xs : List (Option ℕ)). IsSettled xs c.as_slice-3.result.now c.index-n.result.now c.push.new.self c.settle.new.into) c.as_slice-2.ensures.value c.settle.ensures)) in
+    let after = kept-inserted arcs old new held name names c.self.inside.members c.join.new.members c.self.inside.into c.join.new.into c.push.new.self c.settle.new.into c.args.cell c.args.to kept cell none holds to join push settle in
     subst (λ (xs : List ℕ). AreNodes (IsArc set) (node_at xs)) (sym back) after.nodes
+
+pub count-requires : goal.count-requires
+count-requires c =
+    let arcs = c.self.inside.arcs.items in
+    let old = c.self.inside.node.items in
+    let held = c.self.inside.held.items in
+    let kept = c.self.invariant.0 in
+    let cell : c.args.cell < length arcs = subst (λ (g : Graph). c.args.cell < length g.arcs) (sym c.self.view_is) c.requires.cell in
+    let to_held : IsTrue (held_at held c.args.to) = subst (λ (g : Graph). IsTrue (held_at g.held c.args.to)) (sym c.self.view_is) c.requires.to_held in
+    let to : c.args.to < length old = omega (arith, mark-below held c.args.to to_held, kept.range.holds) in
+    let slot : c.args.cell / 8 < length old = slot-in c.args.cell (length old) (length arcs) kept.range.cells cell in
+    let v = value-at old (c.args.cell / 8) c.index.result.now slot c.index.ensures in
+    let w = value-at old c.args.to c.index-2.result.now to c.index-2.ensures in
+    let new = c.join.new.node in
+    let name = c.self.inside.names in
+    let names = c.join.new.names in
+    let join = joined-at arcs c.as_slice.result.now old c.as_mut_slice.result.now c.index.result.now (node_at old (c.args.cell / 8)) c.index-2.result.now (node_at old c.args.to) new name names c.self.inside.members c.join.new.members c.self.inside.into c.join.new.into
+    c.as_slice.ensures.value c.as_mut_slice.ensures.value v w c.join.ensures.joined in
+    let back = back-is old new c.self.inside.node.len join.2.3.size c.self.inside.node.ok.0 in
+    let low : c.args.to < length new = omega (arith, to, join.2.3.size) in
+    let at = value-at new c.args.to c.index-n.result.now low (subst (λ (xs : List ℕ). c.index-n.result.now ≡ slice_index_or xs c.args.to c.index-n.result.now) back c.index-n.ensures) in
+    omega (arith, at, joined-below arcs old new held name names c.self.inside.members c.join.new.members c.self.inside.into c.join.new.into (node_at old (c.args.cell / 8)) c.args.to kept to join, c.push.ensures.same.lists, c.settle.ensures.same.lists)
+
+pub tell-requires : goal.tell-requires
+tell-requires c =
+    let arcs = c.self.inside.arcs.items in
+    let old = c.self.inside.node.items in
+    let held = c.self.inside.held.items in
+    let kept = c.self.invariant.0 in
+    let cell : c.args.cell < length arcs = subst (λ (g : Graph). c.args.cell < length g.arcs) (sym c.self.view_is) c.requires.cell in
+    let to_held : IsTrue (held_at held c.args.to) = subst (λ (g : Graph). IsTrue (held_at g.held c.args.to)) (sym c.self.view_is) c.requires.to_held in
+    let to : c.args.to < length old = omega (arith, mark-below held c.args.to to_held, kept.range.holds) in
+    let slot : c.args.cell / 8 < length old = slot-in c.args.cell (length old) (length arcs) kept.range.cells cell in
+    let v = value-at old (c.args.cell / 8) c.index.result.now slot c.index.ensures in
+    let w = value-at old c.args.to c.index-2.result.now to c.index-2.ensures in
+    let new = c.join.new.node in
+    let name = c.self.inside.names in
+    let names = c.join.new.names in
+    let join = joined-at arcs c.as_slice.result.now old c.as_mut_slice.result.now c.index.result.now (node_at old (c.args.cell / 8)) c.index-2.result.now (node_at old c.args.to) new name names c.self.inside.members c.join.new.members c.self.inside.into c.join.new.into
+    c.as_slice.ensures.value c.as_mut_slice.ensures.value v w c.join.ensures.joined in
+    let back = back-is old new c.self.inside.node.len join.2.3.size c.self.inside.node.ok.0 in
+    let low : c.args.to < length new = omega (arith, to, join.2.3.size) in
+    let at = value-at new c.args.to c.index-n.result.now low (subst (λ (xs : List ℕ). c.index-n.result.now ≡ slice_index_or xs c.args.to c.index-n.result.now) back c.index-n.ensures) in
+    omega (arith, at, joined-below arcs old new held name names c.self.inside.members c.join.new.members c.self.inside.into c.join.new.into (node_at old (c.args.cell / 8)) c.args.to kept to join, join.2.3.into.same.lists, kept.range.into_lists, kept.range.names, join.2.2.size)

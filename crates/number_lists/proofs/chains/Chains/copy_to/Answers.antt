@@ -1,5 +1,6 @@
 use Rattle.std.proofs.Common.{◌∙◌, ap, sym, subst, ℕ, List, length, ◌<◌, ◌≤◌, arith}
-use Rattle.std.specs.Prelude.{IsTrue}
+use Rattle.std.specs.Prelude.{IsTrue, nat_eq}
+use Rattle.std.specs.List.{IsDistinct}
 use Rattle.std.specs.Vec.{vec_capacity}
 use Rattle.oper_core.specs.State.{is_among}
 use Rattle.number_lists.specs.Links.{follow}
@@ -25,3 +26,10 @@ returns-clause-items c =
     let lt = subst (λ (v : Lists). c.args.list < length v.lists) (sym c.self.view_is) c.requires.list in
     let e = walk-start c.self.inside.next.items c.self.inside.chains.items c.args.list c.index-chain.result.now lt c.index-chain.ensures in
     c.walk.ensures.items ∙ ap (λ (next : List ℕ). follow next c.index-chain.result.now.count c.index-chain.result.now.first) c.as_slice.ensures.value ∙ e ∙ ap (λ (v : Lists). list_at v.lists c.args.list) c.self.view_is
+
+pub returns-clause-distinct : goal.returns-clause-distinct
+returns-clause-distinct c =
+    let lt = subst (λ (v : Lists). c.args.list < length v.lists) (sym c.self.view_is) c.requires.list in
+    let e = walk-start c.self.inside.next.items c.self.inside.chains.items c.args.list c.index-chain.result.now lt c.index-chain.ensures in
+    let items = c.walk.ensures.items ∙ ap (λ (next : List ℕ). follow next c.index-chain.result.now.count c.index-chain.result.now.first) c.as_slice.ensures.value ∙ e in
+    subst (λ (xs : List ℕ). IsDistinct nat_eq xs) (sym items) (c.self.invariant.distinct c.args.list)

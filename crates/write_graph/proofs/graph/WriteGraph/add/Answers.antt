@@ -1,15 +1,60 @@
-use Rattle.std.proofs.Common.{◌≡◌, ap, sym, subst, List, length, arith, All, ◌<◌, ◌-◌, min}
-use Rattle.std.specs.Vec.{vec_capacity}
-use Rattle.std.proofs.lemmas.List.{length_push}
+use Rattle.std.proofs.Common.{◌≡◌, ◌∙◌, ap, sym, subst, ◌<◌, List, [], ◌∷◌, ◌++◌, length, map, All, arith}
+use Rattle.std.proofs.lemmas.List.{length_push, length-map}
 use Rattle.install_order.specs.declared.entry.Entry.{Entry}
+use Rattle.graph_nodes.specs.Arcs.{held_at}
 use Rattle.write_graph.specs.Graph.{Graph, numbers}
-use Rattle.write_graph.specs.Walk.{walks_room}
-use Rattle.write_graph.proofs.Rising.{entries-push}
+use Rattle.write_graph.specs.Cells.{held_entries}
+use Rattle.write_graph.specs.Linked.{AreLinked}
+use Rattle.write_graph.specs.Lowered.{lowered}
+use Rattle.write_graph.proofs.Lowered.{linked-lowered, held-lowered, climbing-more}
+use Rattle.write_graph.proofs.Numbers.{held-push, chosen-few}
 use Rattle.write_graph.proofs.graph.WriteGraph.add.Goals as goal
+
+pub add-requires-clause-linked : goal.add-requires-clause-linked
+add-requires-clause-linked c =
+    let g = c.self.inside in
+    subst (λ (es : List Entry). AreLinked es g.links.graph g.links.rows) (sym (c.as_slice.ensures.value ∙ c.lower_last.ensures.lowered)) (linked-lowered c.args.entry.number g.entries.items g.links.graph g.links.rows c.self.invariant.1)
+
+pub overflow_add-self : goal.overflow_add-self
+overflow_add-self c = omega (arith, c.self.invariant.2, c.self.invariant.1.small, chosen-few (held_at c.self.inside.links.graph.held) c.self.inside.entries.items)
+
+pub push_in_room-requires : goal.push_in_room-requires
+push_in_room-requires c =
+    let g = c.self.inside in
+    let room = subst (λ (v : Graph). 0 < v.room) (sym c.self.view_is) c.requires.room in
+    omega (arith, room, c.lower_last.ensures.capacity, c.lower_last.new.entries.ok.0, ap length c.lower_last.ensures.lowered, length-map g.entries.items (lowered c.args.entry.number))
 
 pub invariant_of-self : goal.invariant_of-self
 invariant_of-self c =
-    let same : c.self.inside.entries.items ≡ c.args.self.now.entries = ap (λ (g : Graph). g.entries) c.self.view_is in
-    let above = subst (λ (es : List Entry). All (λ n. n < c.args.entry.number) (numbers es)) (sym same) c.requires.above in
-    let room : 0 < min (vec_capacity c.self.inside.entries) (walks_room c.self.inside.walks) - length c.self.inside.entries.items = subst (λ (g : Graph). 0 < g.room) (sym c.self.view_is) c.requires.room in
-    rw c.push_in_room.ensures.items (entries-push c.self.inside.entries.items c.args.entry c.self.invariant.0 above, omega (arith, room, length_push c.self.inside.entries.items c.args.entry))
+    let g = c.self.inside in
+    let entries = g.entries.items in
+    let e = c.args.entry in
+    let held = g.links.graph.held in
+    let more = c.add.new.self.graph.held in
+    let low = map (lowered e.number) entries in
+    let above = subst (λ (v : Graph). All (λ n. n < e.number) (numbers v.entries)) (sym c.self.view_is) c.requires.above in
+    let room = subst (λ (v : Graph). 0 < v.room) (sym c.self.view_is) c.requires.room in
+    let len = length-map entries (lowered e.number) in
+    let same = held-lowered held entries e.number above in
+    let push = held-push held more low e (c.self.invariant.1.held ∙ sym len) c.add.ensures.held in
+    let size = length_push low e in
+    let items : c.push_in_room.new.items.items ≡ low ++ e ∷ [] = c.push_in_room.ensures.items ∙ ap (λ (es : List Entry). es ++ e ∷ []) c.lower_last.ensures.lowered in
+    rw items (
+      climbing-more held more entries e c.self.invariant.1.held c.add.ensures.held c.self.invariant.0 above,
+      subst (λ (es : List Entry). AreLinked (es ++ e ∷ []) c.add.new.self.graph c.add.new.self.rows) (c.as_slice.ensures.value ∙ c.lower_last.ensures.lowered) c.add.ensures.linked,
+      omega (arith, ap length push, ap length same, length_push (held_entries held low) e, c.self.invariant.2),
+      omega (arith, room, size, len),
+    )
+
+pub returns : goal.returns
+returns c =
+    let g = c.self.inside in
+    let entries = g.entries.items in
+    let e = c.args.entry in
+    let held = g.links.graph.held in
+    let more = c.add.new.self.graph.held in
+    let low = map (lowered e.number) entries in
+    let above = subst (λ (v : Graph). All (λ n. n < e.number) (numbers v.entries)) (sym c.self.view_is) c.requires.above in
+    let same = held-lowered held entries e.number above in
+    let push = held-push held more low e (c.self.invariant.1.held ∙ sym (length-map entries (lowered e.number))) c.add.ensures.held in
+    ap (held_entries more) (c.push_in_room.ensures.items ∙ ap (λ (es : List Entry). es ++ e ∷ []) c.lower_last.ensures.lowered) ∙ push ∙ ap (λ (es : List Entry). es ++ e ∷ []) same ∙ ap (λ (v : Graph). v.entries ++ e ∷ []) c.self.view_is

@@ -1,18 +1,72 @@
-use Rattle.std.proofs.Common.{rules, ◌≡◌, ◌∙◌, ap, subst, List}
+use Rattle.std.proofs.Common.{◌≡◌, ◌∙◌, ap, sym, subst, ℕ, Bool, List, ◌<◌, length, arith}
+use Rattle.std.specs.Prelude.{IsTrue, slice_index}
 use Rattle.std.specs.List.{filter}
-use Rattle.std.proofs.lemmas.Fn.{filter_same}
+use Rattle.oper_core.specs.State.{is_among}
 use Rattle.install_order.specs.declared.entry.Entry.{Entry}
+use Rattle.install_order.specs.Order.{flush_set_of}
 use Rattle.install_order.specs.Entries.{accesses}
-use Rattle.write_graph.specs.Graph.{Graph, Lists}
-use Rattle.write_graph.specs.Walk.{in_both}
-use Rattle.write_graph.specs.Objects.{is_flushed, IsWritten}
-use Rattle.write_graph.proofs.Written.{flushed-list}
+use Rattle.graph_nodes.specs.Arcs.{held_at}
+use Rattle.write_graph.specs.Places.{IsSlotOfNumber}
+use Rattle.write_graph.specs.Graph.{Graph, numbers, NamesNode, IsNodeNamed, Lists}
+use Rattle.write_graph.specs.Cells.{slot_access, held_entries}
+use Rattle.write_graph.specs.Rows.{last_held}
+use Rattle.write_graph.specs.Listing.{IsWrittenBy, AreSlotsOf, is_with}
+use Rattle.write_graph.specs.Naming.{AreSlots}
+use Rattle.write_graph.proofs.Options.{ok-then}
+use Rattle.write_graph.proofs.Numbers.{renamed, number-same}
+use Rattle.write_graph.proofs.Listed.{lists-same, lists-filter, slots-below, flushed}
+use Rattle.write_graph.proofs.Asked.{slots-are, slot-at}
 use Rattle.write_graph.proofs.graph.WriteGraph.flush_set.Goals as goal
+
+pub slots_of-requires-clause-slots : goal.slots_of-requires-clause-slots
+slots_of-requires-clause-slots c =
+    let g = c.self.inside in
+    subst (λ (es : List Entry). AreSlots es g.links.graph) (sym c.as_slice-entries.ensures.value) (slots-are g.entries.items g.links.graph g.links.rows c.self.invariant.1 c.self.invariant.0)
+
+pub written_by-requires : goal.written_by-requires
+written_by-requires c =
+    let g = c.self.inside in
+    let entries = g.entries.items in
+    let linked = c.self.invariant.1 in
+    let has = subst (λ (es : List Entry). (node : ℕ → Bool) → IsNodeNamed (held_entries g.links.graph.held es) c.args.n node → AreSlotsOf es g.links.graph c.args.n c.in_ok-slots.slots.items node) c.as_slice-entries.ensures.value c.in_ok-slots.ensures in
+    let is = subst (λ (v : Graph). NamesNode v.entries c.args.n) (sym c.self.view_is) c.requires in
+    let m = has is.0 is.1 in
+    record { below = λ i t. subst (λ (es : List Entry). i < length es) (sym c.as_slice-entries.ensures.value) (slots-below entries g.links.graph g.links.rows linked c.self.invariant.0 c.args.n is.0 is.1 m.slot c.in_ok-slots.slots.items m.among i (subst (λ (xs : List ℕ). IsTrue (is_among i xs)) c.as_slice.ensures.value t)) }
+
+pub last_written-requires-clause-slot : goal.last_written-requires-clause-slot
+last_written-requires-clause-slot c =
+    let g = c.self.inside in
+    let entries = g.entries.items in
+    let linked = c.self.invariant.1 in
+    let found_at : IsSlotOfNumber (numbers entries) c.args.n c.slot_of-slot.result = subst (λ (es : List Entry). IsSlotOfNumber (numbers es) c.args.n c.slot_of-slot.result) c.as_slice-entries.ensures.value c.slot_of-slot.ensures in
+    let are = slots-are entries g.links.graph g.links.rows linked c.self.invariant.0 in
+    let is = subst (λ (v : Graph). NamesNode v.entries c.args.n) (sym c.self.view_is) c.requires in
+    let s = slot-at c.slots_name_nodes.ensures.slots c.slots_name_nodes.ensures.names entries g.links.graph are c.args.n c.slot_of-slot.result is.0 found_at is.1 in
+    omega (arith, s.0.below, s.1, linked.slots)
+
+pub last_written-requires-clause-below : goal.last_written-requires-clause-below
+last_written-requires-clause-below c x w last = omega (arith, c.self.invariant.1.rows_are.below x w last, c.self.invariant.1.slots)
 
 pub returns : goal.returns
 returns c =
-    let view : c.self.inside.entries.items ≡ c.args.self.now.entries = ap (λ (g : Graph). g.entries) c.self.view_is in
-    let same : c.as_slice-entries.result.now ≡ c.args.self.now.entries = c.as_slice-entries.ensures.value ∙ view in
-    let kept : c.retain.new.self.items ≡ filter (is_flushed c.as_slice-entries.result.now (in_both c.in_ok-walks.walks)) c.in_ok-objects.objects.items = filter_same _ _ _ (λ x b f' k. search rules) _ _ c.retain.ensures.filtered in
-    flushed-list c.args.self.now.entries c.args.n c.in_ok-walks.walks c.in_ok-objects.objects.items c.retain.new.self.items c.in_ok-walks.ensures (subst (λ (es : List Entry). Lists (IsWritten (accesses es)) c.in_ok-objects.objects.items) same c.in_ok-objects.ensures)
-    (subst (λ (es : List Entry). c.retain.new.self.items ≡ filter (is_flushed es (in_both c.in_ok-walks.walks)) c.in_ok-objects.objects.items) same kept)
+    let g = c.self.inside in
+    let entries = g.entries.items in
+    let linked = c.self.invariant.1 in
+    let has = subst (λ (es : List Entry). (node : ℕ → Bool) → IsNodeNamed (held_entries g.links.graph.held es) c.args.n node → AreSlotsOf es g.links.graph c.args.n c.in_ok-slots.slots.items node) c.as_slice-entries.ensures.value c.in_ok-slots.ensures in
+    let found_at : IsSlotOfNumber (numbers entries) c.args.n c.slot_of-slot.result = subst (λ (es : List Entry). IsSlotOfNumber (numbers es) c.args.n c.slot_of-slot.result) c.as_slice-entries.ensures.value c.slot_of-slot.ensures in
+    let are = slots-are entries g.links.graph g.links.rows linked c.self.invariant.0 in
+    let number : ℕ → ℕ = slice_index (numbers entries) in
+    let named_is = renamed entries g.links.graph.held linked.held c.self.invariant.0.above_held in
+    ok-then c.last_written.result _ _ (λ found kept node named.
+    let here = subst (λ (v : Graph). IsNodeNamed v.entries c.args.n node) (sym c.self.view_is) named in
+    let m = has node here in
+    let s = slot-at c.slots_name_nodes.ensures.slots c.slots_name_nodes.ensures.names entries g.links.graph are c.args.n c.slot_of-slot.result node found_at here in
+    let at : m.slot.slot ≡ c.slot_of-slot.result = number-same (held_at g.links.graph.held) entries c.self.invariant.0.above_held m.slot.slot s.0.slot m.slot.name.0 s.0.name.0 m.slot.below s.0.below (m.slot.number ∙ sym s.0.number) ∙ s.1 in
+    let t : ℕ → ℕ → Bool = λ slot x. is_with g.links.graph slot (last_held g.links.graph.held g.links.rows x) in
+    let list = subst (λ (xs : List ℕ). Lists (IsWrittenBy entries xs) c.in_ok-objects.objects.items) c.as_slice.ensures.value (subst (λ (es : List Entry). Lists (IsWrittenBy es c.as_slice.result.now) c.in_ok-objects.objects.items) c.as_slice-entries.ensures.value c.in_ok-objects.ensures) in
+    let items : found.items ≡ filter (t m.slot.slot) c.in_ok-objects.objects.items = kept ∙ ap (filter (t c.slot_of-slot.result)) c.as_slice-2.ensures.value ∙ ap (λ (k : ℕ). filter (t k) c.in_ok-objects.objects.items) (sym at) in
+    subst (λ (v : Graph). Lists (flush_set_of (accesses v.entries) node) found.items) c.self.view_is (
+    subst (λ (xs : List ℕ). Lists (flush_set_of (accesses (held_entries g.links.graph.held entries)) node) xs) (sym items) (
+    lists-same (λ x. IsWrittenBy entries c.in_ok-slots.slots.items x × IsTrue (t m.slot.slot x)) (flush_set_of (accesses (held_entries g.links.graph.held entries)) node) (filter (t m.slot.slot) c.in_ok-objects.objects.items)
+    (flushed entries g.links.graph g.links.rows linked c.self.invariant.0 c.args.n node here m.slot (λ x i lt. c.nodes_stand_for_nodes.ensures.last (slot_access entries g.links.graph.held) (accesses (held_entries g.links.graph.held entries)) (held_at g.links.graph.held) (length entries) number x i named_is lt) c.in_ok-slots.slots.items m.among)
+    (lists-filter (IsWrittenBy entries c.in_ok-slots.slots.items) (t m.slot.slot) c.in_ok-objects.objects.items list)))) c.last_written.ensures

@@ -1,55 +1,129 @@
-use Rattle.std.proofs.Common.{rules, ◌≡◌, ◌∙◌, ap, sym, subst, ℕ, ◌<◌, List, Bool, length, arith}
+use Rattle.std.proofs.Common.{◌≡◌, ◌∙◌, ap, sym, subst, ℕ, ◌<◌, List, Bool, length, refl, arith}
 use Rattle.std.specs.Prelude.{IsFalse, ◌↔◌}
-use Rattle.std.specs.List.Sorted.{IsStrictlyIncreasing}
-use Rattle.std.proofs.lemmas.Fn.{filter_same}
 use Rattle.install_order.specs.declared.entry.Entry.{Entry}
 use Rattle.install_order.specs.Order.{Edge, flush_set_of}
 use Rattle.install_order.specs.Entries.{accesses}
 use Rattle.install_order.specs.NodeLaws.{node-unique}
-use Rattle.write_graph.specs.Graph.{Graph, numbers, IsNodeNamed}
-use Rattle.write_graph.specs.Walk.{AreWalks, in_both}
-use Rattle.write_graph.proofs.Nodes.{node-both}
-use Rattle.write_graph.proofs.Rising.{entries-filter}
-use Rattle.write_graph.proofs.Removal.{outside, left, nodes-left, flush-sets-left, entries-edges-left, left-fewer}
+use Rattle.graph_nodes.specs.Arcs.{node_at, held_at}
+use Rattle.graph_nodes.specs.Removed.{IsRemoved}
+use Rattle.write_graph.specs.Places.{IsSlotOfNumber}
+use Rattle.write_graph.specs.Graph.{Graph, IsNodeNamed, NamesMinimal, numbers}
+use Rattle.write_graph.specs.Cells.{held_entries}
+use Rattle.write_graph.specs.Linked.{AreLinked}
+use Rattle.write_graph.proofs.Removal.{left, nodes-left, flush-sets-left, entries-edges-left, left-fewer}
+use Rattle.write_graph.proofs.Asked.{found-minimal}
+use Rattle.write_graph.proofs.Counted.{chosen-without, left-count, left-entries, climbing-left}
 use Rattle.write_graph.proofs.graph.WriteGraph.remove_minimal.Goals as goal
 
--- what stays are the entries outside the node
-kept : (c : goal.After-retain) → c.retain.new.self.items ≡ left (in_both c.follow.new.self) c.self.inside.entries.items
-kept c = filter_same _ _ _ (λ x b f' k. search rules) _ _ c.retain.ensures.filtered
+pub members-requires-clause-slot : goal.members-requires-clause-slot
+members-requires-clause-slot c =
+    let g = c.self.inside in
+    let found_at : IsSlotOfNumber (numbers g.entries.items) c.args.n c.slot_of-slot.result = subst (λ (es : List Entry). IsSlotOfNumber (numbers es) c.args.n c.slot_of-slot.result) c.as_slice.ensures.value c.slot_of-slot.ensures in
+    let is = subst (λ (v : Graph). NamesMinimal v.entries c.args.n) (sym c.self.view_is) c.requires in
+    let found = found-minimal c.slots_name_nodes.ensures.slots c.slots_name_nodes.ensures.names g.entries.items g.links.graph g.links.rows c.args.n c.slot_of-slot.result c.self.invariant.1 c.self.invariant.0 found_at is in
+    omega (arith, found.slot.below, found.at, c.self.invariant.1.slots)
 
-node-kept : (c : goal.After-retain) (node : ℕ → Bool) → IsNodeNamed c.args.self.now.entries c.args.n node → c.retain.new.self.items ≡ left node c.args.self.now.entries
-node-kept c node named =
-    let view : c.self.inside.entries.items ≡ c.args.self.now.entries = ap (λ (g : Graph). g.entries) c.self.view_is in
-    let are = subst (λ (es : List Entry). AreWalks (accesses es) c.args.n c.follow.new.self) (c.as_slice.ensures.value ∙ view) c.follow.ensures.walks in
-    let same = node-both c.args.self.now.entries c.args.n c.follow.new.self node are named in
-    kept c ∙ ap (left (in_both c.follow.new.self)) view ∙ sym (ap (λ (s : ℕ → Bool). left s c.args.self.now.entries) same)
+pub overflow_sub-self : goal.overflow_sub-self
+overflow_sub-self c =
+    let g = c.self.inside in
+    let found_at : IsSlotOfNumber (numbers g.entries.items) c.args.n c.slot_of-slot.result = subst (λ (es : List Entry). IsSlotOfNumber (numbers es) c.args.n c.slot_of-slot.result) c.as_slice.ensures.value c.slot_of-slot.ensures in
+    let is = subst (λ (v : Graph). NamesMinimal v.entries c.args.n) (sym c.self.view_is) c.requires in
+    let found = found-minimal c.slots_name_nodes.ensures.slots c.slots_name_nodes.ensures.names g.entries.items g.links.graph g.links.rows c.args.n c.slot_of-slot.result c.self.invariant.1 c.self.invariant.0 found_at is in
+    let xs = c.members.new.out.items in
+    let count = chosen-without (held_at g.links.graph.held) g.entries.items xs c.members.ensures.distinct (λ i there. found.held i ((c.members.ensures.members i).0 there)) in
+    omega (arith, count, c.len.ensures, c.self.invariant.2)
+
+pub remove-requires-clause-held : goal.remove-requires-clause-held
+remove-requires-clause-held c =
+    let g = c.self.inside in
+    let found_at : IsSlotOfNumber (numbers g.entries.items) c.args.n c.slot_of-slot.result = subst (λ (es : List Entry). IsSlotOfNumber (numbers es) c.args.n c.slot_of-slot.result) c.as_slice.ensures.value c.slot_of-slot.ensures in
+    let is = subst (λ (v : Graph). NamesMinimal v.entries c.args.n) (sym c.self.view_is) c.requires in
+    let found = found-minimal c.slots_name_nodes.ensures.slots c.slots_name_nodes.ensures.names g.entries.items g.links.graph g.links.rows c.args.n c.slot_of-slot.result c.self.invariant.1 c.self.invariant.0 found_at is in
+    (found.held c.slot_of-slot.result refl).1
+
+pub remove-requires-clause-minimal : goal.remove-requires-clause-minimal
+remove-requires-clause-minimal c =
+    let g = c.self.inside in
+    let found_at : IsSlotOfNumber (numbers g.entries.items) c.args.n c.slot_of-slot.result = subst (λ (es : List Entry). IsSlotOfNumber (numbers es) c.args.n c.slot_of-slot.result) c.as_slice.ensures.value c.slot_of-slot.ensures in
+    let is = subst (λ (v : Graph). NamesMinimal v.entries c.args.n) (sym c.self.view_is) c.requires in
+    let found = found-minimal c.slots_name_nodes.ensures.slots c.slots_name_nodes.ensures.names g.entries.items g.links.graph g.links.rows c.args.n c.slot_of-slot.result c.self.invariant.1 c.self.invariant.0 found_at is in
+    found.minimal
 
 pub invariant_of-self : goal.invariant_of-self
-invariant_of-self c = (
-  subst (λ (es : List Entry). IsStrictlyIncreasing (numbers es)) (sym (kept c)) (entries-filter (outside (in_both c.follow.new.self)) c.self.inside.entries.items c.self.invariant.0),
-  omega (arith, c.retain.ensures.bound, c.retain.new.self.ok, c.self.inside.entries.ok, c.self.invariant.1, c.follow.ensures.room),
-)
+invariant_of-self c =
+    let g = c.self.inside in
+    let found_at : IsSlotOfNumber (numbers g.entries.items) c.args.n c.slot_of-slot.result = subst (λ (es : List Entry). IsSlotOfNumber (numbers es) c.args.n c.slot_of-slot.result) c.as_slice.ensures.value c.slot_of-slot.ensures in
+    let is = subst (λ (v : Graph). NamesMinimal v.entries c.args.n) (sym c.self.view_is) c.requires in
+    let found = found-minimal c.slots_name_nodes.ensures.slots c.slots_name_nodes.ensures.names g.entries.items g.links.graph g.links.rows c.args.n c.slot_of-slot.result c.self.invariant.1 c.self.invariant.0 found_at is in
+    let xs = c.members.new.out.items in
+    let count = left-count g.entries.items g.links.graph c.remove.new.self.graph c.slot_of-slot.result xs c.remove.ensures.removed c.members.ensures.distinct c.members.ensures.members found.held in
+    (climbing-left g.links.graph c.remove.new.self.graph (node_at g.links.graph.node c.slot_of-slot.result) (numbers g.entries.items) c.remove.ensures.removed c.self.invariant.0, subst (λ (es : List Entry). AreLinked es c.remove.new.self.graph c.remove.new.self.rows) c.as_slice-2.ensures.value c.remove.ensures.linked, omega (arith, count, c.len.ensures, c.self.invariant.2), omega (arith, c.members.ensures.capacity, c.self.invariant.3))
 
 pub returns-clause-entries : goal.returns-clause-entries
-returns-clause-entries c = node-kept c
+returns-clause-entries c node named =
+    let g = c.self.inside in
+    let found_at : IsSlotOfNumber (numbers g.entries.items) c.args.n c.slot_of-slot.result = subst (λ (es : List Entry). IsSlotOfNumber (numbers es) c.args.n c.slot_of-slot.result) c.as_slice.ensures.value c.slot_of-slot.ensures in
+    let is = subst (λ (v : Graph). NamesMinimal v.entries c.args.n) (sym c.self.view_is) c.requires in
+    let found = found-minimal c.slots_name_nodes.ensures.slots c.slots_name_nodes.ensures.names g.entries.items g.links.graph g.links.rows c.args.n c.slot_of-slot.result c.self.invariant.1 c.self.invariant.0 found_at is in
+    let view = held_entries g.links.graph.held g.entries.items in
+    let after = held_entries c.remove.new.self.graph.held g.entries.items in
+    let removed : IsRemoved g.links.graph (node_at g.links.graph.node found.slot.slot) c.remove.new.self.graph = subst (λ (k : ℕ). IsRemoved g.links.graph (node_at g.links.graph.node k) c.remove.new.self.graph) (sym found.at) c.remove.ensures.removed in
+    let kept : after ≡ left found.node view = left-entries g.entries.items g.links.graph c.remove.new.self.graph c.args.n found.node found.slot removed in
+    let named_here = subst (λ (v : Graph). IsNodeNamed v.entries c.args.n node) (sym c.self.view_is) named in
+    let same : node ≡ found.node = node-unique (accesses view) node found.node c.args.n named_here.is_node found.named.is_node named_here.is_name.0 found.named.is_name.0 in
+    kept ∙ ap (λ (s : ℕ → Bool). left s view) (sym same) ∙ ap (λ (v : Graph). left node v.entries) c.self.view_is
 
 pub returns-clause-nodes : goal.returns-clause-nodes
 returns-clause-nodes c k other =
-    let node = c.requires.0 in
-    subst (λ (es : List Entry). IsNodeNamed es k other ↔ (IsNodeNamed c.args.self.now.entries k other × (k ≡ c.args.n → ⊥))) (sym (node-kept c node c.requires.1)) (nodes-left c.args.self.now.entries c.args.n node c.requires.1 c.requires.2 k other)
+    let g = c.self.inside in
+    let found_at : IsSlotOfNumber (numbers g.entries.items) c.args.n c.slot_of-slot.result = subst (λ (es : List Entry). IsSlotOfNumber (numbers es) c.args.n c.slot_of-slot.result) c.as_slice.ensures.value c.slot_of-slot.ensures in
+    let is = subst (λ (v : Graph). NamesMinimal v.entries c.args.n) (sym c.self.view_is) c.requires in
+    let found = found-minimal c.slots_name_nodes.ensures.slots c.slots_name_nodes.ensures.names g.entries.items g.links.graph g.links.rows c.args.n c.slot_of-slot.result c.self.invariant.1 c.self.invariant.0 found_at is in
+    let view = held_entries g.links.graph.held g.entries.items in
+    let after = held_entries c.remove.new.self.graph.held g.entries.items in
+    let removed : IsRemoved g.links.graph (node_at g.links.graph.node found.slot.slot) c.remove.new.self.graph = subst (λ (k : ℕ). IsRemoved g.links.graph (node_at g.links.graph.node k) c.remove.new.self.graph) (sym found.at) c.remove.ensures.removed in
+    let kept : after ≡ left found.node view = left-entries g.entries.items g.links.graph c.remove.new.self.graph c.args.n found.node found.slot removed in
+    subst (λ (es : List Entry). IsNodeNamed es k other ↔ (IsNodeNamed c.args.self.now.entries k other × (k ≡ c.args.n → ⊥))) (sym kept) (
+    subst (λ (v : Graph). IsNodeNamed (left found.node view) k other ↔ (IsNodeNamed v.entries k other × (k ≡ c.args.n → ⊥))) c.self.view_is (nodes-left view c.args.n found.node found.named found.none k other))
 
 pub returns-clause-flush_sets : goal.returns-clause-flush_sets
 returns-clause-flush_sets c k other x =
-    let node = c.requires.0 in
-    subst (λ (es : List Entry). IsNodeNamed es k other → flush_set_of (accesses es) other x ↔ flush_set_of (accesses c.args.self.now.entries) other x) (sym (node-kept c node c.requires.1)) (flush-sets-left c.args.self.now.entries c.args.n node c.requires.1 c.requires.2 k other x)
+    let g = c.self.inside in
+    let found_at : IsSlotOfNumber (numbers g.entries.items) c.args.n c.slot_of-slot.result = subst (λ (es : List Entry). IsSlotOfNumber (numbers es) c.args.n c.slot_of-slot.result) c.as_slice.ensures.value c.slot_of-slot.ensures in
+    let is = subst (λ (v : Graph). NamesMinimal v.entries c.args.n) (sym c.self.view_is) c.requires in
+    let found = found-minimal c.slots_name_nodes.ensures.slots c.slots_name_nodes.ensures.names g.entries.items g.links.graph g.links.rows c.args.n c.slot_of-slot.result c.self.invariant.1 c.self.invariant.0 found_at is in
+    let view = held_entries g.links.graph.held g.entries.items in
+    let after = held_entries c.remove.new.self.graph.held g.entries.items in
+    let removed : IsRemoved g.links.graph (node_at g.links.graph.node found.slot.slot) c.remove.new.self.graph = subst (λ (k : ℕ). IsRemoved g.links.graph (node_at g.links.graph.node k) c.remove.new.self.graph) (sym found.at) c.remove.ensures.removed in
+    let kept : after ≡ left found.node view = left-entries g.entries.items g.links.graph c.remove.new.self.graph c.args.n found.node found.slot removed in
+    subst (λ (es : List Entry). IsNodeNamed es k other → flush_set_of (accesses es) other x ↔ flush_set_of (accesses c.args.self.now.entries) other x) (sym kept) (
+    subst (λ (v : Graph). IsNodeNamed (left found.node view) k other → flush_set_of (accesses (left found.node view)) other x ↔ flush_set_of (accesses v.entries) other x) c.self.view_is (flush-sets-left view c.args.n found.node found.named found.none k other x))
 
 pub returns-clause-edges : goal.returns-clause-edges
 returns-clause-edges c node o p named =
-    let same = node-unique (accesses c.args.self.now.entries) node c.requires.0 c.args.n named.is_node c.requires.1.is_node named.is_name.0 c.requires.1.is_name.0 in
-    subst (λ (s : ℕ → Bool). Edge (accesses c.retain.new.self.items) o p ↔ (IsFalse (s o) × Edge (accesses c.args.self.now.entries) o p)) (sym same) (
-    subst (λ (es : List Entry). Edge (accesses es) o p ↔ (IsFalse (c.requires.0 o) × Edge (accesses c.args.self.now.entries) o p)) (sym (node-kept c c.requires.0 c.requires.1)) (entries-edges-left c.args.self.now.entries c.requires.0 c.requires.2 o p))
+    let g = c.self.inside in
+    let found_at : IsSlotOfNumber (numbers g.entries.items) c.args.n c.slot_of-slot.result = subst (λ (es : List Entry). IsSlotOfNumber (numbers es) c.args.n c.slot_of-slot.result) c.as_slice.ensures.value c.slot_of-slot.ensures in
+    let is = subst (λ (v : Graph). NamesMinimal v.entries c.args.n) (sym c.self.view_is) c.requires in
+    let found = found-minimal c.slots_name_nodes.ensures.slots c.slots_name_nodes.ensures.names g.entries.items g.links.graph g.links.rows c.args.n c.slot_of-slot.result c.self.invariant.1 c.self.invariant.0 found_at is in
+    let view = held_entries g.links.graph.held g.entries.items in
+    let after = held_entries c.remove.new.self.graph.held g.entries.items in
+    let removed : IsRemoved g.links.graph (node_at g.links.graph.node found.slot.slot) c.remove.new.self.graph = subst (λ (k : ℕ). IsRemoved g.links.graph (node_at g.links.graph.node k) c.remove.new.self.graph) (sym found.at) c.remove.ensures.removed in
+    let kept : after ≡ left found.node view = left-entries g.entries.items g.links.graph c.remove.new.self.graph c.args.n found.node found.slot removed in
+    let named_here = subst (λ (v : Graph). IsNodeNamed v.entries c.args.n node) (sym c.self.view_is) named in
+    let same : node ≡ found.node = node-unique (accesses view) node found.node c.args.n named_here.is_node found.named.is_node named_here.is_name.0 found.named.is_name.0 in
+    subst (λ (s : ℕ → Bool). Edge (accesses after) o p ↔ (IsFalse (s o) × Edge (accesses c.args.self.now.entries) o p)) (sym same) (
+    subst (λ (es : List Entry). Edge (accesses es) o p ↔ (IsFalse (found.node o) × Edge (accesses c.args.self.now.entries) o p)) (sym kept) (
+    subst (λ (v : Graph). Edge (accesses (left found.node view)) o p ↔ (IsFalse (found.node o) × Edge (accesses v.entries) o p)) c.self.view_is (entries-edges-left view found.node found.none o p)))
 
 pub returns-clause-fewer : goal.returns-clause-fewer
 returns-clause-fewer c =
-    let node = c.requires.0 in
-    subst (λ (es : List Entry). length es < length c.args.self.now.entries) (sym (node-kept c node c.requires.1)) (left-fewer node c.args.self.now.entries c.args.n c.requires.1.is_name.0 c.requires.1.held)
+    let g = c.self.inside in
+    let found_at : IsSlotOfNumber (numbers g.entries.items) c.args.n c.slot_of-slot.result = subst (λ (es : List Entry). IsSlotOfNumber (numbers es) c.args.n c.slot_of-slot.result) c.as_slice.ensures.value c.slot_of-slot.ensures in
+    let is = subst (λ (v : Graph). NamesMinimal v.entries c.args.n) (sym c.self.view_is) c.requires in
+    let found = found-minimal c.slots_name_nodes.ensures.slots c.slots_name_nodes.ensures.names g.entries.items g.links.graph g.links.rows c.args.n c.slot_of-slot.result c.self.invariant.1 c.self.invariant.0 found_at is in
+    let view = held_entries g.links.graph.held g.entries.items in
+    let after = held_entries c.remove.new.self.graph.held g.entries.items in
+    let removed : IsRemoved g.links.graph (node_at g.links.graph.node found.slot.slot) c.remove.new.self.graph = subst (λ (k : ℕ). IsRemoved g.links.graph (node_at g.links.graph.node k) c.remove.new.self.graph) (sym found.at) c.remove.ensures.removed in
+    let kept : after ≡ left found.node view = left-entries g.entries.items g.links.graph c.remove.new.self.graph c.args.n found.node found.slot removed in
+    subst (λ (es : List Entry). length es < length c.args.self.now.entries) (sym kept) (
+    subst (λ (v : Graph). length (left found.node view) < length v.entries) c.self.view_is (left-fewer found.node view c.args.n found.named.is_name.0 found.named.held))

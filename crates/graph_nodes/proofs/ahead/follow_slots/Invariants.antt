@@ -1,0 +1,6 @@
+use Rattle.graph_nodes.specs.Ahead.{AreFollowed}
+use Rattle.graph_nodes.proofs.Followed.{IsOfEarly}
+use Rattle.graph_nodes.proofs.ahead.follow_slots.Given as goal
+
+abbrev pub invariant-loop-s : goal.invariant-loop-s
+invariant-loop-s l = AreFollowed (IsOfEarly l.slots l.s-index) l.arcs l.node l.fn.ahead l.ahead

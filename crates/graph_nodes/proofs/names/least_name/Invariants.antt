@@ -1,0 +1,5 @@
+use Rattle.graph_nodes.proofs.Least.{IsLeastSoFar}
+use Rattle.graph_nodes.proofs.names.least_name.Given as goal
+
+abbrev pub invariant-loop-i : goal.invariant-loop-i
+invariant-loop-i l = IsLeastSoFar l.taken.members l.name l.i l.least

@@ -1,0 +1,5 @@
+use Rattle.graph_nodes.proofs.Scattered.{IsParting}
+use Rattle.graph_nodes.proofs.names.part.Given as goal
+
+abbrev pub invariant-loop-s : goal.invariant-loop-s
+invariant-loop-s l = IsParting l.slots l.s-index l.fn.name l.name

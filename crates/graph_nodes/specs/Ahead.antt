@@ -1,0 +1,41 @@
+-- What a search along the arcs has found, and a search in both directions.
+use Rattle.std.specs.Prelude.{◌≡◌, ℕ, ◌/◌, ◌*◌, ◌+◌, ◌<◌, ◌⊎◌, IsTrue, List, length, Option, Some, slice_index}
+use Rattle.oper_core.specs.State.{is_among}
+use Rattle.number_lists.specs.Lists.{Lists}
+use Rattle.number_lists.specs.Members.{Members}
+use Rattle.graph_nodes.specs.Arcs.{arc_at, node_at, AreEnds}
+use Rattle.graph_nodes.specs.Into.{AreInto}
+use Rattle.graph_nodes.specs.Search.{AreKept, IsExpanded}
+
+-- the nodes to which the arcs of these cells lead are found too
+pub record AreFollowed (Cells : ℕ → Type 0) (arcs : List (Option ℕ)) (node : List ℕ) (old new : Members) : Type 0 where
+  pub there : (c j : ℕ) → Cells c → arc_at arcs c ≡ Some j → IsTrue (is_among (node_at node j) new.members)
+  pub same : AreKept old new
+
+-- the nodes to which arcs from the node n lead are found too
+abbrev pub IsFollowed : List (Option ℕ) → List ℕ → ℕ → Members → Members → Type 0
+IsFollowed arcs node n = AreFollowed (λ c. node_at node (c / 8) ≡ n) arcs node
+
+-- there are eight cells for each slot, the nodes are below the end, and the lists have the cells whose arcs lead into their nodes
+pub record IsWalkable (arcs : List (Option ℕ)) (node : List ℕ) (into : Lists) (end : ℕ) : Type 0 where
+  pub size : length arcs ≡ 8 * length node
+  pub ends : AreEnds arcs node end
+  pub leads : AreInto arcs node into
+
+-- the next of the found nodes is done: a step against the arcs
+pub record IsStepBack (arcs : List (Option ℕ)) (node : List ℕ) (into : Lists) (stop old_next new_next : ℕ) (old new : Members) : Type 0 where
+  pub step : IsExpanded arcs node into (slice_index old.members old_next) stop old new
+  pub next : new_next ≡ old_next + 1
+
+-- the next of the found nodes is done: a step along the arcs
+pub record IsStepAhead (arcs : List (Option ℕ)) (node : List ℕ) (old_next new_next : ℕ) (old new : Members) : Type 0 where
+  pub step : IsFollowed arcs node (slice_index old.members old_next) old new
+  pub next : new_next ≡ old_next + 1
+  pub some : old_next < length old.members
+  pub few : old_next < old.end
+
+-- one of the two searches has made a step, and the other is where it was
+abbrev pub IsTurn : List (Option ℕ) → List ℕ → Lists → ℕ → ℕ → ℕ → Members → Members → ℕ → ℕ → Members → Members → Type 0
+IsTurn arcs node into stop old_back new_back old_found new_found old_on new_on old_ahead new_ahead =
+    (IsStepBack arcs node into stop old_back new_back old_found new_found × (new_on ≡ old_on) × (new_ahead ≡ old_ahead)) ⊎
+    (IsStepAhead arcs node old_on new_on old_ahead new_ahead × (new_back ≡ old_back) × (new_found ≡ old_found))

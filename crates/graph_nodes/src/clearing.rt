@@ -1,0 +1,70 @@
+ghost use Rattle.std.specs.Prelude.{◌≡◌, ℕ, ◌<◌, ◌/◌, length, IsTrue};
+ghost use Rattle.oper_core.specs.State.{is_among};
+ghost use Rattle.graph_nodes.specs.Into.{AreCleared};
+ghost use Rattle.graph_nodes.specs.Named.{AreNamesSame};
+ghost use Rattle.graph_nodes.specs.Removed.{IsInOrder};
+
+use crate::names::Names;
+use crate::settling::settle;
+use number_lists::Chains;
+
+/// Takes away the arcs of the slots' cells.
+pub(crate) fn clear_slots(
+    slots: &[u32],
+    arcs: &mut [Option<u32>],
+    node: &[u32],
+    into: &mut Chains,
+    names: &mut Names,
+)
+    requires slots { (i : ℕ) → IsTrue (is_among i slots.now) → i < length node.now }
+    requires order { IsInOrder arcs.old node.now into.old names.old }
+    ensures cleared { AreCleared (λ c. IsTrue (is_among (c / 8) slots.now)) arcs.old arcs.new into.old into.new }
+    ensures order { IsInOrder arcs.new node.now into.new names.new }
+    ensures same { AreNamesSame names.old names.new }
+{
+    for s in slots {
+        clear_slot(*s, arcs, node, into, names);
+    }
+}
+
+/// Takes away the arcs of the slot's eight cells.
+fn clear_slot(
+    slot: u32,
+    arcs: &mut [Option<u32>],
+    node: &[u32],
+    into: &mut Chains,
+    names: &mut Names,
+)
+    requires slot { slot < length node.now }
+    requires order { IsInOrder arcs.old node.now into.old names.old }
+    ensures cleared { AreCleared (λ c. c / 8 ≡ slot) arcs.old arcs.new into.old into.new }
+    ensures order { IsInOrder arcs.new node.now into.new names.new }
+    ensures same { AreNamesSame names.old names.new }
+{
+    for i in 0..8usize {
+        clear_arc(8 * slot as usize + i, arcs, node, into, names);
+    }
+}
+
+/// Takes away the arc of the cell, if it has one.
+fn clear_arc(
+    cell: usize,
+    arcs: &mut [Option<u32>],
+    node: &[u32],
+    into: &mut Chains,
+    names: &mut Names,
+)
+    requires cell { cell < length arcs.old }
+    requires order { IsInOrder arcs.old node.now into.old names.old }
+    ensures cleared { AreCleared (λ c. c ≡ cell) arcs.old arcs.new into.old into.new }
+    ensures order { IsInOrder arcs.new node.now into.new names.new }
+    ensures same { AreNamesSame names.old names.new }
+{
+    let Some(to) = arcs[cell] else {
+        return;
+    };
+    arcs[cell] = None;
+    let end = node[to as usize];
+    settle(end, arcs, node, into);
+    names.tell(end, into.count(end) == 0);
+}

@@ -1,0 +1,275 @@
+ghost use Rattle.std.specs.Prelude.{◌≡◌, ℕ, ◌<◌, ◌≤◌, ◌+◌, ◌*◌, ◌/◌, ◌^◌, ◌++◌, ◌∷◌, ◌↔◌, [], Bool, true, false, IsTrue, IsFalse, OnOk, length, slice_set};
+ghost use Rattle.std.specs.Vec.{vec_len, vec_capacity};
+ghost use Rattle.number_lists.specs.Marks.{mark_at, IsCount, IsNext, IsFirstBelow, IsNextRow, IsEmptyRow, AreLevels, IsGrown};
+
+use crate::push::push_in_room;
+use oper_core::Memory;
+use std::alloc::Global;
+use std::marker::Model;
+
+/// How many numbers a row has.
+const ROW: usize = 64;
+
+/// A set of numbers below an end, in which the next member is found without a look at each number.
+#[derive(Drop)]
+pub struct NumberTree {
+    /// Whether each number is a member.
+    low: Vec<bool>,
+    /// Whether each row of `low` has a member.
+    mid: Vec<bool>,
+    /// Whether each row of `mid` has one.
+    high: Vec<bool>,
+    /// Whether each row of `high` has one.
+    top: Vec<bool>,
+    count: usize,
+    /// By how much the end may rise without memory.
+    room: usize,
+}
+
+impl Model for NumberTree {
+    ghost use Rattle.std.specs.Prelude.{◌≡◌, ◌+◌, ◌≤◌, ◌^◌, length};
+    ghost use Rattle.std.specs.Vec.{vec_capacity};
+    ghost use Rattle.number_lists.specs.Marks.{Marks, AreLevels, count_marks};
+
+    ghost Value = { Marks };
+
+    ghost view = { λ t. record { marks = t.low.items; room = t.room } };
+
+    ghost invariant = { λ t. AreLevels t.low.items t.mid.items t.high.items t.top.items × (t.count ≡ count_marks t.low.items) × (length t.low.items ≤ 2 ^ 32) ×
+        (length t.low.items + t.room ≤ vec_capacity t.low) × (length t.mid.items + t.room ≤ vec_capacity t.mid) × (length t.high.items + t.room ≤ vec_capacity t.high) × (length t.top.items + t.room ≤ vec_capacity t.top) };
+}
+
+impl NumberTree {
+    /// No numbers, and none to come.
+    pub fn new(alloc: Global) -> Self
+        ensures marks { result.marks ≡ [] }
+        ensures room { result.room ≡ 0 }
+    {
+        NumberTree {
+            low: Vec::new(alloc),
+            mid: Vec::new(alloc),
+            high: Vec::new(alloc),
+            top: Vec::new(alloc),
+            count: 0,
+            room: 0,
+        }
+    }
+
+    /// How many members there are.
+    pub fn len(&self) -> usize
+        ensures { IsCount (λ n. IsTrue (mark_at self.now.marks n)) result }
+    {
+        let _low = &self.low;
+        self.count
+    }
+
+    /// Whether the number is a member.
+    pub fn contains(&self, n: u32) -> bool
+        requires { n < length self.now.marks }
+        ensures { result ≡ mark_at self.now.marks n }
+    {
+        self.low[n as usize]
+    }
+
+    /// Puts in a number, or takes it out.
+    pub fn set(&mut self, n: u32, is_member: bool)
+        requires { n < length self.old.marks }
+        ensures marks { self.new.marks ≡ slice_set self.old.marks n is_member }
+        ensures room { self.new.room ≡ self.old.room }
+    {
+        if is_member {
+            self.insert(n);
+        } else {
+            self.remove(n);
+        }
+    }
+
+    /// Puts in a number.
+    pub fn insert(&mut self, n: u32)
+        requires { n < length self.old.marks }
+        ensures marks { self.new.marks ≡ slice_set self.old.marks n true }
+        ensures room { self.new.room ≡ self.old.room }
+    {
+        let n = n as usize;
+        if self.low[n] {
+            return;
+        }
+        mark(
+            n,
+            self.low.as_mut_slice(),
+            self.mid.as_mut_slice(),
+            self.high.as_mut_slice(),
+            self.top.as_mut_slice(),
+        );
+        self.count += 1;
+    }
+
+    /// Takes out a number.
+    pub fn remove(&mut self, n: u32)
+        requires { n < length self.old.marks }
+        ensures marks { self.new.marks ≡ slice_set self.old.marks n false }
+        ensures room { self.new.room ≡ self.old.room }
+    {
+        let n = n as usize;
+        if !self.low[n] {
+            return;
+        }
+        unmark(
+            n,
+            self.low.as_mut_slice(),
+            self.mid.as_mut_slice(),
+            self.high.as_mut_slice(),
+            self.top.as_mut_slice(),
+        );
+        self.count -= 1;
+    }
+
+    /// The least member at or above the number. None exactly where there is none.
+    pub fn next(&self, from: u32) -> Option<u32>
+        ensures { IsNext self.now.marks from result }
+    {
+        let row = from as usize / ROW + 1;
+        let block = row / ROW + 1;
+        let part = block / ROW + 1;
+        let parts = first_in(self.top.as_slice(), part, self.top.len());
+        let blocks = next_over(self.high.as_slice(), block, parts);
+        let rows = next_over(self.mid.as_slice(), row, blocks);
+        let Some(found) = next_over(self.low.as_slice(), from as usize, rows) else {
+            return None;
+        };
+        Some(found as u32)
+    }
+
+    /// Makes room for the end to rise by one. Nothing else changes, also where memory is wanting.
+    pub fn make_room(&mut self) -> Result<(), Memory>
+        ensures marks { self.new.marks ≡ self.old.marks }
+        ensures room { OnOk result (0 < self.new.room) }
+        ensures kept { self.old.room ≤ self.new.room }
+    {
+        if self.room > 0 {
+            return Ok(());
+        }
+        self.low.reserve(1)?;
+        self.mid.reserve(1)?;
+        self.high.reserve(1)?;
+        self.top.reserve(1)?;
+        self.room = 1;
+        Ok(())
+    }
+
+    /// Lets the end rise by one number, which is no member.
+    pub fn add_number(&mut self)
+        requires room { 0 < self.old.room }
+        requires small { length self.old.marks < 2 ^ 32 }
+        ensures marks { (n : ℕ) → mark_at self.new.marks n ≡ mark_at self.old.marks n }
+        ensures end { length self.new.marks ≡ length self.old.marks + 1 }
+        ensures room { self.old.room ≡ self.new.room + 1 }
+    {
+        push_in_room(&mut self.low, false);
+        grow(self.low.len(), &mut self.mid);
+        grow(self.mid.len(), &mut self.high);
+        grow(self.high.len(), &mut self.top);
+        self.room -= 1;
+    }
+}
+
+/// Adds a row, where there are too few for so many entries below.
+fn grow(entries: usize, rows: &mut Vec<bool>)
+    requires room { vec_len rows.old < vec_capacity rows.old }
+    requires entries { entries ≤ 64 * length rows.old.items + 64 }
+    ensures grown { IsGrown entries rows.old.items rows.new.items }
+    ensures capacity { vec_capacity rows.old ≤ vec_capacity rows.new }
+{
+    if entries / ROW >= rows.len() {
+        push_in_room(rows, false);
+    }
+}
+
+/// Puts in the number, and marks its row in each level.
+fn mark(n: usize, low: &mut [bool], mid: &mut [bool], high: &mut [bool], top: &mut [bool])
+    requires below { n < length low.old }
+    requires levels { AreLevels low.old mid.old high.old top.old }
+    ensures low { low.new ≡ slice_set low.old n true }
+    ensures mid { length mid.new ≡ length mid.old }
+    ensures high { length high.new ≡ length high.old }
+    ensures top { length top.new ≡ length top.old }
+    ensures levels { AreLevels low.new mid.new high.new top.new }
+{
+    let row = n / ROW;
+    let block = row / ROW;
+    low[n] = true;
+    mid[row] = true;
+    high[block] = true;
+    top[block / ROW] = true;
+}
+
+/// Takes out the number, and the marks of its rows that have no others.
+fn unmark(n: usize, low: &mut [bool], mid: &mut [bool], high: &mut [bool], top: &mut [bool])
+    requires below { n < length low.old }
+    requires levels { AreLevels low.old mid.old high.old top.old }
+    ensures low { low.new ≡ slice_set low.old n false }
+    ensures mid { length mid.new ≡ length mid.old }
+    ensures high { length high.new ≡ length high.old }
+    ensures top { length top.new ≡ length top.old }
+    ensures levels { AreLevels low.new mid.new high.new top.new }
+{
+    let row = n / ROW;
+    if has_others(n, low) {
+        return;
+    }
+    let block = row / ROW;
+    if has_others(row, mid) {
+        return;
+    }
+    if has_others(block, high) {
+        return;
+    }
+    top[block / ROW] = false;
+}
+
+/// Takes away the mark, and tells whether its row has others.
+fn has_others(n: usize, marks: &mut [bool]) -> bool
+    requires { n < length marks.old }
+    ensures marks { marks.new ≡ slice_set marks.old n false }
+    ensures others { IsTrue result → (i : ℕ) × (i / 64 ≡ n / 64) × IsTrue (mark_at marks.new i) }
+    ensures none { IsFalse result → IsEmptyRow marks.new (n / 64) }
+{
+    marks[n] = false;
+    let row = n / ROW * ROW;
+    first_in(marks, row, row + ROW).is_some()
+}
+
+/// The first mark at or above the number. `row` is the first row after that of the number that has a mark.
+fn next_over(marks: &[bool], from: usize, row: Option<usize>) -> Option<usize>
+    requires small { from ≤ 2 ^ 32 }
+    requires row { IsNextRow marks.now (from / 64 + 1) row }
+    ensures { IsNext marks.now from result }
+{
+    let found = first_in(marks, from, (from / ROW + 1) * ROW);
+    if found.is_some() {
+        return found;
+    }
+    let Some(row) = row else {
+        return None;
+    };
+    first_in(marks, row * ROW, row * ROW + ROW)
+}
+
+/// The first mark from one number on and below another.
+fn first_in(marks: &[bool], from: usize, end: usize) -> Option<usize>
+    ensures { IsFirstBelow marks.now from end result }
+{
+    for i in from..end {
+        if is_marked(marks, i) {
+            return Some(i);
+        }
+    }
+    None
+}
+
+/// Whether the number has a mark.
+fn is_marked(marks: &[bool], i: usize) -> bool
+    ensures { result ≡ mark_at marks.now i }
+{
+    if i < marks.len() { marks[i] } else { false }
+}

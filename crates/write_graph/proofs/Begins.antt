@@ -1,0 +1,57 @@
+-- Where the entries from a number on begin, and those above it.
+use Rattle.std.proofs.Common.{◌≡◌, ℕ, suc, ◌-◌, ◌<◌, ◌≤◌, List, [], ◌∷◌, length, true, false, arith, inl, inr}
+use Rattle.std.specs.Prelude.{nat_lt, nat_le, slice_index, slice_index_or}
+use Rattle.std.specs.List.Sorted.{IsPartitionPoint, IsPartitionedBy}
+use Rattle.std.proofs.lemmas.Bool.{cases_lt, ltb-true, ltb-false, leb-true, leb-false}
+use Rattle.std.proofs.lemmas.List.Sorted.{IsPartitionedBy-ltb, IsPartitionedBy-leb}
+use Rattle.install_order.specs.declared.entry.Entry.{Entry}
+use Rattle.write_graph.specs.Graph.{numbers}
+use Rattle.write_graph.specs.Places.{NeverFall, IsSlotOfNumber}
+use Rattle.write_graph.proofs.Held.{number-at, length-numbers}
+
+-- the number of an entry that stands later is no less
+number-le : (entries : List Entry) → NeverFall (numbers entries) → (i j : ℕ) (d : Entry) → i ≤ j → j < length entries → (slice_index_or entries i d).number ≤ (slice_index_or entries j d).number
+number-le entries never i j d le lt = omega (arith, number-at entries i d (omega (arith, le, lt)), number-at entries j d lt, never i j le (omega (arith, lt, length-numbers entries)))
+
+pub parted : (entries : List Entry) (n : ℕ) → NeverFall (numbers entries) → IsPartitionedBy (λ (e : Entry). nat_lt e.number n) entries
+parted entries n never = IsPartitionedBy-ltb (λ (e : Entry). e.number) entries n (number-le entries never)
+
+pub parted-after : (entries : List Entry) (n : ℕ) → NeverFall (numbers entries) → IsPartitionedBy (λ (e : Entry). nat_le e.number n) entries
+parted-after entries n never = IsPartitionedBy-leb (λ (e : Entry). e.number) entries n (number-le entries never)
+
+first : (entries : List Entry) (i : ℕ) → i < length entries → Entry
+first [] i lt = absurd (omega (arith, lt))
+first (e ∷ entries) i lt = e
+
+pub begins-before : (entries : List Entry) (n from : ℕ) → from ≤ length entries → IsPartitionPoint (λ (e : Entry). nat_lt e.number n ≡ true) (λ (e : Entry). nat_lt e.number n ≡ false) entries from → (i : ℕ) → i < from → slice_index (numbers entries) i < n
+begins-before entries n from bound point i lt =
+    let d = first entries i (omega (arith, lt, bound)) in
+    omega (arith, number-at entries i d (omega (arith, lt, bound)), ltb-true (slice_index_or entries i d).number n (point.0 i d (omega arith) lt))
+
+pub begins-after : (entries : List Entry) (n from : ℕ) → IsPartitionPoint (λ (e : Entry). nat_lt e.number n ≡ true) (λ (e : Entry). nat_lt e.number n ≡ false) entries from → (i : ℕ) → from ≤ i → i < length entries → n ≤ slice_index (numbers entries) i
+begins-after entries n from point i le lt =
+    let d = first entries i lt in
+    omega (arith, number-at entries i d lt, ltb-false (slice_index_or entries i d).number n (point.1 i d le lt))
+
+pub after-before : (entries : List Entry) (n from : ℕ) → from ≤ length entries → IsPartitionPoint (λ (e : Entry). nat_le e.number n ≡ true) (λ (e : Entry). nat_le e.number n ≡ false) entries from → (i : ℕ) → i < from → slice_index (numbers entries) i ≤ n
+after-before entries n from bound point i lt =
+    let d = first entries i (omega (arith, lt, bound)) in
+    omega (arith, number-at entries i d (omega (arith, lt, bound)), leb-true (slice_index_or entries i d).number n (point.0 i d (omega arith) lt))
+
+pub after-after : (entries : List Entry) (n from : ℕ) → IsPartitionPoint (λ (e : Entry). nat_le e.number n ≡ true) (λ (e : Entry). nat_le e.number n ≡ false) entries from → (i : ℕ) → from ≤ i → i < length entries → n < slice_index (numbers entries) i
+after-after entries n from point i le lt =
+    let d = first entries i lt in
+    omega (arith, number-at entries i d lt, leb-false (slice_index_or entries i d).number n (point.1 i d le lt))
+
+-- the slot before the first with a greater number is the one that has the number
+pub before-after : (entries : List Entry) (n from : ℕ) → ((i : ℕ) → i < from → slice_index (numbers entries) i ≤ n) → ((i : ℕ) → from ≤ i → i < length entries → n < slice_index (numbers entries) i) → from ≤ length entries → IsSlotOfNumber (numbers entries) n (from - 1)
+before-after entries n from before after bound i low at later =
+    let len = length-numbers entries in
+    let lt : i < from = elim (cases_lt i from) [
+      | inl lt ↦ lt
+      | inr ge ↦ absurd (omega (arith, after i (omega (arith, ge)) (omega (arith, low, len)), at))
+    ] in
+    elim (cases_lt (suc i) from) [
+      | inl more ↦ absurd (omega (arith, before (suc i) more, later (suc i) (omega arith) (omega (arith, more, bound, len))))
+      | inr ge ↦ omega (arith, lt, ge)
+    ]

@@ -1,0 +1,195 @@
+-- Entries whose numbers are lowered where they are above one.
+use Rattle.std.proofs.Common.{◌≡◌, ◌∙◌, ap, sym, subst, ℕ, zero, suc, ◌+◌, ◌/◌, ◌%◌, ◌-◌, ◌<◌, ◌≤◌, ◌⊎◌, min, Bool, true, false, List, [], ◌∷◌, ◌++◌, map, set, length, get_or, Some, All, refl, arith, inl, inr}
+use Rattle.std.specs.Prelude.{IsTrue, ◌&&◌, slice_get, slice_index, MatchOption}
+use Rattle.std.proofs.lemmas.Bool.{cases_Bool, cases_eq, cases_lt}
+use Rattle.std.proofs.lemmas.List.{length_push, length-map, length-set, get_or-map, get_or_default, get_or-set_same, get_or-set_other, ext_get_or}
+use Rattle.oper_core.specs.State.{is_among}
+use Rattle.install_order.specs.declared.entry.Entry.{Entry}
+use Rattle.install_order.specs.Order.{Access, IsLastWriter}
+use Rattle.sparse_order.specs.Arcs.{Arc}
+use Rattle.sparse_order.specs.More.{NoWriter, NoWriterFrom}
+use Rattle.graph_nodes.specs.Arcs.{arc_at, held_at, IsArc}
+use Rattle.graph_nodes.specs.Named.{Graph}
+use Rattle.write_graph.specs.Graph.{numbers}
+use Rattle.write_graph.specs.Cells.{reads_of, writes_of, slot_access, chosen_entries, held_entries, ReadLeads, WriteLeads}
+use Rattle.write_graph.specs.Rows.{Rows, last_held, waiting_of}
+use Rattle.write_graph.specs.Linked.{AreLinked, AreRows}
+use Rattle.write_graph.specs.Lowered.{lowered}
+use Rattle.write_graph.specs.Naming.{AreClimbing}
+use Rattle.write_graph.proofs.Held.{among-at, number-at, length-numbers, numbers-push}
+use Rattle.write_graph.proofs.Numbers.{chosen-here, chosen-off, slot-chosen}
+use Rattle.write_graph.proofs.Place.{index-left, index-last, read-left}
+
+low-stays : (n : ℕ) (e : Entry) → e.number ≤ n → lowered n e ≡ e
+low-stays n e le =
+    let same : min e.number n ≡ e.number = omega (arith, le) in
+    λ i. record { number = same i; reads = e.reads; writes = e.writes; identity = e.identity }
+
+high-falls : (n : ℕ) (e : Entry) → n ≤ e.number → lowered n e ≡ record { number = n; reads = e.reads; writes = e.writes; identity = e.identity }
+high-falls n e le =
+    let same : min e.number n ≡ n = omega (arith, le) in
+    λ i. record { number = same i; reads = e.reads; writes = e.writes; identity = e.identity }
+
+-- the entries before the slot are lowered, and the others as they were
+pub record AreLowering (n slot : ℕ) (old new : List Entry) : Type 0 where
+  pub size : length new ≡ length old
+  pub done : (i : ℕ) (d : Entry) → i < slot → i < length old → get_or new i d ≡ lowered n (get_or old i d)
+  pub left : (i : ℕ) (d : Entry) → slot ≤ i → i < length old → get_or new i d ≡ get_or old i d
+
+pub lowering-none : (n from : ℕ) (old : List Entry) → ((i : ℕ) → i < from → slice_index (numbers old) i ≤ n) → AreLowering n from old old
+lowering-none n from old low = record {
+  size = refl;
+  done = λ i d lt below. sym (low-stays n (get_or old i d) (omega (arith, low i lt, number-at old i d below)));
+  left = λ i d le below. refl;
+}
+
+pub lowering-on : (n slot : ℕ) (old new : List Entry) (e : Entry) → AreLowering n slot old new → slot < length old → n < slice_index (numbers old) slot → e ≡ get_or new slot e →
+    AreLowering n (slot + 1) old (set new slot record { number = n; reads = e.reads; writes = e.writes; identity = e.identity })
+lowering-on n slot old new e was low high at =
+    let f : Entry = record { number = n; reads = e.reads; writes = e.writes; identity = e.identity } in
+    let is : e ≡ get_or old slot e = at ∙ was.left slot e (omega arith) low in
+    let fall : f ≡ lowered n e = sym (high-falls n e (omega (arith, high, number-at old slot e low, ap (λ (g : Entry). g.number) is))) in
+    record {
+      size = length-set new slot f ∙ was.size;
+      done = λ i d lt below. elim (cases_eq i slot) [
+        | inl q ↦
+            let here : get_or (set new slot f) slot d ≡ f = get_or-set_same new slot f d (omega (arith, low, was.size)) in
+            let same : e ≡ get_or old slot d = is ∙ get_or_default old slot e d low in
+            ap (λ (k : ℕ). get_or (set new slot f) k d) q ∙ here ∙ fall ∙ ap (lowered n) same ∙ sym (ap (λ (k : ℕ). lowered n (get_or old k d)) q)
+        | inr ne ↦ get_or-set_other new slot i f d ne ∙ was.done i d (omega (arith, lt, ne)) below
+      ];
+      left = λ i d le below. get_or-set_other new slot i f d (λ q. omega (arith, le, q)) ∙ was.left i d (omega (arith, le)) below;
+    }
+
+pub lowering-all : (n slot : ℕ) (old new : List Entry) → AreLowering n slot old new → length old ≤ slot → new ≡ map (lowered n) old
+lowering-all n slot old new is end =
+    let d : Entry = record { number = zero; reads = []; writes = []; identity = false } in
+    ext_get_or d new (map (lowered n) old) (is.size ∙ sym (length-map old (lowered n))) (λ i lt.
+    let below : i < length old = omega (arith, lt, is.size) in
+    is.done i d (omega (arith, below, end)) below ∙ sym (get_or-map (lowered n) old i d d below))
+
+-- what lowered entries read and write is the same
+reads-same : (n : ℕ) (entries : List Entry) (i : ℕ) → reads_of (map (lowered n) entries) i ≡ reads_of entries i
+reads-same n [] i = refl
+reads-same n (e ∷ entries) zero = refl
+reads-same n (e ∷ entries) (suc i) = reads-same n entries i
+
+writes-same : (n : ℕ) (entries : List Entry) (i : ℕ) → writes_of (map (lowered n) entries) i ≡ writes_of entries i
+writes-same n [] i = refl
+writes-same n (e ∷ entries) zero = refl
+writes-same n (e ∷ entries) (suc i) = writes-same n entries i
+
+-- who reads and writes, by slot
+abbrev access_by : List Bool → (ℕ → List ℕ) → (ℕ → List ℕ) → Access
+access_by held r w = record { reads = λ i x. held_at held i && is_among x (r i); writes = λ i x. held_at held i && is_among x (w i) }
+
+abbrev leads_by : List Bool → (ℕ → List ℕ) → (ℕ → List ℕ) → ℕ → ℕ → Type 0
+leads_by held r w c p = (x : ℕ) × (((slice_get (r (c / 8)) (c % 8) ≡ Some x) × ReadLeads (access_by held r w) x (c / 8) p) ⊎ (((4 ≤ c % 8) × (slice_get (w (c / 8)) (c % 8 - 4) ≡ Some x)) × WriteLeads (access_by held r w) x (c / 8) p))
+
+-- what is said of reads and writes by slot holds of lowered entries
+carried : (n : ℕ) (entries : List Entry) (P : (ℕ → List ℕ) → (ℕ → List ℕ) → Type 0) → P (reads_of entries) (writes_of entries) → P (reads_of (map (lowered n) entries)) (writes_of (map (lowered n) entries))
+carried n entries P p =
+    let r : reads_of entries ≡ reads_of (map (lowered n) entries) = λ k i. sym (reads-same n entries i) k in
+    let w : writes_of entries ≡ writes_of (map (lowered n) entries) = λ k i. sym (writes-same n entries i) k in
+    subst (λ (s : ℕ → List ℕ). P (reads_of (map (lowered n) entries)) s) w (subst (λ (s : ℕ → List ℕ). P s (writes_of entries)) r p)
+
+module _ (n : ℕ) (entries : List Entry) (g : Graph) (rows : Rows) (linked : AreLinked entries g rows) where
+  abbrev after : List Entry
+  after = map (lowered n) entries
+
+  size : length after ≡ length entries
+  size = length-map entries (lowered n)
+
+  rows-lowered : AreRows (slot_access after g.held) after g.held rows
+  rows-lowered = record {
+    below = λ x w last. omega (arith, linked.rows_are.below x w last, size);
+    last = carried n entries (λ r w. (x : ℕ) → MatchOption (last_held g.held rows x) (NoWriter (access_by g.held r w) x) (λ k. IsLastWriter (access_by g.held r w) x k)) linked.rows_are.last;
+    all = carried n entries (λ r w. (x o : ℕ) → IsTrue ((access_by g.held r w).reads o x) → NoWriterFrom (access_by g.held r w) x o → (c : ℕ) × (c / 8 ≡ o) × IsTrue (is_among c (waiting_of rows x))) linked.rows_are.all;
+    only = carried n entries (λ r w. (x c : ℕ) → IsTrue (is_among c (waiting_of rows x)) → (slice_get (r (c / 8)) (c % 8) ≡ Some x) × (IsTrue (held_at g.held (c / 8)) → NoWriterFrom (access_by g.held r w) x (c / 8))) linked.rows_are.only;
+  }
+
+  -- lowered entries are linked as they were
+  pub linked-lowered : AreLinked after g rows
+  linked-lowered = record {
+    slots = linked.slots ∙ sym size;
+    held = linked.held ∙ sym size;
+    small = omega (arith, linked.small, size);
+    cells = omega (arith, linked.cells, size);
+    few = carried n entries (λ r w. (i : ℕ) → (length (r i) ≤ 4) × (length (w i) ≤ 4)) linked.few;
+    nodes = linked.nodes;
+    arcs = record {
+      only = carried n entries (λ r w. (c p : ℕ) → arc_at g.arcs c ≡ Some p → leads_by g.held r w c p) linked.arcs.only;
+      all = carried n entries (λ r w. (o p : ℕ) → Arc (access_by g.held r w) o p → IsArc g.arcs o p) linked.arcs.all;
+    };
+    rows_are = rows-lowered;
+  }
+
+-- where the chosen have no greater numbers, they are as they were
+chosen-lowered : (t : ℕ → Bool) (n : ℕ) (entries : List Entry) → ((i : ℕ) → IsTrue (t i) → i < length entries → slice_index (numbers entries) i ≤ n) → chosen_entries t (map (lowered n) entries) ≡ chosen_entries t entries
+chosen-lowered t n [] low = refl
+chosen-lowered t n (e ∷ entries) low =
+    let r = chosen-lowered (λ i. t (suc i)) n entries (λ i there lt. low (suc i) there (omega (arith, lt))) in
+    elim (cases_Bool (t zero)) [
+      | inl here ↦
+          let same : lowered n e ≡ e = low-stays n e (low zero here (omega arith)) in
+          chosen-here t (lowered n e) (map (lowered n) entries) here ∙ ap (λ (f : Entry). f ∷ chosen_entries (λ i. t (suc i)) (map (lowered n) entries)) same ∙ ap (λ (es : List Entry). e ∷ es) r ∙ sym (chosen-here t e entries here)
+      | inr off ↦ chosen-off t (lowered n e) (map (lowered n) entries) off ∙ r ∙ sym (chosen-off t e entries off)
+    ]
+
+-- a held slot's number is below what is above all numbers of the held entries
+held-low : (held : List Bool) (entries : List Entry) (n : ℕ) → All (λ k. k < n) (numbers (held_entries held entries)) → (i : ℕ) → IsTrue (held_at held i) → i < length entries → slice_index (numbers entries) i < n
+held-low held entries n above i there lt =
+    let j = among-at (slice_index (numbers entries) i) (numbers (held_entries held entries)) (slot-chosen (held_at held) entries i lt there) in
+    omega (arith, above j.0 zero j.1, j.2)
+
+pub held-lowered : (held : List Bool) (entries : List Entry) (n : ℕ) → All (λ k. k < n) (numbers (held_entries held entries)) → held_entries held (map (lowered n) entries) ≡ held_entries held entries
+held-lowered held entries n above = chosen-lowered (held_at held) n entries (λ i there lt. omega (arith, held-low held entries n above i there lt))
+
+number-lowered : (n : ℕ) (entries : List Entry) (i : ℕ) → i < length entries → slice_index (numbers (map (lowered n) entries)) i ≡ min (slice_index (numbers entries) i) n
+number-lowered n [] i lt = absurd (omega (arith, lt))
+number-lowered n (e ∷ entries) zero lt = refl
+number-lowered n (e ∷ entries) (suc i) lt = number-lowered n entries i (omega (arith, lt))
+
+-- an entry comes last whose number is above those of the held entries
+module _ (held more : List Bool) (entries : List Entry) (e : Entry) (size : length held ≡ length entries) (is : more ≡ held ++ true ∷ []) (climbs : AreClimbing held (numbers entries)) (above : All (λ k. k < e.number) (numbers (held_entries held entries))) where
+  abbrev n : ℕ
+  n = e.number
+
+  abbrev ms : List ℕ
+  ms = numbers (map (lowered n) entries)
+
+  count : length ms ≡ length entries
+  count = length-numbers (map (lowered n) entries) ∙ length-map entries (lowered n)
+
+  earlier : (i : ℕ) → i < length entries → slice_index (ms ++ n ∷ []) i ≡ min (slice_index (numbers entries) i) n
+  earlier i lt = index-left ms n i (omega (arith, lt, count)) ∙ number-lowered n entries i lt
+
+  end : (i : ℕ) → i ≡ length entries → slice_index (ms ++ n ∷ []) i ≡ n
+  end i q = ap (slice_index (ms ++ n ∷ [])) (q ∙ sym count) ∙ index-last ms n
+
+  no-fall : (i j : ℕ) → i ≤ j → j < length (ms ++ n ∷ []) → slice_index (ms ++ n ∷ []) i ≤ slice_index (ms ++ n ∷ []) j
+  no-fall i j le lt =
+      let len = length_push ms n in
+      let long = length-numbers entries in
+      elim (cases_lt j (length entries)) [
+        | inl low ↦ omega (arith, earlier i (omega (arith, le, low)), earlier j low, climbs.never_fall i j le (omega (arith, low, long)))
+        | inr high ↦ elim (cases_lt i (length entries)) [
+          | inl low ↦ omega (arith, earlier i low, end j (omega (arith, high, lt, len, count)))
+          | inr past ↦ omega (arith, end i (omega (arith, past, le, lt, len, count)), end j (omega (arith, high, lt, len, count)))
+        ]
+      ]
+
+  after-held : (i j : ℕ) → IsTrue (held_at more i) → i < j → j < length (ms ++ n ∷ []) → slice_index (ms ++ n ∷ []) i < slice_index (ms ++ n ∷ []) j
+  after-held i j there lt below =
+      let len = length_push ms n in
+      let long = length-numbers entries in
+      let low : i < length entries = omega (arith, lt, below, len, count) in
+      let was : IsTrue (held_at held i) = sym (ap (λ (hs : List Bool). held_at hs i) is ∙ read-left held (true ∷ []) i false (omega (arith, low, size))) ∙ there in
+      let small = held-low held entries n above i was low in
+      elim (cases_lt j (length entries)) [
+        | inl before ↦ omega (arith, earlier i low, earlier j before, small, climbs.above_held i j was lt (omega (arith, before, long)))
+        | inr high ↦ omega (arith, earlier i low, small, end j (omega (arith, high, below, len, count)))
+      ]
+
+  pub climbing-more : AreClimbing more (numbers (map (lowered n) entries ++ e ∷ []))
+  climbing-more = subst (λ (ns : List ℕ). AreClimbing more ns) (sym (numbers-push (map (lowered n) entries) e)) record { never_fall = no-fall; above_held = after-held }

@@ -1,5 +1,0 @@
-use Rattle.write_graph.proofs.Nodes.{named-iff}
-use Rattle.write_graph.proofs.questions.names_node.Goals as goal
-
-pub returns-clause-answer : goal.returns-clause-answer
-returns-clause-answer c = rw c.are_of_name.ensures (named-iff c.args.entries.now c.args.n c.follow.new.self c.follow.ensures.walks c.requires.held)

@@ -1,0 +1,95 @@
+ghost use Rattle.std.specs.Prelude.{◌≡◌, ℕ, ◌<◌, ◌≤◌, ◌^◌, ◌++◌, ◌∷◌, [], ◌↔◌, Bool, IsTrue, IfOk, OnOk, length, if◌then◌else◌};
+ghost use Rattle.oper_core.specs.State.{is_among};
+ghost use Rattle.graph_nodes.specs.Arcs.{held_at};
+ghost use Rattle.graph_nodes.specs.Named.{Graph};
+ghost use Rattle.write_graph.specs.Graph.{IsNodeNamed, NamesNode, Lists};
+ghost use Rattle.write_graph.specs.Cells.{held_entries};
+ghost use Rattle.write_graph.specs.Naming.{AreSlots};
+ghost use Rattle.write_graph.specs.Listing.{IsNumberOf, IsWrittenBy, AreBelow, AreSlotsOf};
+
+use crate::laws::slots_name_nodes;
+use crate::places::slot_of;
+use graph_nodes::SlotGraph;
+use install_order::Entry;
+use oper_core::Memory;
+use std::alloc::Global;
+
+/// The slots of the node that is named by the number.
+pub(crate) fn slots_of(
+    alloc: Global,
+    n: u64,
+    entries: &[Entry],
+    graph: &SlotGraph,
+) -> Result<Vec<u32>, Memory>
+    requires slots { AreSlots entries.now graph.now }
+    requires count { length graph.now.node ≡ length entries.now }
+    requires small { length entries.now ≤ 2 ^ 28 }
+    requires name { NamesNode (held_entries graph.now.held entries.now) n }
+    ensures { IfOk result (λ slots. (node : ℕ → Bool) → IsNodeNamed (held_entries graph.now.held entries.now) n node → AreSlotsOf entries.now graph.now n slots.items node) }
+{
+    slots_name_nodes();
+    let slot = slot_of(n, entries);
+    let mut slots = Vec::new(alloc);
+    slots.reserve(graph.len())?;
+    graph.members(slot, &mut slots);
+    Ok(slots)
+}
+
+/// The numbers of the slots' entries, rising.
+pub(crate) fn numbers_of(
+    alloc: Global,
+    slots: &[u32],
+    entries: &[Entry],
+) -> Result<Vec<u64>, Memory>
+    requires below { AreBelow slots.now entries.now }
+    ensures { IfOk result (λ found. Lists (IsNumberOf entries.now slots.now) found.items) }
+{
+    let mut found = Vec::new(alloc);
+    for slot in slots {
+        found.push(entries[*slot as usize].number)?;
+    }
+    found.sort()?;
+    found.dedup();
+    Ok(found)
+}
+
+/// The objects that the slots' entries write, rising.
+pub(crate) fn written_by(
+    alloc: Global,
+    slots: &[u32],
+    entries: &[Entry],
+) -> Result<Vec<u32>, Memory>
+    requires below { AreBelow slots.now entries.now }
+    ensures { IfOk result (λ objects. Lists (IsWrittenBy entries.now slots.now) objects.items) }
+{
+    let mut objects = Vec::new(alloc);
+    for slot in slots {
+        objects.extend_from_slice(entries[*slot as usize].writes.as_slice())?;
+    }
+    objects.sort()?;
+    objects.dedup();
+    Ok(objects)
+}
+
+/// The slots that are held.
+pub(crate) fn held_slots(alloc: Global, graph: &SlotGraph) -> Result<Vec<u32>, Memory>
+    requires small { length graph.now.node ≤ 2 ^ 28 }
+    ensures { IfOk result (λ slots. (i : ℕ) → IsTrue (is_among i slots.items) ↔ ((i < length graph.now.node) × IsTrue (held_at graph.now.held i))) }
+{
+    let mut slots = Vec::new(alloc);
+    for slot in 0..graph.len() as u32 {
+        push_if(slot, graph.is_held(slot), &mut slots)?;
+    }
+    Ok(slots)
+}
+
+/// Adds the number at the end, if it is to be kept.
+pub(crate) fn push_if(x: u32, is_kept: bool, numbers: &mut Vec<u32>) -> Result<(), Memory>
+    ensures { OnOk result (numbers.new.items ≡ numbers.old.items ++ (if is_kept then x ∷ [] else [])) }
+{
+    if !is_kept {
+        return Ok(());
+    }
+    numbers.push(x)?;
+    Ok(())
+}
