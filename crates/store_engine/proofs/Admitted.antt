@@ -10,7 +10,7 @@ use Rattle.oper_core.specs.declared.bounds.Bounds.{Bounds}
 use Rattle.oper_core.specs.declared.refusal.Refusal.{Refusal}
 use Rattle.formats.specs.Objects.{IsInRange, bounds_of}
 use Rattle.formats.specs.declared.params.Params.{Params}
-use Rattle.store_engine.specs.Laid.{Laid, values_in}
+use Rattle.cache_manager.specs.Laid.{Laid, values_in}
 use Rattle.store_engine.specs.Store.{meaning_in, state_of, refusal_after}
 use Rattle.store_engine.specs.Engine.{EngineView, params_of, Carries}
 

@@ -12,7 +12,7 @@ use Rattle.stable_objects.specs.SlotsView.{SlotsView}
 use Rattle.dirty_cache.specs.Contents.{held}
 use Rattle.dirty_cache.specs.declared.entry.Entry.{Entry}
 use Rattle.log_records.specs.RecordLog.{RecordLogView}
-use Rattle.store_engine.specs.Laid.{IsLaidOn, cell_or, values_in}
+use Rattle.cache_manager.specs.Laid.{IsLaidOn, cell_or, values_in}
 use Rattle.store_engine.specs.Store.{meaning_in, refusal_after, state_of}
 use Rattle.store_engine.specs.Engine.{EngineView, params_of, IsAttached, IsSameMap, Holds, Kept, Between, IsReady, TookIn, LogLength, log_length, HasCause, Lengthens}
 use Rattle.store_engine.specs.declared.exec_err.ExecErr.{ExecErr}

@@ -13,7 +13,7 @@ use Rattle.oper_core.specs.declared.refusal.Refusal.{Refusal}
 use Rattle.formats.specs.Image.{EndsAt, NextIs}
 use Rattle.oper_core.specs.Cell.{Cell}
 use Rattle.formats.specs.Objects.{IsInRange, cell_of}
-use Rattle.formats.specs.Records.{record_code, commands_of}
+use Rattle.formats.specs.Records.{record_code, commands_of, next_after, AreCommands}
 use Rattle.formats.specs.declared.params.Params.{Params}
 use Rattle.formats.specs.declared.record.Record.{Record}
 use Rattle.formats.specs.declared.record.Record.TheVariants.{Command}
@@ -22,14 +22,14 @@ use Rattle.dirty_cache.specs.Contents.{held}
 use Rattle.dirty_cache.specs.declared.entry.Entry.{Entry}
 use Rattle.log_frames.specs.LogView.{used_of, end_with, growth_of}
 use Rattle.log_records.specs.RecordLog.{RecordLogView}
-use Rattle.log_records.specs.RecordLaws.{keeps_append}
-use Rattle.store_engine.specs.ImageLaws.{commands_length, numbers_end}
-use Rattle.store_engine.specs.Laid.{Laid, cell_or, values_in, with_entries}
+use Rattle.log_records.specs.RecordLaws.{commands-append, keeps_append, numbers_end}
+use Rattle.store_engine.specs.ImageLaws.{commands_next, only_push}
+use Rattle.cache_manager.specs.Laid.{Laid, cell_or, values_in, with_entries}
 use Rattle.store_engine.specs.Store.{meaning_in, record_length, refusal_after, state_of}
 use Rattle.store_engine.specs.Engine.{EngineView, view_of, params_of, AreParts, Carries, Holds, Kept, InEachImage, IsFull, IsAtEnd, TookIn, IsSameMap, LogLength, something_waits, log_length, grown, forced_length, HasPlace, LacksPlace, Fits, HasCause, Lengthens}
 use Rattle.store_engine.specs.declared.exec_err.ExecErr.{ExecErr}
 use Rattle.store_engine.specs.declared.exec_err.ExecErr.TheVariants.{Refused, LogFull, LsnEnd, DiskFault, Damaged, Memory}
-use Rattle.store_engine.proofs.Holding.{commands-append, accepted_is, none_waits, ends_here, image_is, make_holds}
+use Rattle.store_engine.proofs.Holding.{accepted_is, none_waits, ends_here, image_is, make_holds}
 
 -- what is cached with new entries, laid over a slot
 with_value : (b : Bool) (entry : Entry) (old : Option Entry) (cell : Cell) (value : List ℕ) → (cell_or old cell).value ≡ value
@@ -81,11 +81,11 @@ module _ {O : Type 0} (meaning : Bounds → Meaning O) where
   module _ (p : Params) (d : Disk) (engine : EngineView) (commands : List O) (c : Carries meaning p d engine commands) where
     -- the number of the next record
     pub next_number : engine.log.next ≡ 1 + length commands
-    next_number = let k = c.log in omega (arith, k.next_is, c.base, commands_length (c.stable ++ c.pending), ap (λ (l : List O). length l) c.commands_are)
+    next_number = let k = c.log in omega (arith, k.next_is, c.base, commands_next engine.log.log.header.base (c.stable ++ c.pending) c.only, ap (λ (l : List O). length l) c.commands_are)
 
     pub next_low : engine.log.next ≤ 2 ^ 62
     next_low = let k = c.log in let base = c.base in
-        omega (arith, k.next_is, numbers_end (meaning_in meaning p) engine.log.log.header.base (c.stable ++ c.pending) k.numbered (omega (arith, base)))
+        omega (arith, k.next_is, numbers_end (meaning_in meaning p) engine.log.log.header.base engine.log.log.header.base (c.stable ++ c.pending) (omega (arith, base)) k.placed)
 
     module _ (all : engine.forced ≡ length commands) where
       in_each : (P : Files → Type 0) → P d.reads → InEachImage d P
@@ -102,7 +102,7 @@ module _ {O : Type 0} (meaning : Bounds → Meaning O) where
         header = engine.log.log.header;
         groups = c.log.groups;
         log = record { in_force = c.log.in_force; log = c.log.file };
-        here = c.log.next_is ∙ ap (λ (l : List (Record O)). engine.log.log.header.base + length l)
+        here = c.log.next_is ∙ ap (λ (l : List (Record O)). next_after engine.log.log.header.base l)
             (ap (λ (l : List (Record O)). c.stable ++ l) (none_waits meaning p d engine commands c all) ∙ append-nil c.stable ∙ sym c.log.stable_are);
       })
 
@@ -233,7 +233,7 @@ module _ {O : Type 0} (meaning : Bounds → Meaning O) where
         let c = h.carried in
         let new = Command before.log.next op in
         let commands_are : commands ++ op ∷ [] ≡ commands_of (c.stable ++ (c.pending ++ new ∷ [])) =
-        ap (λ (l : List O). l ++ op ∷ []) c.commands_are ∙ sym (commands-append (c.stable ++ c.pending) (new ∷ []))
+        ap (λ (l : List O). l ++ op ∷ []) c.commands_are ∙ sym (commands-append (meaning_in meaning p) (c.stable ++ c.pending) (new ∷ []))
         ∙ ap (λ (l : List (Record O)). commands_of l) (append_assoc c.stable c.pending (new ∷ [])) in
         let waits : engine.log.log.pending ≡ before.log.log.pending ++ record_code (meaning_in meaning p) new =
         ap (λ (v : RecordLogView). v.log.pending) t.log ∙ ap (λ (x : Params). before.log.log.pending ++ record_code (meaning_in meaning x) new) c.params in
@@ -245,6 +245,7 @@ module _ {O : Type 0} (meaning : Bounds → Meaning O) where
           log = keeps_append (meaning_in meaning p) d before.log engine.log c.stable c.pending new c.log (omega (arith, number), grammar) (refl, number)
               (ap (λ (v : RecordLogView). v.log.active) t.log) (ap (λ (v : RecordLogView). v.log.header) t.log) (ap (λ (v : RecordLogView). v.log.end) t.log) waits
               (ap (λ (v : RecordLogView). v.next) t.log) (ap (λ (v : RecordLogView). v.accepted) t.log) (ap (λ (v : RecordLogView). v.forced) t.log);
+          only = subst (λ (l : List (Record O)). AreCommands l) (append_assoc c.stable c.pending (new ∷ [])) (only_push (c.stable ++ c.pending) before.log.next op c.only);
           commands_are = commands_are;
           base = ap (λ (v : RecordLogView). v.log.header.base) t.log ∙ c.base;
           none_before = ap (λ (v : RecordLogView). v.log.header.commands) t.log ∙ c.none_before;

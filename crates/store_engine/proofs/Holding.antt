@@ -11,24 +11,24 @@ use Rattle.formats.specs.InForce.{IsInForce}
 use Rattle.formats.specs.Log.{Header}
 use Rattle.formats.specs.Objects.{IsObjectsFile, AreSlotsShut, bounds_of}
 use Rattle.formats.specs.Image.{EndsAt}
-use Rattle.formats.specs.Records.{payload_of, commands_of}
+use Rattle.formats.specs.Records.{payload_of, commands_of, AreCommands}
 use Rattle.formats.specs.declared.params.Params.{Params}
 use Rattle.formats.specs.declared.record.Record.{Record}
-use Rattle.formats.specs.declared.record.Record.TheVariants.{Command}
+use Rattle.formats.specs.declared.record.Record.TheVariants.{Command, Identity, Check}
 use Rattle.log_frames.specs.Laws.{in_force_stays}
 use Rattle.log_frames.specs.LogView.{end_with}
 use Rattle.log_records.specs.RecordLog.{RecordLogView, Keeps, HoldsRecords, IsForcedPartly}
-use Rattle.store_engine.specs.Laid.{Laid, IsLaidOn, values_in}
+use Rattle.log_records.specs.RecordLaws.{commands-append}
+use Rattle.cache_manager.specs.Laid.{Laid, IsLaidOn, values_in}
+use Rattle.store_engine.specs.ImageLaws.{only_front, only_behind}
 use Rattle.store_engine.specs.Store.{meaning_in, state_of, Stands}
 use Rattle.store_engine.specs.Engine.{EngineView, view_of, AreParts, IsAttached, Carries, Holds, Between, Kept, something_waits, log_length}
 
-pub commands-append : {O : Type 0} (xs ys : List (Record O)) → commands_of (xs ++ ys) ≡ commands_of xs ++ commands_of ys
-commands-append [] ys = refl
-commands-append {O} (Command n op ∷ xs) ys = ap (λ (l : List O). op ∷ l) (commands-append xs ys)
-
-none_left : {O : Type 0} (records : List (Record O)) → length (commands_of records) ≡ 0 → records ≡ []
-none_left [] none = refl
-none_left (Command n op ∷ records) none = absurd (omega (arith, none))
+none_left : {O : Type 0} (records : List (Record O)) → AreCommands records → length (commands_of records) ≡ 0 → records ≡ []
+none_left [] only none = refl
+none_left (Command n op ∷ records) only none = absurd (omega (arith, none))
+none_left (Identity n x value ∷ records) only none = absurd only
+none_left (Check table ∷ records) only none = absurd only
 
 -- a call that changes the active log alone leaves the engine on its files
 pub attached_after : (old new : Disk) (objects : Laid) (log after : RecordLogView) (broken broken' : Bool) → Runs (In log.log.active Any) Same old new
@@ -41,10 +41,10 @@ attached_after old new objects log after broken broken' runs same attached told_
 
 module _ {O : Type 0} (meaning : Bounds → Meaning O) (p : Params) where
   -- files with these parts stand for the commands of the records
-  pub stands_by : (files : Files) (active : FileNo) (header : Header) (records : List (Record O)) → header.base ≡ 1 → header.commands ≡ 0 → IsInForce active header.epoch files
+  pub stands_by : (files : Files) (active : FileNo) (header : Header) (records : List (Record O)) → AreCommands records → header.base ≡ 1 → header.commands ≡ 0 → IsInForce active header.epoch files
       → HoldsRecords (meaning_in meaning p) header records (files active) → IsObjectsFile p (files Objects) → AreSlotsShut p (files Objects)
       → Stands meaning p files (commands_of records)
-  stands_by files active header records base none_before in_force held objects shut = record {
+  stands_by files active header records only base none_before in_force held objects shut = record {
     objects = objects;
     shut = shut;
     log = record {
@@ -54,13 +54,14 @@ module _ {O : Type 0} (meaning : Bounds → Meaning O) (p : Params) where
       log = record { in_force = in_force; log = held.log };
       base = base;
       none_before = none_before;
+      only = subst (λ (l : List (Record O)). AreCommands l) (sym held.records_are) only;
       commands_are = ap (λ (l : List (Record O)). commands_of l) (sym held.records_are);
     };
   }
 
   module _ (d : Disk) (engine : EngineView) (commands : List O) (c : Carries meaning p d engine commands) where
     pub parts_are : commands ≡ commands_of c.stable ++ commands_of c.pending
-    parts_are = c.commands_are ∙ commands-append c.stable c.pending
+    parts_are = c.commands_are ∙ commands-append (meaning_in meaning p) c.stable c.pending
 
     pub forced_is : engine.forced ≡ length (commands_of c.stable)
     forced_is = let k = c.log in omega (arith, c.forced, k.forced_are, c.none_before)
@@ -77,6 +78,9 @@ module _ {O : Type 0} (meaning : Bounds → Meaning O) (p : Params) where
     pub taken : take engine.forced commands ≡ commands_of c.stable
     taken = ap (λ (l : List O). take engine.forced l) parts_are ∙ take_at (commands_of c.stable) (commands_of c.pending) engine.forced (sym forced_is)
 
+    only_stable : AreCommands c.stable
+    only_stable = only_front c.stable c.pending c.only
+
     -- the slots stand in the objects file of the store
     pub whole : IsObjectsFile p (d.reads Objects)
     whole = subst (λ (x : Params). IsObjectsFile x (d.reads Objects)) c.params c.laid.slots.whole
@@ -85,13 +89,13 @@ module _ {O : Type 0} (meaning : Bounds → Meaning O) (p : Params) where
     held_stable = record { groups = c.log.groups; log = c.log.file; records_are = c.log.stable_are }
 
     stands_now : Stands meaning p d.reads (take engine.forced commands)
-    stands_now = subst (λ (l : List O). Stands meaning p d.reads l) (sym taken) (stands_by d.reads engine.log.log.active engine.log.log.header c.stable c.base c.none_before c.log.in_force held_stable whole c.shut)
+    stands_now = subst (λ (l : List O). Stands meaning p d.reads l) (sym taken) (stands_by d.reads engine.log.log.active engine.log.log.header c.stable only_stable c.base c.none_before c.log.in_force held_stable whole c.shut)
 
     pub image_is : d.tells_moments → (files : Files) (said : List ℕ) → d.left_since d.clock files said → files ≡ d.reads
     image_is told files said left = λ i file. c.log.settled file told files said left i
 
     pub none_waits : engine.forced ≡ length commands → c.pending ≡ []
-    none_waits all = none_left c.pending (omega (arith, all, forced_is, lengths))
+    none_waits all = none_left c.pending (only_behind c.stable c.pending c.only) (omega (arith, all, forced_is, lengths))
 
     -- where all are forced, the log ends where the engine says
     pub ends_here : engine.forced ≡ length commands → EndsAt d.reads (log_length engine).used × ((log_length engine).waits ≡ false)
@@ -136,7 +140,7 @@ module _ {O : Type 0} (meaning : Bounds → Meaning O) (p : Params) where
           kept = engine.forced;
           enough = omega arith;
           within = within;
-          stands = subst (λ (l : List O). Stands meaning p files l) (sym taken) (stands_by files active engine.log.log.header c.stable c.base c.none_before in_force held objects shut);
+          stands = subst (λ (l : List O). Stands meaning p files l) (sym taken) (stands_by files active engine.log.log.header c.stable only_stable c.base c.none_before in_force held objects shut);
         })
         (λ (held : HoldsRecords (meaning_in meaning p) engine.log.log.header (c.stable ++ c.pending) (files active)). record {
           quiet = is.nothing_said;
@@ -144,7 +148,7 @@ module _ {O : Type 0} (meaning : Bounds → Meaning O) (p : Params) where
           enough = within;
           within = omega arith;
           stands = subst (λ (l : List O). Stands meaning p files l) (sym c.commands_are ∙ sym (take_all (length commands) commands (omega arith)))
-              (stands_by files active engine.log.log.header (c.stable ++ c.pending) c.base c.none_before in_force held objects shut);
+              (stands_by files active engine.log.log.header (c.stable ++ c.pending) c.only c.base c.none_before in_force held objects shut);
         })
         each.changed
 
@@ -184,6 +188,7 @@ module _ {O : Type 0} (meaning : Bounds → Meaning O) (p : Params) where
           stable = c.stable ++ c.pending;
           pending = [];
           log = acknowledged c.stable c.pending c.log;
+          only = subst (λ (l : List (Record O)). AreCommands l) (sym (append-nil (c.stable ++ c.pending))) c.only;
           commands_are = c.commands_are ∙ ap (λ (l : List (Record O)). commands_of l) (sym (append-nil (c.stable ++ c.pending)));
           base = ap (λ (x : Header). x.base) header ∙ c.base;
           none_before = ap (λ (x : Header). x.commands) header ∙ c.none_before;

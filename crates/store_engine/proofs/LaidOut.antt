@@ -63,9 +63,10 @@ module _ {O : Type 0} (meaning : Bounds → Meaning O) (p : Params) where
       active = _;
       header = new_header;
       groups = [];
-      log = record { in_force = log.in_force; log = record { log = log.log; numbered = tt } };
+      log = record { in_force = log.in_force; log = record { log = log.log; placed = tt } };
       base = refl;
       none_before = refl;
+      only = tt;
       commands_are = refl;
     };
   }

@@ -3,11 +3,9 @@ pub mod SameMap
 pub mod Admitted
 pub mod Executed
 pub mod Answered
-pub mod LaidLemmas
-pub mod SetLemmas
-pub mod FetchLemmas
 pub mod RedoLemmas
 pub mod RedoneLemmas
 pub mod Opened
+pub mod Damage
 pub mod LaidOut
 pub mod FixedState

@@ -12,8 +12,9 @@ use Rattle.formats.specs.Bytes.{IsOpenAt, IsShutAt}
 use Rattle.formats.specs.Log.{Header}
 use Rattle.oper_core.specs.Cell.{Cell}
 use Rattle.formats.specs.Objects.{cell_of, IsInRange, IsObjectsFile, AreSlotsShut, bounds_of, slot_place, identifier_at}
-use Rattle.formats.specs.Image.{params_in, IsDamaged, IsRecordFault, IsLateSlot, in_objects, in_log, in_record, in_late_slot}
-use Rattle.formats.specs.Records.{records_of, commands_of, AreRecords, IsRecord, HoldsRecordLog}
+use Rattle.formats.specs.FirstFault.{IsDamaged, AreObjectsWhole, at_objects, at_logs, at_record, at_late_slot}
+use Rattle.formats.specs.Image.{params_in, IsRecordFault, IsLateSlot}
+use Rattle.formats.specs.Records.{records_of, commands_of, next_after, AreRecords, AreCommands, IsRecord, HoldsRecordLog}
 use Rattle.formats.specs.declared.params.Params.{Params}
 use Rattle.formats.specs.declared.record.Record.{Record}
 use Rattle.log_frames.specs.Reading as log
@@ -21,7 +22,7 @@ use Rattle.log_frames.specs.declared.log_err.LogErr.{LogErr}
 use Rattle.log_frames.specs.declared.log_err.LogErr.TheVariants as of_log
 use Rattle.stable_objects.specs.Laws.{one_store, params_of_file, gate_is_open}
 use Rattle.stable_objects.specs.Reading as slots
-use Rattle.stable_objects.specs.SlotLaws.{shut_cells, none_late, late_slot}
+use Rattle.stable_objects.specs.SlotLaws.{shut_cells, none_late, late_slot, is_late}
 use Rattle.stable_objects.specs.SlotsView.{SlotsView, AreOf, IsLate}
 use Rattle.stable_objects.specs.declared.slot_err.SlotErr.{SlotErr}
 use Rattle.stable_objects.specs.declared.slot_err.SlotErr.TheVariants as of_slots
@@ -29,15 +30,19 @@ use Rattle.dirty_cache.specs.Contents.{held}
 use Rattle.log_records.specs.Loading.{IsLoadFault}
 use Rattle.log_records.specs.Loading as load
 use Rattle.log_records.specs.RecordLog.{RecordLogView, Keeps, IsLoaded}
-use Rattle.log_records.specs.RecordLaws.{keeps_stay}
+use Rattle.log_records.specs.RecordLaws.{keeps_stay, next_rises}
 use Rattle.log_records.specs.Uniqueness.{one_records}
+use Rattle.store_engine.specs.DamageLaws.{codes_in, no_late_slot}
 use Rattle.store_engine.specs.Engine.{EngineView, view_of, params_of, Opens, Carries, Holds, Between, IsAttached, IsNoDamage}
-use Rattle.store_engine.specs.Laid.{Laid, IsLaidOn, cell_or, cell_in, redone}
+use Rattle.cache_manager.specs.Laid.{Laid, IsLaidOn, cell_in}
+use Rattle.cache_manager.specs.LaidLaws.{empty_cells}
+use Rattle.store_engine.specs.Redone.{redone}
 use Rattle.store_engine.specs.Opening.{IsRead, FailsBy, from_log, from_slots}
 use Rattle.store_engine.specs.Store.{meaning_in, Stands, IsWellFormed}
 use Rattle.store_engine.specs.declared.restart_err.RestartErr.TheVariants.{NotAStore}
 use Rattle.store_engine.proofs.Holding.{make_holds, forced_is}
 use Rattle.store_engine.proofs.RedoneLemmas.{redone_from_new}
+use Rattle.store_engine.proofs.RedoLemmas.{small_bounds}
 
 -- a settled machine stays so over calls that change nothing
 pub all_settled : (old new : Disk) → Stays old new → IsSettled old → IsSettled new
@@ -77,6 +82,10 @@ slots_on old d new objects has kept = record { kept = stays_twice old d new has.
 pub slots_gate : (old d : Disk) (objects : Laid) → HasSlots old d objects → old.tells_files → IsOpenAt 0 (old.reads Objects)
 slots_gate old d objects has told = gate_is_open objects.slots.params (old.reads Objects) (has.laid told).slots.whole
 
+-- the objects file is whole with the numbers that stand in it
+pub whole_objects : (q : Params) (files : Files) → IsObjectsFile q (files Objects) → AreObjectsWhole files
+whole_objects q files is = subst (λ (p : Params). IsObjectsFile p (files Objects)) (sym (params_of_file q (files Objects) is)) is
+
 -- The place is that of the identifier of the first open slot that has this number or a later one.
 abbrev pub IsLateAt : SlotsView → ℕ → ℕ → Type 0
 IsLateAt slots next place =
@@ -108,15 +117,15 @@ module _ {O : Type 0} (meaning : Bounds → Meaning O) where
   slots_fail old mid new of_slots.DiskFault kept fails = λ small. let risen = fails small in let later = kept.time.disk_faults in omega arith
   slots_fail old mid new (of_slots.Damaged file place) kept fails = λ told.
       let at = subst (λ (f : Files). slots.IsDamagedAt (f Objects) place) (kept.reads told) (fails.1 (kept.time.files_told.0 told)) in
-      subst (λ (f : FileNo). IsDamaged meaning old.reads f place) (sym fails.0) (record { gate = at.gate; fault = in_objects place at.fault })
+      subst (λ (f : FileNo). IsDamaged meaning old.reads f place) (sym fails.0) (record { gate = at.gate; fault = at_objects place at.fault })
   slots_fail old mid new of_slots.Memory kept fails = tt
 
   -- a fault that a load finds damages the store
   damage : (q : Params) (files : Files) (f : FileNo) (n : ℕ) → IsObjectsFile q (files Objects) → IsLoadFault (meaning_in meaning q) files f n → IsDamaged meaning files f n
-  damage q files f n objects (load.in_blocks file place fault) = record { gate = gate_is_open q (files Objects) objects; fault = in_log file place fault }
+  damage q files f n objects (load.in_blocks file place fault) = record { gate = gate_is_open q (files Objects) objects; fault = at_logs file place (whole_objects q files objects) fault }
   damage q files f n objects (load.in_record active header place in_force has fault) = record {
     gate = gate_is_open q (files Objects) objects;
-    fault = in_record active header place in_force has
+    fault = at_record active header place (whole_objects q files objects) in_force has
         (subst (λ (x : Params). IsRecordFault (meaning_in meaning x) (files active) place) (sym (params_of_file q (files Objects) objects)) fault);
   }
 
@@ -196,8 +205,8 @@ module _ {O : Type 0} (meaning : Bounds → Meaning O) where
     keeps_own told = let read = has.read told in subst (λ (x : Bounds). Keeps (meaning x) last view (records_of read.groups) []) (sym has.bounds) read.keeps
 
     -- the next number is that behind its records
-    pub next_is : (told : old.tells_files) → view.next ≡ view.log.header.base + length (records_of (has.read told).groups)
-    next_is told = let read = has.read told in read.keeps.next_is ∙ ap (λ (l : List (Record O)). view.log.header.base + length l) (append-nil (records_of read.groups))
+    pub next_is : (told : old.tells_files) → view.next ≡ next_after view.log.header.base (records_of (has.read told).groups)
+    next_is told = let read = has.read told in read.keeps.next_is ∙ ap (λ (l : List (Record O)). next_after view.log.header.base l) (append-nil (records_of read.groups))
 
     -- an open slot with the next number, or a later one, is a fault of the files
     pub late_fault : (next place : ℕ) → next ≡ view.next → IsLateAt objects.slots next place → old.tells_files
@@ -226,44 +235,32 @@ module _ {O : Type 0} (meaning : Bounds → Meaning O) where
         }
 
     pub late_fails : (next place : ℕ) → next ≡ view.next → IsLateAt objects.slots next place → old.tells_files → IsDamaged meaning old.reads Objects place
+    unfolding late_fault
     late_fails next place same at told = record {
       gate = gate_is_open objects.slots.params (old.reads Objects) (has.slots.laid told).slots.whole;
-      fault = in_late_slot place (late_fault next place same at told);
+      fault = at_late_slot place (whole_objects objects.slots.params old.reads (has.slots.laid told).slots.whole) (record {
+        late = late_fault next place same at told;
+        first = λ y t slot late. at.4 y t (is_late objects.slots (old.reads Objects) next y t (has.slots.laid told).slots slot late);
+      });
     }
 
     -- the records of the log are those of its grammar
     pub in_grammar : (records : List (Record O)) → All (IsRecord (meaning view.bounds)) records → All (IsRecord (meaning (bounds_of objects.slots.params))) records
     in_grammar records all = subst (λ (x : Bounds). All (IsRecord (meaning x)) records) has.bounds all
 
-  module _ (lawful : (b : Bounds) → IsSmall b → IsLawful (meaning b)) where
+  module _ (bounded : (b : Bounds) → HasBounds b (meaning b)) (lawful : (b : Bounds) → IsSmall b → IsLawful (meaning b)) where
     -- an operation of the store is lawful
     pub lawful_in : (p : Params) → IsInRange p → IsLawful (meaning_in meaning p)
-    lawful_in p range = lawful (bounds_of p) (record { objects = omega (arith, range.objects); cap = omega (arith, range.cap) })
-
-    -- files that meet their format have no late slot
-    pub no_late_slot : (files : Files) (place : ℕ) → IsWellFormed meaning files → IsLateSlot (meaning (bounds_of (params_in (files Objects)))) files place → ⊥
-    no_late_slot files place image late =
-        let file = files Objects in
-        let same : params_in file ≡ image.params = params_of_file image.params file image.objects in
-        let next = late.next_is in
-        let own = subst (λ (q : Params). HoldsRecordLog (meaning_in meaning q) next.active next.header next.groups files) same next.log in
-        let logs = one_records (meaning_in meaning image.params) (lawful_in image.params image.objects.in_range) next.active image.active next.header image.header next.groups image.groups files own image.log in
-        let none = subst (λ (q : Params). (x s : ℕ) → x < q.objects → s < 2 → IsOpenAt (slot_place q.cap x s) file → identifier_at (slot_place q.cap x s) file < image.header.base + length (records_of image.groups)) (sym same) image.none_late in
-        let below = none late.x late.s late.slot.below late.slot.two late.slot.open_gate in
-        omega (arith, below, late.late, next.here, ap (λ (h : Header). h.base) logs.1, ap (λ (l : List (Record O)). length l) logs.2)
+    lawful_in p range = lawful (bounds_of p) (small_bounds p range)
 
     -- a late slot is no slot of files that meet their format
     pub late_never : (old last : Disk) (objects : Laid) (view : RecordLogView) (next place : ℕ) → HasLog old last objects view → next ≡ view.next → IsLateAt objects.slots next place
         → old.tells_files → IsWellFormed meaning old.reads → ⊥
-    late_never old last objects view next place has same at told image = no_late_slot old.reads place image (late_fault old last objects view has next place same at told)
+    late_never old last objects view next place has same at told image = no_late_slot meaning bounded lawful old.reads place image (late_fault old last objects view has next place same at told)
 
   -- what the objects are after the redo: m is their meaning, and cells were theirs
   abbrev pub AreRedone : Meaning O → Laid → List ℕ → (ℕ → Cell) → List (Record O) → ℕ → Type 0
   AreRedone m after file cells records n = (x : ℕ) → x < n → cell_in after file x ≡ fold (redone m) cells records x
-
-  -- where nothing is cached, the pairs are those of the slots
-  empty_cells : (objects : Laid) (file : List ℕ) → ((x : ℕ) → held objects.cache x ≡ None) → cell_in objects file ≡ (λ y. cell_of objects.slots.params.cap y file)
-  empty_cells objects file empty = λ i y. cell_or (empty y i) (cell_of objects.slots.params.cap y file)
 
   -- the engine is what the files hold
   pub is_read : (old last far new : Disk) (objects after : Laid) (view : RecordLogView) (records : List (Record O)) → old.tells_files → HasLog old last objects view → Stays last far → Stays far new
@@ -295,8 +292,8 @@ module _ {O : Type 0} (meaning : Bounds → Meaning O) where
         laid = subst (λ (f : Files). IsLaidOn after (f Objects)) files (laid_on told_far there);
         groups = read.groups;
         file = subst (λ (r : Params). HoldsRecordLog (meaning_in meaning r) view.log.active view.log.header read.groups old.reads) (sym params) read.file;
-        none_late = subst (λ (r : Params). (x s : ℕ) → x < r.objects → s < 2 → IsOpenAt (slot_place r.cap x s) file → identifier_at (slot_place r.cap x s) file < view.log.header.base + length (records_of read.groups)) (sym params)
-            (λ x s below two is_open. let late = none_late objects.slots file view.next laid.slots (omega (arith, next, read.file.log.log.in_range.base_low)) none x s below two is_open in omega (arith, late, next));
+        none_late = subst (λ (r : Params). (x s : ℕ) → x < r.objects → s < 2 → IsOpenAt (slot_place r.cap x s) file → identifier_at (slot_place r.cap x s) file < next_after view.log.header.base (records_of read.groups)) (sym params)
+            (λ x s below two is_open. let late = none_late objects.slots file view.next laid.slots (omega (arith, next, next_rises (meaning_in meaning q) view.log.header.base (records_of read.groups), read.file.log.log.in_range.base_low)) none x s below two is_open in omega (arith, late, next));
         log = subst (λ (r : Params). Keeps (meaning_in meaning r) new view (records_of read.groups) []) (sym params)
             (keeps_stay (meaning_in meaning q) last new view (records_of read.groups) [] told_last (stays_twice last far new more further) read.keeps);
         accepted = refl;
@@ -313,21 +310,23 @@ module _ {O : Type 0} (meaning : Bounds → Meaning O) where
       let m = meaning_in meaning p in
       let same : params_of engine ≡ p = one_store (params_of engine) p file is.laid.slots.whole stands.objects in
       let own = subst (λ (x : Params). HoldsRecordLog (meaning_in meaning x) engine.log.log.active engine.log.log.header is.groups old.reads) same is.file in
-      let lawful_here = lawful_in lawful p stands.objects.in_range in
-      let logs = one_records m lawful_here engine.log.log.active stands.log.active engine.log.log.header stands.log.header is.groups stands.log.groups old.reads own stands.log.log in
+      let lawful_here = lawful_in bounded lawful p stands.objects.in_range in
+      let logs = one_records m (codes_in meaning bounded lawful p stands.objects.in_range) engine.log.log.active stands.log.active engine.log.log.header stands.log.header is.groups stands.log.groups old.reads own stands.log.log in
       let base : engine.log.log.header.base ≡ 1 = ap (λ (h : Header). h.base) logs.1 ∙ stands.log.base in
       let commands_are : commands ≡ commands_of (records_of is.groups) = stands.log.commands_are ∙ ap (λ (l : List (Record O)). commands_of l) (sym logs.2) in
-      let numbered : AreRecords m 1 (records_of is.groups) = subst (λ (n : ℕ). AreRecords m n (records_of is.groups)) base own.log.numbered in
+      let placed : AreRecords m 1 1 (records_of is.groups) = subst (λ (n : ℕ). AreRecords m n n (records_of is.groups)) base own.log.placed in
+      let only : AreCommands (records_of is.groups) = subst (λ (l : List (Record O)). AreCommands l) (sym logs.2) stands.log.only in
       let cells : AreRedone m engine.objects file (λ y. cell_of p.cap y file) (records_of is.groups) p.objects =
       subst (λ (q : Params). AreRedone (meaning_in meaning q) engine.objects file (λ y. cell_of q.cap y file) (records_of is.groups) q.objects) same is.cells in
       let objects : m.objects ≡ p.objects = (bounded (bounds_of p)).objects in
-      let law = redone_from_new m lawful_here (records_of is.groups) (λ y. cell_of p.cap y file) numbered (λ x within. shut_cells p file x stands.shut (omega (arith, within, objects))) in
+      let law = redone_from_new m lawful_here (records_of is.groups) (λ y. cell_of p.cap y file) placed only (λ x within. shut_cells p file x stands.shut (omega (arith, within, objects))) in
       let carried : Carries meaning p new engine commands = record {
         told = kept.time.files_told.0 told;
         params = same;
         stable = records_of is.groups;
         pending = [];
         log = subst (λ (x : Params). Keeps (meaning_in meaning x) new engine.log (records_of is.groups) []) same is.log;
+        only = subst (λ (l : List (Record O)). AreCommands l) (sym (append-nil (records_of is.groups))) only;
         commands_are = commands_are ∙ ap (λ (l : List (Record O)). commands_of l) (sym (append-nil (records_of is.groups)));
         base = base;
         none_before = ap (λ (h : Header). h.commands) logs.1 ∙ stands.log.none_before;

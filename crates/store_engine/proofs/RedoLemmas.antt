@@ -1,5 +1,5 @@
 -- What the redo of a record makes of the objects.
-use Rattle.std.proofs.Common.{◌≡◌, ℕ, ◌<◌, ◌≤◌, ◌+◌, ◌&&◌, nat_eq, nat_lt, Bool, true, false, if◌then◌else◌, List, [], ◌∷◌, length, map, fold, take, get_or, Option, None, Some, refl, sym, ap, ◌∙◌, subst, arith}
+use Rattle.std.proofs.Common.{◌≡◌, ℕ, ◌<◌, ◌≤◌, ◌+◌, ◌&&◌, ◌==◌, nat_eq, nat_lt, if◌then◌else◌, List, [], ◌∷◌, length, map, fold, take, get_or, sym, ap, ◌∙◌, subst, arith}
 use Rattle.std.specs.Prelude.{All}
 use Rattle.std.specs.List.{IsDistinct}
 use Rattle.std.proofs.lemmas.List.{take_more}
@@ -10,43 +10,21 @@ use Rattle.oper_core.specs.declared.bounds.Bounds.{Bounds}
 use Rattle.oper_core.specs.State.{value_for, is_among}
 use Rattle.oper_core.specs.Meaning.{Meaning, IsSmall, IsLawful, IsInGrammar, FitsReads, HasBounds}
 use Rattle.oper_core.specs.Cell.{Cell}
-use Rattle.formats.specs.Objects.{IsInRange, cell_of, bounds_of}
+use Rattle.formats.specs.Objects.{IsInRange, bounds_of}
 use Rattle.formats.specs.Records.{IsRecord}
 use Rattle.formats.specs.declared.params.Params.{Params}
 use Rattle.formats.specs.declared.record.Record.{Record}
-use Rattle.formats.specs.declared.record.Record.TheVariants.{Command}
-use Rattle.stable_objects.specs.SlotsView.{SlotsView, id_in}
-use Rattle.stable_objects.specs.SlotLaws.{id_is}
+use Rattle.formats.specs.declared.record.Record.TheVariants.{Command, Identity, Check}
+use Rattle.stable_objects.specs.SlotsView.{SlotsView}
 use Rattle.dirty_cache.specs.Contents.{held}
-use Rattle.dirty_cache.specs.declared.entry.Entry.{Entry}
-use Rattle.store_engine.specs.Laid.{Laid, IsLaidOn, cell_or, cell_in, values_in, lsn_or, id_at, with_newer, redone}
+use Rattle.cache_manager.specs.Laid.{Laid, IsLaidOn, cell_in, values_in, with_newer}
+use Rattle.cache_manager.specs.LaidLaws.{newer_cell}
+use Rattle.store_engine.specs.Redone.{redone}
 use Rattle.store_engine.proofs.RedoneLemmas.{map_same}
 
 -- a store's numbers are small
 pub small_bounds : (p : Params) → IsInRange p → IsSmall (bounds_of p)
 small_bounds p range = record { objects = omega (arith, range.objects); cap = omega (arith, range.cap) }
-
--- a cached pair or another, where it is chosen of two
-chosen_cell : (b : Bool) (e : Entry) (h : Option Entry) (cell : Cell) → cell_or (if b then Some e else h) cell ≡ (if b then record { id = e.lsn; value = e.bytes } else cell_or h cell)
-chosen_cell true e h cell = refl
-chosen_cell false e h cell = refl
-
-id_or : (h : Option Entry) (id : ℕ) (cell : Cell) → id ≡ cell.id → lsn_or h id ≡ (cell_or h cell).id
-id_or None id cell same = same
-id_or (Some e) id cell same = refl
-
-module _ (file : List ℕ) (old next : Laid) (number : ℕ) (objects : List ℕ) (values : List (List ℕ)) (laid : IsLaidOn old file) (slots : next.slots ≡ old.slots) where
-  -- an object's pair, where those with a lower identifier are set
-  pub newer_cell : (x : ℕ) → x < old.slots.params.objects → held next.cache x ≡ with_newer old number objects values x
-      → cell_in next file x ≡ (if is_among x objects && nat_lt (cell_in old file x).id number then record { id = number; value = value_for x objects values } else cell_in old file x)
-  newer_cell x below entries =
-      let cell = cell_of old.slots.params.cap x file in
-      let set : Entry = record { lsn = number; bytes = value_for x objects values } in
-      let at : cell_in next file x ≡ cell_or (with_newer old number objects values x) cell = λ i. cell_or (entries i) (cell_of (slots i).params.cap x file) in
-      at
-      ∙ chosen_cell (is_among x objects && nat_lt (id_at old x) number) set (held old.cache x) cell
-      ∙ ap (λ (id : ℕ). if is_among x objects && nat_lt id number then record { id = number; value = value_for x objects values } else cell_in old file x)
-      (id_or (held old.cache x) (id_in old.slots x) cell (id_is old.slots file x laid.slots below))
 
 -- the values that a record's operation makes fit the objects that it writes
 pub record WritesFit (slots : SlotsView) (writes : List ℕ) (made : List (List ℕ)) : Type 0 where
@@ -56,10 +34,7 @@ pub record WritesFit (slots : SlotsView) (writes : List ℕ) (made : List (List 
   pub short : All (λ v. length v ≤ slots.params.cap) made
 
 module _ {O : Type 0} (m : Meaning O) (p : Params) (bounds : HasBounds (bounds_of p) m) (lawful : IsLawful m) where
-  module _ (number : ℕ) (op : O) (record' : Record O) (is : record' ≡ Command number op) (meets : IsRecord m record') where
-    in_grammar : IsInGrammar m op
-    in_grammar = (subst (λ (r : Record O). IsRecord m r) is meets).1
-
+  module _ (number : ℕ) (op : O) (in_grammar : IsInGrammar m op) where
     pub reads_fit : (values : List (List ℕ)) → length values ≡ length (m.reads op) → All (λ v. length v ≤ p.cap) values → FitsReads m op values
     reads_fit values count short = record { count = count; short = subst (λ (cap : ℕ). All (λ v. length v ≤ cap) values) (sym bounds.cap) short }
 
@@ -75,18 +50,17 @@ module _ {O : Type 0} (m : Meaning O) (p : Params) (bounds : HasBounds (bounds_o
           short = subst (λ (n : ℕ). All (λ v. length v ≤ n) made) cap (subst (λ (l : List (List ℕ)). All (λ v. length v ≤ m.cap) l) (sym made_are) law.1);
         }
 
-    -- the pair of an object after the redo of a record
+    -- the pair of an object after the redo of a command
     pub redone_cell : (file : List ℕ) (old mid next : Laid) (writes : List ℕ) (values made : List (List ℕ)) → IsLaidOn mid file → next.slots ≡ mid.slots
         → values ≡ map (values_in old file) (m.reads op) → made ≡ m.effect op values → writes ≡ m.writes op
         → (x : ℕ) → x < mid.slots.params.objects → cell_in mid file x ≡ cell_in old file x → held next.cache x ≡ with_newer mid number writes made x
-        → cell_in next file x ≡ redone m (cell_in old file) record' x
+        → cell_in next file x ≡ redone m (cell_in old file) (Command number op) x
     redone_cell file old mid next writes values made laid slots values_are made_are writes_are x below same entries =
-        newer_cell file mid next number writes made laid slots x below entries
+        newer_cell file mid next number (is_among x writes) (value_for x writes made) laid slots x below entries
         ∙ ap (λ (c : Cell). if is_among x writes && nat_lt c.id number then record { id = number; value = value_for x writes made } else c) same
         ∙ ap (λ (l : List ℕ). if is_among x l && nat_lt (cell_in old file x).id number then record { id = number; value = value_for x l made } else cell_in old file x) writes_are
         ∙ ap (λ (l : List (List ℕ)). if is_among x (m.writes op) && nat_lt (cell_in old file x).id number then record { id = number; value = value_for x (m.writes op) l } else cell_in old file x)
         (made_are ∙ ap (λ (l : List (List ℕ)). m.effect op l) values_are)
-        ∙ ap (λ (r : Record O). redone m (cell_in old file) r x) (sym is)
 
   -- the redo of a record asks for the pairs of the objects that there are alone
   pub redone_same : (r : Record O) (cells others : ℕ → Cell) → IsRecord m r → ((x : ℕ) → x < p.objects → cells x ≡ others x)
@@ -97,6 +71,9 @@ module _ {O : Type 0} (m : Meaning O) (p : Params) (bounds : HasBounds (bounds_o
       map_same (λ y. (cells y).value) (λ y. (others y).value) (m.reads op) p.objects (λ y within. ap (λ (c : Cell). c.value) (same y within)) all in
       ap (λ (c : Cell). if is_among x (m.writes op) && nat_lt c.id number then record { id = number; value = value_for x (m.writes op) (m.effect op (map (λ y. (cells y).value) (m.reads op))) } else c) (same x below)
       ∙ ap (λ (l : List (List ℕ)). if is_among x (m.writes op) && nat_lt (others x).id number then record { id = number; value = value_for x (m.writes op) (m.effect op l) } else others x) read
+  redone_same (Identity number o value) cells others meets same x below =
+      ap (λ (c : Cell). if (x == o) && nat_lt c.id number then record { id = number; value = value } else c) (same x below)
+  redone_same (Check table) cells others meets same x below = same x below
 
   -- the redo of one record more
   pub redone_next : (records : List (Record O)) (r : Record O) (i : ℕ) (cells now next : ℕ → Cell) → r ≡ get_or records i r → i < length records → IsRecord m r

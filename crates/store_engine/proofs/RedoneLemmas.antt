@@ -1,18 +1,15 @@
--- The redo of records that are numbered from 1 gives the state after their commands.
+-- The redo of commands that are numbered from 1 gives the state after their commands.
 use Rattle.std.proofs.Common.{◌≡◌, ℕ, ◌<◌, ◌+◌, ◌&&◌, nat_lt, true, false, Bool, if◌then◌else◌, List, [], ◌∷◌, map, fold, refl, sym, ap, ◌∙◌, subst, arith}
 use Rattle.std.specs.Prelude.{All}
 use Rattle.std.proofs.lemmas.List.Elements.{All-head, All-tail}
 use Rattle.std.proofs.lemmas.Bool.{lt-ltb}
 use Rattle.oper_core.specs.State.{State, start, value_for, is_among}
-use Rattle.oper_core.specs.Meaning.{Meaning, HasBounds, IsLawful, IsInGrammar, after, read_values, state_after}
+use Rattle.oper_core.specs.Meaning.{Meaning, IsLawful, IsInGrammar, after, read_values, state_after}
 use Rattle.oper_core.specs.Cell.{Cell}
-use Rattle.formats.specs.Objects.{cell_of, bounds_of, AreSlotsShut}
-use Rattle.formats.specs.Records.{AreRecords, commands_of}
-use Rattle.formats.specs.declared.params.Params.{Params}
+use Rattle.formats.specs.Records.{AreRecords, AreCommands, commands_of}
 use Rattle.formats.specs.declared.record.Record.{Record}
-use Rattle.formats.specs.declared.record.Record.TheVariants.{Command}
-use Rattle.stable_objects.specs.SlotLaws.{shut_cells}
-use Rattle.store_engine.specs.Laid.{redone}
+use Rattle.formats.specs.declared.record.Record.TheVariants.{Command, Identity, Check}
+use Rattle.store_engine.specs.Redone.{redone}
 
 -- equal at each of the objects, equal as lists
 pub map_same : (f g : ℕ → List ℕ) (objects : List ℕ) (n : ℕ) → ((x : ℕ) → x < n → f x ≡ g x) → All (λ x. x < n) objects → map f objects ≡ map g objects
@@ -67,25 +64,21 @@ module _ {O : Type 0} (m : Meaning O) (lawful : IsLawful m) where
           (chosen_id (number + 1) (cells x) (record { id = number; value = value_for x (m.writes op) (m.effect op read) }) [] [] (is_among x (m.writes op)) (omega arith) (omega (arith, below.ids x within)));
     }
 
-  -- records one after the other are their commands one after the other
-  pub redone_all : (next : ℕ) (records : List (Record O)) (cells : ℕ → Cell) (s : State) → AreRecords m next records → AreBelow next cells s
+  -- commands one after the other
+  pub redone_all : (base next : ℕ) (records : List (Record O)) (cells : ℕ → Cell) (s : State) → AreRecords m base next records → AreCommands records → AreBelow next cells s
       → (x : ℕ) → x < m.objects → (fold (redone m) cells records x).value ≡ fold (after m) s (commands_of records) x
-  redone_all next [] cells s are below x within = below.values x within
-  redone_all next (Command number op ∷ records) cells s are below x within =
+  redone_all base next [] cells s are only below x within = below.values x within
+  redone_all base next (Command number op ∷ records) cells s are only below x within =
       let here : AreBelow number cells s = subst (λ (n : ℕ). AreBelow n cells s) (sym are.1.0) below in
       let once = redone_once number op are.0.1 cells s here in
-      redone_all (next + 1) records (redone m cells (Command number op)) (after m s op) are.2 (subst (λ (n : ℕ). AreBelow (n + 1) (redone m cells (Command number op)) (after m s op)) are.1.0 once) x within
+      redone_all base (next + 1) records (redone m cells (Command number op)) (after m s op) are.2 only (subst (λ (n : ℕ). AreBelow (n + 1) (redone m cells (Command number op)) (after m s op)) are.1.0 once) x within
+  redone_all base next (Identity number o value ∷ records) cells s are only below x within = absurd only
+  redone_all base next (Check table ∷ records) cells s are only below x within = absurd only
 
-  -- on objects that are empty and have the identifier 0, records numbered from 1 give the state after their commands
-  pub redone_from_new : (records : List (Record O)) (cells : ℕ → Cell) → AreRecords m 1 records → ((x : ℕ) → x < m.objects → cells x ≡ record { id = 0; value = [] })
+  -- on objects that are empty and have the identifier 0, commands numbered from 1 give the state after their commands
+  pub redone_from_new : (records : List (Record O)) (cells : ℕ → Cell) → AreRecords m 1 1 records → AreCommands records → ((x : ℕ) → x < m.objects → cells x ≡ record { id = 0; value = [] })
       → (x : ℕ) → x < m.objects → (fold (redone m) cells records x).value ≡ state_after m (commands_of records) x
-  redone_from_new records cells are closed = redone_all 1 records cells start are (record {
+  redone_from_new records cells are only closed = redone_all 1 1 records cells start are only (record {
     values = λ x within. ap (λ (c : Cell). c.value) (closed x within);
     ids = λ x within. omega (arith, ap (λ (c : Cell). c.id) (closed x within));
   })
-
-  -- so it is on the objects file of a store whose slots are closed
-  pub redone_from_shut : (p : Params) (file : List ℕ) (records : List (Record O)) → HasBounds (bounds_of p) m → AreSlotsShut p file → AreRecords m 1 records
-      → (x : ℕ) → x < p.objects → (fold (redone m) (λ y. cell_of p.cap y file) records x).value ≡ state_after m (commands_of records) x
-  redone_from_shut p file records bounds shut are x below =
-      redone_from_new records (λ y. cell_of p.cap y file) are (λ y within. shut_cells p file y shut (omega (arith, bounds.objects, within))) x (omega (arith, bounds.objects, below))

@@ -1,22 +1,22 @@
 -- An engine whose objects have the pairs that they had stands for the commands that it stood for.
 use Rattle.std.proofs.Common.{◌≡◌, ◌≢◌, ◌⊎◌, inl, inr, ⊎_elim, ◌<◌, ℕ, Bool, Result, Ok, Err, List, refl, sym, ap, ◌∙◌, subst, arith}
-use Rattle.std.specs.Prelude.{Option, None, Some, IsSome, IsErrOf}
+use Rattle.std.specs.Prelude.{IsSome, IsErrOf}
 use Rattle.disk_model.specs.Disk.{Files, Disk, Stays}
 use Rattle.disk_model.specs.declared.machine.FileNo.TheVariants.{Objects}
 use Rattle.oper_core.specs.Meaning.{Meaning}
 use Rattle.oper_core.specs.declared.bounds.Bounds.{Bounds}
 use Rattle.oper_core.specs.Cell.{Cell}
-use Rattle.formats.specs.Objects.{AreSlotsShut, cell_of}
+use Rattle.formats.specs.Objects.{AreSlotsShut}
 use Rattle.formats.specs.declared.params.Params.{Params}
 use Rattle.stable_objects.specs.SlotsView.{SlotsView, id_in}
 use Rattle.stable_objects.specs.SlotLaws.{shut_ids}
 use Rattle.stable_objects.specs.declared.slot_err.SlotErr.{SlotErr}
 use Rattle.stable_objects.specs.declared.slot_err.SlotErr.TheVariants as of_slots
 use Rattle.dirty_cache.specs.Contents.{held}
-use Rattle.dirty_cache.specs.declared.entry.Entry.{Entry}
 use Rattle.log_records.specs.RecordLaws.{keeps_stay, keeps_room}
 use Rattle.log_records.specs.RecordLog.{RecordLogView}
-use Rattle.store_engine.specs.Laid.{Laid, IsLaidOn, KeepsCells, cell_or, values_in}
+use Rattle.cache_manager.specs.Laid.{Laid, IsLaidOn, KeepsCells, values_in}
+use Rattle.cache_manager.specs.LaidLaws.{cached_value}
 use Rattle.store_engine.specs.Store.{meaning_in, state_of}
 use Rattle.store_engine.specs.Engine.{EngineView, view_of, params_of, IsSameMap, IsAttached, Carries, Holds, Kept}
 use Rattle.store_engine.specs.Opening.{exec_from_slots}
@@ -73,14 +73,6 @@ unread {T} d before after log broken engine failed cause e same slots cells answ
 pub not_failed : {T : Type 0} (r : Result T ExecErr) (v : T) (P : Type 0) → r ≡ Ok v → IsErrOf r DiskFault ⊎ P → P
 not_failed r v P is either = ⊎_elim (λ failed. absurd (cc (is, failed))) (λ here. here) either
 
--- what is cached is no matter of a file
-same_value : (entry : Option Entry) (one other : Cell) → IsSome entry → (cell_or entry one).value ≡ (cell_or entry other).value
-same_value None one other some = cc
-same_value (Some entry) one other some = refl
-
-pub cached_value : (laid : Laid) (x : ℕ) (one other : List ℕ) → IsSome (held laid.cache x) → values_in laid one x ≡ values_in laid other x
-cached_value laid x one other some = same_value (held laid.cache x) (cell_of laid.slots.params.cap x one) (cell_of laid.slots.params.cap x other) some
-
 -- an engine that is on its files is on them after calls that change nothing
 pub attached_stays : (old new : Disk) (before engine : EngineView) → Stays old new → IsSameMap old before engine → IsAttached old before → IsAttached new engine
 attached_stays old new before engine stays same attached told_new =
@@ -111,6 +103,7 @@ module _ {O : Type 0} (meaning : Bounds → Meaning O) (p : Params) where
           pending = c.pending;
           log = keeps_stay (meaning_in meaning p) old new engine.log c.stable c.pending c.told stays
               (keeps_room (meaning_in meaning p) old before.log engine.log c.stable c.pending same.log c.log);
+          only = c.only;
           commands_are = c.commands_are;
           base = ap (λ (v : RecordLogView). v.log.header.base) same.log ∙ c.base;
           none_before = ap (λ (v : RecordLogView). v.log.header.commands) same.log ∙ c.none_before;

@@ -5,7 +5,7 @@ use Rattle.disk_model.specs.declared.machine.FileNo.TheVariants.{Objects}
 use Rattle.oper_core.specs.Meaning.{Meaning, FitsReads}
 use Rattle.oper_core.specs.declared.bounds.Bounds.{Bounds}
 use Rattle.formats.specs.Objects.{bounds_of, AreSlotsShut}
-use Rattle.formats.specs.Records.{record_code, commands_of}
+use Rattle.formats.specs.Records.{record_code, commands_of, AreCommands}
 use Rattle.formats.specs.declared.record.Record.{Record}
 use Rattle.formats.specs.declared.record.Record.TheVariants.{Command}
 use Rattle.formats.specs.Image.{BeginsStore, EndsAt, NextIs}
@@ -13,7 +13,7 @@ use Rattle.formats.specs.declared.params.Params.{Params}
 use Rattle.log_frames.specs.LogView.{used_of, growth_of}
 use Rattle.log_records.specs.RecordLog.{RecordLogView, Keeps}
 use Rattle.dirty_cache.specs.Contents.{held}
-use Rattle.store_engine.specs.Laid.{Laid, IsLaidOn, values_in, KeepsCells, with_entries}
+use Rattle.cache_manager.specs.Laid.{Laid, IsLaidOn, values_in, KeepsCells, with_entries}
 use Rattle.store_engine.specs.declared.exec_err.ExecErr.{ExecErr}
 use Rattle.store_engine.specs.declared.exec_err.ExecErr.TheVariants.{Refused, LogFull, LsnEnd, DiskFault, Damaged as Broken, Memory}
 use Rattle.store_engine.specs.declared.restart_err.RestartErr.{RestartErr}
@@ -131,7 +131,7 @@ module _ {O : Type 0} (meaning : Bounds → Meaning O) where
   abbrev pub IsMapOf : Params → Disk → EngineView → List O → Type 0
   IsMapOf p d engine commands = (x : ℕ) → x < p.objects → values_in engine.objects (d.reads Objects) x ≡ state_of meaning p commands x
 
-  -- The records of the commands are in the log, those that are stable in the file in force; the objects file is that of
+  -- The records of the commands are in the log, and no others, those that are stable in the file in force; the objects file is that of
   -- a store, and the map has the values after all commands.
   pub record Carries (p : Params) (d : Disk) (engine : EngineView) (commands : List O) : Type 0 where
     pub told : d.tells_files
@@ -139,6 +139,7 @@ module _ {O : Type 0} (meaning : Bounds → Meaning O) where
     pub stable : List (Record O)
     pub pending : List (Record O)
     pub log : Keeps (meaning_in meaning p) d engine.log stable pending
+    pub only : AreCommands (stable ++ pending)
     pub commands_are : commands ≡ commands_of (stable ++ pending)
     pub base : engine.log.log.header.base ≡ 1
     pub none_before : engine.log.log.header.commands ≡ 0

@@ -1,5 +1,5 @@
 -- What an opening reads, and why it and the reading of a slot fail.
-use Rattle.std.specs.Prelude.{◌≡◌, ◌⊎◌, ◌<◌, ◌≤◌, ◌+◌, ◌^◌, ⊤, false, ℕ, List, [], length, fold, None, Some}
+use Rattle.std.specs.Prelude.{◌≡◌, ◌⊎◌, ◌<◌, ◌≤◌, ◌^◌, ⊤, false, ℕ, List, [], length, fold, None, Some}
 use Rattle.disk_model.specs.Disk.{Files, Disk, Rises}
 use Rattle.disk_model.specs.declared.machine.FileNo.{FileNo}
 use Rattle.disk_model.specs.declared.machine.FileNo.TheVariants.{Objects}
@@ -9,7 +9,7 @@ use Rattle.oper_core.specs.declared.refusal.Refusal.{Refusal}
 use Rattle.oper_core.specs.declared.refusal.Refusal.TheVariants.{NoObject}
 use Rattle.formats.specs.Bytes.{IsOpenAt}
 use Rattle.formats.specs.Objects.{cell_of, slot_place, identifier_at}
-use Rattle.formats.specs.Records.{records_of, HoldsRecordLog}
+use Rattle.formats.specs.Records.{records_of, next_after, HoldsRecordLog}
 use Rattle.formats.specs.declared.params.Params.{Params}
 use Rattle.formats.specs.declared.record.Record.{Record}
 use Rattle.log_frames.specs.declared.log_err.LogErr.{LogErr}
@@ -18,7 +18,8 @@ use Rattle.stable_objects.specs.declared.slot_err.SlotErr.{SlotErr}
 use Rattle.stable_objects.specs.declared.slot_err.SlotErr.TheVariants as of_slots
 use Rattle.log_records.specs.RecordLog.{Keeps}
 use Rattle.store_engine.specs.Engine.{EngineView, IsAttached, IsReady, HasPlace, LacksPlace, params_of}
-use Rattle.store_engine.specs.Laid.{IsLaidOn, cell_in, redone}
+use Rattle.cache_manager.specs.Laid.{IsLaidOn, cell_in}
+use Rattle.store_engine.specs.Redone.{redone}
 use Rattle.store_engine.specs.Store.{meaning_in, record_length}
 use Rattle.store_engine.specs.declared.exec_err.ExecErr.{ExecErr}
 use Rattle.store_engine.specs.declared.exec_err.ExecErr.TheVariants as of_exec
@@ -32,7 +33,7 @@ pub record IsRead {O : Type 0} (meaning : Bounds → Meaning O) (files : Files) 
   pub groups : List (List (Record O))
   pub file : HoldsRecordLog (meaning_in meaning (params_of engine)) engine.log.log.active engine.log.log.header groups files
   pub none_late : (x s : ℕ) → x < (params_of engine).objects → s < 2 → IsOpenAt (slot_place (params_of engine).cap x s) (files Objects)
-      → identifier_at (slot_place (params_of engine).cap x s) (files Objects) < engine.log.log.header.base + length (records_of groups)
+      → identifier_at (slot_place (params_of engine).cap x s) (files Objects) < next_after engine.log.log.header.base (records_of groups)
   pub log : Keeps (meaning_in meaning (params_of engine)) new engine.log (records_of groups) []
   pub accepted : engine.accepted ≡ engine.log.accepted
   pub forced : engine.forced ≡ engine.log.forced

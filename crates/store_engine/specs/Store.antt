@@ -9,7 +9,7 @@ use Rattle.disk_model.specs.declared.machine.FileNo.{FileNo}
 use Rattle.disk_model.specs.declared.machine.FileNo.TheVariants.{Objects}
 use Rattle.formats.specs.Bytes.{IsOpenAt}
 use Rattle.formats.specs.Log.{Header}
-use Rattle.formats.specs.Records.{HoldsRecordLog, records_of}
+use Rattle.formats.specs.Records.{HoldsRecordLog, records_of, next_after}
 use Rattle.formats.specs.declared.record.Record.{Record}
 use Rattle.formats.specs.Objects.{bounds_of, slot_place, identifier_at, IsObjectsFile}
 use Rattle.formats.specs.Image.{StandsFor}
@@ -42,7 +42,7 @@ module _ {O : Type 0} (meaning : Bounds → Meaning O) where
     pub objects : IsObjectsFile params (files Objects)
     pub log : HoldsRecordLog (meaning_in params) active header groups files
     pub none_late : (x s : ℕ) → x < params.objects → s < 2 → IsOpenAt (slot_place params.cap x s) (files Objects)
-        → identifier_at (slot_place params.cap x s) (files Objects) < header.base + length (records_of groups)
+        → identifier_at (slot_place params.cap x s) (files Objects) < next_after header.base (records_of groups)
 
   -- the files stand for the commands
   abbrev pub Stands : Params → Files → List O → Type 0

@@ -3,13 +3,13 @@ ghost use Rattle.disk_model.specs.Disk.{Rises, Stays};
 ghost use Rattle.formats.specs.Objects.{IsInRange, bounds_of};
 ghost use Rattle.formats.specs.declared.params.Params.{Params as Numbers};
 ghost use Rattle.stable_objects.specs.SlotsView.{id_in};
-ghost use Rattle.store_engine.specs.Laid.{values_in};
+ghost use Rattle.cache_manager.specs.Laid.{values_in};
 ghost use Rattle.store_engine.specs.Engine.{Holds, Kept, IsAttached, IsCached, IsSameMap, log_length, params_of};
 ghost use Rattle.store_engine.specs.Store.{state_of};
 ghost use Rattle.store_engine.specs.Opening.{IsFailure, exec_from_slots};
 
 use crate::exec_err::ExecErr;
-use crate::objects::Objects;
+use cache_manager::Objects;
 use disk_model::Machine;
 use formats::Params;
 use log_records::RecordLog;
@@ -44,7 +44,7 @@ impl<O: Oper> Engine<O> {
     pub(crate) fn bounds(&self) -> Bounds
         ensures { result ≡ bounds_of (params_of self.now) }
     {
-        self.objects.slots.bounds()
+        self.objects.bounds()
     }
 
     /// How many objects the store has, how many bytes each may hold, and how long the log may be.
@@ -52,7 +52,7 @@ impl<O: Oper> Engine<O> {
         ensures value { result ≡ params_of self.now }
         ensures range { IsInRange (params_of self.now) }
     {
-        self.objects.slots.params()
+        self.objects.params()
     }
 
     /// Whether a call on the disk failed. Then no other call may be made.

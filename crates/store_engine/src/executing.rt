@@ -6,7 +6,7 @@ ghost use Rattle.oper_core.specs.Meaning.{IsInGrammar, FitsReads, refusal_of, re
 ghost use Rattle.formats.specs.declared.params.Params.{Params};
 ghost use Rattle.dirty_cache.specs.Contents.{held, HasRoom};
 ghost use Rattle.stable_objects.specs.SlotsView.{id_in};
-ghost use Rattle.store_engine.specs.Laid.{IsLaidOn, values_in};
+ghost use Rattle.cache_manager.specs.Laid.{IsLaidOn, values_in};
 ghost use Rattle.store_engine.specs.Engine.{Holds, Kept, Between, IsReady, IsFull, IsAtEnd, TookIn, IsSameMap, IsAttached, IsSameLog, IsLogWith, LogWithout, HasPlace, LacksPlace, HasCause, Lengthens, log_length, forced_length, params_of};
 ghost use Rattle.store_engine.specs.Opening.{IsAdmissible, IsAdmitFailure, IsExecFailure};
 ghost use Rattle.store_engine.specs.Store.{meaning_in, record_length, refusal_after};

@@ -1,19 +1,19 @@
 // The files are opened, and their commands replayed.
-ghost use Rattle.std.specs.Prelude.{◌≡◌, ◌≢◌, ◌<◌, false, List, ℕ, length, OnOk, IfOk, IfErr, IsErrOf};
+ghost use Rattle.std.specs.Prelude.{◌≡◌, ◌≢◌, ◌⊎◌, ◌<◌, false, List, ℕ, length, OnOk, IfOk, IfErr, IsErrOf};
 ghost use Rattle.disk_model.specs.Disk.{Rises, Passes, Stays, LeavesOnly, IsSettled};
 ghost use Rattle.disk_model.specs.declared.machine.FileNo.TheVariants.{Objects as ObjectsFile};
 ghost use Rattle.formats.specs.Bytes.{IsOpenAt, IsShutAt};
-ghost use Rattle.formats.specs.Image.{IsDamaged};
+ghost use Rattle.formats.specs.FirstFault.{IsDamaged};
 ghost use Rattle.formats.specs.declared.params.Params.{Params};
 ghost use Rattle.store_engine.specs.Engine.{Opens, Holds, Between, IsAttached, IsNoDamage};
 ghost use Rattle.store_engine.specs.Opening.{IsRead, FailsBy};
 ghost use Rattle.store_engine.specs.Store.{IsWellFormed};
 
 use crate::Engine;
-use crate::objects::Objects;
 use crate::replay::redo;
 use crate::restart_err::RestartErr;
 use crate::tuning::Tuning;
+use cache_manager::Objects;
 use disk_model::{FileNo, Machine, settle};
 use log_records::RecordLog;
 use oper_core::Oper;
@@ -39,15 +39,15 @@ impl<O: Oper> Engine<O> {
     {
         settle(machine)?;
         let mut objects = Objects::load(alloc, machine, tuning.clean)?;
-        let log = RecordLog::<O>::load(alloc, machine, objects.slots.bounds())?;
-        if let Some(place) = objects.slots.first_at(log.next()) {
+        let log = RecordLog::<O>::load(alloc, machine, objects.bounds())?;
+        if let Some(place) = objects.first_late(log.next()) {
             return Err(RestartErr::Damaged {
                 file: FileNo::Objects,
                 place,
             });
         }
         let records = log.stable(machine)?;
-        redo(&mut objects, machine, records.as_slice())?;
+        redo(alloc, &mut objects, machine, records.as_slice())?;
         Ok(Engine {
             alloc,
             objects,
@@ -81,6 +81,9 @@ impl<O: Oper> Engine<O> {
         ensures undamaged { (M.disk machine.old).tells_files → IsWellFormed O.meaning (M.disk machine.old).reads → IfErr result (λ e. (e ≢ RestartErr.NotAStore) × IsNoDamage e) }
         ensures no_store { (M.disk machine.old).tells_files → IsErrOf result RestartErr.NotAStore → IsShutAt 0 ((M.disk machine.old).reads ObjectsFile) }
         ensures damaged { (M.disk machine.old).tells_files → (file : FileNo) (place : ℕ) → IsErrOf result (RestartErr.Damaged file place) → IsDamaged O.meaning (M.disk machine.old).reads file place }
+        // Where they are damaged it tells that, unless the disk fails or memory runs out.
+        ensures exactly { (M.disk machine.old).tells_files → (file : FileNo) (place : ℕ) → IsDamaged O.meaning (M.disk machine.old).reads file place →
+            IsErrOf result (RestartErr.Damaged file place) ⊎ (IsErrOf result RestartErr.Memory ⊎ IsErrOf result RestartErr.DiskFault) }
         ensures fault { IsErrOf result RestartErr.DiskFault → Rises (M.disk machine.old).disk_faults (M.disk machine.new).disk_faults }
         ensures memory { (M.disk machine.old).tells_files → IsErrOf result RestartErr.Memory → IsOpenAt 0 ((M.disk machine.old).reads ObjectsFile) }
     {

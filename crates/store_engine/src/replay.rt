@@ -2,29 +2,53 @@
 ghost use Rattle.std.specs.Prelude.{◌≡◌, ℕ, ◌<◌, All, List, fold, IfOk, IfErr, OnOk};
 ghost use Rattle.disk_model.specs.Disk.{Rises, Stays};
 ghost use Rattle.disk_model.specs.declared.machine.FileNo.TheVariants.{Objects as ObjectsFile};
+ghost use Rattle.oper_core.specs.Meaning.{IsInGrammar};
 ghost use Rattle.formats.specs.Objects.{bounds_of};
 ghost use Rattle.formats.specs.Records.{IsRecord};
 ghost use Rattle.stable_objects.specs.Reading.{FailsBy};
 ghost use Rattle.stable_objects.specs.SlotsView.{AreOf};
-ghost use Rattle.store_engine.specs.Laid.{IsLaidOn, cell_in, redone};
+ghost use Rattle.cache_manager.specs.Laid.{IsLaidOn, cell_in};
+ghost use Rattle.store_engine.specs.Redone.{redone};
 
-use crate::objects::Objects;
+use cache_manager::Objects;
 use disk_model::Machine;
 use formats::Record;
 use oper_core::Oper;
 use stable_objects::SlotErr;
+use std::alloc::Global;
 
-// The operation of a command's record.
-fn command_in<O: Oper>(record: &Record<O>) -> (u64, &O)
-    ensures { «record».now ≡ Record.Command result.0 result.1.now }
+// Does the command with this number again, on each object that it writes whose identifier is below the number.
+fn redo_command<O: Oper, M: Machine>(
+    alloc: Global,
+    objects: &mut Objects,
+    machine: &mut M,
+    number: u64,
+    op: &O,
+) -> Result<(), SlotErr>
+    requires { IsInGrammar (O.meaning (bounds_of objects.old.slots.params)) op.now }
+    ensures kept { Stays (M.disk machine.old) (M.disk machine.new) }
+    ensures slots { objects.new.slots ≡ objects.old.slots }
+    ensures laid { (M.disk machine.old).tells_files → IsLaidOn objects.old ((M.disk machine.old).reads ObjectsFile) → IsLaidOn objects.new ((M.disk machine.old).reads ObjectsFile) }
+    ensures cells { (M.disk machine.old).tells_files → IsLaidOn objects.old ((M.disk machine.old).reads ObjectsFile) → OnOk result ((x : ℕ) → x < objects.old.slots.params.objects →
+        cell_in objects.new ((M.disk machine.old).reads ObjectsFile) x
+        ≡ redone (O.meaning (bounds_of objects.old.slots.params)) (cell_in objects.old ((M.disk machine.old).reads ObjectsFile)) (Record.Command number op.now) x) }
+    ensures cause { IfErr result (FailsBy (Rises (M.disk machine.old).disk_faults (M.disk machine.new).disk_faults) ⊥
+        (λ file place. (file ≡ ObjectsFile) × ((M.disk machine.old).tells_files → AreOf objects.old.slots ((M.disk machine.old).reads ObjectsFile) → ⊥))) }
 {
-    match record {
-        Record::Command(number, op) => (*number, op),
-    }
+    let bounds = objects.bounds();
+    // The numbers of the store are looked at for what holds of all of them: they are small.
+    let _params = objects.params();
+    let values = objects.values_of(machine, op.reads().as_slice())?;
+    let made = op.apply(alloc, bounds, &values)?;
+    let writes = op.writes();
+    objects.make_room(writes.as_slice())?;
+    objects.set_newer(number, writes.as_slice(), made);
+    Ok(())
 }
 
-/// Does a record's command again, on each object that it writes whose identifier is below the record's number.
+/// Does a record again: a command, or the value that an identity write gave its object. A check is none.
 fn redo_record<O: Oper, M: Machine>(
+    alloc: Global,
     objects: &mut Objects,
     machine: &mut M,
     record: &Record<O>,
@@ -38,18 +62,19 @@ fn redo_record<O: Oper, M: Machine>(
     ensures cause { IfErr result (FailsBy (Rises (M.disk machine.old).disk_faults (M.disk machine.new).disk_faults) ⊥
         (λ file place. (file ≡ ObjectsFile) × ((M.disk machine.old).tells_files → AreOf objects.old.slots ((M.disk machine.old).reads ObjectsFile) → ⊥))) }
 {
-    let (number, op) = command_in(record);
-    let bounds = objects.slots.bounds();
-    let values = objects.values_of(machine, op.reads().as_slice())?;
-    let made = op.apply(objects.alloc, bounds, &values)?;
-    let writes = op.writes();
-    objects.make_room(writes.as_slice())?;
-    objects.set_newer(number, writes.as_slice(), made);
-    Ok(())
+    match record {
+        Record::Command(number, op) => redo_command(alloc, objects, machine, *number, op),
+        Record::Identity(number, object, value) => {
+            objects.set_copy_newer(*number, *object, value.as_slice())?;
+            Ok(())
+        }
+        Record::Check(_) => Ok(()),
+    }
 }
 
 /// Does these records again, one after the other.
 pub fn redo<O: Oper, M: Machine>(
+    alloc: Global,
     objects: &mut Objects,
     machine: &mut M,
     records: &[Record<O>],
@@ -63,10 +88,10 @@ pub fn redo<O: Oper, M: Machine>(
     ensures cause { IfErr result (FailsBy (Rises (M.disk machine.old).disk_faults (M.disk machine.new).disk_faults) ⊥
         (λ file place. (file ≡ ObjectsFile) × ((M.disk machine.old).tells_files → AreOf objects.old.slots ((M.disk machine.old).reads ObjectsFile) → ⊥))) }
 {
-    // The objects are looked at for what holds of all of them: there are few.
-    let _ = &objects.alloc;
+    // The numbers of the store are looked at for what holds of all of them: they are small.
+    let _params = objects.params();
     for record in records {
-        redo_record(objects, machine, record)?;
+        redo_record(alloc, objects, machine, record)?;
     }
     Ok(())
 }

@@ -207,3 +207,27 @@ fn an_open_slot_has_the_records_up_to_its_identifier(rt: HostRuntime) -> Result<
     }
     Ok(())
 }
+
+// A block of `put 0 aa`, an identity write of object 1 with `zz`, and a check, and the closed gate behind it.
+const THREE_KINDS: &[u8] = &[
+    1, 51, 0, 0, 0, // the gate, and the payload's length
+    1, 1, 0, 0, 0, 0, 0, 0, 0, 1, 0, 0, 0, 0, 1, 0, 0, 0, 0xaa, // the put
+    2, 2, 0, 0, 0, 0, 0, 0, 0, 1, 0, 0, 0, 2, 0, 0, 0, b'z', b'z', // the identity write
+    3, 3, 0, 0, 0, 0, 0, 0, 0, 0, 0, 0, 0, // the check
+    0,
+];
+
+// Whether a restart does the put and the identity write again, and counts the put alone.
+fn replays_three_kinds(alloc: Global) -> Result<bool, Fail> {
+    let mut machine = Store::new(alloc)?.machine;
+    let written = machine.write_at(FileNo::LogA, 33, THREE_KINDS).is_ok();
+    let mut again = Store::open(alloc, machine)?;
+    let values = [again.holds(0, &[0xaa]), again.holds(1, b"zz")];
+    Ok(written & (values == [true; 2]) & (again.engine.accepted() == 1))
+}
+
+#[test]
+fn a_restart_replays_an_identity_write(rt: HostRuntime) -> Result<(), Fail> {
+    assert!(rt; replays_three_kinds(rt.alloc())?);
+    Ok(())
+}

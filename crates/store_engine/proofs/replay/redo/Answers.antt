@@ -2,9 +2,10 @@ use Rattle.std.proofs.Common.{◌∙◌, ap, sym, subst, fold}
 use Rattle.std.proofs.lemmas.List.{take_all}
 use Rattle.disk_model.specs.Moments.{stays_twice}
 use Rattle.disk_model.specs.declared.machine.FileNo.TheVariants.{Objects}
-use Rattle.formats.specs.Objects.{IsInRange, bounds_of}
+use Rattle.formats.specs.Objects.{bounds_of}
 use Rattle.formats.specs.Records.{IsRecord}
-use Rattle.store_engine.specs.Laid.{Laid, cell_in, redone}
+use Rattle.cache_manager.specs.Laid.{cell_in}
+use Rattle.store_engine.specs.Redone.{redone}
 use Rattle.store_engine.proofs.RedoLemmas.{small_bounds, redone_next, laid_then, redo_then}
 use Rattle.store_engine.proofs.replay.redo.Goals as goal
 
@@ -17,7 +18,7 @@ loop-record-preserved g c =
     let i = c.loop-record.record-index in
     let r = c.record-item.result in
     let records = c.args.records.now in
-    let lawful = g.met.O.Oper.lawful b (small_bounds p (subst (λ (l : Laid). IsInRange l.slots.params) c.objects.view_is c.objects.invariant.in_range)) in
+    let lawful = g.met.O.Oper.lawful b (small_bounds p c.params-params.ensures.range) in
     let old = g.M.Machine.disk c.args.machine.now in
     let mid = g.M.Machine.disk c.loop-record.machine in
     let meets : IsRecord m r = subst (λ (q : _). IsRecord m q) (sym c.record-item.is) (c.requires i r c.loop-record-test.true) in

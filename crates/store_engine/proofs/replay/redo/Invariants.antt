@@ -2,7 +2,8 @@ use Rattle.std.proofs.Common.{◌≡◌, ◌<◌, ℕ, fold, take}
 use Rattle.disk_model.specs.Disk.{Stays}
 use Rattle.disk_model.specs.declared.machine.FileNo.TheVariants.{Objects}
 use Rattle.formats.specs.Objects.{bounds_of}
-use Rattle.store_engine.specs.Laid.{IsLaidOn, cell_in, redone}
+use Rattle.cache_manager.specs.Laid.{IsLaidOn, cell_in}
+use Rattle.store_engine.specs.Redone.{redone}
 use Rattle.store_engine.proofs.replay.redo.Given as goal
 
 abbrev pub invariant-loop-record : goal.invariant-loop-record

@@ -1,66 +1,20 @@
-use Rattle.std.proofs.Common.{◌≡◌, ◌<◌, ◌∙◌, ap, sym, subst, length, map, List, ℕ}
-use Rattle.std.specs.Prelude.{All}
+use Rattle.std.proofs.Common.{◌≡◌, ◌==◌, ◌∙◌, List, ℕ, sym, ap}
 use Rattle.disk_model.specs.declared.machine.FileNo.TheVariants.{Objects}
-use Rattle.oper_core.specs.declared.bounds.Bounds.{Bounds}
-use Rattle.formats.specs.Objects.{IsInRange, bounds_of}
-use Rattle.dirty_cache.specs.Contents.{HasRoom}
-use Rattle.stable_objects.specs.SlotsView.{SlotsView}
-use Rattle.store_engine.specs.Laid.{Laid, KeepsCells, values_in}
-use Rattle.store_engine.proofs.FetchLemmas.{cells_same, cells_twice}
-use Rattle.store_engine.proofs.RedoLemmas.{small_bounds, reads_fit, writes_fit, redone_cell}
+use Rattle.formats.specs.Objects.{bounds_of}
+use Rattle.formats.specs.declared.record.Record.{Record}
+use Rattle.formats.specs.declared.record.Record.TheVariants.{Identity}
+use Rattle.cache_manager.specs.Laid.{cell_in}
+use Rattle.cache_manager.specs.LaidLaws.{newer_cell}
+use Rattle.store_engine.specs.Redone.{redone}
 use Rattle.store_engine.proofs.replay.redo_record.Goals as goal
 
-pub returns-in_err-make_room-clause-laid : goal.returns-in_err-make_room-clause-laid
-returns-in_err-make_room-clause-laid g c = λ told laid.
-    c.make_room.ensures.laid ((g.M.Machine.disk c.args.machine.now).reads Objects) (c.in_ok-values.ensures.cells told laid).1
-
-pub set_newer-requires : goal.set_newer-requires
-set_newer-requires g c =
-    let p = c.args.objects.now.slots.params in
-    let b = bounds_of p in
-    let m = g.O.Oper.meaning b in
-    let op = c.command_in-number.result.1.now in
-    let lawful = g.met.O.Oper.lawful b (small_bounds p (subst (λ (l : Laid). IsInRange l.slots.params) c.objects.view_is c.objects.invariant.in_range)) in
-    let reads : c.as_slice.result.now ≡ m.reads op = c.as_slice.ensures.value ∙ c.reads.ensures b in
-    let writes : c.as_slice-3.result.now ≡ m.writes op = c.as_slice-3.ensures.value ∙ c.writes-writes.ensures b in
-    let writes_there : c.as_slice-2.result.now ≡ m.writes op = c.as_slice-2.ensures.value ∙ c.writes-writes.ensures b in
-    let bounds : c.bounds-bounds.result ≡ b = c.bounds-bounds.ensures ∙ ap (λ (l : Laid). bounds_of l.slots.params) c.objects.view_is in
-    let made : c.in_ok-made.made ≡ m.effect op c.in_ok-values.values = c.in_ok-made.ensures ∙ ap (λ (d : Bounds). (g.O.Oper.meaning d).effect op c.in_ok-values.values) bounds in
-    let slots : c.make_room.new.self.slots ≡ c.args.objects.now.slots = c.make_room.ensures.slots ∙ c.in_ok-values.ensures.slots in
-    let read = reads_fit m p (g.met.O.Oper.bounded b) lawful c.command_in-number.result.0 op c.args.record.now c.command_in-number.ensures c.requires c.in_ok-values.values
-    (c.in_ok-values.ensures.count ∙ ap (λ (l : List ℕ). length l) reads) c.in_ok-values.ensures.short in
-    let fit = writes_fit m p (g.met.O.Oper.bounded b) lawful c.command_in-number.result.0 op c.args.record.now c.command_in-number.ensures c.requires
-    c.make_room.new.self.slots c.as_slice-3.result.now c.in_ok-values.values c.in_ok-made.made (ap (λ (s : SlotsView). s.params) slots) writes read made in
-    record {
-      below = fit.below;
-      apart = fit.apart;
-      room = subst (λ (l : List ℕ). All (HasRoom c.make_room.new.self.cache) l) (writes_there ∙ sym writes) c.in_ok-make_room.ensures.room;
-      count = fit.count;
-      short = fit.short;
-    }
-
-pub returns-clause-laid : goal.returns-clause-laid
-returns-clause-laid g c = λ told laid.
+pub returns-in_ok-set_copy_newer-in-Identity-clause-cells : goal.returns-in_ok-set_copy_newer-in-Identity-clause-cells
+returns-in_ok-set_copy_newer-in-Identity-clause-cells g c = λ told laid x below.
     let file = (g.M.Machine.disk c.args.machine.now).reads Objects in
-    c.set_newer.ensures.laid file (c.make_room.ensures.laid file (c.in_ok-values.ensures.cells told laid).1)
-
-pub returns-clause-cells : goal.returns-clause-cells
-returns-clause-cells g c = λ told laid x below.
-    let p = c.args.objects.now.slots.params in
-    let b = bounds_of p in
-    let m = g.O.Oper.meaning b in
-    let op = c.command_in-number.result.1.now in
-    let file = (g.M.Machine.disk c.args.machine.now).reads Objects in
-    let lawful = g.met.O.Oper.lawful b (small_bounds p (subst (λ (l : Laid). IsInRange l.slots.params) c.objects.view_is c.objects.invariant.in_range)) in
-    let reads : c.as_slice.result.now ≡ m.reads op = c.as_slice.ensures.value ∙ c.reads.ensures b in
-    let writes : c.as_slice-3.result.now ≡ m.writes op = c.as_slice-3.ensures.value ∙ c.writes-writes.ensures b in
-    let bounds : c.bounds-bounds.result ≡ b = c.bounds-bounds.ensures ∙ ap (λ (l : Laid). bounds_of l.slots.params) c.objects.view_is in
-    let made : c.in_ok-made.made ≡ m.effect op c.in_ok-values.values = c.in_ok-made.ensures ∙ ap (λ (d : Bounds). (g.O.Oper.meaning d).effect op c.in_ok-values.values) bounds in
-    let values : c.in_ok-values.values ≡ map (values_in c.args.objects.now file) (m.reads op) = c.in_ok-values.ensures.values told laid ∙ ap (map (values_in c.args.objects.now file)) reads in
-    let read = c.in_ok-values.ensures.cells told laid in
-    let slots : c.make_room.new.self.slots ≡ c.args.objects.now.slots = c.make_room.ensures.slots ∙ c.in_ok-values.ensures.slots in
-    let keeps : KeepsCells file c.args.objects.now c.make_room.new.self = cells_twice file c.args.objects.now c.values_of.new.self c.make_room.new.self c.in_ok-values.ensures.slots read.0
-    (cells_same file c.values_of.new.self c.make_room.new.self c.make_room.ensures.slots c.make_room.ensures.entries) in
-    redone_cell m p (g.met.O.Oper.bounded b) lawful c.command_in-number.result.0 op c.args.record.now c.command_in-number.ensures c.requires file c.args.objects.now c.make_room.new.self c.set_newer.new.self
-    c.as_slice-3.result.now c.in_ok-values.values c.in_ok-made.made (c.make_room.ensures.laid file read.1) c.set_newer.ensures.slots values made writes x
-    (subst (λ (s : SlotsView). x < s.params.objects) (sym slots) below) (keeps x below) (c.set_newer.ensures.entries x)
+    let m = g.O.Oper.meaning (bounds_of c.args.objects.now.slots.params) in
+    let number = c.in-Identity.number in
+    let object = c.in-Identity.object in
+    let value = c.as_slice.result.now in
+    let is : Identity number object value ≡ c.args.record.now = ap (λ (v : List ℕ). Identity number object v) c.as_slice.ensures ∙ sym c.in-Identity.is in
+    newer_cell file c.args.objects.now c.set_copy_newer.new.self number (x == object) value laid c.set_copy_newer.ensures.slots x below (c.in_ok-set_copy_newer-in-Identity.ensures.entries x)
+    ∙ ap (λ (r : Record g.row.O.Denot). redone m (cell_in c.args.objects.now file) r x) is

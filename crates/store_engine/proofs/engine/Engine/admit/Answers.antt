@@ -3,7 +3,7 @@ use Rattle.std.specs.Prelude.{Some}
 use Rattle.std.specs.Result.{result_err}
 use Rattle.disk_model.specs.declared.machine.FileNo.TheVariants.{Objects}
 use Rattle.oper_core.specs.declared.refusal.Refusal.{Refusal}
-use Rattle.store_engine.specs.Laid.{Laid, IsLaidOn, values_in}
+use Rattle.cache_manager.specs.Laid.{Laid, IsLaidOn, values_in}
 use Rattle.store_engine.specs.Engine.{EngineView, params_of}
 use Rattle.store_engine.proofs.SameMap.{same_objects, unread}
 use Rattle.store_engine.proofs.Admitted.{own_read, refused_by_check}

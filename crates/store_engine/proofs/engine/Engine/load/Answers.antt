@@ -1,14 +1,12 @@
-use Rattle.std.proofs.Common.{ℕ, List, ap, sym, subst, ◌∙◌}
+use Rattle.std.proofs.Common.{ℕ, List, sym, subst, ◌∙◌}
 use Rattle.std.specs.Prelude.{All}
 use Rattle.std.proofs.lemmas.Result.{err_from_is_err_and}
 use Rattle.disk_model.specs.Disk.{Rises}
-use Rattle.formats.specs.Objects.{bounds_of}
 use Rattle.formats.specs.Records.{IsRecord}
 use Rattle.formats.specs.declared.record.Record.{Record}
 use Rattle.log_records.specs.Loading.{IsTailFault}
 use Rattle.stable_objects.specs.SlotsView.{IsLate}
-use Rattle.store_engine.specs.Laid.{Laid}
-use Rattle.store_engine.proofs.Opened.{IsLateAt, all_settled, three_stay, four_stay, five_stay, has_slots, has_log, slots_on, slots_gate, slots_fail, log_fails, log_unharmed, late_fails, late_never, unharmed, records_fail, keeps_own, in_grammar, redo_fails, redo_unharmed, is_read}
+use Rattle.store_engine.proofs.Opened.{all_settled, three_stay, four_stay, five_stay, has_slots, has_log, slots_on, slots_gate, slots_fail, log_fails, log_unharmed, late_fails, late_never, unharmed, records_fail, keeps_own, in_grammar, redo_fails, redo_unharmed, is_read}
 use Rattle.store_engine.proofs.engine.Engine.load.Goals as goal
 
 pub returns-in_err-objects-clause-cause : goal.returns-in_err-objects-clause-cause
@@ -26,14 +24,14 @@ returns-in_err-log-clause-whole g c told image =
     c.settle.ensures.kept c.in_ok-settle.ensures.settled c.load.ensures.kept c.in_ok-objects.ensures.read c.in_ok-objects.ensures.empty in
     let told_mid = has_objects.kept.time.files_told.0 told in
     let p = err_from_is_err_and c.from_residual-in_err-log.result c.from_residual-in_err-log.ensures.1 in
-    rw (p.1, p.2) (log_unharmed g.O.Oper.meaning (g.M.Machine.disk c.args.machine.now) (g.M.Machine.disk c.load.new.machine) c.in_ok-objects.objects c.bounds.result c.in_err-log.field-0.0 has_objects (c.bounds.ensures ∙ ap (λ (o : Laid). bounds_of o.slots.params) c.objects.view_is) told image (c.in_err-log.ensures.whole told_mid))
+    rw (p.1, p.2) (log_unharmed g.O.Oper.meaning (g.M.Machine.disk c.args.machine.now) (g.M.Machine.disk c.load.new.machine) c.in_ok-objects.objects c.bounds.result c.in_err-log.field-0.0 has_objects c.bounds.ensures told image (c.in_err-log.ensures.whole told_mid))
 
 pub returns-in_err-log-clause-cause : goal.returns-in_err-log-clause-cause
 returns-in_err-log-clause-cause g c =
     let has_objects = has_slots (g.M.Machine.disk c.args.machine.now) (g.M.Machine.disk c.settle.new.machine) (g.M.Machine.disk c.load.new.machine) c.in_ok-objects.objects
     c.settle.ensures.kept c.in_ok-settle.ensures.settled c.load.ensures.kept c.in_ok-objects.ensures.read c.in_ok-objects.ensures.empty in
     let p = err_from_is_err_and c.from_residual-in_err-log.result c.from_residual-in_err-log.ensures.1 in
-    rw (p.1, p.2) (log_fails g.O.Oper.meaning (g.M.Machine.disk c.args.machine.now) (g.M.Machine.disk c.load.new.machine) (g.M.Machine.disk c.load-2.new.m) c.in_ok-objects.objects c.bounds.result c.in_err-log.field-0.0 has_objects (c.bounds.ensures ∙ ap (λ (o : Laid). bounds_of o.slots.params) c.objects.view_is) c.in_err-log.ensures.cause)
+    rw (p.1, p.2) (log_fails g.O.Oper.meaning (g.M.Machine.disk c.args.machine.now) (g.M.Machine.disk c.load.new.machine) (g.M.Machine.disk c.load-2.new.m) c.in_ok-objects.objects c.bounds.result c.in_err-log.field-0.0 has_objects c.bounds.ensures c.in_err-log.ensures.cause)
 
 pub returns-in-Some-clause-kept : goal.returns-in-Some-clause-kept
 returns-in-Some-clause-kept g c =
@@ -44,17 +42,17 @@ returns-in-Some-clause-whole g c told image =
     let has_objects = has_slots (g.M.Machine.disk c.args.machine.now) (g.M.Machine.disk c.settle.new.machine) (g.M.Machine.disk c.load.new.machine) c.in_ok-objects.objects
     c.settle.ensures.kept c.in_ok-settle.ensures.settled c.load.ensures.kept c.in_ok-objects.ensures.read c.in_ok-objects.ensures.empty in
     let has = has_log g.O.Oper.meaning (g.M.Machine.disk c.args.machine.now) (g.M.Machine.disk c.load.new.machine) (g.M.Machine.disk c.load-2.new.m) c.in_ok-objects.objects c.bounds.result c.in_ok-log.log
-    has_objects c.load-2.ensures.kept (c.bounds.ensures ∙ ap (λ (o : Laid). bounds_of o.slots.params) c.objects.view_is) c.in_ok-log.ensures.bounds c.in_ok-log.ensures.read in
-    let late = subst (λ (o : Laid). IsLateAt o.slots c.next.result c.in-Some.place) c.objects.view_is c.in-Some.ensures.some in
-    absurd (late_never g.O.Oper.meaning g.met.O.Oper.lawful (g.M.Machine.disk c.args.machine.now) (g.M.Machine.disk c.load-2.new.m) c.in_ok-objects.objects c.in_ok-log.log c.next.result c.in-Some.place has c.next.ensures late told image)
+    has_objects c.load-2.ensures.kept c.bounds.ensures c.in_ok-log.ensures.bounds c.in_ok-log.ensures.read in
+    let late = c.in-Some.ensures.some in
+    absurd (late_never g.O.Oper.meaning g.met.O.Oper.bounded g.met.O.Oper.lawful (g.M.Machine.disk c.args.machine.now) (g.M.Machine.disk c.load-2.new.m) c.in_ok-objects.objects c.in_ok-log.log c.next.result c.in-Some.place has c.next.ensures late told image)
 
 pub returns-in-Some-clause-cause : goal.returns-in-Some-clause-cause
 returns-in-Some-clause-cause g c told =
     let has_objects = has_slots (g.M.Machine.disk c.args.machine.now) (g.M.Machine.disk c.settle.new.machine) (g.M.Machine.disk c.load.new.machine) c.in_ok-objects.objects
     c.settle.ensures.kept c.in_ok-settle.ensures.settled c.load.ensures.kept c.in_ok-objects.ensures.read c.in_ok-objects.ensures.empty in
     let has = has_log g.O.Oper.meaning (g.M.Machine.disk c.args.machine.now) (g.M.Machine.disk c.load.new.machine) (g.M.Machine.disk c.load-2.new.m) c.in_ok-objects.objects c.bounds.result c.in_ok-log.log
-    has_objects c.load-2.ensures.kept (c.bounds.ensures ∙ ap (λ (o : Laid). bounds_of o.slots.params) c.objects.view_is) c.in_ok-log.ensures.bounds c.in_ok-log.ensures.read in
-    let late = subst (λ (o : Laid). IsLateAt o.slots c.next.result c.in-Some.place) c.objects.view_is c.in-Some.ensures.some in
+    has_objects c.load-2.ensures.kept c.bounds.ensures c.in_ok-log.ensures.bounds c.in_ok-log.ensures.read in
+    let late = c.in-Some.ensures.some in
     late_fails g.O.Oper.meaning (g.M.Machine.disk c.args.machine.now) (g.M.Machine.disk c.load-2.new.m) c.in_ok-objects.objects c.in_ok-log.log has c.next.result c.in-Some.place c.next.ensures late told
 
 pub returns-in_err-records-clause-kept : goal.returns-in_err-records-clause-kept
@@ -67,7 +65,7 @@ returns-in_err-records-clause-whole g c told image =
     let has_objects = has_slots (g.M.Machine.disk c.args.machine.now) (g.M.Machine.disk c.settle.new.machine) (g.M.Machine.disk c.load.new.machine) c.in_ok-objects.objects
     c.settle.ensures.kept c.in_ok-settle.ensures.settled c.load.ensures.kept c.in_ok-objects.ensures.read c.in_ok-objects.ensures.empty in
     let has = has_log g.O.Oper.meaning (g.M.Machine.disk c.args.machine.now) (g.M.Machine.disk c.load.new.machine) (g.M.Machine.disk c.load-2.new.m) c.in_ok-objects.objects c.bounds.result c.in_ok-log.log
-    has_objects c.load-2.ensures.kept (c.bounds.ensures ∙ ap (λ (o : Laid). bounds_of o.slots.params) c.objects.view_is) c.in_ok-log.ensures.bounds c.in_ok-log.ensures.read in
+    has_objects c.load-2.ensures.kept c.bounds.ensures c.in_ok-log.ensures.bounds c.in_ok-log.ensures.read in
     let p = err_from_is_err_and c.from_residual-in_err-records.result c.from_residual-in_err-records.ensures.1 in
     rw (p.1, p.2) (unharmed c.in_err-records.field-0.0 (c.in_err-records.ensures.undamaged (has.slots.kept.time.files_told.0 told) _ _ (keeps_own g.O.Oper.meaning (g.M.Machine.disk c.args.machine.now) (g.M.Machine.disk c.load-2.new.m) c.in_ok-objects.objects c.in_ok-log.log has told)))
 
@@ -76,7 +74,7 @@ returns-in_err-records-clause-cause g c =
     let has_objects = has_slots (g.M.Machine.disk c.args.machine.now) (g.M.Machine.disk c.settle.new.machine) (g.M.Machine.disk c.load.new.machine) c.in_ok-objects.objects
     c.settle.ensures.kept c.in_ok-settle.ensures.settled c.load.ensures.kept c.in_ok-objects.ensures.read c.in_ok-objects.ensures.empty in
     let has = has_log g.O.Oper.meaning (g.M.Machine.disk c.args.machine.now) (g.M.Machine.disk c.load.new.machine) (g.M.Machine.disk c.load-2.new.m) c.in_ok-objects.objects c.bounds.result c.in_ok-log.log
-    has_objects c.load-2.ensures.kept (c.bounds.ensures ∙ ap (λ (o : Laid). bounds_of o.slots.params) c.objects.view_is) c.in_ok-log.ensures.bounds c.in_ok-log.ensures.read in
+    has_objects c.load-2.ensures.kept c.bounds.ensures c.in_ok-log.ensures.bounds c.in_ok-log.ensures.read in
     let p = err_from_is_err_and c.from_residual-in_err-records.result c.from_residual-in_err-records.ensures.1 in
     rw (p.1, p.2) (records_fail g.O.Oper.meaning (g.M.Machine.disk c.args.machine.now) (g.M.Machine.disk c.load-2.new.m) (g.M.Machine.disk c.stable.new.m) (IsTailFault (g.O.Oper.meaning c.in_ok-log.log.bounds) (g.M.Machine.disk c.load-2.new.m) c.in_ok-log.log.log) c.in_err-records.field-0.0 has.slots.kept c.in_err-records.ensures.cause
     (λ told. c.in_err-records.ensures.undamaged (has.slots.kept.time.files_told.0 told) _ _ (keeps_own g.O.Oper.meaning (g.M.Machine.disk c.args.machine.now) (g.M.Machine.disk c.load-2.new.m) c.in_ok-objects.objects c.in_ok-log.log has told)))
@@ -92,7 +90,7 @@ redo-requires g c =
     let has_objects = has_slots (g.M.Machine.disk c.args.machine.now) (g.M.Machine.disk c.settle.new.machine) (g.M.Machine.disk c.load.new.machine) c.in_ok-objects.objects
     c.settle.ensures.kept c.in_ok-settle.ensures.settled c.load.ensures.kept c.in_ok-objects.ensures.read c.in_ok-objects.ensures.empty in
     let has = has_log g.O.Oper.meaning (g.M.Machine.disk c.args.machine.now) (g.M.Machine.disk c.load.new.machine) (g.M.Machine.disk c.load-2.new.m) c.in_ok-objects.objects c.bounds.result c.in_ok-log.log
-    has_objects c.load-2.ensures.kept (c.bounds.ensures ∙ ap (λ (o : Laid). bounds_of o.slots.params) c.objects.view_is) c.in_ok-log.ensures.bounds c.in_ok-log.ensures.read in
+    has_objects c.load-2.ensures.kept c.bounds.ensures c.in_ok-log.ensures.bounds c.in_ok-log.ensures.read in
     in_grammar g.O.Oper.meaning (g.M.Machine.disk c.args.machine.now) (g.M.Machine.disk c.load-2.new.m) c.in_ok-objects.objects c.in_ok-log.log has c.as_slice.result.now
     (subst (λ (l : List (Record g.row.O.Denot)). All (IsRecord (g.O.Oper.meaning c.in_ok-log.log.bounds)) l) (sym c.as_slice.ensures.value) c.in_ok-records.ensures.grammar)
 
@@ -106,7 +104,7 @@ returns-in_err-redo-clause-whole g c told image =
     let has_objects = has_slots (g.M.Machine.disk c.args.machine.now) (g.M.Machine.disk c.settle.new.machine) (g.M.Machine.disk c.load.new.machine) c.in_ok-objects.objects
     c.settle.ensures.kept c.in_ok-settle.ensures.settled c.load.ensures.kept c.in_ok-objects.ensures.read c.in_ok-objects.ensures.empty in
     let has = has_log g.O.Oper.meaning (g.M.Machine.disk c.args.machine.now) (g.M.Machine.disk c.load.new.machine) (g.M.Machine.disk c.load-2.new.m) c.in_ok-objects.objects c.bounds.result c.in_ok-log.log
-    has_objects c.load-2.ensures.kept (c.bounds.ensures ∙ ap (λ (o : Laid). bounds_of o.slots.params) c.objects.view_is) c.in_ok-log.ensures.bounds c.in_ok-log.ensures.read in
+    has_objects c.load-2.ensures.kept c.bounds.ensures c.in_ok-log.ensures.bounds c.in_ok-log.ensures.read in
     let has_far = slots_on (g.M.Machine.disk c.args.machine.now) (g.M.Machine.disk c.load-2.new.m) (g.M.Machine.disk c.stable.new.m) c.in_ok-objects.objects has.slots c.stable.ensures.kept in
     let p = err_from_is_err_and c.from_residual-in_err-redo.result c.from_residual-in_err-redo.ensures.1 in
     rw (p.1, p.2) (redo_unharmed (g.M.Machine.disk c.args.machine.now) (g.M.Machine.disk c.stable.new.m) c.in_ok-objects.objects (Rises (g.M.Machine.disk c.stable.new.m).disk_faults (g.M.Machine.disk c.redo.new.machine).disk_faults) c.in_err-redo.field-0.0 has_far told c.in_err-redo.ensures.cause)
@@ -116,7 +114,7 @@ returns-in_err-redo-clause-cause g c =
     let has_objects = has_slots (g.M.Machine.disk c.args.machine.now) (g.M.Machine.disk c.settle.new.machine) (g.M.Machine.disk c.load.new.machine) c.in_ok-objects.objects
     c.settle.ensures.kept c.in_ok-settle.ensures.settled c.load.ensures.kept c.in_ok-objects.ensures.read c.in_ok-objects.ensures.empty in
     let has = has_log g.O.Oper.meaning (g.M.Machine.disk c.args.machine.now) (g.M.Machine.disk c.load.new.machine) (g.M.Machine.disk c.load-2.new.m) c.in_ok-objects.objects c.bounds.result c.in_ok-log.log
-    has_objects c.load-2.ensures.kept (c.bounds.ensures ∙ ap (λ (o : Laid). bounds_of o.slots.params) c.objects.view_is) c.in_ok-log.ensures.bounds c.in_ok-log.ensures.read in
+    has_objects c.load-2.ensures.kept c.bounds.ensures c.in_ok-log.ensures.bounds c.in_ok-log.ensures.read in
     let has_far = slots_on (g.M.Machine.disk c.args.machine.now) (g.M.Machine.disk c.load-2.new.m) (g.M.Machine.disk c.stable.new.m) c.in_ok-objects.objects has.slots c.stable.ensures.kept in
     let p = err_from_is_err_and c.from_residual-in_err-redo.result c.from_residual-in_err-redo.ensures.1 in
     rw (p.1, p.2) (redo_fails g.O.Oper.meaning (g.M.Machine.disk c.args.machine.now) (g.M.Machine.disk c.stable.new.m) (g.M.Machine.disk c.redo.new.machine) c.in_ok-objects.objects c.in_err-redo.field-0.0 has_far c.in_err-redo.ensures.cause)
@@ -137,10 +135,9 @@ returns-clause-read g c told =
     let has_objects = has_slots (g.M.Machine.disk c.args.machine.now) (g.M.Machine.disk c.settle.new.machine) (g.M.Machine.disk c.load.new.machine) c.in_ok-objects.objects
     c.settle.ensures.kept c.in_ok-settle.ensures.settled c.load.ensures.kept c.in_ok-objects.ensures.read c.in_ok-objects.ensures.empty in
     let has = has_log g.O.Oper.meaning (g.M.Machine.disk c.args.machine.now) (g.M.Machine.disk c.load.new.machine) (g.M.Machine.disk c.load-2.new.m) c.in_ok-objects.objects c.bounds.result c.in_ok-log.log
-    has_objects c.load-2.ensures.kept (c.bounds.ensures ∙ ap (λ (o : Laid). bounds_of o.slots.params) c.objects.view_is) c.in_ok-log.ensures.bounds c.in_ok-log.ensures.read in
+    has_objects c.load-2.ensures.kept c.bounds.ensures c.in_ok-log.ensures.bounds c.in_ok-log.ensures.read in
     is_read g.O.Oper.meaning (g.M.Machine.disk c.args.machine.now) (g.M.Machine.disk c.load-2.new.m) (g.M.Machine.disk c.stable.new.m) (g.M.Machine.disk c.redo.new.machine) c.in_ok-objects.objects c.redo.new.objects c.in_ok-log.log c.as_slice.result.now told has c.stable.ensures.kept c.redo.ensures.kept
-    (subst (λ (o : Laid). (x s : ℕ) → IsLate o.slots c.in_ok-log.log.next x s → ⊥) c.objects.view_is
-    (subst (λ (n : ℕ). (x s : ℕ) → IsLate c.objects.inside.slots n x s → ⊥) c.next.ensures c.in_default.ensures.none))
+    (subst (λ (n : ℕ). (x s : ℕ) → IsLate c.in_ok-objects.objects.slots n x s → ⊥) c.next.ensures c.in_default.ensures.none)
     (λ stable pending keeps. c.as_slice.ensures.value ∙ c.in_ok-records.ensures.records (has.slots.kept.time.files_told.0 told) stable pending keeps)
     c.redo.ensures.slots c.redo.ensures.laid c.in_ok-redo.ensures.cells
 
@@ -149,6 +146,6 @@ returns-clause-settled g c =
     let has_objects = has_slots (g.M.Machine.disk c.args.machine.now) (g.M.Machine.disk c.settle.new.machine) (g.M.Machine.disk c.load.new.machine) c.in_ok-objects.objects
     c.settle.ensures.kept c.in_ok-settle.ensures.settled c.load.ensures.kept c.in_ok-objects.ensures.read c.in_ok-objects.ensures.empty in
     let has = has_log g.O.Oper.meaning (g.M.Machine.disk c.args.machine.now) (g.M.Machine.disk c.load.new.machine) (g.M.Machine.disk c.load-2.new.m) c.in_ok-objects.objects c.bounds.result c.in_ok-log.log
-    has_objects c.load-2.ensures.kept (c.bounds.ensures ∙ ap (λ (o : Laid). bounds_of o.slots.params) c.objects.view_is) c.in_ok-log.ensures.bounds c.in_ok-log.ensures.read in
+    has_objects c.load-2.ensures.kept c.bounds.ensures c.in_ok-log.ensures.bounds c.in_ok-log.ensures.read in
     let has_far = slots_on (g.M.Machine.disk c.args.machine.now) (g.M.Machine.disk c.load-2.new.m) (g.M.Machine.disk c.stable.new.m) c.in_ok-objects.objects has.slots c.stable.ensures.kept in
     all_settled (g.M.Machine.disk c.stable.new.m) (g.M.Machine.disk c.redo.new.machine) c.redo.ensures.kept has_far.settled

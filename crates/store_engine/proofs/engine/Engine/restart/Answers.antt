@@ -2,6 +2,7 @@ use Rattle.std.proofs.lemmas.Result.{IfOk-weaker}
 use Rattle.store_engine.specs.ImageLaws.{well_formed}
 use Rattle.store_engine.specs.Opening.{IsRead}
 use Rattle.store_engine.proofs.Opened.{read_holds, open_between, read_well_formed, read_attached}
+use Rattle.store_engine.proofs.Damage.{damage_told}
 use Rattle.store_engine.proofs.engine.Engine.restart.Goals as goal
 
 pub returns-clause-ok : goal.returns-clause-ok
@@ -28,3 +29,7 @@ returns-clause-read g c told =
 
 pub returns-clause-undamaged : goal.returns-clause-undamaged
 returns-clause-undamaged g c told image = c.load.ensures.whole told image
+
+pub returns-clause-exactly : goal.returns-clause-exactly
+returns-clause-exactly g c told =
+    damage_told g.O.Oper.meaning g.met.O.Oper.bounded g.met.O.Oper.lawful _ (g.M.Machine.disk c.args.machine.now) (g.M.Machine.disk c.load.new.machine) c.load.result told (c.load.ensures.read told) c.load.ensures.cause

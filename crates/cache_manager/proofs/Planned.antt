@@ -1,0 +1,222 @@
+-- The object that a plan keeps is the longest of the work, and what it logs is the rest.
+use Rattle.std.proofs.Common.{◌≡◌, ◌∙◌, sym, subst, ap, ℕ, zero, suc, ◌+◌, ◌<◌, ◌≤◌, Bool, false, List, [], ◌∷◌, length, map, refl, arith, inl, inr, Option, None, Some}
+use Rattle.std.specs.Prelude.{⊤, ◌==◌, ◌||◌, IsTrue, nat_lt, slice_get, slice_index, is_some}
+use Rattle.std.specs.List.{filter}
+use Rattle.std.specs.List.Sorted.{IsStrictlyIncreasing}
+use Rattle.std.proofs.lemmas.Bool.{cases_Bool, both_ways, or_cases, or_left, or_right, eq-eqb, eqb-true, ltb-true, ltb-false, cond-true, cond-false}
+use Rattle.std.proofs.lemmas.Grind.{get_or_default_zero}
+use Rattle.oper_core.specs.State.{is_among}
+use Rattle.oper_core.specs.Meaning.{Meaning, IsLawful}
+use Rattle.identity_writes.specs.Plan.{IsKept, without}
+use Rattle.explain_core.specs.Sound.{IsSound}
+use Rattle.explain_core.specs.Turns.{has_work}
+use Rattle.explain_core.specs.World.{World, work_of}
+use Rattle.cache_manager.specs.Courses.{counted, longest, but_longest, cached_length, next_node, work, others}
+use Rattle.cache_manager.proofs.Lists.{among_filter, among_counted, longest_among}
+use Rattle.cache_manager.proofs.WorkOf.{listed_is, is_listed}
+
+-- each object is above those before it
+abbrev pub Rises : List ℕ → Type 0
+Rises [] = ⊤
+Rises (x ∷ xs) = ((y : ℕ) → IsTrue (is_among y xs) → x < y) × Rises xs
+
+pub rises_filter : (p : ℕ → Bool) (xs : List ℕ) → Rises xs → Rises (filter p xs)
+rises_filter p [] rises = tt
+rises_filter p (x ∷ xs) rises = elim (cases_Bool (p x)) [
+  | inl held ↦ subst Rises (sym (cond-true (p x) (x ∷ filter p xs) (filter p xs) held)) ((λ y there. rises.0 y (among_filter p xs y there).0), rises_filter p xs rises.1)
+  | inr left ↦ subst Rises (sym (cond-false (p x) (x ∷ filter p xs) (filter p xs) left)) (rises_filter p xs rises.1)
+]
+
+pub rises_counted : (k n : ℕ) → Rises (counted k n)
+rises_counted k zero = tt
+rises_counted k (suc n) = ((λ y there. let r = among_counted (suc k) n y there in omega (arith, r.0)), rises_counted (suc k) n)
+
+-- an object of a list stands at some place
+among_at : (y : ℕ) (xs : List ℕ) → IsTrue (is_among y xs) → (k : ℕ) × (k < length xs) × (slice_index xs k ≡ y)
+among_at y [] there = absurd (both_ways _ refl there)
+among_at y (x ∷ xs) there = elim (or_cases (y == x) (is_among y xs) there) [
+  | inl here ↦ (0, omega arith, sym (eqb-true y x here))
+  | inr later ↦ let r = among_at y xs later in (suc r.0, omega (arith, r.1), r.2)
+]
+
+at_among : (xs : List ℕ) (k : ℕ) → k < length xs → IsTrue (is_among (slice_index xs k) xs)
+at_among [] k lt = absurd (omega (arith, lt))
+at_among (x ∷ xs) zero lt = or_left (x == x) (is_among x xs) (eq-eqb x x refl)
+at_among (x ∷ xs) (suc k) lt = or_right (slice_index xs k == x) (is_among (slice_index xs k) xs) (at_among xs k (omega (arith, lt)))
+
+found_at : (xs : List ℕ) (k x : ℕ) → slice_get xs k ≡ Some x → (k < length xs) × (slice_index xs k ≡ x)
+found_at [] k x found = absurd (both_ways (is_some {T = ℕ} None) refl (ap (λ (o : Option ℕ). is_some o) found))
+found_at (y ∷ xs) zero x found = (omega arith, some_same y x found)
+  where
+    some_same : (a b : ℕ) → Some a ≡ Some b → a ≡ b
+    some_same a b e = ap (λ (o : Option ℕ). value a o) e
+      where
+        value : ℕ → Option ℕ → ℕ
+        value d None = d
+        value d (Some v) = v
+found_at (y ∷ xs) (suc k) x found = let r = found_at xs k x found in (omega (arith, r.0), r.1)
+
+-- rising numbers, by places, rise
+pub rises_from_increasing : (xs : List ℕ) → IsStrictlyIncreasing xs → Rises xs
+rises_from_increasing [] up = tt
+rises_from_increasing (x ∷ xs) up =
+    let rest = rises_from_increasing xs (λ k lt. let next : suc k + 1 ≡ suc (k + 1) = omega arith in subst (λ (j : ℕ). slice_index xs k < slice_index (x ∷ xs) j) next (up (suc k) (omega (arith, lt)))) in
+    (first xs rest (λ lt. up 0 (omega (arith, lt))), rest)
+  where
+    first : (ys : List ℕ) → Rises ys → (1 ≤ length ys → x < slice_index ys 0) → (y : ℕ) → IsTrue (is_among y ys) → x < y
+    first [] rises next y there = absurd (both_ways _ refl there)
+    first (z ∷ ys) rises next y there =
+        let low = next (omega arith) in
+        elim (or_cases (y == z) (is_among y ys) there) [
+          | inl here ↦ let e = eqb-true y z here in omega (arith, low, e)
+          | inr later ↦ let up_more = rises.0 y later in omega (arith, low, up_more)
+        ]
+
+-- rising lists of the same objects are one
+pub rises_same : (xs ys : List ℕ) → Rises xs → Rises ys → ((x : ℕ) → IsTrue (is_among x xs) → IsTrue (is_among x ys)) → ((x : ℕ) → IsTrue (is_among x ys) → IsTrue (is_among x xs)) → xs ≡ ys
+rises_same [] [] a b to from = refl
+rises_same [] (y ∷ ys) a b to from = absurd (both_ways _ refl (from y (or_left (y == y) (is_among y ys) (eq-eqb y y refl))))
+rises_same (x ∷ xs) [] a b to from = absurd (both_ways _ refl (to x (or_left (x == x) (is_among x xs) (eq-eqb x x refl))))
+rises_same (x ∷ xs) (y ∷ ys) a b to from =
+    let low : x ≤ y = least x xs y a (from y (or_left (y == y) (is_among y ys) (eq-eqb y y refl))) in
+    let high : y ≤ x = least y ys x b (to x (or_left (x == x) (is_among x xs) (eq-eqb x x refl))) in
+    let same : x ≡ y = omega (arith, low, high) in
+    let rest : xs ≡ ys = rises_same xs ys a.1 b.1
+    (λ z there. rest_of z y ys (to z (or_right (z == x) (is_among z xs) there)) (let up = a.0 z there in omega (arith, up, same)))
+    (λ z there. rest_of z x xs (from z (or_right (z == y) (is_among z ys) there)) (let up = b.0 z there in omega (arith, up, same))) in
+    (λ i. same i ∷ rest i)
+  where
+    least : (a : ℕ) (rest : List ℕ) (z : ℕ) → Rises (a ∷ rest) → IsTrue (is_among z (a ∷ rest)) → a ≤ z
+    least a rest z rises there = elim (or_cases (z == a) (is_among z rest) there) [
+      | inl here ↦ let e = eqb-true z a here in omega (arith, e)
+      | inr later ↦ let up = rises.0 z later in omega (arith, up)
+    ]
+
+    rest_of : (z a : ℕ) (rest : List ℕ) → IsTrue (is_among z (a ∷ rest)) → a < z → IsTrue (is_among z rest)
+    rest_of z a rest there above = elim (or_cases (z == a) (is_among z rest) there) [
+      | inl here ↦ let e = eqb-true z a here in absurd (omega (arith, e, above))
+      | inr later ↦ later
+    ]
+
+module _ (lengths : ℕ → ℕ) where
+  -- no object is longer, and none as long has a lesser number
+  record IsLongest (objects : List ℕ) (x : ℕ) : Type 0 where
+    most : (y : ℕ) → IsTrue (is_among y objects) → lengths y ≤ lengths x
+    least : (y : ℕ) → IsTrue (is_among y objects) → lengths y ≡ lengths x → x ≤ y
+
+  both_longest : (x y : ℕ) (objects : List ℕ) → IsTrue (is_among x objects) → IsTrue (is_among y objects) → IsLongest objects x → IsLongest objects y → x ≡ y
+  both_longest x y objects in_x in_y a b =
+      let low = a.most y in_y in
+      let high = b.most x in_x in
+      let same : lengths y ≡ lengths x = omega (arith, low, high) in
+      let first = a.least y in_y same in
+      let second = b.least x in_x (sym same) in
+      omega (arith, first, second)
+
+  longest_is : (s : ℕ) (xs : List ℕ) → Rises (s ∷ xs) → IsLongest (s ∷ xs) (longest lengths s xs)
+  longest_is s [] rises = record {
+    most = λ y there. let e = only y s there in omega (arith, ap lengths e);
+    least = λ y there same. let e = only y s there in omega (arith, e);
+  }
+    where
+      only : (y s : ℕ) → IsTrue ((y == s) || false) → y ≡ s
+      only y s there = elim (or_cases (y == s) false there) [ inl here ↦ eqb-true y s here | inr none ↦ absurd (both_ways _ refl none) ]
+  longest_is s (z ∷ xs) rises = elim (cases_Bool (nat_lt (lengths s) (lengths z))) [
+    | inl longer ↦
+        let e : longest lengths s (z ∷ xs) ≡ longest lengths z xs = ap (λ (k : ℕ). longest lengths k xs) (cond-true (nat_lt (lengths s) (lengths z)) z s longer) in
+        subst (IsLongest (s ∷ z ∷ xs)) (sym e) (with_shorter (longest lengths z xs) (ltb-true (lengths s) (lengths z) longer) (longest_is z xs rises.1))
+    | inr not_longer ↦
+        let e : longest lengths s (z ∷ xs) ≡ longest lengths s xs = ap (λ (k : ℕ). longest lengths k xs) (cond-false (nat_lt (lengths s) (lengths z)) z s not_longer) in
+        subst (IsLongest (s ∷ z ∷ xs)) (sym e) (with_later (longest lengths s xs) (ltb-false (lengths s) (lengths z) not_longer)
+        (longest_is s xs ((λ y there. rises.0 y (or_right (y == z) (is_among y xs) there)), rises.1.1)))
+  ]
+    where
+      with_shorter : (l : ℕ) → lengths s < lengths z → IsLongest (z ∷ xs) l → IsLongest (s ∷ z ∷ xs) l
+      with_shorter l short is =
+          let top = is.most z (or_left (z == z) (is_among z xs) (eq-eqb z z refl)) in
+          record {
+            most = λ y there. elim (or_cases (y == s) (is_among y (z ∷ xs)) there) [
+              | inl here ↦ let e = ap lengths (eqb-true y s here) in omega (arith, e, short, top)
+              | inr later ↦ is.most y later
+            ];
+            least = λ y there same. elim (or_cases (y == s) (is_among y (z ∷ xs)) there) [
+              | inl here ↦ let e = ap lengths (eqb-true y s here) in absurd (omega (arith, e, short, top, same))
+              | inr later ↦ is.least y later same
+            ];
+          }
+
+      with_later : (l : ℕ) → lengths z ≤ lengths s → IsLongest (s ∷ xs) l → IsLongest (s ∷ z ∷ xs) l
+      with_later l short is =
+          let in_s : IsTrue (is_among s (s ∷ xs)) = or_left (s == s) (is_among s xs) (eq-eqb s s refl) in
+          let top = is.most s in_s in
+          record {
+            most = λ y there. elim (or_cases (y == s) (is_among y (z ∷ xs)) there) [
+              | inl here ↦ is.most y (or_left (y == s) (is_among y xs) here)
+              | inr later ↦ elim (or_cases (y == z) (is_among y xs) later) [
+                | inl at_z ↦ let e = ap lengths (eqb-true y z at_z) in omega (arith, e, short, top)
+                | inr behind ↦ is.most y (or_right (y == s) (is_among y xs) behind)
+              ]
+            ];
+            least = λ y there same. elim (or_cases (y == s) (is_among y (z ∷ xs)) there) [
+              | inl here ↦ is.least y (or_left (y == s) (is_among y xs) here) same
+              | inr later ↦ elim (or_cases (y == z) (is_among y xs) later) [
+                | inl at_z ↦
+                    let e = eqb-true y z at_z in
+                    let low = is.least s in_s (omega (arith, ap lengths e, same, short, top)) in
+                    let up = rises.0 y later in
+                    omega (arith, low, up)
+                | inr behind ↦ is.least y (or_right (y == s) (is_among y xs) behind) same
+              ]
+            ];
+          }
+
+  mapped_at : (xs : List ℕ) (k : ℕ) → k < length xs → slice_index (map lengths xs) k ≡ lengths (slice_index xs k)
+  mapped_at [] k lt = absurd (omega (arith, lt))
+  mapped_at (x ∷ xs) zero lt = refl
+  mapped_at (x ∷ xs) (suc k) lt = mapped_at xs k (omega (arith, lt))
+
+  mapped_length : (xs : List ℕ) → length (map lengths xs) ≡ length xs
+  mapped_length [] = refl
+  mapped_length (x ∷ xs) = ap suc (mapped_length xs)
+
+  kept_is : (objects : List ℕ) (x : ℕ) → IsKept objects (map lengths objects) x → IsTrue (is_among x objects) × IsLongest objects x
+  kept_is objects x kept =
+      let found = found_at objects kept.place x kept.here in
+      let own : slice_index (map lengths objects) kept.place ≡ lengths x = mapped_at objects kept.place found.0 ∙ ap lengths found.1 in (
+        subst (λ (z : ℕ). IsTrue (is_among z objects)) found.1 (at_among objects kept.place found.0),
+        record {
+          most = λ y there.
+              let p = among_at y objects there in
+              let within : p.0 < length (map lengths objects) = omega (arith, p.1, mapped_length objects) in
+              let top = kept.longest p.0 0 within in
+              let here : slice_index (map lengths objects) p.0 ≡ lengths y = mapped_at objects p.0 p.1 ∙ ap lengths p.2 in
+              omega (arith, top, here, own, get_or_default_zero (map lengths objects) p.0 0 within);
+          least = λ y there same.
+              let p = among_at y objects there in
+              let here : slice_index (map lengths objects) p.0 ≡ lengths y = mapped_at objects p.0 p.1 ∙ ap lengths p.2 in
+              let low = kept.least p.0 p.1 (here ∙ same ∙ sym own) in
+              omega (arith, low, p.2);
+        },
+      )
+
+  -- what a plan logs of rising objects are all but the longest
+  pub planned_others : (objects : List ℕ) (x : ℕ) → Rises objects → IsKept objects (map lengths objects) x → without x objects ≡ but_longest lengths objects
+  planned_others [] x rises kept = refl
+  planned_others (a ∷ xs) x rises kept =
+      let is = kept_is (a ∷ xs) x kept in
+      ap (λ (k : ℕ). without k (a ∷ xs)) (both_longest x (longest lengths a xs) (a ∷ xs) is.0 (longest_among lengths a xs) is.1 (longest_is a xs rises))
+
+-- of the next node's work in a world
+module _ {O : Type 0} (m : Meaning O) (lawful : IsLawful m) (w : World O) (sound : IsSound m w) where
+  work_rises : Rises (work m w)
+  work_rises = rises_filter (has_work m w (next_node m w)) (counted 0 m.objects) (rises_counted 0 m.objects)
+
+  -- rising objects that are its work are those of the list
+  pub work_listed : (objects : List ℕ) → IsStrictlyIncreasing objects → ((x : ℕ) → IsTrue (is_among x objects) → work_of m w (next_node m w) x) → ((x : ℕ) → work_of m w (next_node m w) x → IsTrue (is_among x objects)) → objects ≡ work m w
+  work_listed objects up due listed =
+      rises_same objects (work m w) (rises_from_increasing objects up) work_rises (λ x there. is_listed m lawful w sound x (due x there)) (λ x there. listed x (listed_is m lawful w sound x there))
+
+  -- and what a plan logs of them is all but the longest
+  pub planned : (objects : List ℕ) (x : ℕ) → objects ≡ work m w → IsKept objects (map (cached_length m w) objects) x → without x objects ≡ others m w
+  planned objects x same kept =
+      planned_others (cached_length m w) objects x (subst Rises (sym same) work_rises) kept ∙ ap (but_longest (cached_length m w)) same

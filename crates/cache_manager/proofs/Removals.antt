@@ -1,0 +1,140 @@
+-- An install removes one node, and flushes one object at most.
+use Rattle.std.proofs.Common.{◌≡◌, ◌∙◌, sym, subst, ap, ℕ, zero, suc, ◌+◌, ◌≤◌, Bool, true, false, List, [], ◌∷◌, ◌++◌, length, refl, arith, append_assoc}
+use Rattle.std.specs.Prelude.{IsTrue, ◌^◌, ◌&&◌, nat_lt, nat_le, if◌then◌else◌}
+use Rattle.std.proofs.lemmas.Bool.{both_ways, cond-true, cond_both}
+use Rattle.oper_core.specs.Meaning.{Meaning}
+use Rattle.explain_core.specs.Turns.{count_below, dirty_in}
+use Rattle.explain_core.specs.World.{World, Step, run, end_of}
+use Rattle.explain_core.specs.World.Step.{Block_gate}
+use Rattle.cache_manager.specs.Courses.{Course, Stop, is_through, course, behind, and_then, waits, buffered, grown, force_steps, room_steps, placed, cached_length, identity_length, identity_steps, identity_course, identities, next_node, work, others, removal_steps, finish_steps, rounds, has_members, install_course, drains, drain_course, flushed_by, flushed_in, removals}
+use Rattle.cache_manager.specs.Courses.Stop.{Through, Full, At_end}
+use Rattle.cache_manager.specs.CourseLaws.{behind_both}
+
+flushed-append : {O : Type 0} (xs ys : List (Step O)) → flushed_in (xs ++ ys) ≡ flushed_in xs ++ flushed_in ys
+flushed-append [] ys = refl
+flushed-append (s ∷ xs) ys = ap (λ (l : List ℕ). flushed_by s ++ l) (flushed-append xs ys) ∙ sym (append_assoc (flushed_by s) (flushed_in xs) (flushed_in ys))
+
+removals-append : {O : Type 0} (xs ys : List (Step O)) → removals (xs ++ ys) ≡ removals xs + removals ys
+removals-append [] ys = omega arith
+removals-append (s ∷ xs) ys = omega (arith, removals-append xs ys)
+
+-- no node is removed, and nothing flushed
+record RemoveNone {O : Type 0} (steps : List (Step O)) : Type 0 where
+  removed : removals steps ≡ 0
+  flushed : flushed_in steps ≡ []
+
+-- one node is removed unless the course is stopped, and one object flushed at most
+pub record RemovesOne {O : Type 0} (c : Course O) : Type 0 where
+  pub through : c.stop ≡ Through → removals c.steps ≡ 1
+  pub removed : removals c.steps ≤ 1
+  pub flushed : length (flushed_in c.steps) ≤ 1
+
+module _ {O : Type 0} (m : Meaning O) where
+  none_append : (xs ys : List (Step O)) → RemoveNone xs → RemoveNone ys → RemoveNone (xs ++ ys)
+  none_append xs ys a b = record {
+    removed = omega (arith, removals-append xs ys, a.removed, b.removed);
+    flushed = flushed-append xs ys ∙ (λ i. a.flushed i ++ b.flushed i);
+  }
+
+  none_if : (b : Bool) (xs ys : List (Step O)) → RemoveNone xs → RemoveNone ys → RemoveNone (if b then xs else ys)
+  none_if b xs ys first second = cond_both b xs ys (λ (l : List (Step O)). RemoveNone l) (λ is. first) (λ is. second)
+
+  none_either : (b : Bool) (c e : Course O) → RemoveNone c.steps → RemoveNone e.steps → RemoveNone (if b then c else e).steps
+  none_either b c e first second = cond_both b c e (λ (c : Course O). RemoveNone c.steps) (λ is. first) (λ is. second)
+
+  none_behind : (first second : Course O) (stop : Stop) → RemoveNone first.steps → RemoveNone second.steps → RemoveNone (behind first second stop).steps
+  none_behind first second stop a b = behind_both (λ (c : Course O). RemoveNone c.steps) first second stop (λ on. none_append first.steps second.steps a b) (λ ends. a)
+
+  none_force : (w : World O) → RemoveNone (force_steps m w)
+  none_force w = none_if (waits m w) (Block_gate ∷ []) [] (record { removed = refl; flushed = refl }) (record { removed = refl; flushed = refl })
+
+  none_identity : (x : ℕ) (w : World O) (used : ℕ) → RemoveNone (identity_course m x w used).steps
+  none_identity x w used =
+      let n = identity_length (cached_length m w x) in
+      let room = course (room_steps m w n) used Through in
+      let v = run m w room.steps in
+      none_behind room (placed m v used (2 ^ 48) n true (identity_steps m x v)) Through
+      (none_if (nat_lt (2 ^ 30) (buffered m w + n)) (force_steps m w) [] (none_force w) (record { removed = refl; flushed = refl }))
+      (none_either (nat_lt (2 ^ 48) (grown m v used n)) (course (force_steps m v) used (Full used (n + 5) (2 ^ 48))) (if true && nat_le (2 ^ 62) (end_of v) then course (force_steps m v) used (At_end (end_of v)) else course (identity_steps m x v) (grown m v used n) Through) (none_force v)
+      (none_either (true && nat_le (2 ^ 62) (end_of v)) (course (force_steps m v) used (At_end (end_of v))) (course (identity_steps m x v) (grown m v used n) Through) (none_force v) (record { removed = refl; flushed = refl })))
+
+  none_identities : (objects : List ℕ) (w : World O) (used : ℕ) → RemoveNone (identities m objects w used).steps
+  none_identities [] w used = record { removed = refl; flushed = refl }
+  none_identities (x ∷ objects) w used =
+      let first = identity_course m x w used in
+      none_behind first (identities m objects (run m w first.steps) first.used) first.stop (none_identity x w used) (none_identities objects (run m w first.steps) first.used)
+
+  one_finish : (w : World O) (used : ℕ) → RemovesOne (course (finish_steps m w) used Through)
+  one_finish w used =
+      let node = next_node m w in
+      let rest = listed node (work m w) in
+      let none = none_force w in
+      let all = removals-append (force_steps m w) (removal_steps m node (work m w)) ∙ (λ i. none.removed i + rest.0 i) in
+      let flushed = flushed-append (force_steps m w) (removal_steps m node (work m w)) ∙ ap (λ (l : List ℕ). l ++ flushed_in (removal_steps m node (work m w))) none.flushed in
+      record { through = λ e. omega (arith, all); removed = omega (arith, all); flushed = omega (arith, rest.1, ap length flushed) }
+    where
+      listed : (node : ℕ → Bool) (objects : List ℕ) → (removals (removal_steps m node objects) ≡ 1) × (length (flushed_in (removal_steps m node objects)) ≤ 1)
+      listed node [] = (refl, omega arith)
+      listed node (x ∷ objects) = (refl, omega arith)
+
+  one_either : (b : Bool) (c e : Course O) → RemovesOne c → RemovesOne e → RemovesOne (if b then c else e)
+  one_either b c e first second = cond_both b c e (λ (c : Course O). RemovesOne c) (λ is. first) (λ is. second)
+
+  one_stopped : (c : Course O) → is_through c.stop ≡ false → RemoveNone c.steps → RemovesOne c
+  one_stopped c stopped none = record {
+    through = λ e. absurd (both_ways (is_through c.stop) stopped (ap is_through e));
+    removed = omega (arith, none.removed);
+    flushed = omega (arith, ap length none.flushed);
+  }
+
+  one_behind : (first second : Course O) → RemoveNone first.steps → RemovesOne second → RemovesOne (behind first second first.stop)
+  one_behind first second none one =
+      let all = removals-append first.steps second.steps in
+      let flushed = flushed-append first.steps second.steps ∙ ap (λ (l : List ℕ). l ++ flushed_in second.steps) none.flushed in
+      behind_both (λ (c : Course O). RemovesOne c) first second first.stop
+      (λ on. record {
+        through = λ s. omega (arith, all, none.removed, one.through s);
+        removed = omega (arith, all, none.removed, one.removed);
+        flushed = omega (arith, one.flushed, ap length flushed);
+      })
+      (λ ends. one_stopped first ends none)
+
+  pub rounds_remove : (n : ℕ) (w : World O) (used : ℕ) → RemovesOne (rounds m n w used)
+  rounds_remove zero w used = one_finish w used
+  rounds_remove (suc n) w used =
+      let logging = identities m (others m w) w used in
+      let v = run m w logging.steps in
+      one_either (nat_lt 1 (length (work m w))) (and_then m w logging (λ v used. rounds m n v used)) (course (finish_steps m w) used Through)
+      (one_behind logging (rounds m n v logging.used) (none_identities (others m w) w used) (rounds_remove n v logging.used))
+      (one_finish w used)
+
+  -- where the graph has no member, nothing is done
+  abbrev RemovesFew : Course O → Type 0
+  RemovesFew c = (removals c.steps ≤ 1) × (length (flushed_in c.steps) ≤ 1)
+
+  few_if : (b : Bool) (c e : Course O) → RemovesFew c → RemovesFew e → RemovesFew (if b then c else e)
+  few_if b c e first second = cond_both b c e (λ (c : Course O). RemovesFew c) (λ is. first) (λ is. second)
+
+  pub install_removes : (w : World O) (used : ℕ) → (removals (install_course m w used).steps ≤ 1) × (length (flushed_in (install_course m w used).steps) ≤ 1)
+  install_removes w used =
+      let one = rounds_remove m.objects w used in
+      few_if (has_members m w) (rounds m m.objects w used) (course [] used Through) (one.removed, one.flushed) (omega arith, omega arith)
+
+  pub install_removes_one : (w : World O) (used : ℕ) → IsTrue (has_members m w) → (install_course m w used).stop ≡ Through → removals (install_course m w used).steps ≡ 1
+  install_removes_one w used some =
+      subst (λ (c : Course O). c.stop ≡ Through → removals c.steps ≡ 1) (sym (cond-true (has_members m w) (rounds m m.objects w used) (course [] used Through) some)) (rounds_remove m.objects w used).through
+
+  -- a drain removes at most one node in each of its turns
+  drains_remove : (n : ℕ) (w : World O) (used : ℕ) → removals (drains m n w used).steps ≤ n
+  drains_remove zero w used = omega arith
+  drains_remove (suc n) w used =
+      let first = rounds m m.objects w used in
+      let v = run m w first.steps in
+      let one = (rounds_remove m.objects w used).removed in
+      cond_both (has_members m w) (and_then m w first (λ v used. drains m n v used)) (course [] used Through) (λ (c : Course O). removals c.steps ≤ suc n)
+      (λ some. behind_both (λ (c : Course O). removals c.steps ≤ suc n) first (drains m n v first.used) first.stop
+      (λ on. omega (arith, removals-append first.steps (drains m n v first.used).steps, one, drains_remove n v first.used)) (λ ends. omega (arith, one)))
+      (λ none. omega arith)
+
+  pub drain_removes : (w : World O) (used : ℕ) → removals (drain_course m w used).steps ≤ count_below (end_of w) w.graph + dirty_in m w
+  drain_removes w used = drains_remove (count_below (end_of w) w.graph + dirty_in m w) w used

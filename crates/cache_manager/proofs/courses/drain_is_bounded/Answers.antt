@@ -1,0 +1,13 @@
+use Rattle.cache_manager.specs.Running.{KeepsSound}
+use Rattle.cache_manager.proofs.InstallsLog.{drain_logs}
+use Rattle.cache_manager.proofs.Removals.{drain_removes}
+use Rattle.cache_manager.proofs.courses.drain_is_bounded.Goals as goal
+
+pub returns : goal.returns
+returns g c = record {
+  logged = λ b w used small is.
+      let m = g.O.Oper.meaning b in
+      let keeps : KeepsSound m = λ v taken sound may. c.every_run_keeps.ensures.from_sound b v taken small sound may in
+      drain_logs m (g.met.O.Oper.lawful b small) keeps c.last_blind_write_is_alone.ensures w used is;
+  removed = λ b w used. drain_removes (g.O.Oper.meaning b) w used;
+}

@@ -1,0 +1,17 @@
+use Rattle.std.proofs.Common.{◌≡◌, ◌≤◌, ℕ, All, List, length, take, drop}
+use Rattle.dirty_cache.specs.Contents.{held, HasRoom}
+use Rattle.cache_manager.specs.Laid.{IsLaidOn, with_entries}
+use Rattle.cache_manager.proofs.objects.Objects.set_values.Given as goal
+
+abbrev pub invariant-loop-value : goal.invariant-loop-value
+invariant-loop-value l = record {
+  slots : l.self.slots ≡ l.fn.self.slots;
+  few : length l.values.items ≤ length l.objects;
+  left : l.values.items ≡ take (length l.values.items) l.fn.values;
+  room : All (HasRoom l.self.cache) l.objects;
+  set : (x : ℕ) → held l.self.cache x ≡ with_entries (held l.fn.self.cache) l.lsn (drop (length l.values.items) l.objects) (drop (length l.values.items) l.fn.values) x;
+  laid : (file : List ℕ) → IsLaidOn l.fn.self file → IsLaidOn l.self file;
+}
+
+abbrev pub decreases-loop-value : goal.decreases-loop-value
+decreases-loop-value l = length l.values.items

@@ -1,0 +1,10 @@
+use Rattle.std.proofs.Common.{◌≤◌, ◌-◌, ◌^◌, ℕ}
+use Rattle.cache_manager.specs.Parts.{store}
+use Rattle.cache_manager.specs.Thin.{NamesThin}
+use Rattle.cache_manager.proofs.thin.least_thin.Given as goal
+
+abbrev pub invariant-loop-name : goal.invariant-loop-name
+invariant-loop-name l = (n : ℕ) → NamesThin (store l.objects l.graph.entries) n → l.from ≤ n
+
+abbrev pub decreases-loop-name : goal.decreases-loop-name
+decreases-loop-name l = 2 ^ 62 - l.from

@@ -1,0 +1,78 @@
+-- The courses of forces, installs and drains add no command.
+use Rattle.std.proofs.Common.{ℕ, zero, suc, ◌+◌, Bool, true, List, [], ◌∷◌, ◌++◌, length}
+use Rattle.std.specs.Prelude.{◌^◌, ◌&&◌, nat_lt, nat_le, if◌then◌else◌}
+use Rattle.std.proofs.lemmas.Bool.{cond_both}
+use Rattle.oper_core.specs.Meaning.{Meaning}
+use Rattle.explain_core.specs.Turns.{count_below, dirty_in}
+use Rattle.explain_core.specs.World.{World, Step, run, end_of}
+use Rattle.explain_core.specs.World.Step.{Block_gate, Removal}
+use Rattle.cache_manager.specs.Courses.{Course, course, and_then, waits, buffered, grown, force_steps, room_steps, placed, cached_length, identity_length, identity_steps, identity_course, identities, next_node, work, others, flush_steps, removal_steps, finish_steps, rounds, has_members, install_course, drains, drain_course}
+use Rattle.cache_manager.specs.Courses.Stop.{Through, Full, At_end}
+use Rattle.cache_manager.specs.CourseLaws.{behind_both}
+use Rattle.cache_manager.specs.Running.{AreUpkeep}
+
+module _ {O : Type 0} (m : Meaning O) where
+  pub upkeep_append : (xs ys : List (Step O)) → AreUpkeep xs → AreUpkeep ys → AreUpkeep (xs ++ ys)
+  upkeep_append [] ys first second = second
+  upkeep_append (x ∷ xs) ys first second = (first.0, upkeep_append xs ys first.1 second)
+
+  pub upkeep_if : (b : Bool) (xs ys : List (Step O)) → AreUpkeep xs → AreUpkeep ys → AreUpkeep (if b then xs else ys)
+  upkeep_if b xs ys first second = cond_both b xs ys (λ (l : List (Step O)). AreUpkeep l) (λ is. first) (λ is. second)
+
+  pub upkeep_either : (b : Bool) (c e : Course O) → AreUpkeep c.steps → AreUpkeep e.steps → AreUpkeep (if b then c else e).steps
+  upkeep_either b c e first second = cond_both b c e (λ (c : Course O). AreUpkeep c.steps) (λ is. first) (λ is. second)
+
+  pub upkeep_then : (w : World O) (first : Course O) (next : World O → ℕ → Course O) → AreUpkeep first.steps → ((v : World O) (used : ℕ) → AreUpkeep (next v used).steps) → AreUpkeep (and_then m w first next).steps
+  upkeep_then w first next a b =
+      let second = next (run m w first.steps) first.used in
+      behind_both (λ (c : Course O). AreUpkeep c.steps) first second first.stop (λ on. upkeep_append first.steps second.steps a (b (run m w first.steps) first.used)) (λ ends. a)
+
+  pub upkeep_force : (w : World O) → AreUpkeep (force_steps m w)
+  upkeep_force w = upkeep_if (waits m w) (Block_gate ∷ []) [] (tt, tt) tt
+
+  pub upkeep_room : (w : World O) (n : ℕ) → AreUpkeep (room_steps m w n)
+  upkeep_room w n = upkeep_if (nat_lt (2 ^ 30) (buffered m w + n)) (force_steps m w) [] (upkeep_force w) tt
+
+  pub upkeep_placed : (w : World O) (used limit n : ℕ) (numbered : Bool) (steps : List (Step O)) → AreUpkeep steps → AreUpkeep (placed m w used limit n numbered steps).steps
+  upkeep_placed w used limit n numbered steps are =
+      upkeep_either (nat_lt limit (grown m w used n)) (course (force_steps m w) used (Full used (n + 5) limit)) (if numbered && nat_le (2 ^ 62) (end_of w) then course (force_steps m w) used (At_end (end_of w)) else course steps (grown m w used n) Through) (upkeep_force w)
+      (upkeep_either (numbered && nat_le (2 ^ 62) (end_of w)) (course (force_steps m w) used (At_end (end_of w))) (course steps (grown m w used n) Through) (upkeep_force w) are)
+
+  pub upkeep_identity : (x : ℕ) (w : World O) (used : ℕ) → AreUpkeep (identity_course m x w used).steps
+  upkeep_identity x w used =
+      let n = identity_length (cached_length m w x) in
+      upkeep_then w (course (room_steps m w n) used Through) (λ v used. placed m v used (2 ^ 48) n true (identity_steps m x v)) (upkeep_room w n)
+      (λ v used. upkeep_placed v used (2 ^ 48) n true (identity_steps m x v) (tt, tt))
+
+  pub upkeep_identities : (objects : List ℕ) (w : World O) (used : ℕ) → AreUpkeep (identities m objects w used).steps
+  upkeep_identities [] w used = tt
+  upkeep_identities (x ∷ objects) w used = upkeep_then w (identity_course m x w used) (λ v used. identities m objects v used) (upkeep_identity x w used) (λ v used. upkeep_identities objects v used)
+
+  upkeep_flush : (node : ℕ → Bool) (objects : List ℕ) → AreUpkeep (flush_steps m node objects)
+  upkeep_flush node [] = tt
+  upkeep_flush node (x ∷ objects) = (tt, tt)
+
+  pub upkeep_removal : (node : ℕ → Bool) (objects : List ℕ) → AreUpkeep (removal_steps m node objects)
+  upkeep_removal node objects = upkeep_append (flush_steps m node objects) (Removal node ∷ []) (upkeep_flush node objects) (tt, tt)
+
+  pub upkeep_finish : (w : World O) → AreUpkeep (finish_steps m w)
+  upkeep_finish w = upkeep_append (force_steps m w) (removal_steps m (next_node m w) (work m w)) (upkeep_force w) (upkeep_removal (next_node m w) (work m w))
+
+  pub upkeep_rounds : (n : ℕ) (w : World O) (used : ℕ) → AreUpkeep (rounds m n w used).steps
+  upkeep_rounds zero w used = upkeep_finish w
+  upkeep_rounds (suc n) w used =
+      upkeep_either (nat_lt 1 (length (work m w))) (and_then m w (identities m (others m w) w used) (λ v used. rounds m n v used)) (course (finish_steps m w) used Through)
+      (upkeep_then w (identities m (others m w) w used) (λ v used. rounds m n v used) (upkeep_identities (others m w) w used) (λ v used. upkeep_rounds n v used))
+      (upkeep_finish w)
+
+  pub upkeep_install : (w : World O) (used : ℕ) → AreUpkeep (install_course m w used).steps
+  upkeep_install w used = upkeep_either (has_members m w) (rounds m m.objects w used) (course [] used Through) (upkeep_rounds m.objects w used) tt
+
+  pub upkeep_drains : (n : ℕ) (w : World O) (used : ℕ) → AreUpkeep (drains m n w used).steps
+  upkeep_drains zero w used = tt
+  upkeep_drains (suc n) w used =
+      upkeep_either (has_members m w) (and_then m w (rounds m m.objects w used) (λ v used. drains m n v used)) (course [] used Through)
+      (upkeep_then w (rounds m m.objects w used) (λ v used. drains m n v used) (upkeep_rounds m.objects w used) (λ v used. upkeep_drains n v used)) tt
+
+  pub upkeep_drain : (w : World O) (used : ℕ) → AreUpkeep (drain_course m w used).steps
+  upkeep_drain w used = upkeep_drains (count_below (end_of w) w.graph + dirty_in m w) w used

@@ -1,0 +1,82 @@
+// Identity writes.
+ghost use Rattle.std.specs.Prelude.{◌≡◌, ◌<◌, ◌≤◌, ◌^◌, ◌∷◌, [], true, Some, length, OnOk, OnErr, IfSome, IfNone};
+ghost use Rattle.formats.specs.Objects.{bounds_of};
+ghost use Rattle.dirty_cache.specs.Contents.{held, is_dirty};
+ghost use Rattle.dirty_cache.specs.declared.entry.Entry.{Entry as Pair};
+ghost use Rattle.explain_core.specs.History.Member.{Identity};
+ghost use Rattle.cache_manager.specs.Courses.{identity_length};
+ghost use Rattle.cache_manager.specs.Logged.{HasPlace, HasRecordPlace, IsRoomed, LacksRecordPlace};
+ghost use Rattle.cache_manager.specs.Parts.{AreInUse, IsAppended, parts, store};
+
+use crate::InstallErr;
+use crate::objects::Objects;
+use formats::Record;
+use install_order::Entry;
+use log_records::RecordLog;
+use oper_core::{ByteList, Memory, Objs, Oper};
+use std::alloc::Global;
+use write_graph::WriteGraph;
+
+/// The greatest length of a log.
+const LOG_LIMIT: u64 = 1 << 48;
+
+/// The first number that no record may have.
+const NUMBER_LIMIT: u64 = 1 << 62;
+
+/// Logs an identity write of a dirty object, in the buffer alone. Without memory nothing changes but room.
+pub(crate) fn append_identity<O: Oper>(
+    alloc: Global,
+    log: &mut RecordLog<O>,
+    objects: &mut Objects,
+    graph: &mut WriteGraph,
+    x: u32,
+) -> Result<(), Memory>
+    requires bounds { log.old.bounds ≡ bounds_of objects.old.slots.params }
+    requires in_use { AreInUse objects.old.slots.params log.old.next (store objects.old graph.old.entries) }
+    requires dirty { is_dirty objects.old.cache x ≡ true }
+    requires number { log.old.next < 2 ^ 62 }
+    requires place { (pair : Pair) → held objects.old.cache x ≡ Some pair → HasPlace log.old.log (identity_length (length pair.bytes)) }
+    ensures ok { (pair : Pair) → held objects.old.cache x ≡ Some pair → OnOk result (IsAppended (O.meaning log.old.bounds)
+        (parts log.old objects.old graph.old.entries) (parts log.new objects.new graph.new.entries) (Identity x pair.bytes) (pair.bytes ∷ [])) }
+    ensures err { OnErr result (IsRoomed (parts log.old objects.old graph.old.entries) (parts log.new objects.new graph.new.entries)) }
+{
+    let logged = objects.value(x).to_vec(alloc)?;
+    let kept = objects.value(x).to_vec(alloc)?;
+    let number = log.next();
+    let entry = Entry {
+        number,
+        reads: Objs::new(),
+        writes: Objs::one(x),
+        identity: true,
+    };
+    graph.make_room(&entry)?;
+    let record = Record::Identity(number, x, ByteList::new(logged));
+    if log.append(record).is_err() {
+        return Err(Memory);
+    }
+    objects.set(x, number, ByteList::new(kept));
+    graph.add(entry);
+    Ok(())
+}
+
+/// Why a record of n bytes has no place in the log, if it has none.
+fn refusal<O: Oper>(log: &RecordLog<O>, n: u64) -> Option<InstallErr>
+    requires some { 0 < n }
+    requires short { n ≤ 2 ^ 30 }
+    ensures none { IfNone result (HasRecordPlace log.now n) }
+    ensures some { IfSome result (LacksRecordPlace log.now n) }
+{
+    let used = log.used();
+    if LOG_LIMIT.saturating_sub(used) < log.growth(n) {
+        return Some(InstallErr::LogFull {
+            used,
+            need: n + 5,
+            limit: LOG_LIMIT,
+        });
+    }
+    let number = log.next();
+    if number >= NUMBER_LIMIT {
+        return Some(InstallErr::LsnEnd { number });
+    }
+    None
+}
