@@ -1,0 +1,50 @@
+-- A redo that has no records left, and nothing to install, is over.
+use Rattle.std.proofs.Common.{◌≡◌, ◌∙◌, sym, ap, subst, ℕ, ◌+◌, ◌-◌, ◌<◌, false, List, [], ◌++◌, length, arith}
+use Rattle.std.specs.Prelude.{◌*◌, nat_le}
+use Rattle.std.proofs.lemmas.Bool.{cond-false, lt-leb}
+use Rattle.std.proofs.lemmas.List.{append-nil}
+use Rattle.disk_model.specs.Disk.{Files}
+use Rattle.disk_model.specs.declared.machine.FileNo.TheVariants.{Objects}
+use Rattle.oper_core.specs.Meaning.{Meaning, state_after}
+use Rattle.formats.specs.declared.params.Params.{Params}
+use Rattle.explain_core.specs.History.{Member, commands_of}
+use Rattle.explain_core.specs.KeptLog.{turns_kept}
+use Rattle.redo_pass.proofs.TurnBound.{turns_stay, redo_over}
+use Rattle.explain_core.specs.TurnLaws.{turns_join}
+use Rattle.explain_core.specs.Turns.{must_install, turn, turns}
+use Rattle.explain_core.specs.World.{World, Step, run, end_of, IsLive}
+use Rattle.standing.specs.Standing.{FilesShow}
+use Rattle.cache_manager.specs.Parts.{Store, ShowsStore}
+use Rattle.redo_pass.specs.Progress.{SoFar}
+use Rattle.redo_pass.specs.Redo.{IsRedone, redone_world}
+
+module _ {O : Type 0} (m : Meaning O) (limit : ℕ) (w : World O) where
+  abbrev pub at : ℕ → World O
+  at n = run m w (turns m limit n w)
+
+  -- turns that end the redo are as all its turns
+  pub no_more : (a b : ℕ) → turn m limit (at a) ≡ [] → turns m limit (a + b) w ≡ turns m limit a w
+  no_more a b over = turns_join m limit a b w ∙ ap (λ (l : List (Step O)). turns m limit a w ++ l) (turns_stay m limit b (at a) over) ∙ append-nil (turns m limit a w)
+
+  all_turns : (a b : ℕ) → turn m limit (at a) ≡ [] → turn m limit (at b) ≡ [] → at a ≡ at b
+  all_turns a b over also =
+      let swapped : a + b ≡ b + a = omega arith in
+      ap (λ (l : List (Step O)). run m w l) (sym (no_more a b over) ∙ ap (λ (n : ℕ). turns m limit n w) swapped ∙ no_more b a also)
+
+  -- nothing is to be installed, and nothing left to replay
+  turn_over : (v : World O) → must_install m limit v ≡ false → length v.history < v.next → turn m limit v ≡ []
+  turn_over v enough live = cond-false (must_install m limit v) _ _ enough ∙ cond-false (nat_le v.next (length v.history)) _ _ (lt-leb v.next (length v.history) live)
+
+  pub ended : (p : Params) (files : Files) (it : Store) → ((n : ℕ) → w.graph n ≡ false) → ((n x : ℕ) → IsLive (at n) → ((at n).cache x).value ≡ state_after m (commands_of w.history) x)
+      → SoFar m p files it limit w [] → IsRedone m p files it limit w
+  ended p files it none map so_far =
+      let a = so_far.turned in
+      let live : IsLive (at a) = omega (arith, so_far.members, ap (λ (h : List (Member O)). length h) (turns_kept m limit a w).history) in
+      let same : at a ≡ redone_world m limit w = all_turns a (2 * (end_of w - w.next)) (turn_over (at a) so_far.enough live) (redo_over m limit w none) in
+      record {
+        files_show = subst (λ (v : World O). FilesShow m p files v) same so_far.shown.files_show;
+        store_shows = subst (λ (v : World O). ShowsStore m p (files Objects) it v) same so_far.shown.store_shows;
+        live = subst IsLive same live;
+        enough = ap (must_install m limit) (sym same) ∙ so_far.enough;
+        map_is = λ x. ap (λ (v : World O). (v.cache x).value) (sym same) ∙ map a x live;
+      }

@@ -1,0 +1,78 @@
+-- One record more is replayed, and nodes are installed behind it: how far a redo then has come.
+use Rattle.std.proofs.Common.{◌≡◌, ◌∙◌, sym, ap, subst, ℕ, zero, suc, ◌+◌, ◌-◌, ◌<◌, ◌≤◌, false, Some, List, [], ◌∷◌, length, arith, inl, inr}
+use Rattle.std.specs.Prelude.{◌*◌, slice_get}
+use Rattle.std.proofs.lemmas.Bool.{cases_lt}
+use Rattle.disk_model.specs.Disk.{Files, Disk}
+use Rattle.disk_model.specs.declared.machine.FileNo.TheVariants.{Objects}
+use Rattle.oper_core.specs.Meaning.{Meaning}
+use Rattle.formats.specs.declared.params.Params.{Params}
+use Rattle.formats.specs.declared.record.Record.{Record}
+use Rattle.explain_core.specs.History.{Member, numbered}
+use Rattle.explain_core.specs.KeptLog.{turns_kept}
+use Rattle.redo_pass.proofs.TurnBound.{redo_over}
+use Rattle.explain_core.specs.TurnLaws.{turns_join, run_join, run_replay}
+use Rattle.explain_core.specs.Turns.{must_install, turns}
+use Rattle.explain_core.specs.World.{World, Step, step, run, end_of}
+use Rattle.explain_core.specs.World.Step.{Replay}
+use Rattle.standing.specs.Moments.{TakesSome, moments_longer}
+use Rattle.standing.specs.Standing.{FilesShow}
+use Rattle.cache_manager.specs.Parts.{Store, ShowsStore}
+use Rattle.redo_pass.specs.Progress.{HasTurned, SoFar, IsLimited}
+use Rattle.redo_pass.specs.Redo.{redo_steps}
+use Rattle.redo_pass.specs.Rising.{AreMembers}
+use Rattle.redo_pass.proofs.Ends.{at, no_more}
+
+-- a number that some member has is within the history
+member_within : {X : Type 0} (l : List X) (k : ℕ) (x : X) → slice_get l k ≡ Some x → k < length l
+member_within [] k x is = cc
+member_within (y ∷ l) zero x is = omega arith
+member_within (y ∷ l) (suc k) x is = let r = member_within l k x is in omega (arith, r)
+
+pub numbered_within : {O : Type 0} (h : List (Member O)) (n : ℕ) (it : Member O) → numbered h n ≡ Some it → n ≤ length h
+numbered_within h zero it is = omega arith
+numbered_within h (suc n) it is = let r = member_within h n it is in omega (arith, r)
+
+module _ {O : Type 0} (m : Meaning O) (p : Params) (limit : ℕ) (w : World O) where
+  -- the next member is replayed: that is one turn more
+  pub replay_turned : (files : Files) (it after : Store) (turned : ℕ) → must_install m limit (at m limit w turned) ≡ false → (at m limit w turned).next ≤ length w.history
+      → FilesShow m p files (step m (at m limit w turned) Replay) → ShowsStore m p (files Objects) after (step m (at m limit w turned) Replay) → HasTurned m p files after limit w (turned + 1)
+  replay_turned files it after turned enough left files_show store_shows =
+      let v = at m limit w turned in
+      let old : v.next ≤ length v.history = omega (arith, left, ap (λ (h : List (Member O)). length h) (turns_kept m limit turned w).history) in
+      let same : step m v Replay ≡ at m limit w (turned + 1) = sym (run_replay m limit v enough old) ∙ sym (run_join m limit turned 1 w) in
+      record {
+        files_show = subst (λ (u : World O). FilesShow m p files u) same files_show;
+        store_shows = subst (λ (u : World O). ShowsStore m p (files Objects) after u) same store_shows;
+      }
+
+  -- nodes are installed behind it, until none must be
+  pub limited_so_far : (files : Files) (it : Store) (turned : ℕ) (rest : List (Record O)) → IsLimited m p files it limit (at m limit w turned)
+      → AreMembers w.history (at m limit w turned).next rest → SoFar m p files it limit w rest
+  limited_so_far files it turned rest is members =
+      let more = is.limiting.turned in
+      let same : run m (at m limit w turned) (turns m limit more (at m limit w turned)) ≡ at m limit w (turned + more) = sym (run_join m limit turned more w) in
+      record {
+        turned = turned + more;
+        shown = record {
+          files_show = subst (λ (u : World O). FilesShow m p files u) same is.limiting.shown.files_show;
+          store_shows = subst (λ (u : World O). ShowsStore m p (files Objects) it u) same is.limiting.shown.store_shows;
+        };
+        enough = ap (must_install m limit) (sym same) ∙ is.enough;
+        members = subst (λ (k : ℕ). AreMembers w.history k rest) (sym is.limiting.next ∙ ap (λ (u : World O). u.next) same) members;
+      }
+
+  -- what a crash leaves after some first steps of some turns is after some first steps of the redo
+  pub turns_are_steps : ((n : ℕ) → w.graph n ≡ false) → (old new : Disk) (turned : ℕ) → TakesSome m p old new w (turns m limit turned w) → TakesSome m p old new w (redo_steps m limit w)
+  turns_are_steps none old new turned some =
+      let most = 2 * (end_of w - w.next) in
+      elim (cases_lt most turned) [
+        | inl past ↦
+            let split : most + (turned - most) ≡ turned = omega (arith, past) in
+            subst (λ (l : List (Step O)). TakesSome m p old new w l)
+            (ap (λ (n : ℕ). turns m limit n w) (sym split) ∙ no_more m limit w most (turned - most) (redo_over m limit w none)) some
+        | inr up ↦
+            let split : turned + (most - turned) ≡ most = omega (arith, up) in
+            subst (λ (l : List (Step O)). TakesSome m p old new w l)
+            (sym (turns_join m limit turned (most - turned) w) ∙ ap (λ (n : ℕ). turns m limit n w) split)
+            (moments_longer m p old new w (turns m limit turned w) (turns m limit (most - turned) (at m limit w turned)) some)
+      ]

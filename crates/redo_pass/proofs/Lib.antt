@@ -1,0 +1,15 @@
+mod TurnBound
+mod Plans
+mod Members
+mod Due
+mod Replays
+mod Begins
+mod Ends
+mod Goes
+mod Fronts
+mod Limits
+mod Loops
+mod Small
+mod Dues
+mod Replaying
+mod Failing

@@ -1,0 +1,180 @@
+-- The loop of a redo: how it begins, one record of it, and what a crash leaves meanwhile.
+use Rattle.std.proofs.Common.{◌≡◌, ◌∙◌, sym, ap, subst, ℕ, ◌+◌, ◌^◌, ◌<◌, ◌≤◌, Bool, false, not, ◌&&◌, nat_lt, None, Some, List, [], ◌∷◌, ◌++◌, length, refl, arith}
+use Rattle.std.specs.Prelude.{All}
+use Rattle.std.proofs.lemmas.Bool.{eq-eqb, le-ltb}
+use Rattle.std.proofs.lemmas.List.Elements.{All-nil}
+use Rattle.disk_model.specs.Disk.{Files, Disk, IsSettled, Stays, Same}
+use Rattle.disk_model.specs.Moments.{first_call, from_reads}
+use Rattle.disk_model.specs.Silent.{silent_twice}
+use Rattle.disk_model.specs.declared.machine.FileNo.TheVariants.{Objects}
+use Rattle.oper_core.specs.Cell.{Cell}
+use Rattle.oper_core.specs.Meaning.{Meaning}
+use Rattle.formats.specs.declared.params.Params.{Params}
+use Rattle.formats.specs.declared.record.Record.{Record}
+use Rattle.formats.specs.declared.record.Record.TheVariants.{Command, Identity, Check}
+use Rattle.stable_objects.specs.SlotsView.{SlotsView}
+use Rattle.dirty_cache.specs.Contents.{held}
+use Rattle.install_order.specs.declared.entry.Entry.{Entry}
+use Rattle.write_graph.specs.Graph.{numbers}
+use Rattle.checkpoint.specs.declared.table.Table.{Table}
+use Rattle.explain_core.specs.CountLaws.{count_same, count_none}
+use Rattle.explain_core.specs.History.{Member, numbered}
+use Rattle.explain_core.specs.KeptLog.{run_zero, turns_kept}
+use Rattle.explain_core.specs.Taken.{after_longer, after_behind}
+use Rattle.explain_core.specs.TurnLaws.{turns_join, run_join, run_replay}
+use Rattle.explain_core.specs.Turns.{is_dirty_in, dirty_in, has_thin, must_install, turns}
+use Rattle.explain_core.specs.World.{World, Step, step, plan_of}
+use Rattle.explain_core.specs.World.Step.{Replay}
+use Rattle.standing.specs.Crashed.{crashed-cache}
+use Rattle.standing.specs.Members.{table_of}
+use Rattle.standing.specs.Moments.{ShowsSome, TakesSome, moments_none}
+use Rattle.standing.specs.Standing.{FilesShow}
+use Rattle.analysis_pass.specs.Analysis.{PlanView}
+use Rattle.cache_manager.specs.Parts.{Store, ShowsStore, AreInUse}
+use Rattle.redo_pass.specs.Progress.{HasTurned, SoFar, IsAbove}
+use Rattle.redo_pass.specs.Redo.{IsDue}
+use Rattle.redo_pass.specs.Replayed.{IsNextRecord, after_record}
+use Rattle.redo_pass.specs.Rising.{AreMembers, Rise, IsBelow}
+use Rattle.redo_pass.proofs.Begins.{empty_shows, some_held}
+use Rattle.redo_pass.proofs.Due.{due_members}
+use Rattle.redo_pass.proofs.Ends.{at}
+use Rattle.redo_pass.proofs.Goes.{numbered_within}
+
+-- from a lower number on they rise too
+pub rise_lower : {O : Type 0} (k low end : ℕ) (rs : List (Record O)) → k ≤ low → Rise low end rs → Rise k end rs
+rise_lower k low end [] le rise = tt
+rise_lower k low end (Command number op ∷ rs) le rise = (omega (arith, le, rise.0), rise.1, rise.2)
+rise_lower k low end (Identity number x value ∷ rs) le rise = (omega (arith, le, rise.0), rise.1, rise.2)
+rise_lower k low end (Check t ∷ rs) le rise = rise_lower k low end rs le rise
+
+-- what is in use below a number is so below a greater one
+pub in_use_later : (p : Params) (low next : ℕ) (it : Store) → low ≤ next → next ≤ 2 ^ 62 → AreInUse p low it → AreInUse p next it
+in_use_later p low next it le most is = record {
+  params = is.params;
+  low = most;
+  above = λ k d within. omega (arith, is.above k d within, le);
+  dirty = λ x e dirty had. let parts = is.dirty x e dirty had in (parts.0, omega (arith, parts.1, le));
+  clean = is.clean;
+}
+
+-- nothing is in use yet
+pub begun_in_use : (it : Store) → ((x : ℕ) → held it.objects.cache x ≡ None) → it.entries ≡ [] → AreInUse it.objects.slots.params 0 it
+begun_in_use it none empty = record {
+  params = refl;
+  low = omega arith;
+  above = subst (λ (es : List Entry). All (λ n. n < 0) (numbers es)) (sym empty) (All-nil (λ n. n < 0));
+  dirty = λ x e is had. absurd (some_held _ _ is (none x));
+  clean = λ x e is had. let h : None ≡ Some e = sym (none x) ∙ had in cc;
+}
+
+-- a record's number is above all in the graph
+pub is_above : {O : Type 0} (p : Params) (low : ℕ) (it : Store) (r : Record O) (rest : List (Record O)) → AreInUse p low it → Rise low (2 ^ 62) (r ∷ rest) → IsAbove it.entries r
+is_above p low it (Command number op) rest is rise = (rise.1, λ k d within. omega (arith, is.above k d within, rise.0))
+is_above p low it (Identity number x value) rest is rise = (rise.1, λ k d within. omega (arith, is.above k d within, rise.0))
+is_above p low it (Check t) rest is rise = tt
+
+-- the number from which on those behind a record rise
+abbrev pub behind : {O : Type 0} → ℕ → Record O → ℕ
+behind low (Command number op) = number + 1
+behind low (Identity number x value) = number + 1
+behind low (Check t) = low
+
+pub behind_rise : {O : Type 0} (low end : ℕ) (r : Record O) (rest : List (Record O)) → low ≤ end → Rise low end (r ∷ rest) → (behind low r ≤ end) × Rise (behind low r) end rest
+behind_rise low end (Command number op) rest le rise = (omega (arith, rise.1), rise.2)
+behind_rise low end (Identity number x value) rest le rise = (omega (arith, rise.1), rise.2)
+behind_rise low end (Check t) rest le rise = (le, rise)
+
+pub behind_in_use : {O : Type 0} (p : Params) (low : ℕ) (before after : Store) (r : Record O) (rest : List (Record O)) → AreInUse p low before → Rise low (2 ^ 62) (r ∷ rest)
+    → ((next : ℕ) → IsBelow next r → AreInUse p next before → AreInUse p next after) → AreInUse p (behind low r) after
+behind_in_use p low before after (Command number op) rest is rise goes = goes (number + 1) (omega arith) (in_use_later p low (number + 1) before (omega (arith, rise.0)) (omega (arith, rise.1)) is)
+behind_in_use p low before after (Identity number x value) rest is rise goes = goes (number + 1) (omega arith) (in_use_later p low (number + 1) before (omega (arith, rise.0)) (omega (arith, rise.1)) is)
+behind_in_use p low before after (Check t) rest is rise goes = goes low tt is
+
+module _ {O : Type 0} (m : Meaning O) (p : Params) (limit : ℕ) (w : World O) where
+  -- no record is replayed yet
+  pub begun : (files : Files) (slots : SlotsView) (plan : PlanView) (records items : List (Record O)) (it : Store) → IsDue m p files slots plan records w
+      → it.objects.slots ≡ slots → ((x : ℕ) → held it.objects.cache x ≡ None) → it.entries ≡ []
+      → ((h : List (Member O)) (k : ℕ) → AreMembers h k records → k ≤ plan.start → plan.start ≤ length h + 1 → AreMembers h plan.start items)
+      → SoFar m p files it limit w items
+  begun files slots plan records items it due same none empty from =
+      let here = run_zero m limit w in
+      let clean : (x : ℕ) → is_dirty_in w x ≡ false = λ x. ap not (eq-eqb (w.slots x).id (w.cache x).id (ap (λ (c : ℕ → Cell). (c x).id) (sym (crashed-cache m w due.found.crashed)))) in
+      let few : dirty_in m w ≡ 0 = count_same m.objects (is_dirty_in w) (λ x. false) (λ x below. clean x) ∙ count_none m.objects in
+      let enough : must_install m limit w ≡ false = ap (λ (b : Bool). b && has_thin m w) (ap (nat_lt limit) few ∙ le-ltb limit 0 (omega arith)) in
+      record {
+        turned = 0;
+        shown = record {
+          files_show = subst (λ (v : World O). FilesShow m p files v) here due.found.shows;
+          store_shows = subst (λ (v : World O). ShowsStore m p (files Objects) it v) here (empty_shows m p files slots plan records w due it same none empty);
+        };
+        enough = ap (must_install m limit) (sym here) ∙ enough;
+        members = subst (λ (k : ℕ). AreMembers w.history k items) (due.start ∙ ap (λ (v : World O). v.next) here)
+            (from w.history w.base (due_members m p files slots plan records w due) (omega (arith, due.start, due.found.sound.next.0)) (omega (arith, due.start, due.found.sound.next.1)));
+      }
+
+  -- the first of the records that are left is the next to be replayed
+  pub next_is : (table : Table) → table_of table ≡ plan_of w.tables w.base → (n : ℕ) (r : Record O) (rest : List (Record O)) → AreMembers w.history (at m limit w n).next (r ∷ rest) → IsNextRecord (at m limit w n) table r
+  next_is table plan n (Command number op) rest are =
+      let kept = turns_kept m limit n w in
+      record { here = are.0; member_is = ap (λ (h : List (Member O)). numbered h number) kept.history ∙ ap (numbered w.history) are.0 ∙ are.1; plan = plan ∙ sym (λ i. plan_of (kept.tables i) (kept.base i)) }
+  next_is table plan n (Identity number x value) rest are =
+      let kept = turns_kept m limit n w in
+      record { here = are.0; member_is = ap (λ (h : List (Member O)). numbered h number) kept.history ∙ ap (numbered w.history) are.0 ∙ are.1; plan = plan ∙ sym (λ i. plan_of (kept.tables i) (kept.base i)) }
+  next_is table plan n (Check t) rest are = tt
+
+  -- so far, behind some turns, and before nodes are installed
+  pub record IsOn (files : Files) (it : Store) (rest : List (Record O)) : Type 0 where
+    pub turned : ℕ
+    pub shown : HasTurned m p files it limit w turned
+    pub members : AreMembers w.history (at m limit w turned).next rest
+
+  next_number : (v : World O) → (step m v Replay).next ≡ v.next + 1
+  unfolding step
+  next_number v = refl
+
+  member_on : (files : Files) (it after : Store) (n : ℕ) (member : Member O) (rest : List (Record O)) → must_install m limit (at m limit w n) ≡ false → numbered w.history (at m limit w n).next ≡ Some member
+      → AreMembers w.history ((at m limit w n).next + 1) rest → FilesShow m p files (step m (at m limit w n) Replay) → ShowsStore m p (files Objects) after (step m (at m limit w n) Replay) → IsOn files after rest
+  member_on files it after n member rest enough is left files_show store_shows =
+      let v = at m limit w n in
+      let old : v.next ≤ length v.history = omega (arith, numbered_within w.history v.next member is, ap (λ (h : List (Member O)). length h) (turns_kept m limit n w).history) in
+      let same : step m v Replay ≡ at m limit w (n + 1) = sym (run_replay m limit v enough old) ∙ sym (run_join m limit n 1 w) in
+      record {
+        turned = n + 1;
+        shown = record {
+          files_show = subst (λ (u : World O). FilesShow m p files u) same files_show;
+          store_shows = subst (λ (u : World O). ShowsStore m p (files Objects) after u) same store_shows;
+        };
+        members = subst (λ (k : ℕ). AreMembers w.history k rest) (sym (next_number v) ∙ ap (λ (u : World O). u.next) same) left;
+      }
+
+  -- one record more was replayed
+  pub on_record : (files : Files) (it after : Store) (r : Record O) (rest : List (Record O)) (so : SoFar m p files it limit w (r ∷ rest)) → FilesShow m p files (step m (at m limit w so.turned) Replay)
+      → ShowsStore m p (files Objects) after (after_record m (at m limit w so.turned) r) → IsOn files after rest
+  on_record files it after (Command number op) rest so files_show store_shows = member_on files it after so.turned _ rest so.enough so.members.1 so.members.2 files_show store_shows
+  on_record files it after (Identity number x value) rest so files_show store_shows = member_on files it after so.turned _ rest so.enough so.members.1 so.members.2 files_show store_shows
+  on_record files it after (Check t) rest so files_show store_shows = record { turned = so.turned; shown = record { files_show = so.shown.files_show; store_shows = store_shows }; members = so.members }
+
+  -- a call that changes nothing
+  pub stays_moments : (mid new : Disk) (v : World O) (steps : List (Step O)) → mid.tells_moments → IsSettled mid → Stays mid new → FilesShow m p mid.reads v → TakesSome m p mid new v steps
+  stays_moments mid new v steps moments settled stays shows =
+      moments_none m p mid new v steps (first_call mid new _ moments stays.time (λ c s left.
+      let is = from_reads mid new Same Same moments settled stays.crash c s left in
+      record { silent = is.1; holds = subst (λ (f : Files). FilesShow m p f v) (sym is.0) shows }))
+
+  -- two parts of a redo, of some turns each
+  pub join_moments : (old mid new : Disk) (a b c : ℕ) → mid.said ≡ old.said → TakesSome m p old mid w (turns m limit a w) → TakesSome m p mid new (at m limit w b) (turns m limit c (at m limit w b))
+      → (n : ℕ) × TakesSome m p old new w (turns m limit n w)
+  join_moments old mid new a b c quiet first second =
+      let n = a + (b + c) in
+      let turned : a + (b + c) ≡ (b + c) + a = omega arith in
+      let one : turns m limit a w ++ turns m limit (b + c) (at m limit w a) ≡ turns m limit n w = sym (turns_join m limit a (b + c) w) in
+      let other : (turns m limit b w ++ turns m limit c (at m limit w b)) ++ turns m limit a (at m limit w (b + c)) ≡ turns m limit n w =
+      ap (λ (l : List (Step O)). l ++ turns m limit a (at m limit w (b + c))) (sym (turns_join m limit b c w)) ∙ sym (turns_join m limit (b + c) a w) ∙ ap (λ (k : ℕ). turns m limit k w) (sym turned) in (
+        n,
+        silent_twice old mid new (ShowsSome m p w (turns m limit a w)) (ShowsSome m p (at m limit w b) (turns m limit c (at m limit w b))) (ShowsSome m p w (turns m limit n w)) quiet
+            (λ files is. subst (λ (l : List (Step O)). ShowsSome m p w l files) one (after_longer m (FilesShow m p files) w (turns m limit a w) (turns m limit (b + c) (at m limit w a)) is))
+            (λ files is. subst (λ (l : List (Step O)). ShowsSome m p w l files) other
+            (after_longer m (FilesShow m p files) w (turns m limit b w ++ turns m limit c (at m limit w b)) (turns m limit a (at m limit w (b + c)))
+            (after_behind m (FilesShow m p files) w (turns m limit b w) (turns m limit c (at m limit w b)) is)))
+            first second,
+      )

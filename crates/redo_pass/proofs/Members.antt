@@ -1,0 +1,58 @@
+-- Records in their places whose members are the rest of a history are its members one by one.
+use Rattle.std.proofs.Common.{◌≡◌, sym, ap, subst, ℕ, zero, suc, ◌+◌, ◌≤◌, List, [], ◌∷◌, length, drop, arith, Some}
+use Rattle.std.specs.Prelude.{slice_get}
+use Rattle.oper_core.specs.Meaning.{Meaning}
+use Rattle.formats.specs.Records.{AreRecords}
+use Rattle.formats.specs.declared.record.Record.{Record}
+use Rattle.formats.specs.declared.record.Record.TheVariants.{Command, Identity, Check}
+use Rattle.explain_core.specs.History.{Member}
+use Rattle.explain_core.specs.History.Member.{Command as a_command, Identity as an_identity}
+use Rattle.standing.specs.Members.{members_of}
+use Rattle.redo_pass.specs.Rising.{AreMembers}
+
+dropped : {X : Type 0} (i : ℕ) (l : List X) (x : X) (rest : List X) → x ∷ rest ≡ drop i l → (slice_get l i ≡ Some x) × (rest ≡ drop (suc i) l)
+dropped zero [] x rest is = cc
+dropped {X} zero (y ∷ l) x rest is = (ap Some (head_is is), tail_is is)
+  where
+    first : List X → X
+    first [] = x
+    first (z ∷ zs) = z
+
+    others : List X → List X
+    others [] = []
+    others (z ∷ zs) = zs
+
+    head_is : x ∷ rest ≡ y ∷ l → y ≡ x
+    head_is e = sym (ap first e)
+
+    tail_is : x ∷ rest ≡ y ∷ l → rest ≡ l
+    tail_is e = ap others e
+dropped (suc i) [] x rest is = cc
+dropped {X} (suc i) (y ∷ l) x rest is = dropped i l x rest is
+
+none_left : {X : Type 0} (i : ℕ) (l : List X) → [] ≡ drop i l → length l ≤ i
+none_left zero [] is = omega arith
+none_left zero (y ∷ l) is = cc
+none_left (suc i) [] is = omega arith
+none_left (suc i) (y ∷ l) is = let r = none_left i l is in omega (arith, r)
+
+within : {X : Type 0} (l : List X) (k : ℕ) (x : X) → slice_get l k ≡ Some x → suc k ≤ length l
+within [] k x is = cc
+within (y ∷ l) zero x is = omega arith
+within (y ∷ l) (suc k) x is = let r = within l k x is in omega (arith, r)
+
+one_more : (i : ℕ) → suc (suc i) ≡ suc i + 1
+one_more i = omega arith
+
+module _ {O : Type 0} (m : Meaning O) (base : ℕ) (h : List (Member O)) where
+  pub members_are : (i : ℕ) (records : List (Record O)) → i ≤ length h → AreRecords m base (suc i) records → members_of records ≡ drop i h → AreMembers h (suc i) records
+  members_are i [] low placed are = let r = none_left i h are in omega (arith, r, low)
+  members_are i (Command number op ∷ records) low placed are =
+      let here = dropped i h (a_command op) (members_of records) are in
+      let next = subst (λ (k : ℕ). AreRecords m base k records) (sym (one_more i)) placed.2 in
+      (placed.1.0, here.0, subst (λ (k : ℕ). AreMembers h k records) (one_more i) (members_are (suc i) records (within h i (a_command op) here.0) next here.1))
+  members_are i (Identity number x value ∷ records) low placed are =
+      let here = dropped i h (an_identity x value) (members_of records) are in
+      let next = subst (λ (k : ℕ). AreRecords m base k records) (sym (one_more i)) placed.2 in
+      (placed.1.0, here.0, subst (λ (k : ℕ). AreMembers h k records) (one_more i) (members_are (suc i) records (within h i (an_identity x value) here.0) next here.1))
+  members_are i (Check table ∷ records) low placed are = members_are i records low placed.2 are

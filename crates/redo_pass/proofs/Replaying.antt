@@ -1,0 +1,174 @@
+-- What the replay of a member enters, in a store in use and in one that shows a world.
+use Rattle.std.proofs.Common.{◌≡◌, ◌∙◌, sym, subst, ap, ℕ, ◌<◌, ◌≤◌, ◌&&◌, ◌||◌, ◌==◌, nat_lt, nat_le, if◌then◌else◌, Bool, true, false, List, [], ◌∷◌, length, map, refl, arith, inl, inr, Option, Some, None}
+use Rattle.std.specs.Prelude.{All}
+use Rattle.std.proofs.lemmas.Bool.{cases_Bool, both_ways, and_parts, ltb-true, cond-true, cond-false, eq-eqb, or_cases, eqb-true, false_from_ne_true}
+use Rattle.std.proofs.lemmas.List.{map-append}
+use Rattle.std.proofs.lemmas.List.Elements.{All-append, All-cons, All-head, All-tail}
+use Rattle.oper_core.specs.Meaning.{Meaning}
+use Rattle.oper_core.specs.State.{is_among, value_for}
+use Rattle.checkpoint.specs.declared.table.Table.{Table}
+use Rattle.checkpoint.specs.RedoStarts.{redo_from}
+use Rattle.formats.specs.declared.params.Params.{Params}
+use Rattle.stable_objects.specs.SlotsView.{SlotsView, id_in}
+use Rattle.dirty_cache.specs.Contents.{held, is_dirty}
+use Rattle.dirty_cache.specs.declared.entry.Entry.{Entry as Pair}
+use Rattle.install_order.specs.Computed.{some_below}
+use Rattle.install_order.specs.NodeLaws.{some-from, some-gives}
+use Rattle.install_order.specs.declared.entry.Entry.{Entry}
+use Rattle.write_graph.specs.Graph.{numbers}
+use Rattle.explain_core.specs.History.{Member, numbered, reads_of, writes_of, effect_of, writes_some}
+use Rattle.explain_core.specs.Sound.{IsSound}
+use Rattle.explain_core.specs.World.{World, step, is_redone, plan_of}
+use Rattle.explain_core.specs.World.Step.{Replay}
+use Rattle.cache_manager.specs.Fetched.{IsFetched, fetched-in_use, fetched-shows}
+use Rattle.cache_manager.specs.Joins.{cell_shown}
+use Rattle.cache_manager.specs.Laid.{Laid, IsLaidOn, KeepsCells, id_at, lsn_or, values_in}
+use Rattle.cache_manager.specs.Parts.{Store, ShowsStore, AreInUse, entry_of, store}
+use Rattle.redo_pass.specs.Replayed.{IsEntered, IsNext, is_due, with_entry}
+use Rattle.redo_pass.proofs.Begins.{due_shown}
+use Rattle.redo_pass.proofs.Replays.{store_replayed}
+
+-- an object that is among some that have a property has it
+pub among_all : (P : ℕ → Type 0) (xs : List ℕ) (x : ℕ) → All P xs → is_among x xs ≡ true → P x
+among_all P [] x all there = absurd (both_ways _ refl there)
+among_all P (y ∷ xs) x all there = elim (or_cases (x == y) (is_among x xs) there) [
+  | inl here ↦ subst P (sym (eqb-true x y here)) (All-head P y xs all)
+  | inr later ↦ among_all P xs x (All-tail P y xs all) later
+]
+
+map_same : (f g : ℕ → List ℕ) (n : ℕ) (xs : List ℕ) → ((x : ℕ) → x < n → f x ≡ g x) → All (λ x. x < n) xs → map f xs ≡ map g xs
+map_same f g n [] same all = refl
+map_same f g n (x ∷ xs) same all = λ i. same x (All-head (λ y. y < n) x xs all) i ∷ map_same f g n xs same (All-tail (λ y. y < n) x xs all) i
+
+set_cases : (d a : Bool) (new old : Option Pair) → (d ≡ true → a ≡ true) → (if d then (if a then new else old) else old) ≡ (if d then new else old)
+set_cases true a new old there = cond-true a new old (there refl)
+set_cases false a new old there = refl
+
+and_cases : (d a : Bool) → (d ≡ true → a ≡ true) → (d && a) ≡ d
+and_cases true a there = there refl
+and_cases false a there = refl
+
+module _ (due : List ℕ) (e : Entry) (made : List (List ℕ)) (before after : Store) (is : IsEntered before after due e made) (writes : (x : ℕ) → is_among x due ≡ true → is_among x e.writes ≡ true) where
+  pair_of : ℕ → Pair
+  pair_of x = record { lsn = e.number; bytes = value_for x e.writes made }
+
+  held_is : (x : ℕ) → held after.objects.cache x ≡ (if is_among x due then Some (record { lsn = e.number; bytes = value_for x e.writes made }) else held before.objects.cache x)
+  held_is x = is.held x ∙ set_cases (is_among x due) (is_among x e.writes) (Some (record { lsn = e.number; bytes = value_for x e.writes made })) (held before.objects.cache x) (writes x)
+
+  dirty_is : (x : ℕ) → is_dirty after.objects.cache x ≡ (is_among x due || is_dirty before.objects.cache x)
+  dirty_is x = is.dirty x ∙ ap (λ (b : Bool). b || is_dirty before.objects.cache x) (and_cases (is_among x due) (is_among x e.writes) (writes x))
+
+-- the identifier of a slot is not above that of its object
+slot_most : (p : Params) (next : ℕ) (it : Store) (x : ℕ) → AreInUse p next it → id_in it.objects.slots x ≤ id_at it.objects x
+slot_most p next it x used = by_entry (held it.objects.cache x) refl
+  where
+    by_entry : (o : Option Pair) → held it.objects.cache x ≡ o → id_in it.objects.slots x ≤ id_at it.objects x
+    by_entry None none = omega (arith, ap (λ (h : Option Pair). lsn_or h (id_in it.objects.slots x)) none)
+    by_entry (Some pair) had = elim (cases_Bool (is_dirty it.objects.cache x)) [
+      | inl dirty ↦ omega (arith, (used.dirty x pair dirty had).0, ap (λ (h : Option Pair). lsn_or h (id_in it.objects.slots x)) had)
+      | inr clean ↦ omega (arith, used.clean x pair clean had, ap (λ (h : Option Pair). lsn_or h (id_in it.objects.slots x)) had)
+    ]
+
+some_is : (a b c : Option Pair) (e f : Pair) → a ≡ b → b ≡ Some e → a ≡ Some f → e.lsn ≡ f.lsn
+some_is a b c e f one two three = ap (λ (o : Option Pair). lsn_or o 0) (sym two ∙ sym one ∙ three)
+
+-- a store in use is in use with a member entered, below each number above its own
+pub entered_in_use : (p : Params) (next : ℕ) (before : Store) (mid : Laid) (after : Store) (table : Table) (due : List ℕ) (e : Entry) (made : List (List ℕ)) → AreInUse p next before → IsFetched before.objects mid
+    → IsEntered (store mid before.entries) after due e made → ((x : ℕ) → is_among x due ≡ is_due table before.objects e.number e.writes x) → e.number < next → AreInUse p next after
+entered_in_use p next before mid after table due e made used fetched is dues low =
+    let between : AreInUse p next (store mid before.entries) = fetched-in_use p next before mid used fetched in
+    let parts : (x : ℕ) → is_among x due ≡ true → (is_among x e.writes ≡ true) × (id_at before.objects x < e.number) = λ x there.
+    let both = and_parts (is_among x e.writes) (nat_lt (id_at before.objects x) e.number && nat_le (redo_from table x) e.number) (sym (dues x) ∙ there) in
+    (both.0, ltb-true (id_at before.objects x) e.number (and_parts (nat_lt (id_at before.objects x) e.number) (nat_le (redo_from table x) e.number) both.1).0) in
+    let writes : (x : ℕ) → is_among x due ≡ true → is_among x e.writes ≡ true = λ x there. (parts x there).0 in
+    let held_after = held_is due e made (store mid before.entries) after is writes in
+    let dirty_after = dirty_is due e made (store mid before.entries) after is writes in
+    let slots : after.objects.slots ≡ before.objects.slots = is.slots ∙ fetched.slots in
+    record {
+      params = ap (λ (s : SlotsView). s.params) slots ∙ used.params;
+      low = used.low;
+      above = subst (λ (l : List ℕ). All (λ n. n < next) l) (sym (ap numbers is.entries ∙ map-append (λ (f : Entry). f.number) before.entries (e ∷ [])))
+          (All-append (λ n. n < next) (numbers before.entries) (e.number ∷ []) used.above (All-cons (λ n. n < next) e.number [] low (λ k d below. absurd (omega (arith, below)))));
+      dirty = λ x pair dirty had. elim (cases_Bool (is_among x due)) [
+        | inl set ↦
+            let lsn : e.number ≡ pair.lsn = ap (λ (o : Option Pair). lsn_or o 0) (sym (cond-true (is_among x due) _ (held mid.cache x) set) ∙ sym (held_after x) ∙ had) in
+            (omega (arith, slot_most p next before x used, (parts x set).1, lsn, ap (λ (s : SlotsView). id_in s x) slots), omega (arith, lsn, low))
+        | inr left ↦
+            let was = between.dirty x pair (sym (ap (λ (b : Bool). b || is_dirty mid.cache x) left) ∙ sym (dirty_after x) ∙ dirty) (sym (cond-false (is_among x due) _ (held mid.cache x) left) ∙ sym (held_after x) ∙ had) in
+            (subst (λ (s : SlotsView). id_in s x < pair.lsn) (sym is.slots) was.0, was.1)
+      ];
+      clean = λ x pair clean had. elim (cases_Bool (is_among x due)) [
+        | inl set ↦ absurd (both_ways _ clean (dirty_after x ∙ ap (λ (b : Bool). b || is_dirty mid.cache x) set))
+        | inr left ↦
+            between.clean x pair (sym (ap (λ (b : Bool). b || is_dirty mid.cache x) left) ∙ sym (dirty_after x) ∙ clean) (sym (cond-false (is_among x due) _ (held mid.cache x) left) ∙ sym (held_after x) ∙ had)
+            ∙ ap (λ (s : SlotsView). id_in s x) (sym is.slots)
+      ];
+    }
+
+module _ {O : Type 0} (m : Meaning O) (p : Params) (file : List ℕ) (before : Store) (w : World O) (table : Table) (n : ℕ) (member : Member O) (due : List ℕ)
+    (sound : IsSound m w) (shows : ShowsStore m p file before w) (next : IsNext w table n member) (bounds : m.objects ≡ p.objects) (writes : All (λ x. x < p.objects) (writes_of m member))
+    (dues : (x : ℕ) → is_among x due ≡ is_due table before.objects n (writes_of m member) x) where
+  member_is : numbered w.history w.next ≡ Some member
+  member_is = ap (numbered w.history) (sym next.here) ∙ next.member_is
+
+  there : (x : ℕ) → is_among x (writes_of m member) ≡ true → x < p.objects
+  there x = among_all (λ y. y < p.objects) (writes_of m member) x writes
+
+  -- what is due is what the world's replay sets
+  set_is : (x : ℕ) → is_among x due ≡ is_redone m w x
+  set_is x = dues x ∙ elim (cases_Bool (is_among x (writes_of m member))) [
+    | inl is ↦ due_shown m p file before w shows table n member x next (there x is)
+    | inr left ↦
+        ap (λ (b : Bool). b && (nat_lt (id_at before.objects x) n && nat_le (redo_from table x) n)) left
+        ∙ sym (ap (λ (b : Bool). b && (nat_lt (w.cache x).id w.next && nat_le ((plan_of w.tables w.base).redo_from x) w.next)) (ap (λ (o : Option (Member O)). writes_some m o x) member_is ∙ left))
+  ]
+
+  -- where nothing is due the store shows the world after the replay as it is
+  pub none_entered : due ≡ [] → ShowsStore m p file before (step m w Replay)
+  none_entered none =
+      let left : (x : ℕ) → is_redone m w x ≡ false = λ x. sym (set_is x) ∙ ap (is_among x) none in
+      let unset : some_below m.objects (is_redone m w) ≡ false = false_from_ne_true _ (λ some. let k = some-gives m.objects (is_redone m w) some in both_ways _ (left k.0) k.2) in
+      let made : List (List ℕ) = effect_of m member (map (λ (x : ℕ). (w.cache x).value) (reads_of m member)) in
+      store_replayed m p file before before w member made sound shows (record {
+        slots = refl;
+        held = λ x. sym (cond-false (is_redone m w x) _ (held before.objects.cache x) (left x));
+        dirty = λ x. ap (λ (b : Bool). b || is_dirty before.objects.cache x) (sym (left x));
+        entries = sym (ap (λ (b : Bool). with_entry b before.entries (entry_of m w.next member)) unset);
+      }) member_is refl there
+
+  module _ (mid : Laid) (after : Store) (made : List (List ℕ)) (fetched : IsFetched before.objects mid) (keeps : KeepsCells file before.objects mid) (laid : IsLaidOn mid file) (reads : All (λ x. x < p.objects) (reads_of m member))
+      (e : Entry) (e_is : e ≡ entry_of m n member) (is : IsEntered (store mid before.entries) after due e made) (values : made ≡ effect_of m member (map (values_in before.objects file) (reads_of m member))) (some : 0 < length due) where
+    is_here : IsEntered (store mid before.entries) after due (entry_of m w.next member) made
+    is_here = subst (λ (f : Entry). IsEntered (store mid before.entries) after due f made) (e_is ∙ ap (λ (k : ℕ). entry_of m k member) next.here) is
+
+    in_writes : (x : ℕ) → is_among x due ≡ true → is_among x (writes_of m member) ≡ true
+    in_writes x is_in = (and_parts (is_among x (writes_of m member)) _ (sym (dues x) ∙ is_in)).0
+
+    read : map (values_in before.objects file) (reads_of m member) ≡ map (λ (x : ℕ). (w.cache x).value) (reads_of m member)
+    read = map_same (values_in before.objects file) (λ x. (w.cache x).value) p.objects (reads_of m member) (λ x below. ap (λ c. c.value) (cell_shown m p file before w shows x below)) reads
+
+    first : (xs : List ℕ) → 0 < length xs → (x : ℕ) × (is_among x xs ≡ true)
+    first [] some = absurd (omega (arith, some))
+    first (x ∷ xs) some = (x, ap (λ (b : Bool). b || is_among x xs) (eq-eqb x x refl))
+
+    -- and where something is due, the store with it entered
+    pub some_entered : ShowsStore m p file after (step m w Replay)
+    some_entered =
+        let one = first due some in
+        let found : some_below m.objects (is_redone m w) ≡ true = some-from m.objects (is_redone m w) one.0 (omega (arith, there one.0 (in_writes one.0 one.1), bounds)) (sym (set_is one.0) ∙ one.1) in
+        store_replayed m p file (store mid before.entries) after w member made sound (fetched-shows m p file before mid w shows fetched keeps laid) (record {
+          slots = is.slots;
+          held = λ x. held_is due (entry_of m w.next member) made (store mid before.entries) after is_here in_writes x
+              ∙ ap (λ (b : Bool). if b then Some (record { lsn = w.next; bytes = value_for x (writes_of m member) made }) else held mid.cache x) (set_is x);
+          dirty = λ x. dirty_is due (entry_of m w.next member) made (store mid before.entries) after is_here in_writes x ∙ ap (λ (b : Bool). b || is_dirty mid.cache x) (set_is x);
+          entries = is_here.entries ∙ sym (ap (λ (b : Bool). with_entry b before.entries (entry_of m w.next member)) found);
+        }) member_is (values ∙ ap (effect_of m member) read) there
+
+-- a list that is empty, and one that is not
+pub nil_if : (xs : List ℕ) → (length xs == 0) ≡ true → xs ≡ []
+nil_if [] is = refl
+nil_if (x ∷ xs) is = let none : length (x ∷ xs) ≡ 0 = eqb-true (length (x ∷ xs)) 0 is in absurd (omega (arith, none))
+
+pub some_if : (xs : List ℕ) → (length xs == 0) ≡ false → 0 < length xs
+some_if [] is = absurd (both_ways _ is refl)
+some_if (x ∷ xs) is = omega arith

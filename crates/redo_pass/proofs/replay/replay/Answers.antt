@@ -1,0 +1,40 @@
+use Rattle.std.proofs.Common.{◌≡◌, ◌∙◌, ap, sym, subst, List, ℕ}
+use Rattle.std.specs.Prelude.{OnOk}
+use Rattle.disk_model.specs.declared.machine.FileNo.TheVariants.{Objects}
+use Rattle.formats.specs.Objects.{bounds_of}
+use Rattle.formats.specs.declared.params.Params.{Params}
+use Rattle.formats.specs.declared.record.Record.{Record}
+use Rattle.formats.specs.declared.record.Record.TheVariants.{Identity}
+use Rattle.explain_core.specs.Sound.{IsSound}
+use Rattle.explain_core.specs.World.{World}
+use Rattle.cache_manager.specs.Parts.{AreInUse, ShowsStore, store}
+use Rattle.redo_pass.specs.Replayed.{IsNextRecord, after_record}
+use Rattle.redo_pass.specs.Rising.{IsBelow}
+use Rattle.redo_pass.proofs.replay.replay.Goals as goal
+
+pub returns-in-Command-clause-in_use : goal.returns-in-Command-clause-in_use
+returns-in-Command-clause-in_use g c =
+    let before = store c.args.objects.now c.args.graph.now.entries in
+    let after = store c.replay_command.new.objects c.replay_command.new.graph.entries in
+    subst (λ (r : Record g.row.O.Denot). OnOk c.replay_command.result ((p : Params) (next : ℕ) → IsBelow next r → AreInUse p next before → AreInUse p next after)) (sym c.in-Command.is) c.replay_command.ensures.in_use
+
+pub returns-in-Command-clause-shown : goal.returns-in-Command-clause-shown
+returns-in-Command-clause-shown g c = λ told.
+    let before = store c.args.objects.now c.args.graph.now.entries in
+    let after = store c.replay_command.new.objects c.replay_command.new.graph.entries in
+    let file = (g.M.Machine.disk c.args.machine.now).reads Objects in
+    subst (λ (r : Record g.row.O.Denot). OnOk c.replay_command.result ((p : Params) (w : World g.row.O.Denot) → IsSound (g.O.Oper.meaning (bounds_of p)) w → ShowsStore (g.O.Oper.meaning (bounds_of p)) p file before w
+    → IsNextRecord w c.args.plan.now.table r → ShowsStore (g.O.Oper.meaning (bounds_of p)) p file after (after_record (g.O.Oper.meaning (bounds_of p)) w r))) (sym c.in-Command.is) (c.replay_command.ensures.shown told)
+
+pub returns-in_ok-replay_identity-in-Identity-clause-in_use : goal.returns-in_ok-replay_identity-in-Identity-clause-in_use
+returns-in_ok-replay_identity-in-Identity-clause-in_use g c = λ p next below used.
+    c.in_ok-replay_identity-in-Identity.ensures.in_use p next (subst (λ (r : Record g.row.O.Denot). IsBelow next r) c.in-Identity.is below) used
+
+pub returns-in_ok-replay_identity-in-Identity-clause-shown : goal.returns-in_ok-replay_identity-in-Identity-clause-shown
+returns-in_ok-replay_identity-in-Identity-clause-shown g c = λ told p w sound shows next.
+    let m = g.O.Oper.meaning (bounds_of p) in
+    let file = (g.M.Machine.disk c.args.machine.now).reads Objects in
+    let after = store c.replay_identity.new.objects c.replay_identity.new.graph.entries in
+    let is : c.args.record.now ≡ Identity c.in-Identity.number c.in-Identity.object c.as_slice.result.now = c.in-Identity.is ∙ ap (λ (v : List ℕ). Identity c.in-Identity.number c.in-Identity.object v) (sym c.as_slice.ensures) in
+    subst (λ (r : Record g.row.O.Denot). ShowsStore m p file after (after_record m w r)) (sym is)
+    (c.in_ok-replay_identity-in-Identity.ensures.shown p file w sound shows (subst (λ (r : Record g.row.O.Denot). IsNextRecord w c.args.plan.now.table r) is next))

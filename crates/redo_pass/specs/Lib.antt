@@ -1,0 +1,5 @@
+pub mod Causes
+pub mod Rising
+pub mod Redo
+pub mod Replayed
+pub mod Progress

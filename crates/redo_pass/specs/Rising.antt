@@ -1,0 +1,32 @@
+-- Records whose numbers rise, and those that are the members of a history from a number on.
+use Rattle.std.specs.Prelude.{◌≡◌, ◌<◌, ◌≤◌, ◌+◌, ⊤, ℕ, Bool, false, nat_le, Some, List, [], ◌∷◌, length}
+use Rattle.formats.specs.declared.record.Record.{Record}
+use Rattle.formats.specs.declared.record.Record.TheVariants.{Command, Identity, Check}
+use Rattle.explain_core.specs.History.{Member, numbered}
+use Rattle.explain_core.specs.History.Member.{Command as a_command, Identity as an_identity}
+
+-- the numbers of the numbered records rise, from one number on and below another
+abbrev pub Rise : {O : Type 0} → ℕ → ℕ → List (Record O) → Type 0
+Rise low end [] = ⊤
+Rise low end (Command number op ∷ records) = (low ≤ number) × (number < end) × Rise (number + 1) end records
+Rise low end (Identity number x value ∷ records) = (low ≤ number) × (number < end) × Rise (number + 1) end records
+Rise low end (Check table ∷ records) = Rise low end records
+
+-- the record's number is below this one; a check has none
+abbrev pub IsBelow : {O : Type 0} → ℕ → Record O → Type 0
+IsBelow end (Command number op) = number < end
+IsBelow end (Identity number x value) = number < end
+IsBelow end (Check table) = ⊤
+
+-- the record has this number or a greater one; a check has none
+abbrev pub starts_from : {O : Type 0} → ℕ → Record O → Bool
+starts_from start (Command number op) = nat_le start number
+starts_from start (Identity number x value) = nat_le start number
+starts_from start (Check table) = false
+
+-- the numbered records are the members of the history from the number k on, to its end
+abbrev pub AreMembers : {O : Type 0} → List (Member O) → ℕ → List (Record O) → Type 0
+AreMembers h k [] = k ≡ length h + 1
+AreMembers h k (Command number op ∷ records) = (number ≡ k) × (numbered h k ≡ Some (a_command op)) × AreMembers h (k + 1) records
+AreMembers h k (Identity number x value ∷ records) = (number ≡ k) × (numbered h k ≡ Some (an_identity x value)) × AreMembers h (k + 1) records
+AreMembers h k (Check table ∷ records) = AreMembers h k records

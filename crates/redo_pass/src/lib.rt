@@ -1,0 +1,25 @@
+//! The redo: what a restart does to have every object again as the log says.
+//!
+//! The one contract is [`redo`]: of each world of the theory that a restart finds in the files, all steps of its redo are
+//! taken, and at each moment each image shows the world after some first ones of these. The crate depends on analysis_pass
+//! for where a redo starts, on cache_manager for the objects and for the install of a thin node, on write_graph for the
+//! graph that it makes, on explain_core and standing for worlds, and on formats for the records.
+#![tactic(auto)]
+
+mod choosing;
+mod entering;
+mod laws;
+mod limit;
+mod redo_err;
+mod redoing;
+mod replay;
+mod starting;
+mod tuning;
+
+pub use laws::{
+    a_found_world_is_due, a_redo_ends, a_redo_goes_on, a_replay_is_shown, an_empty_store_shows_it,
+    records_are_members, what_is_due_is_set,
+};
+pub use redo_err::RedoErr;
+pub use redoing::redo;
+pub use tuning::Tuning;

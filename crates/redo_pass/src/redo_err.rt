@@ -1,0 +1,65 @@
+ghost use Rattle.std.specs.Prelude.{◌≡◌};
+ghost use Rattle.redo_pass.specs.Causes.{from_slots, from_installs};
+ghost use Rattle.redo_pass.specs.declared.redo_err.RedoErr.TheVariants.{DiskFault, Memory as OutOfMemory};
+
+use cache_manager::InstallErr;
+use disk_model::{Failed, FileNo};
+use oper_core::Memory;
+use stable_objects::SlotErr;
+use thiserror::Error;
+
+/// Why a redo fails.
+#[derive(Clone, Copy, Debug, PartialEq, Eq, Error)]
+pub enum RedoErr {
+    /// The disk failed.
+    #[error("the disk failed")]
+    DiskFault,
+    /// A slot that was read breaks its format, in this file at this place.
+    #[error("{file:?} is damaged at {place}")]
+    Damaged { file: FileNo, place: u64 },
+    /// Want of memory.
+    #[error("out of memory")]
+    Memory,
+}
+
+impl From<SlotErr> for RedoErr {
+    ghost from_gives = { λ cause e. e ≡ from_slots cause };
+
+    // That there is no store is no answer of a read.
+    fn from(cause: SlotErr) -> Self {
+        match cause {
+            SlotErr::DiskFault => RedoErr::DiskFault,
+            SlotErr::Damaged { file, place } => RedoErr::Damaged { file, place },
+            SlotErr::NotAStore | SlotErr::Memory => RedoErr::Memory,
+        }
+    }
+}
+
+impl From<Failed> for RedoErr {
+    ghost from_gives = { λ _ e. e ≡ DiskFault };
+
+    fn from(_: Failed) -> Self {
+        RedoErr::DiskFault
+    }
+}
+
+impl From<Memory> for RedoErr {
+    ghost from_gives = { λ _ e. e ≡ OutOfMemory };
+
+    fn from(_: Memory) -> Self {
+        RedoErr::Memory
+    }
+}
+
+impl From<InstallErr> for RedoErr {
+    ghost from_gives = { λ cause e. e ≡ from_installs cause };
+
+    // An install that takes no log knows no full one, and takes no number.
+    fn from(cause: InstallErr) -> Self {
+        match cause {
+            InstallErr::DiskFault => RedoErr::DiskFault,
+            InstallErr::LogFull { .. } | InstallErr::LsnEnd { .. } | InstallErr::Memory =>
+                RedoErr::Memory,
+        }
+    }
+}
