@@ -4,7 +4,7 @@ use Rattle.formats.specs.declared.params.Params.{Params}
 use Rattle.oper_core.specs.declared.refusal.Refusal.{Refusal}
 use Rattle.oper_core.specs.declared.refusal.Refusal.TheVariants.{NoObject}
 use Rattle.op_codec.specs.declared.all_ops.AllOps.TheVariants.{Put, Copy, Append, Cut, Sort, Swap, Exec, AppRead, AppWrite, Node}
-use Rattle.script_lines.specs.Grammar.{Request, put, copy, append, cut, sort, swap, get, force, skip, AsksFor, IsBad}
+use Rattle.script_lines.specs.Grammar.{Request, put, copy, append, cut, sort, swap, exec, aread, awrite, get, force, skip, AsksFor, IsBad}
 use Rattle.script_lines.specs.Replies.{Reply, ok, value, forced, bad, refused, full, end, object_value, command_count, silence}
 use Rattle.store_engine.specs.Engine.{LogLength, grown}
 use Rattle.redo_shell.specs.Store.{Command, refusal_after, state_of, record_length, Fits}
@@ -19,9 +19,12 @@ kind (append x y) = 2
 kind (cut x y place) = 3
 kind (sort x y width) = 4
 kind (swap x y) = 5
-kind (get x) = 6
-kind force = 7
-kind skip = 8
+kind (exec app) = 6
+kind (aread app x) = 7
+kind (awrite app x) = 8
+kind (get x) = 9
+kind force = 10
+kind skip = 11
 
 abbrev first_of : Request → ℕ
 first_of (put x bytes) = x
@@ -30,6 +33,9 @@ first_of (append x y) = x
 first_of (cut x y place) = x
 first_of (sort x y width) = x
 first_of (swap x y) = x
+first_of (exec app) = app
+first_of (aread app x) = app
+first_of (awrite app x) = app
 first_of (get x) = x
 first_of force = 0
 first_of skip = 0
@@ -41,6 +47,9 @@ second_of (append x y) = y
 second_of (cut x y place) = y
 second_of (sort x y width) = y
 second_of (swap x y) = y
+second_of (exec app) = 0
+second_of (aread app x) = x
+second_of (awrite app x) = x
 second_of (get x) = 0
 second_of force = 0
 second_of skip = 0
@@ -52,6 +61,9 @@ third_of (append x y) = 0
 third_of (cut x y place) = place
 third_of (sort x y width) = width
 third_of (swap x y) = 0
+third_of (exec app) = 0
+third_of (aread app x) = 0
+third_of (awrite app x) = 0
 third_of (get x) = 0
 third_of force = 0
 third_of skip = 0
@@ -63,6 +75,9 @@ bytes_of (append x y) = []
 bytes_of (cut x y place) = []
 bytes_of (sort x y width) = []
 bytes_of (swap x y) = []
+bytes_of (exec app) = []
+bytes_of (aread app x) = []
+bytes_of (awrite app x) = []
 bytes_of (get x) = []
 bytes_of force = []
 bytes_of skip = []
@@ -75,6 +90,9 @@ request_for (Append op) = append op.from op.to
 request_for (Cut op) = cut op.from op.to op.place
 request_for (Sort op) = sort op.from op.to op.width
 request_for (Swap op) = swap op.first op.second
+request_for (Exec op) = exec op.app
+request_for (AppRead op) = aread op.app op.from
+request_for (AppWrite op) = awrite op.app op.to
 request_for op = skip
 
 asked : (line : List ℕ) (op : Command) → AsksCommand line op → AsksFor line (request_for op)
@@ -84,15 +102,21 @@ asked line (Append op) asks = asks
 asked line (Cut op) asks = asks
 asked line (Sort op) asks = asks
 asked line (Swap op) asks = asks
+asked line (Exec op) asks = asks
+asked line (AppRead op) asks = asks
+asked line (AppWrite op) asks = asks
 asked line op asks = absurd asks
 
-command_kind : (line : List ℕ) (op : Command) → AsksCommand line op → kind (request_for op) < 6
+command_kind : (line : List ℕ) (op : Command) → AsksCommand line op → kind (request_for op) < 9
 command_kind line (Put op) asks = omega arith
 command_kind line (Copy op) asks = omega arith
 command_kind line (Append op) asks = omega arith
 command_kind line (Cut op) asks = omega arith
 command_kind line (Sort op) asks = omega arith
 command_kind line (Swap op) asks = omega arith
+command_kind line (Exec op) asks = omega arith
+command_kind line (AppRead op) asks = omega arith
+command_kind line (AppWrite op) asks = omega arith
 command_kind line op asks = absurd asks
 
 -- a request is for one command
@@ -103,9 +127,9 @@ same_command line (Append a) (Append b) x y same = λ i. Append (record { from =
 same_command line (Cut a) (Cut b) x y same = λ i. Cut (record { from = first_of (same i); to = second_of (same i); place = third_of (same i) })
 same_command line (Sort a) (Sort b) x y same = λ i. Sort (record { from = first_of (same i); to = second_of (same i); width = third_of (same i) })
 same_command line (Swap a) (Swap b) x y same = λ i. Swap (record { first = first_of (same i); second = second_of (same i) })
-same_command line (Exec a) b x y same = absurd x
-same_command line (AppRead a) b x y same = absurd x
-same_command line (AppWrite a) b x y same = absurd x
+same_command line (Exec a) (Exec b) x y same = λ i. Exec (record { app = first_of (same i) })
+same_command line (AppRead a) (AppRead b) x y same = λ i. AppRead (record { app = first_of (same i); from = second_of (same i) })
+same_command line (AppWrite a) (AppWrite b) x y same = λ i. AppWrite (record { app = first_of (same i); to = second_of (same i) })
 same_command line (Node a) b x y same = absurd x
 same_command line a b x y same = let like = ap kind same in absurd (omega (arith, like))
 

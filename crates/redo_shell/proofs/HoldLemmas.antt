@@ -8,7 +8,7 @@ use Rattle.formats.specs.Objects.{AreSlotsShut}
 use Rattle.log_records.specs.RecordLaws.{keeps_stay}
 use Rattle.formats.specs.declared.params.Params.{Params}
 use Rattle.redo_shell.specs.Store.{Command, meaning_in, state_of, Stands, IsMapOf, Carries, Holds, Between}
-use Rattle.store_engine.specs.Laid.{IsLaidOn, values_in}
+use Rattle.cache_manager.specs.Laid.{IsLaidOn, values_in}
 use Rattle.store_engine.specs.Engine.{EngineView, InEachImage, IsAttached, log_length}
 
 -- what is true of each image stays so
@@ -49,6 +49,7 @@ carries_stays {p} {d} {new} {engine} {commands} {says} run c =
       stable = c.stable;
       pending = c.pending;
       log = keeps_stay (meaning_in p) d new engine.log c.stable c.pending c.told run c.log;
+      only = c.only;
       commands_are = c.commands_are;
       base = c.base;
       none_before = c.none_before;

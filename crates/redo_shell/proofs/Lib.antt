@@ -13,3 +13,4 @@ pub mod CauseLemmas
 pub mod SessionLemmas
 pub mod PrintedLemmas
 pub mod FuseLemmas
+pub mod DamageLemmas

@@ -2,51 +2,33 @@
 use Rattle.std.proofs.Common.{◌≡◌, ◌<◌, List, ℕ, length, sym, subst, arith, Bor, Err}
 use Rattle.std.specs.Prelude.{replicate}
 use Rattle.std.proofs.lemmas.List.{length-replicate}
-use Rattle.script_lines.specs.Grammar.{IsParsed, put, copy, append, cut, sort, swap, get, force, skip, AsksFor, IsHex, IsBad}
+use Rattle.script_lines.specs.Grammar.{IsParsed, put, AsksFor, IsHex, IsBad}
 use Rattle.script_lines.specs.GrammarLaws.{long_is_bad}
 use Rattle.formats.specs.declared.params.Params.{Params}
 use Rattle.redo_shell.specs.Store.{Command, HasCause, Lengthens}
+use Rattle.redo_shell.specs.Work.{AsksWork}
+use Rattle.redo_shell.specs.declared.work.Work.{Work}
 use Rattle.store_engine.specs.Engine.{LogLength}
 use Rattle.store_engine.specs.declared.exec_err.ExecErr.{ExecErr}
 use Rattle.script_lines.specs.Reading.{IsLine}
 use Rattle.script_lines.specs.declared.next.Next.{Next}
 use Rattle.script_lines.specs.declared.next.Next.TheVariants.{Line as Short, Long}
 use Rattle.script_lines.specs.declared.line.Line.{Line}
-use Rattle.script_lines.specs.declared.line.Line.TheVariants.{Put, Copy, Append, Cut, Sort, Swap, Get, Force, Skip}
+use Rattle.script_lines.specs.declared.line.Line.TheVariants.{Put}
 
-module _ (line : List ℕ) (asked : Line) (parsed : IsParsed line asked) where
-  -- a line of this form asks this
-  as_form : (form : Line) → asked ≡ form → IsParsed line form
-  as_form form is = subst (λ (a : Line). IsParsed line a) is parsed
+-- a line of this form asks this
+pub as_form : (line : List ℕ) {asked : Line} (form : Line) → IsParsed line asked → asked ≡ form → IsParsed line form
+as_form line form parsed is = subst (λ (a : Line). IsParsed line a) is parsed
 
-  pub put_parsed : (object given : ℕ) (hex : Bor (List ℕ)) (bytes value : List ℕ) → asked ≡ Put object hex → IsHex hex.now bytes → given ≡ object → value ≡ bytes → AsksFor line (put given value)
-  put_parsed object given hex bytes value is digits same_object same_value =
-      let asks = (as_form (Put object hex) is).1 bytes digits in
-      subst (λ (x : ℕ). AsksFor line (put x value)) (sym same_object) (subst (λ (v : List ℕ). AsksFor line (put object v)) (sym same_value) asks)
+pub put_parsed : (line : List ℕ) {asked : Line} (object given : ℕ) (hex : Bor (List ℕ)) (bytes value : List ℕ) → IsParsed line asked → asked ≡ Put object hex → IsHex hex.now bytes
+    → given ≡ object → value ≡ bytes → AsksFor line (put given value)
+put_parsed line object given hex bytes value parsed is digits same_object same_value =
+    let asks = (as_form line (Put object hex) parsed is).1 bytes digits in
+    subst (λ (x : ℕ). AsksFor line (put x value)) (sym same_object) (subst (λ (v : List ℕ). AsksFor line (put object v)) (sym same_value) asks)
 
-  pub copy_parsed : (from to : ℕ) → asked ≡ Copy from to → AsksFor line (copy from to)
-  copy_parsed from to is = as_form (Copy from to) is
-
-  pub append_parsed : (from to : ℕ) → asked ≡ Append from to → AsksFor line (append from to)
-  append_parsed from to is = as_form (Append from to) is
-
-  pub cut_parsed : (from to place : ℕ) → asked ≡ Cut from to place → AsksFor line (cut from to place)
-  cut_parsed from to place is = as_form (Cut from to place) is
-
-  pub sort_parsed : (from to width : ℕ) → asked ≡ Sort from to width → AsksFor line (sort from to width)
-  sort_parsed from to width is = as_form (Sort from to width) is
-
-  pub swap_parsed : (first second : ℕ) → asked ≡ Swap first second → AsksFor line (swap first second)
-  swap_parsed first second is = as_form (Swap first second) is
-
-  pub get_parsed : (object : ℕ) → asked ≡ Get object → AsksFor line (get object)
-  get_parsed object is = as_form (Get object) is
-
-  pub force_parsed : asked ≡ Force → AsksFor line force
-  force_parsed is = as_form Force is
-
-  pub skip_parsed : asked ≡ Skip → AsksFor line skip
-  skip_parsed is = as_form Skip is
+-- a line asks for this work
+pub as_work : (line : List ℕ) {work : Work} (known : Work) → AsksWork line work → work ≡ known → AsksWork line known
+as_work line known asks is = subst (λ (w : Work). AsksWork line w) is asks
 
 -- what a reader has found
 pub found_line : (next : Next) (stored line : List ℕ) → next ≡ Short → IsLine next stored line → line ≡ stored

@@ -1,8 +1,11 @@
 -- What the calls that a command line may ask for make of the files, as a whole.
 use Rattle.std.specs.Prelude.{◌≡◌, ◌≢◌, ◌⊎◌, ◌↔◌, ◌++◌, ℕ, List, [], ◌∷◌, take}
 use Rattle.disk_model.specs.Disk.{Disk, LeavesOnly, IsSettled}
+use Rattle.disk_model.specs.declared.machine.FileNo.{FileNo}
 use Rattle.disk_model.specs.declared.machine.FileNo.TheVariants.{Objects}
+use Rattle.op_codec.specs.AllOps.{all_meaning}
 use Rattle.formats.specs.Bytes.{IsOpenAt, IsShutAt}
+use Rattle.formats.specs.FirstFault.{IsDamaged}
 use Rattle.formats.specs.Image.{BeginsStore}
 use Rattle.formats.specs.declared.params.Params.{Params}
 use Rattle.script_lines.specs.Words.{Asks}
@@ -13,6 +16,7 @@ use Rattle.redo_shell.specs.Store.{Command, IsWellFormed, Stands, IsNew}
 use Rattle.redo_shell.specs.Answers.{Moment, SaysTruly}
 use Rattle.redo_shell.specs.Dump.{dump_of, DumpMoment}
 use Rattle.redo_shell.specs.Keeps.{KeepsFiles}
+use Rattle.redo_shell.specs.Notices as notices
 use Rattle.redo_shell.specs.Run.{IsComplete}
 use Rattle.redo_shell.specs.Sessions.{Ran, Follows, Sessions}
 use Rattle.redo_shell.specs.Status.{IsOfInit}
@@ -63,10 +67,12 @@ pub record IsMaking (p : Params) (old new : Disk) (status : Status) : Type 0 whe
   -- a store that is there is kept
   pub keeps : old.tells_files → BeginsStore (old.reads Objects) → KeepsFiles old new
 
--- the files are refused exactly where they are no store, whether there is memory or not, or break their format
-pub record OpensExactly (old : Disk) (status : Status) : Type 0 where
+-- the files are refused exactly where they are no store, whether there is memory or not, or break their format, and then
+-- it is the first check that fails that is said
+pub record OpensExactly (old new : Disk) (status : Status) : Type 0 where
   pub no_store : (status ≡ NotAStore) ↔ IsShutAt 0 (old.reads Objects)
   pub damaged : status ≢ Memory → (status ≡ Damaged) ↔ (IsOpenAt 0 (old.reads Objects) × (IsWellFormed old.reads → ⊥))
+  pub said : status ≢ Memory → (file : FileNo) (place : ℕ) → IsDamaged all_meaning old.reads file place → (status ≡ Damaged) × (new.said ≡ old.said ++ notices.damaged file place)
 
 -- a store is made exactly where none begins
 pub record MakesExactly (old : Disk) (status : Status) : Type 0 where

@@ -1,5 +1,6 @@
 pub mod Store
 pub mod Replies
+pub mod Work
 pub mod Printed
 pub mod Lengths
 pub mod Answers

@@ -4,12 +4,12 @@ use Rattle.oper_core.specs.declared.refusal.Refusal.TheVariants.{NoObject}
 use Rattle.disk_model.specs.Disk.{Files}
 use Rattle.formats.specs.Image.{EndsAt, NextIs}
 use Rattle.formats.specs.declared.params.Params.{Params}
-use Rattle.op_codec.specs.declared.all_ops.AllOps.TheVariants.{Put, Copy, Append, Cut, Sort, Swap}
-use Rattle.script_lines.specs.Grammar.{put, copy, append, cut, sort, swap, get, force, skip, AsksFor, IsBad}
+use Rattle.op_codec.specs.declared.all_ops.AllOps.TheVariants.{Put, Copy, Append, Cut, Sort, Swap, Exec, AppRead, AppWrite}
+use Rattle.script_lines.specs.Grammar.{put, copy, append, cut, sort, swap, exec, aread, awrite, get, force, skip, AsksFor, IsBad}
 use Rattle.script_lines.specs.Replies.{Reply, ok, value, forced, bad, refused, full, end, object_value, command_count, silence}
 use Rattle.redo_shell.specs.Store.{Command, meaning_in, state_of, refusal_after, record_length}
 
--- The line asks for this command. No line asks for a step of an application or an operation on a node yet.
+-- The line asks for this command. No line asks for an operation on a node yet.
 abbrev pub AsksCommand : List ℕ → Command → Type 0
 AsksCommand line (Put op) = AsksFor line (put op.object op.value)
 AsksCommand line (Copy op) = AsksFor line (copy op.from op.to)
@@ -17,6 +17,9 @@ AsksCommand line (Append op) = AsksFor line (append op.from op.to)
 AsksCommand line (Cut op) = AsksFor line (cut op.from op.to op.place)
 AsksCommand line (Sort op) = AsksFor line (sort op.from op.to op.width)
 AsksCommand line (Swap op) = AsksFor line (swap op.first op.second)
+AsksCommand line (Exec op) = AsksFor line (exec op.app)
+AsksCommand line (AppRead op) = AsksFor line (aread op.app op.from)
+AsksCommand line (AppWrite op) = AsksFor line (awrite op.app op.to)
 AsksCommand line op = ⊥
 
 -- the line gets this answer after the commands, and adds these

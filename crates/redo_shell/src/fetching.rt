@@ -3,7 +3,7 @@ ghost use Rattle.std.specs.Prelude.{◌≡◌, ◌≤◌, ◌<◌, List, ℕ, tr
 ghost use Rattle.disk_model.specs.Disk.{Stays};
 ghost use Rattle.formats.specs.declared.params.Params.{Params};
 ghost use Rattle.store_engine.specs.Engine.{IsAttached, IsCached, log_length};
-ghost use Rattle.store_engine.specs.Laid.{values_in};
+ghost use Rattle.cache_manager.specs.Laid.{values_in};
 ghost use Rattle.redo_shell.specs.Store.{Command, Holds, Kept, state_of};
 ghost use Rattle.redo_shell.specs.Run.{IsCaused, IsUndamaged};
 

@@ -22,6 +22,7 @@ mod say;
 mod script;
 mod status;
 mod stop;
+mod work;
 
 pub use laws::{
     a_call_is_followed, a_fuse_is_its_machine, a_line_gets_the_answer_of_its_cause,

@@ -13,11 +13,11 @@ use crate::answers::{command_answer, force_answer};
 use crate::fetching::fetched;
 use crate::say::say_answer;
 use crate::stop::Stop;
+use crate::work::Work;
 use disk_model::Machine;
 use op_codec::AllOps;
-use op_meaning::{Append, Copy, Cut, Put, Sort, Swap};
-use oper_core::{ByteList, Refusal};
-use script_lines::{Answer, Line, Next, hex_bytes, parse_line};
+use oper_core::Refusal;
+use script_lines::{Answer, Next};
 use std::alloc::Global;
 use store_engine::Engine;
 
@@ -80,40 +80,16 @@ fn answer_line<M: Machine>(
     ensures attached { IsAttached (M.disk machine.old) engine.old → IsAttached (M.disk machine.new) engine.new }
     ensures unbroken { OnOk result (engine.new.broken ≡ false) }
 {
-    let Ok(asked) = parse_line(line) else {
-        return say_answer(alloc, machine, &Answer::Bad);
-    };
-    match asked {
-        Line::Put { object, hex } => {
-            let value = ByteList::new(hex_bytes(alloc, hex)?);
-            run_command(alloc, engine, machine, AllOps::Put(Put::new(object, value)))
-        }
-        Line::Copy { from, to } => {
-            run_command(alloc, engine, machine, AllOps::Copy(Copy { from, to }))
-        }
-        Line::Append { from, to } => {
-            run_command(alloc, engine, machine, AllOps::Append(Append { from, to }))
-        }
-        Line::Cut { from, to, place } => {
-            run_command(alloc, engine, machine, AllOps::Cut(Cut { from, to, place }))
-        }
-        Line::Sort { from, to, width } => {
-            run_command(
-                alloc,
-                engine,
-                machine,
-                AllOps::Sort(Sort { from, to, width }),
-            )
-        }
-        Line::Swap { first, second } => {
-            run_command(alloc, engine, machine, AllOps::Swap(Swap { first, second }))
-        }
-        Line::Get { object } => say_value(alloc, engine, machine, object),
-        Line::Force => {
+    let work = Work::of_line(alloc, line)?;
+    match work {
+        Work::Run(op) => run_command(alloc, engine, machine, op),
+        Work::Tell { object } => say_value(alloc, engine, machine, object),
+        Work::Force => {
             let answer = force_answer(engine, machine)?;
             say_answer(alloc, machine, &answer)
         }
-        Line::Skip => Ok(false),
+        Work::Nothing => Ok(false),
+        Work::Bad => say_answer(alloc, machine, &Answer::Bad),
     }
 }
 

@@ -4,7 +4,8 @@ ghost use Rattle.disk_model.specs.Disk.{Rises, Passes, IsSettled};
 ghost use Rattle.disk_model.specs.declared.machine.FileNo.{FileNo};
 ghost use Rattle.disk_model.specs.declared.machine.FileNo.TheVariants.{Objects};
 ghost use Rattle.formats.specs.Bytes.{IsShutAt};
-ghost use Rattle.formats.specs.Image.{BeginsStore, IsDamaged};
+ghost use Rattle.formats.specs.FirstFault.{IsDamaged};
+ghost use Rattle.formats.specs.Image.{BeginsStore};
 ghost use Rattle.formats.specs.declared.params.Params.{Params};
 ghost use Rattle.op_codec.specs.AllOps.{all_meaning};
 ghost use Rattle.script_lines.specs.Grammar.{lines_of};
@@ -85,7 +86,7 @@ pub fn top<M: Machine, S: Source>(
     ensures exactly_usage { IsFaultless (M.disk machine.old) (M.disk machine.new) (S.faults input.old) (S.faults input.new) →
         (result ≡ Status.Usage) ↔ ((asked : Asked) → Asks (map string_bytes words.now) asked → ⊥) }
     ensures exactly_run { Asks (map string_bytes words.now) Run → (M.disk machine.old).tells_files →
-        IsFaultless (M.disk machine.old) (M.disk machine.new) (S.faults input.old) (S.faults input.new) → OpensExactly (M.disk machine.old) result }
+        IsFaultless (M.disk machine.old) (M.disk machine.new) (S.faults input.old) (S.faults input.new) → OpensExactly (M.disk machine.old) (M.disk machine.new) result }
     ensures exactly_too_long { Asks (map string_bytes words.now) Run → (M.disk machine.old).tells_files → IsWellFormed (M.disk machine.old).reads → S.tells input.old →
         IsUndisturbed (M.disk machine.old) (M.disk machine.new) (S.faults input.old) (S.faults input.new) result →
         (result ≡ Status.TooLong) ↔ (2 ^ 40 ≤ length (S.left input.old)) }
@@ -93,7 +94,7 @@ pub fn top<M: Machine, S: Source>(
         IsUndisturbed (M.disk machine.old) (M.disk machine.new) (S.faults input.old) (S.faults input.new) result → length (S.left input.old) < 2 ^ 40 →
         (result ≡ Status.Done) ⊎ (result ≡ Status.DoneWithRefusals) }
     ensures exactly_dump { Asks (map string_bytes words.now) Dump → (M.disk machine.old).tells_files →
-        IsFaultless (M.disk machine.old) (M.disk machine.new) (S.faults input.old) (S.faults input.new) → OpensExactly (M.disk machine.old) result }
+        IsFaultless (M.disk machine.old) (M.disk machine.new) (S.faults input.old) (S.faults input.new) → OpensExactly (M.disk machine.old) (M.disk machine.new) result }
     ensures dump_succeeds { (p : Params) (commands : List Command) → Asks (map string_bytes words.now) Dump → Opens p (M.disk machine.old) commands →
         IsUndisturbed (M.disk machine.old) (M.disk machine.new) (S.faults input.old) (S.faults input.new) result → result ≡ Status.Done }
     ensures exactly_init { (p : Params) → Asks (map string_bytes words.now) (Init p) → (M.disk machine.old).tells_files →

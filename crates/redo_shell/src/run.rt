@@ -4,7 +4,7 @@ ghost use Rattle.disk_model.specs.Disk.{Rises, Passes};
 ghost use Rattle.disk_model.specs.declared.machine.FileNo.{FileNo};
 ghost use Rattle.disk_model.specs.declared.machine.FileNo.TheVariants.{Objects};
 ghost use Rattle.formats.specs.Bytes.{IsOpenAt, IsShutAt};
-ghost use Rattle.formats.specs.Image.{IsDamaged};
+ghost use Rattle.formats.specs.FirstFault.{IsDamaged};
 ghost use Rattle.formats.specs.declared.params.Params.{Params};
 ghost use Rattle.op_codec.specs.AllOps.{all_meaning};
 ghost use Rattle.script_lines.specs.Grammar.{lines_of};

@@ -3,7 +3,7 @@ use Rattle.std.proofs.Common.{◌≡◌, ◌≢◌, ◌^◌, ◌<◌, List, ℕ,
 use Rattle.std.specs.Option.{MatchOption, IsSomeAnd, IfNone}
 use Rattle.std.specs.Str.{bytes_eq}
 use Rattle.std.specs.Fmt.{decimal}
-use Rattle.script_lines.specs.Grammar.{IsHex, Request, put, copy, append, cut, sort, swap, get, force, skip, number, hex, SayAll, AreOf}
+use Rattle.script_lines.specs.Grammar.{IsHex, Request, put, copy, append, cut, sort, swap, exec, aread, awrite, get, force, skip, number, hex, SayAll, AreOf}
 
 -- the forms told apart by a number
 abbrev pub tag : Request → ℕ
@@ -13,9 +13,12 @@ tag (append x y) = 2
 tag (cut x y place) = 3
 tag (sort x y width) = 4
 tag (swap x y) = 5
-tag (get x) = 6
-tag force = 7
-tag skip = 8
+tag (exec app) = 6
+tag (aread app x) = 7
+tag (awrite app x) = 8
+tag (get x) = 9
+tag force = 10
+tag skip = 11
 
 -- the form that a first field has
 abbrev pub tag_of : List ℕ → ℕ
@@ -26,10 +29,13 @@ tag_of word =
     else if bytes_eq word (codes "cut") then 3
     else if bytes_eq word (codes "sort") then 4
     else if bytes_eq word (codes "swap") then 5
-    else if bytes_eq word (codes "get") then 6
-    else if bytes_eq word (codes "force") then 7
-    else if get_or word 0 0 == 35 then 8
-    else 9
+    else if bytes_eq word (codes "exec") then 6
+    else if bytes_eq word (codes "aread") then 7
+    else if bytes_eq word (codes "awrite") then 8
+    else if bytes_eq word (codes "get") then 9
+    else if bytes_eq word (codes "force") then 10
+    else if get_or word 0 0 == 35 then 11
+    else 12
 
 -- the first field tells the form
 pub form_told : (a : Request) (word : List ℕ) (fields : List (List ℕ)) → AreOf a (word ∷ fields) → tag_of word ≡ tag a
@@ -39,6 +45,9 @@ form_told (append x y) word fields is = ap tag_of is.0
 form_told (cut x y place) word fields is = ap tag_of is.0
 form_told (sort x y width) word fields is = ap tag_of is.0
 form_told (swap x y) word fields is = ap tag_of is.0
+form_told (exec app) word fields is = ap tag_of is.0
+form_told (aread app x) word fields is = ap tag_of is.0
+form_told (awrite app x) word fields is = ap tag_of is.0
 form_told (get x) word fields is = ap tag_of is.0
 form_told force word fields is = ap tag_of is.0
 form_told skip word fields is = ap tag_of is.1
@@ -103,6 +112,20 @@ pub no_swap : (word : List ℕ) (fields : List (List ℕ)) → word ≡ codes "s
     → (a : Request) → AreOf a (word ∷ fields) → ⊥
 no_swap word fields is none (swap x y) asks = let d = two_are fields x y asks.1 in none x y d.1 d.2 d.0
 no_swap word fields is none a asks = omega (arith, form_told a word fields asks, ap tag_of is)
+
+pub no_exec : (word : List ℕ) (fields : List (List ℕ)) → word ≡ codes "exec" → ((n : ℕ) → n < 2 ^ 32 → fields ≢ decimal n ∷ []) → (a : Request) → AreOf a (word ∷ fields) → ⊥
+no_exec word fields is none (exec app) asks = let d = one_is fields app asks.1 in none app d.1 d.0
+no_exec word fields is none a asks = omega (arith, form_told a word fields asks, ap tag_of is)
+
+pub no_aread : (word : List ℕ) (fields : List (List ℕ)) → word ≡ codes "aread" → ((m n : ℕ) → m < 2 ^ 32 → n < 2 ^ 32 → fields ≢ decimal m ∷ decimal n ∷ [])
+    → (a : Request) → AreOf a (word ∷ fields) → ⊥
+no_aread word fields is none (aread app x) asks = let d = two_are fields app x asks.1 in none app x d.1 d.2 d.0
+no_aread word fields is none a asks = omega (arith, form_told a word fields asks, ap tag_of is)
+
+pub no_awrite : (word : List ℕ) (fields : List (List ℕ)) → word ≡ codes "awrite" → ((m n : ℕ) → m < 2 ^ 32 → n < 2 ^ 32 → fields ≢ decimal m ∷ decimal n ∷ [])
+    → (a : Request) → AreOf a (word ∷ fields) → ⊥
+no_awrite word fields is none (awrite app x) asks = let d = two_are fields app x asks.1 in none app x d.1 d.2 d.0
+no_awrite word fields is none a asks = omega (arith, form_told a word fields asks, ap tag_of is)
 
 pub no_get : (word : List ℕ) (fields : List (List ℕ)) → word ≡ codes "get" → ((n : ℕ) → n < 2 ^ 32 → fields ≢ decimal n ∷ []) → (a : Request) → AreOf a (word ∷ fields) → ⊥
 no_get word fields is none (get x) asks = let d = one_is fields x asks.1 in none x d.1 d.0

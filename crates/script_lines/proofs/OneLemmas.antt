@@ -1,7 +1,7 @@
 -- A line asks for one thing.
 use Rattle.std.proofs.Common.{◌≡◌, ◌+◌, ◌*◌, ◌<◌, List, ℕ, [], ◌∷◌, length, Some, refl, sym, ◌∙◌, ap, subst, arith, codes, ⊎_elim}
 use Rattle.std.proofs.lemmas.Fmt.{decimal_injective}
-use Rattle.script_lines.specs.Grammar.{IsHex, IsHexOf, none, byte, hex_digit, AsksFor, AreOf, Request, put, copy, append, cut, sort, swap, get, force, skip, number, hex, Says, SayAll, fields_of, without_return}
+use Rattle.script_lines.specs.Grammar.{IsHex, IsHexOf, none, byte, hex_digit, AsksFor, AreOf, Request, put, copy, append, cut, sort, swap, exec, aread, awrite, get, force, skip, number, hex, Says, SayAll, fields_of, without_return}
 use Rattle.script_lines.proofs.HexLemmas.{one_left}
 use Rattle.script_lines.proofs.FormLemmas.{tag, form_told}
 
@@ -45,9 +45,9 @@ hex_one text x y p q =
 number_one : (text : List ℕ) (m n : ℕ) → Says (number m) text → Says (number n) text → m ≡ n
 number_one text m n p q = decimal_injective m n (omega (arith, p.1)) (omega (arith, q.1)) (sym p.0 ∙ q.0)
 
-get_one : (fields : List (List ℕ)) (x y : ℕ) → SayAll (number x ∷ []) fields → SayAll (number y ∷ []) fields → get x ≡ get y
-get_one [] x y p q = absurd p
-get_one (a ∷ fields) x y p q = ap get (number_one a x y p.0 q.0)
+one_one : {x y : ℕ} (fields : List (List ℕ)) (form : ℕ → Request) → SayAll (number x ∷ []) fields → SayAll (number y ∷ []) fields → form x ≡ form y
+one_one [] form p q = absurd p
+one_one {x} {y} (a ∷ fields) form p q = ap form (number_one a x y p.0 q.0)
 
 put_one : (fields : List (List ℕ)) (x y : ℕ) (u v : List ℕ) → SayAll (number x ∷ hex u ∷ []) fields → SayAll (number y ∷ hex v ∷ []) fields → put x u ≡ put y v
 put_one [] x y u v p q = absurd p
@@ -80,7 +80,10 @@ same_one (append w x) (append y z) word fields same p q = two_one fields append 
 same_one (cut u v w) (cut x y z) word fields same p q = three_one fields cut p.1 q.1
 same_one (sort u v w) (sort x y z) word fields same p q = three_one fields sort p.1 q.1
 same_one (swap w x) (swap y z) word fields same p q = two_one fields swap p.1 q.1
-same_one (get x) (get y) word fields same p q = get_one fields x y p.1 q.1
+same_one (exec x) (exec y) word fields same p q = one_one fields exec p.1 q.1
+same_one (aread w x) (aread y z) word fields same p q = two_one fields aread p.1 q.1
+same_one (awrite w x) (awrite y z) word fields same p q = two_one fields awrite p.1 q.1
+same_one (get x) (get y) word fields same p q = one_one fields get p.1 q.1
 same_one force force word fields same p q = refl
 same_one skip skip word fields same p q = refl
 same_one a b word fields same p q = absurd (omega (arith, same))

@@ -2,7 +2,7 @@
 use Rattle.std.specs.Prelude.{◌≡◌, ⊤, ℕ, ◌+◌, ◌*◌, ◌-◌, ◌^◌, ◌<◌, ◌≤◌, ◌⊎◌, ◌++◌, List, [], ◌∷◌, Option, Some, None, codes, if◌then◌else◌, ◌==◌, nat_le, nat_lt, length}
 use Rattle.std.specs.Fmt.{decimal}
 use Rattle.script_lines.specs.declared.line.Line.{Line}
-use Rattle.script_lines.specs.declared.line.Line.TheVariants.{Put, Copy, Append, Cut, Sort, Swap, Get, Force, Skip}
+use Rattle.script_lines.specs.declared.line.Line.TheVariants.{Put, Copy, Append, Cut, Sort, Swap, Exec, AppRead, AppWrite, Get, Force, Skip}
 
 -- one byte more in front of the first text
 abbrev pub before_first : ℕ → List (List ℕ) → List (List ℕ)
@@ -70,6 +70,12 @@ pub data Request : Type 0 where
   sort : ℕ → ℕ → ℕ → Request
   -- the two objects' values are exchanged
   swap : ℕ → ℕ → Request
+  -- the application takes one step
+  exec : ℕ → Request
+  -- the object's value, the second number, is added to the application's input
+  aread : ℕ → ℕ → Request
+  -- the object, the second number, gets the application's output
+  awrite : ℕ → ℕ → Request
   -- the value of the object is told
   get : ℕ → Request
   -- all commands are made stable
@@ -91,6 +97,9 @@ form_of (append x y) = word (codes "append") ∷ number x ∷ number y ∷ []
 form_of (cut x y place) = word (codes "cut") ∷ number x ∷ number y ∷ number place ∷ []
 form_of (sort x y width) = word (codes "sort") ∷ number x ∷ number y ∷ number width ∷ []
 form_of (swap x y) = word (codes "swap") ∷ number x ∷ number y ∷ []
+form_of (exec app) = word (codes "exec") ∷ number app ∷ []
+form_of (aread app x) = word (codes "aread") ∷ number app ∷ number x ∷ []
+form_of (awrite app x) = word (codes "awrite") ∷ number app ∷ number x ∷ []
 form_of (get x) = word (codes "get") ∷ number x ∷ []
 form_of force = word (codes "force") ∷ []
 form_of skip = []
@@ -139,6 +148,9 @@ IsAsked fields (Append from to) = AreOf (append from to) fields
 IsAsked fields (Cut from to place) = AreOf (cut from to place) fields
 IsAsked fields (Sort from to width) = AreOf (sort from to width) fields
 IsAsked fields (Swap first second) = AreOf (swap first second) fields
+IsAsked fields (Exec app) = AreOf (exec app) fields
+IsAsked fields (AppRead app from) = AreOf (aread app from) fields
+IsAsked fields (AppWrite app to) = AreOf (awrite app to) fields
 IsAsked fields (Get object) = AreOf (get object) fields
 IsAsked fields Force = AreOf force fields
 IsAsked fields Skip = AreOf skip fields
@@ -151,6 +163,9 @@ IsParsed line (Append from to) = AsksFor line (append from to)
 IsParsed line (Cut from to place) = AsksFor line (cut from to place)
 IsParsed line (Sort from to width) = AsksFor line (sort from to width)
 IsParsed line (Swap first second) = AsksFor line (swap first second)
+IsParsed line (Exec app) = AsksFor line (exec app)
+IsParsed line (AppRead app from) = AsksFor line (aread app from)
+IsParsed line (AppWrite app to) = AsksFor line (awrite app to)
 IsParsed line (Get object) = AsksFor line (get object)
 IsParsed line Force = AsksFor line force
 IsParsed line Skip = AsksFor line skip

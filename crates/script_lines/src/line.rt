@@ -22,6 +22,12 @@ pub enum Line<'a> {
     Sort { from: u32, to: u32, width: u32 },
     /// `swap X Y`: the two values are exchanged.
     Swap { first: u32, second: u32 },
+    /// `exec A`: the application takes one step.
+    Exec { app: u32 },
+    /// `aread A X`: the value of `from` is added at the end of the application's input.
+    AppRead { app: u32, from: u32 },
+    /// `awrite A X`: `to` gets the application's output.
+    AppWrite { app: u32, to: u32 },
     /// `get X`: the value of the object is told.
     Get { object: u32 },
     /// `force`: all commands so far are made stable.
@@ -64,6 +70,12 @@ fn line_of<'a>(word: &[u8], rest: &'a [u8]) -> Option<Line<'a>>
         three_numbers(rest).map(|(from, to, width)| Line::Sort { from, to, width })
     } else if word == b"swap".as_slice() {
         two_numbers(rest).map(|(first, second)| Line::Swap { first, second })
+    } else if word == b"exec".as_slice() {
+        one_number(rest).map(|app| Line::Exec { app })
+    } else if word == b"aread".as_slice() {
+        two_numbers(rest).map(|(app, from)| Line::AppRead { app, from })
+    } else if word == b"awrite".as_slice() {
+        two_numbers(rest).map(|(app, to)| Line::AppWrite { app, to })
     } else if word == b"get".as_slice() {
         one_number(rest).map(|object| Line::Get { object })
     } else if word == b"force".as_slice() {

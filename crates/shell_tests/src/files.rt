@@ -35,7 +35,7 @@ fn files_have_these_bytes(rt: HostRuntime) -> Result<(), Fail> {
 
 // A script, an offset of the objects file with bytes that are then written there, words, and the status and the answers
 // of a run with these words and `get 0`. At 32 is the first slot of object 0.
-const WRITTEN: [(&[u8], (u64, &[u8]), &str, (Status, &[u8])); 5] = [
+const WRITTEN: [(&[u8], (u64, &[u8]), &str, (Status, &[u8])); 3] = [
     (
         b"put 0 aa\n",
         (32, b"\x01\x01\0\0\0\0\0\0\0\x01\0\0\0\xbb"),
@@ -47,18 +47,6 @@ const WRITTEN: [(&[u8], (u64, &[u8]), &str, (Status, &[u8])); 5] = [
         (32, b"\x01\x01\0\0\0\0\0\0\0\x01\0\0\0\xbb"),
         "redo dump",
         (Status::Done, b"0 bb\ncommands 1\n"),
-    ),
-    (
-        b"put 0 aa\n",
-        (32, b"\x01\x01\0\0\0\0\0\0\0\x41\0\0\0\xbb"),
-        "redo run",
-        (Status::Damaged, b"damaged objects 41\n"),
-    ),
-    (
-        b"",
-        (32, b"\x01\x05\0\0\0\0\0\0\0\x01\0\0\0\xbb"),
-        "redo run",
-        (Status::Damaged, b"damaged objects 33\n"),
     ),
     (
         b"",

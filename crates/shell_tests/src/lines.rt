@@ -11,7 +11,7 @@ use script_lines::{
 use std::alloc::Global;
 
 // A line of each form, and what it asks.
-const FORMS: [(&[u8], Line<'static>); 8] = [
+const FORMS: [(&[u8], Line<'static>); 11] = [
     (
         b"put 4294967295 00FfA9",
         Line::Put {
@@ -44,6 +44,9 @@ const FORMS: [(&[u8], Line<'static>); 8] = [
             second: 1,
         },
     ),
+    (b"exec 4294967295", Line::Exec { app: 4294967295 }),
+    (b"aread 3 4", Line::AppRead { app: 3, from: 4 }),
+    (b"awrite 3 4", Line::AppWrite { app: 3, to: 4 }),
     (b"get 4294967295", Line::Get { object: 4294967295 }),
     (b"force", Line::Force),
 ];
@@ -73,7 +76,7 @@ const SKIPPED: [&[u8]; 10] = [
     b"#\r\r",
 ];
 
-const BAD: [&[u8]; 53] = [
+const BAD: [&[u8]; 61] = [
     b"put",
     b"put 0",
     b"put 0 ",
@@ -113,6 +116,14 @@ const BAD: [&[u8]; 53] = [
     b"swap 0",
     b"swap 0 1 2",
     b"swap 0 4294967296",
+    b"exec",
+    b"exec 00",
+    b"exec 0 1",
+    b"Exec 0",
+    b"aread 0",
+    b"aread 0 1 2",
+    b"awrite 0 x",
+    b"awrite 0 1 2",
     b"get",
     b"get 00",
     b"get 0 1",

@@ -14,7 +14,7 @@ const NO_STORE: Run = ("redo run", b"get 0\n", Status::NotAStore, b"not a store\
 const USAGE: &[u8] = b"usage: redo init N CAP LIMIT | run | dump | demo --seed S --steps T\n";
 
 // Runs in one folder, empty at first, with a crash between them that loses what was not synced.
-const ROWS: [&[Run]; 17] = [
+const ROWS: [&[Run]; 20] = [
     &[
         NEW,
         (
@@ -127,6 +127,44 @@ const ROWS: [&[Run]; 17] = [
             b"force\nget 0\nget 1\nget 2\n",
             Status::Done,
             b"forced 6\n0102\n-\ndd\n",
+        ),
+    ],
+    // An application takes a step for each byte of its input.
+    &[
+        NEW,
+        (
+            "redo run",
+            b"put 1 050a\nexec 0\naread 0 1\nexec 0\nexec 0\nexec 0\nawrite 0 2\nget 2\nget 0\n",
+            Status::DoneWithRefusals,
+            b"ok\nrefused NoInput\nok\nok\nok\nrefused NoInput\nok\n05a5\n\
+                0200000000000000a500000000000000000000000200000005a5\n",
+        ),
+    ],
+    &[
+        NEW,
+        (
+            "redo run",
+            b"exec\nexec 0 1\naread 0\nawrite 0 x\naread 0 0\nawrite 8 8\nexec 8\n\
+                put 0 01\nexec 0\naread 0 1\nawrite 0 1\n",
+            Status::DoneWithRefusals,
+            b"bad\nbad\nbad\nbad\nrefused Same\nrefused NoObject\nrefused NoObject\n\
+                ok\nrefused NotApp\nrefused NotApp\nrefused NotApp\n",
+        ),
+    ],
+    // Its state has 24 bytes beside input and output. The second run does the steps of the log again.
+    &[
+        ("redo init 2 27 4150", b"", Status::Done, b""),
+        (
+            "redo run",
+            b"put 1 01020304\naread 0 1\nput 1 010203\naread 0 1\naread 0 1\nexec 0\nput 1 -\n",
+            Status::DoneWithRefusals,
+            b"ok\nrefused TooLarge\nok\nok\nrefused TooLarge\nok\nok\n",
+        ),
+        (
+            "redo run",
+            b"get 0\nexec 0\nawrite 0 1\nget 1\n",
+            Status::Done,
+            b"010000000000000001000000000000000200000002030100000001\nok\nok\n0121\n",
         ),
     ],
     // A store is not made twice, and stays as it is.

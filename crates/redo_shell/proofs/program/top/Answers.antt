@@ -1,4 +1,4 @@
-use Rattle.std.proofs.Common.{◌≡◌, ⊎_elim, inl, refl, subst, map, string_bytes}
+use Rattle.std.proofs.Common.{◌≡◌, ◌≢◌, ⊎_elim, inl, refl, subst, map, string_bytes}
 use Rattle.disk_model.specs.Disk.{LeavesOnly}
 use Rattle.formats.specs.declared.params.Params.{Params}
 use Rattle.op_codec.specs.AllOps.{all_meaning}
@@ -13,6 +13,8 @@ use Rattle.redo_shell.specs.Sessions.{run, init, other}
 use Rattle.redo_shell.proofs.WordLemmas.{only_params, run_not_dump, run_not_init, dump_not_init}
 use Rattle.redo_shell.proofs.ScriptLemmas.{enough_taken, not_so_few}
 use Rattle.redo_shell.proofs.ExactLemmas.{calm_run, no_store_exactly, damaged_exactly, whole_run, calm_told, calm_dump, calm_init}
+use Rattle.redo_shell.specs.declared.status.Status.TheVariants.{Memory as OutOfMemory}
+use Rattle.redo_shell.proofs.DamageLemmas.{first_said}
 use Rattle.redo_shell.proofs.KeepLemmas.{keeps_once}
 use Rattle.redo_shell.proofs.program.top.Goals as goal
 
@@ -42,12 +44,16 @@ returns-in-Some-Run-clause-session g c = record {
 }
 
 pub returns-in-Some-Run-clause-exactly_run : goal.returns-in-Some-Run-clause-exactly_run
-returns-in-Some-Run-clause-exactly_run g c = λ asks told calm. record {
-  no_store = no_store_exactly c.run.result (calm_run c.run.result calm c.run.ensures.status c.run.ensures.disk_fault c.run.ensures.read_fault c.run.ensures.say_fault)
-      (λ is. (c.run.ensures.no_store told is).0) (λ is. (c.run.ensures.damaged told is).2.gate) (c.run.ensures.memory told) (c.run.ensures.opened told) (opens_gate all_meaning);
-  damaged = λ memory. damaged_exactly c.run.result (calm_run c.run.result calm c.run.ensures.status c.run.ensures.disk_fault c.run.ensures.read_fault c.run.ensures.say_fault) memory
-      (λ is. (c.run.ensures.no_store told is).0) (λ is. (c.run.ensures.damaged told is).2.gate) (c.run.ensures.opened told) (λ image. (c.run.ensures.store told image).1);
-}
+returns-in-Some-Run-clause-exactly_run g c = λ asks told calm.
+    let old = g.M.Machine.disk c.args.machine.now in
+    let broken = λ (memory : c.run.result ≢ OutOfMemory). damaged_exactly c.run.result (calm_run c.run.result calm c.run.ensures.status c.run.ensures.disk_fault c.run.ensures.read_fault c.run.ensures.say_fault) memory
+    (λ is. (c.run.ensures.no_store told is).0) (λ is. (c.run.ensures.damaged told is).2.gate) (c.run.ensures.opened told) (λ image. (c.run.ensures.store told image).1) in
+    record {
+      no_store = no_store_exactly c.run.result (calm_run c.run.result calm c.run.ensures.status c.run.ensures.disk_fault c.run.ensures.read_fault c.run.ensures.say_fault)
+          (λ is. (c.run.ensures.no_store told is).0) (λ is. (c.run.ensures.damaged told is).2.gate) (c.run.ensures.memory told) (c.run.ensures.opened told) (opens_gate all_meaning);
+      damaged = broken;
+      said = λ memory. first_said old (g.M.Machine.disk c.run.new.machine) c.run.result (broken memory) (c.run.ensures.damaged told);
+    }
 
 pub returns-in-Some-Run-clause-exactly_too_long : goal.returns-in-Some-Run-clause-exactly_too_long
 returns-in-Some-Run-clause-exactly_too_long g c = λ asks files image told calm.
@@ -94,12 +100,16 @@ pub returns-in-Some-Dump-clause-exactly_run : goal.returns-in-Some-Dump-clause-e
 returns-in-Some-Dump-clause-exactly_run g c = λ asks. absurd (run_not_dump (map string_bytes c.args.words.now) asks (subst (λ (a : Asked). Asks (map string_bytes c.args.words.now) a) c.in-Some-Dump.field-0-is c.in-Some-Dump.ensures.some))
 
 pub returns-in-Some-Dump-clause-exactly_dump : goal.returns-in-Some-Dump-clause-exactly_dump
-returns-in-Some-Dump-clause-exactly_dump g c = λ asks told calm. record {
-  no_store = no_store_exactly c.dump.result (calm_told c.dump.result calm c.dump.ensures.status c.dump.ensures.disk_fault c.dump.ensures.say_fault)
-      (λ is. (c.dump.ensures.no_store told is).0) (λ is. (c.dump.ensures.damaged told is).2.gate) (c.dump.ensures.memory told) (c.dump.ensures.opened told) (opens_gate all_meaning);
-  damaged = λ memory. damaged_exactly c.dump.result (calm_told c.dump.result calm c.dump.ensures.status c.dump.ensures.disk_fault c.dump.ensures.say_fault) memory
-      (λ is. (c.dump.ensures.no_store told is).0) (λ is. (c.dump.ensures.damaged told is).2.gate) (c.dump.ensures.opened told) (λ image. (c.dump.ensures.store told image).1);
-}
+returns-in-Some-Dump-clause-exactly_dump g c = λ asks told calm.
+    let old = g.M.Machine.disk c.args.machine.now in
+    let broken = λ (memory : c.dump.result ≢ OutOfMemory). damaged_exactly c.dump.result (calm_told c.dump.result calm c.dump.ensures.status c.dump.ensures.disk_fault c.dump.ensures.say_fault) memory
+    (λ is. (c.dump.ensures.no_store told is).0) (λ is. (c.dump.ensures.damaged told is).2.gate) (c.dump.ensures.opened told) (λ image. (c.dump.ensures.store told image).1) in
+    record {
+      no_store = no_store_exactly c.dump.result (calm_told c.dump.result calm c.dump.ensures.status c.dump.ensures.disk_fault c.dump.ensures.say_fault)
+          (λ is. (c.dump.ensures.no_store told is).0) (λ is. (c.dump.ensures.damaged told is).2.gate) (c.dump.ensures.memory told) (c.dump.ensures.opened told) (opens_gate all_meaning);
+      damaged = broken;
+      said = λ memory. first_said old (g.M.Machine.disk c.dump.new.machine) c.dump.result (broken memory) (c.dump.ensures.damaged told);
+    }
 
 pub returns-in-Some-Dump-clause-dump_succeeds : goal.returns-in-Some-Dump-clause-dump_succeeds
 returns-in-Some-Dump-clause-dump_succeeds g c = λ p commands asks opens calm.

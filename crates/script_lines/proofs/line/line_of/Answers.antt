@@ -1,5 +1,5 @@
 use Rattle.std.proofs.Common.{◌≡◌, codes, rules}
-use Rattle.script_lines.proofs.FormLemmas.{no_put, no_copy, no_append, no_cut, no_sort, no_swap, no_get, no_force, nothing_found}
+use Rattle.script_lines.proofs.FormLemmas.{no_put, no_copy, no_append, no_cut, no_sort, no_swap, no_exec, no_aread, no_awrite, no_get, no_force, nothing_found}
 use Rattle.script_lines.proofs.line.line_of.Goals as goal
 
 pub returns-then-eq-clause-none : goal.returns-then-eq-clause-none
@@ -34,10 +34,25 @@ returns-then-eq-6-clause-none c =
 
 pub returns-then-eq-7-clause-none : goal.returns-then-eq-7-clause-none
 returns-then-eq-7-clause-none c =
-    let is : c.args.word.now ≡ codes "get" = search rules in
-    nothing_found _ _ _ c.map-then-eq-7.ensures.cases c.one_number.ensures.none (no_get _ _ is)
+    let is : c.args.word.now ≡ codes "exec" = search rules in
+    nothing_found _ _ _ c.map-then-eq-7.ensures.cases c.one_number.ensures.none (no_exec _ _ is)
 
 pub returns-then-eq-8-clause-none : goal.returns-then-eq-8-clause-none
 returns-then-eq-8-clause-none c =
+    let is : c.args.word.now ≡ codes "aread" = search rules in
+    nothing_found _ _ _ c.map-then-eq-8.ensures.cases c.two_numbers-then-eq-8.ensures.none (no_aread _ _ is)
+
+pub returns-then-eq-9-clause-none : goal.returns-then-eq-9-clause-none
+returns-then-eq-9-clause-none c =
+    let is : c.args.word.now ≡ codes "awrite" = search rules in
+    nothing_found _ _ _ c.map-then-eq-9.ensures.cases c.two_numbers-then-eq-9.ensures.none (no_awrite _ _ is)
+
+pub returns-then-eq-10-clause-none : goal.returns-then-eq-10-clause-none
+returns-then-eq-10-clause-none c =
+    let is : c.args.word.now ≡ codes "get" = search rules in
+    nothing_found _ _ _ c.map-then-eq-10.ensures.cases c.one_number-then-eq-10.ensures.none (no_get _ _ is)
+
+pub returns-then-eq-11-clause-none : goal.returns-then-eq-11-clause-none
+returns-then-eq-11-clause-none c =
     let is : c.args.word.now ≡ codes "force" = search rules in
-    nothing_found _ _ _ c.map-then-eq-8.ensures.cases c.no_field.ensures.none (no_force _ _ is)
+    nothing_found _ _ _ c.map-then-eq-11.ensures.cases c.no_field.ensures.none (no_force _ _ is)

@@ -1,0 +1,51 @@
+ghost use Rattle.std.specs.Prelude.{IfOk};
+ghost use Rattle.redo_shell.specs.Work.{AsksWork};
+
+use op_codec::AllOps;
+use op_meaning::{AppRead, AppWrite, Append, Copy, Cut, Exec, Put, Sort, Swap};
+use oper_core::{ByteList, Memory};
+use script_lines::{Line, hex_bytes, parse_line};
+use std::alloc::Global;
+
+/// What a line has the program do.
+#[derive(Drop)]
+pub enum Work {
+    /// Run this command.
+    Run(AllOps),
+    /// Tell the value of the object.
+    Tell { object: u32 },
+    /// Force the log.
+    Force,
+    /// Nothing: the line is skipped.
+    Nothing,
+    /// Say that the line is outside the grammar.
+    Bad,
+}
+
+impl Work {
+    /// What a line asks for, a put with its bytes. Fails by want of memory for these.
+    pub fn of_line(alloc: Global, line: &[u8]) -> Result<Self, Memory>
+        ensures { IfOk result (AsksWork line.now) }
+    {
+        let Ok(asked) = parse_line(line) else {
+            return Ok(Work::Bad);
+        };
+        match asked {
+            Line::Put { object, hex } => {
+                let value = ByteList::new(hex_bytes(alloc, hex)?);
+                Ok(Work::Run(AllOps::Put(Put::new(object, value))))
+            }
+            Line::Copy { from, to } => Ok(Work::Run(AllOps::Copy(Copy { from, to }))),
+            Line::Append { from, to } => Ok(Work::Run(AllOps::Append(Append { from, to }))),
+            Line::Cut { from, to, place } => Ok(Work::Run(AllOps::Cut(Cut { from, to, place }))),
+            Line::Sort { from, to, width } => Ok(Work::Run(AllOps::Sort(Sort { from, to, width }))),
+            Line::Swap { first, second } => Ok(Work::Run(AllOps::Swap(Swap { first, second }))),
+            Line::Exec { app } => Ok(Work::Run(AllOps::Exec(Exec { app }))),
+            Line::AppRead { app, from } => Ok(Work::Run(AllOps::AppRead(AppRead { app, from }))),
+            Line::AppWrite { app, to } => Ok(Work::Run(AllOps::AppWrite(AppWrite { app, to }))),
+            Line::Get { object } => Ok(Work::Tell { object }),
+            Line::Force => Ok(Work::Force),
+            Line::Skip => Ok(Work::Nothing),
+        }
+    }
+}
