@@ -1,4 +1,4 @@
--- Objects that are fetched keep their pairs, and tell them.
+-- Objects that are fetched keep their pairs, and report them.
 use Rattle.std.proofs.Common.{◌≡◌, ℕ, ◌<◌, ◌≤◌, ◌+◌, List, [], ◌∷◌, ◌++◌, length, map, take, slice_index, refl, sym, ap, ◌∙◌, subst, arith}
 use Rattle.std.specs.Prelude.{All}
 use Rattle.std.proofs.lemmas.List.{take_more}
@@ -12,7 +12,7 @@ use Rattle.stable_objects.specs.SlotLaws.{id_is}
 use Rattle.cache_manager.specs.Laid.{Laid, IsLaidOn, KeepsCells, values_in}
 use Rattle.cache_manager.specs.LaidLaws.{cells_twice}
 
--- where the machine tells its files, objects that are laid on the objects file keep their pairs and are still
+-- where the machine reports its files, objects that are laid on the objects file keep their pairs and are still
 abbrev pub Keeps : Disk → Laid → Laid → Type 0
 Keeps d old new = d.tells_files → IsLaidOn old (d.reads Objects) → KeepsCells (d.reads Objects) old new × IsLaidOn new (d.reads Objects)
 

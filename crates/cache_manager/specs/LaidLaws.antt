@@ -27,7 +27,7 @@ same_value (Some entry) one other some = refl
 pub cached_value : (laid : Laid) (x : ℕ) (one other : List ℕ) → IsSome (held laid.cache x) → values_in laid one x ≡ values_in laid other x
 cached_value laid x one other some = same_value (held laid.cache x) (cell_of laid.slots.params.cap x one) (cell_of laid.slots.params.cap x other) some
 
--- the identifier that is told without the file is that of the pair
+-- the identifier that is reported without the file is that of the pair
 id_or : (h : Option Entry) (id : ℕ) (cell : Cell) → id ≡ cell.id → lsn_or h id ≡ (cell_or h cell).id
 id_or None id cell same = same
 id_or (Some e) id cell same = refl

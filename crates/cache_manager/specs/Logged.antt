@@ -1,4 +1,4 @@
--- What an identity write needs, and what a refusal for want of memory leaves.
+-- What an identity write needs, and what a refusal out of memory leaves.
 use Rattle.std.specs.Prelude.{◌≡◌, ◌+◌, ◌<◌, ◌≤◌, ◌^◌, ℕ, length}
 use Rattle.log_frames.specs.LogView.{LogView, used_of, growth_of}
 use Rattle.log_records.specs.RecordLog.{RecordLogView}

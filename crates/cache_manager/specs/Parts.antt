@@ -77,7 +77,7 @@ pub record ShowsLog {O : Type 0} (m : Meaning O) (d : Disk) (log : RecordLogView
   pub tables : tables_in stable ≡ w.tables
   pub pending_tables : tables_in pending ≡ w.pending
 
--- Parts and files show a sound world in which nothing is left to replay and no group is open. The machine tells its
+-- Parts and files show a sound world in which nothing is left to replay and no group is open. The machine reports its
 -- files, and is settled.
 pub record Shows {O : Type 0} (m : Meaning O) (p : Params) (d : Disk) (it : Parts) (w : World O) : Type 0 where
   pub told : d.tells_files
@@ -87,7 +87,7 @@ pub record Shows {O : Type 0} (m : Meaning O) (p : Params) (d : Disk) (it : Part
   pub log : ShowsLog m d it.log w
 
 -- Store and files show a sound world in which no group is open, perhaps in the middle of a redo: the files show what is
--- stable of it. The machine tells its files, and is settled.
+-- stable of it. The machine reports its files, and is settled.
 pub record StoreShows {O : Type 0} (m : Meaning O) (p : Params) (d : Disk) (it : Store) (w : World O) : Type 0 where
   pub told : d.tells_files
   pub settled : IsSettled d

@@ -3,7 +3,7 @@ ghost use Rattle.std.specs.Prelude.{◌≡◌, ◌<◌, ◌≤◌, ◌+◌, ◌*
 ghost use Rattle.std.specs.List.{IsDistinct};
 ghost use Rattle.disk_model.specs.Disk.{Rises, Stays};
 ghost use Rattle.disk_model.specs.declared.machine.FileNo.TheVariants.{Objects as ObjectsFile};
-ghost use Rattle.formats.specs.Bytes.{IsOpenAt, IsShutAt};
+ghost use Rattle.formats.specs.Bytes.{IsOpenAt, IsClosedAt};
 ghost use Rattle.formats.specs.Objects.{IsInRange, IsObjectsFile, bounds_of, slot_place};
 ghost use Rattle.formats.specs.declared.params.Params.{Params as Numbers};
 ghost use Rattle.stable_objects.specs.Reading.{FailsBy, FailsAt, IsDamagedAt, IsNoDamage};
@@ -52,7 +52,7 @@ impl Objects {
         ensures read { (M.disk machine.old).tells_files → IfOk result (λ o. IsLaidOn o ((M.disk machine.old).reads ObjectsFile)) }
         ensures empty { IfOk result (λ o. (x : ℕ) → held o.cache x ≡ None) }
         ensures cause { IfErr result (FailsBy (Rises (M.disk machine.old).disk_faults (M.disk machine.new).disk_faults)
-            ((M.disk machine.old).tells_files → IsShutAt 0 ((M.disk machine.old).reads ObjectsFile))
+            ((M.disk machine.old).tells_files → IsClosedAt 0 ((M.disk machine.old).reads ObjectsFile))
             (FailsAt (λ place. (M.disk machine.old).tells_files → IsDamagedAt ((M.disk machine.old).reads ObjectsFile) place))) }
         ensures whole { (M.disk machine.old).tells_files → (p : Numbers) → IsObjectsFile p ((M.disk machine.old).reads ObjectsFile) → IfErr result IsNoDamage }
         ensures memory { (M.disk machine.old).tells_files → IsErrOf result SlotErr.Memory → IsOpenAt 0 ((M.disk machine.old).reads ObjectsFile) }
@@ -122,7 +122,7 @@ impl Objects {
         }
     }
 
-    /// Sees that an object is cached: where it is not, its slot is read. It fails as that does, and by want of memory.
+    /// Sees that an object is cached: where it is not, its slot is read. It fails as that does, and where it is out of memory.
     pub fn fetch<M: Machine>(&mut self, machine: &mut M, object: u32) -> Result<(), SlotErr>
         requires { object < self.old.slots.params.objects }
         ensures kept { Stays (M.disk machine.old) (M.disk machine.new) }

@@ -53,7 +53,7 @@ impl Cache {
     }
 
     /// Takes the memory that `set` needs for the object, beside what is taken for others. Nothing else changes, also
-    /// where memory is wanting. The room stays for good.
+    /// where it is out of memory. The room stays for good.
     pub fn make_room(&mut self, x: u32) -> Result<(), Memory>
         ensures room { OnOk result (HasRoom self.new x) }
         ensures same { IsUnchanged self.old self.new }

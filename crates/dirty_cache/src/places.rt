@@ -51,7 +51,7 @@ impl Places {
         self.places.get(&x)?.as_ref()
     }
 
-    /// Makes a place for the object, if it has none. Nothing else changes, also where memory is wanting.
+    /// Makes a place for the object, if it has none. Nothing else changes, also where it is out of memory.
     pub fn make(&mut self, x: u32) -> Result<(), Memory>
         ensures made { OnOk result (IsSome (lookup (nat_eq x) self.new)) }
         ensures entries { (y : ℕ) → entry_at self.new y ≡ entry_at self.old y }

@@ -42,7 +42,7 @@ fn a_new_log_has_34_bytes(rt: HostRuntime) -> Result<(), Fail> {
     Ok(())
 }
 
-// Makes room for a short payload, and adds it. It tells by how much the log grows.
+// Makes room for a short payload, and adds it. It reports by how much the log grows.
 pub fn add(log: &mut LogFile, payload: &[u8]) -> Result<u64, Fail> {
     let before = log.used();
     log.make_room(payload.len() as u64)?;

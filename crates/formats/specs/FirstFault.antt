@@ -8,7 +8,7 @@ use Rattle.disk_model.specs.declared.machine.FileNo.{FileNo}
 use Rattle.disk_model.specs.declared.machine.FileNo.TheVariants.{Objects, LogA, LogB}
 use Rattle.formats.specs.Bytes.{number_at, IsOpenAt}
 use Rattle.formats.specs.Objects.{IsObjectsFile, bounds_of, last_slot, identifier_at, length_at}
-use Rattle.formats.specs.Log.{Header, IsShutLog}
+use Rattle.formats.specs.Log.{Header, IsClosedLog}
 use Rattle.formats.specs.InForce.{HasHeader, IsInForce}
 use Rattle.formats.specs.Image.{IsWithin, params_in, place_in, IsOpenSlot, IsBlockFault, IsRecordFault, IsLateSlot}
 
@@ -23,7 +23,7 @@ pub check_moved : {P Q : Type 0} {F G : ℕ → Type 0} (at place : ℕ) → (P 
 check_moved at place there back behind (stops is wrong) = stops is (λ holds. wrong (back holds))
 check_moved at place there back behind (goes_on holds later) = goes_on (there holds) (behind later)
 
--- of checks in their order one place is told, if those behind tell one
+-- of checks in their order one place is reported, if those behind report one
 pub one_check : {P : Type 0} {F : ℕ → Type 0} (at p q : ℕ) → (F p → F q → p ≡ q) → Checks at P F p → Checks at P F q → p ≡ q
 one_check at p q one (stops here wrong) (stops there also) = here ∙ sym there
 one_check at p q one (stops here wrong) (goes_on holds later) = absurd (wrong holds)
@@ -70,7 +70,7 @@ ObjectsChecks file behind =
     Checks 13 (IsWithin 16 16384 (number_at 4 13 file)) (
     Checks 17 (IsWithin (2 * number_at 4 13 file + 4096) 536870912 (number_at 4 17 file)) behind)))
 
--- the checks of the objects file: the first that fails is told at this place
+-- the checks of the objects file: the first that fails is reported at this place
 abbrev pub IsFirstObjectsFault : List ℕ → ℕ → Type 0
 IsFirstObjectsFault file = ObjectsChecks file (Checks 0 (last_slot (params_in file) < length file) (SlotChecks file))
 
@@ -86,20 +86,20 @@ LogChecks file behind =
 abbrev pub HeaderChecks : List ℕ → ℕ → Type 0
 HeaderChecks file = LogChecks file (Checks 33 (33 < length file) NoMore)
 
--- the checks of one log file: the first that fails is told at this place
+-- the checks of one log file: the first that fails is reported at this place
 pub data IsFirstHeaderFault (file : List ℕ) : ℕ → Type 0 where
   no_bytes : file ≡ [] → IsFirstHeaderFault file 0
   opened : (place : ℕ) → IsOpenAt 0 file → HeaderChecks file place → IsFirstHeaderFault file place
 
 -- a log file by itself has no fault: its header gate is closed, or it has a header
 abbrev pub IsFineLog : List ℕ → Type 0
-IsFineLog file = IsShutLog file ⊎ ((header : Header) × HasHeader header file)
+IsFineLog file = IsClosedLog file ⊎ ((header : Header) × HasHeader header file)
 
--- the checks of the two logs: the first that fails is told in this file at this place
+-- the checks of the two logs: the first that fails is reported in this file at this place
 pub data IsFirstLogFault (files : Files) : FileNo → ℕ → Type 0 where
   in_log_a : (place : ℕ) → IsFirstHeaderFault (files LogA) place → IsFirstLogFault files LogA place
   in_log_b : (place : ℕ) → IsFineLog (files LogA) → IsFirstHeaderFault (files LogB) place → IsFirstLogFault files LogB place
-  both_shut : IsShutLog (files LogA) → IsShutLog (files LogB) → IsFirstLogFault files LogA 0
+  both_closed : IsClosedLog (files LogA) → IsClosedLog (files LogB) → IsFirstLogFault files LogA 0
   same_epoch : (a b : Header) → HasHeader a (files LogA) → HasHeader b (files LogB) → a.epoch ≡ b.epoch → IsFirstLogFault files LogB 9
   at_block : (active : FileNo) (header : Header) (place : ℕ) → IsInForce active header.epoch files → HasHeader header (files active) → IsBlockFault (files active) place
       → IsFirstLogFault files active place
@@ -113,7 +113,7 @@ pub record IsFirstLateSlot {O : Type 0} (m : Meaning O) (files : Files) (place :
 abbrev pub AreObjectsWhole : Files → Type 0
 AreObjectsWhole files = IsObjectsFile (params_in (files Objects)) (files Objects)
 
--- The checks of the files, in their order: the first that fails is told in this file at this place. It is in the objects
+-- The checks of the files, in their order: the first that fails is reported in this file at this place. It is in the objects
 -- file by itself; or in the logs; or in the records of the log in force, whose blocks are whole; or an open slot has a
 -- number that none of these records has.
 pub data IsFirstFault {O : Type 0} (meaning : Bounds → Meaning O) (files : Files) : FileNo → ℕ → Type 0 where
@@ -123,7 +123,7 @@ pub data IsFirstFault {O : Type 0} (meaning : Bounds → Meaning O) (files : Fil
       → IsRecordFault (meaning (bounds_of (params_in (files Objects)))) (files active) place → IsFirstFault meaning files active place
   at_late_slot : (place : ℕ) → AreObjectsWhole files → IsFirstLateSlot (meaning (bounds_of (params_in (files Objects)))) files place → IsFirstFault meaning files Objects place
 
--- The objects gate is open, and the first check of the files that fails is told in this file at this place.
+-- The objects gate is open, and the first check of the files that fails is reported in this file at this place.
 pub record IsDamaged {O : Type 0} (meaning : Bounds → Meaning O) (files : Files) (file : FileNo) (place : ℕ) : Type 0 where
   pub gate : IsOpenAt 0 (files Objects)
   pub fault : IsFirstFault meaning files file place

@@ -3,7 +3,7 @@ use Rattle.std.specs.Prelude.{◌≡◌, ◌≢◌, ◌<◌, ◌⊎◌, ◌++◌
 use Rattle.disk_model.specs.Disk.{Files}
 use Rattle.disk_model.specs.declared.machine.FileNo.{FileNo}
 use Rattle.disk_model.specs.declared.machine.FileNo.TheVariants.{Objects, LogA, LogB}
-use Rattle.formats.specs.Log.{Header, IsHeader, IsWholeLog, IsShutLog, header_bytes}
+use Rattle.formats.specs.Log.{Header, IsHeader, IsWholeLog, IsClosedLog, header_bytes}
 
 -- the other of the two logs
 abbrev pub other_of : FileNo → FileNo
@@ -21,7 +21,7 @@ pub record HasHeader (header : Header) (file : List ℕ) : Type 0 where
 -- a log that is not in force, where this is the epoch of the one that is: its header gate is closed, or its epoch is
 -- smaller
 abbrev pub IsPassive : ℕ → List ℕ → Type 0
-IsPassive epoch file = IsShutLog file ⊎ ((header : Header) × HasHeader header file × (header.epoch < epoch))
+IsPassive epoch file = IsClosedLog file ⊎ ((header : Header) × HasHeader header file × (header.epoch < epoch))
 
 -- the log in this file, with this epoch, is the one in force
 pub record IsInForce (active : FileNo) (epoch : ℕ) (files : Files) : Type 0 where

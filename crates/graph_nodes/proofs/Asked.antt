@@ -41,7 +41,7 @@ empty-iff : (xs : List ℕ) → (length xs ≡ 0) ↔ (xs ≡ [])
 empty-iff [] = ((λ e. refl), (λ e. refl))
 empty-iff (x ∷ xs) = ((λ e. absurd (omega (arith, e))), (λ e. ap length e))
 
--- the count of a list tells whether it is empty
+-- the count of a list reports whether it is empty
 pub free-iff : (xs : List ℕ) (count : ℕ) → count ≡ length xs → IsTrue (nat_eq count 0) ↔ (xs ≡ [])
 free-iff xs count is = (
   (λ t. (empty-iff xs).0 (sym is ∙ eqb-true count 0 t)),

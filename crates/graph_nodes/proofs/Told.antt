@@ -101,7 +101,7 @@ same-start n = record { name = refl; names = refl; room = refl }
 pub same-on : (a b c : Naming) → AreNamesSame a b → AreNamesSame b c → AreNamesSame a c
 same-on a b c f g = record { name = g.name ∙ f.name; names = g.names ∙ f.names; room = g.room ∙ f.room }
 
--- after a list was settled, and its node told of
+-- after a list was settled, and its node reported of
 pub told-settled : (node : List ℕ) (old new : Lists) (t : ℕ) (is_free : Bool) (n told : Naming) → AreTold node old n → node_at node (name_at n.name t) ≡ t → ((m : ℕ) → (m ≡ t → ⊥) → list_at new.lists m ≡ list_at old.lists m) → (IsTrue is_free ↔ (list_at new.lists t ≡ [])) → IsTold t is_free n told → AreTold node new told
 told-settled node old new t is_free n told are member others free is = record {
   named = λ k m. ap (λ (xs : List ℕ). name_at xs (node_at node k)) is.name ∙ are.named k (sym (ap (λ (xs : List Bool). mark_at xs k) is.names) ∙ m);
@@ -338,7 +338,7 @@ marked-as node b held h ia ib n more eb eh el en em ei is =
       );
     }
 
--- the marks tell names and minimal nodes
+-- the marks report names and minimal nodes
 pub names-iff : (g : Graph) (into : Lists) (n : Naming) (k : ℕ) → AreNamed g.node n.name → IsMarked g.node g.held into n → IsTrue (mark_at n.names k) ↔ IsName g k
 names-iff g into n k named is =
     let least = least-iff g.node n.name k named in (

@@ -118,7 +118,7 @@ impl SlotGraph {
         self.node[slot as usize]
     }
 
-    /// Takes the memory that the next `add_slot` needs. Nothing else changes, also where memory is wanting.
+    /// Takes the memory that the next `add_slot` needs. Nothing else changes, also where it is out of memory.
     pub fn make_room(&mut self) -> Result<(), Memory>
         ensures arcs { self.new.arcs ≡ self.old.arcs }
         ensures node { self.new.node ≡ self.old.node }

@@ -61,7 +61,7 @@ impl Names {
         self.minimal.next(from)
     }
 
-    /// Takes the memory that the next `add` needs. Nothing else changes, also where memory is wanting.
+    /// Takes the memory that the next `add` needs. Nothing else changes, also where it is out of memory.
     pub(crate) fn make_room(&mut self) -> Result<(), Memory>
         ensures name { self.new.name ≡ self.old.name }
         ensures names { self.new.names ≡ self.old.names }

@@ -77,7 +77,7 @@ opened header payloads payload rest c is = record {
   gate = 0;
   rest = rest;
   split = is ∙ sym whole;
-  shut = omega arith;
+  closed = omega arith;
 }
   where
     whole : (header_bytes header ++ blocks (payloads ++ payload ∷ [])) ++ 0 ∷ rest ≡ (header_bytes header ++ blocks payloads) ++ 1 ∷ (frame payload ++ rest)
@@ -87,5 +87,5 @@ opened header payloads payload rest c is = record {
 pub either : (header : Header) (payloads : List (List ℕ)) (payload rest c : List ℕ) (g : ℕ) → c ≡ (header_bytes header ++ blocks payloads) ++ g ∷ (frame payload ++ rest) → IsLog header payloads c ⊎ IsLog header (payloads ++ payload ∷ []) c
 either header payloads payload rest c g is = elim (cases_eq g 1) [
   | inl is_open ↦ inr (opened header payloads payload rest c (is ∙ ap (λ (k : ℕ). (header_bytes header ++ blocks payloads) ++ k ∷ (frame payload ++ rest)) is_open))
-  | inr shut ↦ inl (record { gate = g; rest = frame payload ++ rest; split = is; shut = shut })
+  | inr closed ↦ inl (record { gate = g; rest = frame payload ++ rest; split = is; closed = closed })
 ]

@@ -8,7 +8,7 @@ use Rattle.disk_model.specs.declared.machine.FileNo.{FileNo}
 use Rattle.disk_model.specs.declared.machine.FileNo.TheVariants.{Objects, LogA, LogB}
 use Rattle.formats.specs.Bytes.{byte_at, IsOpenAt}
 use Rattle.formats.specs.InForce.{other_of, HasHeader, IsPassive, IsInForce}
-use Rattle.formats.specs.Log.{Header, header_bytes, IsHeader, IsWholeLog, IsShutLog}
+use Rattle.formats.specs.Log.{Header, header_bytes, IsHeader, IsWholeLog, IsClosedLog}
 use Rattle.formats.specs.Image.{IsBlockFault}
 use Rattle.formats.specs.FirstFault.{NoMore, LogChecks, IsFirstHeaderFault, opened, IsFineLog, IsFirstLogFault, in_log_a, in_log_b, at_block}
 use Rattle.log_frames.specs.Choosing.{SeenIn, IsChosen}
@@ -25,9 +25,9 @@ is_empty [] n long none = refl
 is_empty (b ∷ rest) n long none = absurd (omega (arith, long, none))
 
 -- a closed gate that is read is one of the file
-pub shut_read : (file into : List ℕ) (n : ℕ) → into ≡ padded file 0 33 → (get_or into 0 0 ≡ 1 → ⊥) → n ≡ length file → (n ≡ 0 → ⊥) → IsShutLog file
-shut_read [] into n is shut long some = some long
-shut_read (g ∷ rest) into n is shut long some = λ opened. shut (ap (λ (l : List ℕ). get_or l 0 0) is ∙ get_or-padded (g ∷ rest) 0 33 0 (omega arith) ∙ opened)
+pub closed_read : (file into : List ℕ) (n : ℕ) → into ≡ padded file 0 33 → (get_or into 0 0 ≡ 1 → ⊥) → n ≡ length file → (n ≡ 0 → ⊥) → IsClosedLog file
+closed_read [] into n is closed long some = some long
+closed_read (g ∷ rest) into n is closed long some = λ opened. closed (ap (λ (l : List ℕ). get_or l 0 0) is ∙ get_or-padded (g ∷ rest) 0 33 0 (omega arith) ∙ opened)
 
 -- 33 bytes of a header, and one behind
 pub header_stands : (h : Header) (file : List ℕ) → IsHeader h → take 33 file ≡ header_bytes h → 33 < length file → HasHeader h file

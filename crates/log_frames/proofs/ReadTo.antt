@@ -6,7 +6,7 @@ use Rattle.std.proofs.Math.Seq.{take-add}
 use Rattle.std.proofs.lemmas.Bool.{cases_lt}
 use Rattle.byteorder.specs.Endian.{little_bytes}
 use Rattle.disk_model.specs.Disk.{read_of}
-use Rattle.formats.specs.Bytes.{byte_at, IsOpenAt, IsShutAt}
+use Rattle.formats.specs.Bytes.{byte_at, IsOpenAt, IsClosedAt}
 use Rattle.formats.specs.Log.{Header, header_bytes, block, blocks, IsHeader, IsPayload, IsWholeLog}
 use Rattle.formats.specs.Image.{IsBlockFault}
 use Rattle.log_frames.specs.Reading.{IsReadTo, IsBlockHead, IsBroken, EndsBlocks, placed}
@@ -47,7 +47,7 @@ whole_log h file gate is front first e = record {
     gate = byte_at gate file;
     rest = drop (gate + 1) file;
     split = parts file gate e.payloads e.read (e.read.within first) ∙ ap (λ (l : List ℕ). (l ++ blocks e.payloads) ++ byte_at gate file ∷ drop (gate + 1) file) front;
-    shut = e.shut;
+    closed = e.closed;
   };
   whole = e.read.whole;
 }
@@ -93,11 +93,11 @@ finds_more file gate len found p f h at bytes =
     }
 
 -- what is found up to the first closed gate is what the log holds
-pub finds_all : (h : Header) (payloads : List (List ℕ)) (file : List ℕ) (gate : ℕ) (found : List Payload) → IsWholeLog h payloads file → Finds file gate found → IsShutAt gate file → found ≡ placed payloads
-finds_all h payloads file gate found is f shut =
+pub finds_all : (h : Header) (payloads : List (List ℕ)) (file : List ℕ) (gate : ℕ) (found : List Payload) → IsWholeLog h payloads file → Finds file gate found → IsClosedAt gate file → found ≡ placed payloads
+finds_all h payloads file gate found is f closed =
     let front : take 33 file ≡ header_bytes h =
     ap (λ (l : List ℕ). take 33 l) (is.log.split ∙ append_assoc (header_bytes h) (blocks payloads) (is.log.gate ∷ is.log.rest))
     ∙ take_at (header_bytes h) (blocks payloads ++ is.log.gate ∷ is.log.rest) 33 (length-header_bytes h) in
     let first : 33 < length file = omega (arith, ap length is.log.split, length-append (header_bytes h ++ blocks payloads) (is.log.gate ∷ is.log.rest), length-append (header_bytes h) (blocks payloads), length-header_bytes h) in
-    let same = one_log h h f.payloads payloads file (whole_log h file gate is.in_range front first (record { payloads = f.payloads; read = f.read; shut = shut })) is in
+    let same = one_log h h f.payloads payloads file (whole_log h file gate is.in_range front first (record { payloads = f.payloads; read = f.read; closed = closed })) is in
     f.items ∙ ap placed same.1

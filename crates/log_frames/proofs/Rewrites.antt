@@ -10,42 +10,42 @@ use Rattle.disk_model.specs.Disk.{Files, Disk, IsDisk, Runs, Stays, Same, In, To
 use Rattle.disk_model.specs.Moments.{runs_twice, runs_wider, runs_then_stays, settled_again, from_reads, first_call, goes_on, started, weaker}
 use Rattle.disk_model.specs.declared.machine.FileNo.{FileNo}
 use Rattle.disk_model.specs.declared.machine.FileNo.TheVariants.{Objects, LogA, LogB}
-use Rattle.formats.specs.Log.{Header, header_fields, block, blocks, end_of, IsHeader, IsPayload, IsWholeLog, IsShutLog}
+use Rattle.formats.specs.Log.{Header, header_fields, block, blocks, end_of, IsHeader, IsPayload, IsWholeLog, IsClosedLog}
 use Rattle.formats.specs.InForce.{other_of, HasHeader, IsPassive, IsInForce, HoldsLog}
 use Rattle.log_frames.specs.LogView.{LogView}
 use Rattle.log_frames.specs.Forcing.{IsAtRest, IsLogAt}
 use Rattle.log_frames.specs.Laws.{length-block, blocks-push, has_header}
-use Rattle.log_frames.specs.Rewriting.{bytes_of, KeepsShut, IsFront, IsPrepared, IsPassiveOrNew, next_header, rewritten, IsOldOrNew}
+use Rattle.log_frames.specs.Rewriting.{bytes_of, KeepsClosed, IsFront, IsPrepared, IsPassiveOrNew, next_header, rewritten, IsOldOrNew}
 use Rattle.log_frames.specs.declared.payload.Payload.{Payload}
 
 -- a write behind the header gate keeps it closed
-pub torn_keeps : (at n : ℕ) (old new : List ℕ) → 1 ≤ at → Torn at n old new → KeepsShut old new
-torn_keeps at n [] new le torn shut = absurd shut
-torn_keeps at n (g ∷ rest) [] le torn shut = absurd (omega (arith, torn.no_shorter))
-torn_keeps at n (g ∷ rest) (b ∷ more) le torn shut =
+pub torn_keeps : (at n : ℕ) (old new : List ℕ) → 1 ≤ at → Torn at n old new → KeepsClosed old new
+torn_keeps at n [] new le torn closed = absurd closed
+torn_keeps at n (g ∷ rest) [] le torn closed = absurd (omega (arith, torn.no_shorter))
+torn_keeps at n (g ∷ rest) (b ∷ more) le torn closed =
     let same : b ≡ g = sym (get_or-take (min at (length (g ∷ rest))) (b ∷ more) 0 0 (omega (arith, le))) ∙ ap (λ (l : List ℕ). get_or l 0 0) torn.before ∙ get_or-take at (g ∷ rest) 0 0 le in
-    λ is. shut (sym same ∙ is)
+    λ is. closed (sym same ∙ is)
 
-pub keeps_none : (file : FileNo) (a : Files) → In file KeepsShut a a
-keeps_none file a = record { changed = λ shut. shut; others = λ other is_other. refl }
+pub keeps_none : (file : FileNo) (a : Files) → In file KeepsClosed a a
+keeps_none file a = record { changed = λ closed. closed; others = λ other is_other. refl }
 
-pub keeps_write : (old new : Disk) (file : FileNo) (at n : ℕ) → 1 ≤ at → Runs (In file (Torn at n)) Same old new → Runs (In file KeepsShut) Same old new
-keeps_write old new file at n le run = runs_wider old new (In file (Torn at n)) (In file KeepsShut) (λ a b is. record { changed = torn_keeps at n (a file) (b file) le is.changed; others = is.others }) run
+pub keeps_write : (old new : Disk) (file : FileNo) (at n : ℕ) → 1 ≤ at → Runs (In file (Torn at n)) Same old new → Runs (In file KeepsClosed) Same old new
+keeps_write old new file at n le run = runs_wider old new (In file (Torn at n)) (In file KeepsClosed) (λ a b is. record { changed = torn_keeps at n (a file) (b file) le is.changed; others = is.others }) run
 
-pub keeps_twice : (old mid new : Disk) (file : FileNo) → Runs (In file KeepsShut) Same old mid → Runs (In file KeepsShut) Same mid new → Runs (In file KeepsShut) Same old new
-keeps_twice old mid new file first second = runs_twice old mid new (In file KeepsShut)
-    (λ a b c x y. record { changed = λ shut. y.changed (x.changed shut); others = λ other is_other. y.others other is_other ∙ x.others other is_other })
+pub keeps_twice : (old mid new : Disk) (file : FileNo) → Runs (In file KeepsClosed) Same old mid → Runs (In file KeepsClosed) Same mid new → Runs (In file KeepsClosed) Same old new
+keeps_twice old mid new file first second = runs_twice old mid new (In file KeepsClosed)
+    (λ a b c x y. record { changed = λ closed. y.changed (x.changed closed); others = λ other is_other. y.others other is_other ∙ x.others other is_other })
     first second
 
 -- one write more behind the header gate
-pub keeps_more : (old mid new : Disk) (file : FileNo) (at n : ℕ) → 1 ≤ at → Runs (In file KeepsShut) Same old mid → Runs (In file (Torn at n)) Same mid new → Runs (In file KeepsShut) Same old new
+pub keeps_more : (old mid new : Disk) (file : FileNo) (at n : ℕ) → 1 ≤ at → Runs (In file KeepsClosed) Same old mid → Runs (In file (Torn at n)) Same mid new → Runs (In file KeepsClosed) Same old new
 keeps_more old mid new file at n le first second = keeps_twice old mid new file first (keeps_write mid new file at n le second)
 
 -- a sync after the writes settles all again
-pub keeps_settled : (old mid new : Disk) (file : FileNo) → IsSettled old → Runs (In file KeepsShut) Same old mid → Stays mid new → IsSettledIn file new → IsSettled new
+pub keeps_settled : (old mid new : Disk) (file : FileNo) → IsSettled old → Runs (In file KeepsClosed) Same old mid → Stays mid new → IsSettledIn file new → IsSettled new
 keeps_settled old mid new file settled first second here =
-    let run = runs_then_stays old mid new (In file KeepsShut) first second in
-    settled_again old new file KeepsShut KeepsShut run.ends settled run.time run.crash (λ told. run.reads (run.begins.telling told)) here
+    let run = runs_then_stays old mid new (In file KeepsClosed) first second in
+    settled_again old new file KeepsClosed KeepsClosed run.ends settled run.time run.crash (λ told. run.reads (run.begins.telling told)) here
 
 -- bytes written right behind a front make it longer
 pub front_grows : (front bytes a c : List ℕ) (at : ℕ) → at ≡ length front → IsFront front a → Holds at bytes a c → IsFront (front ++ bytes) c
@@ -90,9 +90,9 @@ module _ (ps : List Payload) (i : ℕ) (p : Payload) (here : p ≡ get_or ps i p
       subst IsPayload there (all i [] (omega (arith, less, length-map ps (λ (q : Payload). q.bytes))))
 
 -- a closed file begins with its gate
-pub gate_front : (a : List ℕ) → IsShutLog a → IsFront (get_or a 0 0 ∷ []) a
-gate_front [] shut = absurd shut
-gate_front (g ∷ rest) shut = (rest, refl)
+pub gate_front : (a : List ℕ) → IsClosedLog a → IsFront (get_or a 0 0 ∷ []) a
+gate_front [] closed = absurd closed
+gate_front (g ∷ rest) closed = (rest, refl)
 
 -- the last write makes all but the header gate
 pub prepared_by : (h : Header) (ps : List (List ℕ)) (g : ℕ) (b c : List ℕ) (at : ℕ) → at ≡ length ((g ∷ header_fields h) ++ blocks ps) → IsFront ((g ∷ header_fields h) ++ blocks ps) b → Holds at (0 ∷ []) b c → IsPrepared h ps c
@@ -109,13 +109,13 @@ torn_first : (old new : List ℕ) → 0 < length old → Torn 0 1 old new → ne
 torn_first old [] some torn = absurd (omega (arith, torn.no_shorter))
 torn_first old (b ∷ new) some torn = ap (λ (l : List ℕ). b ∷ l) torn.after
 
-is_shut : (b : ℕ) (tail new : List ℕ) → new ≡ b ∷ tail → b ≢ 1 → IsShutLog new
-is_shut b tail new is shut = subst IsShutLog (sym is) shut
+is_closed_log : (b : ℕ) (tail new : List ℕ) → new ≡ b ∷ tail → b ≢ 1 → IsClosedLog new
+is_closed_log b tail new is closed = subst IsClosedLog (sym is) closed
 
 whole_by : (h : Header) (ps : List (List ℕ)) (old new : List ℕ) → IsHeader h → All IsPayload ps → IsPrepared h ps old → new ≡ 1 ∷ drop 1 old → IsWholeLog h ps new
 whole_by h ps old new in_range whole prepared is = record {
   in_range = in_range;
-  log = record { gate = 0; rest = prepared.rest; split = is ∙ ap (λ (l : List ℕ). 1 ∷ drop 1 l) prepared.split; shut = omega arith };
+  log = record { gate = 0; rest = prepared.rest; split = is ∙ ap (λ (l : List ℕ). 1 ∷ drop 1 l) prepared.split; closed = omega arith };
   whole = whole;
 }
 
@@ -129,7 +129,7 @@ passive_or_whole epoch h ps old new in_range whole prepared torn =
     let is = torn_first old new (omega (arith, ap length prepared.split)) torn in
     elim (cases_eq (get_or new 0 0) 1) [
       | inl open_gate ↦ inr (whole_by h ps old new in_range whole prepared (is ∙ ap (λ (b : ℕ). b ∷ drop 1 old) open_gate))
-      | inr shut ↦ inl (inl (is_shut (get_or new 0 0) (drop 1 old) new is shut))
+      | inr closed ↦ inl (inl (is_closed_log (get_or new 0 0) (drop 1 old) new is closed))
     ]
 
 -- an open log with a smaller epoch stays passive while its gate is closed
@@ -138,7 +138,7 @@ closing_passive epoch h old new has less torn =
     let is = torn_first old new (omega (arith, ap length has.split)) torn in
     elim (cases_eq (get_or new 0 0) 1) [
       | inl open_gate ↦ inr (h, record { in_range = has.in_range; gate = has.gate; rest = has.rest; split = is ∙ ap (λ (b : ℕ). b ∷ drop 1 old) open_gate ∙ ap (λ (l : List ℕ). 1 ∷ drop 1 l) has.split }, less)
-      | inr shut ↦ inl (is_shut (get_or new 0 0) (drop 1 old) new is shut)
+      | inr closed ↦ inl (is_closed_log (get_or new 0 0) (drop 1 old) new is closed)
     ]
 
 pub any_run : (old new : Disk) (file : FileNo) (change : List ℕ → List ℕ → Type 0) → Runs (In file change) Same old new → Runs (In file Any) Same old new
@@ -154,14 +154,14 @@ module _ (old : Disk) (file : FileNo) (epoch : ℕ) (h : Header) (ps : List (Lis
   P = IsPassiveOrNew old file epoch h ps
 
   -- while the header gate is closed
-  pub leaves_shutting : (new : Disk) → Runs (In file (Torn 0 1)) Same old new → (old.tells_files → IsShutLog (old.reads file) → Stays old new) → LeavesOnly old new P
-  leaves_shutting new run idle = first_call old new P told run.time (λ c s left. elim passive [
-    | inl shut ↦
-        let stays = idle (run.begins.telling told) shut in
+  pub leaves_closing : (new : Disk) → Runs (In file (Torn 0 1)) Same old new → (old.tells_files → IsClosedLog (old.reads file) → Stays old new) → LeavesOnly old new P
+  leaves_closing new run idle = first_call old new P told run.time (λ c s left. elim passive [
+    | inl closed ↦
+        let stays = idle (run.begins.telling told) closed in
         let from = from_reads old new Same Same told settled stays.crash c s left in
         record {
           each_file = record {
-            changed = inl (inl (subst (λ (f : Files). IsShutLog (f file)) (sym from.0) shut));
+            changed = inl (inl (subst (λ (f : Files). IsClosedLog (f file)) (sym from.0) closed));
             others = λ other is_other. ap (λ (f : Files). f other) from.0;
           };
           nothing_said = from.1;

@@ -68,7 +68,7 @@ module _ (old : Disk) (file : FileNo) (gate : ℕ) (header : Header) (payloads :
       let behind = torn_behind front log.gate gate log.rest place n (c file) torn in
       record {
         each_file = record {
-          changed = inl (before (c file) (record { gate = log.gate; rest = behind.0; split = behind.1; shut = log.shut }));
+          changed = inl (before (c file) (record { gate = log.gate; rest = behind.0; split = behind.1; closed = log.closed }));
           others = from.0.others;
         };
         nothing_said = from.1;

@@ -1,14 +1,14 @@
 -- Which log is chosen, by what is seen of both.
 use Rattle.std.specs.Prelude.{◌≡◌, ℕ, List, length, Option, Some, None}
 use Rattle.disk_model.specs.Disk.{Files}
-use Rattle.formats.specs.Log.{IsShutLog}
+use Rattle.formats.specs.Log.{IsClosedLog}
 use Rattle.formats.specs.InForce.{HasHeader, IsInForce}
 use Rattle.log_frames.specs.Reading.{header_of}
 use Rattle.log_frames.specs.declared.seen.Seen.{Seen}
 
 -- what is seen of a log file: a closed header gate, or a header
 abbrev pub SeenIn : List ℕ → Option Seen → Type 0
-SeenIn file None = IsShutLog file
+SeenIn file None = IsClosedLog file
 SeenIn file (Some seen) = HasHeader (header_of seen.header) file × (seen.size ≡ length file)
 
 -- this one is in force

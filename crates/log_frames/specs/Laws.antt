@@ -9,14 +9,14 @@ use Rattle.byteorder.specs.Endian.{little_bytes, little_number}
 use Rattle.byteorder.specs.Numbers.{length-bytes_low_first, little_number-reads_back}
 use Rattle.formats.specs.Bytes.{number_at, IsOpenAt}
 use Rattle.formats.specs.InForce.{HasHeader, IsPassive, IsInForce, HoldsLog}
-use Rattle.formats.specs.Log.{Header, header_bytes, block, blocks, end_of, IsHeader, IsPayload, IsWholeLog, IsShutLog}
+use Rattle.formats.specs.Log.{Header, header_bytes, block, blocks, end_of, IsHeader, IsPayload, IsWholeLog, IsClosedLog}
 use Rattle.disk_model.specs.Disk.{Files, In}
 use Rattle.disk_model.specs.declared.machine.FileNo.{FileNo}
 use Rattle.disk_model.specs.declared.machine.FileNo.TheVariants.{Objects, LogA, LogB}
 use Rattle.log_frames.specs.Reading.{placed_from}
 use Rattle.log_frames.specs.declared.payload.Payload.{Payload}
 use Rattle.formats.specs.Image.{IsHeaderFault, magic, epoch, base, commands, short, IsBlockFault, IsLogFault, no_byte, in_header, none_open, one_epoch, in_block}
-use Rattle.formats.specs.FirstFault.{stops, goes_on, one_check, NoMore, HeaderChecks, IsFineLog, IsFirstHeaderFault, no_bytes, opened, IsFirstLogFault, in_log_a, in_log_b, both_shut, same_epoch, at_block}
+use Rattle.formats.specs.FirstFault.{stops, goes_on, one_check, NoMore, HeaderChecks, IsFineLog, IsFirstHeaderFault, no_bytes, opened, IsFirstLogFault, in_log_a, in_log_b, both_closed, same_epoch, at_block}
 
 -- a header is 33 bytes
 pub length-header_bytes : (h : Header) → length (header_bytes h) ≡ 33
@@ -101,13 +101,13 @@ first_byte a b x y same = ap (λ (l : List ℕ). get_or l 0 0) same
 
 -- the same bytes are of one list of blocks, up to the first closed gate
 one_list : (ps qs : List (List ℕ)) (g h : ℕ) (x y : List ℕ) → All IsPayload ps → All IsPayload qs → g ≢ 1 → h ≢ 1 → blocks ps ++ g ∷ x ≡ blocks qs ++ h ∷ y → ps ≡ qs
-one_list [] [] g h x y all_p all_q shut_g shut_h same = refl
-one_list [] (q ∷ qs) g h x y all_p all_q shut_g shut_h same = absurd (shut_g (first_byte g 1 x _ same))
-one_list (p ∷ ps) [] g h x y all_p all_q shut_g shut_h same = absurd (shut_h (sym (first_byte 1 h _ y same)))
-one_list (p ∷ ps) (q ∷ qs) g h x y all_p all_q shut_g shut_h same =
+one_list [] [] g h x y all_p all_q closed_g closed_h same = refl
+one_list [] (q ∷ qs) g h x y all_p all_q closed_g closed_h same = absurd (closed_g (first_byte g 1 x _ same))
+one_list (p ∷ ps) [] g h x y all_p all_q closed_g closed_h same = absurd (closed_h (sym (first_byte 1 h _ y same)))
+one_list (p ∷ ps) (q ∷ qs) g h x y all_p all_q closed_g closed_h same =
     let both = block_cancel p q (blocks ps ++ g ∷ x) (blocks qs ++ h ∷ y) (All-head IsPayload p ps all_p) (All-head IsPayload q qs all_q)
     (sym (append_assoc (block p) (blocks ps) (g ∷ x)) ∙ same ∙ append_assoc (block q) (blocks qs) (h ∷ y)) in
-    let rest = one_list ps qs g h x y (All-tail IsPayload p ps all_p) (All-tail IsPayload q qs all_q) shut_g shut_h both.1 in
+    let rest = one_list ps qs g h x y (All-tail IsPayload p ps all_p) (All-tail IsPayload q qs all_q) closed_g closed_h both.1 in
     λ i. both.0 i ∷ rest i
 
 -- a file holds one header and one list of payloads
@@ -119,7 +119,7 @@ one_log h k ps qs file a b =
     let headers = one_header h k _ _ a.in_range b.in_range same in
     let behind = append_cancel_left (header_bytes h) (blocks ps ++ a.log.gate ∷ a.log.rest) (blocks qs ++ b.log.gate ∷ b.log.rest)
     (same ∙ ap (λ (header : Header). header_bytes header ++ (blocks qs ++ b.log.gate ∷ b.log.rest)) (sym headers)) in
-    (headers, one_list ps qs _ _ _ _ a.whole b.whole a.log.shut b.log.shut behind)
+    (headers, one_list ps qs _ _ _ _ a.whole b.whole a.log.closed b.log.closed behind)
 
 -- a whole block, and something behind it
 record Ahead (bytes : List ℕ) : Type 0 where
@@ -131,19 +131,19 @@ record Ahead (bytes : List ℕ) : Type 0 where
 
 -- an open gate behind some of the blocks is the gate of the next one
 ahead : (ps qs : List (List ℕ)) (g : ℕ) (x y : List ℕ) → All IsPayload ps → All IsPayload qs → g ≢ 1 → blocks ps ++ g ∷ x ≡ blocks qs ++ 1 ∷ y → Ahead (1 ∷ y)
-ahead [] [] g x y all_p all_q shut same = absurd (shut (first_byte g 1 x y same))
-ahead [] (q ∷ qs) g x y all_p all_q shut same = absurd (shut (first_byte g 1 x _ same))
-ahead (p ∷ ps) [] g x y all_p all_q shut same = record {
+ahead [] [] g x y all_p all_q closed same = absurd (closed (first_byte g 1 x y same))
+ahead [] (q ∷ qs) g x y all_p all_q closed same = absurd (closed (first_byte g 1 x _ same))
+ahead (p ∷ ps) [] g x y all_p all_q closed same = record {
   payload = p;
   rest = blocks ps ++ g ∷ x;
   is_payload = All-head IsPayload p ps all_p;
   split = sym same ∙ append_assoc (block p) (blocks ps) (g ∷ x);
   some = omega (arith, length-append (blocks ps) (g ∷ x));
 }
-ahead (p ∷ ps) (q ∷ qs) g x y all_p all_q shut same =
+ahead (p ∷ ps) (q ∷ qs) g x y all_p all_q closed same =
     let both = block_cancel p q (blocks ps ++ g ∷ x) (blocks qs ++ 1 ∷ y) (All-head IsPayload p ps all_p) (All-head IsPayload q qs all_q)
     (sym (append_assoc (block p) (blocks ps) (g ∷ x)) ∙ same ∙ append_assoc (block q) (blocks qs) (1 ∷ y)) in
-    ahead ps qs g x y (All-tail IsPayload p ps all_p) (All-tail IsPayload q qs all_q) shut both.1
+    ahead ps qs g x y (All-tail IsPayload p ps all_p) (All-tail IsPayload q qs all_q) closed both.1
 
 -- where a block fault is, no whole block stands
 not_ahead : (file : List ℕ) (place : ℕ) (fault : IsBlockFault file place) → Ahead (1 ∷ fault.rest) → ⊥
@@ -172,7 +172,7 @@ no_block_fault h ps file place is fault =
     sym (append_assoc (header_bytes h) (blocks ps) (is.log.gate ∷ is.log.rest)) ∙ sym is.log.split ∙ split in
     let behind : blocks ps ++ is.log.gate ∷ is.log.rest ≡ blocks fault.payloads ++ 1 ∷ fault.rest =
     sym (drop_at (header_bytes h) (blocks ps ++ is.log.gate ∷ is.log.rest) 33 (length-header_bytes h)) ∙ ap (λ (l : List ℕ). drop 33 l) same ∙ drop_at fault.header (blocks fault.payloads ++ 1 ∷ fault.rest) 33 fault.long in
-    not_ahead file place fault (ahead ps fault.payloads is.log.gate is.log.rest fault.rest is.whole fault.whole is.log.shut behind)
+    not_ahead file place fault (ahead ps fault.payloads is.log.gate is.log.rest fault.rest is.whole fault.whole is.log.closed behind)
 
 -- the same bytes are of one list of blocks, up to the first open gate behind which no whole block stands
 one_open : (ps qs : List (List ℕ)) (x y : List ℕ) → All IsPayload ps → All IsPayload qs → blocks ps ++ 1 ∷ x ≡ blocks qs ++ 1 ∷ y → (Ahead (1 ∷ x) → ⊥) → (Ahead (1 ∷ y) → ⊥) → ps ≡ qs
@@ -247,8 +247,8 @@ pub same_header : (h k : Header) (file : List ℕ) → HasHeader h file → HasH
 same_header h k file a b = one_header h k (a.gate ∷ a.rest) (b.gate ∷ b.rest) a.in_range b.in_range (sym a.split ∙ b.split)
 
 -- a file with a header is not closed
-pub not_shut : (h : Header) (file : List ℕ) → HasHeader h file → IsShutLog file → ⊥
-not_shut h file has shut = (subst IsShutLog has.split shut) refl
+pub not_closed : (h : Header) (file : List ℕ) → HasHeader h file → IsClosedLog file → ⊥
+not_closed h file has closed = (subst IsClosedLog has.split closed) refl
 
 -- nor empty
 pub not_empty : (h : Header) (file : List ℕ) → HasHeader h file → file ≡ [] → ⊥
@@ -256,7 +256,7 @@ not_empty h file has none = omega (arith, ap length (sym has.split ∙ none))
 
 -- beside a log in force, a file with a header has a smaller epoch
 pub smaller : (n : ℕ) (h : Header) (file : List ℕ) → IsPassive n file → HasHeader h file → h.epoch < n
-smaller n h file (inl shut) has = absurd (not_shut h file has shut)
+smaller n h file (inl closed) has = absurd (not_closed h file has closed)
 smaller n h file (inr other) has = omega (arith, other.2, ap (λ (k : Header). k.epoch) (same_header h other.0 file has other.1))
 
 -- a fault of a header is one behind an open gate
@@ -269,12 +269,12 @@ opens_by file _ (short is_open cut) = is_open
 
 -- a file with no log in force has no fault that a reader looks for
 passive_sound : (n : ℕ) (file : List ℕ) (place : ℕ) → IsPassive n file → IsHeaderFault file place → ⊥
-passive_sound n [] place (inl shut) fault = shut
-passive_sound n (g ∷ rest) place (inl shut) fault = shut (opens_by (g ∷ rest) place fault)
+passive_sound n [] place (inl closed) fault = closed
+passive_sound n (g ∷ rest) place (inl closed) fault = closed (opens_by (g ∷ rest) place fault)
 passive_sound n file place (inr other) fault = no_fault_of_header other.0 file place other.1 fault
 
 passive_some : (n : ℕ) (file : List ℕ) → IsPassive n file → file ≡ [] → ⊥
-passive_some n file (inl shut) none = subst IsShutLog none shut
+passive_some n file (inl closed) none = subst IsClosedLog none closed
 passive_some n file (inr other) none = not_empty other.0 file other.1 none
 
 -- two headers of logs in force, each of which is beside the other
@@ -296,8 +296,8 @@ no_log_fault LogA h ps files _ _ is (in_header LogB place a_log fault) = passive
 no_log_fault LogB h ps files _ _ is (in_header Objects place a_log fault) = a_log refl
 no_log_fault LogB h ps files _ _ is (in_header LogA place a_log fault) = passive_sound h.epoch (files LogA) place is.in_force.other fault
 no_log_fault LogB h ps files _ _ is (in_header LogB place a_log fault) = no_header_fault h ps (files LogB) place is.log fault
-no_log_fault LogA h ps files _ _ is (none_open a b) = not_shut h (files LogA) (has_header h ps (files LogA) is.log) a
-no_log_fault LogB h ps files _ _ is (none_open a b) = not_shut h (files LogB) (has_header h ps (files LogB) is.log) b
+no_log_fault LogA h ps files _ _ is (none_open a b) = not_closed h (files LogA) (has_header h ps (files LogA) is.log) a
+no_log_fault LogB h ps files _ _ is (none_open a b) = not_closed h (files LogB) (has_header h ps (files LogB) is.log) b
 no_log_fault LogA h ps files _ _ is (one_epoch j k has_j has_k same) =
     omega (arith, same, smaller h.epoch k (files LogB) is.in_force.other has_k, ap (λ (x : Header). x.epoch) (same_header h j (files LogA) (has_header h ps (files LogA) is.log) has_j))
 no_log_fault LogB h ps files _ _ is (one_epoch j k has_j has_k same) =
@@ -370,7 +370,7 @@ header_fault_is files file _ a_log (opened place is_open fault) = in_header file
 pub first_is_log_fault : (files : Files) (file : FileNo) (place : ℕ) → IsFirstLogFault files file place → IsLogFault files file place
 first_is_log_fault files _ _ (in_log_a place fault) = header_fault_is files LogA place (λ e. cc) fault
 first_is_log_fault files _ _ (in_log_b place fine fault) = header_fault_is files LogB place (λ e. cc) fault
-first_is_log_fault files _ _ (both_shut a b) = none_open a b
+first_is_log_fault files _ _ (both_closed a b) = none_open a b
 first_is_log_fault files _ _ (same_epoch a b has_a has_b same) = one_epoch a b has_a has_b same
 first_is_log_fault files _ _ (at_block active header place in_force has fault) = in_block active header place in_force has fault
 
@@ -380,9 +380,9 @@ no_first_log_fault active h ps files file place is fault = no_log_fault active h
 
 -- a log file that has no fault by itself passes its checks
 fine_passes : (file : List ℕ) (place : ℕ) → IsFineLog file → IsFirstHeaderFault file place → ⊥
-fine_passes [] _ (inl shut) fault = shut
-fine_passes (g ∷ rest) _ (inl shut) (no_bytes none) = absurd (omega (arith, ap length none))
-fine_passes (g ∷ rest) _ (inl shut) (opened place is_open fault) = shut is_open
+fine_passes [] _ (inl closed) fault = closed
+fine_passes (g ∷ rest) _ (inl closed) (no_bytes none) = absurd (omega (arith, ap length none))
+fine_passes (g ∷ rest) _ (inl closed) (opened place is_open fault) = closed is_open
 fine_passes file _ (inr other) (no_bytes none) = not_empty other.0 file other.1 none
 fine_passes file _ (inr other) (opened place is_open fault) = no_fault_of_header other.0 file place other.1 (checks_fault file place is_open fault)
 
@@ -395,7 +395,7 @@ one_header_fault file _ _ (opened p is_open a) (opened q also b) =
     one_check 1 p q (one_check 9 p q (one_check 17 p q (one_check 25 p q (one_check 33 p q never)))) a b
 
 passive_fine : (n : ℕ) (file : List ℕ) → IsPassive n file → IsFineLog file
-passive_fine n file (inl shut) = inl shut
+passive_fine n file (inl closed) = inl closed
 passive_fine n file (inr other) = inr (other.0, other.1)
 
 -- beside a log in force with its header, both files have no fault by themselves
@@ -414,11 +414,11 @@ one_active LogB LogB h k files in_a has_a in_b has_b = refl
 one_active LogA LogB h k files in_a has_a in_b has_b = absurd (not_both h k (files LogA) (files LogB) has_a has_b in_a.other in_b.other)
 one_active LogB LogA h k files in_a has_a in_b has_b = absurd (not_both h k (files LogB) (files LogA) has_a has_b in_a.other in_b.other)
 
--- beside a log in force not both are shut, and no other has its epoch
-not_both_shut : (active : FileNo) (h : Header) (files : Files) → IsInForce active h.epoch files → HasHeader h (files active) → IsShutLog (files LogA) → IsShutLog (files LogB) → ⊥
-not_both_shut Objects h files in_force has a b = in_force.a_log refl
-not_both_shut LogA h files in_force has a b = not_shut h (files LogA) has a
-not_both_shut LogB h files in_force has a b = not_shut h (files LogB) has b
+-- beside a log in force not both are closed, and no other has its epoch
+not_both_closed : (active : FileNo) (h : Header) (files : Files) → IsInForce active h.epoch files → HasHeader h (files active) → IsClosedLog (files LogA) → IsClosedLog (files LogB) → ⊥
+not_both_closed Objects h files in_force has a b = in_force.a_log refl
+not_both_closed LogA h files in_force has a b = not_closed h (files LogA) has a
+not_both_closed LogB h files in_force has a b = not_closed h (files LogB) has b
 
 not_same_epoch : (active : FileNo) (h j k : Header) (files : Files) → IsInForce active h.epoch files → HasHeader h (files active) → HasHeader j (files LogA) → HasHeader k (files LogB) → j.epoch ≡ k.epoch → ⊥
 not_same_epoch Objects h j k files in_force has has_j has_k same = in_force.a_log refl
@@ -431,27 +431,27 @@ not_same_epoch LogB h j k files in_force has has_j has_k same =
 pub one_log_fault : (files : Files) (f g : FileNo) (p q : ℕ) → IsFirstLogFault files f p → IsFirstLogFault files g q → (f ≡ g) × (p ≡ q)
 one_log_fault files _ _ _ _ (in_log_a p a) (in_log_a q b) = (refl, one_header_fault (files LogA) p q a b)
 one_log_fault files _ _ _ _ (in_log_a p a) (in_log_b q also b) = absurd (fine_passes (files LogA) p also a)
-one_log_fault files _ _ _ _ (in_log_a p a) (both_shut u v) = absurd (fine_passes (files LogA) p (inl u) a)
+one_log_fault files _ _ _ _ (in_log_a p a) (both_closed u v) = absurd (fine_passes (files LogA) p (inl u) a)
 one_log_fault files _ _ _ _ (in_log_a p a) (same_epoch j l has_j has_l alike) = absurd (fine_passes (files LogA) p (inr (j, has_j)) a)
 one_log_fault files _ _ _ _ (in_log_a p a) (at_block y k q in_y has_y b) = absurd (fine_passes (files LogA) p (both_fine y k files in_y has_y).0 a)
 one_log_fault files _ _ _ _ (in_log_b p fine a) (in_log_a q b) = absurd (fine_passes (files LogA) q fine b)
 one_log_fault files _ _ _ _ (in_log_b p fine a) (in_log_b q also b) = (refl, one_header_fault (files LogB) p q a b)
-one_log_fault files _ _ _ _ (in_log_b p fine a) (both_shut u v) = absurd (fine_passes (files LogB) p (inl v) a)
+one_log_fault files _ _ _ _ (in_log_b p fine a) (both_closed u v) = absurd (fine_passes (files LogB) p (inl v) a)
 one_log_fault files _ _ _ _ (in_log_b p fine a) (same_epoch j l has_j has_l alike) = absurd (fine_passes (files LogB) p (inr (l, has_l)) a)
 one_log_fault files _ _ _ _ (in_log_b p fine a) (at_block y k q in_y has_y b) = absurd (fine_passes (files LogB) p (both_fine y k files in_y has_y).1 a)
-one_log_fault files _ _ _ _ (both_shut s t) (in_log_a q b) = absurd (fine_passes (files LogA) q (inl s) b)
-one_log_fault files _ _ _ _ (both_shut s t) (in_log_b q also b) = absurd (fine_passes (files LogB) q (inl t) b)
-one_log_fault files _ _ _ _ (both_shut s t) (both_shut u v) = (refl, refl)
-one_log_fault files _ _ _ _ (both_shut s t) (same_epoch j l has_j has_l alike) = absurd (not_shut j (files LogA) has_j s)
-one_log_fault files _ _ _ _ (both_shut s t) (at_block y k q in_y has_y b) = absurd (not_both_shut y k files in_y has_y s t)
+one_log_fault files _ _ _ _ (both_closed s t) (in_log_a q b) = absurd (fine_passes (files LogA) q (inl s) b)
+one_log_fault files _ _ _ _ (both_closed s t) (in_log_b q also b) = absurd (fine_passes (files LogB) q (inl t) b)
+one_log_fault files _ _ _ _ (both_closed s t) (both_closed u v) = (refl, refl)
+one_log_fault files _ _ _ _ (both_closed s t) (same_epoch j l has_j has_l alike) = absurd (not_closed j (files LogA) has_j s)
+one_log_fault files _ _ _ _ (both_closed s t) (at_block y k q in_y has_y b) = absurd (not_both_closed y k files in_y has_y s t)
 one_log_fault files _ _ _ _ (same_epoch h k has_h has_k same) (in_log_a q b) = absurd (fine_passes (files LogA) q (inr (h, has_h)) b)
 one_log_fault files _ _ _ _ (same_epoch h k has_h has_k same) (in_log_b q also b) = absurd (fine_passes (files LogB) q (inr (k, has_k)) b)
-one_log_fault files _ _ _ _ (same_epoch h k has_h has_k same) (both_shut u v) = absurd (not_shut h (files LogA) has_h u)
+one_log_fault files _ _ _ _ (same_epoch h k has_h has_k same) (both_closed u v) = absurd (not_closed h (files LogA) has_h u)
 one_log_fault files _ _ _ _ (same_epoch h k has_h has_k same) (same_epoch j l has_j has_l alike) = (refl, refl)
 one_log_fault files _ _ _ _ (same_epoch h k has_h has_k same) (at_block y n q in_y has_y b) = absurd (not_same_epoch y n h k files in_y has_y has_h has_k same)
 one_log_fault files _ _ _ _ (at_block x h p in_x has_x a) (in_log_a q b) = absurd (fine_passes (files LogA) q (both_fine x h files in_x has_x).0 b)
 one_log_fault files _ _ _ _ (at_block x h p in_x has_x a) (in_log_b q also b) = absurd (fine_passes (files LogB) q (both_fine x h files in_x has_x).1 b)
-one_log_fault files _ _ _ _ (at_block x h p in_x has_x a) (both_shut u v) = absurd (not_both_shut x h files in_x has_x u v)
+one_log_fault files _ _ _ _ (at_block x h p in_x has_x a) (both_closed u v) = absurd (not_both_closed x h files in_x has_x u v)
 one_log_fault files _ _ _ _ (at_block x h p in_x has_x a) (same_epoch j l has_j has_l alike) = absurd (not_same_epoch x h j l files in_x has_x has_j has_l alike)
 one_log_fault files _ _ _ _ (at_block x h p in_x has_x a) (at_block y k q in_y has_y b) =
     let same = one_active x y h k files in_x has_x in_y has_y in

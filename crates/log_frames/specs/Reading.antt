@@ -4,7 +4,7 @@ use Rattle.byteorder.specs.Endian.{little_bytes}
 use Rattle.disk_model.specs.Disk.{read_of}
 use Rattle.disk_model.specs.declared.machine.FileNo.{FileNo}
 use Rattle.formats.specs.Log.{Header, blocks, end_of, IsPayload}
-use Rattle.formats.specs.Bytes.{number_at, IsOpenAt, IsShutAt}
+use Rattle.formats.specs.Bytes.{number_at, IsOpenAt, IsClosedAt}
 use Rattle.formats.specs.Image.{IsWithin}
 use Rattle.log_frames.specs.declared.header.Header.{Header as Read}
 use Rattle.log_frames.specs.declared.log_err.LogErr.{LogErr}
@@ -29,7 +29,7 @@ FailsBy rises fault (Damaged file place) = fault file place
 FailsBy rises fault (Exhausted epoch) = ⊥
 FailsBy rises fault Memory = Unit {0}
 
--- it tells of damage in the files
+-- it reports damage in the files
 abbrev pub TellsDamage : LogErr → Type 0
 TellsDamage DiskFault = ⊥
 TellsDamage (LogFull used need limit) = ⊥
@@ -46,7 +46,7 @@ pub record IsBlockHead (gate len : ℕ) (file : List ℕ) : Type 0 where
 
 -- what stands at this gate: the block of a payload of so many bytes, or none where it is closed
 abbrev pub FoundAt : ℕ → List ℕ → Option ℕ → Type 0
-FoundAt gate file None = IsShutAt gate file
+FoundAt gate file None = IsClosedAt gate file
 FoundAt gate file (Some len) = IsBlockHead gate len file
 
 -- this gate is open, but its block or the gate behind it isn't within the file, or its length is out of range
@@ -65,7 +65,7 @@ pub record IsReadTo (file : List ℕ) (gate : ℕ) (payloads : List (List ℕ)) 
 pub record EndsBlocks (file : List ℕ) (gate : ℕ) : Type 0 where
   pub payloads : List (List ℕ)
   pub read : IsReadTo file gate payloads
-  pub shut : IsShutAt gate file
+  pub closed : IsClosedAt gate file
 
 -- a call that hands on why another failed
 pub fails_on : (rises rises' : Type 0) (fault fault' : FileNo → ℕ → Type 0) (e : LogErr) → (rises → rises') → ((file : FileNo) (place : ℕ) → fault file place → fault' file place)
@@ -80,7 +80,7 @@ fails_on rises rises' fault fault' Memory risen there fails = fails
 abbrev pub header_of : Read → Header
 header_of h = record { epoch = h.epoch; base = h.base; commands = h.commands }
 
--- where no fault is there, none is told
+-- where no fault is there, none is reported
 pub none_told : (rises : Type 0) (fault : FileNo → ℕ → Type 0) (e : LogErr) → ((file : FileNo) (place : ℕ) → fault file place → ⊥) → FailsBy rises fault e → TellsDamage e → ⊥
 none_told rises fault DiskFault none fails tells = tells
 none_told rises fault (LogFull used need limit) none fails tells = tells

@@ -2,7 +2,7 @@
 use Rattle.std.specs.Prelude.{◌≡◌, ◌⊎◌, ◌<◌, ◌≤◌, ◌+◌, ◌^◌, ℕ, List, [], ◌∷◌, ◌++◌, map}
 use Rattle.disk_model.specs.Disk.{Files, Disk, In, Any}
 use Rattle.disk_model.specs.declared.machine.FileNo.{FileNo}
-use Rattle.formats.specs.Log.{Header, header_fields, blocks, end_of, IsShutLog, IsWholeLog}
+use Rattle.formats.specs.Log.{Header, header_fields, blocks, end_of, IsClosedLog, IsWholeLog}
 use Rattle.formats.specs.InForce.{other_of, IsPassive, HoldsLog}
 use Rattle.log_frames.specs.LogView.{LogView, used_of}
 use Rattle.log_frames.specs.declared.log_err.LogErr.{LogErr}
@@ -14,8 +14,8 @@ abbrev pub bytes_of : List Payload → List (List ℕ)
 bytes_of payloads = map (λ (p : Payload). p.bytes) payloads
 
 -- a log file that is closed stays so
-abbrev pub KeepsShut : List ℕ → List ℕ → Type 0
-KeepsShut old new = IsShutLog old → IsShutLog new
+abbrev pub KeepsClosed : List ℕ → List ℕ → Type 0
+KeepsClosed old new = IsClosedLog old → IsClosedLog new
 
 -- a file begins with these bytes
 abbrev pub IsFront : List ℕ → List ℕ → Type 0

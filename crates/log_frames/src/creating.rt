@@ -2,7 +2,7 @@
 ghost use Rattle.std.specs.Prelude.{◌≡◌, ◌≢◌, [], ◌∷◌, ◌++◌, OnOk, IfErr};
 ghost use Rattle.disk_model.specs.Disk.{Rises, Runs, Stays, Same, In, Torn, IsSettled};
 ghost use Rattle.disk_model.specs.declared.machine.FileNo.TheVariants.{LogA, LogB};
-ghost use Rattle.formats.specs.Log.{header_fields, new_header, IsShutLog};
+ghost use Rattle.formats.specs.Log.{header_fields, new_header, IsClosedLog};
 ghost use Rattle.log_frames.specs.Creating.{LogsAlone, IsNewLog};
 
 use crate::layout::{CLOSED, HEADER_BYTES, MAGIC, OPEN};
@@ -11,11 +11,11 @@ use byteorder::{ByteOrder, LittleEndian};
 use disk_model::{FileNo, Machine, write_through};
 
 // Closes a header gate where it is open, and writes a first byte where there is none.
-pub fn shut<M: Machine>(machine: &mut M, file: FileNo) -> Result<(), LogErr>
+pub fn close<M: Machine>(machine: &mut M, file: FileNo) -> Result<(), LogErr>
     ensures runs { Runs (In file (Torn 0 1)) Same (M.disk machine.old) (M.disk machine.new) }
     // A closed gate is not written.
-    ensures idle { (M.disk machine.old).tells_files → IsShutLog ((M.disk machine.old).reads file) → Stays (M.disk machine.old) (M.disk machine.new) }
-    ensures shut { (M.disk machine.old).tells_files → OnOk result (IsShutLog ((M.disk machine.new).reads file)) }
+    ensures idle { (M.disk machine.old).tells_files → IsClosedLog ((M.disk machine.old).reads file) → Stays (M.disk machine.old) (M.disk machine.new) }
+    ensures closed { (M.disk machine.old).tells_files → OnOk result (IsClosedLog ((M.disk machine.new).reads file)) }
     ensures settled { IsSettled (M.disk machine.old) → OnOk result (IsSettled (M.disk machine.new)) }
     ensures cause { IfErr result (λ e. (e ≡ LogErr.DiskFault) × Rises (M.disk machine.old).disk_faults (M.disk machine.new).disk_faults) }
 {
@@ -47,8 +47,8 @@ impl LogFile {
         ensures settled { IsSettled (M.disk machine.old) → OnOk result (IsSettled (M.disk machine.new)) }
         ensures cause { IfErr result (λ e. (e ≡ LogErr.DiskFault) × Rises (M.disk machine.old).disk_faults (M.disk machine.new).disk_faults) }
     {
-        shut(machine, FileNo::LogA)?;
-        shut(machine, FileNo::LogB)?;
+        close(machine, FileNo::LogA)?;
+        close(machine, FileNo::LogB)?;
         write_through(machine, FileNo::LogA, 1, &new_front())?;
         write_through(machine, FileNo::LogA, 0, &[OPEN])?;
         Ok(())

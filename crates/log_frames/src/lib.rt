@@ -2,7 +2,7 @@
 //! or absent.
 //!
 //! The one contract is [`LogFile::force`]: a crash at any moment of it leaves the payloads from before it, with what
-//! waited as one block more or without. The crate stands on disk_model, whose machines it writes to, and on formats,
+//! waited as one block more or without. The crate depends on disk_model, whose machines it writes to, and on formats,
 //! which says what the bytes of a log are.
 #![tactic(auto)]
 

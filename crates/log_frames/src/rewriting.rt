@@ -2,13 +2,13 @@
 ghost use Rattle.std.specs.Prelude.{◌≡◌, ◌⊎◌, ◌<◌, ◌≤◌, ◌+◌, ◌^◌, [], ◌∷◌, ◌++◌, List, ℕ, length, All, OnOk, OnErr, IfErr, IfOk};
 ghost use Rattle.byteorder.specs.Endian.{little_bytes};
 ghost use Rattle.disk_model.specs.Disk.{Rises, Runs, Stays, LeavesOnly, In, Any, Same, Torn, IsSettled};
-ghost use Rattle.formats.specs.Log.{header_fields, block, blocks, end_of, IsHeader, IsPayload, IsWholeLog, IsShutLog};
+ghost use Rattle.formats.specs.Log.{header_fields, block, blocks, end_of, IsHeader, IsPayload, IsWholeLog, IsClosedLog};
 ghost use Rattle.formats.specs.InForce.{other_of, IsPassive, IsInForce};
 ghost use Rattle.log_frames.specs.Reading.{header_of};
 ghost use Rattle.log_frames.specs.Forcing.{IsAtRest};
-ghost use Rattle.log_frames.specs.Rewriting.{bytes_of, KeepsShut, IsFront, IsPrepared, IsPassiveOrNew, IsOldOrNew, rewritten, file_length, RewriteFails};
+ghost use Rattle.log_frames.specs.Rewriting.{bytes_of, KeepsClosed, IsFront, IsPrepared, IsPassiveOrNew, IsOldOrNew, rewritten, file_length, RewriteFails};
 
-use crate::creating::shut;
+use crate::creating::close;
 use crate::forcing::open_gate;
 use crate::header::Header;
 use crate::layout::{CLOSED, FIRST_BLOCK, MAGIC, MAX_LOG, MAX_NUMBER, OPEN};
@@ -59,7 +59,7 @@ fn put_block<M: Machine>(
     requires place { 1 ≤ gate }
     requires fits { gate < 2 ^ 63 }
     requires short { length bytes.now ≤ 2 ^ 30 }
-    ensures runs { Runs (In file KeepsShut) Same (M.disk machine.old) (M.disk machine.new) }
+    ensures runs { Runs (In file KeepsClosed) Same (M.disk machine.old) (M.disk machine.new) }
     ensures written { (M.disk machine.old).tells_files → (front : List ℕ) → gate ≡ length front → IsFront front ((M.disk machine.old).reads file)
         → OnOk result (IsFront (front ++ block bytes.now) ((M.disk machine.new).reads file)) }
     ensures cause { IfErr result (λ e. (e ≡ LogErr.DiskFault) × Rises (M.disk machine.old).disk_faults (M.disk machine.new).disk_faults) }
@@ -77,7 +77,7 @@ fn put_blocks<M: Machine>(
 ) -> Result<u64, LogErr>
     requires whole { All IsPayload (bytes_of payloads.now) }
     requires fits { end_of (bytes_of payloads.now) < 2 ^ 63 }
-    ensures runs { Runs (In file KeepsShut) Same (M.disk machine.old) (M.disk machine.new) }
+    ensures runs { Runs (In file KeepsClosed) Same (M.disk machine.old) (M.disk machine.new) }
     ensures end { IfOk result (λ end. end ≡ end_of (bytes_of payloads.now)) }
     ensures written { (M.disk machine.old).tells_files → (front : List ℕ) → 33 ≡ length front → IsFront front ((M.disk machine.old).reads file)
         → OnOk result (IsFront (front ++ blocks (bytes_of payloads.now)) ((M.disk machine.new).reads file)) }
@@ -101,8 +101,8 @@ fn prepare<M: Machine>(
 ) -> Result<(), LogErr>
     requires whole { All IsPayload (bytes_of payloads.now) }
     requires fits { end_of (bytes_of payloads.now) < 2 ^ 63 }
-    ensures runs { Runs (In file KeepsShut) Same (M.disk machine.old) (M.disk machine.new) }
-    ensures prepared { (M.disk machine.old).tells_files → IsShutLog ((M.disk machine.old).reads file)
+    ensures runs { Runs (In file KeepsClosed) Same (M.disk machine.old) (M.disk machine.new) }
+    ensures prepared { (M.disk machine.old).tells_files → IsClosedLog ((M.disk machine.old).reads file)
         → OnOk result (IsPrepared (header_of header) (bytes_of payloads.now) ((M.disk machine.new).reads file)) }
     ensures settled { IsSettled (M.disk machine.old) → OnOk result (IsSettled (M.disk machine.new)) }
     ensures cause { IfErr result (λ e. (e ≡ LogErr.DiskFault) × Rises (M.disk machine.old).disk_faults (M.disk machine.new).disk_faults) }
@@ -130,7 +130,7 @@ fn write_log<M: Machine>(
         → OnOk result (IsSettled (M.disk machine.new) × IsWholeLog (header_of header) (bytes_of payloads.now) ((M.disk machine.new).reads file)) }
     ensures cause { IfErr result (λ e. (e ≡ LogErr.DiskFault) × Rises (M.disk machine.old).disk_faults (M.disk machine.new).disk_faults) }
 {
-    shut(machine, file)?;
+    close(machine, file)?;
     prepare(machine, file, header, payloads)?;
     open_gate(machine, file, 0)?;
     Ok(())

@@ -181,7 +181,7 @@ module _ {O : Type 0} (m : Meaning O) where
   pub new_commands : (h : Header) (base : ℕ) (records : List (Record O)) → IsHeader h → AreRecords m h.base h.base records → h.base ≤ base → h.commands + length (commands_of (left_out base records)) < base
   new_commands h base records range are low = let below = left_below m base h.base h.base records are in omega (arith, range.commands, below, low)
 
--- where it tells no fault of the disk, it made no call
+-- where it reports no fault of the disk, it made no call
 pub rewrite_refused : (old mid new : Disk) (log : LogView) (bytes : List (List ℕ)) (e : LogErr) → Stays old mid → ((log.header.epoch ≡ 2 ^ 62) ⊎ (2 ^ 48 < file_length bytes) → new ≡ mid)
     → Below (Rises mid.disk_faults new.disk_faults) log bytes e → e ≢ DiskFault → Stays old new
 rewrite_refused old mid new log bytes DiskFault kept idle fails apart = absurd (apart refl)

@@ -64,13 +64,13 @@ pub record IsBrokenIn {O : Type 0} (m : Meaning O) (base : ℕ) (payloads : List
 abbrev pub AllFit : List Payload → Type 0
 AllFit payloads = All (λ p. p.place + length p.bytes < 2 ^ 64) payloads
 
--- the first check of the logs that fails is told in this file at this place, or the first of the records of the log in
+-- the first check of the logs that fails is reported in this file at this place, or the first of the records of the log in
 -- force, whose blocks are whole
 pub data IsLoadFault {O : Type 0} (m : Meaning O) (files : Files) : FileNo → ℕ → Type 0 where
   in_blocks : (file : FileNo) (place : ℕ) → IsFirstLogFault files file place → IsLoadFault m files file place
   in_record : (active : FileNo) (header : Header) (place : ℕ) → IsInForce active header.epoch files → HasHeader header (files active) → IsRecordFault m (files active) place → IsLoadFault m files active place
 
--- The log's records are told to be damaged in this file at this place: it is the log's file, and where that is a log
+-- The log's records are reported to be damaged in this file at this place: it is the log's file, and where that is a log
 -- with this header, a record of it breaks its format there.
 abbrev pub IsTailFault : {O : Type 0} → Meaning O → Disk → LogView → FileNo → ℕ → Type 0
 IsTailFault m d log file place =

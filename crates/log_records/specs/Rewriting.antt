@@ -96,7 +96,7 @@ pub record IsRewrittenPartly {O : Type 0} (m : Meaning O) (d : Disk) (log : LogV
       ⊎ HoldsInForce m (other_of log.active) (next_header log base (commands_before log base stable)) (rewritten_records base table stable) files
   pub nothing_said : said ≡ d.said
 
--- over files that are told, and hold these records, the number is the length of the new log file
+-- over files that are reported, and hold these records, the number is the length of the new log file
 abbrev pub IsNewLength : {O : Type 0} → Meaning O → Disk → RecordLogView → ℕ → Table → ℕ → Type 0
 IsNewLength {O = O} m d log base table n = d.tells_files → (stable : List (Record O)) → Keeps m d log stable [] → n ≡ file_length (new_payloads m base table stable)
 
@@ -104,7 +104,7 @@ IsNewLength {O = O} m d log base table n = d.tells_files → (stable : List (Rec
 abbrev pub IsWithinLength : {O : Type 0} → Meaning O → Disk → RecordLogView → ℕ → Table → Type 0
 IsWithinLength {O = O} m d log base table = d.tells_files → (stable : List (Record O)) → Keeps m d log stable [] → file_length (new_payloads m base table stable) ≤ 2 ^ 48
 
--- Why a rewrite fails: at the last epoch; or else by a fault of the disk, by damage in the old log, for want of memory,
+-- Why a rewrite fails: at the last epoch; or else by a fault of the disk, by damage in the old log, out of memory,
 -- or where the new file would be longer than 2^48 bytes.
 abbrev pub RewriteFails : Type 0 → (FileNo → ℕ → Type 0) → (ℕ → Type 0) → LogView → LogErr → Type 0
 RewriteFails rises fault length_is log DiskFault = rises × (log.header.epoch < 2 ^ 62)

@@ -4,7 +4,7 @@
 //! that comes next. An append adds exactly one record, a force makes all of them stable or leaves those that were, and a
 //! rewrite puts the numbered records from a base on, and a check, in the place of the log, or leaves the old one. Below
 //! it stands the codec: a record is decoded exactly where the bytes begin with the code of one in the grammar, and no
-//! code is another's beginning. The crate stands on log_frames, whose blocks hold the records, on formats, whose grammar
+//! code is another's beginning. The crate depends on log_frames, whose blocks hold the records, on formats, whose grammar
 //! this is, on checkpoint for the tables, and on oper_core for the operations.
 #![tactic(auto)]
 

@@ -49,7 +49,7 @@ fn keep_numbered<O: Oper>(records: &mut Vec<Record<O>>, from: u64)
     records.retain(|it| is_numbered_from(it, from));
 }
 
-// The same, and tells how many of the others are commands.
+// The same, and reports how many of the others are commands.
 fn leave_out<O: Oper>(records: &mut Vec<Record<O>>, from: u64) -> u64
     ensures kept { records.new.items ≡ numbered_from from records.old.items }
     ensures count { result ≡ length (commands_of (left_out from records.old.items)) }
@@ -156,7 +156,7 @@ impl<O: Oper> RecordLog<O> {
         ensures rewritten { OnOk result ((payloads : List (List ℕ)) × (commands : ℕ) × (self.new ≡ record self.old { log = rewritten self.old.log base commands payloads })) }
         ensures kept { OnErr result (self.new ≡ self.old) }
 
-        // Where no fault of the disk is told, no file was changed.
+        // Where no fault of the disk is reported, no file was changed.
         ensures refused { IfErr result (λ e. e ≢ LogErr.DiskFault → Stays (M.disk m.old) (M.disk m.new)) }
 
         // At the last epoch no call is made. The new file has at most 2^48 bytes.

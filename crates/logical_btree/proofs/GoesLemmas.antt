@@ -63,7 +63,7 @@ module _ (key : List ℕ) where
     pub tree_goes : (tree : IsTree lo hi s) → Goes (walk lo hi s key) tree.reached
     tree_goes tree = goes_from (size lo hi) lo all_keys tree.reached tree.is
 
-    -- on a tree a get tells what the map has
+    -- on a tree a get reports what the map has
     pub get_tells : (b : Bounds) → IsTrue (is_there b lo hi) → IsTree lo hi s → GetTells b lo hi s key
     get_tells b there tree =
         let g = tree_goes tree in

@@ -234,7 +234,7 @@ module _ (lo hi : ℕ) (s : State) where
       (λ q. get-from_entries nat_list_cmp_total tree.reached.pairs q ∙ sym (get-from_sorted byte_order tree.reached.pairs q rise)))
       ∙ entries-from_sorted byte_order tree.reached.pairs rise
 
-  -- on a tree a range tells the map's pairs in it, in their order
+  -- on a tree a range reports the map's pairs in it, in their order
   pub range_tells : (b : Bounds) (from to : List ℕ) → IsTrue (is_there b lo hi) → IsTree lo hi s → RangeTells b lo hi s from to
   range_tells b from to there tree =
       let part : Span = record { from = from; to = Some to } in
@@ -250,7 +250,7 @@ module _ (lo hi : ℕ) (s : State) where
   is_answer (Ok pairs) = true
   is_answer (Err r) = false
 
-  -- the pairs that a range tells rise
+  -- the pairs that a range reports rise
   pub range_rises : (b : Bounds) (from to : List ℕ) (pairs : List Pair) → IsTree lo hi s → range_answer b lo hi s from to ≡ Ok pairs → T (is_sorted byte_order pairs)
   range_rises b from to pairs tree is =
       let part : Span = record { from = from; to = Some to } in

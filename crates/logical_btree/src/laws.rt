@@ -15,7 +15,7 @@ ghost use Rattle.logical_btree.specs.Laws.{IsRange, IsTreeFull, SplitKeeps, AllA
 ghost use Rattle.logical_btree.specs.declared.refusal.TreeRefusal.{TreeRefusal};
 ghost use Rattle.logical_btree.specs.declared.refusal.TreeRefusal.TheVariants.{NoKey};
 
-/// On a tree the calls act on the map of all its pairs as on an ordered map: a get tells what the map has, a range tells
+/// On a tree the calls act on the map of all its pairs as on an ordered map: a get reports what the map has, a range reports
 /// the map's pairs in it, an insert and a delete change the map by their last command alone, or leave it as it was.
 pub fn a_tree_is_an_ordered_map()
     ensures get { (b : Bounds) (lo hi : ℕ) (s : State) (key : List ℕ) → IsTrue (is_there b lo hi) → IsTree lo hi s → GetTells b lo hi s key }
@@ -32,7 +32,7 @@ pub fn a_split_keeps_the_tree()
         → insert_next b lo hi s key value ≡ splits op → SplitKeeps b lo hi s op }
 {}
 
-/// The pairs that a range tells of a tree rise strictly by their keys.
+/// The pairs that a range reports a tree rise strictly by their keys.
 pub fn a_range_rises()
     ensures { (b : Bounds) (lo hi : ℕ) (s : State) (from to : List ℕ) (pairs : List Pair) → IsTree lo hi s
         → range_answer b lo hi s from to ≡ Ok pairs → T (is_sorted byte_order pairs) }

@@ -20,7 +20,7 @@ pub fn eight_inserts_split_the_root()
     ensures full { insert_plan bounds 0 1 (after_inserts 7) (8 ∷ []) (168 ∷ []) ≡ record { commands = []; refusal = Some (TreeFull 2 1) } }
 {}
 
-/// A key that is equal to a separator stands to its right. The object that is met first of the bad ones is the one told:
+/// A key that is equal to a separator stands to its right. The object that is met first of the bad ones is the one reported:
 /// one that is no node, one with a child outside the range or with the root as a child, one behind too long a way.
 pub fn the_first_bad_object_is_told()
     ensures no_node { get_answer bounds 0 7 no_node (1 ∷ []) ≡ Err (BadTree 0) }

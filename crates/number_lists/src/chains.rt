@@ -122,7 +122,7 @@ impl Chains {
         walk(self.next.as_slice(), chain.first, chain.count, out);
     }
 
-    /// Makes room for so many more lists and numbers. Nothing else changes, also where memory is wanting.
+    /// Makes room for so many more lists and numbers. Nothing else changes, also where it is out of memory.
     pub fn make_room(&mut self, lists: usize, items: usize) -> Result<(), Memory>
         ensures lists { self.new.lists ≡ self.old.lists }
         ensures items { self.new.items ≡ self.old.items }

@@ -103,7 +103,7 @@ impl NumberSet {
         self.insert(n);
     }
 
-    /// Makes room for the end to rise by one. Nothing else changes, also where memory is wanting.
+    /// Makes room for the end to rise by one. Nothing else changes, also where it is out of memory.
     pub fn make_room(&mut self) -> Result<(), Memory>
         ensures members { self.new.members ≡ self.old.members }
         ensures end { self.new.end ≡ self.old.end }

@@ -140,7 +140,7 @@ impl NumberTree {
         Some(found as u32)
     }
 
-    /// Makes room for the end to rise by one. Nothing else changes, also where memory is wanting.
+    /// Makes room for the end to rise by one. Nothing else changes, also where it is out of memory.
     pub fn make_room(&mut self) -> Result<(), Memory>
         ensures marks { self.new.marks ≡ self.old.marks }
         ensures room { OnOk result (0 < self.new.room) }
@@ -227,7 +227,7 @@ fn unmark(n: usize, low: &mut [bool], mid: &mut [bool], high: &mut [bool], top: 
     top[block / ROW] = false;
 }
 
-/// Takes away the mark, and tells whether its row has others.
+/// Takes away the mark, and reports whether its row has others.
 fn has_others(n: usize, marks: &mut [bool]) -> bool
     requires { n < length marks.old }
     ensures marks { marks.new ≡ slice_set marks.old n false }

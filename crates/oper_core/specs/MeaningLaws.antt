@@ -6,7 +6,7 @@ use Rattle.oper_core.specs.State.{State, with_values}
 use Rattle.oper_core.specs.Meaning.{Meaning, FitsReads, Widens, Accepts, or_else, unless, read_values, after}
 use Rattle.oper_core.specs.declared.refusal.Refusal.{Refusal}
 
--- where neither refusal is told, there is none
+-- where neither refusal is reported, there is none
 pub or_else-none : (r s : Option Refusal) → or_else r s ≡ None → (r ≡ None) × (s ≡ None)
 or_else-none None s e = (refl, e)
 or_else-none (Some r) s e = cc
@@ -15,7 +15,7 @@ pub or_else-both : (r s : Option Refusal) → r ≡ None → s ≡ None → or_e
 or_else-both None s e f = f
 or_else-both (Some r) s e f = cc
 
--- where a test's refusal is not told, the test holds
+-- where a test's refusal is not reported, the test holds
 pub unless-none : (test : Bool) (r : Refusal) → unless test r ≡ None → test ≡ true
 unless-none true r e = refl
 unless-none false r e = cc

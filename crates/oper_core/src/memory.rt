@@ -1,7 +1,7 @@
 use std::alloc::{AllocError, AllocFailed};
 use thiserror::Error;
 
-/// Want of memory: what was asked for is not done, and nothing is changed.
+/// Out of memory: what was asked for is not done, and nothing is changed.
 #[derive(Clone, Copy, Debug, Drop, Error)]
 #[error("out of memory")]
 pub struct Memory;

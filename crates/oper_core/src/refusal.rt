@@ -1,6 +1,6 @@
 use thiserror::Error;
 
-/// Why a command is refused. Where several causes apply, the first of this order is told.
+/// Why a command is refused. Where several causes apply, the first of this order is reported.
 #[derive(Clone, Copy, Debug, PartialEq, Eq, Error)]
 pub enum Refusal {
     #[error("NoObject")]

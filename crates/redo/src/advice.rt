@@ -1,6 +1,6 @@
 use redo_shell::Status;
 
-/// What happened, and what to do next, for a status that tells of trouble; none for the others.
+/// What happened, and what to do next, for a status that reports trouble; none for the others.
 pub fn advice(status: Status) -> Option<&'static str> {
     match status {
         Status::Done | Status::DoneWithRefusals | Status::Usage => None,

@@ -53,7 +53,7 @@ empty_shows m p files slots plan records w due it same none empty = record {
 }
 
 module _ {O : Type 0} (m : Meaning O) (p : Params) (file : List ℕ) (it : Store) (w : World O) (shows : ShowsStore m p file it w) where
-  -- the identifier that is told without the file is the world's
+  -- the identifier that is reported without the file is the world's
   pub id_shown : (x : ℕ) → x < p.objects → id_at it.objects x ≡ (w.cache x).id
   id_shown x below =
       let here : x < it.objects.slots.params.objects = subst (λ (q : Params). x < q.objects) (sym shows.params) below in

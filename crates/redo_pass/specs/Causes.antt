@@ -25,12 +25,12 @@ from_installs (of_installs.LsnEnd number) = Memory
 from_installs of_installs.DiskFault = DiskFault
 from_installs of_installs.Memory = Memory
 
--- by a fault of the disk, which then counts it, by a fault in a file, or for want of memory
+-- by a fault of the disk, which then counts it, by a fault in a file, or out of memory
 abbrev pub FailsBy : Type 0 → (FileNo → ℕ → Type 0) → RedoErr → Type 0
 FailsBy rises fault DiskFault = rises
 FailsBy rises fault (Damaged file place) = fault file place
 FailsBy rises fault Memory = ⊤
 
--- the objects file is damaged: never on a machine that tells its files, where the slots are those of the file
+-- the objects file is damaged: never on a machine that reports its files, where the slots are those of the file
 abbrev pub IsNotOf : Disk → SlotsView → FileNo → ℕ → Type 0
 IsNotOf d slots file place = (file ≡ Objects) × (d.tells_files → AreOf slots (d.reads Objects) → ⊥)

@@ -17,7 +17,7 @@ pub enum RedoErr {
     /// A slot that was read breaks its format, in this file at this place.
     #[error("{file:?} is damaged at {place}")]
     Damaged { file: FileNo, place: u64 },
-    /// Want of memory.
+    /// Out of memory.
     #[error("out of memory")]
     Memory,
 }

@@ -11,7 +11,7 @@ use Rattle.redo_shell.specs.Store.{Command, refusal_after, state_of, record_leng
 use Rattle.redo_shell.specs.Replies.{AsksCommand, Replies, IsFull}
 use Rattle.redo_shell.specs.Lengths.{GoesBy}
 
--- the kinds of request told apart by a number, and what they ask
+-- the kinds of request distinguished by a number, and what they ask
 abbrev kind : Request → ℕ
 kind (put x bytes) = 0
 kind (copy x y) = 1

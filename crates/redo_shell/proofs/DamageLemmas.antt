@@ -13,7 +13,7 @@ use Rattle.redo_shell.specs.Store.{IsWellFormed}
 use Rattle.redo_shell.specs.declared.status.Status.{Status}
 use Rattle.redo_shell.specs.declared.status.Status.TheVariants.{Damaged}
 
--- where a damage is told exactly of damaged files, with some place, the place that is said is the one that they have
+-- where a damage is reported exactly of damaged files, with some place, the place that is said is the one that they have
 pub first_said : (old new : Disk) (status : Status) → (status ≡ Damaged) ↔ (IsOpenAt 0 (old.reads Objects) × (IsWellFormed old.reads → ⊥))
     → (status ≡ Damaged → (file : FileNo) × (place : ℕ) × IsDamaged all_meaning old.reads file place × (new.reads ≡ old.reads) × (new.said ≡ old.said ++ damaged file place))
     → (file : FileNo) (place : ℕ) → IsDamaged all_meaning old.reads file place → (status ≡ Damaged) × (new.said ≡ old.said ++ damaged file place)

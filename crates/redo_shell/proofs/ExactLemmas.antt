@@ -33,31 +33,31 @@ calm_run TooLong calm of disk input output = tt
 
 pub no_store_exactly : {gate image : Type 0} (status : Status) → IsCalm status → (status ≡ NotAStore → gate → ⊥) → (status ≡ Damaged → gate) → (status ≡ Memory → gate) → (IsOfStore status → image) → (image → gate)
     → (status ≡ NotAStore) ↔ (gate → ⊥)
-no_store_exactly Done calm shut broken refused opened open_gate = (λ e. cc, λ closed. absurd (closed (open_gate (opened tt))))
-no_store_exactly DoneWithRefusals calm shut broken refused opened open_gate = (λ e. cc, λ closed. absurd (closed (open_gate (opened tt))))
-no_store_exactly NotAStore calm shut broken refused opened open_gate = (λ e. shut refl, λ closed. refl)
-no_store_exactly Damaged calm shut broken refused opened open_gate = (λ e. cc, λ closed. absurd (closed (broken refl)))
-no_store_exactly TooLong calm shut broken refused opened open_gate = (λ e. cc, λ closed. absurd (closed (open_gate (opened tt))))
-no_store_exactly Usage calm shut broken refused opened open_gate = absurd calm
-no_store_exactly AlreadyStore calm shut broken refused opened open_gate = absurd calm
-no_store_exactly DiskFault calm shut broken refused opened open_gate = absurd calm
-no_store_exactly ReadFault calm shut broken refused opened open_gate = absurd calm
-no_store_exactly SayFault calm shut broken refused opened open_gate = absurd calm
-no_store_exactly Memory calm shut broken refused opened open_gate = (λ e. cc, λ closed. absurd (closed (refused refl)))
+no_store_exactly Done calm closed broken refused opened open_gate = (λ e. cc, λ closed. absurd (closed (open_gate (opened tt))))
+no_store_exactly DoneWithRefusals calm closed broken refused opened open_gate = (λ e. cc, λ closed. absurd (closed (open_gate (opened tt))))
+no_store_exactly NotAStore calm closed broken refused opened open_gate = (λ e. closed refl, λ closed. refl)
+no_store_exactly Damaged calm closed broken refused opened open_gate = (λ e. cc, λ closed. absurd (closed (broken refl)))
+no_store_exactly TooLong calm closed broken refused opened open_gate = (λ e. cc, λ closed. absurd (closed (open_gate (opened tt))))
+no_store_exactly Usage calm closed broken refused opened open_gate = absurd calm
+no_store_exactly AlreadyStore calm closed broken refused opened open_gate = absurd calm
+no_store_exactly DiskFault calm closed broken refused opened open_gate = absurd calm
+no_store_exactly ReadFault calm closed broken refused opened open_gate = absurd calm
+no_store_exactly SayFault calm closed broken refused opened open_gate = absurd calm
+no_store_exactly Memory calm closed broken refused opened open_gate = (λ e. cc, λ closed. absurd (closed (refused refl)))
 
 pub damaged_exactly : {gate image : Type 0} (status : Status) → IsCalm status → status ≢ Memory → (status ≡ NotAStore → gate → ⊥) → (status ≡ Damaged → gate) → (IsOfStore status → image) → (image → status ≢ Damaged)
     → (status ≡ Damaged) ↔ (gate × (image → ⊥))
-damaged_exactly Done calm memory shut broken opened whole = (λ e. cc, λ is. absurd (is.1 (opened tt)))
-damaged_exactly DoneWithRefusals calm memory shut broken opened whole = (λ e. cc, λ is. absurd (is.1 (opened tt)))
-damaged_exactly NotAStore calm memory shut broken opened whole = (λ e. cc, λ is. absurd (shut refl is.0))
-damaged_exactly Damaged calm memory shut broken opened whole = (λ e. (broken refl, λ image. whole image refl), λ is. refl)
-damaged_exactly TooLong calm memory shut broken opened whole = (λ e. cc, λ is. absurd (is.1 (opened tt)))
-damaged_exactly Usage calm memory shut broken opened whole = absurd calm
-damaged_exactly AlreadyStore calm memory shut broken opened whole = absurd calm
-damaged_exactly DiskFault calm memory shut broken opened whole = absurd calm
-damaged_exactly ReadFault calm memory shut broken opened whole = absurd calm
-damaged_exactly SayFault calm memory shut broken opened whole = absurd calm
-damaged_exactly Memory calm memory shut broken opened whole = absurd (memory refl)
+damaged_exactly Done calm memory closed broken opened whole = (λ e. cc, λ is. absurd (is.1 (opened tt)))
+damaged_exactly DoneWithRefusals calm memory closed broken opened whole = (λ e. cc, λ is. absurd (is.1 (opened tt)))
+damaged_exactly NotAStore calm memory closed broken opened whole = (λ e. cc, λ is. absurd (closed refl is.0))
+damaged_exactly Damaged calm memory closed broken opened whole = (λ e. (broken refl, λ image. whole image refl), λ is. refl)
+damaged_exactly TooLong calm memory closed broken opened whole = (λ e. cc, λ is. absurd (is.1 (opened tt)))
+damaged_exactly Usage calm memory closed broken opened whole = absurd calm
+damaged_exactly AlreadyStore calm memory closed broken opened whole = absurd calm
+damaged_exactly DiskFault calm memory closed broken opened whole = absurd calm
+damaged_exactly ReadFault calm memory closed broken opened whole = absurd calm
+damaged_exactly SayFault calm memory closed broken opened whole = absurd calm
+damaged_exactly Memory calm memory closed broken opened whole = absurd (memory refl)
 
 -- on a store that is whole
 pub whole_run : (status : Status) → IsCalm status → status ≢ Memory → (status ≢ NotAStore) × (status ≢ Damaged) → (status ≡ TooLong) ⊎ ((status ≡ Done) ⊎ (status ≡ DoneWithRefusals))

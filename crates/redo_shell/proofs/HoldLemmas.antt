@@ -4,7 +4,7 @@ use Rattle.disk_model.specs.Disk.{Files, Disk, IsDisk, Runs, Stays, Same, IsSett
 use Rattle.disk_model.specs.Moments.{started, first_call}
 use Rattle.disk_model.specs.declared.machine.FileNo.TheVariants.{Objects}
 use Rattle.formats.specs.Image.{EndsAt}
-use Rattle.formats.specs.Objects.{AreSlotsShut}
+use Rattle.formats.specs.Objects.{AreSlotsClosed}
 use Rattle.log_records.specs.RecordLaws.{keeps_stay}
 use Rattle.formats.specs.declared.params.Params.{Params}
 use Rattle.redo_shell.specs.Store.{Command, meaning_in, state_of, Stands, IsMapOf, Carries, Holds, Between}
@@ -56,7 +56,7 @@ carries_stays {p} {d} {new} {engine} {commands} {says} run c =
       accepted = c.accepted;
       forced = c.forced;
       laid = subst (λ (f : Files). IsLaidOn engine.objects (f Objects)) same c.laid;
-      shut = subst (λ (f : Files). AreSlotsShut p (f Objects)) same c.shut;
+      closed = subst (λ (f : Files). AreSlotsClosed p (f Objects)) same c.closed;
       values = map_stays p d new engine commands (run.reads c.told) c.values;
       unbroken = c.unbroken;
     }

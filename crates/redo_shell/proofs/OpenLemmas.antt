@@ -89,7 +89,7 @@ complete_from {p} {script = script} quiet same all = record {
   ends_last = all.ends_last;
 }
 
--- a status that tells of an early end is none of a whole run
+-- a status that reports an early end is none of a whole run
 not_early : (stop : Stop) → (status_of stop ≡ Done) ⊎ (status_of stop ≡ DoneWithRefusals) → ⊥
 not_early DiskFault is = ⊎_elim (λ (e : status_of DiskFault ≡ Done). cc) (λ (e : status_of DiskFault ≡ DoneWithRefusals). cc) is
 not_early (SlotDamaged file place) is = ⊎_elim (λ (e : status_of (SlotDamaged file place) ≡ Done). cc) (λ (e : status_of (SlotDamaged file place) ≡ DoneWithRefusals). cc) is

@@ -32,7 +32,7 @@ abbrev story_of : {p : Params} {start now : Disk} {engine : EngineView} {command
     → (g : Going p start now engine commands script todo refusing) → Story p commands script todo g.replies g.acc
 story_of g = record { lines = g.lines; script_is = g.script_is; answers = g.answers }
 
--- bytes that were told, beside files that stand for enough of what they tell
+-- bytes that were reported, beside files that stand for enough of what they report
 moment_of : {p : Params} {commands : List Command} {script lines : List (List ℕ)} {replies : List Reply} {acc : List Command} (before bytes : List ℕ) (f : Files) (s : List ℕ) (kept : ℕ)
     → Told p (IsTrueIn p f) commands script lines replies acc bytes → s ≡ before ++ bytes → length commands ≤ kept → kept ≤ length (commands ++ acc)
     → Stands p f (take kept (commands ++ acc)) → ((n : ℕ) → Contains replies (forced n) → n ≤ kept) → Moment p commands script before f s

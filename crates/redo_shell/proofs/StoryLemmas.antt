@@ -171,7 +171,7 @@ grows_more {p} {files} {mid} last {lines} {replies} line reply g here = record {
   all = goes_by_more p g.first mid last lines replies line reply g.all here;
 }
 
--- it goes along what was told
+-- it goes along what was reported
 pub told_grows : {p : Params} {tie : Reply → Type 0} {commands : List Command} {script lines : List (List ℕ)} {replies : List Reply} {acc : List Command} {said : List ℕ} {files : Files} {last : LogLength}
     → (t : Told p tie commands script lines replies acc said) → GrowsTo p files lines replies last
     → GrowsTo p files (with_line t.story.lines t.story.work) (with_begun t.story.replies t.story.work) last

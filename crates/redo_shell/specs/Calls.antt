@@ -4,7 +4,7 @@ use Rattle.disk_model.specs.Disk.{Disk, LeavesOnly, IsSettled}
 use Rattle.disk_model.specs.declared.machine.FileNo.{FileNo}
 use Rattle.disk_model.specs.declared.machine.FileNo.TheVariants.{Objects}
 use Rattle.op_codec.specs.AllOps.{all_meaning}
-use Rattle.formats.specs.Bytes.{IsOpenAt, IsShutAt}
+use Rattle.formats.specs.Bytes.{IsOpenAt, IsClosedAt}
 use Rattle.formats.specs.FirstFault.{IsDamaged}
 use Rattle.formats.specs.Image.{BeginsStore}
 use Rattle.formats.specs.declared.params.Params.{Params}
@@ -70,7 +70,7 @@ pub record IsMaking (p : Params) (old new : Disk) (status : Status) : Type 0 whe
 -- the files are refused exactly where they are no store, whether there is memory or not, or break their format, and then
 -- it is the first check that fails that is said
 pub record OpensExactly (old new : Disk) (status : Status) : Type 0 where
-  pub no_store : (status ≡ NotAStore) ↔ IsShutAt 0 (old.reads Objects)
+  pub no_store : (status ≡ NotAStore) ↔ IsClosedAt 0 (old.reads Objects)
   pub damaged : status ≢ Memory → (status ≡ Damaged) ↔ (IsOpenAt 0 (old.reads Objects) × (IsWellFormed old.reads → ⊥))
   pub said : status ≢ Memory → (file : FileNo) (place : ℕ) → IsDamaged all_meaning old.reads file place → (status ≡ Damaged) × (new.said ≡ old.said ++ notices.damaged file place)
 
@@ -79,7 +79,7 @@ pub record MakesExactly (old : Disk) (status : Status) : Type 0 where
   pub already : (status ≡ AlreadyStore) ↔ BeginsStore (old.reads Objects)
   pub made : (BeginsStore (old.reads Objects) → ⊥) → status ≡ Done
 
--- A call with these words, and this script where its source tells it, or some script where it does not, goes on any calls
+-- A call with these words, and this script where its source reports it, or some script where it does not, goes on any calls
 -- before it, whatever follows it: nothing, a kill at one of its moments, or a crash.
 pub record GoesOn {T : Type 0} (disk : T → Disk) (words : List (List ℕ)) (told : Type 0) (script : List (List ℕ)) (old new : T) : Type 0 where
   pub run : (first next : T) (inits : List Params) (runs : List Ran) (bytes : List ℕ) → Asks words Run → told → BeginsStore ((disk old).reads Objects) → Sessions disk first inits runs old

@@ -1,4 +1,4 @@
--- What the bytes said tell, as whoever reads the output has them.
+-- What the bytes said report, as whoever reads the output has them.
 use Rattle.std.specs.Prelude.{◌<◌, ◌^◌, ◌==◌, ℕ, List, [], ◌∷◌, Contains, if◌then◌else◌}
 use Rattle.script_lines.specs.Replies.{Reply, forced, silence, text_of}
 

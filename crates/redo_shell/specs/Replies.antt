@@ -46,7 +46,7 @@ IsTrueIn p files (full used need limit) = EndsAt files used
 IsTrueIn p files (end number) = NextIs (meaning_in p) files number
 IsTrueIn p files reply = ⊤
 
--- an answer that the status tells of
+-- an answer that the status reports
 abbrev pub is_refusing : Reply → Bool
 is_refusing ok = false
 is_refusing (value bytes) = false

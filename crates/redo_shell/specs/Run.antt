@@ -84,7 +84,7 @@ pub record Going (p : Params) (start now : Disk) (engine : EngineView) (commands
   pub truly : start.tells_moments → LeavesOnly start now (IsTrueSoFar p start.said replies now.said)
   pub lengths : GrowsTo p start.reads lines replies (log_length engine)
 
--- A whole run: each line is answered, the files stand for all that was added, and the status tells of refusals. The
+-- A whole run: each line is answered, the files stand for all that was added, and the status reports refusals. The
 -- lengths of the log go from its end in the files at the start, with each answer.
 pub record IsComplete (p : Params) (start now : Disk) (commands : List Command) (script : List (List ℕ)) (status : Status) : Type 0 where
   pub replies : List Reply

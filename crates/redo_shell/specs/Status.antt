@@ -1,4 +1,4 @@
--- How a run ends, and the status that tells of it.
+-- How a run ends, and the status that reports it.
 use Rattle.std.specs.Prelude.{⊤, ℕ, Bool, true, false, Result, Ok, Err}
 use Rattle.script_lines.specs.declared.read_error.ReadError.{ReadError}
 use Rattle.script_lines.specs.declared.read_error.ReadError.TheVariants.{ReadFault as ReadFailed, TooLong as ReadTooMuch, Memory as NoMemoryToRead}

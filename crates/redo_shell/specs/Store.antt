@@ -44,7 +44,7 @@ Stands p files commands = of_store.Stands all_meaning p files commands
 abbrev pub IsNew : Params → Files → Type 0
 IsNew p files = of_engine.IsNew all_meaning p files
 
--- the machine tells its files, and what reads give stands for the commands
+-- the machine reports its files, and what reads give stands for the commands
 abbrev pub Opens : Params → Disk → List Command → Type 0
 Opens p d commands = of_engine.Opens all_meaning p d commands
 

@@ -21,7 +21,7 @@ fn file_name(file: FileNo) -> &'static [u8]
     }
 }
 
-/// The line that tells of a fault in a file at a place.
+/// The line that reports a fault in a file at a place.
 fn damage_line(alloc: Global, file: FileNo, place: u64) -> Result<Vec<u8>, Memory>
     ensures { IfOk result (λ line. line.items ≡ damaged file place) }
 {
@@ -35,7 +35,7 @@ fn damage_line(alloc: Global, file: FileNo, place: u64) -> Result<Vec<u8>, Memor
     Ok(line)
 }
 
-/// Says where the files break their format, and ends with that status, or by want of memory for the line with that, or
+/// Says where the files break their format, and ends with that status, or out of memory for the line with that, or
 /// where the output fails with that.
 pub fn end_damaged<M: Machine>(alloc: Global, machine: &mut M, file: FileNo, place: u64) -> Status
     ensures time { Passes (M.disk machine.old) (M.disk machine.new) }

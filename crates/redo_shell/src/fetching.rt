@@ -1,4 +1,4 @@
-// Objects are fetched before their values are told.
+// Objects are fetched before their values are reported.
 ghost use Rattle.std.specs.Prelude.{◌≡◌, ◌≤◌, ◌<◌, List, ℕ, true, false, OnOk, IfOk, IfErr};
 ghost use Rattle.disk_model.specs.Disk.{Stays};
 ghost use Rattle.formats.specs.declared.params.Params.{Params};
@@ -12,7 +12,7 @@ use disk_model::Machine;
 use op_codec::AllOps;
 use store_engine::{Engine, ExecErr};
 
-/// Sees that an object is cached, so that its value can be told. It tells whether there is such an object.
+/// Sees that an object is cached, so that its value can be reported. It reports whether there is such an object.
 pub fn fetched<M: Machine>(
     engine: &mut Engine<AllOps>,
     machine: &mut M,

@@ -43,7 +43,7 @@ pub fn a_line_gets_the_answer_of_its_cause()
 }
 
 /// The whole lines of what is said are the texts of the answers, one after the other: no text has a newline, and what is
-/// said of the next answer is no whole line. So what was printed tells which answers were given.
+/// said of the next answer is no whole line. So what was printed reports which answers were given.
 pub fn the_lines_said_are_the_answers()
     ensures lines { (replies : List Reply) (next : Reply) (count : ℕ) → whole_lines (flat_map said_line replies ++ take count (text_of next)) ≡ texts_of replies }
     ensures one { (a b : Reply) → HasSmallNumbers a → HasSmallNumbers b → text_of a ≡ text_of b → a ≡ b }

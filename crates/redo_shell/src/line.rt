@@ -21,7 +21,7 @@ use script_lines::{Answer, Next};
 use std::alloc::Global;
 use store_engine::Engine;
 
-/// Runs the command that a line asks for, and says its answer. It tells whether the answer is a refusal.
+/// Runs the command that a line asks for, and says its answer. It reports whether the answer is a refusal.
 fn run_command<M: Machine>(
     alloc: Global,
     engine: &mut Engine<AllOps>,
@@ -41,7 +41,7 @@ fn run_command<M: Machine>(
     say_answer(alloc, machine, &answer)
 }
 
-/// Answers the question for an object's value. It tells whether the answer is a refusal.
+/// Answers the question for an object's value. It reports whether the answer is a refusal.
 fn say_value<M: Machine>(
     alloc: Global,
     engine: &mut Engine<AllOps>,
@@ -63,7 +63,7 @@ fn say_value<M: Machine>(
     say_answer(alloc, machine, &Answer::Refused(Refusal::NoObject))
 }
 
-/// Answers a line. It tells whether the answer is a refusal. Fails where the disk or the output does, and by want of
+/// Answers a line. It reports whether the answer is a refusal. Fails where the disk or the output does, and by want of
 /// memory.
 fn answer_line<M: Machine>(
     alloc: Global,
@@ -105,7 +105,7 @@ pub fn answer_next<M: Machine>(
     ensures time { Passes (M.disk machine.old) (M.disk machine.new) }
     ensures answers { (p : Params) (commands : List Command) (line : List ℕ) → IsLine next bytes.now line → Holds p (M.disk machine.old) engine.old commands →
         Answering p (M.disk machine.old) (M.disk machine.new) engine.old engine.new commands line result }
-    // Whatever a source that tells nothing gave, it is the answer to some line.
+    // Whatever a source that reports nothing gave, it is the answer to some line.
     ensures some { next ≢ Next.End → (line : List ℕ) × ((p : Params) (commands : List Command) → Holds p (M.disk machine.old) engine.old commands →
         Answering p (M.disk machine.old) (M.disk machine.new) engine.old engine.new commands line result) }
     ensures cause { IfErr result (λ stop. IsCaused stop (M.disk machine.old) (M.disk machine.new)) }

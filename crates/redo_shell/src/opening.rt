@@ -3,7 +3,7 @@ ghost use Rattle.std.specs.Prelude.{◌≡◌, ◌≢◌, ◌⊎◌, ◌++◌, f
 ghost use Rattle.disk_model.specs.Disk.{Rises, Passes, Stays, IsSettled};
 ghost use Rattle.disk_model.specs.declared.machine.FileNo.{FileNo};
 ghost use Rattle.disk_model.specs.declared.machine.FileNo.TheVariants.{Objects};
-ghost use Rattle.formats.specs.Bytes.{IsOpenAt, IsShutAt};
+ghost use Rattle.formats.specs.Bytes.{IsOpenAt, IsClosedAt};
 ghost use Rattle.formats.specs.FirstFault.{IsDamaged};
 ghost use Rattle.formats.specs.declared.params.Params.{Params};
 ghost use Rattle.op_codec.specs.AllOps.{all_meaning};
@@ -24,7 +24,7 @@ use store_engine::{Engine, RestartErr, Tuning};
 // How much of a store the program keeps in memory.
 const TUNING: Tuning = Tuning { clean: 64 };
 
-/// Says why a store was not opened, where there is a line for that, and ends with the status that tells of it, or by want
+/// Says why a store was not opened, where there is a line for that, and ends with the status that reports it, or by want
 /// of memory for the line with that, or where the output fails with that.
 fn end_unopened<M: Machine>(alloc: Global, machine: &mut M, cause: RestartErr) -> Status
     ensures time { Passes (M.disk machine.old) (M.disk machine.new) }
@@ -33,7 +33,7 @@ fn end_unopened<M: Machine>(alloc: Global, machine: &mut M, cause: RestartErr) -
         (cause ≡ RestartErr.NotAStore) × ((M.disk machine.new).said ≡ (M.disk machine.old).said ++ not_a_store) }
     ensures damaged { (M.disk machine.old).tells_files → result ≡ Status.Damaged → (file : FileNo) × (place : ℕ) × (cause ≡ RestartErr.Damaged file place)
         × ((M.disk machine.new).said ≡ (M.disk machine.old).said ++ damaged file place) }
-    // A fault of the disk and want of memory are told by the status alone.
+    // A fault of the disk and out of memory are reported by the status alone.
     ensures quiet { cause ≢ RestartErr.NotAStore → IsNoDamage cause → (machine.new ≡ machine.old) × (result ≢ Status.NotAStore) × (result ≢ Status.Damaged) × (result ≢ Status.SayFault) }
     ensures status { IsOfUnopened result }
     ensures disk_fault { result ≡ Status.DiskFault → cause ≡ RestartErr.DiskFault }
@@ -63,7 +63,7 @@ pub fn open_store<M: Machine>(alloc: Global, machine: &mut M) -> Result<Engine<A
     ensures unbroken { IfOk result (λ engine. engine.broken ≡ false) }
     ensures opened { (M.disk machine.old).tells_files → OnOk result (IsWellFormed (M.disk machine.old).reads) }
     ensures store { (M.disk machine.old).tells_files → IsWellFormed (M.disk machine.old).reads → IfErr result (λ status. (status ≢ Status.NotAStore) × (status ≢ Status.Damaged)) }
-    ensures no_store { (M.disk machine.old).tells_files → IsErrOf result Status.NotAStore → IsShutAt 0 ((M.disk machine.old).reads Objects)
+    ensures no_store { (M.disk machine.old).tells_files → IsErrOf result Status.NotAStore → IsClosedAt 0 ((M.disk machine.old).reads Objects)
         × ((M.disk machine.new).reads ≡ (M.disk machine.old).reads) × ((M.disk machine.new).said ≡ (M.disk machine.old).said ++ not_a_store) }
     ensures damaged { (M.disk machine.old).tells_files → IsErrOf result Status.Damaged → (file : FileNo) × (place : ℕ)
         × IsDamaged all_meaning (M.disk machine.old).reads file place × ((M.disk machine.new).reads ≡ (M.disk machine.old).reads) × ((M.disk machine.new).said ≡ (M.disk machine.old).said ++ damaged file place) }

@@ -3,7 +3,7 @@ ghost use Rattle.std.specs.Prelude.{◌≡◌, ◌^◌, ◌⊎◌, ◌↔◌, �
 ghost use Rattle.disk_model.specs.Disk.{Rises, Passes, IsSettled};
 ghost use Rattle.disk_model.specs.declared.machine.FileNo.{FileNo};
 ghost use Rattle.disk_model.specs.declared.machine.FileNo.TheVariants.{Objects};
-ghost use Rattle.formats.specs.Bytes.{IsShutAt};
+ghost use Rattle.formats.specs.Bytes.{IsClosedAt};
 ghost use Rattle.formats.specs.FirstFault.{IsDamaged};
 ghost use Rattle.formats.specs.Image.{BeginsStore};
 ghost use Rattle.formats.specs.declared.params.Params.{Params};
@@ -42,7 +42,7 @@ pub fn top<M: Machine, S: Source>(
     input: &mut S,
 ) -> Status
     ensures time { Passes (M.disk machine.old) (M.disk machine.new) }
-    // `run` on files that stand for commands. Of a source that tells nothing the same holds with some script.
+    // `run` on files that stand for commands. Of a source that reports nothing the same holds with some script.
     ensures run { (p : Params) (commands : List Command) → Asks (map string_bytes words.now) Run → Opens p (M.disk machine.old) commands → S.tells input.old →
         IsRunOn p commands (lines_of (S.left input.old)) (M.disk machine.old) (M.disk machine.new) result }
     ensures run_untold { Asks (map string_bytes words.now) Run → (script : List (List ℕ)) × ((p : Params) (commands : List Command) → Opens p (M.disk machine.old) commands →
@@ -66,7 +66,7 @@ pub fn top<M: Machine, S: Source>(
     ensures usage_keeps { ((asked : Asked) → Asks (map string_bytes words.now) asked → ⊥) → KeepsFiles (M.disk machine.old) (M.disk machine.new) }
     ensures usage_said { (M.disk machine.old).tells_files → result ≡ Status.Usage → (M.disk machine.new).said ≡ (M.disk machine.old).said ++ usage }
     ensures usage_status { ((asked : Asked) → Asks (map string_bytes words.now) asked → ⊥) → (result ≡ Status.Usage) ⊎ (result ≡ Status.SayFault) }
-    ensures no_store { (M.disk machine.old).tells_files → result ≡ Status.NotAStore → IsShutAt 0 ((M.disk machine.old).reads Objects)
+    ensures no_store { (M.disk machine.old).tells_files → result ≡ Status.NotAStore → IsClosedAt 0 ((M.disk machine.old).reads Objects)
         × ((M.disk machine.new).reads ≡ (M.disk machine.old).reads) × ((M.disk machine.new).said ≡ (M.disk machine.old).said ++ not_a_store) }
     ensures damaged { (M.disk machine.old).tells_files → result ≡ Status.Damaged → (file : FileNo) × (place : ℕ)
         × IsDamaged all_meaning (M.disk machine.old).reads file place × ((M.disk machine.new).reads ≡ (M.disk machine.old).reads) × ((M.disk machine.new).said ≡ (M.disk machine.old).said ++ damaged file place) }

@@ -3,7 +3,7 @@ ghost use Rattle.std.specs.Prelude.{◌≡◌, ◌≢◌, ◌^◌, ◌⊎◌, �
 ghost use Rattle.disk_model.specs.Disk.{Rises, Passes};
 ghost use Rattle.disk_model.specs.declared.machine.FileNo.{FileNo};
 ghost use Rattle.disk_model.specs.declared.machine.FileNo.TheVariants.{Objects};
-ghost use Rattle.formats.specs.Bytes.{IsOpenAt, IsShutAt};
+ghost use Rattle.formats.specs.Bytes.{IsOpenAt, IsClosedAt};
 ghost use Rattle.formats.specs.FirstFault.{IsDamaged};
 ghost use Rattle.formats.specs.declared.params.Params.{Params};
 ghost use Rattle.op_codec.specs.AllOps.{all_meaning};
@@ -42,7 +42,7 @@ fn run_open<M: Machine, S: Source>(
     ensures complete { (p : Params) (commands : List Command) → Holds p (M.disk machine.old) engine.old commands → engine.old.forced ≡ length commands → S.tells input.old →
         (result ≡ Status.Done) ⊎ (result ≡ Status.DoneWithRefusals) →
         IsComplete p (M.disk machine.old) (M.disk machine.new) commands (lines_of (S.left input.old)) result }
-    // Whatever a source that tells nothing gave, it is some script.
+    // Whatever a source that reports nothing gave, it is some script.
     ensures some { (script : List (List ℕ)) × ((p : Params) (commands : List Command) → Holds p (M.disk machine.old) engine.old commands → engine.old.forced ≡ length commands →
         IsRun p (M.disk machine.old) (M.disk machine.new) commands script
         × ((result ≡ Status.Done) ⊎ (result ≡ Status.DoneWithRefusals) → IsComplete p (M.disk machine.old) (M.disk machine.new) commands script result)) }
@@ -66,7 +66,7 @@ fn run_open<M: Machine, S: Source>(
 /// says a line.
 pub fn run<M: Machine, S: Source>(alloc: Global, machine: &mut M, input: &mut S) -> Status
     ensures time { Passes (M.disk machine.old) (M.disk machine.new) }
-    // Of a source that tells nothing the same holds with some script.
+    // Of a source that reports nothing the same holds with some script.
     ensures run { (p : Params) (commands : List Command) → Opens p (M.disk machine.old) commands → S.tells input.old →
         IsRunOn p commands (lines_of (S.left input.old)) (M.disk machine.old) (M.disk machine.new) result }
     ensures untold { (script : List (List ℕ)) × ((p : Params) (commands : List Command) → Opens p (M.disk machine.old) commands →
@@ -75,7 +75,7 @@ pub fn run<M: Machine, S: Source>(alloc: Global, machine: &mut M, input: &mut S)
     ensures opened { (M.disk machine.old).tells_files → IsOfStore result → IsWellFormed (M.disk machine.old).reads }
     ensures store { (M.disk machine.old).tells_files → IsWellFormed (M.disk machine.old).reads → (result ≢ Status.NotAStore) × (result ≢ Status.Damaged) }
     ensures unopened { (M.disk machine.old).tells_files → (IsWellFormed (M.disk machine.old).reads → ⊥) → KeepsFiles (M.disk machine.old) (M.disk machine.new) }
-    ensures no_store { (M.disk machine.old).tells_files → result ≡ Status.NotAStore → IsShutAt 0 ((M.disk machine.old).reads Objects)
+    ensures no_store { (M.disk machine.old).tells_files → result ≡ Status.NotAStore → IsClosedAt 0 ((M.disk machine.old).reads Objects)
         × ((M.disk machine.new).reads ≡ (M.disk machine.old).reads) × ((M.disk machine.new).said ≡ (M.disk machine.old).said ++ not_a_store) }
     ensures damaged { (M.disk machine.old).tells_files → result ≡ Status.Damaged → (file : FileNo) × (place : ℕ)
         × IsDamaged all_meaning (M.disk machine.old).reads file place × ((M.disk machine.new).reads ≡ (M.disk machine.old).reads) × ((M.disk machine.new).said ≡ (M.disk machine.old).said ++ damaged file place) }

@@ -11,7 +11,7 @@ use disk_model::Machine;
 use script_lines::{Answer, answer_line};
 use std::alloc::Global;
 
-/// Whether the status tells of an answer.
+/// Whether the status reports an answer.
 fn refuses(answer: &Answer<'_>) -> bool
     ensures { result ≡ is_refusing (reply_of answer.now) }
 {
@@ -21,7 +21,7 @@ fn refuses(answer: &Answer<'_>) -> bool
     )
 }
 
-/// Says an answer as a line. It tells whether the answer is a refusal. Fails where the output does, and by want of
+/// Says an answer as a line. It reports whether the answer is a refusal. Fails where the output does, and by want of
 /// memory.
 pub fn say_answer<M: Machine>(
     alloc: Global,

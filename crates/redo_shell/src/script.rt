@@ -17,7 +17,7 @@ use script_lines::{LineReader, Next};
 use std::alloc::Global;
 use store_engine::Engine;
 
-/// Answers the lines of a script, and forces the log at its end. It tells whether some answer was a refusal.
+/// Answers the lines of a script, and forces the log at its end. It reports whether some answer was a refusal.
 pub fn answer_script<M: Machine, S: Source>(
     alloc: Global,
     engine: &mut Engine<AllOps>,
@@ -30,7 +30,7 @@ pub fn answer_script<M: Machine, S: Source>(
         IsRun p (M.disk machine.old) (M.disk machine.new) commands (lines_of (S.left input.old)) }
     ensures complete { (p : Params) (commands : List Command) → Holds p (M.disk machine.old) engine.old commands → engine.old.forced ≡ length commands → S.tells input.old →
         IfOk result (λ refusing. IsComplete p (M.disk machine.old) (M.disk machine.new) commands (lines_of (S.left input.old)) (status_after (Ok refusing))) }
-    // Whatever a source that tells nothing gave, it is some script.
+    // Whatever a source that reports nothing gave, it is some script.
     ensures some { (script : List (List ℕ)) × ((p : Params) (commands : List Command) → Holds p (M.disk machine.old) engine.old commands → engine.old.forced ≡ length commands →
         IsRun p (M.disk machine.old) (M.disk machine.new) commands script
         × IfOk result (λ refusing. IsComplete p (M.disk machine.old) (M.disk machine.new) commands script (status_after (Ok refusing)))) }

@@ -24,7 +24,7 @@ pub enum Status {
     ReadFault,
     /// The output failed.
     SayFault,
-    /// Want of memory.
+    /// Out of memory.
     Memory,
     /// More than 2^40 bytes of input.
     TooLong,

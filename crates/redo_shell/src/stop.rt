@@ -24,7 +24,7 @@ pub enum Stop {
     /// The output failed.
     #[error("the output failed")]
     SayFault,
-    /// Want of memory.
+    /// Out of memory.
     #[error("out of memory")]
     Memory,
     /// More than 2^40 bytes of input.
@@ -33,7 +33,7 @@ pub enum Stop {
 }
 
 impl Stop {
-    /// The status that tells of it.
+    /// The status that reports it.
     pub fn status(self) -> Status
         ensures { result ≡ status_of self }
     {

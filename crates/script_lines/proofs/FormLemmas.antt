@@ -5,7 +5,7 @@ use Rattle.std.specs.Str.{bytes_eq}
 use Rattle.std.specs.Fmt.{decimal}
 use Rattle.script_lines.specs.Grammar.{IsHex, Request, put, copy, append, cut, sort, swap, exec, aread, awrite, get, force, skip, number, hex, SayAll, AreOf}
 
--- the forms told apart by a number
+-- the forms distinguished by a number
 abbrev pub tag : Request → ℕ
 tag (put x bytes) = 0
 tag (copy x y) = 1
@@ -37,7 +37,7 @@ tag_of word =
     else if get_or word 0 0 == 35 then 11
     else 12
 
--- the first field tells the form
+-- the first field reports the form
 pub form_told : (a : Request) (word : List ℕ) (fields : List (List ℕ)) → AreOf a (word ∷ fields) → tag_of word ≡ tag a
 form_told (put x bytes) word fields is = ap tag_of is.0
 form_told (copy x y) word fields is = ap tag_of is.0

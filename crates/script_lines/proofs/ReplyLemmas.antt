@@ -18,7 +18,7 @@ abbrev has_space : List ℕ → Bool
 has_space [] = false
 has_space (b ∷ text) = if b == 32 then true else has_space text
 
--- the kinds of reply told apart by a number
+-- the kinds of reply distinguished by a number
 abbrev kind : Reply → ℕ
 kind ok = 0
 kind (value bytes) = 1

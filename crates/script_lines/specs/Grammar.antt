@@ -76,7 +76,7 @@ pub data Request : Type 0 where
   aread : ℕ → ℕ → Request
   -- the object, the second number, gets the application's output
   awrite : ℕ → ℕ → Request
-  -- the value of the object is told
+  -- the value of the object is reported
   get : ℕ → Request
   -- all commands are made stable
   force : Request

@@ -7,7 +7,7 @@ use Rattle.oper_core.specs.declared.refusal.Refusal.TheVariants.{NoObject, Same,
 use Rattle.script_lines.specs.declared.answer.Answer.{Answer}
 use Rattle.script_lines.specs.declared.answer.Answer.TheVariants.{Done, Value, Forced, Bad, Refused, Full, End, Object, Commands}
 
--- what a line may be told, and the lines of a dump
+-- what a line may be reported, and the lines of a dump
 pub data Reply : Type 0 where
   ok : Reply
   value : List ℕ → Reply

@@ -4,7 +4,7 @@
 //! The one contract is the grammar of `specs/`, a relation between a line's bytes and what they ask: a line is parsed
 //! exactly where it asks something, which is then one thing; an answer is exactly the text of its reply, and no other
 //! reply has this text; the reader gives exactly the lines of its source, one after the other. The
-//! crate stands on oper_core, whose refusals an answer names, on formats, whose limits the words are held to, and on the
+//! crate depends on oper_core, whose refusals an answer names, on formats, whose limits the words are held to, and on the
 //! source of disk_model.
 #![tactic(auto)]
 

@@ -28,7 +28,7 @@ pub enum Line<'a> {
     AppRead { app: u32, from: u32 },
     /// `awrite A X`: `to` gets the application's output.
     AppWrite { app: u32, to: u32 },
-    /// `get X`: the value of the object is told.
+    /// `get X`: the value of the object is reported.
     Get { object: u32 },
     /// `force`: all commands so far are made stable.
     Force,

@@ -13,7 +13,7 @@ pub enum ReadError {
     /// So many bytes were taken as an input may have, and its end was not read.
     #[error("the input is too long")]
     TooLong,
-    /// Want of memory.
+    /// Out of memory.
     #[error("out of memory")]
     Memory,
 }

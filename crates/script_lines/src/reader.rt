@@ -159,7 +159,7 @@ impl LineReader {
     }
 
     /// Takes the next line off the source, to its newline or to the end of the input. Fails where the source does,
-    /// where 2^40 bytes were taken and the end of the input was not read, and by want of memory.
+    /// where 2^40 bytes were taken and the end of the input was not read, and where it is out of memory.
     #[tactic(auto, using(crate::proofs::LineLemmas::takes_on))]
     pub fn next<S: Source>(&mut self, input: &mut S) -> Result<Next, ReadError>
         ensures told { S.tells input.old → S.tells input.new }

@@ -15,7 +15,7 @@ pub enum Asked {
     Init(Params),
     /// `run`: a script is answered.
     Run,
-    /// `dump`: the objects that are not empty are told, and the number of commands.
+    /// `dump`: the objects that are not empty are reported, and the number of commands.
     Dump,
 }
 

@@ -34,7 +34,7 @@ fn given(alloc: Global, line: &str, input: &[u8]) -> Result<(Vec<String>, MemSou
     Ok((words, source))
 }
 
-// The program with these words and this input. Want of memory for them is told as it tells its own.
+// The program with these words and this input. Out of memory for them is reported as its own.
 pub fn run<M: Machine>(alloc: Global, machine: &mut M, line: &str, input: &[u8]) -> Status {
     match given(alloc, line, input) {
         Ok((words, mut source)) => top(alloc, words.as_slice(), machine, &mut source),

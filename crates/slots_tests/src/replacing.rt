@@ -36,14 +36,14 @@ struct Store {
 impl Store {
     fn new(alloc: Global) -> Result<Store, Fail> {
         let mut machine = MemMachine::new(alloc, [2048, 0, 0], 128, 128, Vec::new(alloc))?;
-        Slots::shut(&mut machine)?;
+        Slots::close(&mut machine)?;
         Slots::create(&mut machine, BOUNDS, 65536)?;
         let mut machine = machine.crash(Crash::New);
         let slots = Slots::load(alloc, &mut machine)?;
         Ok(Store { machine, slots })
     }
 
-    // Gives object 0 a value. It tells how many calls that took, none where it is no call to make or the call failed.
+    // Gives object 0 a value. It reports how many calls that took, none where it is no call to make or the call failed.
     fn put(&mut self, id: u64, value: &[u8]) -> u64 {
         let before = self.machine.calls();
         if put(&mut self.slots, &mut self.machine, id, value) {
@@ -112,7 +112,7 @@ fn with_values(alloc: Global, count: u64) -> Result<Store, Fail> {
     Ok(store)
 }
 
-// Puts one more value through a machine that fails after some calls. It tells whether the call succeeded, and what is
+// Puts one more value through a machine that fails after some calls. It reports whether the call succeeded, and what is
 // seen after a crash.
 fn stopped(
     alloc: Global,

@@ -24,7 +24,7 @@ fn empty(alloc: Global) -> Result<MemMachine, AllocError> {
 
 fn store(alloc: Global) -> Result<MemMachine, Fail> {
     let mut machine = empty(alloc)?;
-    Slots::shut(&mut machine)?;
+    Slots::close(&mut machine)?;
     Slots::create(&mut machine, BOUNDS, LIMIT)?;
     Ok(machine)
 }
@@ -43,7 +43,7 @@ fn is_opened_until_closed(alloc: Global) -> Result<bool, Fail> {
     let begins = Slots::begins(&mut machine)?;
     let slots = Slots::load(alloc, &mut machine)?;
     let params = slots.bounds() == BOUNDS && slots.limit() == LIMIT && slots.params().cap == 64;
-    Slots::shut(&mut machine)?;
+    Slots::close(&mut machine)?;
     let closed = !Slots::begins(&mut machine)?;
     let none = Slots::load(alloc, &mut machine).err() == Some(SlotErr::NotAStore);
     Ok(begins && params && closed && none)
@@ -186,7 +186,7 @@ fn reads_what_an_open_slot_holds(rt: HostRuntime) -> Result<(), Fail> {
 // What a crash leaves of a store whose making was stopped after so many calls: whether it begins a store, and is one.
 fn stopped(alloc: Global, calls: u64, how: Crash) -> Result<[bool; 2], Fail> {
     let mut machine = empty(alloc)?;
-    Slots::shut(&mut machine)?;
+    Slots::close(&mut machine)?;
     let mut fuse = Fuse::new(machine, calls);
     let _ = Slots::create(&mut fuse, BOUNDS, LIMIT);
     let mut left = fuse.into_inner().crash(how);

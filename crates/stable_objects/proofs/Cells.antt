@@ -1,7 +1,7 @@
 -- What slots hold, and what of it a change within one slot leaves.
 use Rattle.std.proofs.Common.{◌≡◌, ◌≢◌, inl, inr, ◌<◌, ◌≤◌, ◌-◌, ℕ, zero, suc, Bool, true, false, if◌then◌else◌, nat_lt, List, [], refl, sym, ◌∙◌, ap, arith}
 use Rattle.std.proofs.lemmas.Bool.{cases_eq, eq-eqb, ne_eqb, lt-ltb, le-ltb}
-use Rattle.formats.specs.Bytes.{byte_at, IsOpenAt, IsShutAt}
+use Rattle.formats.specs.Bytes.{byte_at, IsOpenAt, IsClosedAt}
 use Rattle.oper_core.specs.Cell.{Cell}
 use Rattle.formats.specs.Objects.{AreSlotsWhole, IsWholeSlot, slot_place, identifier_at, value_at, open_identifier, cell_at, cell_of}
 use Rattle.formats.specs.declared.params.Params.{Params}
@@ -15,8 +15,8 @@ whole_cell place file = record { id = identifier_at place file; value = value_at
 pub open_cell : (place : ℕ) (file : List ℕ) → IsOpenAt place file → cell_at place file ≡ whole_cell place file
 open_cell place file is_open = ap (λ (b : Bool). record { id = if b then identifier_at place file else 0; value = if b then value_at place file else [] }) (eq-eqb (byte_at place file) 1 is_open)
 
-pub shut_cell : (place : ℕ) (file : List ℕ) → IsShutAt place file → cell_at place file ≡ no_cell
-shut_cell place file shut = ap (λ (b : Bool). record { id = if b then identifier_at place file else 0; value = if b then value_at place file else [] }) (ne_eqb (byte_at place file) 1 shut)
+pub closed_cell : (place : ℕ) (file : List ℕ) → IsClosedAt place file → cell_at place file ≡ no_cell
+closed_cell place file closed = ap (λ (b : Bool). record { id = if b then identifier_at place file else 0; value = if b then value_at place file else [] }) (ne_eqb (byte_at place file) 1 closed)
 
 -- the cell with the greater identifier, the first of two equal ones
 abbrev pub greater : Cell → Cell → Cell
@@ -39,13 +39,13 @@ first_is_greater a b le = ap (λ (c : Bool). if c then b else a) (le-ltb a.id b.
 some_id : (cap place : ℕ) (file : List ℕ) → IsWholeSlot cap place file → IsOpenAt place file → 1 ≤ (cell_at place file).id
 some_id cap place file whole is_open = omega (arith, whole.some, ap (λ (c : Cell). c.id) (open_cell place file is_open))
 
-pub closed_where_none : (cap place : ℕ) (file : List ℕ) → (IsOpenAt place file → IsWholeSlot cap place file) → open_identifier place file ≡ 0 → IsShutAt place file
+pub closed_where_none : (cap place : ℕ) (file : List ℕ) → (IsOpenAt place file → IsWholeSlot cap place file) → open_identifier place file ≡ 0 → IsClosedAt place file
 closed_where_none cap place file whole none is_open = let some = some_id cap place file (whole is_open) is_open in omega (arith, some, none)
 
 pub open_where_some : (place : ℕ) (file : List ℕ) → open_identifier place file ≢ 0 → IsOpenAt place file
 open_where_some place file some = elim (cases_eq (byte_at place file) 1) [
   | inl is_open ↦ is_open
-  | inr shut ↦ absurd (some (ap (λ (c : Cell). c.id) (shut_cell place file shut)))
+  | inr closed ↦ absurd (some (ap (λ (c : Cell). c.id) (closed_cell place file closed)))
 ]
 
 -- two slots of one object with one identifier are closed
@@ -55,13 +55,13 @@ module _ (p : Params) (x : ℕ) (file : List ℕ) (slots : AreSlotsWhole p file)
 
   first_none : open_identifier (place 0) file ≡ open_identifier (place 1) file → cell_at (place 0) file ≡ no_cell
   first_none same = elim (cases_eq (byte_at (place 0) file) 1) [
-    | inr shut ↦ shut_cell (place 0) file shut
+    | inr closed ↦ closed_cell (place 0) file closed
     | inl is_open ↦ elim (cases_eq (byte_at (place 1) file) 1) [
       | inl also ↦ absurd (slots.apart x below is_open also
           (sym (ap (λ (c : Cell). c.id) (open_cell (place 0) file is_open)) ∙ same ∙ ap (λ (c : Cell). c.id) (open_cell (place 1) file also)))
-      | inr shut ↦
+      | inr closed ↦
           let some = some_id p.cap (place 0) file (slots.each x 0 below (omega arith) is_open) is_open in
-          let none = ap (λ (c : Cell). c.id) (shut_cell (place 1) file shut) in
+          let none = ap (λ (c : Cell). c.id) (closed_cell (place 1) file closed) in
           absurd (omega (arith, some, same, none))
     ]
   ]
@@ -69,7 +69,7 @@ module _ (p : Params) (x : ℕ) (file : List ℕ) (slots : AreSlotsWhole p file)
   second_none : open_identifier (place 0) file ≡ open_identifier (place 1) file → cell_at (place 1) file ≡ no_cell
   second_none same =
       let none = ap (λ (c : Cell). c.id) (first_none same) in
-      shut_cell (place 1) file (closed_where_none p.cap (place 1) file (slots.each x 1 below (omega arith)) (sym same ∙ none))
+      closed_cell (place 1) file (closed_where_none p.cap (place 1) file (slots.each x 1 below (omega arith)) (sym same ∙ none))
 
   -- an object is held by the slot whose identifier is no smaller
   pub held_in : (s : ℕ) → s < 2 → open_identifier (place s) file ≤ open_identifier (place (1 - s)) file → cell_of p.cap x file ≡ cell_at (place (1 - s)) file

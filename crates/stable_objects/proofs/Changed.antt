@@ -1,14 +1,14 @@
 -- An objects file that changes within one slot.
 use Rattle.std.proofs.Common.{◌≡◌, ◌≢◌, ◌⊎◌, inl, inr, ◌<◌, ◌≤◌, ◌+◌, ◌-◌, ◌*◌, ◌^◌, ℕ, zero, suc, List, length, take, drop, sym, ◌∙◌, ap, subst, arith}
 use Rattle.std.proofs.lemmas.Bool.{cases_eq}
-use Rattle.formats.specs.Bytes.{byte_at, IsOpenAt, IsShutAt}
+use Rattle.formats.specs.Bytes.{byte_at, IsOpenAt, IsClosedAt}
 use Rattle.oper_core.specs.Cell.{Cell}
 use Rattle.formats.specs.Objects.{IsObjectsFile, IsWholeSlot, slot_place, identifier_at, length_at, value_at, open_identifier, cell_at, cell_of}
 use Rattle.formats.specs.declared.params.Params.{Params}
 use Rattle.stable_objects.specs.Replacing.{AgreesOutside, IsFilled, OthersKept}
 use Rattle.stable_objects.proofs.Outside.{IsBeside, byte_beside, read_same, number_stays}
 use Rattle.stable_objects.proofs.Places.{places_apart, place_within}
-use Rattle.stable_objects.proofs.Cells.{whole_cell, open_cell, shut_cell, greater, cell_is_greater, held_in}
+use Rattle.stable_objects.proofs.Cells.{whole_cell, open_cell, closed_cell, greater, cell_is_greater, held_in}
 
 -- a slot holds what it held
 pub record SlotStays (cap place : ℕ) (old new : List ℕ) : Type 0 where
@@ -54,7 +54,7 @@ slot_stays cap at place old new agrees reach apart within slot =
             let value = value_stays cap at (13 + cap) place old new agrees reach here (slot is_open) in
             let cells : whole_cell place new ≡ whole_cell place old = λ i. record { id = numbered i; value = value i } in
             open_cell place new (same ∙ is_open) ∙ cells ∙ sym (open_cell place old is_open)
-        | inr shut ↦ shut_cell place new (λ is_open. shut (sym same ∙ is_open)) ∙ sym (shut_cell place old shut)
+        | inr closed ↦ closed_cell place new (λ is_open. closed (sym same ∙ is_open)) ∙ sym (closed_cell place old closed)
       ];
       whole = λ is_open. whole_stays cap at (13 + cap) place old new agrees reach here (slot (sym same ∙ is_open));
     }
@@ -147,7 +147,7 @@ module _ (p : Params) (x s : ℕ) (old new : List ℕ) (is : IsObjectsFile p old
         let less = lower.less is_open in
         let id = ap (λ (c : Cell). c.id) (open_cell (slot_place p.cap x s) new is_open) in
         omega (arith, less, id, other_id)
-    | inr shut ↦ let none = ap (λ (c : Cell). c.id) (shut_cell (slot_place p.cap x s) new shut) in omega (arith, none)
+    | inr closed ↦ let none = ap (λ (c : Cell). c.id) (closed_cell (slot_place p.cap x s) new closed) in omega (arith, none)
   ]
 
   -- an object keeps its pair while its other slot is closed, or has a smaller identifier
@@ -185,8 +185,8 @@ module _ (p : Params) (x s : ℕ) (old new : List ℕ) (is : IsObjectsFile p old
       }
 
 -- a slot that is closed
-pub shut_lower : (cap place bound : ℕ) (file : List ℕ) → IsShutAt place file → IsLower cap place bound file
-shut_lower cap place bound file shut = record { slot = λ is_open. absurd (shut is_open); less = λ is_open. absurd (shut is_open) }
+pub closed_lower : (cap place bound : ℕ) (file : List ℕ) → IsClosedAt place file → IsLower cap place bound file
+closed_lower cap place bound file closed = record { slot = λ is_open. absurd (closed is_open); less = λ is_open. absurd (closed is_open) }
 
 -- an open one whose gate alone is torn
 pub torn_lower : (cap place bound : ℕ) (old new : List ℕ) → AgreesOutside place 1 old new → place ≤ length old → IsWholeSlot cap place old → identifier_at place old < bound → IsLower cap place bound new

@@ -12,7 +12,7 @@ use Rattle.oper_core.specs.LittleEndian.{little_bytes-little_number}
 use Rattle.disk_model.specs.Disk.{Files, Disk, Stays, Rises}
 use Rattle.disk_model.specs.Padded.{padded, get_or-padded, padded-within}
 use Rattle.disk_model.specs.declared.machine.FileNo.TheVariants.{Objects}
-use Rattle.formats.specs.Bytes.{number_at, IsShutAt}
+use Rattle.formats.specs.Bytes.{number_at, IsClosedAt}
 use Rattle.formats.specs.Objects.{IsInRange, IsObjectsFile, objects_fields, last_slot}
 use Rattle.formats.specs.Image.{params_in, IsWithin}
 use Rattle.formats.specs.FirstFault.{stops, goes_on, check_moved, NoMore, ObjectsChecks, IsFirstObjectsFault}
@@ -86,8 +86,8 @@ damaged_read file head place is fault =
       fault = checks_read file _ place here.fault;
     }
 
-pub shut_read : (file head : List ℕ) → head ≡ padded file 0 21 → IsShutAt 0 head → IsShutAt 0 file
-shut_read file head is shut is_open = shut (ap (λ (l : List ℕ). get_or l 0 0) is ∙ get_or-padded file 0 21 0 (omega arith) ∙ is_open)
+pub closed_read : (file head : List ℕ) → head ≡ padded file 0 21 → IsClosedAt 0 head → IsClosedAt 0 file
+closed_read file head is closed is_open = closed (ap (λ (l : List ℕ). get_or l 0 0) is ∙ get_or-padded file 0 21 0 (omega arith) ∙ is_open)
 
 -- a number read from the rest of a header
 pub number_slice : (head : List ℕ) (at : ℕ) → length head ≡ 21 → at + 4 ≤ 21 → little_number 4 (take (length head - at) (drop at head)) ≡ number_at 4 at head
@@ -156,16 +156,16 @@ last_gate p in_range = let same : 2 * p.objects - 1 ≡ 2 * (p.objects - 1) + 1 
 
 -- over a whole file, only the disk or the memory fails
 pub only_the_disk : (rises told : Type 0) (file : List ℕ) (p : Params) (e : SlotErr) → told → IsObjectsFile p file
-    → FailsBy rises (told → IsShutAt 0 file) (FailsAt (λ place. told → IsDamagedAt file place)) e → IsNoDamage e
+    → FailsBy rises (told → IsClosedAt 0 file) (FailsAt (λ place. told → IsDamagedAt file place)) e → IsNoDamage e
 only_the_disk rises told file p NotAStore is_told is fails = fails is_told (gate_is_open p file is)
 only_the_disk rises told file p DiskFault is_told is fails = tt
 only_the_disk rises told file p (Damaged number place) is_told is fails = no_fault p file place is (first_is_fault file place (fails.1 is_told).fault)
 only_the_disk rises told file p Memory is_told is fails = tt
 
 -- why a call failed behind calls that changed nothing, for a caller who knows more of the fault
-pub moved : (old mid new : Disk) (shut shut' : Type 0) (P Q : List ℕ → ℕ → Type 0) (e : SlotErr) → Stays old mid → (shut → shut') → (old.tells_files → (place : ℕ) → P (old.reads Objects) place → Q (old.reads Objects) place)
-    → FailsBy (Rises mid.disk_faults new.disk_faults) shut (FailsAt (λ place. mid.tells_files → P (mid.reads Objects) place)) e
-    → FailsBy (Rises old.disk_faults new.disk_faults) shut' (FailsAt (λ place. old.tells_files → Q (old.reads Objects) place)) e
-moved old mid new shut shut' P Q e stays closed more fails = fails_on _ _ shut shut' _ _ e (λ risen below. let rose = risen below in omega (arith, rose, stays.time.disk_faults)) closed
+pub moved : (old mid new : Disk) (no_store no_store' : Type 0) (P Q : List ℕ → ℕ → Type 0) (e : SlotErr) → Stays old mid → (no_store → no_store') → (old.tells_files → (place : ℕ) → P (old.reads Objects) place → Q (old.reads Objects) place)
+    → FailsBy (Rises mid.disk_faults new.disk_faults) no_store (FailsAt (λ place. mid.tells_files → P (mid.reads Objects) place)) e
+    → FailsBy (Rises old.disk_faults new.disk_faults) no_store' (FailsAt (λ place. old.tells_files → Q (old.reads Objects) place)) e
+moved old mid new no_store no_store' P Q e stays closed more fails = fails_on _ _ no_store no_store' _ _ e (λ risen below. let rose = risen below in omega (arith, rose, stays.time.disk_faults)) closed
     (λ file place there. (there.0, λ told. more told place (subst (λ (f : Files). P (f Objects) place) (stays.reads told) (there.1 (stays.time.files_told.0 told)))))
     fails

@@ -8,7 +8,7 @@ use Rattle.disk_model.specs.Disk.{Files, Disk, Stays, Rises}
 use Rattle.disk_model.specs.Padded.{padded, get_or-padded}
 use Rattle.disk_model.specs.Moments.{stays_twice}
 use Rattle.disk_model.specs.declared.machine.FileNo.TheVariants.{Objects}
-use Rattle.formats.specs.Bytes.{byte_at, number_at, IsOpenAt, IsShutAt}
+use Rattle.formats.specs.Bytes.{byte_at, number_at, IsOpenAt, IsClosedAt}
 use Rattle.formats.specs.Objects.{IsInRange, slot_place, identifier_at, open_identifier, last_slot}
 use Rattle.formats.specs.Image.{params_in}
 use Rattle.formats.specs.FirstFault.{Checks, stops, goes_on, HasNumber, HasValue, AreApart, PairChecks}
@@ -17,7 +17,7 @@ use Rattle.stable_objects.specs.SlotsView.{AreOf}
 use Rattle.stable_objects.specs.Heads.{head_at, IsRead, IsReadAt, IsHeadFault, no_number, too_long, IsPair, IsPairFault, in_first, in_second, alike, ArePairs, HasPairFault}
 use Rattle.stable_objects.specs.Reading.{FailsBy, FailsAt, HasHeader, IsDamagedAt}
 use Rattle.stable_objects.specs.Laws.{params_of_header, header_magic}
-use Rattle.stable_objects.specs.SlotLaws.{shut_tells, open_tells}
+use Rattle.stable_objects.specs.SlotLaws.{closed_tells, open_tells}
 use Rattle.stable_objects.specs.declared.slot_err.SlotErr.{SlotErr}
 use Rattle.stable_objects.proofs.Found.{number_read, behind_header, moved}
 
@@ -35,13 +35,13 @@ head_read file bytes place is =
 pub number_behind : (n at : ℕ) (bytes : List ℕ) → at + n ≤ length bytes → little_number n (take (length bytes - at) (drop at bytes)) ≡ number_at n at bytes
 number_behind n at bytes within = little_from-take 0 n (length bytes - at) (drop at bytes) (omega (arith, within))
 
--- a head that was read tells a number exactly where its gate is open
+-- a head that was read reports a number exactly where its gate is open
 pub open_head : (cap x s size id : ℕ) (file : List ℕ) → IsReadAt cap x s size file id → id ≢ 0 → IsOpenAt (slot_place cap x s) file × (id ≡ identifier_at (slot_place cap x s) file)
 open_head cap x s size id file read some =
     let is : id ≡ open_identifier (slot_place cap x s) file = read.is in
     elim (cases_eq (byte_at (slot_place cap x s) file) 1) [
       | inl is_open ↦ (is_open, is ∙ open_tells (slot_place cap x s) file is_open)
-      | inr shut ↦ absurd (some (is ∙ shut_tells (slot_place cap x s) file shut))
+      | inr closed ↦ absurd (some (is ∙ closed_tells (slot_place cap x s) file closed))
     ]
 
 -- the two reads of an object's heads
@@ -160,7 +160,7 @@ loaded p file heads size header is pairs =
 -- why the heads could not be read, for a caller who knows the header and the size
 pub heads_failed : (old mid last new : Disk) (p : Params) (size : ℕ) (e : SlotErr) → Stays old mid → Stays mid last → (old.tells_files → HasHeader p (old.reads Objects)) → (mid.tells_files → size ≡ length (mid.reads Objects))
     → FailsBy (Rises last.disk_faults new.disk_faults) ⊥ (FailsAt (λ place. last.tells_files → HasPairFault p size (last.reads Objects) place)) e
-    → FailsBy (Rises old.disk_faults new.disk_faults) (old.tells_files → IsShutAt 0 (old.reads Objects)) (FailsAt (λ place. old.tells_files → IsDamagedAt (old.reads Objects) place)) e
+    → FailsBy (Rises old.disk_faults new.disk_faults) (old.tells_files → IsClosedAt 0 (old.reads Objects)) (FailsAt (λ place. old.tells_files → IsDamagedAt (old.reads Objects) place)) e
 heads_failed old mid last new p size e first second header long_is fails = moved old last new ⊥ _ (λ file place. HasPairFault p size file place) IsDamagedAt e (stays_twice old mid last first second) (λ none. absurd none)
     (λ told place found. slots_damage p (old.reads Objects) size place (header told) (long_is (first.time.files_told.0 told) ∙ ap (λ (f : Files). length (f Objects)) (first.reads told)) found)
     fails

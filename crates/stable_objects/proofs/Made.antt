@@ -5,11 +5,11 @@ use Rattle.std.proofs.lemmas.Bool.{cases_eq, cases_lt}
 use Rattle.disk_model.specs.Disk.{Files, Disk, Runs, Stays, Same, In, Torn, Holds, Any, IsSettled, IsSettledIn, LeavesOnly, written_over, read_of}
 use Rattle.disk_model.specs.Moments.{runs_twice, runs_wider, runs_join, runs_then_stays, stays_settled, settled_again, from_reads, first_call, goes_on}
 use Rattle.disk_model.specs.declared.machine.FileNo.TheVariants.{Objects}
-use Rattle.formats.specs.Bytes.{byte_at, IsShutAt}
-use Rattle.formats.specs.Objects.{IsInRange, AreSlotsShut, objects_fields, slot_place}
+use Rattle.formats.specs.Bytes.{byte_at, IsClosedAt}
+use Rattle.formats.specs.Objects.{IsInRange, AreSlotsClosed, objects_fields, slot_place}
 use Rattle.formats.specs.declared.params.Params.{Params}
 use Rattle.stable_objects.specs.SlotGates.{slot_gate}
-use Rattle.stable_objects.specs.Making.{KeepsGate, HasShutSlots, IsPrepared, IsShut, IsNewFile, IsShutOrWhole}
+use Rattle.stable_objects.specs.Making.{KeepsGate, HasClosedSlots, IsPrepared, IsClosedFile, IsNewFile, IsClosedOrWhole}
 use Rattle.stable_objects.specs.Laws.{length-objects_fields}
 use Rattle.stable_objects.proofs.Bytes.{written_long, byte_before, byte_after, byte_written, written_read, held_first, torn_first, byte_behind}
 
@@ -34,51 +34,51 @@ run_keeps old mid new at n le first second = runs_twice old mid new (In Objects 
     (runs_wider mid new (In Objects (Torn at n)) (In Objects KeepsGate) (λ a b is. record { changed = torn_keeps at n (a Objects) (b Objects) le is.changed; others = is.others }) second)
 
 -- this place is within the file, and a gate there is closed
-pub record IsShutWithin (place : ℕ) (file : List ℕ) : Type 0 where
+pub record IsClosedWithin (place : ℕ) (file : List ℕ) : Type 0 where
   pub within : place < length file
-  pub shut : IsShutAt place file
+  pub closed : IsClosedAt place file
 
-pub now_shut : (at : ℕ) (old : List ℕ) → IsShutWithin at (written_over at (0 ∷ []) old)
-now_shut at old = record {
+pub now_closed : (at : ℕ) (old : List ℕ) → IsClosedWithin at (written_over at (0 ∷ []) old)
+now_closed at old = record {
   within = omega (arith, written_long at (0 ∷ []) old);
-  shut = λ is_open. let byte = byte_written at 0 old in omega (arith, byte, is_open);
+  closed = λ is_open. let byte = byte_written at 0 old in omega (arith, byte, is_open);
 }
 
 byte_stays : (at j : ℕ) (old : List ℕ) → j ≢ at → byte_at j (written_over at (0 ∷ []) old) ≡ byte_at j old
 byte_stays at j old other = elim (cases_lt j at) [ inl less ↦ byte_before at (0 ∷ []) old j less | inr le ↦ byte_after at (0 ∷ []) old j (omega (arith, other, le)) ]
 
-pub stays_shut : (at j : ℕ) (old : List ℕ) → IsShutWithin j old → IsShutWithin j (written_over at (0 ∷ []) old)
-stays_shut at j old was = elim (cases_eq j at) [
-  | inl same ↦ subst (λ (k : ℕ). IsShutWithin k (written_over at (0 ∷ []) old)) (sym same) (now_shut at old)
+pub stays_closed : (at j : ℕ) (old : List ℕ) → IsClosedWithin j old → IsClosedWithin j (written_over at (0 ∷ []) old)
+stays_closed at j old was = elim (cases_eq j at) [
+  | inl same ↦ subst (λ (k : ℕ). IsClosedWithin k (written_over at (0 ∷ []) old)) (sym same) (now_closed at old)
   | inr other ↦ record {
     within = omega (arith, written_long at (0 ∷ []) old, was.within);
-    shut = λ is_open. was.shut (sym (byte_stays at j old other) ∙ is_open);
+    closed = λ is_open. was.closed (sym (byte_stays at j old other) ∙ is_open);
   }
 ]
 
 -- one slot more is closed
-pub more_shut : (cap slot : ℕ) (old new : List ℕ) → ((k : ℕ) → k < slot → IsShutWithin (slot_gate cap k) old) → Holds (slot_gate cap slot) (0 ∷ []) old new
-    → (k : ℕ) → k < slot + 1 → IsShutWithin (slot_gate cap k) new
-more_shut cap slot old new so_far holds k less =
-    subst (λ (l : List ℕ). IsShutWithin (slot_gate cap k) l) (sym holds) (elim (cases_eq k slot) [
-      | inl same ↦ subst (λ (j : ℕ). IsShutWithin (slot_gate cap j) (written_over (slot_gate cap slot) (0 ∷ []) old)) (sym same) (now_shut (slot_gate cap slot) old)
-      | inr other ↦ stays_shut (slot_gate cap slot) (slot_gate cap k) old (so_far k (omega (arith, less, other)))
+pub more_closed : (cap slot : ℕ) (old new : List ℕ) → ((k : ℕ) → k < slot → IsClosedWithin (slot_gate cap k) old) → Holds (slot_gate cap slot) (0 ∷ []) old new
+    → (k : ℕ) → k < slot + 1 → IsClosedWithin (slot_gate cap k) new
+more_closed cap slot old new so_far holds k less =
+    subst (λ (l : List ℕ). IsClosedWithin (slot_gate cap k) l) (sym holds) (elim (cases_eq k slot) [
+      | inl same ↦ subst (λ (j : ℕ). IsClosedWithin (slot_gate cap j) (written_over (slot_gate cap slot) (0 ∷ []) old)) (sym same) (now_closed (slot_gate cap slot) old)
+      | inr other ↦ stays_closed (slot_gate cap slot) (slot_gate cap k) old (so_far k (omega (arith, less, other)))
     ])
 
 -- all of them are
-pub all_shut : (p : Params) (file : List ℕ) → IsInRange p → ((k : ℕ) → k < 2 * p.objects → IsShutWithin (slot_gate p.cap k) file) → HasShutSlots p file
-all_shut p file in_range shut = record {
-  whole = (shut (2 * (p.objects - 1) + 1) (omega (arith, in_range.some))).within;
-  slots = λ x s below two. (shut (2 * x + s) (omega (arith, below, two))).shut;
+pub all_closed : (p : Params) (file : List ℕ) → IsInRange p → ((k : ℕ) → k < 2 * p.objects → IsClosedWithin (slot_gate p.cap k) file) → HasClosedSlots p file
+all_closed p file in_range closed = record {
+  whole = (closed (2 * (p.objects - 1) + 1) (omega (arith, in_range.some))).within;
+  slots = λ x s below two. (closed (2 * x + s) (omega (arith, below, two))).closed;
 }
 
 -- with the header written, all but the gate stands
-pub header_written : (p : Params) (old new : List ℕ) → HasShutSlots p old → Holds 1 (objects_fields p) old new → IsPrepared p new
-header_written p old new shut holds = subst (λ (l : List ℕ). IsPrepared p l) (sym holds) (record {
+pub header_written : (p : Params) (old new : List ℕ) → HasClosedSlots p old → Holds 1 (objects_fields p) old new → IsPrepared p new
+header_written p old new closed holds = subst (λ (l : List ℕ). IsPrepared p l) (sym holds) (record {
   fields = ap (λ (n : ℕ). read_of (written_over 1 (objects_fields p) old) 1 n) (sym (length-objects_fields p)) ∙ written_read 1 (objects_fields p) old;
   slots = record {
-    whole = omega (arith, written_long 1 (objects_fields p) old, shut.whole);
-    slots = λ x s below two is_open. shut.slots x s below two
+    whole = omega (arith, written_long 1 (objects_fields p) old, closed.whole);
+    slots = λ x s below two is_open. closed.slots x s below two
         (sym (byte_after 1 (objects_fields p) old (slot_place p.cap x s) (omega (arith, length-objects_fields p))) ∙ is_open);
   };
 })
@@ -86,46 +86,46 @@ header_written p old new shut holds = subst (λ (l : List ℕ). IsPrepared p l) 
 -- with the gate open, the whole file
 pub opened : (p : Params) (old new : List ℕ) → IsInRange p → IsPrepared p old → new ≡ 1 ∷ drop 1 old → IsNewFile p new
 opened p old new in_range prepared is = subst (λ (l : List ℕ). IsNewFile p l) (sym is) (
-    let shut : AreSlotsShut p (1 ∷ drop 1 old) = λ x s below two is_open. prepared.slots.slots x s below two (sym (byte_behind 1 old (slot_place p.cap x s) (omega arith)) ∙ is_open) in
+    let closed : AreSlotsClosed p (1 ∷ drop 1 old) = λ x s below two is_open. prepared.slots.slots x s below two (sym (byte_behind 1 old (slot_place p.cap x s) (omega arith)) ∙ is_open) in
     record {
       whole = record {
         header = ap (λ (l : List ℕ). 1 ∷ l) prepared.fields;
         in_range = in_range;
         whole = omega (arith, length-drop 1 old, prepared.slots.whole);
         slots = record {
-          each = λ x s below two is_open. absurd (shut x s below two is_open);
-          apart = λ x below first second same. shut x 0 below (omega arith) first;
+          each = λ x s below two is_open. absurd (closed x s below two is_open);
+          apart = λ x below first second same. closed x 0 below (omega arith) first;
         };
       };
-      shut = shut;
+      closed = closed;
     })
 
 -- whatever the gate is
-pub shut_or_whole : (p : Params) (old new : List ℕ) → IsInRange p → IsPrepared p old → Torn 0 1 old new → IsShutAt 0 new ⊎ IsNewFile p new
-shut_or_whole p old new in_range prepared torn =
+pub closed_or_whole : (p : Params) (old new : List ℕ) → IsInRange p → IsPrepared p old → Torn 0 1 old new → IsClosedAt 0 new ⊎ IsNewFile p new
+closed_or_whole p old new in_range prepared torn =
     let is = torn_first old new (omega (arith, prepared.slots.whole)) torn in
     elim (cases_eq (get_or new 0 0) 1) [
       | inl is_open ↦ inr (opened p old new in_range prepared (is ∙ ap (λ (b : ℕ). b ∷ drop 1 old) is_open))
-      | inr shut ↦ inl shut
+      | inr closed ↦ inl closed
     ]
 
 -- before the gate is written, a crash leaves it closed
-pub leaves_shut : (old new : Disk) (p : Params) → old.tells_moments → IsSettled old → IsShut (old.reads Objects) → Runs (In Objects KeepsGate) Same old new → LeavesOnly old new (IsShutOrWhole old p)
-leaves_shut old new p told settled shut run = first_call old new (IsShutOrWhole old p) told run.time (λ c s left.
+pub leaves_closed : (old new : Disk) (p : Params) → old.tells_moments → IsSettled old → IsClosedFile (old.reads Objects) → Runs (In Objects KeepsGate) Same old new → LeavesOnly old new (IsClosedOrWhole old p)
+leaves_closed old new p told settled closed run = first_call old new (IsClosedOrWhole old p) told run.time (λ c s left.
     let from = from_reads old new (In Objects KeepsGate) Same told settled run.crash c s left in
-    let kept = from.0.changed shut.some in
-    record { objects = inl (λ is_open. shut.shut (sym kept.1 ∙ is_open)); others = from.0.others; silent = from.1 })
+    let kept = from.0.changed closed.some in
+    record { objects = inl (λ is_open. closed.closed (sym kept.1 ∙ is_open)); others = from.0.others; silent = from.1 })
 
 -- while it is written, closed or the whole file
-pub leaves_either : (old mid new : Disk) (p : Params) → old.tells_moments → IsInRange p → LeavesOnly old mid (IsShutOrWhole old p) → Runs (In Objects KeepsGate) Same old mid → IsSettled mid → IsPrepared p (mid.reads Objects)
-    → Runs (In Objects (Torn 0 1)) Same mid new → LeavesOnly old new (IsShutOrWhole old p)
+pub leaves_either : (old mid new : Disk) (p : Params) → old.tells_moments → IsInRange p → LeavesOnly old mid (IsClosedOrWhole old p) → Runs (In Objects KeepsGate) Same old mid → IsSettled mid → IsPrepared p (mid.reads Objects)
+    → Runs (In Objects (Torn 0 1)) Same mid new → LeavesOnly old new (IsClosedOrWhole old p)
 leaves_either old mid new p told in_range leaves first settled prepared second =
     let told_mid = first.time.moments_told.0 told in
     let files_told = first.begins.telling told in
-    goes_on old mid new (IsShutOrWhole old p) told_mid leaves second.time (λ c s left.
+    goes_on old mid new (IsClosedOrWhole old p) told_mid leaves second.time (λ c s left.
     let from = from_reads mid new (In Objects (Torn 0 1)) Same told_mid settled second.crash c s left in
     record {
-      objects = shut_or_whole p (mid.reads Objects) (c Objects) in_range prepared from.0.changed;
+      objects = closed_or_whole p (mid.reads Objects) (c Objects) in_range prepared from.0.changed;
       others = λ other is_other. from.0.others other is_other ∙ (first.reads files_told).others other is_other;
       silent = from.1 ∙ first.said files_told;
     })
@@ -168,5 +168,5 @@ look_then_write old mid new first second = runs_join old mid new Same (In Object
     first second
 
 -- a closed gate was written
-pub shut_after : (old new : List ℕ) → Holds 0 (0 ∷ []) old new → IsShut new
-shut_after old new holds = subst IsShut (sym (held_first 0 old new holds)) (record { some = omega arith; shut = λ is_open. cc })
+pub closed_after : (old new : List ℕ) → Holds 0 (0 ∷ []) old new → IsClosedFile new
+closed_after old new holds = subst IsClosedFile (sym (held_first 0 old new holds)) (record { some = omega arith; closed = λ is_open. cc })

@@ -4,7 +4,7 @@ use Rattle.disk_model.specs.Disk.{Disk, Runs, Stays, Same, In, Torn, Holds, Any,
 use Rattle.disk_model.specs.Moments.{runs_join, runs_wider, runs_then_stays, settled_again, from_reads, first_call, goes_on}
 use Rattle.disk_model.specs.Ranges.{torn_wider, run_apart}
 use Rattle.disk_model.specs.declared.machine.FileNo.TheVariants.{Objects}
-use Rattle.formats.specs.Bytes.{byte_at, IsShutAt}
+use Rattle.formats.specs.Bytes.{byte_at, IsClosedAt}
 use Rattle.stable_objects.specs.Replacing.{AgreesOutside, IsFilled, IsPut, IsHalfPut}
 use Rattle.stable_objects.proofs.Bytes.{byte_written}
 use Rattle.stable_objects.proofs.Outside.{torn_agrees, agrees_wider, agrees_twice, filled_stays}
@@ -50,24 +50,24 @@ module _ (old mid : Disk) (place id : ℕ) (value : List ℕ) (first : Runs (In 
   here a b agrees = agrees_wider place 1 place (13 + length value) a b (omega arith) (omega arith) agrees
 
   -- while a slot is filled behind its closed gate
-  pub leaves_filling : old.tells_moments → IsSettled old → place < length (old.reads Objects) → IsShutAt place (old.reads Objects) → LeavesOnly old mid (IsHalfPut old place id value)
-  leaves_filling told settled within shut = first_call old mid (IsHalfPut old place id value) told first.time (λ c s left.
+  pub leaves_filling : old.tells_moments → IsSettled old → place < length (old.reads Objects) → IsClosedAt place (old.reads Objects) → LeavesOnly old mid (IsHalfPut old place id value)
+  leaves_filling told settled within closed = first_call old mid (IsHalfPut old place id value) told first.time (λ c s left.
       let from = from_reads old mid (In Objects (Torn (place + 1) (12 + length value))) Same told settled first.crash c s left in
       let agrees = torn_agrees (place + 1) (12 + length value) (old.reads Objects) (c Objects) from.0.changed in
       record {
         agrees = behind (old.reads Objects) (c Objects) agrees;
-        slot = inl (λ is_open. shut (sym (agrees.before place within (omega arith)) ∙ is_open));
+        slot = inl (λ is_open. closed (sym (agrees.before place within (omega arith)) ∙ is_open));
         other_files = from.0.others;
         silent = from.1;
       })
 
   -- while its gate is opened
-  pub leaves_opening : (new : Disk) → old.tells_moments → IsSettled old → place < length (old.reads Objects) → IsShutAt place (old.reads Objects) → IsSettled mid → IsFilled place id value (mid.reads Objects)
+  pub leaves_opening : (new : Disk) → old.tells_moments → IsSettled old → place < length (old.reads Objects) → IsClosedAt place (old.reads Objects) → IsSettled mid → IsFilled place id value (mid.reads Objects)
       → Runs (In Objects (Torn place 1)) Same mid new → LeavesOnly old new (IsHalfPut old place id value)
-  leaves_opening new told settled within shut settled_mid filled second =
+  leaves_opening new told settled within closed settled_mid filled second =
       let told_mid = first.time.moments_told.0 told in
       let files_told = first.begins.telling told in
-      goes_on old mid new (IsHalfPut old place id value) told_mid (leaves_filling told settled within shut) second.time (λ c s left.
+      goes_on old mid new (IsHalfPut old place id value) told_mid (leaves_filling told settled within closed) second.time (λ c s left.
       let from = from_reads mid new (In Objects (Torn place 1)) Same told_mid settled_mid second.crash c s left in
       let agrees = torn_agrees place 1 (mid.reads Objects) (c Objects) from.0.changed in
       record {

@@ -6,7 +6,7 @@ use Rattle.std.proofs.lemmas.Grind.{get_or-set_at}
 use Rattle.disk_model.specs.Disk.{Files, Disk, Runs, Stays, Same, In, Torn, IsSettled, LeavesOnly}
 use Rattle.disk_model.specs.Moments.{from_reads, first_call, runs_on, weaker}
 use Rattle.disk_model.specs.declared.machine.FileNo.TheVariants.{Objects}
-use Rattle.formats.specs.Bytes.{byte_at, IsOpenAt, IsShutAt}
+use Rattle.formats.specs.Bytes.{byte_at, IsOpenAt, IsClosedAt}
 use Rattle.oper_core.specs.Cell.{Cell}
 use Rattle.formats.specs.Objects.{IsWholeSlot, slot_place, open_identifier}
 use Rattle.formats.specs.declared.params.Params.{Params}
@@ -16,7 +16,7 @@ use Rattle.stable_objects.specs.Replacing.{AgreesOutside, IsFilled, IsPut, IsHal
 use Rattle.stable_objects.proofs.Outside.{torn_agrees, agrees_wider, agrees_twice, agrees_same}
 use Rattle.stable_objects.proofs.Places.{place_within}
 use Rattle.stable_objects.proofs.Cells.{open_cell, closed_where_none, open_where_some, less_where_open}
-use Rattle.stable_objects.proofs.Changed.{IsLower, kept, renewed, shut_lower, torn_lower, each_stays}
+use Rattle.stable_objects.proofs.Changed.{IsLower, kept, renewed, closed_lower, torn_lower, each_stays}
 
 -- of two identifiers that of the spare slot is no greater, and the other is the object's
 pub record IsSpare (slots : SlotsView) (x s : ℕ) : Type 0 where
@@ -73,8 +73,8 @@ module _ (slots : SlotsView) (x s id : ℕ) (value : List ℕ) (is : IsReplacing
   pub within : place < length (old.reads Objects)
   within = place_within p (old.reads Objects) x s of.whole.whole is.below is.spare.two
 
-  pub shut_where_none : head slots x s ≡ 0 → IsShutAt place (old.reads Objects)
-  shut_where_none none = closed_where_none p.cap place (old.reads Objects) slot (sym here_id ∙ none)
+  pub closed_cell_where_none : head slots x s ≡ 0 → IsClosedAt place (old.reads Objects)
+  closed_cell_where_none none = closed_where_none p.cap place (old.reads Objects) slot (sym here_id ∙ none)
 
   keeps : (c : Files) (said : List ℕ) → AgreesOutside place (13 + p.cap) (old.reads Objects) (c Objects) → IsLower p.cap place other_id (c Objects) → ((other : _) → other ≢ Objects → c other ≡ old.reads other) → said ≡ old.said → P c said
   keeps c said agrees lower others silent =
@@ -97,7 +97,7 @@ module _ (slots : SlotsView) (x s id : ℕ) (value : List ℕ) (is : IsReplacing
         let same : c ≡ old.reads = from.0 in
         let same_file : c Objects ≡ old.reads Objects = ap (λ (f : Files). f Objects) same in
         keeps c said (agrees_same place (13 + p.cap) (old.reads Objects) (c Objects) same_file)
-        (shut_lower p.cap place other_id (c Objects) (subst (λ (l : List ℕ). IsShutAt place l) (sym same_file) (shut_where_none none)))
+        (closed_lower p.cap place other_id (c Objects) (subst (λ (l : List ℕ). IsClosedAt place l) (sym same_file) (closed_cell_where_none none)))
         (λ other is_other. ap (λ (f : Files). f other) same) from.1
     | inr some ↦
         let from = from_reads old mid (In Objects (Torn place 1)) Same told settled run.crash c said left in
@@ -120,10 +120,10 @@ module _ (slots : SlotsView) (x s id : ℕ) (value : List ℕ) (is : IsReplacing
       let others : (other : _) → other ≢ Objects → c other ≡ old.reads other = λ other is_other. half.other_files other is_other ∙ (first.reads told).others other is_other in
       let silent = half.silent ∙ first.said told in
       ⊎_elim
-      (λ shut. keeps c said agrees (shut_lower p.cap place other_id (c Objects) shut) others silent)
+      (λ closed. keeps c said agrees (closed_lower p.cap place other_id (c Objects) closed) others silent)
       (λ filled. elim (cases_eq (byte_at place (c Objects)) 1) [
         | inl is_open ↦ renews c said agrees is_open filled others silent
-        | inr shut ↦ keeps c said agrees (shut_lower p.cap place other_id (c Objects) shut) others silent
+        | inr closed ↦ keeps c said agrees (closed_lower p.cap place other_id (c Objects) closed) others silent
       ])
       half.slot))
 
@@ -201,15 +201,15 @@ module _ (inside slots : SlotsView) (x slot at found id : ℕ) (value : List ℕ
   pub closing_moments : old.tells_moments → IsSettled old → AreOf slots (old.reads Objects) → LeavesOnly old mid (IsOldOrNew old slots.params x (record { id = id; value = value }))
   closing_moments told settled of = leaves_closing slots x (spare_in slots x) id value replacing old of mid told settled closing (λ none. idle (head_is ∙ none))
 
-  pub putting_moments : (new : Disk) → (old.tells_files → (found ≡ 0 → IsShutAt at (old.reads Objects)) → IsShutAt at (mid.reads Objects)) → (IsSettled old → IsSettled mid)
-      → (mid.tells_moments → IsSettled mid → at < length (mid.reads Objects) → IsShutAt at (mid.reads Objects) → LeavesOnly mid new (IsHalfPut mid at id value))
+  pub putting_moments : (new : Disk) → (old.tells_files → (found ≡ 0 → IsClosedAt at (old.reads Objects)) → IsClosedAt at (mid.reads Objects)) → (IsSettled old → IsSettled mid)
+      → (mid.tells_moments → IsSettled mid → at < length (mid.reads Objects) → IsClosedAt at (mid.reads Objects) → LeavesOnly mid new (IsHalfPut mid at id value))
       → old.tells_moments → IsSettled old → AreOf slots (old.reads Objects) → LeavesOnly old new (IsOldOrNew old slots.params x (record { id = id; value = value }))
-  putting_moments new shuts settles put told settled of =
+  putting_moments new closes settles put told settled of =
       let files_told = first.begins.telling told in
       let long = (first.reads files_told).changed.no_shorter in
       let fits = within slots x (spare_in slots x) id value replacing old of in
-      let shut = shuts files_told (λ none. subst (λ (q : ℕ). IsShutAt q (old.reads Objects)) (sym spot_is) (shut_where_none slots x (spare_in slots x) id value replacing old of (sym head_is ∙ none))) in
-      let half = put (first.time.moments_told.0 told) (settles settled) (omega (arith, fits, long, spot_is)) shut in
+      let closed = closes files_told (λ none. subst (λ (q : ℕ). IsClosedAt q (old.reads Objects)) (sym spot_is) (closed_cell_where_none slots x (spare_in slots x) id value replacing old of (sym head_is ∙ none))) in
+      let half = put (first.time.moments_told.0 told) (settles settled) (omega (arith, fits, long, spot_is)) closed in
       leaves_putting slots x (spare_in slots x) id value replacing old of mid new files_told (closing_moments told settled of) closing
       (subst (λ (q : ℕ). LeavesOnly mid new (IsHalfPut mid q id value)) spot_is half)
 

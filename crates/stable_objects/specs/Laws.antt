@@ -110,7 +110,7 @@ header_magic p file header = magic_stands file (sym (take-take 9 21 file (omega 
 slot_open : (file : List ℕ) (x s : ℕ) (Check : Type 0) → x < number_at 4 9 file → s < 2 → ((IsOpenAt (place_in file x s) file → Check) → ⊥) → IsOpenSlot file x s × (Check → ⊥)
 slot_open file x s Check below two wrong = elim (cases_eq (byte_at (place_in file x s) file) 1) [
   | inl is_open ↦ (record { below = below; two = two; open_gate = is_open }, λ holds. wrong (λ _. holds))
-  | inr shut ↦ absurd (wrong (λ is_open. absurd (shut is_open)))
+  | inr closed ↦ absurd (wrong (λ is_open. absurd (closed is_open)))
 ]
 
 -- the first check of an object's slots that fails is a fault of the file

@@ -10,12 +10,12 @@ use Rattle.stable_objects.specs.declared.slot_err.SlotErr.{SlotErr}
 use Rattle.stable_objects.specs.declared.slot_err.SlotErr.TheVariants.{NotAStore, DiskFault, Damaged, Memory}
 
 -- Why a call that reads fails: by a fault of the disk, which then counts it, since the objects gate is closed, by a
--- fault in the file, or for want of memory.
+-- fault in the file, or out of memory.
 abbrev pub FailsBy : Type 0 → Type 0 → (FileNo → ℕ → Type 0) → SlotErr → Type 0
-FailsBy rises shut fault NotAStore = shut
-FailsBy rises shut fault DiskFault = rises
-FailsBy rises shut fault (Damaged file place) = fault file place
-FailsBy rises shut fault Memory = ⊤
+FailsBy rises no_store fault NotAStore = no_store
+FailsBy rises no_store fault DiskFault = rises
+FailsBy rises no_store fault (Damaged file place) = fault file place
+FailsBy rises no_store fault Memory = ⊤
 
 -- a fault in the objects file
 abbrev pub FailsAt : (ℕ → Type 0) → FileNo → ℕ → Type 0
@@ -27,12 +27,12 @@ IsNoDamage NotAStore = ⊥
 IsNoDamage (Damaged file place) = ⊥
 IsNoDamage e = ⊤
 
--- the objects gate is open, and the first check of the file that fails is told at this place
+-- the objects gate is open, and the first check of the file that fails is reported at this place
 pub record IsDamagedAt (file : List ℕ) (place : ℕ) : Type 0 where
   pub gate : IsOpenAt 0 file
   pub fault : IsFirstObjectsFault file place
 
--- the objects gate is open, and the first check of the header that fails is told at this place
+-- the objects gate is open, and the first check of the header that fails is reported at this place
 pub record IsHeaderFault (head : List ℕ) (place : ℕ) : Type 0 where
   pub gate : IsOpenAt 0 head
   pub fault : ObjectsChecks head NoMore place
@@ -49,9 +49,9 @@ pub record IsLongValue (cap place : ℕ) (file : List ℕ) (at : ℕ) : Type 0 w
   pub long : length_at place file ≤ cap → (0 < length_at place file → place + 13 + length_at place file ≤ length file) → ⊥
 
 -- a call that hands on why another failed
-pub fails_on : (rises rises' shut shut' : Type 0) (fault fault' : FileNo → ℕ → Type 0) (e : SlotErr) → (rises → rises') → (shut → shut') → ((file : FileNo) (place : ℕ) → fault file place → fault' file place)
-    → FailsBy rises shut fault e → FailsBy rises' shut' fault' e
-fails_on rises rises' shut shut' fault fault' NotAStore risen closed there fails = closed fails
-fails_on rises rises' shut shut' fault fault' DiskFault risen closed there fails = risen fails
-fails_on rises rises' shut shut' fault fault' (Damaged file place) risen closed there fails = there file place fails
-fails_on rises rises' shut shut' fault fault' Memory risen closed there fails = fails
+pub fails_on : (rises rises' no_store no_store' : Type 0) (fault fault' : FileNo → ℕ → Type 0) (e : SlotErr) → (rises → rises') → (no_store → no_store') → ((file : FileNo) (place : ℕ) → fault file place → fault' file place)
+    → FailsBy rises no_store fault e → FailsBy rises' no_store' fault' e
+fails_on rises rises' no_store no_store' fault fault' NotAStore risen closed there fails = closed fails
+fails_on rises rises' no_store no_store' fault fault' DiskFault risen closed there fails = risen fails
+fails_on rises rises' no_store no_store' fault fault' (Damaged file place) risen closed there fails = there file place fails
+fails_on rises rises' no_store no_store' fault fault' Memory risen closed there fails = fails

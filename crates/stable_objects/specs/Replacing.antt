@@ -2,7 +2,7 @@
 use Rattle.std.specs.Prelude.{◌≡◌, ◌≢◌, ◌⊎◌, ◌<◌, ◌≤◌, ◌+◌, ℕ, List, nat_lt, if◌then◌else◌, length, drop}
 use Rattle.disk_model.specs.Disk.{Files, Disk, OthersStay}
 use Rattle.disk_model.specs.declared.machine.FileNo.TheVariants.{Objects}
-use Rattle.formats.specs.Bytes.{byte_at, IsOpenAt, IsShutAt}
+use Rattle.formats.specs.Bytes.{byte_at, IsOpenAt, IsClosedAt}
 use Rattle.oper_core.specs.Cell.{Cell}
 use Rattle.formats.specs.Objects.{IsObjectsFile, cell_of, identifier_at, length_at, value_at}
 use Rattle.formats.specs.declared.params.Params.{Params}
@@ -52,6 +52,6 @@ pub record IsPut (place id : ℕ) (value old new : List ℕ) : Type 0 where
 -- At a moment while a slot is filled its gate is closed, or all of it stands. Nothing else changed, and nothing was said.
 pub record IsHalfPut (old : Disk) (place id : ℕ) (value : List ℕ) (files : Files) (said : List ℕ) : Type 0 where
   pub agrees : AgreesOutside place (13 + length value) (old.reads Objects) (files Objects)
-  pub slot : IsShutAt place (files Objects) ⊎ IsFilled place id value (files Objects)
+  pub slot : IsClosedAt place (files Objects) ⊎ IsFilled place id value (files Objects)
   pub other_files : OthersStay Objects old.reads files
   pub silent : said ≡ old.said

@@ -1,33 +1,33 @@
--- Laws of the slots: what they say of an object is what the file says, and an open slot's number is told.
+-- Laws of the slots: what they say of an object is what the file says, and an open slot's number is reported.
 use Rattle.std.proofs.Common.{◌≡◌, ◌<◌, ◌≤◌, ◌+◌, ℕ, List, [], length, drop, sym, ◌∙◌, ap, subst, arith, inl, inr, length-take}
 use Rattle.std.specs.Prelude.{Bool, cond, nat_eq, nat_lt}
 use Rattle.std.proofs.lemmas.Bool.{ne_eqb, eq-eqb, cond-true, cond-false, cond_both, cases_eq, cases_lt}
-use Rattle.formats.specs.Bytes.{byte_at, IsOpenAt, IsShutAt}
+use Rattle.formats.specs.Bytes.{byte_at, IsOpenAt, IsClosedAt}
 use Rattle.oper_core.specs.Cell.{Cell}
-use Rattle.formats.specs.Objects.{IsObjectsFile, AreSlotsShut, open_identifier, identifier_at, length_at, value_at, slot_place, holder, cell_at, cell_of}
+use Rattle.formats.specs.Objects.{IsObjectsFile, AreSlotsClosed, open_identifier, identifier_at, length_at, value_at, slot_place, holder, cell_at, cell_of}
 use Rattle.formats.specs.Image.{IsOpenSlot, place_in, params_in}
 use Rattle.formats.specs.declared.params.Params.{Params}
 use Rattle.stable_objects.specs.SlotsView.{SlotsView, AreOf, IsLate, head, id_in, holder_in}
 use Rattle.stable_objects.specs.Laws.{params_of_file}
 
--- what the slot at a place tells where it is closed, and where it is open
-pub shut_tells : (place : ℕ) (file : List ℕ) → IsShutAt place file → open_identifier place file ≡ 0
-shut_tells place file shut = cond-false (nat_eq (byte_at place file) 1) (identifier_at place file) 0 (ne_eqb (byte_at place file) 1 shut)
+-- what the slot at a place reports where it is closed, and where it is open
+pub closed_tells : (place : ℕ) (file : List ℕ) → IsClosedAt place file → open_identifier place file ≡ 0
+closed_tells place file closed = cond-false (nat_eq (byte_at place file) 1) (identifier_at place file) 0 (ne_eqb (byte_at place file) 1 closed)
 
 pub open_tells : (place : ℕ) (file : List ℕ) → IsOpenAt place file → open_identifier place file ≡ identifier_at place file
 open_tells place file is_open = cond-true (nat_eq (byte_at place file) 1) (identifier_at place file) 0 (eq-eqb (byte_at place file) 1 is_open)
 
-pub shut_value : (place : ℕ) (file : List ℕ) → IsShutAt place file → (cell_at place file).value ≡ []
-shut_value place file shut = cond-false (nat_eq (byte_at place file) 1) (value_at place file) [] (ne_eqb (byte_at place file) 1 shut)
+pub closed_value : (place : ℕ) (file : List ℕ) → IsClosedAt place file → (cell_at place file).value ≡ []
+closed_value place file closed = cond-false (nat_eq (byte_at place file) 1) (value_at place file) [] (ne_eqb (byte_at place file) 1 closed)
 
 pub open_value : (place : ℕ) (file : List ℕ) → IsOpenAt place file → (cell_at place file).value ≡ value_at place file
 open_value place file is_open = cond-true (nat_eq (byte_at place file) 1) (value_at place file) [] (eq-eqb (byte_at place file) 1 is_open)
 
--- a slot that tells a number is open
+-- a slot that reports a number is open
 pub told_is_open : (place : ℕ) (file : List ℕ) → 0 < open_identifier place file → IsOpenAt place file
 told_is_open place file some = elim (cases_eq (byte_at place file) 1) [
   | inl is_open ↦ is_open
-  | inr shut ↦ absurd (omega (arith, some, shut_tells place file shut))
+  | inr closed ↦ absurd (omega (arith, some, closed_tells place file closed))
 ]
 
 -- an object has two slots
@@ -50,15 +50,15 @@ id_is slots file x are below =
     ap (λ (s : ℕ). head slots x s) (holder_is slots file x are below) ∙ are.heads x (holder slots.params.cap x file) below (holder_below slots.params.cap x file)
 
 -- where all slots are closed, each object has the identifier 0 and no bytes
-pub shut_cells : (p : Params) (file : List ℕ) (x : ℕ) → AreSlotsShut p file → x < p.objects → cell_of p.cap x file ≡ record { id = 0; value = [] }
-shut_cells p file x shut below =
-    let closed = shut x (holder p.cap x file) below (holder_below p.cap x file) in
-    let id = shut_tells (slot_place p.cap x (holder p.cap x file)) file closed in
-    let value = shut_value (slot_place p.cap x (holder p.cap x file)) file closed in
+pub closed_cells : (p : Params) (file : List ℕ) (x : ℕ) → AreSlotsClosed p file → x < p.objects → cell_of p.cap x file ≡ record { id = 0; value = [] }
+closed_cells p file x closed below =
+    let held = closed x (holder p.cap x file) below (holder_below p.cap x file) in
+    let id = closed_tells (slot_place p.cap x (holder p.cap x file)) file held in
+    let value = closed_value (slot_place p.cap x (holder p.cap x file)) file held in
     λ i. record { id = id i; value = value i }
 
-pub shut_ids : (slots : SlotsView) (file : List ℕ) (x : ℕ) → AreOf slots file → AreSlotsShut slots.params file → x < slots.params.objects → id_in slots x ≡ 0
-shut_ids slots file x are shut below = id_is slots file x are below ∙ ap (λ (c : Cell). c.id) (shut_cells slots.params file x shut below)
+pub closed_ids : (slots : SlotsView) (file : List ℕ) (x : ℕ) → AreOf slots file → AreSlotsClosed slots.params file → x < slots.params.objects → id_in slots x ≡ 0
+closed_ids slots file x are closed below = id_is slots file x are below ∙ ap (λ (c : Cell). c.id) (closed_cells slots.params file x closed below)
 
 -- a value has at most CAP bytes
 pub value_short : (p : Params) (file : List ℕ) (x : ℕ) → IsObjectsFile p file → x < p.objects → length (cell_of p.cap x file).value ≤ p.cap
@@ -69,7 +69,7 @@ value_short p file x is below =
       | inl is_open ↦
           let whole = is.slots.each x s below (holder_below p.cap x file) is_open in
           omega (arith, ap length (open_value place file is_open), length-take (length_at place file) (drop (place + 13) file), whole.short)
-      | inr shut ↦ omega (arith, ap length (shut_value place file shut))
+      | inr closed ↦ omega (arith, ap length (closed_value place file closed))
     ]
 
 -- with no late slot, each open one has a number below the next

@@ -3,7 +3,7 @@ ghost use Rattle.std.specs.Prelude.{◌≡◌, OnOk, IsErr};
 ghost use Rattle.disk_model.specs.Disk.{Rises, Runs, In, Any, Same, IsSettled, LeavesOnly};
 ghost use Rattle.disk_model.specs.declared.machine.FileNo.TheVariants.{Objects};
 ghost use Rattle.formats.specs.Objects.{IsInRange, objects_fields};
-ghost use Rattle.stable_objects.specs.Making.{params_with, KeepsGate, HasShutSlots, IsPrepared, IsShut, IsNewFile, IsShutOrWhole};
+ghost use Rattle.stable_objects.specs.Making.{params_with, KeepsGate, HasClosedSlots, IsPrepared, IsClosedFile, IsNewFile, IsClosedOrWhole};
 
 use crate::Slots;
 use crate::layout::{CLOSED, MAGIC, MAGIC_PLACE, OPEN, gate_place};
@@ -28,7 +28,7 @@ fn fields_of(params: Params) -> [u8; 20]
 fn close_slots<M: Machine>(machine: &mut M, params: Params) -> Result<(), Failed>
     requires { IsInRange params }
     ensures runs { Runs (In Objects KeepsGate) Same (M.disk machine.old) (M.disk machine.new) }
-    ensures shut { (M.disk machine.old).tells_files → OnOk result (HasShutSlots params ((M.disk machine.new).reads Objects)) }
+    ensures closed { (M.disk machine.old).tells_files → OnOk result (HasClosedSlots params ((M.disk machine.new).reads Objects)) }
     ensures cause { IsErr result → Rises (M.disk machine.old).disk_faults (M.disk machine.new).disk_faults }
 {
     for slot in 0..2 * params.objects {
@@ -61,8 +61,8 @@ impl Slots {
         ensures settled { IsSettled (M.disk machine.old) → OnOk result (IsSettled (M.disk machine.new)) }
 
         // A crash at any moment of the call leaves the gate closed, or the whole file.
-        ensures any_moment { (M.disk machine.old).tells_moments → IsSettled (M.disk machine.old) → IsShut ((M.disk machine.old).reads Objects)
-            → LeavesOnly (M.disk machine.old) (M.disk machine.new) (IsShutOrWhole (M.disk machine.old) (params_with bounds limit)) }
+        ensures any_moment { (M.disk machine.old).tells_moments → IsSettled (M.disk machine.old) → IsClosedFile ((M.disk machine.old).reads Objects)
+            → LeavesOnly (M.disk machine.old) (M.disk machine.new) (IsClosedOrWhole (M.disk machine.old) (params_with bounds limit)) }
 
         ensures cause { IsErr result → Rises (M.disk machine.old).disk_faults (M.disk machine.new).disk_faults }
     {

@@ -2,7 +2,7 @@
 //!
 //! An object's identifier and value stand in one of its slots; a new pair goes into the other, whose gate is opened
 //! last. So the one contract is that of `Slots::replace`: a crash at any moment of it leaves the old pair or the new one.
-//! The crate stands on disk_model, whose machines it reads and writes, and on formats, which says what the bytes of the
+//! The crate depends on disk_model, whose machines it reads and writes, and on formats, which says what the bytes of the
 //! file are.
 #![tactic(auto)]
 

@@ -2,7 +2,7 @@
 ghost use Rattle.std.specs.Prelude.{◌≡◌, ◌≢◌, ◌∷◌, ◌<◌, length, IfOk, IfErr, IsErrOf};
 ghost use Rattle.disk_model.specs.Disk.{Rises, Stays};
 ghost use Rattle.disk_model.specs.declared.machine.FileNo.TheVariants.{Objects};
-ghost use Rattle.formats.specs.Bytes.{IsOpenAt, IsShutAt};
+ghost use Rattle.formats.specs.Bytes.{IsOpenAt, IsClosedAt};
 ghost use Rattle.formats.specs.Objects.{IsInRange, IsObjectsFile, objects_fields};
 ghost use Rattle.formats.specs.declared.params.Params.{Params as Numbers};
 ghost use Rattle.stable_objects.specs.SlotsView.{AreOf};
@@ -24,7 +24,7 @@ use std::alloc::Global;
 fn parse_header(head: &[u8]) -> Result<Params, SlotErr>
     requires { length head.now ≡ 21 }
     ensures ok { IfOk result (λ p. IsInRange p × (head.now ≡ 1 ∷ objects_fields p)) }
-    ensures cause { IfErr result (FailsBy ⊥ (IsShutAt 0 head.now) (FailsAt (IsHeaderFault head.now))) }
+    ensures cause { IfErr result (FailsBy ⊥ (IsClosedAt 0 head.now) (FailsAt (IsHeaderFault head.now))) }
     ensures no_memory { IfErr result (λ e. e ≢ SlotErr.Memory) }
 {
     if head[0] != OPEN {
@@ -58,7 +58,7 @@ fn read_header<M: Machine>(machine: &mut M) -> Result<Params, SlotErr>
     ensures in_range { IfOk result IsInRange }
     ensures read { (M.disk machine.old).tells_files → IfOk result (λ p. HasHeader p ((M.disk machine.old).reads Objects)) }
     ensures cause { IfErr result (FailsBy (Rises (M.disk machine.old).disk_faults (M.disk machine.new).disk_faults)
-        ((M.disk machine.old).tells_files → IsShutAt 0 ((M.disk machine.old).reads Objects))
+        ((M.disk machine.old).tells_files → IsClosedAt 0 ((M.disk machine.old).reads Objects))
         (FailsAt (λ place. (M.disk machine.old).tells_files → IsDamagedAt ((M.disk machine.old).reads Objects) place))) }
     ensures no_memory { IfErr result (λ e. e ≢ SlotErr.Memory) }
 {
@@ -81,7 +81,7 @@ impl Slots {
         ensures kept { Stays (M.disk machine.old) (M.disk machine.new) }
         ensures read { (M.disk machine.old).tells_files → IfOk result (λ s. AreOf s ((M.disk machine.old).reads Objects)) }
         ensures cause { IfErr result (FailsBy (Rises (M.disk machine.old).disk_faults (M.disk machine.new).disk_faults)
-            ((M.disk machine.old).tells_files → IsShutAt 0 ((M.disk machine.old).reads Objects))
+            ((M.disk machine.old).tells_files → IsClosedAt 0 ((M.disk machine.old).reads Objects))
             (FailsAt (λ place. (M.disk machine.old).tells_files → IsDamagedAt ((M.disk machine.old).reads Objects) place))) }
         ensures whole { (M.disk machine.old).tells_files → (p : Numbers) → IsObjectsFile p ((M.disk machine.old).reads Objects) → IfErr result IsNoDamage }
         ensures memory { (M.disk machine.old).tells_files → IsErrOf result SlotErr.Memory → IsOpenAt 0 ((M.disk machine.old).reads Objects) }

@@ -3,7 +3,7 @@ ghost use Rattle.std.specs.Prelude.{◌≡◌, ◌↔◌, OnOk, IfOk, IsErr, IsT
 ghost use Rattle.disk_model.specs.Disk.{Rises, Runs, Stays, In, Torn, Same, IsSettled};
 ghost use Rattle.disk_model.specs.declared.machine.FileNo.TheVariants.{Objects};
 ghost use Rattle.formats.specs.Image.{BeginsStore};
-ghost use Rattle.stable_objects.specs.Making.{IsShut};
+ghost use Rattle.stable_objects.specs.Making.{IsClosedFile};
 
 use crate::Slots;
 use crate::layout::{CLOSED, MAGIC, OPEN};
@@ -23,10 +23,10 @@ impl Slots {
 
     /// Closes the objects gate where it is open, and writes a closed one where the file is empty. It fails where the
     /// device does.
-    pub fn shut<M: Machine>(machine: &mut M) -> Result<(), Failed>
+    pub fn close<M: Machine>(machine: &mut M) -> Result<(), Failed>
         ensures runs { Runs (In Objects (Torn 0 1)) Same (M.disk machine.old) (M.disk machine.new) }
-        ensures shut { (M.disk machine.old).tells_files → OnOk result (IsShut ((M.disk machine.new).reads Objects)) }
-        ensures idle { (M.disk machine.old).tells_files → IsShut ((M.disk machine.old).reads Objects) → Stays (M.disk machine.old) (M.disk machine.new) }
+        ensures closed { (M.disk machine.old).tells_files → OnOk result (IsClosedFile ((M.disk machine.new).reads Objects)) }
+        ensures idle { (M.disk machine.old).tells_files → IsClosedFile ((M.disk machine.old).reads Objects) → Stays (M.disk machine.old) (M.disk machine.new) }
         ensures settled { IsSettled (M.disk machine.old) → OnOk result (IsSettled (M.disk machine.new)) }
         ensures cause { IsErr result → Rises (M.disk machine.old).disk_faults (M.disk machine.new).disk_faults }
     {

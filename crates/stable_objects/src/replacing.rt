@@ -3,7 +3,7 @@ ghost use Rattle.std.specs.Prelude.{◌≡◌, ◌≢◌, ℕ, ◌<◌, ◌≤�
 ghost use Rattle.byteorder.specs.Endian.{little_bytes};
 ghost use Rattle.disk_model.specs.Disk.{Rises, Runs, Stays, In, Torn, Any, Same, IsSettled, LeavesOnly};
 ghost use Rattle.disk_model.specs.declared.machine.FileNo.TheVariants.{Objects};
-ghost use Rattle.formats.specs.Bytes.{IsShutAt};
+ghost use Rattle.formats.specs.Bytes.{IsClosedAt};
 ghost use Rattle.stable_objects.specs.SlotsView.{id_in, AreOf};
 ghost use Rattle.stable_objects.specs.Replacing.{IsReplaced, IsOldOrNew, IsFilled, IsPut, IsHalfPut, spare_in};
 
@@ -27,7 +27,7 @@ fn head_of(id: u64, length: u32) -> [u8; 12]
 // A gate that is closed is never written closed again: the write could be torn, and open it over old contents.
 fn close_slot<M: Machine>(machine: &mut M, place: u64, id: u64) -> Result<(), Failed>
     ensures runs { Runs (In Objects (Torn place 1)) Same (M.disk machine.old) (M.disk machine.new) }
-    ensures shut { (M.disk machine.old).tells_files → (id ≡ 0 → IsShutAt place ((M.disk machine.old).reads Objects)) → OnOk result (IsShutAt place ((M.disk machine.new).reads Objects)) }
+    ensures closed { (M.disk machine.old).tells_files → (id ≡ 0 → IsClosedAt place ((M.disk machine.old).reads Objects)) → OnOk result (IsClosedAt place ((M.disk machine.new).reads Objects)) }
     ensures idle { id ≡ 0 → Stays (M.disk machine.old) (M.disk machine.new) }
     ensures settled { IsSettled (M.disk machine.old) → OnOk result (IsSettled (M.disk machine.new)) }
     ensures cause { IsErr result → Rises (M.disk machine.old).disk_faults (M.disk machine.new).disk_faults }
@@ -61,7 +61,7 @@ fn put<M: Machine>(machine: &mut M, place: u64, id: u64, value: &[u8]) -> Result
     ensures put { (M.disk machine.old).tells_files → OnOk result (IsPut place id value.now ((M.disk machine.old).reads Objects) ((M.disk machine.new).reads Objects)) }
     ensures settled { IsSettled (M.disk machine.old) → OnOk result (IsSettled (M.disk machine.new)) }
     ensures any_moment { (M.disk machine.old).tells_moments → IsSettled (M.disk machine.old) → place < length ((M.disk machine.old).reads Objects) →
-        IsShutAt place ((M.disk machine.old).reads Objects) → LeavesOnly (M.disk machine.old) (M.disk machine.new) (IsHalfPut (M.disk machine.old) place id value.now) }
+        IsClosedAt place ((M.disk machine.old).reads Objects) → LeavesOnly (M.disk machine.old) (M.disk machine.new) (IsHalfPut (M.disk machine.old) place id value.now) }
     ensures cause { IsErr result → Rises (M.disk machine.old).disk_faults (M.disk machine.new).disk_faults }
 {
     fill(machine, place, id, value)?;

@@ -7,11 +7,11 @@ use Rattle.disk_model.specs.declared.machine.FileNo.TheVariants.{Objects, LogA}
 use Rattle.oper_core.specs.Cell.{Cell}
 use Rattle.oper_core.specs.Meaning.{Meaning}
 use Rattle.formats.specs.Log.{new_header}
-use Rattle.formats.specs.Objects.{AreSlotsShut, cell_of}
+use Rattle.formats.specs.Objects.{AreSlotsClosed, cell_of}
 use Rattle.formats.specs.declared.params.Params.{Params}
 use Rattle.log_frames.specs.Creating.{IsNewLog}
 use Rattle.stable_objects.specs.Making.{IsNewFile}
-use Rattle.stable_objects.specs.SlotLaws.{shut_cells}
+use Rattle.stable_objects.specs.SlotLaws.{closed_cells}
 use Rattle.explain_core.specs.World.{new_world}
 use Rattle.standing.specs.Standing.{FilesShow, stored}
 
@@ -19,16 +19,16 @@ use Rattle.standing.specs.Standing.{FilesShow, stored}
 abbrev empty : Cell
 empty = record { id = 0; value = [] }
 
-pub stored_empty : (p : Params) (file : List ℕ) → AreSlotsShut p file → (x : ℕ) → stored p file x ≡ empty
-stored_empty p file shut x = elim (cases_lt x p.objects) [
-  | inl below ↦ cond-true (nat_lt x p.objects) (cell_of p.cap x file) empty (lt-ltb x p.objects below) ∙ shut_cells p file x shut below
+pub stored_empty : (p : Params) (file : List ℕ) → AreSlotsClosed p file → (x : ℕ) → stored p file x ≡ empty
+stored_empty p file closed x = elim (cases_lt x p.objects) [
+  | inl below ↦ cond-true (nat_lt x p.objects) (cell_of p.cap x file) empty (lt-ltb x p.objects below) ∙ closed_cells p file x closed below
   | inr past ↦ cond-false (nat_lt x p.objects) (cell_of p.cap x file) empty (le-ltb x p.objects past)
 ]
 
 pub new_shown : {O : Type 0} (m : Meaning O) (p : Params) (files : Files) → IsNewFile p (files Objects) → IsNewLog files → FilesShow m p files (new_world O)
 new_shown m p files objects log = record {
   objects = objects.whole;
-  cells = stored_empty p (files Objects) objects.shut;
+  cells = stored_empty p (files Objects) objects.closed;
   active = LogA;
   header = new_header;
   groups = [];

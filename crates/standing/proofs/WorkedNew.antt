@@ -2,20 +2,20 @@
 use Rattle.std.proofs.Common.{zero, suc, [], refl, arith, inl}
 use Rattle.std.proofs.lemmas.List.Elements.{All-nil}
 use Rattle.disk_model.specs.declared.machine.FileNo.TheVariants.{Objects}
-use Rattle.formats.specs.Objects.{AreSlotsShut}
+use Rattle.formats.specs.Objects.{AreSlotsClosed}
 use Rattle.formats.specs.Log.{IsPayload}
 use Rattle.log_frames.specs.Creating.{IsNewLog}
 use Rattle.stable_objects.specs.Making.{IsNewFile}
 use Rattle.standing.specs.Worked.{small, new_objects, new_files}
 
 -- each slot is closed
-all_shut : AreSlotsShut small new_objects
-all_shut zero zero below two is_open = omega (arith, is_open)
-all_shut zero (suc zero) below two is_open = omega (arith, is_open)
-all_shut (suc zero) zero below two is_open = omega (arith, is_open)
-all_shut (suc zero) (suc zero) below two is_open = omega (arith, is_open)
-all_shut (suc (suc x)) s below two is_open = omega (arith, below)
-all_shut x (suc (suc s)) below two is_open = omega (arith, two)
+all_closed : AreSlotsClosed small new_objects
+all_closed zero zero below two is_open = omega (arith, is_open)
+all_closed zero (suc zero) below two is_open = omega (arith, is_open)
+all_closed (suc zero) zero below two is_open = omega (arith, is_open)
+all_closed (suc zero) (suc zero) below two is_open = omega (arith, is_open)
+all_closed (suc (suc x)) s below two is_open = omega (arith, below)
+all_closed x (suc (suc s)) below two is_open = omega (arith, two)
 
 pub new_whole : IsNewFile small (new_files Objects)
 new_whole = record {
@@ -24,11 +24,11 @@ new_whole = record {
     in_range = record { some = omega arith; objects = omega arith; low = omega arith; cap = omega arith; least = omega arith; limit = omega arith };
     whole = omega arith;
     slots = record {
-      each = λ x s below two is_open. absurd (all_shut x s below two is_open);
-      apart = λ x below first second. absurd (all_shut x 0 below (omega arith) first);
+      each = λ x s below two is_open. absurd (all_closed x s below two is_open);
+      apart = λ x below first second. absurd (all_closed x 0 below (omega arith) first);
     };
   };
-  shut = all_shut;
+  closed = all_closed;
 }
 
 pub new_log : IsNewLog new_files
@@ -36,7 +36,7 @@ new_log = record {
   in_force = record { a_log = λ e. cc; other = inl (λ e. absurd (omega (arith, e))) };
   log = record {
     in_range = record { epoch_low = omega arith; epoch_high = omega arith; base_low = omega arith; base_high = omega arith; commands = omega arith };
-    log = record { gate = 0; rest = []; split = refl; shut = λ e. absurd (omega (arith, e)) };
+    log = record { gate = 0; rest = []; split = refl; closed = λ e. absurd (omega (arith, e)) };
     whole = All-nil IsPayload;
   };
 }

@@ -115,17 +115,17 @@ slot_whole (suc zero) (suc zero) below two is_open = absurd (omega (arith, is_op
 slot_whole (suc (suc x)) s below two is_open = absurd (omega (arith, below))
 slot_whole x (suc (suc s)) below two is_open = absurd (omega (arith, two))
 
-second_shut : (x : ℕ) → x < 2 → IsOpenAt (slot_place 16 x 1) small_objects → ⊥
-second_shut zero below is_open = omega (arith, is_open)
-second_shut (suc zero) below is_open = omega (arith, is_open)
-second_shut (suc (suc x)) below is_open = omega (arith, below)
+second_closed : (x : ℕ) → x < 2 → IsOpenAt (slot_place 16 x 1) small_objects → ⊥
+second_closed zero below is_open = omega (arith, is_open)
+second_closed (suc zero) below is_open = omega (arith, is_open)
+second_closed (suc (suc x)) below is_open = omega (arith, below)
 
 pub small_whole : IsObjectsFile small small_objects
 small_whole = record {
   header = refl;
   in_range = record { some = omega arith; objects = omega arith; low = omega arith; cap = omega arith; least = omega arith; limit = omega arith };
   whole = omega arith;
-  slots = record { each = slot_whole; apart = λ x below first second. absurd (second_shut x below second) };
+  slots = record { each = slot_whole; apart = λ x below first second. absurd (second_closed x below second) };
 }
 
 -- an object without bytes, that no record wrote
@@ -176,7 +176,7 @@ pub is_log : (epoch : ℕ) (table : Table) (file : List ℕ) → 1 ≤ epoch →
 is_log epoch table file some few is at short split = record {
   log = record {
     in_range = record { epoch_low = some; epoch_high = omega (arith, few); base_low = omega arith; base_high = omega arith; commands = omega arith };
-    log = record { gate = 0; rest = []; split = split; shut = λ e. absurd (omega (arith, e)) };
+    log = record { gate = 0; rest = []; split = split; closed = λ e. absurd (omega (arith, e)) };
     whole = payloads_whole table short;
   };
   placed = ((omega arith, refl), (refl, omega arith), ((omega arith, omega arith, omega arith), (refl, omega arith), (is, at, tt)));

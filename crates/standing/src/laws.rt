@@ -46,7 +46,7 @@ pub fn files_hold_one_store<O: Oper>()
 {}
 
 /// Files stand for at most one state: whatever lists of commands they stand for are of one length, and the states after
-/// them are equal. The length is what the log tells: the commands before its base, and its own.
+/// them are equal. The length is what the log reports: the commands before its base, and its own.
 pub fn files_stand_for_one_state<O: Oper>()
     ensures count { (p q : Params) (files : Files) (commands others : List O) →
         StandsFor O.meaning p files commands → StandsFor O.meaning q files others →

@@ -252,7 +252,7 @@ module _ {O : Type 0} (meaning : Bounds → Meaning O) where
           accepted = t.accepted;
           forced = t.forced;
           laid = t.laid (d.reads Objects) c.laid;
-          shut = c.shut;
+          closed = c.closed;
           values = λ x below. value_after x below ∙ ap (λ (s : State). s x) (sym (fold-append (after (meaning_in meaning p)) start commands (op ∷ [])));
           unbroken = t.broken ∙ c.unbroken;
         } in

@@ -9,7 +9,7 @@ use Rattle.oper_core.specs.Meaning.{Meaning}
 use Rattle.oper_core.specs.declared.bounds.Bounds.{Bounds}
 use Rattle.formats.specs.InForce.{IsInForce}
 use Rattle.formats.specs.Log.{Header}
-use Rattle.formats.specs.Objects.{IsObjectsFile, AreSlotsShut, bounds_of}
+use Rattle.formats.specs.Objects.{IsObjectsFile, AreSlotsClosed, bounds_of}
 use Rattle.formats.specs.Image.{EndsAt}
 use Rattle.formats.specs.Records.{payload_of, commands_of, AreCommands}
 use Rattle.formats.specs.declared.params.Params.{Params}
@@ -42,11 +42,11 @@ attached_after old new objects log after broken broken' runs same attached told_
 module _ {O : Type 0} (meaning : Bounds → Meaning O) (p : Params) where
   -- files with these parts stand for the commands of the records
   pub stands_by : (files : Files) (active : FileNo) (header : Header) (records : List (Record O)) → AreCommands records → header.base ≡ 1 → header.commands ≡ 0 → IsInForce active header.epoch files
-      → HoldsRecords (meaning_in meaning p) header records (files active) → IsObjectsFile p (files Objects) → AreSlotsShut p (files Objects)
+      → HoldsRecords (meaning_in meaning p) header records (files active) → IsObjectsFile p (files Objects) → AreSlotsClosed p (files Objects)
       → Stands meaning p files (commands_of records)
-  stands_by files active header records only base none_before in_force held objects shut = record {
+  stands_by files active header records only base none_before in_force held objects closed = record {
     objects = objects;
-    shut = shut;
+    closed = closed;
     log = record {
       active = active;
       header = header;
@@ -89,7 +89,7 @@ module _ {O : Type 0} (meaning : Bounds → Meaning O) (p : Params) where
     held_stable = record { groups = c.log.groups; log = c.log.file; records_are = c.log.stable_are }
 
     stands_now : Stands meaning p d.reads (take engine.forced commands)
-    stands_now = subst (λ (l : List O). Stands meaning p d.reads l) (sym taken) (stands_by d.reads engine.log.log.active engine.log.log.header c.stable only_stable c.base c.none_before c.log.in_force held_stable whole c.shut)
+    stands_now = subst (λ (l : List O). Stands meaning p d.reads l) (sym taken) (stands_by d.reads engine.log.log.active engine.log.log.header c.stable only_stable c.base c.none_before c.log.in_force held_stable whole c.closed)
 
     pub image_is : d.tells_moments → (files : Files) (said : List ℕ) → d.left_since d.clock files said → files ≡ d.reads
     image_is told files said left = λ i file. c.log.settled file told files said left i
@@ -133,14 +133,14 @@ module _ {O : Type 0} (meaning : Bounds → Meaning O) (p : Params) where
         let same = sym (each.others Objects (λ e. c.log.in_force.a_log (sym e))) in
         let in_force = in_force_stays active engine.log.log.header.epoch _ d.reads files each c.log.in_force in
         let objects = subst (λ (l : List ℕ). IsObjectsFile p l) same whole in
-        let shut = subst (λ (l : List ℕ). AreSlotsShut p l) same c.shut in
+        let closed = subst (λ (l : List ℕ). AreSlotsClosed p l) same c.closed in
         ⊎_elim
         (λ (held : HoldsRecords (meaning_in meaning p) engine.log.log.header c.stable (files active)). record {
           quiet = is.nothing_said;
           kept = engine.forced;
           enough = omega arith;
           within = within;
-          stands = subst (λ (l : List O). Stands meaning p files l) (sym taken) (stands_by files active engine.log.log.header c.stable only_stable c.base c.none_before in_force held objects shut);
+          stands = subst (λ (l : List O). Stands meaning p files l) (sym taken) (stands_by files active engine.log.log.header c.stable only_stable c.base c.none_before in_force held objects closed);
         })
         (λ (held : HoldsRecords (meaning_in meaning p) engine.log.log.header (c.stable ++ c.pending) (files active)). record {
           quiet = is.nothing_said;
@@ -148,7 +148,7 @@ module _ {O : Type 0} (meaning : Bounds → Meaning O) (p : Params) where
           enough = within;
           within = omega arith;
           stands = subst (λ (l : List O). Stands meaning p files l) (sym c.commands_are ∙ sym (take_all (length commands) commands (omega arith)))
-              (stands_by files active engine.log.log.header (c.stable ++ c.pending) c.only c.base c.none_before in_force held objects shut);
+              (stands_by files active engine.log.log.header (c.stable ++ c.pending) c.only c.base c.none_before in_force held objects closed);
         })
         each.changed
 
@@ -195,7 +195,7 @@ module _ {O : Type 0} (meaning : Bounds → Meaning O) (p : Params) where
           accepted = refl;
           forced = refl;
           laid = subst (λ (l : List ℕ). IsLaidOn objects l) kept c.laid;
-          shut = subst (λ (l : List ℕ). AreSlotsShut p l) kept c.shut;
+          closed = subst (λ (l : List ℕ). AreSlotsClosed p l) kept c.closed;
           values = λ x below. subst (λ (l : List ℕ). values_in objects l x ≡ state_of meaning p commands x) kept (c.values x below);
           unbroken = c.unbroken;
         } in

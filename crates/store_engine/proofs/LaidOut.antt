@@ -6,7 +6,7 @@ use Rattle.std.proofs.lemmas.Bool.{cases_eq}
 use Rattle.disk_model.specs.Disk.{Files, Disk, Passes, Runs, Stays, Same, In, Any, Torn, IsSettled, LeavesOnly}
 use Rattle.disk_model.specs.Moments.{first_call, goes_on, runs_on, weaker, from_reads, stays_settled, passes_twice}
 use Rattle.disk_model.specs.declared.machine.FileNo.TheVariants.{Objects}
-use Rattle.formats.specs.Bytes.{IsShutAt}
+use Rattle.formats.specs.Bytes.{IsClosedAt}
 use Rattle.formats.specs.Log.{new_header}
 use Rattle.formats.specs.Image.{BeginsStore}
 use Rattle.oper_core.specs.Meaning.{Meaning}
@@ -14,17 +14,17 @@ use Rattle.oper_core.specs.declared.bounds.Bounds.{Bounds}
 use Rattle.formats.specs.declared.params.Params.{Params}
 use Rattle.log_frames.specs.Creating.{LogsAlone, IsNewLog}
 use Rattle.log_frames.specs.Laws.{log_stays}
-use Rattle.stable_objects.specs.Making.{IsShut, IsNewFile, IsShutOrWhole}
+use Rattle.stable_objects.specs.Making.{IsClosedFile, IsNewFile, IsClosedOrWhole}
 use Rattle.store_engine.specs.Engine.{InEachImage, IsNew}
 use Rattle.store_engine.specs.Starts.{OrAtStart, then_leaves}
 use Rattle.store_engine.specs.Store.{Stands}
 
 -- no store begins behind a closed gate
-shut_begins : (file : List ℕ) → IsShutAt 0 file → BeginsStore file → ⊥
-shut_begins file shut begins = shut (sym (get_or-take 9 file 0 0 (omega arith)) ∙ ap (λ (l : List ℕ). get_or l 0 0) begins)
+closed_begins : (file : List ℕ) → IsClosedAt 0 file → BeginsStore file → ⊥
+closed_begins file closed begins = closed (sym (get_or-take 9 file 0 0 (omega arith)) ∙ ap (λ (l : List ℕ). get_or l 0 0) begins)
 
 -- nor does one while the gate is closed
-torn_begins : (file new : List ℕ) → (BeginsStore file → ⊥) → (IsShut file → new ≡ file) → Torn 0 1 file new → BeginsStore new → ⊥
+torn_begins : (file new : List ℕ) → (BeginsStore file → ⊥) → (IsClosedFile file → new ≡ file) → Torn 0 1 file new → BeginsStore new → ⊥
 torn_begins [] new none idle torn begins =
     let long = torn.no_longer in
     let nine : length (take 9 new) ≡ 9 = ap (λ (l : List ℕ). length l) begins in
@@ -36,7 +36,7 @@ torn_begins (gate ∷ rest) (gate' ∷ rest') none idle torn begins =
           let behind : take 8 rest' ≡ codes "RDOOBJ01" = ap (λ (l : List ℕ). drop 1 l) begins in
           let same : rest' ≡ rest = torn.after in
           none (ap (λ (g : ℕ). g ∷ take 8 rest) is_open ∙ ap (λ (l : List ℕ). 1 ∷ l) (ap (λ (l : List ℕ). take 8 l) (sym same) ∙ behind))
-      | inr shut ↦ none (subst (λ (l : List ℕ). BeginsStore l) (idle (record { some = omega arith; shut = shut })) begins)
+      | inr closed ↦ none (subst (λ (l : List ℕ). BeginsStore l) (idle (record { some = omega arith; closed = closed })) begins)
     ]
 
 -- the calls in a row
@@ -58,7 +58,7 @@ module _ {O : Type 0} (meaning : Bounds → Meaning O) (p : Params) where
   pub stands_new : (files : Files) → IsNewFile p (files Objects) → IsNewLog files → Stands meaning p files []
   stands_new files objects log = record {
     objects = objects.whole;
-    shut = objects.shut;
+    closed = objects.closed;
     log = record {
       active = _;
       header = new_header;
@@ -93,41 +93,41 @@ module _ {O : Type 0} (meaning : Bounds → Meaning O) (p : Params) where
     settled_first file = stays_settled old first file kept (settled file)
 
     -- while the gate is closed
-    pub shutting : (second : Disk) → Runs (In Objects (Torn 0 1)) Same first second → (first.tells_files → IsShut (first.reads Objects) → Stays first second) → LeavesOnly old second (NewSoFar old)
-    shutting second run idle =
+    pub closing : (second : Disk) → Runs (In Objects (Torn 0 1)) Same first second → (first.tells_files → IsClosedFile (first.reads Objects) → Stays first second) → LeavesOnly old second (NewSoFar old)
+    closing second run idle =
         let told_first = kept.time.moments_told.0 told in
         let none_first = λ (begins : BeginsStore (first.reads Objects)). none (subst (λ (f : Files). BeginsStore (f Objects)) (kept.reads tells) begins) in
         goes_on old first second (NewSoFar old) told_first looked run.time (λ files said left.
         let from = from_reads first second (In Objects (Torn 0 1)) Same told_first settled_first run.crash files said left in
-        let same = λ (shut : IsShut (first.reads Objects)).
-        ap (λ (f : Files). f Objects) (from_reads first second Same Same told_first settled_first (idle (kept.time.files_told.0 tells) shut).crash files said left).0 in
+        let same = λ (closed : IsClosedFile (first.reads Objects)).
+        ap (λ (f : Files). f Objects) (from_reads first second Same Same told_first settled_first (idle (kept.time.files_told.0 tells) closed).crash files said left).0 in
         (inl (torn_begins (first.reads Objects) (files Objects) none_first same from.0.changed), from.1 ∙ kept.said tells))
 
-    module _ (second third : Disk) (run : Runs (In Objects (Torn 0 1)) Same first second) (idle : first.tells_files → IsShut (first.reads Objects) → Stays first second)
-        (settles : IsSettled first → IsSettled second) (shuts : first.tells_files → IsShut (second.reads Objects)) (logs : Runs LogsAlone Same second third) where
+    module _ (second third : Disk) (run : Runs (In Objects (Torn 0 1)) Same first second) (idle : first.tells_files → IsClosedFile (first.reads Objects) → Stays first second)
+        (settles : IsSettled first → IsSettled second) (closes : first.tells_files → IsClosedFile (second.reads Objects)) (logs : Runs LogsAlone Same second third) where
       tells_second : second.tells_files
       tells_second = run.time.files_told.0 (kept.time.files_told.0 tells)
 
       told_second : second.tells_moments
       told_second = run.time.moments_told.0 (kept.time.moments_told.0 told)
 
-      shut : IsShut (second.reads Objects)
-      shut = shuts (kept.time.files_told.0 tells)
+      closed : IsClosedFile (second.reads Objects)
+      closed = closes (kept.time.files_told.0 tells)
 
       said_second : second.said ≡ old.said
       said_second = run.said (kept.time.files_told.0 tells) ∙ kept.said tells
 
       -- while the logs are made
       pub logging : LeavesOnly old third (NewSoFar old)
-      logging = goes_on old second third (NewSoFar old) told_second (shutting second run idle) logs.time (λ files said left.
+      logging = goes_on old second third (NewSoFar old) told_second (closing second run idle) logs.time (λ files said left.
           let from = from_reads second third LogsAlone Same told_second (settles settled_first) logs.crash files said left in
           let same : files Objects ≡ second.reads Objects = from.0 in
-          (inl (shut_begins (files Objects) (subst (λ (l : List ℕ). IsShutAt 0 l) (sym same) shut.shut)), from.1 ∙ said_second))
+          (inl (closed_begins (files Objects) (subst (λ (l : List ℕ). IsClosedAt 0 l) (sym same) closed.closed)), from.1 ∙ said_second))
 
-      new_or_none : (files : Files) (said : List ℕ) → IsShutOrWhole third p files said → IsNewLog third.reads → NewSoFar old files said
+      new_or_none : (files : Files) (said : List ℕ) → IsClosedOrWhole third p files said → IsNewLog third.reads → NewSoFar old files said
       new_or_none files said is log =
           let silent : said ≡ old.said = is.silent ∙ logs.said tells_second ∙ said_second in elim is.objects [
-            | inl closed ↦ (inl (shut_begins (files Objects) closed), silent)
+            | inl closed ↦ (inl (closed_begins (files Objects) closed), silent)
             | inr whole ↦ (
               inr (stands_new files whole (log_stays _ new_header [] Any third.reads files (record { changed = tt; others = is.others }) log)),
               silent,
@@ -136,12 +136,12 @@ module _ {O : Type 0} (meaning : Bounds → Meaning O) (p : Params) where
 
       -- while the objects are made
       pub laying_out : (fourth : Disk) → (second.tells_files → IsNewLog third.reads) → (IsSettled second → IsSettled third)
-          → (third.tells_moments → IsSettled third → IsShut (third.reads Objects) → LeavesOnly third fourth (IsShutOrWhole third p)) → LeavesOnly old fourth (NewSoFar old)
+          → (third.tells_moments → IsSettled third → IsClosedFile (third.reads Objects) → LeavesOnly third fourth (IsClosedOrWhole third p)) → LeavesOnly old fourth (NewSoFar old)
       laying_out fourth made settles_third leaves =
           let same : third.reads Objects ≡ second.reads Objects = logs.reads tells_second in
-          let shut_third = subst (λ (l : List ℕ). IsShut l) (sym same) shut in
+          let closed_third = subst (λ (l : List ℕ). IsClosedFile l) (sym same) closed in
           runs_on old third fourth (NewSoFar old) logging
-          (weaker third fourth (IsShutOrWhole third p) (NewSoFar old) (leaves (logs.time.moments_told.0 told_second) (settles_third (settles settled_first)) shut_third)
+          (weaker third fourth (IsClosedOrWhole third p) (NewSoFar old) (leaves (logs.time.moments_told.0 told_second) (settles_third (settles settled_first)) closed_third)
           (λ files said is. new_or_none files said is (made tells_second)))
 
   -- a store that is laid out is there after each crash

@@ -8,10 +8,10 @@ use Rattle.disk_model.specs.declared.machine.FileNo.{FileNo}
 use Rattle.disk_model.specs.declared.machine.FileNo.TheVariants.{Objects}
 use Rattle.oper_core.specs.Meaning.{Meaning, HasBounds, IsSmall, IsLawful, state_after}
 use Rattle.oper_core.specs.declared.bounds.Bounds.{Bounds}
-use Rattle.formats.specs.Bytes.{IsOpenAt, IsShutAt}
+use Rattle.formats.specs.Bytes.{IsOpenAt, IsClosedAt}
 use Rattle.formats.specs.Log.{Header}
 use Rattle.oper_core.specs.Cell.{Cell}
-use Rattle.formats.specs.Objects.{cell_of, IsInRange, IsObjectsFile, AreSlotsShut, bounds_of, slot_place, identifier_at}
+use Rattle.formats.specs.Objects.{cell_of, IsInRange, IsObjectsFile, AreSlotsClosed, bounds_of, slot_place, identifier_at}
 use Rattle.formats.specs.FirstFault.{IsDamaged, AreObjectsWhole, at_objects, at_logs, at_record, at_late_slot}
 use Rattle.formats.specs.Image.{params_in, IsRecordFault, IsLateSlot}
 use Rattle.formats.specs.Records.{records_of, commands_of, next_after, AreRecords, AreCommands, IsRecord, HoldsRecordLog}
@@ -22,7 +22,7 @@ use Rattle.log_frames.specs.declared.log_err.LogErr.{LogErr}
 use Rattle.log_frames.specs.declared.log_err.LogErr.TheVariants as of_log
 use Rattle.stable_objects.specs.Laws.{one_store, params_of_file, gate_is_open}
 use Rattle.stable_objects.specs.Reading as slots
-use Rattle.stable_objects.specs.SlotLaws.{shut_cells, none_late, late_slot, is_late}
+use Rattle.stable_objects.specs.SlotLaws.{closed_cells, none_late, late_slot, is_late}
 use Rattle.stable_objects.specs.SlotsView.{SlotsView, AreOf, IsLate}
 use Rattle.stable_objects.specs.declared.slot_err.SlotErr.{SlotErr}
 use Rattle.stable_objects.specs.declared.slot_err.SlotErr.TheVariants as of_slots
@@ -91,7 +91,7 @@ abbrev pub IsLateAt : SlotsView → ℕ → ℕ → Type 0
 IsLateAt slots next place =
     (x : ℕ) × (s : ℕ) × IsLate slots next x s × (place ≡ slot_place slots.params.cap x s + 1) × ((y t : ℕ) → IsLate slots next y t → 2 * x + s ≤ 2 * y + t)
 
--- a log that is whole tells no damage
+-- a log that is whole reports no damage
 pub unharmed : (e : LogErr) → (log.TellsDamage e → ⊥) → (from_log e ≢ NotAStore) × IsNoDamage (from_log e)
 unharmed of_log.DiskFault none = ((λ same. cc), tt)
 unharmed (of_log.LogFull used need limit) none = ((λ same. cc), tt)
@@ -99,7 +99,7 @@ unharmed (of_log.Damaged file place) none = absurd (none tt)
 unharmed (of_log.Exhausted epoch) none = ((λ same. cc), tt)
 unharmed of_log.Memory none = ((λ same. cc), tt)
 
--- the redo on slots of the file tells none
+-- the redo on slots of the file reports none
 pub redo_unharmed : (old far : Disk) (objects : Laid) (rises : Type 0) (e : SlotErr) → HasSlots old far objects → old.tells_files
     → slots.FailsBy rises ⊥ (λ file place. (file ≡ Objects) × (far.tells_files → AreOf objects.slots (far.reads Objects) → ⊥)) e → (from_slots e ≢ NotAStore) × IsNoDamage (from_slots e)
 redo_unharmed old far objects rises of_slots.NotAStore has told fails = absurd fails
@@ -111,9 +111,9 @@ redo_unharmed old far objects rises of_slots.Memory has told fails = ((λ same. 
 module _ {O : Type 0} (meaning : Bounds → Meaning O) where
   -- the slots are not loaded
   pub slots_fail : (old mid new : Disk) (e : SlotErr) → Stays old mid
-      → slots.FailsBy (Rises mid.disk_faults new.disk_faults) (mid.tells_files → IsShutAt 0 (mid.reads Objects)) (slots.FailsAt (λ place. mid.tells_files → slots.IsDamagedAt (mid.reads Objects) place)) e
-      → FailsBy (Rises old.disk_faults new.disk_faults) (old.tells_files → IsShutAt 0 (old.reads Objects)) (λ file place. old.tells_files → IsDamaged meaning old.reads file place) (from_slots e)
-  slots_fail old mid new of_slots.NotAStore kept fails = λ told. subst (λ (f : Files). IsShutAt 0 (f Objects)) (kept.reads told) (fails (kept.time.files_told.0 told))
+      → slots.FailsBy (Rises mid.disk_faults new.disk_faults) (mid.tells_files → IsClosedAt 0 (mid.reads Objects)) (slots.FailsAt (λ place. mid.tells_files → slots.IsDamagedAt (mid.reads Objects) place)) e
+      → FailsBy (Rises old.disk_faults new.disk_faults) (old.tells_files → IsClosedAt 0 (old.reads Objects)) (λ file place. old.tells_files → IsDamaged meaning old.reads file place) (from_slots e)
+  slots_fail old mid new of_slots.NotAStore kept fails = λ told. subst (λ (f : Files). IsClosedAt 0 (f Objects)) (kept.reads told) (fails (kept.time.files_told.0 told))
   slots_fail old mid new of_slots.DiskFault kept fails = λ small. let risen = fails small in let later = kept.time.disk_faults in omega arith
   slots_fail old mid new (of_slots.Damaged file place) kept fails = λ told.
       let at = subst (λ (f : Files). slots.IsDamagedAt (f Objects) place) (kept.reads told) (fails.1 (kept.time.files_told.0 told)) in
@@ -132,7 +132,7 @@ module _ {O : Type 0} (meaning : Bounds → Meaning O) where
   -- the log is not loaded
   pub log_fails : (old mid new : Disk) (objects : Laid) (b : Bounds) (e : LogErr) → HasSlots old mid objects → b ≡ bounds_of objects.slots.params
       → log.FailsBy (Rises mid.disk_faults new.disk_faults) (λ file place. mid.tells_files → IsLoadFault (meaning b) mid.reads file place) e
-      → FailsBy (Rises old.disk_faults new.disk_faults) (old.tells_files → IsShutAt 0 (old.reads Objects)) (λ file place. old.tells_files → IsDamaged meaning old.reads file place) (from_log e)
+      → FailsBy (Rises old.disk_faults new.disk_faults) (old.tells_files → IsClosedAt 0 (old.reads Objects)) (λ file place. old.tells_files → IsDamaged meaning old.reads file place) (from_log e)
   log_fails old mid new objects b of_log.DiskFault has bounds fails = λ small. let risen = fails small in let later = has.kept.time.disk_faults in omega arith
   log_fails old mid new objects b (of_log.LogFull used need limit) has bounds fails = tt
   log_fails old mid new objects b (of_log.Damaged file place) has bounds fails = λ told.
@@ -154,7 +154,7 @@ module _ {O : Type 0} (meaning : Bounds → Meaning O) where
 
   -- the records of a log that is loaded are not read
   pub records_fail : (old last new : Disk) (fault : FileNo → ℕ → Type 0) (e : LogErr) → Stays old last → log.FailsBy (Rises last.disk_faults new.disk_faults) fault e → (old.tells_files → log.TellsDamage e → ⊥)
-      → FailsBy (Rises old.disk_faults new.disk_faults) (old.tells_files → IsShutAt 0 (old.reads Objects)) (λ file place. old.tells_files → IsDamaged meaning old.reads file place) (from_log e)
+      → FailsBy (Rises old.disk_faults new.disk_faults) (old.tells_files → IsClosedAt 0 (old.reads Objects)) (λ file place. old.tells_files → IsDamaged meaning old.reads file place) (from_log e)
   records_fail old last new fault of_log.DiskFault kept fails none = λ small. let risen = fails small in let later = kept.time.disk_faults in omega arith
   records_fail old last new fault (of_log.LogFull used need limit) kept fails none = tt
   records_fail old last new fault (of_log.Damaged file place) kept fails none = λ told. absurd (none told tt)
@@ -164,7 +164,7 @@ module _ {O : Type 0} (meaning : Bounds → Meaning O) where
   -- the records are not done again
   pub redo_fails : (old far new : Disk) (objects : Laid) (e : SlotErr) → HasSlots old far objects
       → slots.FailsBy (Rises far.disk_faults new.disk_faults) ⊥ (λ file place. (file ≡ Objects) × (far.tells_files → AreOf objects.slots (far.reads Objects) → ⊥)) e
-      → FailsBy (Rises old.disk_faults new.disk_faults) (old.tells_files → IsShutAt 0 (old.reads Objects)) (λ file place. old.tells_files → IsDamaged meaning old.reads file place) (from_slots e)
+      → FailsBy (Rises old.disk_faults new.disk_faults) (old.tells_files → IsClosedAt 0 (old.reads Objects)) (λ file place. old.tells_files → IsDamaged meaning old.reads file place) (from_slots e)
   redo_fails old far new objects of_slots.NotAStore has fails = absurd fails
   redo_fails old far new objects of_slots.DiskFault has fails = λ small. let risen = fails small in let later = has.kept.time.disk_faults in omega arith
   redo_fails old far new objects (of_slots.Damaged file place) has fails = λ told.
@@ -319,7 +319,7 @@ module _ {O : Type 0} (meaning : Bounds → Meaning O) where
       let cells : AreRedone m engine.objects file (λ y. cell_of p.cap y file) (records_of is.groups) p.objects =
       subst (λ (q : Params). AreRedone (meaning_in meaning q) engine.objects file (λ y. cell_of q.cap y file) (records_of is.groups) q.objects) same is.cells in
       let objects : m.objects ≡ p.objects = (bounded (bounds_of p)).objects in
-      let law = redone_from_new m lawful_here (records_of is.groups) (λ y. cell_of p.cap y file) placed only (λ x within. shut_cells p file x stands.shut (omega (arith, within, objects))) in
+      let law = redone_from_new m lawful_here (records_of is.groups) (λ y. cell_of p.cap y file) placed only (λ x within. closed_cells p file x stands.closed (omega (arith, within, objects))) in
       let carried : Carries meaning p new engine commands = record {
         told = kept.time.files_told.0 told;
         params = same;
@@ -333,7 +333,7 @@ module _ {O : Type 0} (meaning : Bounds → Meaning O) where
         accepted = is.accepted;
         forced = is.forced;
         laid = subst (λ (f : Files). IsLaidOn engine.objects (f Objects)) (sym (kept.reads told)) is.laid;
-        shut = subst (λ (f : Files). AreSlotsShut p (f Objects)) (sym (kept.reads told)) stands.shut;
+        closed = subst (λ (f : Files). AreSlotsClosed p (f Objects)) (sym (kept.reads told)) stands.closed;
         values = λ x below.
             ap (λ (f : Files). (cell_in engine.objects (f Objects) x).value) (kept.reads told)
             ∙ ap (λ (c : Cell). c.value) (cells x below)

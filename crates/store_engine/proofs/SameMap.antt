@@ -6,10 +6,10 @@ use Rattle.disk_model.specs.declared.machine.FileNo.TheVariants.{Objects}
 use Rattle.oper_core.specs.Meaning.{Meaning}
 use Rattle.oper_core.specs.declared.bounds.Bounds.{Bounds}
 use Rattle.oper_core.specs.Cell.{Cell}
-use Rattle.formats.specs.Objects.{AreSlotsShut}
+use Rattle.formats.specs.Objects.{AreSlotsClosed}
 use Rattle.formats.specs.declared.params.Params.{Params}
 use Rattle.stable_objects.specs.SlotsView.{SlotsView, id_in}
-use Rattle.stable_objects.specs.SlotLaws.{shut_ids}
+use Rattle.stable_objects.specs.SlotLaws.{closed_ids}
 use Rattle.stable_objects.specs.declared.slot_err.SlotErr.{SlotErr}
 use Rattle.stable_objects.specs.declared.slot_err.SlotErr.TheVariants as of_slots
 use Rattle.dirty_cache.specs.Contents.{held}
@@ -85,10 +85,10 @@ attached_stays old new before engine stays same attached told_new =
 module _ {O : Type 0} (meaning : Bounds → Meaning O) (p : Params) where
   module _ (old : Disk) (before : EngineView) (commands : List O) (h : Holds meaning p old before commands) where
     -- no slot is open, so no object needs a call
-    pub all_shut : (x : ℕ) → x < (params_of before).objects → id_in before.objects.slots x ≡ 0
-    all_shut x below =
+    pub all_closed : (x : ℕ) → x < (params_of before).objects → id_in before.objects.slots x ≡ 0
+    all_closed x below =
         let c = h.carried in
-        shut_ids before.objects.slots (old.reads Objects) x c.laid.slots (subst (λ (q : Params). AreSlotsShut q (old.reads Objects)) (sym c.params) c.shut) below
+        closed_ids before.objects.slots (old.reads Objects) x c.laid.slots (subst (λ (q : Params). AreSlotsClosed q (old.reads Objects)) (sym c.params) c.closed) below
 
     -- the same commands
     pub same_map_kept : (new : Disk) (engine : EngineView) → Stays old new → IsSameMap old before engine → Kept meaning p before new engine commands
@@ -110,7 +110,7 @@ module _ {O : Type 0} (meaning : Bounds → Meaning O) (p : Params) where
           accepted = same.accepted ∙ c.accepted ∙ sym (ap (λ (v : RecordLogView). v.accepted) same.log);
           forced = same.forced ∙ c.forced ∙ sym (ap (λ (v : RecordLogView). v.forced) same.log);
           laid = subst (λ (f : Files). IsLaidOn engine.objects (f Objects)) reads cells.1;
-          shut = subst (λ (f : Files). AreSlotsShut p (f Objects)) reads c.shut;
+          closed = subst (λ (f : Files). AreSlotsClosed p (f Objects)) reads c.closed;
           values = λ x below.
               let there = subst (λ (q : Params). x < q.objects) (sym c.params) below in
               subst (λ (f : Files). values_in engine.objects (f Objects) x ≡ state_of meaning p commands x) reads (ap (λ (cell : Cell). cell.value) (cells.0 x there) ∙ c.values x below);

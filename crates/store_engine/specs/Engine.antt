@@ -4,7 +4,7 @@ use Rattle.disk_model.specs.Disk.{Files, Disk}
 use Rattle.disk_model.specs.declared.machine.FileNo.TheVariants.{Objects}
 use Rattle.oper_core.specs.Meaning.{Meaning, FitsReads}
 use Rattle.oper_core.specs.declared.bounds.Bounds.{Bounds}
-use Rattle.formats.specs.Objects.{bounds_of, AreSlotsShut}
+use Rattle.formats.specs.Objects.{bounds_of, AreSlotsClosed}
 use Rattle.formats.specs.Records.{record_code, commands_of, AreCommands}
 use Rattle.formats.specs.declared.record.Record.{Record}
 use Rattle.formats.specs.declared.record.Record.TheVariants.{Command}
@@ -70,7 +70,7 @@ forced_length log = record { used = log.used; waits = false }
 abbrev pub AreParts : Laid → RecordLogView → Type 0
 AreParts objects log = log.bounds ≡ bounds_of objects.slots.params
 
--- where the machine tells its files, the engine's objects are laid on the objects file, and its log is another one
+-- where the machine reports its files, the engine's objects are laid on the objects file, and its log is another one
 abbrev pub IsAttached : Disk → EngineView → Type 0
 IsAttached d engine = d.tells_files → IsLaidOn engine.objects (d.reads Objects) × (engine.log.log.active ≢ Objects)
 
@@ -122,7 +122,7 @@ IsNoDamage (Damaged file place) = ⊥
 IsNoDamage error = ⊤
 
 module _ {O : Type 0} (meaning : Bounds → Meaning O) where
-  -- the machine tells its files, and what reads give stands for the commands
+  -- the machine reports its files, and what reads give stands for the commands
   pub record Opens (p : Params) (d : Disk) (commands : List O) : Type 0 where
     pub told : d.tells_files
     pub stands : Stands meaning p d.reads commands
@@ -146,7 +146,7 @@ module _ {O : Type 0} (meaning : Bounds → Meaning O) where
     pub accepted : engine.accepted ≡ engine.log.accepted
     pub forced : engine.forced ≡ engine.log.forced
     pub laid : IsLaidOn engine.objects (d.reads Objects)
-    pub shut : AreSlotsShut p (d.reads Objects)
+    pub closed : AreSlotsClosed p (d.reads Objects)
     pub values : IsMapOf p d engine commands
     pub unbroken : engine.broken ≡ false
 

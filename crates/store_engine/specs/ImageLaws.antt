@@ -53,7 +53,7 @@ module _ {O : Type 0} (meaning : Bounds → Meaning O) where
     groups = stands.log.groups;
     objects = stands.objects;
     log = stands.log.log;
-    none_late = λ x s below two is_open. absurd (stands.shut x s below two is_open);
+    none_late = λ x s below two is_open. absurd (stands.closed x s below two is_open);
   }
 
   -- where files meet it, their gate is open

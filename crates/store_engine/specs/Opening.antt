@@ -42,12 +42,12 @@ pub record IsRead {O : Type 0} (meaning : Bounds → Meaning O) (files : Files) 
       ≡ fold (redone (meaning_in meaning (params_of engine))) (λ y. cell_of (params_of engine).cap y (files Objects)) (records_of groups) x
 
 -- Why an opening fails: by a fault of the disk, which then counts it, since the objects gate is closed, by a fault in
--- the files, or for want of memory.
+-- the files, or out of memory.
 abbrev pub FailsBy : Type 0 → Type 0 → (FileNo → ℕ → Type 0) → RestartErr → Type 0
-FailsBy rises shut fault DiskFault = rises
-FailsBy rises shut fault NotAStore = shut
-FailsBy rises shut fault (Damaged file place) = fault file place
-FailsBy rises shut fault Memory = ⊤
+FailsBy rises closed fault DiskFault = rises
+FailsBy rises closed fault NotAStore = closed
+FailsBy rises closed fault (Damaged file place) = fault file place
+FailsBy rises closed fault Memory = ⊤
 
 -- what an opening answers where the log does not load
 abbrev pub from_log : LogErr → RestartErr
@@ -72,7 +72,7 @@ exec_from_slots (of_slots.Damaged file place) = of_exec.Damaged file place
 exec_from_slots of_slots.Memory = of_exec.Memory
 
 -- Why a slot is not read: by a fault of the disk, which then counts it, by damage of the objects file, which no file has
--- whose slots the engine's are, or for want of memory. A refusal has its own cause.
+-- whose slots the engine's are, or out of memory. A refusal has its own cause.
 abbrev pub IsReadFailure : Disk → Disk → EngineView → ExecErr → Type 0
 IsReadFailure old new engine (of_exec.Refused refusal) = ⊤
 IsReadFailure old new engine of_exec.DiskFault = Rises old.disk_faults new.disk_faults

@@ -82,7 +82,7 @@ impl<O: Oper> Engine<O> {
         cause.into()
     }
 
-    /// Sees that an object is cached, so that `get` tells its value: where it is not, its slot is read.
+    /// Sees that an object is cached, so that `get` reports its value: where it is not, its slot is read.
     ///
     /// It answers `Refused(NoObject)` exactly where there is no such object, `DiskFault`, `Damaged` where the slot breaks
     /// its format, and `Memory`; of the other answers none. Each object has the value that it had.

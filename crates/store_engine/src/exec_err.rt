@@ -26,7 +26,7 @@ pub enum ExecErr {
     /// No record may have this number.
     #[error("no record may have the number {number}")]
     LsnEnd { number: u64 },
-    /// Want of memory.
+    /// Out of memory.
     #[error("out of memory")]
     Memory,
 }

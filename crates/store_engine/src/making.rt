@@ -38,7 +38,7 @@ impl<O: Oper> Engine<O> {
         if Slots::begins(machine)? {
             return Err(InitErr::AlreadyStore);
         }
-        Slots::shut(machine)?;
+        Slots::close(machine)?;
         if RecordLog::<O>::create(machine).is_err() {
             return Err(InitErr::DiskFault);
         }

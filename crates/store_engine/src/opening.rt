@@ -2,7 +2,7 @@
 ghost use Rattle.std.specs.Prelude.{◌≡◌, ◌≢◌, ◌⊎◌, ◌<◌, false, List, ℕ, length, OnOk, IfOk, IfErr, IsErrOf};
 ghost use Rattle.disk_model.specs.Disk.{Rises, Passes, Stays, LeavesOnly, IsSettled};
 ghost use Rattle.disk_model.specs.declared.machine.FileNo.TheVariants.{Objects as ObjectsFile};
-ghost use Rattle.formats.specs.Bytes.{IsOpenAt, IsShutAt};
+ghost use Rattle.formats.specs.Bytes.{IsOpenAt, IsClosedAt};
 ghost use Rattle.formats.specs.FirstFault.{IsDamaged};
 ghost use Rattle.formats.specs.declared.params.Params.{Params};
 ghost use Rattle.store_engine.specs.Engine.{Opens, Holds, Between, IsAttached, IsNoDamage};
@@ -33,7 +33,7 @@ impl<O: Oper> Engine<O> {
         ensures unbroken { IfOk result (λ engine. engine.broken ≡ false) }
         ensures whole { (M.disk machine.old).tells_files → IsWellFormed O.meaning (M.disk machine.old).reads → IfErr result (λ e. (e ≢ RestartErr.NotAStore) × IsNoDamage e) }
         ensures cause { IfErr result (FailsBy (Rises (M.disk machine.old).disk_faults (M.disk machine.new).disk_faults)
-            ((M.disk machine.old).tells_files → IsShutAt 0 ((M.disk machine.old).reads ObjectsFile))
+            ((M.disk machine.old).tells_files → IsClosedAt 0 ((M.disk machine.old).reads ObjectsFile))
             (λ file place. (M.disk machine.old).tells_files → IsDamaged O.meaning (M.disk machine.old).reads file place)) }
         ensures memory { (M.disk machine.old).tells_files → IsErrOf result RestartErr.Memory → IsOpenAt 0 ((M.disk machine.old).reads ObjectsFile) }
     {
@@ -79,9 +79,9 @@ impl<O: Oper> Engine<O> {
         ensures unbroken { IfOk result (λ engine. engine.broken ≡ false) }
         ensures read { (M.disk machine.old).tells_files → OnOk result (IsWellFormed O.meaning (M.disk machine.old).reads) }
         ensures undamaged { (M.disk machine.old).tells_files → IsWellFormed O.meaning (M.disk machine.old).reads → IfErr result (λ e. (e ≢ RestartErr.NotAStore) × IsNoDamage e) }
-        ensures no_store { (M.disk machine.old).tells_files → IsErrOf result RestartErr.NotAStore → IsShutAt 0 ((M.disk machine.old).reads ObjectsFile) }
+        ensures no_store { (M.disk machine.old).tells_files → IsErrOf result RestartErr.NotAStore → IsClosedAt 0 ((M.disk machine.old).reads ObjectsFile) }
         ensures damaged { (M.disk machine.old).tells_files → (file : FileNo) (place : ℕ) → IsErrOf result (RestartErr.Damaged file place) → IsDamaged O.meaning (M.disk machine.old).reads file place }
-        // Where they are damaged it tells that, unless the disk fails or memory runs out.
+        // Where they are damaged it reports that, unless the disk fails or memory runs out.
         ensures exactly { (M.disk machine.old).tells_files → (file : FileNo) (place : ℕ) → IsDamaged O.meaning (M.disk machine.old).reads file place →
             IsErrOf result (RestartErr.Damaged file place) ⊎ (IsErrOf result RestartErr.Memory ⊎ IsErrOf result RestartErr.DiskFault) }
         ensures fault { IsErrOf result RestartErr.DiskFault → Rises (M.disk machine.old).disk_faults (M.disk machine.new).disk_faults }

@@ -19,7 +19,7 @@ pub enum RestartErr {
     /// The files break their format, in this file at this place.
     #[error("{file:?} is damaged at {place}")]
     Damaged { file: FileNo, place: u64 },
-    /// Want of memory.
+    /// Out of memory.
     #[error("out of memory")]
     Memory,
 }

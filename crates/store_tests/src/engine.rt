@@ -43,7 +43,7 @@ impl Store {
         })
     }
 
-    // Gives a value to an object. Want of memory for the value is told as the engine tells its own.
+    // Gives a value to an object. Out of memory for the value is reported as the engine's own.
     fn put(&mut self, object: u32, value: &[u8]) -> Result<u64, ExecErr> {
         let Ok(value) = value.to_vec(self.alloc) else {
             return Err(ExecErr::Memory);
@@ -56,7 +56,7 @@ impl Store {
         self.engine.exec(&mut self.machine, op)
     }
 
-    // Forces, on a machine that fails after so many calls. It tells whether the force succeeds, and gives the machine.
+    // Forces, on a machine that fails after so many calls. It reports whether the force succeeds, and gives the machine.
     fn force(self, calls: u64) -> (bool, MemMachine) {
         let mut engine = self.engine;
         let mut fuse = Fuse::new(self.machine, calls);

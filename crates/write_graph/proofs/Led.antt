@@ -292,7 +292,7 @@ pub answered-on : (objects : List ℕ) (slot i x v : ℕ) (old mid new : Graph) 
 answered-on objects slot i x v old mid new old_rows mid_rows answered rows lt was at ver is set =
     let P : ℕ → ℕ → ℕ → Type 0 = λ n c p. IsReader old.held old_rows (take n objects) slot c p in
     let Q : ℕ → ℕ → Type 0 = λ c p. WaitsFor mid.held mid_rows x v c × (p ≡ v) in
-    -- what x's row told before, where x comes for the first time
+    -- what x's row reported before, where x comes for the first time
     let same : IsFalse (is_among x (take i objects)) → v ≡ version_of old.held old_rows slot x = λ off.
     ver ∙ ap (λ (o : Option ℕ). unwrap_or (if_held mid.held o) slot) (was.others x (both_ways _ off)).1 ∙ ap (λ (held : List Bool). version_of held old_rows slot x) was.led.grown.held in
     let first : (c : ℕ) → IsFalse (is_among x (take i objects)) → WaitsFor mid.held mid_rows x v c → WaitsFor old.held old_rows x (version_of old.held old_rows slot x) c = λ c off w. (

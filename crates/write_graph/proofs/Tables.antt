@@ -1,4 +1,4 @@
--- What the tables of the rows tell, and what each call makes of them.
+-- What the tables of the rows report, and what each call makes of them.
 use Rattle.std.proofs.Common.{◌≡◌, ◌∙◌, ap, sym, subst, ℕ, ◌+◌, ◌<◌, ◌≤◌, ◌^◌, ◌-◌, min, List, [], ◌∷◌, ◌++◌, length, length-append, Option, Some, None, refl, arith, inl, inr}
 use Rattle.std.specs.Prelude.{IsTrue, IsFalse, nat_eq, nat_lt, slice_index, slice_index_or, slice_set, MatchOption}
 use Rattle.std.specs.List.{position, position_or_len, list_any}
@@ -99,7 +99,7 @@ row-there keys more last waiting room room_more x row there e at le =
       cell_room = refl;
     }
 
--- an object more changes what no object's row tells
+-- an object more changes what no object's row reports
 last-more : (keys : List ℕ) (last : List (Option ℕ)) (x y : ℕ) → length last ≡ length keys → slice_index_or (last ++ None ∷ []) (place_in y (keys ++ x ∷ [])) None ≡ slice_index_or last (place_in y keys) None
 last-more keys last x y len = elim (cases_lt (place_in y keys) (length keys)) [
   | inl lt ↦ ap (λ (k : ℕ). slice_index_or (last ++ None ∷ []) k None) (place-left y keys (x ∷ []) lt) ∙ read-more last (place_in y keys) None

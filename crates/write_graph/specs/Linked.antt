@@ -11,19 +11,19 @@ use Rattle.graph_nodes.specs.Named.{Graph}
 use Rattle.write_graph.specs.Cells.{reads_of, writes_of, slot_access, IsReadCell, CellLeads}
 use Rattle.write_graph.specs.Rows.{last_of, waiting_of, Rows, last_held}
 
--- the cells tell the few edges
+-- the cells report the few edges
 pub record AreArcs (a : Access) (entries : List Entry) (arcs : List (Option ℕ)) : Type 0 where
   pub only : (c p : ℕ) → arc_at arcs c ≡ Some p → CellLeads a entries c p
   pub all : (o p : ℕ) → Arc a o p → IsArc arcs o p
 
--- the rows tell the last writers, and who reads the last version
+-- the rows report the last writers, and who reads the last version
 pub record AreRows (a : Access) (entries : List Entry) (held : List Bool) (rows : Rows) : Type 0 where
   pub below : (x w : ℕ) → last_of rows x ≡ Some w → w < length entries
   pub last : (x : ℕ) → MatchOption (last_held held rows x) (NoWriter a x) (λ w. IsLastWriter a x w)
   pub all : (x o : ℕ) → IsTrue (a.reads o x) → NoWriterFrom a x o → (c : ℕ) × (c / 8 ≡ o) × IsTrue (is_among c (waiting_of rows x))
   pub only : (x c : ℕ) → IsTrue (is_among c (waiting_of rows x)) → IsReadCell entries c x × (IsTrue (held_at held (c / 8)) → NoWriterFrom a x (c / 8))
 
--- no entry accesses more than its cells can tell
+-- no entry accesses more than its cells can report
 abbrev pub AreFew : List Entry → Type 0
 AreFew entries = (i : ℕ) → (length (reads_of entries i) ≤ 4) × (length (writes_of entries i) ≤ 4)
 

@@ -22,7 +22,7 @@ pub record AreTables (objects : List ℕ) (last : List (Option ℕ)) (waiting : 
   pub few : length objects ≤ 2 ^ 32
   pub once : (i : ℕ) → i < length objects → place_in (slice_index objects i) objects ≡ i
 
--- the row is that of x, and all rows tell what they told
+-- the row is that of x, and all rows report what they reported
 pub record IsRow (old : Rows) (x row : ℕ) (new : Rows) : Type 0 where
   pub place : row ≡ place_in x new.objects
   pub below : row < length new.objects

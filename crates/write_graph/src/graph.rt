@@ -68,7 +68,7 @@ impl WriteGraph {
         })
     }
 
-    /// Takes the memory that the next `add` of this entry needs. Nothing else changes, also where memory is wanting.
+    /// Takes the memory that the next `add` of this entry needs. Nothing else changes, also where it is out of memory.
     pub fn make_room(&mut self, _entry: &Entry) -> Result<(), Memory>
         ensures room { OnOk result (0 < self.new.room) }
         ensures same { self.new.entries ≡ self.old.entries }

@@ -38,7 +38,7 @@ impl Links {
         }
     }
 
-    /// Takes the memory for one more entry. Nothing else changes, also where memory is wanting.
+    /// Takes the memory for one more entry. Nothing else changes, also where it is out of memory.
     pub(crate) fn make_room(&mut self, entries: &[Entry]) -> Result<(), Memory>
         requires linked { AreLinked entries.now self.old.graph self.old.rows }
         ensures linked { AreLinked entries.now self.new.graph self.new.rows }

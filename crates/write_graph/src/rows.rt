@@ -47,7 +47,7 @@ impl Rows {
         }
     }
 
-    /// Makes room for eight more objects and cells. Nothing else changes, also where memory is wanting.
+    /// Makes room for eight more objects and cells. Nothing else changes, also where it is out of memory.
     pub(crate) fn make_room(&mut self) -> Result<(), Memory>
         ensures last { AreSameLast self.old self.new }
         ensures waiting { AreSameWaiting self.old self.new }

@@ -2,7 +2,7 @@ use Rattle.std.proofs.Common.{◌≡◌, subst, arith, Option}
 use Rattle.std.specs.Prelude.{IfSome}
 use Rattle.disk_model.specs.declared.machine.FileNo.TheVariants.{LogA, LogB}
 use Rattle.log_frames.specs.Choosing.{SeenIn}
-use Rattle.formats.specs.FirstFault.{both_shut, same_epoch}
+use Rattle.formats.specs.FirstFault.{both_closed, same_epoch}
 use Rattle.log_frames.specs.Reading.{header_of}
 use Rattle.log_frames.specs.declared.seen.Seen.{Seen}
 use Rattle.log_frames.proofs.Choosing.{chosen_first}
@@ -22,4 +22,4 @@ returns-then-first-second-2-clause-chosen c files a_file b_file a b =
 
 pub returns-in-None-b-clause-cause : goal.returns-in-None-b-clause-cause
 returns-in-None-b-clause-cause c files a b =
-    both_shut (subst (λ (o : Option Seen). SeenIn (files LogA) o) c.in-None.is a) (subst (λ (o : Option Seen). SeenIn (files LogB) o) c.in-None-b.is b)
+    both_closed (subst (λ (o : Option Seen). SeenIn (files LogA) o) c.in-None.is a) (subst (λ (o : Option Seen). SeenIn (files LogB) o) c.in-None-b.is b)

@@ -2,9 +2,9 @@ use Rattle.std.proofs.Common.{◌≡◌, refl, ◌<◌, ◌∙◌, ap, sym, subs
 use Rattle.std.proofs.lemmas.Result.{err_from_is_err_and}
 use Rattle.disk_model.specs.Disk.{Files}
 use Rattle.formats.specs.FirstFault.{stops, IsFirstHeaderFault, no_bytes, opened}
-use Rattle.formats.specs.Log.{IsShutLog}
+use Rattle.formats.specs.Log.{IsClosedLog}
 use Rattle.log_frames.specs.Reading.{header_of}
-use Rattle.log_frames.proofs.Choosing.{is_empty, shut_read, header_stands, by_header}
+use Rattle.log_frames.proofs.Choosing.{is_empty, closed_read, header_stands, by_header}
 use Rattle.log_frames.proofs.HeaderBytes.{front_stands, opened_by, behind_header}
 use Rattle.log_frames.proofs.loading.read_header.Goals as goal
 
@@ -16,8 +16,8 @@ returns-then-head-ne-OPEN-clause-seen g c told =
     let old = g.M.Machine.disk c.args.machine.now in
     let one = g.M.Machine.disk c.size.new.self in
     let same = c.size.ensures.kept.reads told in
-    subst (λ (f : Files). IsShutLog (f c.args.file)) same
-    (shut_read (one.reads c.args.file) c.read_padded.new.into c.in_ok-size.size (c.in_ok-read_padded.ensures.bytes (c.size.ensures.kept.time.files_told.0 told)) c.if-head-ne-OPEN.true
+    subst (λ (f : Files). IsClosedLog (f c.args.file)) same
+    (closed_read (one.reads c.args.file) c.read_padded.new.into c.in_ok-size.size (c.in_ok-read_padded.ensures.bytes (c.size.ensures.kept.time.files_told.0 told)) c.if-head-ne-OPEN.true
     (c.in_ok-size.ensures.size told ∙ ap (λ (f : Files). length (f c.args.file)) (sym same)) c.if-size-eq0.false)
 
 pub returns-in_err-header-clause-cause : goal.returns-in_err-header-clause-cause

@@ -4,7 +4,7 @@ use Rattle.std.proofs.lemmas.List.Elements.{All-push}
 use Rattle.std.proofs.lemmas.Result.{err_from_is_err_and}
 use Rattle.disk_model.specs.Disk.{Files, read_of}
 use Rattle.disk_model.specs.Moments.{stays_here, stays_twice}
-use Rattle.formats.specs.Bytes.{IsShutAt}
+use Rattle.formats.specs.Bytes.{IsClosedAt}
 use Rattle.formats.specs.Log.{IsPayload}
 use Rattle.log_frames.specs.Reading.{FoundAt, IsBlockHead}
 use Rattle.log_frames.specs.declared.payload.Payload.{Payload}
@@ -67,5 +67,5 @@ returns-clause-all g c told size header payloads is =
     let inv = c.loop-found.invariant in
     let same = inv.kept.reads told in
     let found = c.in_ok-len.ensures.found (inv.kept.time.files_told.0 told) (size ∙ ap (λ (f : Files). length (f c.args.file)) (sym same)) in
-    let shut = subst (λ (o : Option ℕ). FoundAt c.loop-found.gate (mid.reads c.args.file) o) c.in_default.is found in
-    finds_all header payloads (old.reads c.args.file) c.loop-found.gate c.loop-found.found.items is (inv.so_far told size) (subst (λ (f : Files). IsShutAt c.loop-found.gate (f c.args.file)) same shut)
+    let closed = subst (λ (o : Option ℕ). FoundAt c.loop-found.gate (mid.reads c.args.file) o) c.in_default.is found in
+    finds_all header payloads (old.reads c.args.file) c.loop-found.gate c.loop-found.found.items is (inv.so_far told size) (subst (λ (f : Files). IsClosedAt c.loop-found.gate (f c.args.file)) same closed)

@@ -3,7 +3,7 @@ use Rattle.disk_model.specs.Disk.{Files}
 use Rattle.disk_model.specs.Moments.{stays_here, stays_twice}
 use Rattle.std.specs.Prelude.{IfSome}
 use Rattle.std.proofs.lemmas.Result.{err_from_is_err_and}
-use Rattle.formats.specs.Bytes.{IsShutAt}
+use Rattle.formats.specs.Bytes.{IsClosedAt}
 use Rattle.log_frames.specs.Reading.{FoundAt}
 use Rattle.log_frames.proofs.Causes.{at_gate}
 use Rattle.log_frames.proofs.ReadTo.{read_none, read_more}
@@ -49,5 +49,5 @@ returns-clause-end g c told size =
     let same = inv.kept.reads told in
     let read = inv.so_far told size in
     let found = c.in_ok-len.ensures.found (inv.kept.time.files_told.0 told) (size ∙ ap (λ (f : Files). length (f c.args.file)) (sym same)) in
-    let shut = subst (λ (o : Option ℕ). FoundAt c.loop-len.gate (mid.reads c.args.file) o) c.in_default.is found in
-    record { payloads = read.0; read = read.1; shut = subst (λ (f : Files). IsShutAt c.loop-len.gate (f c.args.file)) same shut }
+    let closed = subst (λ (o : Option ℕ). FoundAt c.loop-len.gate (mid.reads c.args.file) o) c.in_default.is found in
+    record { payloads = read.0; read = read.1; closed = subst (λ (f : Files). IsClosedAt c.loop-len.gate (f c.args.file)) same closed }

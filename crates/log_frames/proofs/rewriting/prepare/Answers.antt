@@ -35,7 +35,7 @@ returns-clause-settled g c settled =
     keeps_settled _ _ _ c.args.file settled (keeps_more _ _ _ c.args.file c.in_ok-end.end 1 (omega (arith, c.in_ok-end.ensures.end)) two c.write_at-2.ensures.runs) c.sync.ensures.kept c.in_ok-sync.ensures.settled
 
 pub returns-clause-prepared : goal.returns-clause-prepared
-returns-clause-prepared g c told shut =
+returns-clause-prepared g c told closed =
     let old = (g.M.Machine.disk c.args.machine.now).reads c.args.file in
     let one = (g.M.Machine.disk c.write_at.new.self).reads c.args.file in
     let two = (g.M.Machine.disk c.put_blocks.new.machine).reads c.args.file in
@@ -47,7 +47,7 @@ returns-clause-prepared g c told shut =
     let ps = bytes_of c.args.payloads.now in
     let gate = get_or old 0 0 in
     let first = subst (λ (b : List ℕ). Holds 1 b old one) c.fields_of.ensures (c.in_ok-write_at.ensures.written told).changed in
-    let begins = front_grows (gate ∷ []) (header_fields header) old one 1 refl (gate_front old shut) first in
+    let begins = front_grows (gate ∷ []) (header_fields header) old one 1 refl (gate_front old closed) first in
     let long : 33 ≡ length (gate ∷ header_fields header) = omega (arith, length-header_bytes header) in
     let behind = c.in_ok-end.ensures.written told_one (gate ∷ header_fields header) long begins in
     let place : c.in_ok-end.end ≡ length ((gate ∷ header_fields header) ++ blocks ps) = omega (arith, c.in_ok-end.ensures.end, long, length-append (gate ∷ header_fields header) (blocks ps)) in

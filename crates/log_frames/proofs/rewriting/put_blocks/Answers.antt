@@ -3,13 +3,13 @@ use Rattle.std.proofs.lemmas.List.{append-nil}
 use Rattle.disk_model.specs.Disk.{In}
 use Rattle.disk_model.specs.Moments.{runs_none}
 use Rattle.formats.specs.Log.{blocks, block}
-use Rattle.log_frames.specs.Rewriting.{bytes_of, KeepsShut, IsFront}
+use Rattle.log_frames.specs.Rewriting.{bytes_of, KeepsClosed, IsFront}
 use Rattle.log_frames.proofs.Rewrites.{keeps_none, keeps_twice, end_more, end_within, blocks_more, payload_at}
 use Rattle.log_frames.proofs.rewriting.put_blocks.Goals as goal
 
 pub loop-payload-init : goal.loop-payload-init
 loop-payload-init g c = record {
-  kept = runs_none (g.M.Machine.disk c.args.machine.now) (In c.args.file KeepsShut) (keeps_none c.args.file) (g.met.M.Machine.lawful c.args.machine.now);
+  kept = runs_none (g.M.Machine.disk c.args.machine.now) (In c.args.file KeepsClosed) (keeps_none c.args.file) (g.met.M.Machine.lawful c.args.machine.now);
   here = refl;
   so_far = λ told front here begins. subst (λ (l : List ℕ). IsFront l ((g.M.Machine.disk c.args.machine.now).reads c.args.file)) (sym (append-nil front)) begins;
 }

@@ -3,13 +3,13 @@ use Rattle.disk_model.specs.Disk.{In, Holds}
 use Rattle.disk_model.specs.Moments.{runs_none}
 use Rattle.disk_model.specs.declared.machine.FileNo.TheVariants.{Objects}
 use Rattle.stable_objects.specs.Making.{KeepsGate}
-use Rattle.stable_objects.proofs.Made.{no_change, run_keeps, more_shut, all_shut}
+use Rattle.stable_objects.proofs.Made.{no_change, run_keeps, more_closed, all_closed}
 use Rattle.stable_objects.proofs.creating.close_slots.Goals as goal
 
 pub loop-slot-init : goal.loop-slot-init
 loop-slot-init g c = record {
   kept = runs_none (g.M.Machine.disk c.args.machine.now) (In Objects KeepsGate) no_change (g.met.M.Machine.lawful c.args.machine.now);
-  shut = λ told k less. absurd (omega (arith, less));
+  closed = λ told k less. absurd (omega (arith, less));
 }
 
 pub loop-slot-preserved : goal.loop-slot-preserved
@@ -19,9 +19,9 @@ loop-slot-preserved g c =
     let so_far = c.loop-slot.invariant in
     record {
       kept = run_keeps _ _ _ c.gate_place.result 1 (omega (arith, c.gate_place.ensures)) so_far.kept c.write_at.ensures.runs;
-      shut = λ told.
+      closed = λ told.
           let written = c.in_ok-write_at.ensures.written (so_far.kept.time.files_told.0 told) in
-          more_shut c.args.params.cap c.loop-slot.slot (mid.reads Objects) (new.reads Objects) (so_far.shut told)
+          more_closed c.args.params.cap c.loop-slot.slot (mid.reads Objects) (new.reads Objects) (so_far.closed told)
           (subst (λ (at : ℕ). Holds at (0 ∷ []) (mid.reads Objects) (new.reads Objects)) c.gate_place.ensures written.changed);
     }
 
@@ -32,5 +32,5 @@ pub returns-in_err-write_at-clause-cause : goal.returns-in_err-write_at-clause-c
 returns-in_err-write_at-clause-cause g c is_err below =
     let risen = c.in_err-write_at.ensures.cause refl below in omega (arith, risen, c.loop-slot.invariant.kept.time.disk_faults)
 
-pub returns-clause-shut : goal.returns-clause-shut
-returns-clause-shut g c told = all_shut c.args.params _ c.requires (λ k less. c.loop-slot.invariant.shut told k (omega (arith, less, c.loop-slot-test.false)))
+pub returns-clause-closed : goal.returns-clause-closed
+returns-clause-closed g c told = all_closed c.args.params _ c.requires (λ k less. c.loop-slot.invariant.closed told k (omega (arith, less, c.loop-slot-test.false)))

@@ -23,7 +23,7 @@ returns-clause-prepared g c told =
     let same = c.sync.ensures.kept.reads (c.write_at.ensures.runs.time.files_told.0 told_mid) in
     let written = subst (λ (b : List ℕ). Holds 1 b (mid.reads Objects) (after.reads Objects)) c.fields_of.ensures (c.in_ok-write_at.ensures.written told_mid).changed in
     subst (λ (f : Files). IsPrepared c.args.params (f Objects)) (sym same)
-    (header_written c.args.params (mid.reads Objects) (after.reads Objects) (c.in_ok-close_slots.ensures.shut told) written)
+    (header_written c.args.params (mid.reads Objects) (after.reads Objects) (c.in_ok-close_slots.ensures.closed told) written)
 
 pub returns-clause-settled : goal.returns-clause-settled
 returns-clause-settled g c settled =

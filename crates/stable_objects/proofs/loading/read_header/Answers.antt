@@ -2,9 +2,9 @@ use Rattle.std.proofs.Common.{refl, ◌∙◌, ap, arith, length}
 use Rattle.std.proofs.lemmas.Result.{err_from_is_err_and}
 use Rattle.disk_model.specs.Disk.{Files}
 use Rattle.disk_model.specs.declared.machine.FileNo.TheVariants.{Objects}
-use Rattle.formats.specs.Bytes.{IsShutAt}
+use Rattle.formats.specs.Bytes.{IsClosedAt}
 use Rattle.stable_objects.specs.Reading.{FailsAt, IsHeaderFault, IsDamagedAt, fails_on}
-use Rattle.stable_objects.proofs.Found.{shut_read, damaged_read, cut_short, header_read, last_gate}
+use Rattle.stable_objects.proofs.Found.{closed_read, damaged_read, cut_short, header_read, last_gate}
 use Rattle.stable_objects.proofs.loading.read_header.Goals as goal
 
 pub returns-in_err-params-clause-cause : goal.returns-in_err-params-clause-cause
@@ -13,8 +13,8 @@ returns-in_err-params-clause-cause g c =
     let head = c.read_padded.new.into in
     let p = err_from_is_err_and c.from_residual-in_err-params.result c.from_residual-in_err-params.ensures.1 in
     let told = (g.M.Machine.disk c.args.machine.now).tells_files in
-    rw (p.1, p.2) (fails_on ⊥ _ (IsShutAt 0 head) (told → IsShutAt 0 file) (FailsAt (IsHeaderFault head)) (FailsAt (λ place. told → IsDamagedAt file place)) _ (λ none. absurd none)
-    (λ shut is_told. shut_read file head (c.in_ok-read_padded.ensures.bytes is_told) shut)
+    rw (p.1, p.2) (fails_on ⊥ _ (IsClosedAt 0 head) (told → IsClosedAt 0 file) (FailsAt (IsHeaderFault head)) (FailsAt (λ place. told → IsDamagedAt file place)) _ (λ none. absurd none)
+    (λ closed is_told. closed_read file head (c.in_ok-read_padded.ensures.bytes is_told) closed)
     (λ f place there. (there.0, λ is_told. damaged_read file head place (c.in_ok-read_padded.ensures.bytes is_told) there.1))
     c.in_err-params.ensures.cause)
 

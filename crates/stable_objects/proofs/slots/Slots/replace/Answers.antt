@@ -37,7 +37,7 @@ pub returns-in_err-put-clause-any_moment : goal.returns-in_err-put-clause-any_mo
 returns-in_err-put-clause-any_moment g c =
     putting_moments _ _ c.args.object c.spare-slot.result c.gate_place-place.result c.index.result.now c.args.lsn c.args.bytes.now c.self.view_is c.self.invariant
     c.requires.object c.requires.later c.requires.numbered c.requires.short c.spare-slot.ensures c.gate_place-place.ensures c.index.ensures
-    _ _ c.close_slot.ensures.runs c.close_slot.ensures.idle _ c.in_ok-close_slot.ensures.shut c.in_ok-close_slot.ensures.settled c.put.ensures.any_moment
+    _ _ c.close_slot.ensures.runs c.close_slot.ensures.idle _ c.in_ok-close_slot.ensures.closed c.in_ok-close_slot.ensures.settled c.put.ensures.any_moment
 
 pub returns-clause-runs : goal.returns-clause-runs
 returns-clause-runs g c = any_join _ _ _ _ _ c.close_slot.ensures.runs c.put.ensures.runs
@@ -46,7 +46,7 @@ pub returns-clause-any_moment : goal.returns-clause-any_moment
 returns-clause-any_moment g c =
     putting_moments _ _ c.args.object c.spare-slot.result c.gate_place-place.result c.index.result.now c.args.lsn c.args.bytes.now c.self.view_is c.self.invariant
     c.requires.object c.requires.later c.requires.numbered c.requires.short c.spare-slot.ensures c.gate_place-place.ensures c.index.ensures
-    _ _ c.close_slot.ensures.runs c.close_slot.ensures.idle _ c.in_ok-close_slot.ensures.shut c.in_ok-close_slot.ensures.settled c.put.ensures.any_moment
+    _ _ c.close_slot.ensures.runs c.close_slot.ensures.idle _ c.in_ok-close_slot.ensures.closed c.in_ok-close_slot.ensures.settled c.put.ensures.any_moment
 
 pub returns-clause-replaced : goal.returns-clause-replaced
 returns-clause-replaced g c told of =

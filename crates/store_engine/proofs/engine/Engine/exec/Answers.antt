@@ -8,7 +8,7 @@ use Rattle.store_engine.specs.Store.{meaning_in, record_length, refusal_after}
 use Rattle.store_engine.specs.Engine.{EngineView, params_of, IsSameMap, Holds, Kept, TookIn, LogLength, LacksPlace, HasCause, Lengthens, log_length}
 use Rattle.store_engine.specs.declared.exec_err.ExecErr.{ExecErr}
 use Rattle.store_engine.specs.declared.exec_err.ExecErr.TheVariants.{LogFull, LsnEnd, DiskFault}
-use Rattle.store_engine.proofs.SameMap.{all_shut, same_map_kept, same_map_twice, attached_stays}
+use Rattle.store_engine.proofs.SameMap.{all_closed, same_map_kept, same_map_twice, attached_stays}
 use Rattle.store_engine.proofs.Admitted.{same_refusal}
 use Rattle.store_engine.proofs.Executed.{same_length, kept_twice, lacks_cause, place_cause, is_full, is_at_end, taken_length}
 use Rattle.store_engine.proofs.Answered.{fine, unless_failed, err_anyway, on_err, prepared, unlogged, taken_attached, moments_here, moments_after, admit_cause, admit_length, admitted, executed}
@@ -33,7 +33,7 @@ module _ (g : Over) (c : In_ok-values g) (p : Params) (commands : List g.row.O.D
       c.in_ok-values.ensures.ready (c.in_ok-values.ensures.read h.told h.carried.laid)
 
   no_call : g.M.Machine.disk c.admit.new.machine ≡ g.M.Machine.disk c.args.machine.now
-  no_call = ap (λ m. g.M.Machine.disk m) (c.in_ok-values.ensures.none (all_shut g.O.Oper.meaning p (g.M.Machine.disk c.args.machine.now) c.args.self.now commands h)).0
+  no_call = ap (λ m. g.M.Machine.disk m) (c.in_ok-values.ensures.none (all_closed g.O.Oper.meaning p (g.M.Machine.disk c.args.machine.now) c.args.self.now commands h)).0
 
 -- so has the one whose memory is taken, and the machine stays
 module _ (g : Over) (c : After-prepare g) where
@@ -70,7 +70,7 @@ pub returns-in_err-values-clause-exactly : goal.returns-in_err-values-clause-exa
 returns-in_err-values-clause-exactly g c p commands h =
     let old = g.M.Machine.disk c.args.machine.now in
     let q = err_from_is_err_and c.from_residual.result c.from_residual.ensures.1 in
-    let only = (c.in_err-values.ensures.none (all_shut g.O.Oper.meaning p old c.args.self.now commands h)).1 in
+    let only = (c.in_err-values.ensures.none (all_closed g.O.Oper.meaning p old c.args.self.now commands h)).1 in
     rw (q.1, q.2) (admit_cause g.O.Oper.meaning g.met.O.Oper.bounded g.met.O.Oper.lawful p old c.args.self.now commands h c.args.op c.in_err-values.field-0.0 only
     (λ r is. c.in_err-values.ensures.refused h.told h.carried.laid r (λ i. Err (is i))))
 
@@ -78,7 +78,7 @@ pub returns-in_err-values-clause-lengthens : goal.returns-in_err-values-clause-l
 returns-in_err-values-clause-lengthens g c p commands h =
     let old = g.M.Machine.disk c.args.machine.now in
     let q = err_from_is_err_and c.from_residual.result c.from_residual.ensures.1 in
-    let only = (c.in_err-values.ensures.none (all_shut g.O.Oper.meaning p old c.args.self.now commands h)).1 in
+    let only = (c.in_err-values.ensures.none (all_closed g.O.Oper.meaning p old c.args.self.now commands h)).1 in
     rw (q.1, q.2) (admit_length g.O.Oper.meaning g.met.O.Oper.bounded g.met.O.Oper.lawful p old c.args.self.now commands h c.args.op c.in_err-values.field-0.0 only c.admit.new.self c.in_err-values.ensures.same)
 
 pub returns-in_err-values-clause-refused : goal.returns-in_err-values-clause-refused
@@ -92,7 +92,7 @@ pub returns-in_err-values-clause-moments : goal.returns-in_err-values-clause-mom
 returns-in_err-values-clause-moments g c p commands h told =
     let old = g.M.Machine.disk c.args.machine.now in
     let new = g.M.Machine.disk c.admit.new.machine in
-    let none = (c.in_err-values.ensures.none (all_shut g.O.Oper.meaning p old c.args.self.now commands h)).0 in
+    let none = (c.in_err-values.ensures.none (all_closed g.O.Oper.meaning p old c.args.self.now commands h)).0 in
     moments_here g.O.Oper.meaning p old new c.args.self.now commands (ap (λ m. g.M.Machine.disk m) none) c.admit.ensures.kept.begins h told
 
 pub returns-in_err-require_log_room-clause-err : goal.returns-in_err-require_log_room-clause-err

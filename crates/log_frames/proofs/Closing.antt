@@ -4,7 +4,7 @@ use Rattle.std.proofs.lemmas.List.{take_min, get_or-take}
 use Rattle.disk_model.specs.Disk.{Files, Disk, Runs, Stays, Same, In, Torn, Holds, read_of}
 use Rattle.disk_model.specs.Moments.{runs_join}
 use Rattle.disk_model.specs.declared.machine.FileNo.{FileNo}
-use Rattle.formats.specs.Log.{IsShutLog}
+use Rattle.formats.specs.Log.{IsClosedLog}
 
 torn_none : (at n : ℕ) (a : List ℕ) → Torn at n a a
 torn_none at n a = record { before = take_min at a; after = refl; no_shorter = omega arith; no_longer = omega arith }
@@ -16,13 +16,13 @@ look_then_write old mid new file first second = runs_join old mid new Same (In f
     first second
 
 -- a closed gate is read as closed
-pub look_at_shut : (file into : List ℕ) (n : ℕ) → n ≡ length (read_of file 0 1) → take n into ≡ read_of file 0 1 → IsShutLog file → (n ≡ 0) ⊎ (get_or into 0 0 ≡ 1) → ⊥
-look_at_shut [] into n count bytes shut (inl none) = shut
-look_at_shut [] into n count bytes shut (inr is_open) = shut
-look_at_shut (g ∷ rest) into n count bytes shut (inl none) = omega (arith, count, none)
-look_at_shut (g ∷ rest) into n count bytes shut (inr is_open) =
+pub look_at_closed : (file into : List ℕ) (n : ℕ) → n ≡ length (read_of file 0 1) → take n into ≡ read_of file 0 1 → IsClosedLog file → (n ≡ 0) ⊎ (get_or into 0 0 ≡ 1) → ⊥
+look_at_closed [] into n count bytes closed (inl none) = closed
+look_at_closed [] into n count bytes closed (inr is_open) = closed
+look_at_closed (g ∷ rest) into n count bytes closed (inl none) = omega (arith, count, none)
+look_at_closed (g ∷ rest) into n count bytes closed (inr is_open) =
     let same : get_or into 0 0 ≡ g = sym (get_or-take n into 0 0 (omega (arith, count))) ∙ ap (λ (l : List ℕ). get_or l 0 0) bytes in
-    shut (sym same ∙ is_open)
+    closed (sym same ∙ is_open)
 
 held_first : (b : ℕ) (old new : List ℕ) → Holds 0 (b ∷ []) old new → new ≡ b ∷ drop 1 old
 held_first b old new holds =
@@ -30,5 +30,5 @@ held_first b old new holds =
     holds ∙ ap (λ (k : ℕ). ((take 0 old ++ replicate {A = ℕ} k 0) ++ b ∷ []) ++ drop 1 old) none
 
 -- a closed gate was written
-pub shut_after : (old new : List ℕ) → Holds 0 (0 ∷ []) old new → IsShutLog new
-shut_after old new holds = subst IsShutLog (sym (held_first 0 old new holds)) (λ is. cc)
+pub closed_after : (old new : List ℕ) → Holds 0 (0 ∷ []) old new → IsClosedLog new
+closed_after old new holds = subst IsClosedLog (sym (held_first 0 old new holds)) (λ is. cc)
