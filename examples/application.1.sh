@@ -5,7 +5,7 @@ mkfifo script
 redo run <script >answers &
 exec 3>script
 printf 'put 1 050a0b\naread 0 1\nexec 0\nforce\nexec 0\nawrite 0 2\n' >&3
-for i in {1..500}; do
+for i in {1..2500}; do
   [ "$(wc -l <answers)" -ge 6 ] && break
   sleep 0.02
 done

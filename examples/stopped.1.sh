@@ -5,7 +5,7 @@ mkfifo script
 redo run <script >answers &
 exec 3>script
 printf 'put 0 aa\ncopy 0 1\nforce\nput 0 bb\ncopy 0 2\n' >&3
-for i in {1..500}; do
+for i in {1..2500}; do
   [ "$(wc -l <answers)" -ge 5 ] && break
   sleep 0.02
 done
