@@ -66,6 +66,7 @@ fn write_block<M: Machine>(
     ensures acknowledged { (M.disk machine.old).tells_files → (header : Header) (payloads : List (List ℕ)) (payload : List ℕ)
         → 0 < length payload → length payload ≤ 2 ^ 30 → bytes.now ≡ frame payload → IsLogAt (M.disk machine.old) file gate header payloads
         → OnOk result (IsLogAt (M.disk machine.new) file (gate + length bytes.now) header (with_block payloads payload)) }
+    ensures settled { IsSettled (M.disk machine.old) → OnOk result (IsSettled (M.disk machine.new)) }
     ensures cause { IfErr result (λ e. (e ≡ LogErr.DiskFault) × Rises (M.disk machine.old).disk_faults (M.disk machine.new).disk_faults) }
 {
     write_frame(machine, file, gate, bytes)?;
@@ -85,6 +86,7 @@ impl LogFile {
         ensures acknowledged { (M.disk machine.old).tells_files → (payloads : List (List ℕ)) → IsAtRest (M.disk machine.old) self.old payloads
             → OnOk result (IsAtRest (M.disk machine.new) self.new (with_block payloads self.old.pending)) }
 
+        ensures settled { IsSettled (M.disk machine.old) → OnOk result (IsSettled (M.disk machine.new)) }
         ensures forced { OnOk result (self.new ≡ record self.old { end = used_of self.old; pending = []; room = self.new.room }) }
         ensures kept { OnErr result (self.new ≡ self.old) }
         ensures idle { self.old.pending ≡ [] → machine.new ≡ machine.old }

@@ -161,6 +161,15 @@ module _ {O : Type 0} (m : Meaning O) where
         };
       }
 
+  -- its groups are those that were read
+  pub loaded_with : (b : Bounds) (old new : Disk) (log : RecordLogView) (ps : List (List ℕ)) (found : List (Record O)) (count : ℕ) → old.tells_files → Stays old new
+      → HoldsLog log.log.active log.log.header ps old.reads → log.log.end ≡ end_of ps → log.log.pending ≡ [] → log.bounds ≡ b
+      → AreGroups m log.log.header.base (placed ps) found → log.next ≡ next_after log.log.header.base found → count ≡ length (commands_of found)
+      → log.accepted ≡ min (log.log.header.commands + count) (2 ^ 64 - 1) → log.forced ≡ log.accepted → (it : IsLoaded m b old new log) × (found ≡ records_of it.groups)
+  unfolding is_loaded
+  loaded_with b old new log ps found count told kept holds end none bounds so next count_is accepted forced =
+      (is_loaded b old new log ps found count told kept holds end none bounds so next count_is accepted forced, so.records_are)
+
   -- fewer commands were accepted than there are numbers before the next
   pub few_accepted : (base commands next count : ℕ) (payloads : List Payload) (found : List (Record O)) → AreGroups m base payloads found → commands < base → next ≡ next_after base found
       → count ≡ length (commands_of found) → min (commands + count) (2 ^ 64 - 1) < next

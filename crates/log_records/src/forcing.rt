@@ -1,6 +1,6 @@
 // All records that wait become stable, or none.
 ghost use Rattle.std.specs.Prelude.{◌≡◌, [], ◌++◌, List, OnOk, OnErr, IfErr};
-ghost use Rattle.disk_model.specs.Disk.{Rises, Runs, LeavesOnly, In, Any, Same};
+ghost use Rattle.disk_model.specs.Disk.{Rises, Runs, LeavesOnly, In, Any, Same, IsSettled};
 ghost use Rattle.formats.specs.declared.record.Record.{Record};
 ghost use Rattle.log_frames.specs.LogView.{used_of};
 ghost use Rattle.log_records.specs.RecordLog.{Keeps, IsForcedPartly};
@@ -22,6 +22,7 @@ impl<O: Oper> RecordLog<O> {
         ensures acknowledged { (M.disk m.old).tells_files → (stable pending : List (Record O)) → Keeps (O.meaning self.old.bounds) (M.disk m.old) self.old stable pending
             → OnOk result (Keeps (O.meaning self.old.bounds) (M.disk m.new) self.new (stable ++ pending) []) }
 
+        ensures settled { IsSettled (M.disk m.old) → OnOk result (IsSettled (M.disk m.new)) }
         ensures forced { OnOk result (self.new ≡ record self.old {
           log = record self.old.log { end = used_of self.old.log; pending = []; room = self.new.log.room };
           forced = self.old.accepted;

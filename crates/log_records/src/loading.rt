@@ -4,11 +4,11 @@ ghost use Rattle.oper_core.specs.Meaning.{Meaning};
 ghost use Rattle.disk_model.specs.Disk.{Rises, Stays};
 ghost use Rattle.disk_model.specs.declared.machine.FileNo.{FileNo};
 ghost use Rattle.formats.specs.Log.{Header, IsWholeLog};
-ghost use Rattle.formats.specs.Records.{record_code, commands_of, next_behind, next_after, IsPlaced, IsRecord, AreRecords, HoldsRecordLog};
+ghost use Rattle.formats.specs.Records.{record_code, commands_of, next_behind, next_after, records_of, IsPlaced, IsRecord, AreRecords, HoldsRecordLog};
 ghost use Rattle.formats.specs.declared.record.Record.{Record};
 ghost use Rattle.log_frames.specs.Reading.{FailsBy, TellsDamage, placed};
 ghost use Rattle.log_records.specs.Codec.{StartsWithRecord, AreShort};
-ghost use Rattle.log_records.specs.RecordLog.{IsLoaded, counts};
+ghost use Rattle.log_records.specs.RecordLog.{HasRecords, IsLoaded, counts};
 ghost use Rattle.log_records.specs.Loading.{IsStart, AreStarts, AreBytesOf, IsBrokenAt, AreGroups, IsBrokenIn, AllFit, IsLoadFault, IsTailFault};
 
 use crate::RecordLog;
@@ -188,6 +188,36 @@ pub fn commands_in<O: Oper>(record: &Record<O>) -> u64
 }
 
 impl<O: Oper> RecordLog<O> {
+    /// The log in force, and its records, in their order: they are of the grammar for these bounds and right in their places.
+    pub fn load_records<M: Machine>(
+        alloc: Global,
+        m: &mut M,
+        b: Bounds,
+    ) -> Result<(RecordLog<O>, Vec<Record<O>>), LogErr>
+        ensures kept { Stays (M.disk m.old) (M.disk m.new) }
+        ensures read { (M.disk m.old).tells_files → IfOk result (λ found. (it : IsLoaded (O.meaning b) b (M.disk m.old) (M.disk m.new) found.0)
+            × (found.1.items ≡ records_of it.groups)) }
+        ensures records { IfOk result (λ found. HasRecords (O.meaning b) b found.0 found.1.items) }
+        ensures cause { IfErr result (FailsBy (Rises (M.disk m.old).disk_faults (M.disk m.new).disk_faults)
+            (λ file place. (M.disk m.old).tells_files → IsLoadFault (O.meaning b) (M.disk m.old).reads file place)) }
+        ensures whole { (M.disk m.old).tells_files → (active : FileNo) (header : Header) (groups : List (List (Record O)))
+            → HoldsRecordLog (O.meaning b) active header groups (M.disk m.old).reads → IfErr result (λ e. TellsDamage e → ⊥) }
+    {
+        let log = LogFile::load(alloc, m)?;
+        let (records, next) = stable_records::<O, M>(alloc, m, b, &log)?;
+        let accepted = log.commands().saturating_add(count_commands(&records));
+        let log = RecordLog {
+            alloc,
+            bounds: b,
+            next,
+            accepted,
+            forced: accepted,
+            log,
+            of: PhantomData,
+        };
+        Ok((log, records))
+    }
+
     /// The log in force, whose records are of the grammar for these bounds and right in their places.
     pub fn load<M: Machine>(alloc: Global, m: &mut M, b: Bounds) -> Result<RecordLog<O>, LogErr>
         ensures kept { Stays (M.disk m.old) (M.disk m.new) }
@@ -198,17 +228,7 @@ impl<O: Oper> RecordLog<O> {
         ensures whole { (M.disk m.old).tells_files → (active : FileNo) (header : Header) (groups : List (List (Record O)))
             → HoldsRecordLog (O.meaning b) active header groups (M.disk m.old).reads → IfErr result (λ e. TellsDamage e → ⊥) }
     {
-        let log = LogFile::load(alloc, m)?;
-        let (records, next) = stable_records::<O, M>(alloc, m, b, &log)?;
-        let accepted = log.commands().saturating_add(count_commands(&records));
-        Ok(RecordLog {
-            alloc,
-            bounds: b,
-            next,
-            accepted,
-            forced: accepted,
-            log,
-            of: PhantomData,
-        })
+        let (log, _) = RecordLog::<O>::load_records(alloc, m, b)?;
+        Ok(log)
     }
 }

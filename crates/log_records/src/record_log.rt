@@ -41,14 +41,16 @@ impl<O: Oper> Model for RecordLog<O> {
 impl<O: Oper> RecordLog<O> {
     /// How many logs the store had, this one counted. At 2^62 it is the last.
     pub fn epoch(&self) -> u64
-        ensures { result ≡ self.now.log.header.epoch }
+        ensures value { result ≡ self.now.log.header.epoch }
+        ensures last { result ≤ 2 ^ 62 }
     {
         self.log.epoch()
     }
 
     /// The number of the log's first numbered record, or of the next one where it has none.
     pub fn base(&self) -> u64
-        ensures { result ≡ self.now.log.header.base }
+        ensures value { result ≡ self.now.log.header.base }
+        ensures low { result ≤ self.now.next }
     {
         self.log.base()
     }

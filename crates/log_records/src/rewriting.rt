@@ -7,7 +7,7 @@ ghost use Rattle.formats.specs.Log.{IsPayload, end_of};
 ghost use Rattle.formats.specs.Records.{record_code, commands_of};
 ghost use Rattle.formats.specs.declared.record.Record.{Record};
 ghost use Rattle.log_frames.specs.Reading.{FailsBy, TellsDamage};
-ghost use Rattle.log_frames.specs.Rewriting.{bytes_of, rewritten};
+ghost use Rattle.log_frames.specs.Rewriting.{bytes_of, rewritten, file_length};
 ghost use Rattle.log_records.specs.Codec.{IsEncodable, AreShort};
 ghost use Rattle.log_records.specs.Loading.{IsTailFault};
 ghost use Rattle.log_records.specs.Packing.{IsAdded, ArePacked};
@@ -159,8 +159,10 @@ impl<O: Oper> RecordLog<O> {
         // Where no fault of the disk is reported, no file was changed.
         ensures refused { IfErr result (λ e. e ≢ LogErr.DiskFault → Stays (M.disk m.old) (M.disk m.new)) }
 
-        // At the last epoch no call is made. The new file has at most 2^48 bytes.
+        // At the last epoch no call is made. The new file has at most 2^48 bytes: where it would have more, none is changed.
         ensures idle { self.old.log.header.epoch ≡ 2 ^ 62 → m.new ≡ m.old }
+        ensures long { (M.disk m.old).tells_files → (stable : List (Record O)) → Keeps (O.meaning self.old.bounds) (M.disk m.old) self.old stable []
+            → 2 ^ 48 < file_length (new_payloads (O.meaning self.old.bounds) base table stable) → Stays (M.disk m.old) (M.disk m.new) }
         ensures made { OnOk result ((self.old.log.header.epoch < 2 ^ 62) × IsWithinLength (O.meaning self.old.bounds) (M.disk m.old) self.old base table) }
         ensures undamaged { (M.disk m.old).tells_files → (stable : List (Record O)) → Keeps (O.meaning self.old.bounds) (M.disk m.old) self.old stable []
             → IfErr result (λ e. TellsDamage e → ⊥) }

@@ -1,85 +1,10 @@
-use Rattle.std.proofs.Common.{◌∙◌, ◌+◌, ◌-◌, ◌^◌, ℕ, List, length, refl, ap, sym, subst, arith, min}
 use Rattle.std.proofs.lemmas.Result.{err_from_is_err_and}
-use Rattle.disk_model.specs.Disk.{Files}
-use Rattle.disk_model.specs.Moments.{stays_twice}
-use Rattle.disk_model.specs.declared.machine.FileNo.{FileNo}
-use Rattle.oper_core.specs.Meaning.{IsSmall}
-use Rattle.formats.specs.Log.{IsWholeLog}
-use Rattle.formats.specs.Records.{commands_of}
-use Rattle.formats.specs.declared.record.Record.{Record}
-use Rattle.formats.specs.Image.{IsRecordFault}
-use Rattle.log_frames.specs.Laws.{no_first_log_fault, has_header}
-use Rattle.log_frames.specs.Reading.{fails_on, none_told}
-use Rattle.log_records.specs.Loading.{IsLoadFault, in_blocks, in_record}
-use Rattle.log_records.specs.CodecLaws.{has_codes}
-use Rattle.log_records.specs.Uniqueness.{log_of}
-use Rattle.log_records.proofs.LoadLemmas.{no_load_fault, is_loaded, rises_before}
 use Rattle.log_records.proofs.record_log.RecordLog.load.Goals as goal
 
-pub returns-in_err-log-clause-cause : goal.returns-in_err-log-clause-cause
-returns-in_err-log-clause-cause g c =
-    let p = err_from_is_err_and c.from_residual.result c.from_residual.ensures.1 in
-    rw (p.1, p.2) (fails_on _ _ _ _ c.in_err-log.field-0.0 (λ risen. risen) (λ f place there told. in_blocks f place (there told)) c.in_err-log.ensures.cause)
+pub returns-clause-read : goal.returns-clause-read
+returns-clause-read g c told = (c.in_ok-log.ensures.read told).0
 
 pub returns-in_err-log-clause-whole : goal.returns-in_err-log-clause-whole
 returns-in_err-log-clause-whole g c told active header groups is =
-    let old = g.M.Machine.disk c.args.m.now in
     let p = err_from_is_err_and c.from_residual.result c.from_residual.ensures.1 in
-    rw (p.1, p.2) (none_told _ _ c.in_err-log.field-0.0 (λ f place fault. no_first_log_fault active header _ old.reads f place (log_of (g.O.Oper.meaning c.args.b) is) (fault told)) c.in_err-log.ensures.cause)
-
-pub returns-in_err-records-clause-cause : goal.returns-in_err-records-clause-cause
-returns-in_err-records-clause-cause g c =
-    let old = g.M.Machine.disk c.args.m.now in
-    let mid = g.M.Machine.disk c.load.new.machine in
-    let new = g.M.Machine.disk c.stable_records.new.m in
-    let m = g.O.Oper.meaning c.args.b in
-    let p = err_from_is_err_and c.from_residual-in_err-records.result c.from_residual-in_err-records.ensures.1 in
-    rw (p.1, p.2) (fails_on _ _ _ _ c.in_err-records.field-0.0 (rises_before old mid new c.load.ensures.kept)
-    (λ f place there told.
-    let read = c.in_ok-log.ensures.read told in
-    let same = c.load.ensures.kept.reads told in
-    let file = c.in_ok-log.log.active in
-    let whole = subst (λ (fs : Files). IsWholeLog c.in_ok-log.log.header read.0 (fs file)) (sym same) read.1.log in
-    let fault = there.1 (c.load.ensures.kept.time.files_told.0 told) read.0 whole in
-    let here = subst (λ (fs : Files). IsRecordFault m (fs file) place) same fault in
-    let has = has_header c.in_ok-log.log.header read.0 (old.reads file) read.1.log in
-    subst (λ (x : FileNo). IsLoadFault m old.reads x place) (sym there.0) (in_record file c.in_ok-log.log.header place read.1.in_force has here))
-    c.in_err-records.ensures.cause)
-
-pub returns-in_err-records-clause-whole : goal.returns-in_err-records-clause-whole
-returns-in_err-records-clause-whole g c told active header groups is =
-    let old = g.M.Machine.disk c.args.m.now in
-    let mid = g.M.Machine.disk c.load.new.machine in
-    let new = g.M.Machine.disk c.stable_records.new.m in
-    let m = g.O.Oper.meaning c.args.b in
-    let small : IsSmall c.args.b = record { objects = omega arith; cap = omega arith } in
-    let p = err_from_is_err_and c.from_residual-in_err-records.result c.from_residual-in_err-records.ensures.1 in
-    rw (p.1, p.2) (none_told _ _ c.in_err-records.field-0.0
-    (λ f place there.
-    let read = c.in_ok-log.ensures.read told in
-    let same = c.load.ensures.kept.reads told in
-    let file = c.in_ok-log.log.active in
-    let whole = subst (λ (fs : Files). IsWholeLog c.in_ok-log.log.header read.0 (fs file)) (sym same) read.1.log in
-    let fault = there.1 (c.load.ensures.kept.time.files_told.0 told) read.0 whole in
-    let here = subst (λ (fs : Files). IsRecordFault m (fs file) place) same fault in
-    let has = has_header c.in_ok-log.log.header read.0 (old.reads file) read.1.log in
-    no_load_fault m (has_codes m c.args.b small (g.met.O.Oper.bounded c.args.b) (g.met.O.Oper.lawful c.args.b small)) active header groups old.reads file place is (in_record file c.in_ok-log.log.header place read.1.in_force has here))
-    c.in_err-records.ensures.cause)
-
-pub returns-clause-read : goal.returns-clause-read
-returns-clause-read g c told =
-    let old = g.M.Machine.disk c.args.m.now in
-    let mid = g.M.Machine.disk c.load.new.machine in
-    let new = g.M.Machine.disk c.stable_records.new.m in
-    let m = g.O.Oper.meaning c.args.b in
-    let read = c.in_ok-log.ensures.read told in
-    let same = c.load.ensures.kept.reads told in
-    let file = c.in_ok-log.log.active in
-    let whole = subst (λ (fs : Files). IsWholeLog c.in_ok-log.log.header read.0 (fs file)) (sym same) read.1.log in
-    let groups = c.in_ok-records.ensures.read (c.load.ensures.kept.time.files_told.0 told) read.0 whole in
-    is_loaded m c.args.b old new _ read.0 c.in_ok-records.records.items c.count_commands.result told (stays_twice old mid new c.load.ensures.kept c.stable_records.ensures.kept)
-    read.1 read.2 read.3 refl groups c.in_ok-records.ensures.next.0 (c.count_commands.ensures ∙ ap (λ (l : List (Record g.row.O.Denot)). length (commands_of l)) c.deref.ensures.value)
-    (c.saturating_add-accepted.ensures ∙ ap (λ (n : ℕ). min (n + c.count_commands.result) (2 ^ 64 - 1)) c.commands.ensures) refl
-
-pub returns-clause-kept : goal.returns-clause-kept
-returns-clause-kept g c = stays_twice (g.M.Machine.disk c.args.m.now) (g.M.Machine.disk c.load.new.machine) (g.M.Machine.disk c.stable_records.new.m) c.load.ensures.kept c.stable_records.ensures.kept
+    rw (p.1, p.2) (c.in_err-log.ensures.whole told active header groups is)

@@ -1,6 +1,6 @@
-use Rattle.std.proofs.Common.{◌∙◌, ◌<◌, ◌≤◌, ◌^◌, ℕ, ap, subst}
+use Rattle.std.proofs.Common.{◌∙◌, ◌<◌, ◌≤◌, ◌^◌, ℕ, ap, sym, subst, arith, inr}
 use Rattle.std.proofs.lemmas.Result.{err_from_is_err_and}
-use Rattle.disk_model.specs.Disk.{Runs, Same, In, Any, Rises}
+use Rattle.disk_model.specs.Disk.{Disk, Runs, Stays, Same, In, Any, Rises}
 use Rattle.disk_model.specs.Moments.{stays_here}
 use Rattle.formats.specs.InForce.{other_of}
 use Rattle.log_frames.specs.Rewriting.{bytes_of, file_length, RewriteFails as Below}
@@ -104,3 +104,21 @@ returns-in_err-rewrite-clause-refused g c =
     let p = err_from_is_err_and c.from_residual-in_err-rewrite.result c.from_residual-in_err-rewrite.ensures.1 in
     rw (p.1, p.2) (rewrite_refused (g.M.Machine.disk c.args.m.now) mid new c.self.inside.log (bytes_of c.as_slice.result.now) c.in_err-rewrite.field-0.0 c.new_blocks.ensures.kept
     (λ past. ap (λ m. g.M.Machine.disk m) (c.rewrite.ensures.idle past)) c.in_err-rewrite.ensures.cause)
+
+pub returns-then-epoch-ge-NUMBERS_END-clause-long : goal.returns-then-epoch-ge-NUMBERS_END-clause-long
+returns-then-epoch-ge-NUMBERS_END-clause-long g c told stable keeps over = stays_here (g.M.Machine.disk c.args.m.now) (g.met.M.Machine.lawful c.args.m.now)
+
+pub returns-in_err-payloads-clause-long : goal.returns-in_err-payloads-clause-long
+returns-in_err-payloads-clause-long g c told stable keeps over = c.new_blocks.ensures.kept
+
+pub returns-in_err-rewrite-clause-long : goal.returns-in_err-rewrite-clause-long
+returns-in_err-rewrite-clause-long g c told stable keeps over =
+    let old = g.M.Machine.disk c.args.m.now in
+    let long = ap file_length (ap bytes_of c.as_slice.ensures.value ∙ (c.in_ok-payloads.ensures.made told stable keeps).0) in
+    let same = ap (λ m. g.M.Machine.disk m) (c.rewrite.ensures.idle (inr (omega (arith, over, long)))) in
+    subst (λ (d : Disk). Stays old d) (sym same) c.new_blocks.ensures.kept
+
+pub returns-clause-long : goal.returns-clause-long
+returns-clause-long g c told stable keeps over =
+    let long = ap file_length (ap bytes_of c.as_slice.ensures.value ∙ (c.in_ok-payloads.ensures.made told stable keeps).0) in
+    absurd (omega (arith, over, long, c.in_ok-rewrite.ensures.made.1))
