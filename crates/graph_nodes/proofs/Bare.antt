@@ -1,5 +1,5 @@
 -- Arcs that join no nodes.
-use Rattle.std.proofs.Common.{◌≡◌, ◌∙◌, sym, subst, ℕ, ◌+◌, ◌-◌, ◌*◌, ◌/◌, ◌<◌, ◌≤◌, List, [], ◌∷◌, length, refl, arith, inl, inr}
+use Rattle.std.proofs.Common.{◌≡◌, ◌∙◌, sym, subst, ℕ, ◌/◌, ◌<◌, List, [], ◌∷◌, length, refl, arith, inl, inr}
 use Rattle.std.specs.Prelude.{IsTrue, IsFalse, Bool, Option, None}
 use Rattle.std.proofs.lemmas.Bool.{cases_eq, cases_lt, both_ways}
 use Rattle.std.proofs.Math.ListN.{get_or-eq_default}
@@ -10,7 +10,7 @@ use Rattle.number_lists.specs.Lists.{Lists, list_at}
 use Rattle.graph_nodes.specs.Arcs.{arc_at, node_at}
 use Rattle.graph_nodes.specs.Merge.{IsFiled}
 use Rattle.graph_nodes.specs.Named.{Naming, AreForgotten, AreNamesMerged}
-use Rattle.graph_nodes.specs.Search.{IsBehind, IsSearched, IsOwn, HasNoArcs, IsBare, IsApart}
+use Rattle.graph_nodes.specs.Search.{IsBehind, IsSearched, IsOwn, IsBare, IsApart}
 use Rattle.graph_nodes.specs.Kept.{IsKept, AreJoined}
 use Rattle.graph_nodes.proofs.Options.{none-some, some-of}
 use Rattle.graph_nodes.proofs.Joined.{merged-start}

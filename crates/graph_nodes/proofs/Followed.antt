@@ -1,5 +1,5 @@
 -- How a search along the arcs goes on.
-use Rattle.std.proofs.Common.{◌≡◌, ◌∙◌, ap, sym, subst, ℕ, ◌+◌, ◌*◌, ◌/◌, ◌<◌, ◌≤◌, List, [], ◌++◌, length, length-append, refl, arith, inl, inr}
+use Rattle.std.proofs.Common.{◌≡◌, ◌∙◌, ap, sym, subst, ℕ, ◌+◌, ◌*◌, ◌/◌, ◌<◌, ◌≤◌, List, [], length, length-append, refl, arith, inl, inr}
 use Rattle.std.specs.Prelude.{IsTrue, IsFalse, ◌⊎◌, Bool, Option, None, Some, slice_index}
 use Rattle.std.proofs.lemmas.Bool.{cases_eq, cases_lt, both_ways}
 use Rattle.std.proofs.Math.ListN.{get_or-eq_default}
@@ -12,13 +12,13 @@ use Rattle.graph_nodes.specs.Arcs.{arc_at, node_at, AreEnds}
 use Rattle.graph_nodes.specs.Into.{AreInto}
 use Rattle.graph_nodes.specs.Merge.{IsFiled}
 use Rattle.graph_nodes.specs.Search.{AreKept, IsBehind, IsApart}
-use Rattle.graph_nodes.specs.Ahead.{AreFollowed, IsFollowed, IsWalkable}
+use Rattle.graph_nodes.specs.Ahead.{AreFollowed, IsFollowed, IsWalkable, LeadsTo, IsAdvanced, IsReached}
 use Rattle.graph_nodes.specs.Kept.{IsKept}
 use Rattle.graph_nodes.proofs.Options.{none-some, some-of}
 use Rattle.graph_nodes.proofs.Found.{kept-twice, kept-none, among-place, place-among, among-left, read-left}
 
 pub followed-none : (P : ℕ → Type 0) (arcs : List (Option ℕ)) (node : List ℕ) (old : Members) → ((c j : ℕ) → P c → arc_at arcs c ≡ Some j → ⊥) → AreFollowed P arcs node old old
-followed-none P arcs node old none = record { there = λ c j p arc. absurd (none c j p arc); same = kept-none old }
+followed-none P arcs node old none = record { there = λ c j p arc. absurd (none c j p arc); only = λ k t. inl t; same = kept-none old }
 
 -- the node of one arc's end
 pub followed-one : (arcs : List (Option ℕ)) (node : List ℕ) (cell to m : ℕ) (old new : Members) → arc_at arcs cell ≡ Some to → m ≡ node_at node to → IsWith old m new → AreFollowed (λ c. c ≡ cell) arcs node old new
@@ -27,32 +27,42 @@ followed-one arcs node cell to m old new arc e is = record {
       let both : Some to ≡ Some j = sym arc ∙ ap (λ (k : ℕ). arc_at arcs k) (sym q) ∙ here in
       let same : to ≡ j = cc in
       (is.there (node_at node j)).1 (inr (ap (λ (k : ℕ). node_at node k) (sym same) ∙ sym e));
+  only = λ k t. elim ((is.there k).0 t) [ inl r ↦ inl r | inr q ↦ inr (cell, to, refl, arc, sym e ∙ sym q) ];
   same = record { kept = is.kept; end = is.end; room = is.room };
 }
 
 still-there : (k : ℕ) (a b : Members) → AreKept a b → IsTrue (is_among k a.members) → IsTrue (is_among k b.members)
 still-there k a b is t = subst (λ (xs : List ℕ). IsTrue (is_among k xs)) (sym is.kept.1) (among-left k a.members is.kept.0 t)
 
-pub followed-twice : (P Q R : ℕ → Type 0) (arcs : List (Option ℕ)) (node : List ℕ) (a b c : Members) → ((k : ℕ) → R k → P k ⊎ Q k) → AreFollowed P arcs node a b → AreFollowed Q arcs node b c → AreFollowed R arcs node a c
-followed-twice P Q R arcs node a b c split f g = record {
+pub followed-twice : (P Q R : ℕ → Type 0) (arcs : List (Option ℕ)) (node : List ℕ) (a b c : Members) → ((k : ℕ) → R k → P k ⊎ Q k) → ((k : ℕ) → P k → R k) → ((k : ℕ) → Q k → R k) → AreFollowed P arcs node a b → AreFollowed Q arcs node b c → AreFollowed R arcs node a c
+followed-twice P Q R arcs node a b c split left right f g = record {
   there = λ k j r arc. elim (split k r) [
     | inl p ↦ still-there (node_at node j) b c g.same (f.there k j p arc)
     | inr q ↦ g.there k j q arc
+  ];
+  only = λ k t. elim (g.only k t) [
+    | inl r ↦ elim (f.only k r) [ inl o ↦ inl o | inr s ↦ inr (s.0, s.1, left s.0 s.2, s.3, s.4) ]
+    | inr s ↦ inr (s.0, s.1, right s.0 s.2, s.3, s.4)
   ];
   same = kept-twice a b c f.same g.same;
 }
 
 -- the same arcs, said otherwise
-pub followed-as : (P Q : ℕ → Type 0) (arcs : List (Option ℕ)) (node : List ℕ) (a b : Members) → ((c j : ℕ) → Q c → arc_at arcs c ≡ Some j → P c) → AreFollowed P arcs node a b → AreFollowed Q arcs node a b
-followed-as P Q arcs node a b from is = record { there = λ c j q arc. is.there c j (from c j q arc) arc; same = is.same }
+pub followed-as : (P Q : ℕ → Type 0) (arcs : List (Option ℕ)) (node : List ℕ) (a b : Members) → ((c j : ℕ) → Q c → arc_at arcs c ≡ Some j → P c) → ((c : ℕ) → P c → Q c) → AreFollowed P arcs node a b → AreFollowed Q arcs node a b
+followed-as P Q arcs node a b from to is = record {
+  there = λ c j q arc. is.there c j (from c j q arc) arc;
+  only = λ k t. elim (is.only k t) [ inl r ↦ inl r | inr s ↦ inr (s.0, s.1, to s.0 s.2, s.3, s.4) ];
+  same = is.same;
+}
 
 -- the first so many of a slot's cells
 abbrev pub IsEarly : ℕ → ℕ → ℕ → Type 0
 IsEarly slot i c = (c / 8 ≡ slot) × (c < 8 * slot + i)
 
-pub early-on : (slot i : ℕ) (arcs : List (Option ℕ)) (node : List ℕ) (a b c : Members) → AreFollowed (IsEarly slot i) arcs node a b → AreFollowed (λ k. k ≡ 8 * slot + i) arcs node b c → AreFollowed (IsEarly slot (i + 1)) arcs node a c
-early-on slot i arcs node a b c f g = followed-twice (IsEarly slot i) (λ k. k ≡ 8 * slot + i) (IsEarly slot (i + 1)) arcs node a b c
-    (λ k r. elim (cases_eq k (8 * slot + i)) [ inl q ↦ inr q | inr ne ↦ inl (r.0, omega (arith, r.1, ne)) ]) f g
+pub early-on : (slot i : ℕ) (arcs : List (Option ℕ)) (node : List ℕ) (a b c : Members) → i < 8 → AreFollowed (IsEarly slot i) arcs node a b → AreFollowed (λ k. k ≡ 8 * slot + i) arcs node b c → AreFollowed (IsEarly slot (i + 1)) arcs node a c
+early-on slot i arcs node a b c lt f g = followed-twice (IsEarly slot i) (λ k. k ≡ 8 * slot + i) (IsEarly slot (i + 1)) arcs node a b c
+    (λ k r. elim (cases_eq k (8 * slot + i)) [ inl q ↦ inr q | inr ne ↦ inl (r.0, omega (arith, r.1, ne)) ])
+    (λ k p. (p.0, omega (arith, p.1))) (λ k q. (omega (arith, q, lt), omega (arith, q))) f g
 
 -- the cells of the first so many of the slots
 abbrev pub IsOfEarly : List ℕ → ℕ → ℕ → Type 0
@@ -63,14 +73,16 @@ of-early-on slots i s arcs node a b c e f g = followed-twice (IsOfEarly slots i)
     (λ k r. elim (cases_eq r.0 i) [
       | inl q ↦ inr (sym r.2 ∙ ap (λ (j : ℕ). slice_index slots j) q ∙ sym e)
       | inr ne ↦ inl (r.0, omega (arith, r.1, ne), r.2)
-    ]) f g
+    ])
+    (λ k p. (p.0, omega (arith, p.1), p.2)) (λ k q. (i, omega arith, sym e ∙ sym q)) f g
 
 pub of-early-all : (slots : List ℕ) (i : ℕ) (arcs : List (Option ℕ)) (node : List ℕ) (a b : Members) → i ≡ length slots → AreFollowed (IsOfEarly slots i) arcs node a b → AreFollowed (λ c. IsTrue (is_among (c / 8) slots)) arcs node a b
 of-early-all slots i arcs node a b e is = followed-as (IsOfEarly slots i) (λ c. IsTrue (is_among (c / 8) slots)) arcs node a b
-    (λ c j t arc. let p = among-place (c / 8) slots t in (p.0, omega (arith, p.1, e), p.2)) is
+    (λ c j t arc. let p = among-place (c / 8) slots t in (p.0, omega (arith, p.1, e), p.2))
+    (λ c p. subst (λ (k : ℕ). IsTrue (is_among k slots)) p.2 (place-among slots p.0 (omega (arith, p.1, e)))) is
 
 -- a cell with an arc is there
-arc-below : (arcs : List (Option ℕ)) (c j : ℕ) → arc_at arcs c ≡ Some j → c < length arcs
+pub arc-below : (arcs : List (Option ℕ)) (c j : ℕ) → arc_at arcs c ≡ Some j → c < length arcs
 arc-below arcs c j arc = elim (cases_lt c (length arcs)) [
   | inl lt ↦ lt
   | inr ge ↦ absurd (none-some j (sym (get_or-eq_default arcs None ge) ∙ arc))
@@ -82,46 +94,78 @@ followed-node arcs node members n slots a b filed size e is = followed-as (λ c.
     (λ c j at arc.
     let low = arc-below arcs c j arc in
     let slot : c / 8 < length node = omega (arith, low, size) in
-    subst (λ (xs : List ℕ). IsTrue (is_among (c / 8) xs)) (sym e) (subst (λ (m : ℕ). IsTrue (is_among (c / 8) (list_at members.lists m))) at (filed.there (c / 8) slot))) is
+    subst (λ (xs : List ℕ). IsTrue (is_among (c / 8) xs)) (sym e) (subst (λ (m : ℕ). IsTrue (is_among (c / 8) (list_at members.lists m))) at (filed.there (c / 8) slot)))
+    (λ c t. (filed.only n (c / 8) (subst (λ (xs : List ℕ). IsTrue (is_among (c / 8) xs)) e t)).1) is
 
--- w is found, and all to which arcs from the first so many found nodes lead
-pub record IsGoingOn (arcs : List (Option ℕ)) (node : List ℕ) (w next : ℕ) (ahead : List ℕ) : Type 0 where
+-- the node where the search stops
+pub advanced-stop : (arcs : List (Option ℕ)) (node : List ℕ) (n stop : ℕ) (old : Members) → n ≡ stop → IsAdvanced arcs node n stop old old
+advanced-stop arcs node n stop old e = record { sound = λ k t. inl t; closed = λ ne. absurd (ne e); same = kept-none old }
+
+pub advanced-all : (arcs : List (Option ℕ)) (node : List ℕ) (n stop : ℕ) (old new : Members) → IsFollowed arcs node n old new → IsAdvanced arcs node n stop old new
+advanced-all arcs node n stop old new is = record {
+  sound = λ k t. elim (is.only k t) [ inl r ↦ inl r | inr s ↦ inr (s.0, s.1, s.2, s.3, s.4) ];
+  closed = λ ne k leads. subst (λ (m : ℕ). IsTrue (is_among m new.members)) leads.4 (is.there leads.0 leads.1 leads.2 leads.3);
+  same = is.same;
+}
+
+-- w is found, and all to which arcs from the first so many found nodes lead, but for the stop
+pub record IsGoingOn (arcs : List (Option ℕ)) (node : List ℕ) (w stop next : ℕ) (ahead : List ℕ) : Type 0 where
   pub start : IsTrue (is_among w ahead)
-  pub closed : (k c j : ℕ) → k < next → node_at node (c / 8) ≡ slice_index ahead k → arc_at arcs c ≡ Some j → IsTrue (is_among (node_at node j) ahead)
+  pub sound : (n : ℕ) → IsTrue (is_among n ahead) → Walk (LeadsTo arcs node) w n
+  pub closed : (k q : ℕ) → k < next → (slice_index ahead k ≡ stop → ⊥) → LeadsTo arcs node (slice_index ahead k) q → IsTrue (is_among q ahead)
   pub within : next ≤ length ahead
 
-pub going-start : (arcs : List (Option ℕ)) (node : List ℕ) (w : ℕ) (none ahead : Members) → IsWith none w ahead → IsGoingOn arcs node w 0 ahead.members
-going-start arcs node w none ahead is = record { start = (is.there w).1 (inr refl); closed = λ k c j lt. absurd (omega (arith, lt)); within = omega arith }
+pub going-start : (arcs : List (Option ℕ)) (node : List ℕ) (w stop : ℕ) (none ahead : Members) → none.members ≡ [] → IsWith none w ahead → IsGoingOn arcs node w stop 0 ahead.members
+going-start arcs node w stop none ahead e is = record {
+  start = (is.there w).1 (inr refl);
+  sound = λ n t. elim ((is.there n).0 t) [
+    | inl r ↦ absurd (both_ways _ refl (subst (λ (xs : List ℕ). IsTrue (is_among n xs)) e r))
+    | inr q ↦ subst (λ (k : ℕ). Walk (LeadsTo arcs node) w k) (sym q) Here
+  ];
+  closed = λ k q lt. absurd (omega (arith, lt));
+  within = omega arith;
+}
 
-pub going-on : (arcs : List (Option ℕ)) (node : List ℕ) (w next n : ℕ) (old new : Members) → IsGoingOn arcs node w next old.members → next < length old.members → n ≡ slice_index old.members next → IsFollowed arcs node n old new → IsGoingOn arcs node w (next + 1) new.members
-going-on arcs node w next n old new was lt e is =
+pub going-on : (arcs : List (Option ℕ)) (node : List ℕ) (w stop next n : ℕ) (old new : Members) → IsGoingOn arcs node w stop next old.members → next < length old.members → n ≡ slice_index old.members next → IsAdvanced arcs node n stop old new → IsGoingOn arcs node w stop (next + 1) new.members
+going-on arcs node w stop next n old new was lt e is =
     let more = is.same.kept.0 in
     let grown = is.same.kept.1 in
     let reads : (k : ℕ) → k < length old.members → slice_index new.members k ≡ slice_index old.members k = λ k low. ap (λ (xs : List ℕ). slice_index xs k) grown ∙ read-left old.members more k low in
+    let at_n : IsTrue (is_among n old.members) = subst (λ (k : ℕ). IsTrue (is_among k old.members)) (sym e) (place-among old.members next lt) in
     record {
       start = still-there w old new is.same was.start;
-      closed = λ k c j low at arc. elim (cases_eq k next) [
-        | inl q ↦
-            let here : slice_index new.members k ≡ n = ap (λ (i : ℕ). slice_index new.members i) q ∙ reads next lt ∙ sym e in
-            is.there c j (at ∙ here) arc
-        | inr ne ↦
-            let below : k < next = omega (arith, low, ne) in
-            still-there (node_at node j) old new is.same (was.closed k c j below (at ∙ reads k (omega (arith, below, lt))) arc)
+      sound = λ k t. elim (is.sound k t) [ inl r ↦ was.sound k r | inr leads ↦ Then n k (was.sound n at_n) leads ];
+      closed = λ k q low ne leads. elim (cases_eq k next) [
+        | inl same ↦
+            let here : slice_index new.members k ≡ n = ap (λ (i : ℕ). slice_index new.members i) same ∙ reads next lt ∙ sym e in
+            is.closed (λ r. ne (here ∙ r)) q (subst (λ (m : ℕ). LeadsTo arcs node m q) here leads)
+        | inr other ↦
+            let below : k < next = omega (arith, low, other) in
+            let at = reads k (omega (arith, below, lt)) in
+            still-there q old new is.same (was.closed k q below (λ r. ne (at ∙ r)) (subst (λ (m : ℕ). LeadsTo arcs node m q) at leads))
       ];
       within = omega (arith, lt, ap length grown, length-append old.members more);
     }
 
-walk-ahead : (arcs : List (Option ℕ)) (node : List ℕ) (into : Lists) (w q next : ℕ) (ahead : List ℕ) → AreInto arcs node into → length ahead ≤ next → IsGoingOn arcs node w next ahead → Walk (IsBehind arcs node into) w q → IsTrue (is_among q ahead)
-walk-ahead arcs node into w q next ahead are le is Here = is.start
-walk-ahead arcs node into w q next ahead are le is (Then m p walk behind) =
-    let at_m = among-place m ahead (walk-ahead arcs node into w m next ahead are le is walk) in
+pub going-end : (arcs : List (Option ℕ)) (node : List ℕ) (w stop next : ℕ) (ahead : List ℕ) → length ahead ≤ next → IsGoingOn arcs node w stop next ahead → IsReached arcs node w stop ahead
+going-end arcs node w stop next ahead le is = record {
+  start = is.start;
+  sound = is.sound;
+  closed = λ m n t ne leads.
+      let p = among-place m ahead t in
+      is.closed p.0 n (omega (arith, p.1, le)) (λ r. ne (sym p.2 ∙ r)) (subst (λ (k : ℕ). LeadsTo arcs node k n) (sym p.2) leads);
+}
+
+walk-ahead : (arcs : List (Option ℕ)) (node : List ℕ) (into : Lists) (v w q : ℕ) (ahead : List ℕ) → AreInto arcs node into → IsFalse (is_among v ahead) → IsReached arcs node w v ahead → Walk (IsBehind arcs node into) w q → IsTrue (is_among q ahead)
+walk-ahead arcs node into v w q ahead are out is Here = is.start
+walk-ahead arcs node into v w q ahead are out is (Then m p walk behind) =
+    let at_m = walk-ahead arcs node into v w m ahead are out is walk in
     let end = some-of (arc_at arcs behind.0) behind.2.0 in
-    let found = is.closed at_m.0 behind.0 end.0 (omega (arith, at_m.1, le)) (behind.2.1 ∙ sym at_m.2) end.1 in
-    subst (λ (k : ℕ). IsTrue (is_among k ahead)) ((are.only q behind.0 behind.1).1 end.0 end.1) found
+    is.closed m q at_m (λ e. both_ways _ out (subst (λ (k : ℕ). IsTrue (is_among k ahead)) e at_m)) (behind.0, end.0, behind.2.1, end.1, (are.only q behind.0 behind.1).1 end.0 end.1)
 
 -- where all is found that w reaches, and v is not, w does not reach v
-pub ahead-apart : (arcs : List (Option ℕ)) (node : List ℕ) (into : Lists) (v w next : ℕ) (ahead : List ℕ) → AreInto arcs node into → length ahead ≤ next → IsGoingOn arcs node w next ahead → IsFalse (is_among v ahead) → IsApart arcs node into v w
-ahead-apart arcs node into v w next ahead are le is out = inr (λ walk. both_ways _ out (walk-ahead arcs node into w v next ahead are le is walk))
+pub reached-apart : (arcs : List (Option ℕ)) (node : List ℕ) (into : Lists) (v w : ℕ) (ahead : List ℕ) → AreInto arcs node into → IsReached arcs node w v ahead → IsFalse (is_among v ahead) → IsApart arcs node into v w
+reached-apart arcs node into v w ahead are is out = inr (λ walk. both_ways _ out (walk-ahead arcs node into v w v ahead are out is walk))
 
 pub walkable-at : (arcs a : List (Option ℕ)) (node b : List ℕ) (held : List Bool) (name : List ℕ) (members into : Lists) (end : ℕ) → IsKept arcs node held name members into → end ≡ length node → a ≡ arcs → b ≡ node → IsWalkable a b into end
 walkable-at arcs a node b held name members into end kept e ea eb =

@@ -1,6 +1,8 @@
 pub mod Options
 pub mod Found
 pub mod Followed
+pub mod Leads
+pub mod Along
 pub mod Turned
 pub mod Taken
 pub mod Joined
@@ -14,3 +16,4 @@ pub mod Gone
 pub mod Asked
 pub mod Told
 pub mod Least
+pub mod Pruned

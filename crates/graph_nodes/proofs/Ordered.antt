@@ -15,8 +15,9 @@ use Rattle.graph_nodes.specs.Named.{Naming, AreNamed, AreNamesMerged}
 use Rattle.graph_nodes.specs.Search.{IsBehind, IsSearched, IsApart}
 use Rattle.graph_nodes.specs.Spread.{IsSpread}
 use Rattle.graph_nodes.specs.Merge.{gathered, AreMoved}
-use Rattle.graph_nodes.specs.Kept.{AreOwn, IsKept, AreOnWay, AreJoined}
+use Rattle.graph_nodes.specs.Kept.{AreOwn, IsKept, AreOnWayBack, AreOnWayAhead, AreOnWay, AreJoined}
 use Rattle.graph_nodes.proofs.Options.{none-some, some-of, of-some}
+use Rattle.graph_nodes.proofs.Along.{lift-leads, along-way, where-leads}
 use Rattle.graph_nodes.proofs.Settled.{settled-into, settled-fewer}
 
 pub same-nodes : (E : ℕ → ℕ → Type 0) (f g : ℕ → ℕ) → ((i : ℕ) → g i ≡ f i) → AreNodes E f → AreNodes E g
@@ -104,7 +105,7 @@ nodes-apart arcs node into vs ws nodes are is = elim is [
 
 -- what was taken are the nodes on the way
 pub on-way : (arcs : List (Option ℕ)) (node : List ℕ) (into : Lists) (vs ws : ℕ) (found taken : List ℕ) → AreNodes (IsArc arcs) (node_at node) → AreInto arcs node into → IsSearched arcs node into (node_at node vs) (node_at node ws) found →
-    IsTrue (is_among (node_at node ws) found) → IsSpread arcs node into (node_at node ws) found taken → (i : ℕ) → IsTrue (is_among (node_at node i) taken) ↔ IsOnWay (IsArc arcs) vs ws i
+    IsTrue (is_among (node_at node ws) found) → IsSpread (IsBehind arcs node into) (node_at node ws) found taken → (i : ℕ) → IsTrue (is_among (node_at node i) taken) ↔ IsOnWay (IsArc arcs) vs ws i
 on-way arcs node into vs ws found taken nodes are is held spread i =
     let E = IsArc arcs in
     let f = found-is arcs node into vs ws found nodes are is in
@@ -132,7 +133,29 @@ pub way-slot : (arcs : List (Option ℕ)) (node : List ℕ) (into : Lists) (v ws
     (s : ℕ) × (s < length node) × (node_at node s ≡ n)
 way-slot arcs node into v ws n ns are ends low way t = elim way [
   | inl none ↦ absurd (both_ways _ refl (subst (λ (xs : List ℕ). IsTrue (is_among n xs)) none.1 t))
-  | inr some ↦ elim (some.3.sound n t) [ inl e ↦ (ws, low, sym e) | inr r ↦ where-walk arcs node into ws n are ends low r.1 ]
+  | inr on ↦ elim on [
+    | inl some ↦ elim (some.3.sound n t) [ inl e ↦ (ws, low, sym e) | inr r ↦ where-walk arcs node into ws n are ends low r.1 ]
+    | inr some ↦ elim (some.3.sound n t) [
+      | inl e ↦ let s = where-leads arcs node ws v ends low (some.1.sound v some.2) in (s.0, s.1, s.2 ∙ sym e)
+      | inr r ↦ where-leads arcs node ws n ends low (some.1.sound n r.0)
+    ]
+  ]
+]
+
+-- the nodes on the way, in either case
+way-all : (arcs : List (Option ℕ)) (node : List ℕ) (into : Lists) (vs ws : ℕ) (ns : List ℕ) → AreNodes (IsArc arcs) (node_at node) → AreInto arcs node into → AreOnWayBack arcs node into (node_at node vs) (node_at node ws) ns ⊎ AreOnWayAhead arcs node (node_at node vs) (node_at node ws) ns →
+    (i : ℕ) → IsTrue (is_among (node_at node i) ns) ↔ IsOnWay (IsArc arcs) vs ws i
+way-all arcs node into vs ws ns nodes are on = elim on [
+  | inl some ↦ on-way arcs node into vs ws some.0 ns nodes are some.1 some.2 some.3
+  | inr some ↦ along-way arcs node vs ws some.0 ns nodes some.1 some.2 some.3
+]
+
+-- the end of the arc is on the way
+pub way-start : (arcs : List (Option ℕ)) (node : List ℕ) (into : Lists) (vs ws : ℕ) (ns : List ℕ) → AreNodes (IsArc arcs) (node_at node) → AreInto arcs node into → AreOnWayBack arcs node into (node_at node vs) (node_at node ws) ns ⊎ AreOnWayAhead arcs node (node_at node vs) (node_at node ws) ns →
+    IsTrue (is_among (node_at node ws) ns)
+way-start arcs node into vs ws ns nodes are on = elim on [
+  | inl some ↦ some.3.start
+  | inr some ↦ (along-way arcs node vs ws some.0 ns nodes some.1 some.2 some.3 ws).1 (Here, lift-leads arcs node (node_at node ws) (node_at node vs) ws vs nodes (some.1.sound (node_at node vs) some.2) refl refl)
 ]
 
 -- the nodes after the merge are those with the arc
@@ -147,13 +170,13 @@ nodes-joined arcs old new held name members into vs ws one ns kept low way is at
           (nodes-apart arcs old into vs ws nodes are none.0)
       | inr some ↦
           let held : IsTrue (is_among one ns) = elim is [
-            | inl e ↦ absurd (both_ways _ refl (subst (λ (xs : List ℕ). IsTrue (is_among (node_at old ws) xs)) e some.3.start))
+            | inl e ↦ absurd (both_ways _ refl (subst (λ (xs : List ℕ). IsTrue (is_among (node_at old ws) xs)) e (way-start arcs old into vs ws ns nodes are some)))
             | inr t ↦ t
           ] in
           let slot = way-slot arcs old into (node_at old vs) ws one ns are kept.range.ends low (inr some) held in
           same-nodes (with_arc (IsArc arcs) vs ws) (merged (λ i. is_among (node_at old i) ns) (node_at old) slot.0) (node_at new)
           (λ i. at i ∙ ap (λ (k : ℕ). if is_among (node_at old i) ns then k else node_at old i) (sym slot.2))
-          (nodes-merged (IsArc arcs) (node_at old) (λ i. is_among (node_at old i) ns) vs ws slot.0 nodes (on-way arcs old into vs ws some.0 ns nodes are some.1 some.2 some.3) (subst (λ (k : ℕ). IsTrue (is_among k ns)) (sym slot.2) held))
+          (nodes-merged (IsArc arcs) (node_at old) (λ i. is_among (node_at old i) ns) vs ws slot.0 nodes (way-all arcs old into vs ws ns nodes are some) (subst (λ (k : ℕ). IsTrue (is_among k ns)) (sym slot.2) held))
     ]
 
 -- the arcs after the cell got its own
@@ -377,7 +400,7 @@ kept-inserted arcs old new held name names ma mb ia ib ic id c to kept lt none h
     let at = names-all arcs old new held name.name ma ia (node_at old (c / 8)) to one ns kept low way are.size are.node in
     let set = slice_set arcs c (Some to) in
     let free = cell-free arcs held ia ib (gathered ns one) c none holds kept.lost are.into in
-    let end_in : (ns ≡ []) ⊎ IsTrue (is_among (node_at old to) ns) = elim way [ inl e ↦ inl e.1 | inr s ↦ inr s.3.start ] in
+    let end_in : (ns ≡ []) ⊎ IsTrue (is_among (node_at old to) ns) = elim way [ inl e ↦ inl e.1 | inr s ↦ inr (way-start arcs old ia (c / 8) to ns kept.nodes kept.led.leads s) ] in
     record {
       nodes = nodes-iff (with_arc (IsArc arcs) (c / 8) to) (IsArc set) (node_at new) (λ i j. arcs-more arcs c to i j lt none) (nodes-joined arcs old new held name.name ma ia (c / 8) to one ns kept low way is at);
       own = own-more arcs old new held name.name ma ia (node_at old (c / 8)) to one ns kept low way is at;

@@ -36,32 +36,29 @@ none-all arcs node cells taken i e below some =
     let p = among-place some.0 cells some.1 in
     below p.0 (omega (arith, e, p.1)) (subst (λ (c : ℕ). StartsIn arcs node c taken) (sym p.2) some.2)
 
--- one node
-pub up-none : (arcs : List (Option ℕ)) (node : List ℕ) (into : Lists) (n : ℕ) (old : Members) → (StartAmongIn arcs node (list_at into.lists n) old.members → ⊥) → IsTakenUp arcs node into n old old
-up-none arcs node into n old none = record { sound = λ k t. inl t; closed = λ some. absurd (none some); same = kept-none old }
+-- a node that is taken
+pub up-there : (Next : ℕ → ℕ → Type 0) (n : ℕ) (old : Members) → IsTrue (is_among n old.members) → IsTakenUp Next n old old
+up-there Next n old there = record { sound = λ k t. inl t; closed = λ m t next. there; same = kept-none old }
 
-pub up-with : (arcs : List (Option ℕ)) (node : List ℕ) (into : Lists) (n : ℕ) (old new : Members) → StartAmongIn arcs node (list_at into.lists n) old.members → IsWith old n new → IsTakenUp arcs node into n old new
+-- one node
+pub up-none : (arcs : List (Option ℕ)) (node : List ℕ) (into : Lists) (n : ℕ) (old : Members) → (StartAmongIn arcs node (list_at into.lists n) old.members → ⊥) → IsTakenUp (IsBehind arcs node into) n old old
+up-none arcs node into n old none = record { sound = λ k t. inl t; closed = λ m t behind. absurd (none (behind.0, behind.1, (m, t, behind.2))); same = kept-none old }
+
+pub up-with : (arcs : List (Option ℕ)) (node : List ℕ) (into : Lists) (n : ℕ) (old new : Members) → StartAmongIn arcs node (list_at into.lists n) old.members → IsWith old n new → IsTakenUp (IsBehind arcs node into) n old new
 up-with arcs node into n old new some is = record {
-  sound = λ k t. elim ((is.there k).0 t) [ inl r ↦ inl r | inr e ↦ inr (e, some) ];
-  closed = λ s. (is.there n).1 (inr refl);
+  sound = λ k t. elim ((is.there k).0 t) [ inl r ↦ inl r | inr e ↦ inr (e, (some.2.0, some.2.1, (some.0, some.1, some.2.2))) ];
+  closed = λ m t behind. (is.there n).1 (inr refl);
   same = record { kept = is.kept; end = is.end; room = is.room };
 }
 
--- a start among the cells of n is a node behind n
-behind-some : (arcs : List (Option ℕ)) (node : List ℕ) (into : Lists) (n : ℕ) (taken : List ℕ) → StartAmongIn arcs node (list_at into.lists n) taken → (m : ℕ) × IsTrue (is_among m taken) × IsBehind arcs node into m n
-behind-some arcs node into n taken some = (some.2.0, some.2.1, (some.0, some.1, some.2.2))
-
-some-behind : (arcs : List (Option ℕ)) (node : List ℕ) (into : Lists) (m n : ℕ) (taken : List ℕ) → IsTrue (is_among m taken) → IsBehind arcs node into m n → StartAmongIn arcs node (list_at into.lists n) taken
-some-behind arcs node into m n taken t behind = (behind.0, behind.1, (m, t, behind.2))
-
--- in a round, the first so many of the found nodes
-pub record IsInRound (arcs : List (Option ℕ)) (node : List ℕ) (into : Lists) (found : List ℕ) (i : ℕ) (old new : Members) : Type 0 where
-  pub sound : (k : ℕ) → IsTrue (is_among k new.members) → IsTrue (is_among k old.members) ⊎ (IsTrue (is_among k found) × ((m : ℕ) × IsTrue (is_among m old.members) × Walk (IsBehind arcs node into) m k))
-  pub closed : length new.members ≡ length old.members → (j m : ℕ) → j < i → IsTrue (is_among m old.members) → IsBehind arcs node into m (slice_index found j) → IsTrue (is_among (slice_index found j) old.members)
+-- in a round, the found nodes from place i on
+pub record IsInRound (Next : ℕ → ℕ → Type 0) (found : List ℕ) (i : ℕ) (old new : Members) : Type 0 where
+  pub sound : (k : ℕ) → IsTrue (is_among k new.members) → IsTrue (is_among k old.members) ⊎ (IsTrue (is_among k found) × ((m : ℕ) × IsTrue (is_among m old.members) × Walk Next m k))
+  pub closed : length new.members ≡ length old.members → (j m : ℕ) → i ≤ j → j < length found → IsTrue (is_among m old.members) → Next m (slice_index found j) → IsTrue (is_among (slice_index found j) old.members)
   pub same : AreKept old new
 
-pub round-start : (arcs : List (Option ℕ)) (node : List ℕ) (into : Lists) (found : List ℕ) (old : Members) → IsInRound arcs node into found 0 old old
-round-start arcs node into found old = record { sound = λ k t. inl t; closed = λ e j m lt. absurd (omega arith); same = kept-none old }
+pub round-start : (Next : ℕ → ℕ → Type 0) (found : List ℕ) (i : ℕ) (old : Members) → length found ≤ i → IsInRound Next found i old old
+round-start Next found i old end = record { sound = λ k t. inl t; closed = λ e j m low lt. absurd (omega (arith, end, low, lt)); same = kept-none old }
 
 -- where a longer list is as long, it has nothing more
 empty : (xs : List ℕ) → length xs ≡ 0 → xs ≡ []
@@ -78,23 +75,23 @@ same-length old new k is e t =
 grows : (old new : Members) → AreKept old new → length old.members ≤ length new.members
 grows old new is = omega (arith, ap length is.kept.1, length-append old.members is.kept.0)
 
-pub round-on : (arcs : List (Option ℕ)) (node : List ℕ) (into : Lists) (found : List ℕ) (i n : ℕ) (old now new : Members) → IsInRound arcs node into found i old now → i < length found → n ≡ slice_index found i → IsTakenUp arcs node into n now new → IsInRound arcs node into found (i + 1) old new
-round-on arcs node into found i n old now new was lt e is =
+pub round-on : (Next : ℕ → ℕ → Type 0) (found : List ℕ) (i n : ℕ) (old now new : Members) → IsInRound Next found (i + 1) old now → i < length found → n ≡ slice_index found i → IsTakenUp Next n now new → IsInRound Next found i old new
+round-on Next found i n old now new was lt e is =
     let kept = kept-twice old now new was.same is.same in
     let held : IsTrue (is_among n found) = subst (λ (k : ℕ). IsTrue (is_among k found)) (sym e) (place-among found i lt) in
     record {
       sound = λ k t. elim (is.sound k t) [
         | inl r ↦ was.sound k r
         | inr up ↦
-            let b = behind-some arcs node into n now.members up.1 in
-            let step : Walk (IsBehind arcs node into) b.0 k = subst (λ (j : ℕ). Walk (IsBehind arcs node into) b.0 j) (sym up.0) (Then b.0 n Here b.2) in
+            let b = up.1 in
+            let step : Walk Next b.0 k = subst (λ (j : ℕ). Walk Next b.0 j) (sym up.0) (Then b.0 n Here b.2) in
             let found_k : IsTrue (is_among k found) = subst (λ (j : ℕ). IsTrue (is_among j found)) (sym up.0) held in
             elim (was.sound b.0 b.1) [
               | inl o ↦ inr (found_k, (b.0, o, step))
-              | inr o ↦ inr (found_k, (o.1.0, o.1.1, walk-on (IsBehind arcs node into) o.1.0 b.0 k o.1.2 step))
+              | inr o ↦ inr (found_k, (o.1.0, o.1.1, walk-on Next o.1.0 b.0 k o.1.2 step))
             ]
       ];
-      closed = λ same j m low t behind.
+      closed = λ same j m low high t behind.
           let g = grows old now was.same in
           let h = grows now new is.same in
           let first : length now.members ≡ length old.members = omega (arith, g, h, same) in
@@ -102,35 +99,35 @@ round-on arcs node into found i n old now new was lt e is =
             | inl q ↦
                 let at : slice_index found j ≡ n = ap (λ (k : ℕ). slice_index found k) q ∙ sym e in
                 let in_now : IsTrue (is_among m now.members) = subst (λ (xs : List ℕ). IsTrue (is_among m xs)) (sym was.same.kept.1) (among-left m old.members was.same.kept.0 t) in
-                let up = is.closed (some-behind arcs node into m n now.members in_now (subst (λ (k : ℕ). IsBehind arcs node into m k) at behind)) in
+                let up = is.closed m in_now (subst (λ (k : ℕ). Next m k) at behind) in
                 subst (λ (k : ℕ). IsTrue (is_among k old.members)) (sym at) (same-length old new n kept same up)
-            | inr ne ↦ was.closed first j m (omega arith) t behind
+            | inr ne ↦ was.closed first j m (omega (arith, low, ne)) high t behind
           ];
       same = kept;
     }
 
-pub round-end : (arcs : List (Option ℕ)) (node : List ℕ) (into : Lists) (found : List ℕ) (i : ℕ) (old new : Members) → i ≡ length found → IsInRound arcs node into found i old new → IsRoundDone arcs node into found old new
-round-end arcs node into found i old new e is = record {
+pub round-end : (Next : ℕ → ℕ → Type 0) (found : List ℕ) (old new : Members) → IsInRound Next found 0 old new → IsRoundDone Next found old new
+round-end Next found old new is = record {
   sound = is.sound;
   closed = λ same m n t held behind.
       let p = among-place n found held in
-      subst (λ (k : ℕ). IsTrue (is_among k old.members)) p.2 (is.closed same p.0 m (omega (arith, e, p.1)) t (subst (λ (k : ℕ). IsBehind arcs node into m k) (sym p.2) behind));
+      subst (λ (k : ℕ). IsTrue (is_among k old.members)) p.2 (is.closed same p.0 m (omega arith) p.1 t (subst (λ (k : ℕ). Next m k) (sym p.2) behind));
   same = is.same;
 }
 
 -- between rounds: what is taken, and that nothing is missing where the last round added nothing
-pub record IsSpreading (arcs : List (Option ℕ)) (node : List ℕ) (into : Lists) (w : ℕ) (found : List ℕ) (before : ℕ) (taken : List ℕ) : Type 0 where
+pub record IsSpreading (Next : ℕ → ℕ → Type 0) (w : ℕ) (found : List ℕ) (before : ℕ) (taken : List ℕ) : Type 0 where
   pub start : IsTrue (is_among w taken)
-  pub sound : (n : ℕ) → IsTrue (is_among n taken) → (n ≡ w) ⊎ (IsTrue (is_among n found) × Walk (IsBehind arcs node into) w n)
-  pub closed : length taken ≡ before → (m n : ℕ) → IsTrue (is_among m taken) → IsTrue (is_among n found) → IsBehind arcs node into m n → IsTrue (is_among n taken)
+  pub sound : (n : ℕ) → IsTrue (is_among n taken) → (n ≡ w) ⊎ (IsTrue (is_among n found) × Walk Next w n)
+  pub closed : length taken ≡ before → (m n : ℕ) → IsTrue (is_among m taken) → IsTrue (is_among n found) → Next m n → IsTrue (is_among n taken)
   pub within : before ≤ length taken
 
 some-length : (k : ℕ) (xs : List ℕ) → IsTrue (is_among k xs) → 0 < length xs
 some-length k [] t = absurd (both_ways _ refl t)
 some-length k (x ∷ xs) t = omega arith
 
-pub spread-start : (arcs : List (Option ℕ)) (node : List ℕ) (into : Lists) (w : ℕ) (found : List ℕ) (none taken : Members) → none.members ≡ [] → IsWith none w taken → IsSpreading arcs node into w found 0 taken.members
-spread-start arcs node into w found none taken e is =
+pub spread-start : (Next : ℕ → ℕ → Type 0) (w : ℕ) (found : List ℕ) (none taken : Members) → none.members ≡ [] → IsWith none w taken → IsSpreading Next w found 0 taken.members
+spread-start Next w found none taken e is =
     let there = (is.there w).1 (inr refl) in
     record {
       start = there;
@@ -139,8 +136,8 @@ spread-start arcs node into w found none taken e is =
       within = omega arith;
     }
 
-pub spread-on : (arcs : List (Option ℕ)) (node : List ℕ) (into : Lists) (w : ℕ) (found : List ℕ) (before : ℕ) (old new : Members) → IsSpreading arcs node into w found before old.members → IsRoundDone arcs node into found old new → IsSpreading arcs node into w found (length old.members) new.members
-spread-on arcs node into w found before old new was is =
+pub spread-on : (Next : ℕ → ℕ → Type 0) (w : ℕ) (found : List ℕ) (before : ℕ) (old new : Members) → IsSpreading Next w found before old.members → IsRoundDone Next found old new → IsSpreading Next w found (length old.members) new.members
+spread-on Next w found before old new was is =
     let grown = is.same.kept.1 in
     let stays : (k : ℕ) → IsTrue (is_among k old.members) → IsTrue (is_among k new.members) = λ k t. subst (λ (xs : List ℕ). IsTrue (is_among k xs)) (sym grown) (among-left k old.members is.same.kept.0 t) in
     record {
@@ -148,13 +145,13 @@ spread-on arcs node into w found before old new was is =
       sound = λ n t. elim (is.sound n t) [
         | inl r ↦ was.sound n r
         | inr r ↦ elim (was.sound r.1.0 r.1.1) [
-          | inl q ↦ inr (r.0, subst (λ (k : ℕ). Walk (IsBehind arcs node into) k n) q r.1.2)
-          | inr s ↦ inr (r.0, walk-on (IsBehind arcs node into) w r.1.0 n s.1 r.1.2)
+          | inl q ↦ inr (r.0, subst (λ (k : ℕ). Walk Next k n) q r.1.2)
+          | inr s ↦ inr (r.0, walk-on Next w r.1.0 n s.1 r.1.2)
         ]
       ];
       closed = λ same m n t held behind. stays n (is.closed same m n (same-length old new m is.same same t) held behind);
       within = grows old new is.same;
     }
 
-pub spread-end : (arcs : List (Option ℕ)) (node : List ℕ) (into : Lists) (w : ℕ) (found : List ℕ) (before : ℕ) (taken : List ℕ) → length taken ≤ before → IsSpreading arcs node into w found before taken → IsSpread arcs node into w found taken
-spread-end arcs node into w found before taken le is = record { start = is.start; sound = is.sound; closed = is.closed (omega (arith, le, is.within)) }
+pub spread-end : (Next : ℕ → ℕ → Type 0) (w : ℕ) (found : List ℕ) (before : ℕ) (taken : List ℕ) → length taken ≤ before → IsSpreading Next w found before taken → IsSpread Next w found taken
+spread-end Next w found before taken le is = record { start = is.start; sound = is.sound; closed = is.closed (omega (arith, le, is.within)) }

@@ -1,7 +1,7 @@
 -- The cells whose arcs lead into a node.
 use Rattle.std.specs.Prelude.{◌≡◌, ℕ, ◌/◌, ◌<◌, ◌⊎◌, Bool, IsTrue, IsFalse, List, length, Option, None, Some}
 use Rattle.oper_core.specs.State.{is_among}
-use Rattle.number_lists.specs.Lists.{Lists, list_at, AreAsMany, OthersStay}
+use Rattle.number_lists.specs.Lists.{Lists, list_at, AreAsMany, OthersStay, IsPushed}
 use Rattle.graph_nodes.specs.Arcs.{arc_at, node_at, held_at, IsFromOutside}
 
 -- each node's list has the cells whose arcs lead into it from another node, and of those without an arc or from within it some
@@ -37,3 +37,14 @@ pub record AreCleared (Gone : ℕ → Type 0) (old new : List (Option ℕ)) (old
   pub size : length new ≡ length old
   pub fewer : (m c : ℕ) → IsTrue (is_among c (list_at new_into.lists m)) → IsTrue (is_among c (list_at old_into.lists m))
   pub same : AreAsMany old_into new_into
+
+-- the cell, which was in no list, stands in front of the node's list, if its arc comes from another node
+abbrev pub IsPutBack : List (Option ℕ) → List ℕ → ℕ → ℕ → Lists → Lists → Type 0
+IsPutBack arcs node c m old new = (IsFromOutside arcs node c m × IsPushed old m c new) ⊎ ((IsFromOutside arcs node c m → ⊥) × (new ≡ old))
+
+-- those of the cells stand in the node's list, which was empty, whose arcs come from another node
+pub record ArePutBack (arcs : List (Option ℕ)) (node : List ℕ) (m : ℕ) (cells : List ℕ) (old new : Lists) : Type 0 where
+  pub kept : (c : ℕ) → IsTrue (is_among c cells) → IsFromOutside arcs node c m → IsTrue (is_among c (list_at new.lists m))
+  pub only : (c : ℕ) → IsTrue (is_among c (list_at new.lists m)) → IsTrue (is_among c cells) × IsFromOutside arcs node c m
+  pub others : OthersStay old m new
+  pub same : AreAsMany old new

@@ -1,5 +1,5 @@
 -- What a graph of slots keeps.
-use Rattle.std.specs.Prelude.{◌≡◌, ℕ, ◌*◌, ◌^◌, ◌<◌, ◌≤◌, ◌⊎◌, ◌↔◌, Bool, true, IsTrue, IsFalse, ◌+◌, ◌++◌, ◌∷◌, replicate, List, [], length, Option, None, Some}
+use Rattle.std.specs.Prelude.{◌≡◌, ℕ, ◌*◌, ◌^◌, ◌<◌, ◌≤◌, ◌⊎◌, ◌↔◌, Bool, true, IsTrue, ◌+◌, ◌++◌, ◌∷◌, replicate, List, [], length, Option, None, Some}
 use Rattle.oper_core.specs.State.{is_among}
 use Rattle.sparse_order.specs.Digraph.{AreNodes}
 use Rattle.number_lists.specs.Lists.{Lists, list_at}
@@ -8,8 +8,11 @@ use Rattle.number_lists.specs.Marks.{mark_at}
 use Rattle.graph_nodes.specs.Arcs.{arc_at, node_at, name_at, held_at, IsArc}
 use Rattle.graph_nodes.specs.Into.{AreLed, AreLost}
 use Rattle.graph_nodes.specs.Named.{Graph, Naming, AreNamed, AreNamesMerged}
-use Rattle.graph_nodes.specs.Search.{IsSearched, IsApart}
-use Rattle.graph_nodes.specs.Spread.{IsSpread}
+use Rattle.graph_nodes.specs.declared.turns.Way.{Way}
+use Rattle.graph_nodes.specs.declared.turns.Way.TheVariants.{Apart, Against, Along}
+use Rattle.graph_nodes.specs.Search.{IsBehind, IsSearched, IsApart}
+use Rattle.graph_nodes.specs.Ahead.{IsReached}
+use Rattle.graph_nodes.specs.Spread.{IsSpread, IsLedTo}
 use Rattle.graph_nodes.specs.Merge.{IsFiled, gathered, AreRenamed}
 
 -- each node is stood for by a slot of its own
@@ -63,9 +66,28 @@ pub record IsWide (old new : Members) : Type 0 where
   pub end : new.end ≡ old.end
   pub room : old.room ≤ new.room
 
+-- all was found that reaches v, and of it that is taken to which walks from w lead
+abbrev pub AreOnWayBack : List (Option ℕ) → List ℕ → Lists → ℕ → ℕ → List ℕ → Type 0
+AreOnWayBack arcs node into v w ns = (found : List ℕ) × IsSearched arcs node into v w found × IsTrue (is_among w found) × IsSpread (IsBehind arcs node into) w found ns
+
+-- all was found that w reaches, and of it that is taken from which walks lead to v
+abbrev pub AreOnWayAhead : List (Option ℕ) → List ℕ → ℕ → ℕ → List ℕ → Type 0
+AreOnWayAhead arcs node v w ns = (ahead : List ℕ) × IsReached arcs node w v ahead × IsTrue (is_among v ahead) × IsSpread (IsLedTo arcs node) v ahead ns
+
+-- what two searches say, of which the one from v has found the one list, and the one from w the other
+abbrev pub IsWay : List (Option ℕ) → List ℕ → Lists → ℕ → ℕ → List ℕ → List ℕ → Way → Type 0
+IsWay arcs node into v w found ahead Apart = IsApart arcs node into v w
+IsWay arcs node into v w found ahead Against = IsSearched arcs node into v w found × IsTrue (is_among w found)
+IsWay arcs node into v w found ahead Along = IsReached arcs node w v ahead × IsTrue (is_among v ahead)
+
+-- the taken nodes are one
+abbrev pub AreGathered : List ℕ → List ℕ → List ℕ → Naming → Naming → Lists → Lists → Lists → Lists → Type 0
+AreGathered ns old_node new_node old_names new_names old_members new_members old_into new_into =
+    (one : ℕ) × IsTrue (is_among one ns) × AreNamesMerged ns one old_names new_names × AreRenamed (gathered ns one) old_node new_node old_members new_members old_into new_into
+
 -- the nodes that walks from w to v go through, none where w does not reach v or is v
 abbrev pub AreOnWay : List (Option ℕ) → List ℕ → Lists → ℕ → ℕ → List ℕ → Type 0
-AreOnWay arcs node into v w ns = (IsApart arcs node into v w × (ns ≡ [])) ⊎ ((found : List ℕ) × IsSearched arcs node into v w found × IsTrue (is_among w found) × IsSpread arcs node into w found ns)
+AreOnWay arcs node into v w ns = (IsApart arcs node into v w × (ns ≡ [])) ⊎ (AreOnWayBack arcs node into v w ns ⊎ AreOnWayAhead arcs node v w ns)
 
 -- the nodes on the way from w to v are one
 abbrev pub AreJoined : List (Option ℕ) → ℕ → ℕ → List ℕ → List ℕ → Naming → Naming → Lists → Lists → Lists → Lists → Type 0

@@ -1,11 +1,11 @@
 -- What of the found nodes walks from a node lead to.
-use Rattle.std.specs.Prelude.{◌≡◌, ℕ, ◌⊎◌, IsTrue, List, Option, length}
+use Rattle.std.specs.Prelude.{◌≡◌, ℕ, ◌⊎◌, IsTrue, List, Option, Some, length}
 use Rattle.oper_core.specs.State.{is_among}
 use Rattle.sparse_order.specs.Digraph.{Walk}
-use Rattle.number_lists.specs.Lists.{Lists, list_at}
 use Rattle.number_lists.specs.Members.{Members}
-use Rattle.graph_nodes.specs.Arcs.{IsStartOf}
-use Rattle.graph_nodes.specs.Search.{AreKept, IsBehind}
+use Rattle.graph_nodes.specs.Arcs.{arc_at, node_at, IsStartOf}
+use Rattle.graph_nodes.specs.Ahead.{LeadsTo}
+use Rattle.graph_nodes.specs.Search.{AreKept}
 
 -- the cell has an arc that starts in one of the nodes
 abbrev pub StartsIn : List (Option ℕ) → List ℕ → ℕ → List ℕ → Type 0
@@ -15,20 +15,28 @@ StartsIn arcs node c taken = (m : ℕ) × IsTrue (is_among m taken) × IsStartOf
 abbrev pub StartAmongIn : List (Option ℕ) → List ℕ → List ℕ → List ℕ → Type 0
 StartAmongIn arcs node cells taken = (c : ℕ) × IsTrue (is_among c cells) × StartsIn arcs node c taken
 
--- n is taken too where it is next to a taken node; where nothing was added, it was taken or is next to none
-pub record IsTakenUp (arcs : List (Option ℕ)) (node : List ℕ) (into : Lists) (n : ℕ) (old new : Members) : Type 0 where
-  pub sound : (k : ℕ) → IsTrue (is_among k new.members) → IsTrue (is_among k old.members) ⊎ ((k ≡ n) × StartAmongIn arcs node (list_at into.lists n) old.members)
-  pub closed : StartAmongIn arcs node (list_at into.lists n) old.members → IsTrue (is_among n new.members)
+-- n is taken too where a taken node is next to it, and no other is
+pub record IsTakenUp (Next : ℕ → ℕ → Type 0) (n : ℕ) (old new : Members) : Type 0 where
+  pub sound : (k : ℕ) → IsTrue (is_among k new.members) → IsTrue (is_among k old.members) ⊎ ((k ≡ n) × ((m : ℕ) × IsTrue (is_among m old.members) × Next m n))
+  pub closed : (m : ℕ) → IsTrue (is_among m old.members) → Next m n → IsTrue (is_among n new.members)
   pub same : AreKept old new
 
 -- what is new was found, and a walk leads to it from what was taken; where nothing is new, nothing is missing
-pub record IsRoundDone (arcs : List (Option ℕ)) (node : List ℕ) (into : Lists) (found : List ℕ) (old new : Members) : Type 0 where
-  pub sound : (k : ℕ) → IsTrue (is_among k new.members) → IsTrue (is_among k old.members) ⊎ (IsTrue (is_among k found) × ((m : ℕ) × IsTrue (is_among m old.members) × Walk (IsBehind arcs node into) m k))
-  pub closed : length new.members ≡ length old.members → (m n : ℕ) → IsTrue (is_among m old.members) → IsTrue (is_among n found) → IsBehind arcs node into m n → IsTrue (is_among n old.members)
+pub record IsRoundDone (Next : ℕ → ℕ → Type 0) (found : List ℕ) (old new : Members) : Type 0 where
+  pub sound : (k : ℕ) → IsTrue (is_among k new.members) → IsTrue (is_among k old.members) ⊎ (IsTrue (is_among k found) × ((m : ℕ) × IsTrue (is_among m old.members) × Walk Next m k))
+  pub closed : length new.members ≡ length old.members → (m n : ℕ) → IsTrue (is_among m old.members) → IsTrue (is_among n found) → Next m n → IsTrue (is_among n old.members)
   pub same : AreKept old new
 
 -- w is taken, and of what was found all that walks from w lead to
-pub record IsSpread (arcs : List (Option ℕ)) (node : List ℕ) (into : Lists) (w : ℕ) (found taken : List ℕ) : Type 0 where
+pub record IsSpread (Next : ℕ → ℕ → Type 0) (w : ℕ) (found taken : List ℕ) : Type 0 where
   pub start : IsTrue (is_among w taken)
-  pub sound : (n : ℕ) → IsTrue (is_among n taken) → (n ≡ w) ⊎ (IsTrue (is_among n found) × Walk (IsBehind arcs node into) w n)
-  pub closed : (m n : ℕ) → IsTrue (is_among m taken) → IsTrue (is_among n found) → IsBehind arcs node into m n → IsTrue (is_among n taken)
+  pub sound : (n : ℕ) → IsTrue (is_among n taken) → (n ≡ w) ⊎ (IsTrue (is_among n found) × Walk Next w n)
+  pub closed : (m n : ℕ) → IsTrue (is_among m taken) → IsTrue (is_among n found) → Next m n → IsTrue (is_among n taken)
+
+-- an arc of one of these cells leads to a taken node
+abbrev pub LeadsIn : (ℕ → Type 0) → List (Option ℕ) → List ℕ → List ℕ → Type 0
+LeadsIn Cells arcs node taken = (c : ℕ) × (j : ℕ) × Cells c × (arc_at arcs c ≡ Some j) × IsTrue (is_among (node_at node j) taken)
+
+-- an arc leads from the node n to the node m
+abbrev pub IsLedTo : List (Option ℕ) → List ℕ → ℕ → ℕ → Type 0
+IsLedTo arcs node m n = LeadsTo arcs node n m

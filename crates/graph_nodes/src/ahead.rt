@@ -2,14 +2,15 @@ ghost use Rattle.std.specs.Prelude.{◌≡◌, ℕ, ◌<◌, ◌≤◌, ◌+◌,
 ghost use Rattle.std.specs.Vec.{vec_capacity};
 ghost use Rattle.oper_core.specs.State.{is_among};
 ghost use Rattle.graph_nodes.specs.Arcs.{AreEnds};
-ghost use Rattle.graph_nodes.specs.Ahead.{AreFollowed, IsFollowed};
+ghost use Rattle.graph_nodes.specs.Ahead.{AreFollowed, IsAdvanced};
 ghost use Rattle.graph_nodes.specs.Merge.{IsFiled};
 
 use number_lists::{Chains, NumberSet};
 
-/// Finds the nodes to which arcs from the node n lead.
-pub(crate) fn follow(
+/// Finds the nodes to which arcs from the node n lead, if that is not where the search stops.
+pub(crate) fn advance(
     n: u32,
+    stop: u32,
     arcs: &[Option<u32>],
     node: &[u32],
     members: &Chains,
@@ -21,9 +22,12 @@ pub(crate) fn follow(
     requires size { length arcs.now ≡ 8 * length node.now }
     requires ends { AreEnds arcs.now node.now ahead.old.end }
     requires room { members.now.items ≤ vec_capacity slots.old }
-    ensures found { IsFollowed arcs.now node.now n ahead.old ahead.new }
+    ensures found { IsAdvanced arcs.now node.now n stop ahead.old ahead.new }
     ensures capacity { vec_capacity slots.old ≤ vec_capacity slots.new }
 {
+    if n == stop {
+        return;
+    }
     members.copy_to(n, slots);
     follow_slots(slots.as_slice(), arcs, node, ahead);
 }

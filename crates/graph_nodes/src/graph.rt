@@ -15,12 +15,13 @@ ghost use Rattle.graph_nodes.specs.Kept.{AreJoined, IsSlotAdded, AreCellsAdded, 
 
 use crate::apart::joins_nothing;
 use crate::clearing::clear_slots;
-use crate::merging::{largest, merge};
+use crate::leading::spread_back;
+use crate::merging::gather;
 use crate::names::Names;
+use crate::pruning::tidy;
 use crate::removing::{release, scatter};
-use crate::settling::settle;
 use crate::spreading::spread;
-use crate::turns::search;
+use crate::turns::{Way, search};
 use number_lists::{Chains, NumberSet, push_in_room};
 use oper_core::Memory;
 use std::alloc::Global;
@@ -42,6 +43,8 @@ pub struct SlotGraph {
     found: NumberSet,
     taken: NumberSet,
     scratch: Vec<u32>,
+    /// How many looks at cells are saved up.
+    saved: u64,
     /// For how many more slots all tables have memory.
     room: usize,
 }
@@ -77,6 +80,7 @@ impl SlotGraph {
             found: NumberSet::new(alloc),
             taken: NumberSet::new(alloc),
             scratch: Vec::new(alloc),
+            saved: 0,
             room: 0,
         }
     }
@@ -187,11 +191,13 @@ impl SlotGraph {
         self.arcs[cell as usize] = Some(to);
         let n = self.node[to as usize];
         self.into.push(n, cell);
-        settle(
+        tidy(
             n,
             self.arcs.as_slice(),
             self.node.as_slice(),
             &mut self.into,
+            &mut self.scratch,
+            &mut self.saved,
         );
         self.names.tell(n, self.into.count(n) == 0);
     }
@@ -291,13 +297,17 @@ fn join(
     if joins_nothing(v, w, arcs, members) {
         return;
     }
-    if !search(v, w, arcs, node, members, into, cells, found, taken) {
-        return;
+    match search(v, w, arcs, node, members, into, cells, found, taken) {
+        Way::Apart => {}
+        Way::Against => {
+            spread(w, arcs, node, into, cells, found, taken);
+            gather(taken, node, names, members, into, cells);
+        }
+        Way::Along => {
+            spread_back(v, arcs, node, members, cells, taken, found);
+            gather(found, node, names, members, into, cells);
+        }
     }
-    spread(w, arcs, node, into, cells, found, taken);
-    let one = largest(taken, members);
-    names.merge(one, taken);
-    merge(one, taken, node, members, into, cells);
 }
 
 /// Adds eight cells without arcs.

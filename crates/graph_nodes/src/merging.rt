@@ -1,12 +1,14 @@
 ghost use Rattle.std.specs.Prelude.{◌≡◌, ℕ, ◌<◌, ◌≤◌, ◌⊎◌, length, IsTrue};
 ghost use Rattle.std.specs.Vec.{vec_capacity};
 ghost use Rattle.oper_core.specs.State.{is_among};
+ghost use Rattle.graph_nodes.specs.Kept.{AreGathered};
 ghost use Rattle.graph_nodes.specs.Merge.{IsFiled, IsRelabelled, IsAbsorbed, AreMerged};
 
+use crate::names::Names;
 use number_lists::{Chains, NumberSet};
 
 /// Merges all taken nodes into one of them.
-pub(crate) fn merge(
+fn merge(
     one: u32,
     taken: &NumberSet,
     node: &mut [u32],
@@ -27,8 +29,31 @@ pub(crate) fn merge(
     }
 }
 
+/// Makes the taken nodes one, which has the least of their names.
+pub(crate) fn gather(
+    taken: &NumberSet,
+    node: &mut [u32],
+    names: &mut Names,
+    members: &mut Chains,
+    into: &mut Chains,
+    slots: &mut Vec<u32>,
+)
+    requires some { 0 < length taken.now.members }
+    requires taken { taken.now.end ≤ length members.old.lists }
+    requires names { taken.now.end ≤ length names.old.name }
+    requires lists { length into.old.lists ≡ length members.old.lists }
+    requires filed { IsFiled node.old members.old }
+    requires room { members.old.items ≤ vec_capacity slots.old }
+    ensures gathered { AreGathered taken.now.members node.old node.new names.old names.new members.old members.new into.old into.new }
+    ensures capacity { vec_capacity slots.old ≤ vec_capacity slots.new }
+{
+    let one = largest(taken, members);
+    names.merge(one, taken);
+    merge(one, taken, node, members, into, slots);
+}
+
 /// The taken node with most members.
-pub(crate) fn largest(taken: &NumberSet, members: &Chains) -> u32
+fn largest(taken: &NumberSet, members: &Chains) -> u32
     requires some { 0 < length taken.now.members }
     requires lists { taken.now.end ≤ length members.now.lists }
     ensures there { IsTrue (is_among result taken.now.members) }

@@ -20,7 +20,7 @@ pub(crate) fn settle(n: u32, arcs: &[Option<u32>], node: &[u32], into: &mut Chai
 }
 
 /// Whether the cell has an arc, which starts in another node than n.
-fn is_from_outside(cell: u32, n: u32, arcs: &[Option<u32>], node: &[u32]) -> bool
+pub(crate) fn is_from_outside(cell: u32, n: u32, arcs: &[Option<u32>], node: &[u32]) -> bool
     requires cell { cell < length arcs.now }
     requires slot { cell / 8 < length node.now }
     ensures { IsTrue result ↔ IsFromOutside arcs.now node.now cell n }

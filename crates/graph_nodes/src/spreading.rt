@@ -3,6 +3,7 @@ ghost use Rattle.std.specs.Vec.{vec_capacity};
 ghost use Rattle.oper_core.specs.State.{is_among};
 ghost use Rattle.number_lists.specs.Lists.{list_at};
 ghost use Rattle.graph_nodes.specs.Arcs.{AreCells, AreBelow};
+ghost use Rattle.graph_nodes.specs.Search.{IsBehind};
 ghost use Rattle.graph_nodes.specs.Spread.{StartsIn, StartAmongIn, IsTakenUp, IsRoundDone, IsSpread};
 
 use number_lists::{Chains, NumberSet};
@@ -23,7 +24,7 @@ pub(crate) fn spread(
     requires cells { (n : ℕ) → AreCells arcs.now node.now (list_at into.now.lists n) }
     requires below { AreBelow node.now taken.old.end }
     requires room { into.now.items ≤ vec_capacity cells.old }
-    ensures taken { IsSpread arcs.now node.now into.now w found.now.members taken.new.members }
+    ensures taken { IsSpread (IsBehind arcs.now node.now into.now) w found.now.members taken.new.members }
     ensures end { taken.new.end ≡ taken.old.end }
     ensures room { taken.old.room ≤ taken.new.room }
     ensures capacity { vec_capacity cells.old ≤ vec_capacity cells.new }
@@ -37,7 +38,8 @@ pub(crate) fn spread(
     }
 }
 
-/// Takes each found node into which an arc leads from a taken one, in one round over the found nodes.
+/// Takes each found node into which an arc leads from a taken one, in one round over the found nodes. These were found
+/// against the arcs, so the round goes from the last to the first: a chain is then taken in one round.
 fn take_round(
     arcs: &[Option<u32>],
     node: &[u32],
@@ -51,15 +53,17 @@ fn take_round(
     requires cells { (n : ℕ) → AreCells arcs.now node.now (list_at into.now.lists n) }
     requires below { AreBelow node.now taken.old.end }
     requires room { into.now.items ≤ vec_capacity cells.old }
-    ensures taken { IsRoundDone arcs.now node.now into.now found.now.members taken.old taken.new }
+    ensures taken { IsRoundDone (IsBehind arcs.now node.now into.now) found.now.members taken.old taken.new }
     ensures capacity { vec_capacity cells.old ≤ vec_capacity cells.new }
 {
-    for i in 0..found.len() {
+    let mut i = found.len();
+    while i > 0 {
+        i -= 1;
         take_up(found.get(i), arcs, node, into, cells, taken);
     }
 }
 
-/// Takes the node, where an arc leads into it from a taken one.
+/// Takes the node, where an arc leads into it from a taken one, unless it is taken.
 fn take_up(
     n: u32,
     arcs: &[Option<u32>],
@@ -73,9 +77,12 @@ fn take_up(
     requires cells { AreCells arcs.now node.now (list_at into.now.lists n) }
     requires below { AreBelow node.now taken.old.end }
     requires room { into.now.items ≤ vec_capacity cells.old }
-    ensures taken { IsTakenUp arcs.now node.now into.now n taken.old taken.new }
+    ensures taken { IsTakenUp (IsBehind arcs.now node.now into.now) n taken.old taken.new }
     ensures capacity { vec_capacity cells.old ≤ vec_capacity cells.new }
 {
+    if taken.contains(n) {
+        return;
+    }
     into.copy_to(n, cells);
     if one_starts_in(cells.as_slice(), arcs, node, taken) {
         taken.add(n);

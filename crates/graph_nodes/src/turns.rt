@@ -1,22 +1,31 @@
-ghost use Rattle.std.specs.Prelude.{◌≡◌, ℕ, ◌<◌, ◌≤◌, ◌+◌, ◌*◌, length, IsTrue, IsFalse};
+ghost use Rattle.std.specs.Prelude.{◌≡◌, ℕ, ◌<◌, ◌≤◌, ◌+◌, ◌*◌, length, IsTrue};
 ghost use Rattle.std.specs.Vec.{vec_capacity};
-ghost use Rattle.oper_core.specs.State.{is_among};
 ghost use Rattle.number_lists.specs.Lists.{list_at};
 ghost use Rattle.graph_nodes.specs.Arcs.{AreCells, AreBelow, AreEnds};
 ghost use Rattle.graph_nodes.specs.Ahead.{IsWalkable, IsStepBack, IsStepAhead, IsTurn};
-ghost use Rattle.graph_nodes.specs.Kept.{IsWide};
+ghost use Rattle.graph_nodes.specs.Kept.{IsWide, IsWay};
 ghost use Rattle.graph_nodes.specs.Merge.{IsFiled};
-ghost use Rattle.graph_nodes.specs.Search.{IsSearched, IsApart};
 
-use crate::ahead::follow;
+use crate::ahead::advance;
 use crate::front::Front;
 use crate::search::expand;
 use number_lists::{Chains, NumberSet};
 
-/// Whether w reaches v. Then `found` has all nodes that reach v, but for those that are behind w alone.
+/// What two searches say of nodes v and w.
+#[derive(Drop)]
+pub(crate) enum Way {
+    /// They are one node, or w does not reach v.
+    Apart,
+    /// The search against the arcs is over, and has found w.
+    Against,
+    /// The search along the arcs is over, and has found v.
+    Along,
+}
+
+/// Whether w reaches v, and if so, which of two searches has found all that can be on the way.
 ///
 /// One search goes against the arcs from v, and one along them from w, and the one that has cost less so far is next: so
-/// it is over after about twice the cost of the cheaper one, where w does not reach v.
+/// it is over after about twice the cost of the cheaper one.
 pub(crate) fn search(
     v: u32,
     w: u32,
@@ -27,7 +36,7 @@ pub(crate) fn search(
     cells: &mut Vec<u32>,
     found: &mut NumberSet,
     ahead: &mut NumberSet,
-) -> bool
+) -> Way
     requires start { v < found.old.end }
     requires other { w < ahead.old.end }
     requires ends { found.old.end ≡ ahead.old.end }
@@ -39,9 +48,7 @@ pub(crate) fn search(
     requires walkable { IsWalkable arcs.now node.now into.now ahead.old.end }
     requires room { into.now.items ≤ vec_capacity cells.old }
     requires small { members.now.items ≤ vec_capacity cells.old }
-    ensures none { IsFalse result → IsApart arcs.now node.now into.now v w }
-    ensures some { IsTrue result → IsTrue (is_among w found.new.members) }
-    ensures all { IsTrue result → IsSearched arcs.now node.now into.now v w found.new.members }
+    ensures way { IsWay arcs.now node.now into.now v w found.new.members ahead.new.members result }
     ensures found { IsWide found.old found.new }
     ensures ahead { IsWide ahead.old ahead.new }
     ensures capacity { vec_capacity cells.old ≤ vec_capacity cells.new }
@@ -53,31 +60,28 @@ pub(crate) fn search(
     let mut back = Front { next: 0, spent: 0 };
     let mut on = Front { next: 0, spent: 0 };
     'turns: while back.next < found.len() {
-        if is_missed(v, ahead, &on) {
-            return false;
+        if on.next >= ahead.len() {
+            return if ahead.contains(v) {
+                Way::Along
+            } else {
+                Way::Apart
+            };
         }
         turn(
-            w, arcs, node, members, into, cells, found, ahead, &mut back, &mut on,
+            v, w, arcs, node, members, into, cells, found, ahead, &mut back, &mut on,
         );
     }
-    found.contains(w)
-}
-
-/// Whether the search along the arcs is over, and has not found v.
-fn is_missed(v: u32, ahead: &NumberSet, on: &Front) -> bool
-    requires { v < ahead.now.end }
-    ensures over { IsTrue result → length ahead.now.members ≤ on.now.next }
-    ensures out { IsTrue result → IsFalse (is_among v ahead.now.members) }
-{
-    if on.next < ahead.len() {
-        return false;
+    if found.contains(w) {
+        Way::Against
+    } else {
+        Way::Apart
     }
-    !ahead.contains(v)
 }
 
 /// Makes the next step of the search that has cost less so far, that step included.
 fn turn(
-    stop: u32,
+    v: u32,
+    w: u32,
     arcs: &[Option<u32>],
     node: &[u32],
     members: &Chains,
@@ -97,14 +101,14 @@ fn turn(
     requires walkable { IsWalkable arcs.now node.now into.now ahead.old.end }
     requires room { into.now.items ≤ vec_capacity cells.old }
     requires small { members.now.items ≤ vec_capacity cells.old }
-    ensures turn { IsTurn arcs.now node.now into.now stop back.old.next back.new.next found.old found.new on.old.next on.new.next ahead.old ahead.new }
+    ensures turn { IsTurn arcs.now node.now into.now v w back.old.next back.new.next found.old found.new on.old.next on.new.next ahead.old ahead.new }
     ensures capacity { vec_capacity cells.old ≤ vec_capacity cells.new }
 {
     if is_ahead_due(members, into, found, ahead, back, on) {
-        step_ahead(arcs, node, members, cells, ahead, on);
+        step_ahead(v, arcs, node, members, cells, ahead, on);
         return;
     }
-    step_back(stop, arcs, node, into, cells, found, back);
+    step_back(w, arcs, node, into, cells, found, back);
 }
 
 /// Whether the search along the arcs is not over, and has cost less than the other, the next step of each included.
@@ -165,8 +169,9 @@ fn step_back(
     back.next += 1;
 }
 
-/// Looks ahead of the next found node.
+/// Looks ahead of the next found node, if that is not where the search stops.
 fn step_ahead(
+    stop: u32,
     arcs: &[Option<u32>],
     node: &[u32],
     members: &Chains,
@@ -180,12 +185,12 @@ fn step_ahead(
     requires size { length arcs.now ≡ 8 * length node.now }
     requires ends { AreEnds arcs.now node.now ahead.old.end }
     requires room { members.now.items ≤ vec_capacity cells.old }
-    ensures step { IsStepAhead arcs.now node.now on.old.next on.new.next ahead.old ahead.new }
+    ensures step { IsStepAhead arcs.now node.now stop on.old.next on.new.next ahead.old ahead.new }
     ensures capacity { vec_capacity cells.old ≤ vec_capacity cells.new }
 {
     let _ = ahead.len();
     let n = ahead.get(on.next);
     on.spent = on.spent.saturating_add(cost_along(n, members));
-    follow(n, arcs, node, members, cells, ahead);
+    advance(n, stop, arcs, node, members, cells, ahead);
     on.next += 1;
 }

@@ -19,3 +19,4 @@ pub mod Counted
 pub mod Listed
 pub mod FirstWriters
 pub mod Lowered
+pub mod Renewed

@@ -12,12 +12,16 @@ use crate::links::Links;
 use crate::listing::{held_slots, numbers_of, slots_of, written_by};
 use crate::lowering::lower_last;
 use crate::places::{slot_from, slot_of};
+use crate::renewing::add_held;
 use install_order::Entry;
 use number_lists::push_in_room;
 use oper_core::Memory;
 use sparse_order::nodes_stand_for_nodes;
 use std::alloc::Global;
 use std::marker::Model;
+
+/// How many more slots may be left of entries that were taken out than there are held ones.
+const SPARE: usize = 16;
 
 /// A node's name: the least number of an entry in it.
 pub type NodeNo = u64;
@@ -70,6 +74,27 @@ impl WriteGraph {
 
     /// Takes the memory that the next `add` of this entry needs. Nothing else changes, also where it is out of memory.
     pub fn make_room(&mut self, _entry: &Entry) -> Result<(), Memory>
+        ensures room { OnOk result (0 < self.new.room) }
+        ensures same { self.new.entries ≡ self.old.entries }
+    {
+        if self.entries.len() > self.held.saturating_mul(2).saturating_add(SPARE) {
+            self.renew()?;
+        }
+        self.reserve()
+    }
+
+    /// Makes the slots anew, for the entries that are held alone. Nothing else changes, also where it is out of memory.
+    fn renew(&mut self) -> Result<(), Memory>
+        ensures { self.new.entries ≡ self.old.entries }
+    {
+        let mut graph = WriteGraph::new(self.alloc)?;
+        add_held(self.entries.as_slice(), &self.links.graph, &mut graph)?;
+        *self = graph;
+        Ok(())
+    }
+
+    /// Takes the memory for one more slot. Nothing else changes, also where it is out of memory.
+    pub(crate) fn reserve(&mut self) -> Result<(), Memory>
         ensures room { OnOk result (0 < self.new.room) }
         ensures same { self.new.entries ≡ self.old.entries }
     {

@@ -15,6 +15,7 @@ mod links;
 mod listing;
 mod lowering;
 mod places;
+mod renewing;
 mod rows;
 #[cfg(test)]
 mod tests;

@@ -9,9 +9,9 @@ pub follow_arc-requires-clause-ends : goal.follow_arc-requires-clause-ends
 follow_arc-requires-clause-ends c = ends-to c.args.arcs.now c.args.node.now c.args.ahead.now.end c.loop-i.ahead.end c.loop-i.invariant.same.end c.requires.ends
 
 pub loop-i-preserved : goal.loop-i-preserved
-loop-i-preserved c = early-on c.args.slot c.loop-i.i c.args.arcs.now c.args.node.now c.args.ahead.now c.loop-i.ahead c.follow_arc.new.ahead c.loop-i.invariant c.follow_arc.ensures
+loop-i-preserved c = early-on c.args.slot c.loop-i.i c.args.arcs.now c.args.node.now c.args.ahead.now c.loop-i.ahead c.follow_arc.new.ahead (omega (arith, c.loop-i-test.true)) c.loop-i.invariant c.follow_arc.ensures
 
 pub returns : goal.returns
 returns c =
     let le : 8 ≤ c.loop-i.i = omega (arith, c.loop-i-test.false) in
-    followed-as (IsEarly c.args.slot c.loop-i.i) (λ k. k / 8 ≡ c.args.slot) c.args.arcs.now c.args.node.now c.args.ahead.now c.loop-i.ahead (λ k j e arc. (e, omega (arith, e, le))) c.loop-i.invariant
+    followed-as (IsEarly c.args.slot c.loop-i.i) (λ k. k / 8 ≡ c.args.slot) c.args.arcs.now c.args.node.now c.args.ahead.now c.loop-i.ahead (λ k j e arc. (e, omega (arith, e, le))) (λ k p. p.0) c.loop-i.invariant

@@ -106,8 +106,8 @@ push-requires-clause-free c =
     let holds : IsTrue (held_at held (c.args.cell / 8)) = subst (λ (g : Graph). IsTrue (held_at g.held (c.args.cell / 8))) (sym c.self.view_is) c.requires.from_held in
     cell-free arcs held c.self.inside.into c.join.new.into (gathered join.0 join.2.0) c.args.cell none holds kept.lost join.2.3.into
 
-pub settle-requires-clause-list : goal.settle-requires-clause-list
-settle-requires-clause-list c =
+pub tidy-requires-clause-list : goal.tidy-requires-clause-list
+tidy-requires-clause-list c =
     let arcs = c.self.inside.arcs.items in
     let old = c.self.inside.node.items in
     let held = c.self.inside.held.items in
@@ -128,8 +128,8 @@ settle-requires-clause-list c =
     let at = value-at new c.args.to c.index-n.result.now low (subst (λ (xs : List ℕ). c.index-n.result.now ≡ slice_index_or xs c.args.to c.index-n.result.now) back c.index-n.ensures) in
     omega (arith, at, joined-below arcs old new held name names c.self.inside.members c.join.new.members c.self.inside.into c.join.new.into (node_at old (c.args.cell / 8)) c.args.to kept to join, c.push.ensures.same.lists)
 
-pub settle-requires-clause-cells : goal.settle-requires-clause-cells
-settle-requires-clause-cells c =
+pub tidy-requires-clause-cells : goal.tidy-requires-clause-cells
+tidy-requires-clause-cells c =
     let arcs = c.self.inside.arcs.items in
     let old = c.self.inside.node.items in
     let held = c.self.inside.held.items in
@@ -179,23 +179,23 @@ invariant_of-self c =
     let holds : IsTrue (held_at held (c.args.cell / 8)) = subst (λ (g : Graph). IsTrue (held_at g.held (c.args.cell / 8))) (sym c.self.view_is) c.requires.from_held in
     let push : IsPushed c.join.new.into (node_at new c.args.to) c.args.cell c.push.new.self = subst (λ (k : ℕ). IsPushed c.join.new.into k c.args.cell c.push.new.self) at c.push.ensures in
     let set = slice_set arcs c.args.cell (Some c.args.to) in
-    let settle : IsSettled set new (node_at new c.args.to) c.push.new.self c.settle.new.into =
-    subst (λ (k : ℕ). IsSettled set new k c.push.new.self c.settle.new.into) at
-    (subst (λ (xs : List ℕ). IsSettled set xs c.index-n.result.now c.push.new.self c.settle.new.into) (c.as_slice-3.ensures.value ∙ back)
-    (subst (λ (xs : List (Option ℕ)). IsSettled xs c.as_slice-3.result.now c.index-n.result.now c.push.new.self c.settle.new.into) c.as_slice-2.ensures.value c.settle.ensures)) in
-    let after = kept-inserted arcs old new held name names c.self.inside.members c.join.new.members c.self.inside.into c.join.new.into c.push.new.self c.settle.new.into c.args.cell c.args.to kept cell none holds to join push settle in
+    let settle : IsSettled set new (node_at new c.args.to) c.push.new.self c.tidy.new.into =
+    subst (λ (k : ℕ). IsSettled set new k c.push.new.self c.tidy.new.into) at
+    (subst (λ (xs : List ℕ). IsSettled set xs c.index-n.result.now c.push.new.self c.tidy.new.into) (c.as_slice-3.ensures.value ∙ back)
+    (subst (λ (xs : List (Option ℕ)). IsSettled xs c.as_slice-3.result.now c.index-n.result.now c.push.new.self c.tidy.new.into) c.as_slice-2.ensures.value c.tidy.ensures.settled)) in
+    let after = kept-inserted arcs old new held name names c.self.inside.members c.join.new.members c.self.inside.into c.join.new.into c.push.new.self c.tidy.new.into c.args.cell c.args.to kept cell none holds to join push settle in
     let told = c.tell.new.self in
     let tell : IsTold (node_at new c.args.to) (nat_eq c.count.result 0) names told = subst (λ (k : ℕ). IsTold k (nat_eq c.count.result 0) names told) at c.tell.ensures in
-    let count : c.count.result ≡ length (list_at c.settle.new.into.lists (node_at new c.args.to)) = subst (λ (k : ℕ). c.count.result ≡ length (list_at c.settle.new.into.lists k)) at c.count.ensures.value in
-    let marks = marked-inserted arcs old new held name names told c.self.inside.members c.join.new.members c.self.inside.into c.join.new.into c.settle.new.into (node_at old (c.args.cell / 8)) c.args.to (nat_eq c.count.result 0) kept c.self.invariant.4 to join after.named
-    (λ m ne. settle.others m ne ∙ push.others m ne) (free-iff (list_at c.settle.new.into.lists (node_at new c.args.to)) c.count.result count) tell in (
-      kept-room set set new _ held held names.name told.name c.join.new.members c.join.new.members c.settle.new.into c.settle.new.into after refl back refl tell.name refl refl refl refl,
+    let count : c.count.result ≡ length (list_at c.tidy.new.into.lists (node_at new c.args.to)) = subst (λ (k : ℕ). c.count.result ≡ length (list_at c.tidy.new.into.lists k)) at c.count.ensures.value in
+    let marks = marked-inserted arcs old new held name names told c.self.inside.members c.join.new.members c.self.inside.into c.join.new.into c.tidy.new.into (c.args.cell / 8) c.args.to (nat_eq c.count.result 0) kept c.self.invariant.4 to join after.named
+    (λ m ne. settle.others m ne ∙ push.others m ne) (free-iff (list_at c.tidy.new.into.lists (node_at new c.args.to)) c.count.result count) tell in (
+      kept-room set set new _ held held names.name told.name c.join.new.members c.join.new.members c.tidy.new.into c.tidy.new.into after refl back refl tell.name refl refl refl refl,
       c.join.ensures.found.end ∙ c.self.invariant.1 ∙ sym (ap length back ∙ join.2.3.size),
       c.join.ensures.taken.end ∙ c.self.invariant.2 ∙ sym (ap length back ∙ join.2.3.size),
-      room-more c.self.inside.room (length old) _ (vec_capacity c.self.inside.arcs) _ (vec_capacity c.self.inside.node) _ (vec_capacity c.self.inside.held) _ (vec_capacity c.self.inside.scratch) _ name told c.self.inside.members c.join.new.members c.self.inside.into c.settle.new.into
-          c.self.inside.found c.join.new.found c.self.inside.taken c.join.new.taken (ap length back ∙ join.2.3.size) (omega arith) (omega arith) (omega arith) c.join.ensures.capacity (omega (arith, join.2.2.room, tell.room)) (omega (arith, join.2.3.members.list_room)) (omega (arith, join.2.3.members.item_room))
+      room-more c.self.inside.room (length old) _ (vec_capacity c.self.inside.arcs) _ (vec_capacity c.self.inside.node) _ (vec_capacity c.self.inside.held) _ (vec_capacity c.self.inside.scratch) _ name told c.self.inside.members c.join.new.members c.self.inside.into c.tidy.new.into
+          c.self.inside.found c.join.new.found c.self.inside.taken c.join.new.taken (ap length back ∙ join.2.3.size) (omega arith) (omega arith) (omega arith) (omega (arith, c.join.ensures.capacity, c.tidy.ensures.capacity)) (omega (arith, join.2.2.room, tell.room)) (omega (arith, join.2.3.members.list_room)) (omega (arith, join.2.3.members.item_room))
           (omega (arith, join.2.3.into.same.list_room, push.same.list_room, settle.same.list_room)) (omega (arith, join.2.3.into.same.item_room, push.same.item_room, settle.same.item_room)) c.join.ensures.found.room c.join.ensures.taken.room c.self.invariant.3,
-      marked-as new _ held held c.settle.new.into c.settle.new.into told told back refl refl refl refl refl marks,
+      marked-as new _ held held c.tidy.new.into c.tidy.new.into told told back refl refl refl refl refl marks,
     )
 
 pub returns-clause-nodes : goal.returns-clause-nodes
@@ -222,11 +222,11 @@ returns-clause-nodes c =
     let holds : IsTrue (held_at held (c.args.cell / 8)) = subst (λ (g : Graph). IsTrue (held_at g.held (c.args.cell / 8))) (sym c.self.view_is) c.requires.from_held in
     let push : IsPushed c.join.new.into (node_at new c.args.to) c.args.cell c.push.new.self = subst (λ (k : ℕ). IsPushed c.join.new.into k c.args.cell c.push.new.self) at c.push.ensures in
     let set = slice_set arcs c.args.cell (Some c.args.to) in
-    let settle : IsSettled set new (node_at new c.args.to) c.push.new.self c.settle.new.into =
-    subst (λ (k : ℕ). IsSettled set new k c.push.new.self c.settle.new.into) at
-    (subst (λ (xs : List ℕ). IsSettled set xs c.index-n.result.now c.push.new.self c.settle.new.into) (c.as_slice-3.ensures.value ∙ back)
-    (subst (λ (xs : List (Option ℕ)). IsSettled xs c.as_slice-3.result.now c.index-n.result.now c.push.new.self c.settle.new.into) c.as_slice-2.ensures.value c.settle.ensures)) in
-    let after = kept-inserted arcs old new held name names c.self.inside.members c.join.new.members c.self.inside.into c.join.new.into c.push.new.self c.settle.new.into c.args.cell c.args.to kept cell none holds to join push settle in
+    let settle : IsSettled set new (node_at new c.args.to) c.push.new.self c.tidy.new.into =
+    subst (λ (k : ℕ). IsSettled set new k c.push.new.self c.tidy.new.into) at
+    (subst (λ (xs : List ℕ). IsSettled set xs c.index-n.result.now c.push.new.self c.tidy.new.into) (c.as_slice-3.ensures.value ∙ back)
+    (subst (λ (xs : List (Option ℕ)). IsSettled xs c.as_slice-3.result.now c.index-n.result.now c.push.new.self c.tidy.new.into) c.as_slice-2.ensures.value c.tidy.ensures.settled)) in
+    let after = kept-inserted arcs old new held name names c.self.inside.members c.join.new.members c.self.inside.into c.join.new.into c.push.new.self c.tidy.new.into c.args.cell c.args.to kept cell none holds to join push settle in
     subst (λ (xs : List ℕ). AreNodes (IsArc set) (node_at xs)) (sym back) after.nodes
 
 pub count-requires : goal.count-requires
@@ -249,7 +249,7 @@ count-requires c =
     let back = back-is old new c.self.inside.node.len join.2.3.size c.self.inside.node.ok.0 in
     let low : c.args.to < length new = omega (arith, to, join.2.3.size) in
     let at = value-at new c.args.to c.index-n.result.now low (subst (λ (xs : List ℕ). c.index-n.result.now ≡ slice_index_or xs c.args.to c.index-n.result.now) back c.index-n.ensures) in
-    omega (arith, at, joined-below arcs old new held name names c.self.inside.members c.join.new.members c.self.inside.into c.join.new.into (node_at old (c.args.cell / 8)) c.args.to kept to join, c.push.ensures.same.lists, c.settle.ensures.same.lists)
+    omega (arith, at, joined-below arcs old new held name names c.self.inside.members c.join.new.members c.self.inside.into c.join.new.into (node_at old (c.args.cell / 8)) c.args.to kept to join, c.push.ensures.same.lists, c.tidy.ensures.settled.same.lists)
 
 pub tell-requires : goal.tell-requires
 tell-requires c =

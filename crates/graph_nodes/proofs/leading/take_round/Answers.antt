@@ -1,0 +1,29 @@
+use Rattle.std.proofs.Common.{◌≡◌, ◌<◌, ◌-◌, ◌+◌, ℕ, subst, length, arith}
+use Rattle.graph_nodes.specs.Spread.{IsLedTo}
+use Rattle.graph_nodes.proofs.Followed.{ends-to}
+use Rattle.graph_nodes.proofs.Taken.{IsInRound, round-start, round-on, round-end}
+use Rattle.graph_nodes.proofs.leading.take_round.Goals as goal
+
+pub loop-i-init : goal.loop-i-init
+loop-i-init c = (round-start (IsLedTo c.args.arcs.now c.args.node.now) c.args.ahead.now.members _ c.args.taken.now (omega (arith, c.len-i.ensures.count)), omega arith, omega (arith, c.len-i.ensures.count))
+
+pub loop-i-preserved : goal.loop-i-preserved
+loop-i-preserved c =
+    let found = c.args.ahead.now.members in
+    let was = c.loop-i.invariant in
+    let next : c.loop-i.i ≡ c.loop-i.i - 1 + 1 = omega (arith, c.loop-i-test.true) in
+    let lt : c.loop-i.i - 1 < length found = omega (arith, c.loop-i-test.true, was.2) in
+    let here = subst (λ (k : ℕ). IsInRound (IsLedTo c.args.arcs.now c.args.node.now) found k c.args.taken.now c.loop-i.taken) next was.0 in (
+      round-on (IsLedTo c.args.arcs.now c.args.node.now) found (c.loop-i.i - 1) c.get.result c.args.taken.now c.loop-i.taken c.take_up.new.taken here lt c.get.ensures.value c.take_up.ensures.taken,
+      omega (arith, c.take_up.ensures.capacity, was.1),
+      omega (arith, lt),
+    )
+
+pub returns-clause-taken : goal.returns-clause-taken
+returns-clause-taken c =
+    let end : c.loop-i.i ≡ 0 = omega (arith, c.loop-i-test.false) in
+    round-end (IsLedTo c.args.arcs.now c.args.node.now) c.args.ahead.now.members c.args.taken.now c.loop-i.taken
+    (subst (λ (k : ℕ). IsInRound (IsLedTo c.args.arcs.now c.args.node.now) c.args.ahead.now.members k c.args.taken.now c.loop-i.taken) end c.loop-i.invariant.0)
+
+pub take_up-requires-clause-ends : goal.take_up-requires-clause-ends
+take_up-requires-clause-ends c = ends-to c.args.arcs.now c.args.node.now c.args.taken.now.end c.loop-i.taken.end c.loop-i.invariant.0.same.end c.requires.ends

@@ -1,0 +1,83 @@
+ghost use Rattle.std.specs.Prelude.{◌≡◌, ℕ, ◌<◌, ◌≤◌, ◌/◌, [], IsTrue, nat_eq, length};
+ghost use Rattle.std.specs.List.{IsDistinct};
+ghost use Rattle.oper_core.specs.State.{is_among};
+ghost use Rattle.std.specs.Vec.{vec_capacity};
+ghost use Rattle.number_lists.specs.Lists.{list_at, IsFree};
+ghost use Rattle.graph_nodes.specs.Arcs.{AreCells};
+ghost use Rattle.graph_nodes.specs.Into.{IsSettled, IsPutBack, ArePutBack};
+
+use crate::settling::{is_from_outside, settle};
+use number_lists::Chains;
+
+/// How many cells may be looked at for each arc that is inserted.
+const SAVED: u64 = 8;
+
+/// Drops the cells without an arc from another node: all in the node's list, where so many looks were saved up, else those
+/// in front. So the lists stay short, at a cost of a few looks for each call.
+pub(crate) fn tidy(
+    n: u32,
+    arcs: &[Option<u32>],
+    node: &[u32],
+    into: &mut Chains,
+    cells: &mut Vec<u32>,
+    saved: &mut u64,
+)
+    requires list { n < length into.old.lists }
+    requires cells { AreCells arcs.now node.now (list_at into.old.lists n) }
+    requires items { length arcs.now ≤ into.old.items }
+    requires room { into.old.items ≤ vec_capacity cells.old }
+    ensures settled { IsSettled arcs.now node.now n into.old into.new }
+    ensures capacity { vec_capacity cells.old ≤ vec_capacity cells.new }
+{
+    *saved = saved.saturating_add(SAVED);
+    let cost = into.count(n) as u64;
+    if *saved < cost {
+        settle(n, arcs, node, into);
+        return;
+    }
+    *saved -= cost;
+    prune(n, arcs, node, into, cells);
+}
+
+/// Drops all cells without an arc from another node from the node's list.
+fn prune(n: u32, arcs: &[Option<u32>], node: &[u32], into: &mut Chains, cells: &mut Vec<u32>)
+    requires list { n < length into.old.lists }
+    requires cells { AreCells arcs.now node.now (list_at into.old.lists n) }
+    requires items { length arcs.now ≤ into.old.items }
+    requires room { into.old.items ≤ vec_capacity cells.old }
+    ensures settled { IsSettled arcs.now node.now n into.old into.new }
+    ensures capacity { vec_capacity cells.old ≤ vec_capacity cells.new }
+{
+    into.copy_to(n, cells);
+    into.clear(n);
+    put_back(cells.as_slice(), n, arcs, node, into);
+}
+
+/// Puts those of the cells into the node's empty list that have an arc from another node.
+fn put_back(cells: &[u32], n: u32, arcs: &[Option<u32>], node: &[u32], into: &mut Chains)
+    requires list { n < length into.old.lists }
+    requires cells { AreCells arcs.now node.now cells.now }
+    requires distinct { IsDistinct nat_eq cells.now }
+    requires items { (c : ℕ) → IsTrue (is_among c cells.now) → c < into.old.items }
+    requires free { (c : ℕ) → IsTrue (is_among c cells.now) → IsFree into.old.lists c }
+    requires empty { list_at into.old.lists n ≡ [] }
+    ensures { ArePutBack arcs.now node.now n cells.now into.old into.new }
+{
+    for c in cells {
+        push_if_outside(*c, n, arcs, node, into);
+    }
+}
+
+/// Puts the cell into the node's list, if it has an arc from another node.
+fn push_if_outside(cell: u32, n: u32, arcs: &[Option<u32>], node: &[u32], into: &mut Chains)
+    requires list { n < length into.old.lists }
+    requires cell { cell < length arcs.now }
+    requires slot { cell / 8 < length node.now }
+    requires item { cell < into.old.items }
+    requires free { IsFree into.old.lists cell }
+    ensures { IsPutBack arcs.now node.now cell n into.old into.new }
+{
+    if is_from_outside(cell, n, arcs, node) {
+        into.push(n, cell);
+    }
+}

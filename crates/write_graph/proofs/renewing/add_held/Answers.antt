@@ -1,0 +1,35 @@
+use Rattle.std.proofs.Common.{◌≡◌, ◌∙◌, ap, sym, subst, ℕ, suc, ◌+◌, ◌<◌, List, [], ◌∷◌, ◌++◌, length, take, All, arith}
+use Rattle.std.specs.Prelude.{IsTrue, IsFalse, slice_index}
+use Rattle.install_order.specs.declared.entry.Entry.{Entry}
+use Rattle.graph_nodes.specs.Arcs.{held_at}
+use Rattle.write_graph.specs.Graph.{Graph, numbers}
+use Rattle.write_graph.specs.Cells.{held_entries}
+use Rattle.write_graph.proofs.Held.{number-at, length-numbers}
+use Rattle.write_graph.proofs.Renewed.{chosen-next, chosen-past, chosen-below}
+use Rattle.write_graph.proofs.renewing.add_held.Goals.{then-is_held+in_ok-add_copy, else-is_held}
+use Rattle.write_graph.proofs.renewing.add_held.Goals as goal
+
+pub add_copy-requires : goal.add_copy-requires
+add_copy-requires c =
+    let entries = c.args.entries.now in
+    let slot = c.loop-slot.slot in
+    let e = c.index-entries-slot.result in
+    let lt : slot < length entries = omega (arith, c.loop-slot-test.true) in
+    let at : slice_index (numbers entries) slot ≡ e.number = number-at entries slot e lt ∙ ap (λ (f : Entry). f.number) (sym c.index-entries-slot.is) in
+    let below = chosen-below (held_at c.args.slots.now.held) entries slot e.number (λ j there low end. omega (arith, at, c.requires.climbing.above_held j slot there low (omega (arith, lt, length-numbers entries)))) in
+    record { above = subst (λ (es : List Entry). All (λ n. n < e.number) (numbers es)) (sym c.loop-slot.invariant) below }
+
+pub loop-slot-preserved : goal.loop-slot-preserved
+loop-slot-preserved c =
+    let entries = c.args.entries.now in
+    let slot = c.loop-slot.slot in
+    let held = c.args.slots.now.held in
+    let lt : slot < length entries = omega (arith, c.loop-slot-test.true) in
+    let next : suc slot ≡ slot + 1 = omega arith in
+    subst (λ (k : ℕ). c.if-is_held.graph.entries ≡ held_entries held (take k entries)) next (elim c.if-is_held.branch [
+      | then-is_held+in_ok-add_copy w ↦
+          let e = w.index-entries-slot.result in
+          ap (λ (g : Graph). g.entries) w.graph-is ∙ w.in_ok-add_copy.ensures ∙ ap (λ (es : List Entry). es ++ e ∷ []) c.loop-slot.invariant ∙ ap (λ (f : Entry). held_entries held (take slot entries) ++ f ∷ []) w.index-entries-slot.is
+          ∙ sym (chosen-next (held_at held) entries slot e lt (sym c.is_held.ensures ∙ w.if-is_held.true))
+      | else-is_held w ↦ ap (λ (g : Graph). g.entries) w.graph-is ∙ c.loop-slot.invariant ∙ sym (chosen-past (held_at held) entries slot lt (sym c.is_held.ensures ∙ w.if-is_held.false))
+    ])
