@@ -1,6 +1,6 @@
 -- A store in used is in used still after a flush and after a removal.
 use Rattle.std.proofs.Common.{◌≡◌, ◌∙◌, sym, subst, ℕ, ◌<◌, Bool, true, false, List, [], ◌∷◌, arith, inl, inr, ⊎_elim, Option, Some, None, is_some, refl}
-use Rattle.std.specs.Prelude.{All, not, nat_eq}
+use Rattle.std.specs.Prelude.{All, IsSome, not, nat_eq}
 use Rattle.std.specs.List.{filter}
 use Rattle.std.specs.Map.{lookup}
 use Rattle.std.specs.Option.{option_or}
@@ -14,7 +14,7 @@ use Rattle.install_order.specs.declared.entry.Entry.{Entry}
 use Rattle.write_graph.specs.Graph.{numbers}
 use Rattle.formats.specs.declared.params.Params.{Params}
 use Rattle.cache_manager.specs.Laid.{Laid}
-use Rattle.cache_manager.specs.Flushed.{IsFlushed, MayFlush}
+use Rattle.cache_manager.specs.Flushed.{AreEarly, IsFlushed, MayFlush}
 use Rattle.cache_manager.specs.Parts.{AreInUse, Store, store}
 
 -- what is dirty is cached
@@ -23,6 +23,9 @@ dirty_held c x = elim (entry_at c.places x) as (λ d. is_some d ≡ true → (pa
   | None ↦ λ h. cc
   | Some e ↦ λ h. (e, refl)
 ]
+
+pub dirty_cached : (c : Contents) (x : ℕ) → is_dirty c x ≡ true → IsSome (held c x)
+dirty_cached c x dirty = let found = dirty_held c x dirty in subst (λ (o : Option Pair). IsSome o) (sym found.1) refl
 
 -- a dirty object may be flushed
 pub may_flush : (p : Params) (next : ℕ) (it : Store) (x : ℕ) → AreInUse p next it → is_dirty it.objects.cache x ≡ true → MayFlush it.objects x
@@ -55,6 +58,18 @@ flushed_in_use p next it after x used is = record {
         used.clean y pair (sym was.dirty ∙ clean) before ∙ sym id
   ];
 }
+
+-- the new identifier is below the next number too
+pub flushed_early : (p : Params) (next : ℕ) (it : Store) (after : Laid) (x : ℕ) → AreInUse p next it → is_dirty it.objects.cache x ≡ true → IsFlushed it.objects after x → AreEarly next it.objects → AreEarly next after
+flushed_early p next it after x used dirty is early y below = elim (cases_eq y x) [
+  | inl e ↦
+      let had = dirty_held it.objects.cache x dirty in
+      let low = (used.dirty x had.0 dirty had.1).1 in
+      subst (λ (z : ℕ). id_in after.slots z < next) (sym e) (omega (arith, low, is.id had.0 had.1))
+  | inr ne ↦
+      let was = early y (subst (λ (q : Params). y < q.objects) is.params below) in
+      omega (arith, was, is.other_ids y ne)
+]
 
 numbers_within : (next : ℕ) (test : Entry → Bool) (entries : List Entry) → All (λ n. n < next) (numbers entries) → All (λ n. n < next) (numbers (filter test entries))
 numbers_within next test [] all = all

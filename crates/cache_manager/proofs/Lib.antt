@@ -23,3 +23,11 @@ pub mod NamedNext
 pub mod StartsNow
 pub mod DirtyCount
 pub mod IdentityTakes
+pub mod Written
+pub mod Keeping
+pub mod Balance
+pub mod Under
+pub mod NextWork
+pub mod RoundsTaken
+pub mod Telling
+pub mod DrainTaken

@@ -1,12 +1,12 @@
 -- What is left of an install and of a drain, round by round: the invariants of loops that take them.
-use Rattle.std.proofs.Common.{◌≡◌, ◌∙◌, sym, subst, ap, ℕ, zero, suc, ◌+◌, ◌≤◌, List, [], ◌++◌, length, refl, arith}
+use Rattle.std.proofs.Common.{◌≡◌, ◌∙◌, sym, subst, ap, ℕ, zero, suc, ◌+◌, ◌≤◌, List, [], ◌++◌, length, take, refl, arith, inl, inr, ◌⊎◌}
 use Rattle.std.specs.Prelude.{IsTrue, IsFalse, nat_lt}
-use Rattle.std.proofs.lemmas.Bool.{both_ways, cond-true, cond-false}
+use Rattle.std.proofs.lemmas.Bool.{cases_Bool, both_ways, cond-true, cond-false}
 use Rattle.oper_core.specs.Meaning.{Meaning, IsLawful}
 use Rattle.install_order.specs.NodeLaws.{some-gives}
 use Rattle.explain_core.specs.Turns.{count_below, dirty_in}
 use Rattle.explain_core.specs.World.{World, Step, run, end_of}
-use Rattle.cache_manager.specs.Courses.{Course, is_through, course, and_then, identities, cached_length, others, work, finish_steps, rounds, has_members, install_course, drains, drain_course}
+use Rattle.cache_manager.specs.Courses.{Course, is_through, course, and_then, identities, cached_length, others, work, finish_steps, rounds, has_members, install_course, drains, drain_course, flushed_in}
 use Rattle.cache_manager.specs.Courses.Stop.{Through}
 use Rattle.cache_manager.specs.CourseLaws.{IsLeft, left_next, left_none}
 use Rattle.cache_manager.specs.Running.{IsRunning, KeepsSound}
@@ -24,6 +24,22 @@ pub record RoundsLeft {O : Type 0} (m : Meaning O) (whole : Course O) (taken : L
   pub count : ℕ
   pub enough : plain_in m w ≤ count
   pub left : IsLeft whole taken (rounds m count w used)
+
+-- rounds are left, or there was nothing to install
+abbrev pub InstallLeft : {O : Type 0} → Meaning O → Course O → List (Step O) → World O → ℕ → Type 0
+InstallLeft m whole taken w used = RoundsLeft m whole taken w used ⊎ (IsFalse (has_members m w) × IsLeft whole taken (course [] used Through))
+
+-- so far nothing is flushed; in the end the first of these objects is, if there is one
+abbrev pub InstallGoesOn : {O : Type 0} → Meaning O → Course O → List (Step O) → World O → ℕ → Type 0
+InstallGoesOn m whole taken w used = InstallLeft m whole taken w used × (flushed_in taken ≡ [])
+
+abbrev pub InstallDone : {O : Type 0} → List ℕ → Meaning O → Course O → List (Step O) → World O → ℕ → Type 0
+InstallDone items m whole taken w used = IsLeft whole taken (course [] used Through) × (flushed_in taken ≡ take 1 items)
+
+-- some course is left in both cases
+pub install_rest : {O : Type 0} {m : Meaning O} {whole : Course O} {taken : List (Step O)} {w : World O} {used : ℕ} → InstallLeft m whole taken w used → (rest : Course O) × IsLeft whole taken rest
+install_rest (inl is) = (_, is.left)
+install_rest (inr is) = (_, is.1)
 
 -- and installs are left, as many as are needed or more
 pub record InstallsLeft {O : Type 0} (m : Meaning O) (whole : Course O) (taken : List (Step O)) (w : World O) (used : ℕ) : Type 0 where
@@ -48,6 +64,12 @@ module _ {O : Type 0} (m : Meaning O) (lawful : IsLawful m) (keeps : KeepsSound 
         enough = count_at_most m.objects (is_plain w);
         left = cond-true (has_members m w) (rounds m m.objects w used) (course [] used Through) some;
       }
+
+  pub install_left : (w : World O) (used : ℕ) → IsRunning m w → InstallLeft m (install_course m w used) [] w used
+  install_left w used is = elim (cases_Bool (has_members m w)) [
+    | inl some ↦ inl (install_begins w used is some)
+    | inr none ↦ inr (none, cond-false (has_members m w) (rounds m m.objects w used) (course [] used Through) none)
+  ]
 
   module _ (whole : Course O) (taken : List (Step O)) (w : World O) (used : ℕ) where
     abbrev logging : Course O
@@ -89,6 +111,17 @@ module _ {O : Type 0} (m : Meaning O) (lawful : IsLawful m) (keeps : KeepsSound 
 
     pub round_stopped : RoundsLeft m whole taken w used → IsTrue (nat_lt 1 (length (work m w))) → IsFalse (is_through logging.stop) → IsLeft whole taken logging
     round_stopped is many stopped = let first = logged_first is many in left_none m whole taken w logging (λ v used. rounds m first.0 v used) first.2 stopped
+
+  module _ (whole : Course O) (taken : List (Step O)) (w : World O) (used : ℕ) where
+    -- where the graph has a member, rounds are left
+    pub rounds_left : InstallLeft m whole taken w used → IsTrue (has_members m w) → RoundsLeft m whole taken w used
+    rounds_left (inl is) some = is
+    rounds_left (inr none) some = absurd (both_ways _ none.0 some)
+
+    -- where it has none, nothing is left
+    pub nothing_left : InstallLeft m whole taken w used → ((n : ℕ) → IsFalse (w.graph n)) → IsLeft whole taken (course [] used Through)
+    nothing_left (inl is) none = absurd (both_ways _ (none is.member) is.held)
+    nothing_left (inr is) none = is.1
 
   pub drain_begins : (w : World O) (used : ℕ) → IsRunning m w → InstallsLeft m (drain_course m w used) [] w used
   drain_begins w used is = record {

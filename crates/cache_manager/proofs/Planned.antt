@@ -1,10 +1,18 @@
 -- The object that a plan keeps is the longest of the work, and what it logs is the rest.
-use Rattle.std.proofs.Common.{◌≡◌, ◌∙◌, sym, subst, ap, ℕ, zero, suc, ◌+◌, ◌<◌, ◌≤◌, Bool, false, List, [], ◌∷◌, length, map, refl, arith, inl, inr, Option, None, Some}
-use Rattle.std.specs.Prelude.{⊤, ◌==◌, ◌||◌, IsTrue, nat_lt, slice_get, slice_index, is_some}
+use Rattle.std.proofs.Common.{◌≡◌, ◌∙◌, sym, subst, ap, ℕ, zero, suc, ◌+◌, ◌<◌, ◌≤◌, Bool, false, List, [], ◌∷◌, length, map, refl, arith, inl, inr, true, Option, None, Some}
+use Rattle.std.specs.Prelude.{⊤, ◌==◌, ◌||◌, All, not, IfSome, IsNone, IsTrue, nat_lt, slice_get, slice_index, is_some}
 use Rattle.std.specs.List.{filter}
 use Rattle.std.specs.List.Sorted.{IsStrictlyIncreasing}
-use Rattle.std.proofs.lemmas.Bool.{cases_Bool, both_ways, or_cases, or_left, or_right, eq-eqb, eqb-true, ltb-true, ltb-false, cond-true, cond-false}
+use Rattle.std.proofs.lemmas.Bool.{cases_Bool, both_ways, false_from_ne_true, lt-ltb, or_cases, or_left, or_right, eq-eqb, eqb-true, ltb-true, ltb-false, cond-true, cond-false}
 use Rattle.std.proofs.lemmas.Grind.{get_or_default_zero}
+use Rattle.std.proofs.lemmas.List.Elements.{All-filter, All-head, All-tail}
+use Rattle.disk_model.specs.Disk.{Disk}
+use Rattle.disk_model.specs.declared.machine.FileNo.TheVariants.{Objects}
+use Rattle.formats.specs.Objects.{cell_of}
+use Rattle.formats.specs.declared.params.Params.{Params}
+use Rattle.dirty_cache.specs.Contents.{is_dirty}
+use Rattle.dirty_cache.specs.declared.entry.Entry.{Entry as Pair}
+use Rattle.oper_core.specs.Cell.{Cell}
 use Rattle.oper_core.specs.State.{is_among}
 use Rattle.oper_core.specs.Meaning.{Meaning, IsLawful}
 use Rattle.identity_writes.specs.Plan.{IsKept, without}
@@ -12,7 +20,12 @@ use Rattle.explain_core.specs.Sound.{IsSound}
 use Rattle.explain_core.specs.Turns.{has_work}
 use Rattle.explain_core.specs.World.{World, work_of}
 use Rattle.cache_manager.specs.Courses.{counted, longest, but_longest, cached_length, next_node, work, others}
-use Rattle.cache_manager.proofs.Lists.{among_filter, among_counted, longest_among}
+use Rattle.cache_manager.specs.Joins.{cached_shown}
+use Rattle.cache_manager.specs.Laid.{cell_or, values_in}
+use Rattle.cache_manager.specs.Parts.{Parts, Shows}
+use Rattle.cache_manager.proofs.InUse.{dirty_held}
+use Rattle.cache_manager.proofs.Installs.{some_logged}
+use Rattle.cache_manager.proofs.Lists.{AreApart, among_filter, among_counted, longest_among}
 use Rattle.cache_manager.proofs.WorkOf.{listed_is, is_listed}
 
 -- each object is above those before it
@@ -175,7 +188,7 @@ module _ (lengths : ℕ → ℕ) where
   mapped_at (x ∷ xs) zero lt = refl
   mapped_at (x ∷ xs) (suc k) lt = mapped_at xs k (omega (arith, lt))
 
-  mapped_length : (xs : List ℕ) → length (map lengths xs) ≡ length xs
+  pub mapped_length : (xs : List ℕ) → length (map lengths xs) ≡ length xs
   mapped_length [] = refl
   mapped_length (x ∷ xs) = ap suc (mapped_length xs)
 
@@ -220,3 +233,35 @@ module _ {O : Type 0} (m : Meaning O) (lawful : IsLawful m) (w : World O) (sound
   pub planned : (objects : List ℕ) (x : ℕ) → objects ≡ work m w → IsKept objects (map (cached_length m w) objects) x → without x objects ≡ others m w
   planned objects x same kept =
       planned_others (cached_length m w) objects x (subst Rises (sym same) work_rises) kept ∙ ap (but_longest (cached_length m w)) same
+
+pub rises_apart : (xs : List ℕ) → Rises xs → AreApart xs
+rises_apart [] rises = tt
+rises_apart (x ∷ xs) rises = (false_from_ne_true _ (λ there. let up = rises.0 x there in absurd (omega (arith, up))), rises_apart xs rises.1)
+
+-- a plan of two objects or more logs all but the longest, and so one at least
+pub logged_others : (lengths : ℕ → ℕ) (work logged : List ℕ) (keep : Option ℕ) → IsStrictlyIncreasing work → (IsNone keep → ⊥) → IfSome keep (IsKept work (map lengths work)) → IfSome keep (λ x. logged ≡ without x work)
+    → logged ≡ but_longest lengths work
+logged_others lengths work logged None up some kept is = absurd (some refl)
+logged_others lengths work logged (Some x) up some kept is = is ∙ planned_others lengths work x (rises_from_increasing work up) kept
+
+pub logged_some : (lengths : ℕ → ℕ) (work logged : List ℕ) → IsStrictlyIncreasing work → 1 < length work → logged ≡ but_longest lengths work → 1 ≤ length logged
+logged_some lengths work logged up many is =
+    let some = some_logged lengths work (rises_apart work (rises_from_increasing work up)) (lt-ltb 1 (length work) many) in
+    omega (arith, some, ap length is)
+
+-- the others are among the objects
+pub others_all : (P : ℕ → Type 0) (work logged : List ℕ) (keep : Option ℕ) → (IsNone keep → ⊥) → IfSome keep (λ x. logged ≡ without x work) → All P work → All P logged
+others_all P work logged None some is all = absurd (some refl)
+others_all P work logged (Some x) some is all = subst (λ (l : List ℕ). All P l) (sym is) (All-filter (λ (y : ℕ). not (y == x)) P work all)
+
+-- the lengths that are read of dirty objects are those of the world
+pub lengths_shown : {O : Type 0} (m : Meaning O) (p : Params) (d : Disk) (it : Parts) (w : World O) → Shows m p d it w → (work : List ℕ) → All (λ x. is_dirty it.store.objects.cache x ≡ true) work
+    → map (λ x. length (values_in it.store.objects (d.reads Objects) x)) work ≡ map (cached_length m w) work
+lengths_shown m p d it w shows [] all = refl
+lengths_shown m p d it w shows (x ∷ work) all =
+    let P : ℕ → Type 0 = λ y. is_dirty it.store.objects.cache y ≡ true in
+    let found = dirty_held it.store.objects.cache x (All-head P x work all) in
+    let file = d.reads Objects in
+    let value = ap (λ (o : Option Pair). (cell_or o (cell_of it.store.objects.slots.params.cap x file)).value) found.1 ∙ ap (λ (c : Cell). c.value) (sym (cached_shown m p file it.store w shows.store x found.0 found.1)) in
+    let rest = lengths_shown m p d it w shows work (All-tail P x work all) in
+    λ i. length (value i) ∷ rest i

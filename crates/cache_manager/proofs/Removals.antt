@@ -1,5 +1,5 @@
 -- An install removes one node, and flushes one object at most.
-use Rattle.std.proofs.Common.{◌≡◌, ◌∙◌, sym, subst, ap, ℕ, zero, suc, ◌+◌, ◌≤◌, Bool, true, false, List, [], ◌∷◌, ◌++◌, length, refl, arith, append_assoc}
+use Rattle.std.proofs.Common.{◌≡◌, ◌∙◌, sym, subst, ap, ℕ, zero, suc, ◌+◌, ◌≤◌, Bool, true, false, List, [], ◌∷◌, ◌++◌, length, take, refl, arith, append_assoc}
 use Rattle.std.specs.Prelude.{IsTrue, ◌^◌, ◌&&◌, nat_lt, nat_le, if◌then◌else◌}
 use Rattle.std.proofs.lemmas.Bool.{both_ways, cond-true, cond_both}
 use Rattle.oper_core.specs.Meaning.{Meaning}
@@ -10,18 +10,18 @@ use Rattle.cache_manager.specs.Courses.{Course, Stop, is_through, course, behind
 use Rattle.cache_manager.specs.Courses.Stop.{Through, Full, At_end}
 use Rattle.cache_manager.specs.CourseLaws.{behind_both}
 
-flushed-append : {O : Type 0} (xs ys : List (Step O)) → flushed_in (xs ++ ys) ≡ flushed_in xs ++ flushed_in ys
+pub flushed-append : {O : Type 0} (xs ys : List (Step O)) → flushed_in (xs ++ ys) ≡ flushed_in xs ++ flushed_in ys
 flushed-append [] ys = refl
 flushed-append (s ∷ xs) ys = ap (λ (l : List ℕ). flushed_by s ++ l) (flushed-append xs ys) ∙ sym (append_assoc (flushed_by s) (flushed_in xs) (flushed_in ys))
 
-removals-append : {O : Type 0} (xs ys : List (Step O)) → removals (xs ++ ys) ≡ removals xs + removals ys
+pub removals-append : {O : Type 0} (xs ys : List (Step O)) → removals (xs ++ ys) ≡ removals xs + removals ys
 removals-append [] ys = omega arith
 removals-append (s ∷ xs) ys = omega (arith, removals-append xs ys)
 
 -- no node is removed, and nothing flushed
-record RemoveNone {O : Type 0} (steps : List (Step O)) : Type 0 where
-  removed : removals steps ≡ 0
-  flushed : flushed_in steps ≡ []
+pub record RemoveNone {O : Type 0} (steps : List (Step O)) : Type 0 where
+  pub removed : removals steps ≡ 0
+  pub flushed : flushed_in steps ≡ []
 
 -- one node is removed unless the course is stopped, and one object flushed at most
 pub record RemovesOne {O : Type 0} (c : Course O) : Type 0 where
@@ -58,7 +58,7 @@ module _ {O : Type 0} (m : Meaning O) where
       (none_either (nat_lt (2 ^ 48) (grown m v used n)) (course (force_steps m v) used (Full used (n + 5) (2 ^ 48))) (if true && nat_le (2 ^ 62) (end_of v) then course (force_steps m v) used (At_end (end_of v)) else course (identity_steps m x v) (grown m v used n) Through) (none_force v)
       (none_either (true && nat_le (2 ^ 62) (end_of v)) (course (force_steps m v) used (At_end (end_of v))) (course (identity_steps m x v) (grown m v used n) Through) (none_force v) (record { removed = refl; flushed = refl })))
 
-  none_identities : (objects : List ℕ) (w : World O) (used : ℕ) → RemoveNone (identities m objects w used).steps
+  pub none_identities : (objects : List ℕ) (w : World O) (used : ℕ) → RemoveNone (identities m objects w used).steps
   none_identities [] w used = record { removed = refl; flushed = refl }
   none_identities (x ∷ objects) w used =
       let first = identity_course m x w used in
@@ -107,6 +107,16 @@ module _ {O : Type 0} (m : Meaning O) where
       one_either (nat_lt 1 (length (work m w))) (and_then m w logging (λ v used. rounds m n v used)) (course (finish_steps m w) used Through)
       (one_behind logging (rounds m n v logging.used) (none_identities (others m w) w used) (rounds_remove n v logging.used))
       (one_finish w used)
+
+  -- what a finish flushes, which is the first of the work
+  pub finish_flushes : (w : World O) → flushed_in (finish_steps m w) ≡ take 1 (work m w)
+  finish_flushes w =
+      let node = next_node m w in
+      flushed-append (force_steps m w) (removal_steps m node (work m w)) ∙ ap (λ (l : List ℕ). l ++ flushed_in (removal_steps m node (work m w))) (none_force w).flushed ∙ first node (work m w)
+    where
+      first : (node : ℕ → Bool) (objects : List ℕ) → flushed_in (removal_steps m node objects) ≡ take 1 objects
+      first node [] = refl
+      first node (x ∷ objects) = refl
 
   -- where the graph has no member, nothing is done
   abbrev RemovesFew : Course O → Type 0

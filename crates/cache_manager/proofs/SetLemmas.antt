@@ -108,6 +108,20 @@ module _ (lsn : ℕ) where
         ∙ ap (λ (vs : List (List ℕ)). with_entries old lsn (slice_index objects n ∷ drop (suc n) objects) vs x) (sym values_here)
         ∙ ap (λ (os : List ℕ). with_entries old lsn os (drop n values) x) (sym objects_here)
 
+    or_behind : (a b c : Bool) → (a || (b || c)) ≡ ((a || b) || c)
+    or_behind true b c = refl
+    or_behind false b c = refl
+
+    -- and its object is dirty
+    pub dirty_set : (old now next : ℕ → Bool) → ((x : ℕ) → now x ≡ (is_among x (drop (suc n) objects) || old x))
+        → ((x : ℕ) → next x ≡ ((x == slice_index objects n) || now x))
+        → (x : ℕ) → next x ≡ (is_among x (drop n objects) || old x)
+    dirty_set old now next before set x =
+        set x
+        ∙ ap (λ (b : Bool). (x == slice_index objects n) || b) (before x)
+        ∙ or_behind (x == slice_index objects n) (is_among x (drop (suc n) objects)) (old x)
+        ∙ ap (λ (os : List ℕ). is_among x os || old x) (sym objects_here)
+
     -- the last of the values that are left is set, where its object is chosen
     pub chosen_back : (chosen : List ℕ) (old now next : ℕ → Option Entry) → ((x : ℕ) → now x ≡ with_chosen old lsn chosen (drop (suc n) objects) (drop (suc n) values) x)
         → ((x : ℕ) → next x ≡ (if (x == slice_index objects n) && is_among (slice_index objects n) chosen then Some (entry_of v) else now x))

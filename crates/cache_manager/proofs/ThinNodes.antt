@@ -99,7 +99,7 @@ thin_none it entries from same passed none n thin =
     none n (passed n thin) (subst (λ (es : List Entry). NamesMinimal es n) (sym same) (thin.0, thin.1.named, thin.1.no_edge))
 
 -- what holds of each number among them holds of all
-among_all : (P : ℕ → Type 0) (xs : List ℕ) → ((x : ℕ) → IsTrue (is_among x xs) → P x) → All P xs
+pub among_all : (P : ℕ → Type 0) (xs : List ℕ) → ((x : ℕ) → IsTrue (is_among x xs) → P x) → All P xs
 among_all P [] each = All-nil P
 among_all P (x ∷ xs) each =
     All-cons P x xs (each x (or_left (x == x) (is_among x xs) (eq-eqb x x refl))) (among_all P xs (λ y there. each y (or_right (y == x) (is_among y xs) there)))

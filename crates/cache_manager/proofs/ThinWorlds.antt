@@ -58,13 +58,13 @@ module _ {O : Type 0} (m : Meaning O) (lawful : IsLawful m) (p : Params) (file :
   within = is_within m lawful w sound
 
   -- what a node has to flush
-  due_gives : (node : ℕ → Bool) (x : ℕ) → IsDue it node x → work_of m w node x
+  pub due_gives : (node : ℕ → Bool) (x : ℕ) → IsDue it node x → work_of m w node x
   due_gives node x due = (
     subst (λ (b : Access). flush_set_of b node x) shows.accesses due.0,
     λ same. both_ways _ (ap not (eq-eqb (w.slots x).id (w.cache x).id same)) (sym (dirty_shown m p file it w shows x) ∙ due.1),
   )
 
-  due_from : (node : ℕ → Bool) (x : ℕ) → work_of m w node x → IsDue it node x
+  pub due_from : (node : ℕ → Bool) (x : ℕ) → work_of m w node x → IsDue it node x
   due_from node x work = (
     subst (λ (b : Access). flush_set_of b node x) (sym shows.accesses) work.0,
     dirty_shown m p file it w shows x ∙ ap not (ne_eqb (w.slots x).id (w.cache x).id work.1),
@@ -208,7 +208,10 @@ unfolding run
 none_shown m p d it w shows = shows
 
 -- a store's operations are lawful
+pub store_small : {O : Type 0} (m : Meaning O) (p : Params) (file : List ℕ) (it : Store) (w : World O) → ShowsStore m p file it w → IsSmall (bounds_of p)
+store_small m p file it w shows = small_store p file (subst (λ (q : Params). IsObjectsFile q file) shows.params shows.laid.slots.whole)
+
 pub store_lawful : {O : Type 0} (meaning : Bounds → Meaning O) → ((b : Bounds) → IsSmall b → IsLawful (meaning b)) → (p : Params) (file : List ℕ) (it : Store) (w : World O)
     → ShowsStore (meaning (bounds_of p)) p file it w → IsLawful (meaning (bounds_of p))
 store_lawful meaning lawful p file it w shows =
-    lawful (bounds_of p) (small_store p file (subst (λ (q : Params). IsObjectsFile q file) shows.params shows.laid.slots.whole))
+    lawful (bounds_of p) (store_small (meaning (bounds_of p)) p file it w shows)

@@ -1,5 +1,5 @@
 -- As many bytes wait in the log's buffer as the courses say.
-use Rattle.std.proofs.Common.{◌≡◌, ◌∙◌, sym, subst, ap, ℕ, suc, ◌+◌, ◌*◌, ◌<◌, Bool, true, false, List, [], ◌∷◌, ◌++◌, length, map, refl, arith, length-append, if◌then◌else◌, inl, inr}
+use Rattle.std.proofs.Common.{◌≡◌, ◌∙◌, sym, subst, ap, ℕ, suc, ◌+◌, ◌*◌, ◌<◌, Bool, false, List, [], ◌∷◌, ◌++◌, length, map, refl, arith, length-append, if◌then◌else◌, inl, inr}
 use Rattle.std.specs.Prelude.{All, IsFalse, ◌^◌, ◌≤◌, slice_index_or, nat_eq, nat_lt, ◌||◌, ◌==◌}
 use Rattle.std.specs.List.{flat_map, AllPairs}
 use Rattle.std.proofs.lemmas.Bool.{cases_Bool, or_parts, lt-ltb, le-ltb, ne_eqb, cond-true, cond-false}
@@ -10,7 +10,7 @@ use Rattle.oper_core.specs.LittleEndian.{length-little_bytes}
 use Rattle.oper_core.specs.Meaning.{Meaning}
 use Rattle.oper_core.specs.State.{is_among}
 use Rattle.disk_model.specs.Disk.{Disk}
-use Rattle.checkpoint.specs.Codec.{start_code, table_code}
+use Rattle.checkpoint.specs.Codec.{start_code}
 use Rattle.checkpoint.specs.RedoStarts.{start_or}
 use Rattle.checkpoint.specs.declared.table.Table.{Table as Check_table}
 use Rattle.formats.specs.Records.{record_code, payload_of, next_after, next_behind, AreRecords, IsCheckAt}
@@ -18,7 +18,6 @@ use Rattle.formats.specs.declared.record.Record.{Record}
 use Rattle.formats.specs.declared.record.Record.TheVariants.{Command as Logged_command, Identity as Logged_identity, Check as Logged_check}
 use Rattle.log_records.specs.RecordLog.{RecordLogView}
 use Rattle.explain_core.specs.CountLaws.{count_same, count_none, count_more}
-use Rattle.explain_core.specs.History.{Member}
 use Rattle.explain_core.specs.Turns.{count_below}
 use Rattle.explain_core.specs.World.{World, Table}
 use Rattle.standing.specs.Members.{members_of, tables_in, table_of}
@@ -58,7 +57,8 @@ count_starts n next (s ∷ starts) rising there before =
     ∙ count_more n s.0 q here none
     ∙ ap suc (count_starts n next starts (λ i j d lt low. rising (suc i) (suc j) d (omega (arith, lt)) (omega (arith, low))) (All-tail (λ (t : ℕ × ℕ). t.0 < n) s starts there) (All-tail (λ (t : ℕ × ℕ). t.1 < next) s starts before))
 
-start_bytes : (starts : List (ℕ × ℕ)) → length (flat_map start_code starts) ≡ 12 * length starts
+-- a start has twelve bytes
+pub start_bytes : (starts : List (ℕ × ℕ)) → length (flat_map start_code starts) ≡ 12 * length starts
 start_bytes [] = refl
 start_bytes (s ∷ starts) =
     let rest = start_bytes starts in
@@ -66,7 +66,7 @@ start_bytes (s ∷ starts) =
 
 module _ {O : Type 0} (m : Meaning O) where
   -- a check has as many bytes as its table
-  check_bytes : (base next : ℕ) (table : Check_table) → IsCheckAt m base next table → length (record_code m (Logged_check table)) ≡ table_length m (table_of table)
+  pub check_bytes : (base next : ℕ) (table : Check_table) → IsCheckAt m base next table → length (record_code m (Logged_check table)) ≡ table_length m (table_of table)
   check_bytes base next table is =
       let before : All (λ s. s.1 < table.next) table.starts = subst (λ (k : ℕ). All (λ (s : ℕ × ℕ). s.1 < k) table.starts) (sym is.next_is) is.before in
       let count = count_starts m.objects table.next table.starts (AllPairs-from_increasing (firsts table.starts) is.rising) is.there before in

@@ -1,5 +1,5 @@
 -- What a call leaves of the objects that only takes memory and reads slots.
-use Rattle.std.proofs.Common.{◌≡◌, ◌∙◌, sym, subst, ap, ℕ, ◌<◌, ◌≤◌, true, false, List, inl, inr, ◌⊎◌, ⊎_elim, Option, Some, None, refl, arith}
+use Rattle.std.proofs.Common.{◌≡◌, ◌∙◌, sym, subst, ap, ℕ, ◌<◌, ◌≤◌, false, List, inl, inr, ◌⊎◌, Option, Some, None, refl, arith}
 use Rattle.std.proofs.lemmas.Bool.{both_ways, cases_lt}
 use Rattle.oper_core.specs.Cell.{Cell}
 use Rattle.oper_core.specs.Meaning.{Meaning}
@@ -10,7 +10,7 @@ use Rattle.dirty_cache.specs.Contents.{held, is_dirty}
 use Rattle.dirty_cache.specs.declared.entry.Entry.{Entry as Pair}
 use Rattle.explain_core.specs.World.{World}
 use Rattle.standing.specs.Standing.{stored}
-use Rattle.cache_manager.specs.Laid.{Laid, IsLaidOn, KeepsCells, cell_or, cell_in}
+use Rattle.cache_manager.specs.Laid.{Laid, IsLaidOn, KeepsCells, cell_or}
 use Rattle.cache_manager.specs.Joins.{stored_here, cell_shown}
 use Rattle.cache_manager.specs.Parts.{Store, ShowsStore, AreInUse, cell_at, store}
 

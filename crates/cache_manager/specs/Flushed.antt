@@ -5,6 +5,10 @@ use Rattle.dirty_cache.specs.declared.entry.Entry.{Entry as Pair}
 use Rattle.stable_objects.specs.SlotsView.{id_in}
 use Rattle.cache_manager.specs.Laid.{Laid}
 
+-- each slot's identifier is below this number
+abbrev pub AreEarly : ℕ → Laid → Type 0
+AreEarly next objects = (x : ℕ) → x < objects.slots.params.objects → id_in objects.slots x < next
+
 -- x is dirty, and its slot may get the identifier that is cached
 pub record MayFlush (objects : Laid) (x : ℕ) : Type 0 where
   pub dirty : is_dirty objects.cache x ≡ true

@@ -1,14 +1,14 @@
 -- An identity write takes its course.
-use Rattle.std.proofs.Common.{◌≡◌, ◌∙◌, sym, subst, ap, ℕ, ◌+◌, ◌<◌, ◌≤◌, Bool, true, false, List, [], ◌∷◌, ◌++◌, length, refl, arith, if◌then◌else◌, Some, length-append}
-use Rattle.std.specs.Prelude.{◌^◌, ◌&&◌, nat_lt, nat_le}
+use Rattle.std.proofs.Common.{◌≡◌, ◌∙◌, sym, ap, ℕ, ◌+◌, ◌<◌, ◌≤◌, true, false, List, arith}
+use Rattle.std.specs.Prelude.{◌^◌, nat_lt, nat_le}
 use Rattle.std.proofs.lemmas.Bool.{lt-ltb, le-ltb, le-leb, lt-leb, cond-true, cond-false}
 use Rattle.disk_model.specs.Disk.{Disk}
 use Rattle.oper_core.specs.Meaning.{Meaning}
 use Rattle.formats.specs.declared.params.Params.{Params}
 use Rattle.log_frames.specs.LogView.{used_of, growth_of}
-use Rattle.explain_core.specs.World.{World, Step, run, end_of}
+use Rattle.explain_core.specs.World.{World, Step, end_of}
 use Rattle.cache_manager.specs.Appended.{next_number}
-use Rattle.cache_manager.specs.Courses.{Course, course, force_steps, grown, placed}
+use Rattle.cache_manager.specs.Courses.{course, force_steps, grown, placed}
 use Rattle.cache_manager.specs.Courses.Stop.{Through, Full, At_end}
 use Rattle.cache_manager.specs.Growth.{growth_shown}
 use Rattle.cache_manager.specs.Logged.{log_limit}

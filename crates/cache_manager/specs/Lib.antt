@@ -8,6 +8,7 @@ pub mod Joins
 pub mod Fetched
 pub mod Appended
 pub mod Flushed
+pub mod Early
 pub mod Installed
 pub mod Logged
 pub mod Growth
@@ -15,6 +16,8 @@ pub mod Buffered
 pub mod Forced
 pub mod Stored
 pub mod Taking
+pub mod Kept
+pub mod Told
 pub mod Identities
 pub mod Finished
 pub mod Upkeep

@@ -1,5 +1,5 @@
 -- What a call on parts that show a world takes of its course, and how it ends.
-use Rattle.std.specs.Prelude.{◌≡◌, ⊤, ℕ, Result, Ok, Err, List}
+use Rattle.std.specs.Prelude.{◌≡◌, ⊤, ℕ, Result, Ok, Err}
 use Rattle.disk_model.specs.Disk.{Disk}
 use Rattle.oper_core.specs.Meaning.{Meaning}
 use Rattle.oper_core.specs.declared.bounds.Bounds.{Bounds}
@@ -11,6 +11,7 @@ use Rattle.explain_core.specs.World.{World, run}
 use Rattle.standing.specs.Moments.{TakesSome}
 use Rattle.cache_manager.specs.Courses.{Course, Stop}
 use Rattle.cache_manager.specs.Courses.Stop.{Through, Full, At_end}
+use Rattle.cache_manager.specs.Flushed.{AreEarly}
 use Rattle.cache_manager.specs.Parts.{AreInUse, Parts, Shows, meaning_in}
 use Rattle.cache_manager.specs.declared.install_err.InstallErr.{InstallErr}
 use Rattle.cache_manager.specs.declared.install_err.InstallErr.TheVariants.{LogFull, LsnEnd, DiskFault, Memory}
@@ -50,7 +51,9 @@ pub record Takes {O : Type 0} (meaning : Bounds → Meaning O) (old new : Disk) 
   pub moments : old.tells_moments → (p : Params) (w : World O) → Shows (meaning_in meaning p) p old before w
       → TakesSome (meaning_in meaning p) p old new w (course (meaning_in meaning p) w (used_of before.log.log)).steps
 
--- what holds of parts on every machine
+-- What holds of parts on every machine: the log is one of the store, the store is in use, and the identifiers of its slots
+-- are below the next number.
 pub record ArePartsInUse (it : Parts) : Type 0 where
   pub bounds : it.log.bounds ≡ bounds_of it.store.objects.slots.params
   pub store : AreInUse it.store.objects.slots.params it.log.next it.store
+  pub early : AreEarly it.log.next it.store.objects

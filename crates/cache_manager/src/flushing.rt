@@ -18,6 +18,7 @@ impl Objects {
         requires { MayFlush self.old object }
         ensures runs { Runs (In ObjectsFile Any) Same (M.disk machine.old) (M.disk machine.new) }
         ensures flushed { OnOk result (IsFlushed self.old self.new object) }
+        ensures params { self.new.slots.params ≡ self.old.slots.params }
         ensures count { OnOk result (dirty_count self.new.cache + 1 ≡ dirty_count self.old.cache) }
         ensures settled { IsSettled (M.disk machine.old) → OnOk result (IsSettled (M.disk machine.new)) }
         ensures replaced { (M.disk machine.old).tells_files → AreOf self.old.slots ((M.disk machine.old).reads ObjectsFile) →

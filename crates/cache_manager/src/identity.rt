@@ -1,21 +1,30 @@
 // Identity writes.
-ghost use Rattle.std.specs.Prelude.{◌≡◌, ◌<◌, ◌≤◌, ◌^◌, ◌∷◌, [], true, Some, length, OnOk, OnErr, IfSome, IfNone};
+ghost use Rattle.std.specs.Prelude.{◌≡◌, ◌⊎◌, ◌<◌, ◌≤◌, ◌^◌, ◌∷◌, [], true, Some, length, OnOk, OnErr, IfSome, IfNone, IsErrOf};
+ghost use Rattle.disk_model.specs.Disk.{Rises};
 ghost use Rattle.formats.specs.Objects.{bounds_of};
 ghost use Rattle.dirty_cache.specs.Contents.{held, is_dirty};
 ghost use Rattle.dirty_cache.specs.declared.entry.Entry.{Entry as Pair};
 ghost use Rattle.explain_core.specs.History.Member.{Identity};
-ghost use Rattle.cache_manager.specs.Courses.{identity_length};
+ghost use Rattle.cache_manager.specs.Courses.{identity_course, identity_length};
+ghost use Rattle.cache_manager.specs.Finished.{IsQuiet};
+ghost use Rattle.cache_manager.specs.Kept.{AreKept, AreNumbered, IsLonger, StopsAt};
 ghost use Rattle.cache_manager.specs.Logged.{HasPlace, HasRecordPlace, IsRoomed, LacksRecordPlace};
 ghost use Rattle.cache_manager.specs.Parts.{AreInUse, IsAppended, parts, store};
+ghost use Rattle.cache_manager.specs.Taking.{ArePartsInUse, Takes, ending_of};
 
 use crate::InstallErr;
+use crate::forcing::{force_all, make_block_room};
 use crate::objects::Objects;
+use disk_model::Machine;
 use formats::Record;
 use install_order::Entry;
 use log_records::RecordLog;
 use oper_core::{ByteList, Memory, Objs, Oper};
 use std::alloc::Global;
 use write_graph::WriteGraph;
+
+/// The kind, the number, the object and the length of an identity write.
+const IDENTITY_HEAD: u64 = 17;
 
 /// The greatest length of a log.
 const LOG_LIMIT: u64 = 1 << 48;
@@ -79,4 +88,38 @@ fn refusal<O: Oper>(log: &RecordLog<O>, n: u64) -> Option<InstallErr>
         return Some(InstallErr::LsnEnd { number });
     }
     None
+}
+
+/// Logs an identity write of a dirty object: before it what waits is forced where the block would pass its greatest length,
+/// and before a refusal too.
+pub(crate) fn log_identity<O: Oper, M: Machine>(
+    alloc: Global,
+    log: &mut RecordLog<O>,
+    objects: &mut Objects,
+    graph: &mut WriteGraph,
+    machine: &mut M,
+    x: u32,
+) -> Result<(), InstallErr>
+    requires in_use { ArePartsInUse (parts log.old objects.old graph.old.entries) }
+    requires dirty { is_dirty objects.old.cache x ≡ true }
+    ensures takes { Takes O.meaning (M.disk machine.old) (M.disk machine.new) (parts log.old objects.old graph.old.entries)
+        (parts log.new objects.new graph.new.entries) (λ m w used. identity_course m x w used) (ending_of result) }
+    ensures quiet { IsQuiet (M.disk machine.old) (M.disk machine.new) }
+    ensures kept { IsErrOf result InstallErr.DiskFault ⊎ AreKept (M.disk machine.old) (M.disk machine.new)
+        (parts log.old objects.old graph.old.entries) (parts log.new objects.new graph.new.entries) }
+    ensures numbered { AreNumbered (parts log.old objects.old graph.old.entries) (parts log.new objects.new graph.new.entries) }
+    ensures stops { StopsAt log.new (ending_of result) }
+    ensures logged { OnOk result (IsLonger 1 (parts log.old objects.old graph.old.entries) (parts log.new objects.new graph.new.entries)) }
+    ensures cause { IsErrOf result InstallErr.DiskFault → Rises (M.disk machine.old).disk_faults (M.disk machine.new).disk_faults }
+{
+    explain_core::append_keeps::<O>();
+    let _params = objects.params();
+    let n = IDENTITY_HEAD + objects.value(x).len() as u64;
+    make_block_room(log, machine, n)?;
+    if let Some(e) = refusal(log, n) {
+        force_all(log, machine)?;
+        return Err(e);
+    }
+    append_identity(alloc, log, objects, graph, x)?;
+    Ok(())
 }

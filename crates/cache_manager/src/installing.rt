@@ -7,6 +7,8 @@ ghost use Rattle.stable_objects.specs.SlotsView.{AreOf};
 ghost use Rattle.explain_core.specs.Turns.{has_thin, thin_steps};
 ghost use Rattle.explain_core.specs.World.{World, IsAllStable, run};
 ghost use Rattle.standing.specs.Moments.{TakesSome};
+ghost use Rattle.cache_manager.specs.Flushed.{AreEarly};
+ghost use Rattle.cache_manager.specs.Laid.{IsLaidOn};
 ghost use Rattle.cache_manager.specs.Parts.{AreInUse, StoreShows, meaning_in, store};
 
 use crate::InstallErr;
@@ -29,6 +31,8 @@ pub fn install_thin<O: Oper, M: Machine>(
     ensures settled { IsSettled (M.disk machine.old) → OnOk result (IsSettled (M.disk machine.new)) }
     ensures of_file { (M.disk machine.old).tells_files → AreOf objects.old.slots ((M.disk machine.old).reads ObjectsFile) →
         OnOk result (AreOf objects.new.slots ((M.disk machine.new).reads ObjectsFile)) }
+    ensures laid { (M.disk machine.old).tells_files → IsLaidOn objects.old ((M.disk machine.old).reads ObjectsFile) →
+        OnOk result (IsLaidOn objects.new ((M.disk machine.new).reads ObjectsFile)) }
     ensures shows { (p : Numbers) (w : World O) → let m = meaning_in O.meaning p in
         StoreShows m p (M.disk machine.old) (store objects.old graph.old.entries) w → IsAllStable w →
         IfOk result (λ some. (some ≡ has_thin m w)
@@ -38,6 +42,8 @@ pub fn install_thin<O: Oper, M: Machine>(
         TakesSome m p (M.disk machine.old) (M.disk machine.new) w (if has_thin m w then thin_steps m w else []) }
     ensures in_use { (p : Numbers) (next : ℕ) → AreInUse p next (store objects.old graph.old.entries) →
         OnOk result (AreInUse p next (store objects.new graph.new.entries)) }
+    ensures early { (p : Numbers) (next : ℕ) → AreInUse p next (store objects.old graph.old.entries) → AreEarly next objects.old →
+        OnOk result (AreEarly next objects.new) }
     ensures fewer { IfOk result (λ some. IsTrue some → length graph.new.entries < length graph.old.entries) }
     ensures memory { IsErrOf result InstallErr.Memory →
         (machine.new ≡ machine.old) × (objects.new ≡ objects.old) × (graph.new.entries ≡ graph.old.entries) }

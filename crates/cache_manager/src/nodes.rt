@@ -12,8 +12,10 @@ ghost use Rattle.explain_core.specs.World.Step.{Slot_gate};
 ghost use Rattle.standing.specs.Moments.{TakesSome};
 ghost use Rattle.cache_manager.specs.Courses.{force_steps, removal_steps};
 ghost use Rattle.cache_manager.specs.Finished.{IsQuiet};
-ghost use Rattle.cache_manager.specs.Flushed.{MayFlush};
+ghost use Rattle.cache_manager.specs.Flushed.{AreEarly, MayFlush};
 ghost use Rattle.cache_manager.specs.Forced.{IsForced};
+ghost use Rattle.cache_manager.specs.Kept.{AreNumbered, IsAttached};
+ghost use Rattle.cache_manager.specs.Laid.{IsLaidOn};
 ghost use Rattle.cache_manager.specs.Parts.{AreInUse, Shows, StoreShows, meaning_in, parts, store};
 
 use crate::forcing::force_all;
@@ -34,6 +36,9 @@ pub(crate) fn flush<O: Oper, M: Machine>(
     ensures settled { IsSettled (M.disk machine.old) → OnOk result (IsSettled (M.disk machine.new)) }
     ensures of_file { (M.disk machine.old).tells_files → AreOf objects.old.slots ((M.disk machine.old).reads ObjectsFile) →
         OnOk result (AreOf objects.new.slots ((M.disk machine.new).reads ObjectsFile)) }
+    ensures laid { (M.disk machine.old).tells_files → IsLaidOn objects.old ((M.disk machine.old).reads ObjectsFile) →
+        OnOk result (IsLaidOn objects.new ((M.disk machine.new).reads ObjectsFile)) }
+    ensures params { objects.new.slots.params ≡ objects.old.slots.params }
     ensures shows { (p : Numbers) (entries : List Entry) (w : World O) (node : ℕ → Bool) →
         let m = meaning_in O.meaning p in StoreShows m p (M.disk machine.old) (store objects.old entries) w →
         IsAllowed m w (Slot_gate node x) →
@@ -43,9 +48,12 @@ pub(crate) fn flush<O: Oper, M: Machine>(
         TakesSome m p (M.disk machine.old) (M.disk machine.new) w (Slot_gate node x ∷ []) }
     ensures in_use { (p : Numbers) (next : ℕ) (entries : List Entry) → AreInUse p next (store objects.old entries) →
         OnOk result (AreInUse p next (store objects.new entries)) }
+    ensures early { (p : Numbers) (next : ℕ) (entries : List Entry) → AreInUse p next (store objects.old entries) → AreEarly next objects.old →
+        OnOk result (AreEarly next objects.new) }
     ensures cause { IsErr result → Rises (M.disk machine.old).disk_faults (M.disk machine.new).disk_faults }
 {
     explain_core::slot_gate_keeps::<O>();
+    let _ = &objects.alloc;
     objects.flush(machine, x)?;
     Ok(())
 }
@@ -64,6 +72,9 @@ pub(crate) fn finish_work<O: Oper, M: Machine>(
     ensures settled { IsSettled (M.disk machine.old) → OnOk result (IsSettled (M.disk machine.new)) }
     ensures of_file { (M.disk machine.old).tells_files → AreOf objects.old.slots ((M.disk machine.old).reads ObjectsFile) →
         OnOk result (AreOf objects.new.slots ((M.disk machine.new).reads ObjectsFile)) }
+    ensures laid { (M.disk machine.old).tells_files → IsLaidOn objects.old ((M.disk machine.old).reads ObjectsFile) →
+        OnOk result (IsLaidOn objects.new ((M.disk machine.new).reads ObjectsFile)) }
+    ensures params { objects.new.slots.params ≡ objects.old.slots.params }
     ensures shows { (p : Numbers) (w : World O) (node : ℕ → Bool) →
         let m = meaning_in O.meaning p in StoreShows m p (M.disk machine.old) (store objects.old graph.old.entries) w →
         IsNodeNamed graph.old.entries n node → AreAllowed m w (removal_steps m node (x ∷ [])) →
@@ -73,6 +84,8 @@ pub(crate) fn finish_work<O: Oper, M: Machine>(
         TakesSome m p (M.disk machine.old) (M.disk machine.new) w (removal_steps m node (x ∷ [])) }
     ensures in_use { (p : Numbers) (next : ℕ) → AreInUse p next (store objects.old graph.old.entries) →
         OnOk result (AreInUse p next (store objects.new graph.new.entries)) }
+    ensures early { (p : Numbers) (next : ℕ) → AreInUse p next (store objects.old graph.old.entries) → AreEarly next objects.old →
+        OnOk result (AreEarly next objects.new) }
     ensures entries { (node : ℕ → Bool) → IsNodeNamed graph.old.entries n node →
         OnOk result (graph.new.entries ≡ filter (λ e. not (node e.number)) graph.old.entries) }
     ensures fewer { OnOk result (length graph.new.entries < length graph.old.entries) }
@@ -99,6 +112,9 @@ pub(crate) fn finish<O: Oper, M: Machine>(
     ensures settled { IsSettled (M.disk machine.old) → OnOk result (IsSettled (M.disk machine.new)) }
     ensures of_file { (M.disk machine.old).tells_files → AreOf objects.old.slots ((M.disk machine.old).reads ObjectsFile) →
         OnOk result (AreOf objects.new.slots ((M.disk machine.new).reads ObjectsFile)) }
+    ensures laid { (M.disk machine.old).tells_files → IsLaidOn objects.old ((M.disk machine.old).reads ObjectsFile) →
+        OnOk result (IsLaidOn objects.new ((M.disk machine.new).reads ObjectsFile)) }
+    ensures params { objects.new.slots.params ≡ objects.old.slots.params }
     ensures shows { (p : Numbers) (w : World O) (node : ℕ → Bool) →
         let m = meaning_in O.meaning p in StoreShows m p (M.disk machine.old) (store objects.old graph.old.entries) w →
         IsNodeNamed graph.old.entries n node → AreAllowed m w (removal_steps m node work.now) →
@@ -108,6 +124,8 @@ pub(crate) fn finish<O: Oper, M: Machine>(
         TakesSome m p (M.disk machine.old) (M.disk machine.new) w (removal_steps m node work.now) }
     ensures in_use { (p : Numbers) (next : ℕ) → AreInUse p next (store objects.old graph.old.entries) →
         OnOk result (AreInUse p next (store objects.new graph.new.entries)) }
+    ensures early { (p : Numbers) (next : ℕ) → AreInUse p next (store objects.old graph.old.entries) → AreEarly next objects.old →
+        OnOk result (AreEarly next objects.new) }
     ensures entries { (node : ℕ → Bool) → IsNodeNamed graph.old.entries n node →
         OnOk result (graph.new.entries ≡ filter (λ e. not (node e.number)) graph.old.entries) }
     ensures fewer { OnOk result (length graph.new.entries < length graph.old.entries) }
@@ -135,6 +153,9 @@ pub(crate) fn install_node<O: Oper, M: Machine>(
     requires named { NamesMinimal graph.old.entries n }
     requires may { All (MayFlush objects.old) work.now }
     ensures quiet { IsQuiet (M.disk machine.old) (M.disk machine.new) }
+    ensures attached { OnOk result (IsAttached (M.disk machine.old) (parts log.old objects.old graph.old.entries) →
+        IsAttached (M.disk machine.new) (parts log.new objects.new graph.new.entries)) }
+    ensures numbered { AreNumbered (parts log.old objects.old graph.old.entries) (parts log.new objects.new graph.new.entries) }
     ensures shows { (p : Numbers) (w : World O) (node : ℕ → Bool) →
         let m = meaning_in O.meaning p in Shows m p (M.disk machine.old) (parts log.old objects.old graph.old.entries) w →
         IsNodeNamed graph.old.entries n node → AreAllowed m w (force_steps m w ++ removal_steps m node work.now) →
@@ -145,8 +166,11 @@ pub(crate) fn install_node<O: Oper, M: Machine>(
     ensures forced { OnOk result (IsForced log.old log.new) }
     ensures in_use { (p : Numbers) (next : ℕ) → AreInUse p next (store objects.old graph.old.entries) →
         OnOk result (AreInUse p next (store objects.new graph.new.entries)) }
+    ensures early { (p : Numbers) (next : ℕ) → AreInUse p next (store objects.old graph.old.entries) → AreEarly next objects.old →
+        OnOk result (AreEarly next objects.new) }
     ensures entries { (node : ℕ → Bool) → IsNodeNamed graph.old.entries n node →
         OnOk result (graph.new.entries ≡ filter (λ e. not (node e.number)) graph.old.entries) }
+    ensures fewer { OnOk result (length graph.new.entries < length graph.old.entries) }
     ensures cause { IsErr result → Rises (M.disk machine.old).disk_faults (M.disk machine.new).disk_faults }
 {
     force_all(log, machine)?;

@@ -24,7 +24,7 @@ use std::marker::Model;
 /// The objects of a store in use. An object that is not cached is read from its slot.
 #[derive(Drop)]
 pub struct Objects {
-    alloc: Global,
+    pub(crate) alloc: Global,
     pub(crate) slots: Slots,
     pub(crate) cache: Cache,
 }
@@ -202,6 +202,7 @@ impl Objects {
         requires short { All (λ v. length v ≤ self.old.slots.params.cap) values }
         ensures slots { self.new.slots ≡ self.old.slots }
         ensures entries { (x : ℕ) → held self.new.cache x ≡ with_entries (held self.old.cache) lsn objects.now values x }
+        ensures dirty { (x : ℕ) → is_dirty self.new.cache x ≡ (is_among x objects.now || is_dirty self.old.cache x) }
         ensures laid { (file : List ℕ) → IsLaidOn self.old file → IsLaidOn self.new file }
     {
         let mut values = values.into_lists();

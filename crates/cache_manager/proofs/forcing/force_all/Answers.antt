@@ -42,3 +42,6 @@ returns-in-Err-clause-moments g c = λ told p it w shows.
     let own = subst (λ (b : Bounds). Keeps (g.O.Oper.meaning b) d c.args.log.now l.stable l.pending) (sym shows.bounds) l.keeps in
     force_moments (g.O.Oper.meaning (bounds_of p)) p d (record { log = c.args.log.now; store = it }) w shows new
     (subst (λ (b : Bounds). LeavesOnly d new (IsForcedPartly (g.O.Oper.meaning b) d c.args.log.now l.stable l.pending)) shows.bounds (c.force.ensures.any_moment told l.stable l.pending own))
+
+pub returns-in-Ok-clause-keeps : goal.returns-in-Ok-clause-keeps
+returns-in-Ok-clause-keeps g c = λ told stable pending keeps. c.in-Ok.ensures.acknowledged told stable pending keeps

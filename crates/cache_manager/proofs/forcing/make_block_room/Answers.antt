@@ -1,4 +1,4 @@
-use Rattle.std.proofs.Common.{◌≡◌, ◌∙◌, sym, subst, ap, arith, List, []}
+use Rattle.std.proofs.Common.{sym, subst, arith, List, inl, inr, refl}
 use Rattle.formats.specs.Objects.{bounds_of}
 use Rattle.explain_core.specs.World.{Step, run}
 use Rattle.standing.specs.Moments.{TakesSome}
@@ -44,3 +44,9 @@ returns-clause-shows g c = λ p it w shows.
     let steps = room_force m d c.args.log.now w c.args.n shows.log (omega (arith, c.if-buffered-room.false, c.buffered.ensures, c.requires)) in
     subst (λ (l : List (Step g.row.O.Denot)). Shows m p (g.M.Machine.disk c.force_all.new.machine) (record { log = c.force_all.new.log; store = it }) (run m w l)) (sym steps)
     (c.in_ok-force_all.ensures.shows p it w shows)
+
+pub returns-then-buffered-room-clause-forced : goal.returns-then-buffered-room-clause-forced
+returns-then-buffered-room-clause-forced g c = inl refl
+
+pub returns-clause-forced : goal.returns-clause-forced
+returns-clause-forced g c = inr c.in_ok-force_all.ensures.forced

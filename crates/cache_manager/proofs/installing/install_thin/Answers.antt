@@ -2,11 +2,9 @@ use Rattle.std.proofs.Common.{sym, subst, ℕ, All, List, [], if◌then◌else�
 use Rattle.std.specs.Prelude.{IfSome, IfNone}
 use Rattle.disk_model.specs.declared.machine.FileNo.TheVariants.{Objects}
 use Rattle.formats.specs.Objects.{bounds_of}
-use Rattle.install_order.specs.declared.entry.Entry.{Entry}
-use Rattle.write_graph.specs.Graph.{NamesMinimal}
 use Rattle.explain_core.specs.Turns.{has_thin, thin_steps}
 use Rattle.cache_manager.specs.Flushed.{MayFlush}
-use Rattle.cache_manager.specs.Parts.{AreInUse, StoreShows, store}
+use Rattle.cache_manager.specs.Parts.{store}
 use Rattle.cache_manager.specs.Stored.{stays_shown}
 use Rattle.cache_manager.specs.Thin.{IsLeastThin, NamesThin}
 use Rattle.cache_manager.proofs.ThinNodes.{work_may}
@@ -90,3 +88,7 @@ returns-in_err-finish-clause-moments g c = λ told p w shows stable.
 pub returns-clause-in_use : goal.returns-clause-in_use
 returns-clause-in_use g c = λ p next used.
     c.in_ok-finish.ensures.in_use p next used
+
+pub returns-clause-early : goal.returns-clause-early
+returns-clause-early g c = λ p next used early.
+    c.in_ok-finish.ensures.early p next used early

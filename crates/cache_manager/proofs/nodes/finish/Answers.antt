@@ -45,3 +45,6 @@ pub returns-clause-in_use : goal.returns-clause-in_use
 returns-clause-in_use g c = λ p next used.
     let named = c.requires.named in
     removed_in_use p next (store c.args.objects.now c.args.graph.now.entries) c.remove_minimal.new.self.entries named.0 used (c.remove_minimal.ensures.entries named.0 named.1)
+
+pub returns-clause-early : goal.returns-clause-early
+returns-clause-early g c = λ p next used early. early

@@ -30,3 +30,6 @@ returns-clause-in_use g c = λ p next used.
     let named = c.requires.named in
     removed_in_use p next (store c.flush.new.objects c.args.graph.now.entries) c.remove_minimal.new.self.entries named.0 (c.in_ok-flush.ensures.in_use p next c.args.graph.now.entries used)
     (c.remove_minimal.ensures.entries named.0 named.1)
+
+pub returns-clause-early : goal.returns-clause-early
+returns-clause-early g c = λ p next used early. c.in_ok-flush.ensures.early p next c.args.graph.now.entries used early

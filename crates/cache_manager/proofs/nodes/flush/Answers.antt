@@ -5,9 +5,11 @@ use Rattle.formats.specs.Objects.{bounds_of}
 use Rattle.formats.specs.declared.params.Params.{Params}
 use Rattle.dirty_cache.specs.Contents.{cell_of_entry}
 use Rattle.stable_objects.specs.Replacing.{IsReplaced, IsOldOrNew}
+use Rattle.cache_manager.specs.Laid.{AreCached, Laid}
 use Rattle.cache_manager.specs.Parts.{store}
 use Rattle.cache_manager.specs.Stored.{flush_shows, flush_moments}
-use Rattle.cache_manager.proofs.InUse.{dirty_held, flushed_in_use}
+use Rattle.cache_manager.proofs.InUse.{dirty_held, flushed_in_use, flushed_early}
+use Rattle.cache_manager.proofs.Keeping.{flushed_laid}
 use Rattle.cache_manager.proofs.nodes.flush.Goals as goal
 
 pub returns-clause-shows : goal.returns-clause-shows
@@ -44,7 +46,18 @@ returns-in_err-flush-clause-moments g c = λ told p entries w node shows.
 pub returns-clause-in_use : goal.returns-clause-in_use
 returns-clause-in_use g c = λ p next entries used. flushed_in_use p next (store c.args.objects.now entries) c.flush.new.self c.args.x used c.in_ok-flush.ensures.flushed
 
+pub returns-clause-early : goal.returns-clause-early
+returns-clause-early g c = λ p next entries used early. flushed_early p next (store c.args.objects.now entries) c.flush.new.self c.args.x used c.requires.dirty c.in_ok-flush.ensures.flushed early
+
 pub returns-clause-of_file : goal.returns-clause-of_file
 returns-clause-of_file g c = λ told of.
     let had = dirty_held c.args.objects.now.cache c.args.x c.requires.dirty in
     (c.in_ok-flush.ensures.replaced told of had.0 had.1).0
+
+pub returns-clause-laid : goal.returns-clause-laid
+returns-clause-laid g c = λ told laid.
+    let d = g.M.Machine.disk c.args.machine.now in
+    let had = dirty_held c.args.objects.now.cache c.args.x c.requires.dirty in
+    let done = c.in_ok-flush.ensures.replaced told laid.slots had.0 had.1 in
+    flushed_laid c.args.objects.now c.flush.new.self c.args.x had.0 (d.reads Objects) ((g.M.Machine.disk c.flush.new.machine).reads Objects) laid had.1 done.0 done.1 c.in_ok-flush.ensures.flushed
+    (λ y other there. ((subst (λ (l : Laid). AreCached l.slots.params l.cache) c.objects.view_is c.objects.invariant).each y other there).0)

@@ -1,10 +1,13 @@
+use Rattle.std.proofs.Common.{◌∙◌, sym, subst, ℕ, List, arith, inl, inr}
 use Rattle.disk_model.specs.declared.machine.FileNo.TheVariants.{Objects}
 use Rattle.formats.specs.Objects.{bounds_of}
 use Rattle.explain_core.specs.World.{run}
 use Rattle.cache_manager.specs.Courses.{force_steps}
 use Rattle.cache_manager.specs.Finished.{quiet_twice, finished_shows, finish_allowed, forcing_moments, finishing_moments, finish_shows}
+use Rattle.cache_manager.specs.Laid.{IsLaidOn}
 use Rattle.cache_manager.specs.Parts.{parts, store}
 use Rattle.cache_manager.specs.Stored.{store_shown}
+use Rattle.cache_manager.proofs.Keeping.{log_numbered, same_log}
 use Rattle.cache_manager.proofs.nodes.install_node.Goals as goal
 
 pub returns-in_err-force_all-clause-moments : goal.returns-in_err-force_all-clause-moments
@@ -57,3 +60,26 @@ pub returns-clause-quiet : goal.returns-clause-quiet
 returns-clause-quiet g c =
     quiet_twice c.args.log.now.log.active Objects (g.M.Machine.disk c.args.machine.now) (g.M.Machine.disk c.force_all.new.machine) (g.M.Machine.disk c.finish.new.machine)
     c.force_all.ensures.runs c.finish.ensures.runs
+
+pub returns-clause-attached : goal.returns-clause-attached
+returns-clause-attached g c = λ at told.
+    let forced = c.force_all.ensures.runs in
+    let mid_told = c.finish.ensures.runs.time.files_told.1 told in
+    let old_told = forced.time.files_told.1 mid_told in
+    let was = at old_told in
+    let same = same_log c.args.log.now c.force_all.new.log (inr c.in_ok-force_all.ensures.forced) in
+    (c.in_ok-finish.ensures.laid mid_told (subst (λ (f : List ℕ). IsLaidOn c.args.objects.now f) (sym ((forced.reads old_told).others Objects (λ e. was.1 (sym e)))) was.0), λ e. was.1 (sym same.2 ∙ e))
+
+pub returns-in_err-force_all-clause-numbered : goal.returns-in_err-force_all-clause-numbered
+returns-in_err-force_all-clause-numbered g c =
+    log_numbered c.args.log.now c.force_all.new.log (store c.args.objects.now c.args.graph.now.entries) (inl c.in_err-force_all.ensures.kept)
+
+pub returns-in_err-finish-clause-numbered : goal.returns-in_err-finish-clause-numbered
+returns-in_err-finish-clause-numbered g c =
+    let same = same_log c.args.log.now c.force_all.new.log (inr c.in_ok-force_all.ensures.forced) in
+    record { params = c.finish.ensures.params; rising = omega (arith, same.1) }
+
+pub returns-clause-numbered : goal.returns-clause-numbered
+returns-clause-numbered g c =
+    let same = same_log c.args.log.now c.force_all.new.log (inr c.in_ok-force_all.ensures.forced) in
+    record { params = c.finish.ensures.params; rising = omega (arith, same.1) }

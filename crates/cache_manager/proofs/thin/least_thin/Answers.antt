@@ -1,4 +1,4 @@
-use Rattle.std.proofs.Common.{◌<◌, ◌^◌, ℕ, refl, arith}
+use Rattle.std.proofs.Common.{◌<◌, ◌^◌, refl, arith}
 use Rattle.write_graph.specs.Graph.{numbers}
 use Rattle.cache_manager.specs.Parts.{store}
 use Rattle.cache_manager.proofs.ThinNodes.{all_among, thin_found, thin_behind, thin_none}

@@ -1,5 +1,6 @@
-use Rattle.std.proofs.Common.{◌≡◌, ◌≤◌, ℕ, All, List, length, take, drop}
-use Rattle.dirty_cache.specs.Contents.{held, HasRoom}
+use Rattle.std.proofs.Common.{◌≡◌, ◌≤◌, ◌||◌, ℕ, All, List, length, take, drop}
+use Rattle.oper_core.specs.State.{is_among}
+use Rattle.dirty_cache.specs.Contents.{held, is_dirty, HasRoom}
 use Rattle.cache_manager.specs.Laid.{IsLaidOn, with_entries}
 use Rattle.cache_manager.proofs.objects.Objects.set_values.Given as goal
 
@@ -10,6 +11,7 @@ invariant-loop-value l = record {
   left : l.values.items ≡ take (length l.values.items) l.fn.values;
   room : All (HasRoom l.self.cache) l.objects;
   set : (x : ℕ) → held l.self.cache x ≡ with_entries (held l.fn.self.cache) l.lsn (drop (length l.values.items) l.objects) (drop (length l.values.items) l.fn.values) x;
+  dirty : (x : ℕ) → is_dirty l.self.cache x ≡ (is_among x (drop (length l.values.items) l.objects) || is_dirty l.fn.self.cache x);
   laid : (file : List ℕ) → IsLaidOn l.fn.self file → IsLaidOn l.self file;
 }
 

@@ -1,9 +1,9 @@
-use Rattle.std.proofs.Common.{◌≡◌, ◌<◌, ◌≤◌, ◌+◌, ◌∙◌, All, ap, sym, subst, length, map, take, slice_index, ℕ, List, [], ◌∷◌, length-append, refl}
+use Rattle.std.proofs.Common.{◌≡◌, ◌<◌, ◌≤◌, ◌+◌, ◌∙◌, All, ap, sym, subst, length, map, take, slice_index, ℕ, List, [], ◌∷◌, length-append}
 use Rattle.std.proofs.lemmas.List.{take_all}
 use Rattle.disk_model.specs.declared.machine.FileNo.TheVariants.{Objects}
 use Rattle.disk_model.specs.Moments.{stays_twice}
 use Rattle.stable_objects.specs.SlotsView.{SlotsView, id_in}
-use Rattle.cache_manager.specs.Fetched.{fetched-same, fetched-twice}
+use Rattle.cache_manager.specs.Fetched.{fetched-twice}
 use Rattle.cache_manager.specs.Laid.{values_in}
 use Rattle.cache_manager.proofs.FetchLemmas.{Keeps, keeps_twice, values_next, short_next}
 use Rattle.cache_manager.proofs.objects.Objects.values_of.Goals as goal

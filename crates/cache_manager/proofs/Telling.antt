@@ -1,0 +1,60 @@
+-- What an install tells of the steps that it took.
+use Rattle.std.proofs.Common.{◌≡◌, ◌∙◌, sym, subst, ap, ℕ, ◌+◌, ◌≤◌, List, [], ◌∷◌, length, take, refl, arith, Option}
+use Rattle.std.specs.List.Sorted.{IsStrictlyIncreasing}
+use Rattle.std.proofs.lemmas.List.{append-nil}
+use Rattle.disk_model.specs.Disk.{Disk}
+use Rattle.oper_core.specs.Meaning.{Meaning}
+use Rattle.oper_core.specs.State.{is_among}
+use Rattle.oper_core.specs.declared.bounds.Bounds.{Bounds}
+use Rattle.formats.specs.declared.params.Params.{Params}
+use Rattle.log_frames.specs.LogView.{used_of}
+use Rattle.install_order.specs.declared.entry.Entry.{Entry}
+use Rattle.write_graph.specs.Graph.{numbers}
+use Rattle.explain_core.specs.World.{World, Step, run}
+use Rattle.cache_manager.specs.Courses.{Course, flushed_in, install_course}
+use Rattle.cache_manager.specs.Kept.{IsLonger}
+use Rattle.cache_manager.specs.Parts.{Parts, Shows, meaning_in}
+use Rattle.cache_manager.specs.Told.{IsInstall, TellsParts, listed}
+use Rattle.cache_manager.specs.Upkeep.{upkeep_install}
+use Rattle.cache_manager.specs.declared.install.Install.TheVariants.{Installed, Clean}
+use Rattle.cache_manager.proofs.Balance.{told_counts}
+use Rattle.cache_manager.proofs.Loops.{InstallDone}
+use Rattle.cache_manager.proofs.Under.{AreUnder}
+
+pub no_items : {X : Type 0} (xs : List X) → length xs ≤ 0 → xs ≡ []
+no_items [] none = refl
+no_items (x ∷ xs) none = absurd (omega (arith, none))
+
+-- a node was installed
+pub told_done : {O : Type 0} (meaning : Bounds → Meaning O) (old new : Disk) (before after : Parts) (items : List ℕ)
+    → AreUnder meaning old new before after (λ m w used. install_course m w used) (λ m whole taken v used. InstallDone items m whole taken v used)
+    → IsStrictlyIncreasing (numbers before.store.entries) → IsStrictlyIncreasing (numbers after.store.entries) → (ops : ℕ) (flushed : Option ℕ) (identities : ℕ) → listed flushed ≡ take 1 items
+    → after.log.next ≡ before.log.next + identities → length after.store.entries + ops ≡ length before.store.entries + identities
+    → (p : Params) (w : World O) → Shows (meaning_in meaning p) p old before w
+    → IsInstall (meaning_in meaning p) w (install_course (meaning_in meaning p) w (used_of before.log.log)).steps (Installed ops flushed identities)
+told_done {O} meaning old new before after items under first last ops flushed identities is next entries p w shows =
+    let m = meaning_in meaning p in
+    let whole = install_course m w (used_of before.log.log) in
+    let u = under p w shows in
+    let steps : whole.steps ≡ u.taken = ap (λ (c : Course O). c.steps) u.left.0 ∙ append-nil u.taken in
+    let done = subst (λ (l : List (Step O)). Shows m p new after (run m w l)) (sym steps) u.shows in
+    let counts = told_counts m p old new before after w whole.steps shows done (upkeep_install m w (used_of before.log.log)) first last ops identities next entries in
+    (counts.0, ap (λ (l : List (Step O)). flushed_in l) steps ∙ u.left.1 ∙ sym is, counts.1)
+
+-- there was nothing to install
+module _ (before after : Parts) (n : ℕ) (longer : IsLonger n before after) (none : after.store.entries ≡ []) where
+  none_before : before.store.entries ≡ []
+  none_before = let empty = ap (λ (es : List Entry). length es) none in no_items before.store.entries (omega (arith, empty, longer.entries))
+
+  pub told_none : {O : Type 0} (m : Meaning O) (p : Params) (d : Disk) (w : World O) (steps : List (Step O)) → Shows m p d before w → IsInstall m w steps Clean
+  told_none m p d w steps shows = λ n. sym (shows.store.members n) ∙ ap (λ (es : List Entry). is_among n (numbers es)) none_before
+
+  pub tells_none : TellsParts before after Clean
+  tells_none =
+      let empty = ap (λ (es : List Entry). length es) none in
+      record {
+        clean = (λ e. none_before, λ e. refl);
+        some = λ no. absurd (no refl);
+        numbered = omega (arith, empty, longer.entries, longer.next);
+        entries = omega (arith, empty, longer.entries);
+      }

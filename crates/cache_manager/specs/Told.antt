@@ -1,0 +1,33 @@
+-- What an install tells of the steps that it took, and of the parts.
+use Rattle.std.specs.Prelude.{◌≡◌, ◌↔◌, ◌+◌, ◌<◌, ℕ, false, List, [], ◌∷◌, length, Option, None, Some}
+use Rattle.oper_core.specs.Meaning.{Meaning}
+use Rattle.explain_core.specs.World.{World, Step}
+use Rattle.cache_manager.specs.Courses.{flushed_in, logged_in, members_removed}
+use Rattle.cache_manager.specs.Parts.{Parts}
+use Rattle.cache_manager.specs.declared.install.Install.{Install}
+use Rattle.cache_manager.specs.declared.install.Install.TheVariants.{Installed, Clean}
+
+-- the object, as a list of one or none
+abbrev pub listed : Option ℕ → List ℕ
+listed None = []
+listed (Some x) = x ∷ []
+
+-- so many members left the graph, this object was flushed, and so many identity writes were logged; or there was no member
+abbrev pub IsInstall : {O : Type 0} → Meaning O → World O → List (Step O) → Install → Type 0
+IsInstall m w steps Clean = (n : ℕ) → w.graph n ≡ false
+IsInstall m w steps (Installed ops flushed identities) = (ops ≡ members_removed m w steps) × (flushed_in steps ≡ listed flushed) × (identities ≡ length (logged_in steps))
+
+abbrev pub ops_of : Install → ℕ
+ops_of Clean = 0
+ops_of (Installed ops flushed identities) = ops
+
+abbrev pub identities_of : Install → ℕ
+identities_of Clean = 0
+identities_of (Installed ops flushed identities) = identities
+
+-- What it tells on every machine: the graph had no entry, or some entries left it; so many records have numbers.
+pub record TellsParts (before after : Parts) (install : Install) : Type 0 where
+  pub clean : (install ≡ Clean) ↔ (before.store.entries ≡ [])
+  pub some : (install ≡ Clean → ⊥) → 0 < ops_of install
+  pub numbered : after.log.next ≡ before.log.next + identities_of install
+  pub entries : length after.store.entries + ops_of install ≡ length before.store.entries + identities_of install
