@@ -1,7 +1,7 @@
 -- A redo that has no records left, and nothing to install, is over.
-use Rattle.std.proofs.Common.{◌≡◌, ◌∙◌, sym, ap, subst, ℕ, ◌+◌, ◌-◌, ◌<◌, false, List, [], ◌++◌, length, arith}
+use Rattle.std.proofs.Common.{◌≡◌, ◌∙◌, sym, ap, subst, ℕ, ◌+◌, ◌-◌, ◌<◌, Bool, true, false, if◌then◌else◌, List, [], ◌∷◌, ◌++◌, length, arith, inl, inr}
 use Rattle.std.specs.Prelude.{◌*◌, nat_le}
-use Rattle.std.proofs.lemmas.Bool.{cond-false, lt-leb}
+use Rattle.std.proofs.lemmas.Bool.{cases_Bool, cond-false, cond-true, leb-false, lt-leb}
 use Rattle.std.proofs.lemmas.List.{append-nil}
 use Rattle.disk_model.specs.Disk.{Files}
 use Rattle.disk_model.specs.declared.machine.FileNo.TheVariants.{Objects}
@@ -11,8 +11,10 @@ use Rattle.explain_core.specs.History.{Member, commands_of}
 use Rattle.explain_core.specs.KeptLog.{turns_kept}
 use Rattle.redo_pass.proofs.TurnBound.{turns_stay, redo_over}
 use Rattle.explain_core.specs.TurnLaws.{turns_join}
-use Rattle.explain_core.specs.Turns.{must_install, turn, turns}
-use Rattle.explain_core.specs.World.{World, Step, run, end_of, IsLive}
+use Rattle.install_order.specs.Computed.{least_below, some_below}
+use Rattle.explain_core.specs.Turns.{has_work, must_install, thin_name, thin_steps, turn, turns}
+use Rattle.explain_core.specs.World.{World, Step, run, end_of, IsLive, node_named}
+use Rattle.explain_core.specs.World.Step.{Slot_gate, Removal, Replay}
 use Rattle.standing.specs.Standing.{FilesShow}
 use Rattle.cache_manager.specs.Parts.{Store, ShowsStore}
 use Rattle.redo_pass.specs.Progress.{SoFar}
@@ -48,3 +50,30 @@ module _ {O : Type 0} (m : Meaning O) (limit : ℕ) (w : World O) where
         enough = ap (must_install m limit) (sym same) ∙ so_far.enough;
         map_is = λ x. ap (λ (v : World O). (v.cache x).value) (sym same) ∙ map a x live;
       }
+
+  abbrev AreNone : List (Step O) → Type 0
+  AreNone steps = steps ≡ []
+
+  -- a turn that does nothing has nothing left to replay
+  over_live : (v : World O) → turn m limit v ≡ [] → IsLive v
+  over_live v over =
+      let replay : List (Step O) = if nat_le v.next (length v.history) then Replay ∷ [] else [] in
+      elim (cases_Bool (must_install m limit v)) [
+        | inl must ↦ absurd (some_steps (node_named m v (thin_name m v)) (least_below m.objects (has_work m v (node_named m v (thin_name m v)))) (some_below m.objects (has_work m v (node_named m v (thin_name m v))))
+            (sym (cond-true (must_install m limit v) (thin_steps m v) replay must) ∙ over))
+        | inr enough ↦ elim (cases_Bool (nat_le v.next (length v.history))) [
+          | inl left ↦ absurd (one_step (sym (cond-false (must_install m limit v) (thin_steps m v) replay enough ∙ cond-true (nat_le v.next (length v.history)) (Replay ∷ []) [] left) ∙ over))
+          | inr past ↦ leb-false v.next (length v.history) past
+        ]
+      ]
+    where
+      one_step : AreNone (Replay ∷ []) → ⊥
+      one_step is = cc
+
+      some_steps : (node : ℕ → Bool) (x : ℕ) (b : Bool) → AreNone (if b then Slot_gate node x ∷ Removal node ∷ [] else Removal node ∷ []) → ⊥
+      some_steps node x true is = cc
+      some_steps node x false is = cc
+
+  -- so has the world after all turns
+  pub redone_live : ((n : ℕ) → w.graph n ≡ false) → IsLive (redone_world m limit w)
+  redone_live none = over_live (redone_world m limit w) (redo_over m limit w none)

@@ -1,6 +1,7 @@
 // What a replay sets, and its record's entry in the graph.
-ghost use Rattle.std.specs.Prelude.{◌≡◌, ◌<◌, ◌≤◌, ℕ, All, OnOk, length};
+ghost use Rattle.std.specs.Prelude.{◌≡◌, ◌<◌, ◌≤◌, ℕ, All, List, OnOk, length};
 ghost use Rattle.write_graph.specs.Graph.{numbers};
+ghost use Rattle.cache_manager.specs.Laid.{IsLaidOn};
 ghost use Rattle.cache_manager.specs.Parts.{store};
 ghost use Rattle.redo_pass.specs.Replayed.{IsEntered};
 
@@ -23,6 +24,7 @@ pub(crate) fn enter(
     requires short { All (λ v. length v ≤ objects.old.slots.params.cap) made }
     requires above { All (λ n. n < entry.number) (numbers graph.old.entries) }
     ensures slots { objects.new.slots ≡ objects.old.slots }
+    ensures laid { (file : List ℕ) → IsLaidOn objects.old file → IsLaidOn objects.new file }
     ensures entered { OnOk result (IsEntered (store objects.old graph.old.entries) (store objects.new graph.new.entries) due.now entry made) }
 {
     objects.make_room(entry.writes.as_slice())?;

@@ -2,6 +2,7 @@ ghost use Rattle.std.specs.Prelude.{◌≡◌, ◌<◌, ◌≤◌, ◌+◌, List
 ghost use Rattle.disk_model.specs.Disk.{Files};
 ghost use Rattle.disk_model.specs.declared.machine.FileNo.TheVariants.{Objects};
 ghost use Rattle.oper_core.specs.State.{is_among};
+ghost use Rattle.oper_core.specs.declared.bounds.Bounds.{Bounds};
 ghost use Rattle.checkpoint.specs.declared.table.Table.{Table};
 ghost use Rattle.dirty_cache.specs.Contents.{held};
 ghost use Rattle.formats.specs.Objects.{bounds_of};
@@ -11,14 +12,14 @@ ghost use Rattle.formats.specs.declared.record.Record.{Record};
 ghost use Rattle.stable_objects.specs.SlotsView.{SlotsView, AreOf};
 ghost use Rattle.explain_core.specs.History.{Member, numbered, reads_of, writes_of, effect_of};
 ghost use Rattle.explain_core.specs.Sound.{IsSound};
-ghost use Rattle.explain_core.specs.World.{World, step, run, is_redone};
+ghost use Rattle.explain_core.specs.World.{World, step, run, is_redone, IsLive};
 ghost use Rattle.explain_core.specs.World.Step.{Replay, Crash};
 ghost use Rattle.explain_core.specs.Turns.{must_install, turns};
 ghost use Rattle.standing.specs.Standing.{FilesShow, IsFound};
 ghost use Rattle.analysis_pass.specs.Analysis.{PlanView, plan_table, least_start};
 ghost use Rattle.cache_manager.specs.Parts.{Store, ShowsStore};
 ghost use Rattle.redo_pass.specs.Progress.{HasTurned, SoFar, IsLimited};
-ghost use Rattle.redo_pass.specs.Redo.{IsDue, IsRedone};
+ghost use Rattle.redo_pass.specs.Redo.{IsDue, IsRedone, redone_world};
 ghost use Rattle.redo_pass.specs.Replayed.{IsReplayed, IsNext, is_due};
 ghost use Rattle.redo_pass.specs.Rising.{AreMembers};
 
@@ -76,6 +77,12 @@ pub fn a_redo_ends<O: Oper>()
 {
     explain_core::turns_keep::<O>();
 }
+
+/// After all steps of its redo, nothing is left to replay of a world just after a crash.
+pub fn a_redo_leaves_nothing<O: Oper>()
+    ensures { (b : Bounds) (w : World O) (limit : ℕ) → step (O.meaning b) w Crash ≡ w →
+        IsLive (redone_world (O.meaning b) limit w) }
+{}
 
 /// The parts of the redo's loop, of the world that a restart finds. A member that is replayed is one turn more, and what
 /// is installed behind it are further turns.

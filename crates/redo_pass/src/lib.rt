@@ -17,8 +17,8 @@ mod starting;
 mod tuning;
 
 pub use laws::{
-    a_found_world_is_due, a_redo_ends, a_redo_goes_on, a_replay_is_shown, an_empty_store_shows_it,
-    records_are_members, what_is_due_is_set,
+    a_found_world_is_due, a_redo_ends, a_redo_goes_on, a_redo_leaves_nothing, a_replay_is_shown,
+    an_empty_store_shows_it, records_are_members, what_is_due_is_set,
 };
 pub use redo_err::RedoErr;
 pub use redoing::redo;

@@ -10,6 +10,8 @@ ghost use Rattle.explain_core.specs.World.{World, IsAllStable};
 ghost use Rattle.standing.specs.Standing.{FilesShow};
 ghost use Rattle.standing.specs.Moments.{TakesSome};
 ghost use Rattle.explain_core.specs.Turns.{turns};
+ghost use Rattle.cache_manager.specs.Flushed.{AreEarly};
+ghost use Rattle.cache_manager.specs.Laid.{IsLaidOn};
 ghost use Rattle.cache_manager.specs.Parts.{AreInUse, ShowsStore, store};
 ghost use Rattle.redo_pass.specs.Causes.{FailsBy};
 ghost use Rattle.redo_pass.specs.Progress.{IsLimited};
@@ -31,8 +33,10 @@ pub(crate) fn limit_dirty<O: Oper, M: Machine>(
     ensures runs { Runs (In ObjectsFile Any) Same (M.disk machine.old) (M.disk machine.new) }
     ensures settled { IsSettled (M.disk machine.old) → OnOk result (IsSettled (M.disk machine.new)) }
     ensures of_file { (M.disk machine.old).tells_files → AreOf objects.old.slots ((M.disk machine.old).reads ObjectsFile) → OnOk result (AreOf objects.new.slots ((M.disk machine.new).reads ObjectsFile)) }
+    ensures laid { (M.disk machine.old).tells_files → IsLaidOn objects.old ((M.disk machine.old).reads ObjectsFile) → OnOk result (IsLaidOn objects.new ((M.disk machine.new).reads ObjectsFile)) }
     ensures in_use { OnOk result ((p : Params) (next : ℕ) → AreInUse p next (store objects.old graph.old.entries) →
         AreInUse p next (store objects.new graph.new.entries)) }
+    ensures early { OnOk result ((p : Params) (next : ℕ) → AreInUse p next (store objects.old graph.old.entries) → AreEarly next objects.old → AreEarly next objects.new) }
     ensures limited { (M.disk machine.old).tells_files → IsSettled (M.disk machine.old) → (p : Params) (w : World O) → IsSound (O.meaning (bounds_of p)) w → IsAllStable w →
         FilesShow (O.meaning (bounds_of p)) p (M.disk machine.old).reads w →
         ShowsStore (O.meaning (bounds_of p)) p ((M.disk machine.old).reads ObjectsFile) (store objects.old graph.old.entries) w →

@@ -8,6 +8,8 @@ ghost use Rattle.formats.specs.Records.{IsRecord};
 ghost use Rattle.dirty_cache.specs.Contents.{held};
 ghost use Rattle.explain_core.specs.World.{World};
 ghost use Rattle.standing.specs.Moments.{TakesSome};
+ghost use Rattle.cache_manager.specs.Flushed.{AreEarly};
+ghost use Rattle.cache_manager.specs.Laid.{IsLaidOn};
 ghost use Rattle.cache_manager.specs.Parts.{AreInUse, store};
 ghost use Rattle.redo_pass.specs.Causes.{FailsBy, IsNotOf};
 ghost use Rattle.redo_pass.specs.Redo.{IsDue, IsRedone, redo_steps};
@@ -42,8 +44,11 @@ pub fn redo<O: Oper, M: Machine>(
     requires rising { Rise 0 (2 ^ 62) records.now }
     ensures runs { Runs (In ObjectsFile Any) Same (M.disk machine.old) (M.disk machine.new) }
     ensures settled { IsSettled (M.disk machine.old) → OnOk result (IsSettled (M.disk machine.new)) }
+    ensures laid { (M.disk machine.old).tells_files → IsLaidOn objects.old ((M.disk machine.old).reads ObjectsFile) →
+        OnOk result (IsLaidOn objects.new ((M.disk machine.new).reads ObjectsFile)) }
     ensures in_use { (next : ℕ) → next ≤ 2 ^ 62 → Rise 0 next records.now →
         IfOk result (λ graph. AreInUse objects.old.slots.params next (store objects.new graph.entries)) }
+    ensures early { (next : ℕ) → next ≤ 2 ^ 62 → Rise 0 next records.now → AreEarly next objects.old → OnOk result (AreEarly next objects.new) }
 
     // Of each world that a restart finds in the files and of which this is the plan: all steps of its redo are taken.
     ensures redone { (M.disk machine.old).tells_files → IsSettled (M.disk machine.old) → (p : Params) (w : World O) →

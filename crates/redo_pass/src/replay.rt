@@ -11,6 +11,7 @@ ghost use Rattle.explain_core.specs.History.Member.{Command as a_command, Identi
 ghost use Rattle.explain_core.specs.Sound.{IsSound};
 ghost use Rattle.explain_core.specs.World.{World, step};
 ghost use Rattle.explain_core.specs.World.Step.{Replay};
+ghost use Rattle.cache_manager.specs.Laid.{IsLaidOn};
 ghost use Rattle.cache_manager.specs.Parts.{AreInUse, ShowsStore, store};
 ghost use Rattle.redo_pass.specs.Causes.{FailsBy, IsNotOf};
 ghost use Rattle.redo_pass.specs.Progress.{IsAbove};
@@ -43,6 +44,7 @@ fn replay_command<O: Oper, M: Machine>(
     requires above { All (λ n. n < number) (numbers graph.old.entries) }
     ensures kept { Stays (M.disk machine.old) (M.disk machine.new) }
     ensures slots { objects.new.slots ≡ objects.old.slots }
+    ensures laid { (M.disk machine.old).tells_files → IsLaidOn objects.old ((M.disk machine.old).reads ObjectsFile) → OnOk result (IsLaidOn objects.new ((M.disk machine.old).reads ObjectsFile)) }
     ensures in_use { OnOk result ((p : Params) (next : ℕ) → number < next → AreInUse p next (store objects.old graph.old.entries) → AreInUse p next (store objects.new graph.new.entries)) }
     ensures shown { (M.disk machine.old).tells_files → OnOk result ((p : Params) (w : World O) → IsSound (O.meaning (bounds_of p)) w →
         ShowsStore (O.meaning (bounds_of p)) p ((M.disk machine.old).reads ObjectsFile) (store objects.old graph.old.entries) w →
@@ -85,6 +87,7 @@ fn replay_identity<O: Oper>(
     requires short { length value.now ≤ objects.old.slots.params.cap }
     requires above { All (λ n. n < number) (numbers graph.old.entries) }
     ensures slots { objects.new.slots ≡ objects.old.slots }
+    ensures laid { (file : List ℕ) → IsLaidOn objects.old file → IsLaidOn objects.new file }
     ensures in_use { OnOk result ((p : Params) (next : ℕ) → number < next → AreInUse p next (store objects.old graph.old.entries) → AreInUse p next (store objects.new graph.new.entries)) }
     ensures shown { OnOk result ((p : Params) (file : List ℕ) (w : World O) → IsSound (O.meaning (bounds_of p)) w →
         ShowsStore (O.meaning (bounds_of p)) p file (store objects.old graph.old.entries) w →
@@ -92,8 +95,8 @@ fn replay_identity<O: Oper>(
         ShowsStore (O.meaning (bounds_of p)) p file (store objects.new graph.new.entries) (step (O.meaning (bounds_of p)) w Replay)) }
 {
     let writes = Objs::one(object);
-    let due = due_among(plan, objects, number, writes.as_slice());
-    if due.as_slice().is_empty() {
+    let chosen = due_among(plan, objects, number, writes.as_slice());
+    if chosen.as_slice().is_empty() {
         return Ok(());
     }
     let mut made = Values::new(alloc);
@@ -104,7 +107,7 @@ fn replay_identity<O: Oper>(
         writes,
         identity: true,
     };
-    enter(objects, graph, due.as_slice(), entry, made)?;
+    enter(objects, graph, chosen.as_slice(), entry, made)?;
     Ok(())
 }
 
@@ -122,6 +125,7 @@ pub(crate) fn replay<O: Oper, M: Machine>(
     requires above { IsAbove graph.old.entries «record».now }
     ensures kept { Stays (M.disk machine.old) (M.disk machine.new) }
     ensures slots { objects.new.slots ≡ objects.old.slots }
+    ensures laid { (M.disk machine.old).tells_files → IsLaidOn objects.old ((M.disk machine.old).reads ObjectsFile) → OnOk result (IsLaidOn objects.new ((M.disk machine.old).reads ObjectsFile)) }
     ensures in_use { OnOk result ((p : Params) (next : ℕ) → IsBelow next «record».now → AreInUse p next (store objects.old graph.old.entries) →
         AreInUse p next (store objects.new graph.new.entries)) }
     ensures shown { (M.disk machine.old).tells_files → OnOk result ((p : Params) (w : World O) → IsSound (O.meaning (bounds_of p)) w →

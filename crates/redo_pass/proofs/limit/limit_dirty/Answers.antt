@@ -28,7 +28,9 @@ loop-objects-init g c =
       runs = runs_none old (In ObjectsFile Any) (λ files. record { changed = tt; others = λ other ne. refl }) lawful;
       settled = λ is. is;
       of_file = λ told is. is;
+      laid = λ told is. is;
       in_use = λ p next is. is;
+      early = λ p next is early. early;
       shown = λ told settled p w sound stable files_show store_shows. limiting_none (g.O.Oper.meaning (bounds_of p)) p c.args.limit w old.reads before files_show store_shows;
       moments = λ moments settled p w sound stable files_show store_shows.
           let m = g.O.Oper.meaning (bounds_of p) in
@@ -78,8 +80,15 @@ returns-then-not-branch-clause-settled g c = λ settled. c.in_ok-install_thin.en
 pub returns-then-not-branch-clause-of_file : goal.returns-then-not-branch-clause-of_file
 returns-then-not-branch-clause-of_file g c = λ told is. c.in_ok-install_thin.ensures.of_file (c.loop-objects.invariant.runs.time.files_told.0 told) (c.loop-objects.invariant.of_file told is)
 
+pub returns-then-not-branch-clause-laid : goal.returns-then-not-branch-clause-laid
+returns-then-not-branch-clause-laid g c = λ told is. c.in_ok-install_thin.ensures.laid (c.loop-objects.invariant.runs.time.files_told.0 told) (c.loop-objects.invariant.laid told is)
+
 pub returns-then-not-branch-clause-in_use : goal.returns-then-not-branch-clause-in_use
 returns-then-not-branch-clause-in_use g c = λ p next is. c.in_ok-install_thin.ensures.in_use p next (c.loop-objects.invariant.in_use p next is)
+
+pub returns-then-not-branch-clause-early : goal.returns-then-not-branch-clause-early
+returns-then-not-branch-clause-early g c = λ p next is early.
+    c.in_ok-install_thin.ensures.early p next (c.loop-objects.invariant.in_use p next is) (c.loop-objects.invariant.early p next is early)
 
 pub returns-then-not-branch-clause-limited : goal.returns-then-not-branch-clause-limited
 returns-then-not-branch-clause-limited g c = λ told settled p w sound stable files_show store_shows.
@@ -152,7 +161,9 @@ loop-objects-preserved g c =
       runs = runs_more old mid new so_far.runs c.install_thin.ensures.runs;
       settled = λ settled. c.in_ok-install_thin.ensures.settled (so_far.settled settled);
       of_file = λ told is. c.in_ok-install_thin.ensures.of_file (so_far.runs.time.files_told.0 told) (so_far.of_file told is);
+      laid = λ told is. c.in_ok-install_thin.ensures.laid (so_far.runs.time.files_told.0 told) (so_far.laid told is);
       in_use = λ p next is. c.in_ok-install_thin.ensures.in_use p next (so_far.in_use p next is);
+      early = λ p next is early. c.in_ok-install_thin.ensures.early p next (so_far.in_use p next is) (so_far.early p next is early);
       shown = λ told settled p w sound stable files_show store_shows.
           let m = g.O.Oper.meaning (bounds_of p) in
           let so = so_far.shown told settled p w sound stable files_show store_shows in

@@ -9,6 +9,8 @@ use Rattle.explain_core.specs.Turns.{turns}
 use Rattle.explain_core.specs.World.{World, IsAllStable}
 use Rattle.standing.specs.Moments.{TakesSome}
 use Rattle.standing.specs.Standing.{FilesShow}
+use Rattle.cache_manager.specs.Flushed.{AreEarly}
+use Rattle.cache_manager.specs.Laid.{IsLaidOn}
 use Rattle.cache_manager.specs.Parts.{Store, AreInUse, ShowsStore}
 use Rattle.redo_pass.specs.Progress.{IsLimiting}
 use Rattle.redo_pass.proofs.limit.limit_dirty.Given as goal
@@ -23,7 +25,9 @@ invariant-loop-objects g l =
       runs : Runs (In ObjectsFile Any) Same old mid;
       settled : IsSettled old → IsSettled mid;
       of_file : old.tells_files → AreOf l.fn.objects.slots (old.reads ObjectsFile) → AreOf l.objects.slots (mid.reads ObjectsFile);
+      laid : old.tells_files → IsLaidOn l.fn.objects (old.reads ObjectsFile) → IsLaidOn l.objects (mid.reads ObjectsFile);
       in_use : (p : Params) (next : ℕ) → AreInUse p next before → AreInUse p next now;
+      early : (p : Params) (next : ℕ) → AreInUse p next before → AreEarly next l.fn.objects → AreEarly next l.objects;
       shown : old.tells_files → IsSettled old → (p : Params) (w : World g.row.O.Denot) → IsSound (g.O.Oper.meaning (bounds_of p)) w → IsAllStable w
           → FilesShow (g.O.Oper.meaning (bounds_of p)) p old.reads w → ShowsStore (g.O.Oper.meaning (bounds_of p)) p (old.reads ObjectsFile) before w
           → IsLimiting (g.O.Oper.meaning (bounds_of p)) p mid.reads now l.fn.limit w;

@@ -1,4 +1,4 @@
-use Rattle.std.proofs.Common.{◌≡◌, ◌∙◌, sym, ap, subst, ℕ, ◌+◌, ◌^◌, ◌≤◌, Bool, List, [], ◌∷◌, length, drop, refl, arith}
+use Rattle.std.proofs.Common.{◌≡◌, ◌∙◌, sym, ap, subst, ℕ, ◌+◌, ◌^◌, ◌≤◌, ◌<◌, Bool, List, [], ◌∷◌, length, drop, refl, arith}
 use Rattle.std.specs.Prelude.{All}
 use Rattle.std.proofs.lemmas.List.{drop_all}
 use Rattle.std.proofs.lemmas.List.Elements.{All-drop}
@@ -9,7 +9,7 @@ use Rattle.formats.specs.Objects.{bounds_of}
 use Rattle.formats.specs.Records.{IsRecord}
 use Rattle.formats.specs.declared.params.Params.{Params}
 use Rattle.formats.specs.declared.record.Record.{Record}
-use Rattle.stable_objects.specs.SlotsView.{SlotsView, AreOf}
+use Rattle.stable_objects.specs.SlotsView.{SlotsView, AreOf, id_in}
 use Rattle.explain_core.specs.History.{Member}
 use Rattle.explain_core.specs.KeptLog.{kept_stable}
 use Rattle.explain_core.specs.Turns.{turns}
@@ -18,6 +18,7 @@ use Rattle.explain_core.specs.World.Step.{Replay}
 use Rattle.standing.specs.Crashed.{crashed-graph, crashed-stable}
 use Rattle.standing.specs.OneStable.{small_store}
 use Rattle.standing.specs.Standing.{FilesShow}
+use Rattle.cache_manager.specs.Laid.{IsLaidOn}
 use Rattle.cache_manager.specs.Parts.{Store, AreInUse, ShowsStore}
 use Rattle.redo_pass.specs.Progress.{SoFar}
 use Rattle.redo_pass.specs.Rising.{AreMembers, Rise}
@@ -44,8 +45,10 @@ loop-record-init g c =
       runs = runs_none old (In ObjectsFile Any) (λ files. record { changed = tt; others = λ other ne. refl }) lawful;
       settled = λ is. is;
       of_file = λ told is. is;
+      laid = λ told is. is;
       low = 0;
       in_use = begun_in_use now c.requires.empty c.in_ok-graph.ensures;
+      early = λ next most rises early. early;
       come = λ end rise. (omega arith, rise_lower 0 c.start.result end items (omega arith) (c.from_start-record-items.ensures.rising end rise));
       shown = λ told settled p w due. begun (g.O.Oper.meaning (bounds_of p)) p limit w old.reads slots c.args.plan.now c.args.records.now items now due refl c.requires.empty c.in_ok-graph.ensures from;
       moments = λ moments settled p w due.
@@ -193,9 +196,19 @@ loop-record-preserved g c =
           let told_mid = so_far.runs.time.files_told.0 told in
           c.in_ok-limit_dirty.ensures.of_file (kept.time.files_told.0 told_mid)
           (subst (λ (f : Files). AreOf c.replay.new.objects.slots (f ObjectsFile)) (sym (kept.reads told_mid)) (subst (λ (s : SlotsView). AreOf s (mid.reads ObjectsFile)) (sym c.replay.ensures.slots) (so_far.of_file told is)));
+      laid = λ told is.
+          let told_mid = so_far.runs.time.files_told.0 told in
+          c.in_ok-limit_dirty.ensures.laid (kept.time.files_told.0 told_mid)
+          (subst (λ (f : Files). IsLaidOn c.replay.new.objects (f ObjectsFile)) (sym (kept.reads told_mid)) (c.in_ok-replay.ensures.laid told_mid (so_far.laid told is)));
       low = behind so_far.low r;
       in_use = c.in_ok-limit_dirty.ensures.in_use p0 (behind so_far.low r)
           (behind_in_use p0 so_far.low now after r rest so_far.in_use (rise (2 ^ 62) come.1) (λ next below was. c.in_ok-replay.ensures.in_use p0 next below was));
+      early = λ next most rises early.
+          let here = so_far.come next rises in
+          let is = behind_in_use p0 so_far.low now after r rest so_far.in_use (rise (2 ^ 62) come.1) (λ next below was. c.in_ok-replay.ensures.in_use p0 next below was) in
+          let later = in_use_later p0 (behind so_far.low r) next after (behind_rise so_far.low next r rest here.0 (rise next here.1)).0 most is in
+          c.in_ok-limit_dirty.ensures.early p0 next later
+          (subst (λ (s : SlotsView). (x : ℕ) → x < s.params.objects → id_in s x < next) (sym c.replay.ensures.slots) (so_far.early next most rises early));
       come = λ end rises. let here = so_far.come end rises in behind_rise so_far.low end r rest here.0 (rise end here.1);
       shown = λ told settled p w due.
           let m = g.O.Oper.meaning (bounds_of p) in
@@ -247,6 +260,9 @@ returns-clause-in_use g c = λ next most rises.
     let so_far = c.loop-record.invariant in
     let now : Store = record { objects = c.loop-record.objects; entries = c.loop-record.graph.entries } in
     in_use_later c.args.objects.now.slots.params so_far.low next now (so_far.come next rises).0 most so_far.in_use
+
+pub returns-clause-early : goal.returns-clause-early
+returns-clause-early g c = λ next most rises early. c.loop-record.invariant.early next most rises early
 
 pub returns-clause-redone : goal.returns-clause-redone
 returns-clause-redone g c = λ told settled p w due.

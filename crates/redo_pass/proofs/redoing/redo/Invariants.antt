@@ -1,4 +1,4 @@
-use Rattle.std.proofs.Common.{◌≤◌, ℕ, drop}
+use Rattle.std.proofs.Common.{◌≤◌, ◌^◌, ℕ, drop}
 use Rattle.disk_model.specs.Disk.{Runs, Same, Any, In, IsSettled}
 use Rattle.disk_model.specs.declared.machine.FileNo.TheVariants.{Objects as ObjectsFile}
 use Rattle.formats.specs.Objects.{bounds_of}
@@ -7,6 +7,8 @@ use Rattle.stable_objects.specs.SlotsView.{AreOf}
 use Rattle.explain_core.specs.Turns.{turns}
 use Rattle.explain_core.specs.World.{World}
 use Rattle.standing.specs.Moments.{TakesSome}
+use Rattle.cache_manager.specs.Flushed.{AreEarly}
+use Rattle.cache_manager.specs.Laid.{IsLaidOn}
 use Rattle.cache_manager.specs.Parts.{Store, AreInUse}
 use Rattle.redo_pass.specs.Progress.{SoFar}
 use Rattle.redo_pass.specs.Redo.{IsDue}
@@ -23,8 +25,10 @@ invariant-loop-record g l =
       runs : Runs (In ObjectsFile Any) Same old mid;
       settled : IsSettled old → IsSettled mid;
       of_file : old.tells_files → AreOf l.fn.objects.slots (old.reads ObjectsFile) → AreOf l.objects.slots (mid.reads ObjectsFile);
+      laid : old.tells_files → IsLaidOn l.fn.objects (old.reads ObjectsFile) → IsLaidOn l.objects (mid.reads ObjectsFile);
       low : ℕ;
       in_use : AreInUse l.fn.objects.slots.params low now;
+      early : (next : ℕ) → next ≤ 2 ^ 62 → Rise 0 next l.fn.records → AreEarly next l.fn.objects → AreEarly next l.objects;
       come : (end : ℕ) → Rise 0 end l.fn.records → (low ≤ end) × Rise low end rest;
       shown : old.tells_files → IsSettled old → (p : Params) (w : World g.row.O.Denot) → IsDue (g.O.Oper.meaning (bounds_of p)) p old.reads l.fn.objects.slots l.plan l.fn.records w
           → SoFar (g.O.Oper.meaning (bounds_of p)) p mid.reads now l.tuning.redo_dirty w rest;

@@ -32,6 +32,9 @@ returns-then-is_empty-clause-shown g c = λ told p w sound shows next.
     none_entered m p ((g.M.Machine.disk c.args.machine.now).reads Objects) (store objects c.args.graph.now.entries) w table c.args.number (Command op) due sound shows next bounds writes
     (λ x. c.due_among-due.ensures x ∙ ap (λ (l : List ℕ). is_due table objects c.args.number l x) (c.as_slice.ensures.value ∙ c.writes-writes.ensures b)) none
 
+pub returns-clause-laid : goal.returns-clause-laid
+returns-clause-laid g c = λ told laid. c.enter.ensures.laid ((g.M.Machine.disk c.args.machine.now).reads Objects) (c.values_of.ensures.cells told laid).1
+
 pub returns-clause-in_use : goal.returns-clause-in_use
 returns-clause-in_use g c = λ p next low used.
     let objects = c.args.objects.now in

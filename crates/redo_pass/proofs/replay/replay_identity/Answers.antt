@@ -21,8 +21,8 @@ returns-then-is_empty-clause-shown g c = λ p file w sound shows next.
     let below = subst (λ (q : Params). x < q.objects) shows.params c.requires.below in
     let writes = All-cons (λ y. y < p.objects) x [] below (All-nil (λ y. y < p.objects)) in
     let none = sym c.as_slice-2.ensures.value ∙ nil_if c.as_slice-2.result.now (sym c.is_empty.ensures ∙ c.if-is_empty.true) in
-    none_entered m p file (store objects c.args.graph.now.entries) w table c.args.number (Identity x c.args.value.now) c.due_among-due.result sound shows next (g.met.O.Oper.bounded b).objects writes
-    (λ y. c.due_among-due.ensures y ∙ ap (λ (l : List ℕ). is_due table objects c.args.number l y) (c.as_slice.ensures.value ∙ c.one-writes.ensures)) none
+    none_entered m p file (store objects c.args.graph.now.entries) w table c.args.number (Identity x c.args.value.now) c.due_among-chosen.result sound shows next (g.met.O.Oper.bounded b).objects writes
+    (λ y. c.due_among-chosen.ensures y ∙ ap (λ (l : List ℕ). is_due table objects c.args.number l y) (c.as_slice.ensures.value ∙ c.one-writes.ensures)) none
 
 pub returns-clause-in_use : goal.returns-clause-in_use
 returns-clause-in_use g c = λ p next low used.
@@ -31,7 +31,7 @@ returns-clause-in_use g c = λ p next low used.
     let e : Entry = record { number = c.args.number; reads = c.new.result; writes = c.one-writes.result; identity = true } in
     entered_in_use p next (store objects c.args.graph.now.entries) objects (store c.enter.new.objects c.enter.new.graph.entries) table c.as_slice-3.result.now e c.push.new.self used
     (fetched-same objects objects refl (λ y. refl) (λ y. refl)) c.in_ok-enter.ensures.entered
-    (λ y. ap (is_among y) c.as_slice-3.ensures.value ∙ c.due_among-due.ensures y ∙ ap (λ (l : List ℕ). is_due table objects c.args.number l y) c.as_slice.ensures.value) low
+    (λ y. ap (is_among y) c.as_slice-3.ensures.value ∙ c.due_among-chosen.ensures y ∙ ap (λ (l : List ℕ). is_due table objects c.args.number l y) c.as_slice.ensures.value) low
 
 pub returns-clause-shown : goal.returns-clause-shown
 returns-clause-shown g c = λ p file w sound shows next.
@@ -49,6 +49,6 @@ returns-clause-shown g c = λ p file w sound shows next.
     let same : c.as_slice-2.result.now ≡ c.as_slice-3.result.now = c.as_slice-2.ensures.value ∙ sym c.as_slice-3.ensures.value in
     let some : 0 < length c.as_slice-3.result.now = subst (λ (l : List ℕ). 0 < length l) same (some_if c.as_slice-2.result.now (sym c.is_empty.ensures ∙ c.if-is_empty.false)) in
     some_entered m p file (store objects c.args.graph.now.entries) w table c.args.number (Identity x v) c.as_slice-3.result.now sound shows next (g.met.O.Oper.bounded b).objects writes
-    (λ y. ap (is_among y) c.as_slice-3.ensures.value ∙ c.due_among-due.ensures y ∙ ap (λ (l : List ℕ). is_due table objects c.args.number l y) (c.as_slice.ensures.value ∙ c.one-writes.ensures))
+    (λ y. ap (is_among y) c.as_slice-3.ensures.value ∙ c.due_among-chosen.ensures y ∙ ap (λ (l : List ℕ). is_due table objects c.args.number l y) (c.as_slice.ensures.value ∙ c.one-writes.ensures))
     objects (store c.enter.new.objects c.enter.new.graph.entries) c.push.new.self (fetched-same objects objects refl (λ y. refl) (λ y. refl)) (λ y there. refl) shows.laid
     (All-nil (λ y. y < p.objects)) e e_is c.in_ok-enter.ensures.entered made some
