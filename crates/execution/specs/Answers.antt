@@ -1,0 +1,54 @@
+-- Which answer a command gets, in a world.
+use Rattle.std.specs.Prelude.{◌≡◌, ◌⊎◌, ◌+◌, ◌<◌, ◌≤◌, ◌^◌, ⊤, ℕ, [], length, Result, Ok, Err, None, Some}
+use Rattle.oper_core.specs.Meaning.{Meaning, IsInGrammar}
+use Rattle.log_frames.specs.LogView.{used_of}
+use Rattle.log_records.specs.RecordLog.{RecordLogView}
+use Rattle.explain_core.specs.History.{commands_of}
+use Rattle.explain_core.specs.World.{World, end_of}
+use Rattle.cache_manager.specs.Courses.{Stop, grown}
+use Rattle.cache_manager.specs.Courses.Stop.{Through, Full, At_end, Worn}
+use Rattle.cache_manager.specs.Taking.{Ending}
+use Rattle.cache_manager.specs.Taking.Ending.{Done, Stopped, Short, Failed}
+use Rattle.execution.specs.Courses.{command_length, refusal_in}
+use Rattle.execution.specs.declared.exec_err.ExecErr.{ExecErr}
+use Rattle.execution.specs.declared.exec_err.ExecErr.TheVariants.{Refused, DiskFault, Damaged, LogFull, LsnEnd, Memory}
+
+-- How a command ended, in the terms of its course: one that is refused has taken all of its course, which is none.
+abbrev pub ending_of_exec : Result ℕ ExecErr → Ending
+ending_of_exec (Ok n) = Done
+ending_of_exec (Err (Refused refusal)) = Done
+ending_of_exec (Err DiskFault) = Failed
+ending_of_exec (Err (Damaged file place)) = Short
+ending_of_exec (Err (LogFull used need limit)) = Stopped (Full used need limit)
+ending_of_exec (Err (LsnEnd number)) = Stopped (At_end number)
+ending_of_exec (Err Memory) = Short
+
+module _ {O : Type 0} (m : Meaning O) (limit : ℕ) (w : World O) (used : ℕ) (op : O) where
+  -- its record fits in a log of this length, in which it begins a block where nothing waits
+  abbrev pub Fits : Type 0
+  Fits = grown m w used (command_length m op) ≤ limit
+
+  -- it does not
+  abbrev pub IsTooLong : Type 0
+  IsTooLong = limit < grown m w used (command_length m op)
+
+  -- Why a command gets its answer in this world, with a log of this length: it is refused; or else its record does not fit;
+  -- or else no number is left for it; or else it is done, and is the next command. No two of these hold at once, so each
+  -- answer comes exactly where its cause holds, but that a fault may stand in the place of the second and the third, and of
+  -- any for a command that reads objects, and want of memory in that of any. No file is damaged.
+  abbrev pub HasCause : Result ℕ ExecErr → Type 0
+  HasCause (Ok n) = (refusal_in m w op ≡ None) × Fits × (end_of w < 2 ^ 62) × (n ≡ length (commands_of w.history) + 1)
+  HasCause (Err (Refused refusal)) = refusal_in m w op ≡ Some refusal
+  HasCause (Err (LogFull held need most)) = (refusal_in m w op ≡ None) × IsTooLong × (held ≡ used) × (need ≡ command_length m op + 5) × (most ≡ limit)
+  HasCause (Err (LsnEnd number)) = (refusal_in m w op ≡ None) × Fits × (2 ^ 62 ≤ end_of w) × (number ≡ end_of w)
+  HasCause (Err DiskFault) = (IsInGrammar m op × (0 < length (m.reads op))) ⊎ ((refusal_in m w op ≡ None) × (IsTooLong ⊎ (2 ^ 62 ≤ end_of w)))
+  HasCause (Err (Damaged file place)) = ⊥
+  HasCause (Err Memory) = ⊤
+
+-- why a call is stopped, by the log that it leaves, in which nothing waits: the record has no room behind it, or no number
+-- is left
+abbrev pub StopsAt : RecordLogView → Stop → Type 0
+StopsAt log Through = ⊥
+StopsAt log (Full used need limit) = (used ≡ used_of log.log) × (log.log.pending ≡ []) × (limit < used + need)
+StopsAt log (At_end number) = (number ≡ log.next) × (log.log.pending ≡ []) × (number ≡ 2 ^ 62)
+StopsAt log (Worn epoch) = ⊥

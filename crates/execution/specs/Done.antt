@@ -1,0 +1,46 @@
+-- What a command leaves of the parts, on every machine.
+use Rattle.std.specs.Prelude.{◌≡◌, ◌+◌, ℕ, [], ◌∷◌, ◌++◌}
+use Rattle.oper_core.specs.Meaning.{Meaning}
+use Rattle.oper_core.specs.declared.bounds.Bounds.{Bounds}
+use Rattle.formats.specs.Records.{record_code}
+use Rattle.formats.specs.declared.record.Record.TheVariants.{Command as Logged}
+use Rattle.log_records.specs.RecordLog.{RecordLogView}
+use Rattle.explain_core.specs.History.Member.{Command}
+use Rattle.cache_manager.specs.Fetched.{IsFetched}
+use Rattle.cache_manager.specs.Forced.{IsForced}
+use Rattle.cache_manager.specs.Parts.{Parts, entry_of, meaning_in}
+use Rattle.execution.specs.Courses.{command_length}
+use Rattle.execution.specs.Failures.{HasPlace, IsAdmissible}
+use Rattle.execution.specs.Unchanged.{IsSameLog}
+use Rattle.execution.specs.declared.exec_err.ExecErr.{ExecErr}
+use Rattle.execution.specs.declared.exec_err.ExecErr.TheVariants.{LogFull, LsnEnd}
+
+-- the log with a record of the command that waits behind all others
+abbrev pub IsLogWith : {O : Type 0} → Meaning O → O → RecordLogView → RecordLogView → Type 0
+IsLogWith m op before log = log ≡ record before {
+  log = record before.log { pending = before.log.pending ++ record_code m (Logged before.next op); room = log.log.room };
+  next = before.next + 1;
+  accepted = before.accepted + 1;
+}
+
+-- A command was done, the nth since the store was made: some values admit it, its record had a place and waits behind all
+-- others, and the graph has its entry.
+pub record IsDone {O : Type 0} (meaning : Bounds → Meaning O) (before after : Parts) (op : O) (n : ℕ) : Type 0 where
+  pub admissible : IsAdmissible meaning before.store.objects.slots.params op
+  pub place : HasPlace before.store.objects.slots.params.limit before.log (command_length (meaning_in meaning before.store.objects.slots.params) op)
+  pub log : IsLogWith (meaning_in meaning before.store.objects.slots.params) op before.log after.log
+  pub nth : n ≡ before.log.accepted + 1
+  pub slots : after.store.objects.slots ≡ before.store.objects.slots
+  pub entries : after.store.entries ≡ before.store.entries ++ entry_of (meaning_in meaning before.store.objects.slots.params) before.log.next (Command op) ∷ []
+
+-- the log after a command that was not done: without a place for its record all that waited is forced, else it is as it was
+abbrev pub LogWithout : RecordLogView → RecordLogView → ExecErr → Type 0
+LogWithout before log (LogFull used need limit) = IsForced before log
+LogWithout before log (LsnEnd number) = IsForced before log
+LogWithout before log e = IsSameLog before log
+
+-- A command was not done: the log has no record of it, nothing but slots was read, and the graph is as it was.
+pub record IsUndone (before after : Parts) (e : ExecErr) : Type 0 where
+  pub log : LogWithout before.log after.log e
+  pub objects : IsFetched before.store.objects after.store.objects
+  pub entries : after.store.entries ≡ before.store.entries

@@ -1,0 +1,97 @@
+-- Why a command is not done, on every machine.
+use Rattle.std.specs.Prelude.{◌≡◌, ◌⊎◌, ◌+◌, ◌<◌, ◌≤◌, ◌^◌, ⊤, ℕ, List, length, None, Some}
+use Rattle.disk_model.specs.Disk.{Disk, Rises}
+use Rattle.disk_model.specs.declared.machine.FileNo.TheVariants.{Objects}
+use Rattle.oper_core.specs.Meaning.{Meaning, FitsReads}
+use Rattle.oper_core.specs.declared.bounds.Bounds.{Bounds}
+use Rattle.oper_core.specs.declared.refusal.Refusal.{Refusal}
+use Rattle.formats.specs.declared.params.Params.{Params}
+use Rattle.log_frames.specs.LogView.{used_of, growth_of}
+use Rattle.log_records.specs.RecordLog.{RecordLogView}
+use Rattle.stable_objects.specs.declared.slot_err.SlotErr.{SlotErr}
+use Rattle.stable_objects.specs.declared.slot_err.SlotErr.TheVariants as of_slots
+use Rattle.cache_manager.specs.Laid.{Laid, IsLaidOn}
+use Rattle.cache_manager.specs.Parts.{Parts, meaning_in}
+use Rattle.execution.specs.Courses.{command_length}
+use Rattle.execution.specs.declared.exec_err.ExecErr.{ExecErr}
+use Rattle.execution.specs.declared.exec_err.ExecErr.TheVariants.{Refused, DiskFault, Damaged, LogFull, LsnEnd, Memory}
+
+-- what a call answers where a slot is not read: there is a store
+abbrev pub exec_from_slots : SlotErr → ExecErr
+exec_from_slots of_slots.NotAStore = Memory
+exec_from_slots of_slots.DiskFault = DiskFault
+exec_from_slots (of_slots.Damaged file place) = Damaged file place
+exec_from_slots of_slots.Memory = Memory
+
+-- the log's length with a record of n bytes more
+abbrev pub length_with : RecordLogView → ℕ → ℕ
+length_with log n = used_of log.log + growth_of log.log.pending n
+
+-- the log has room below the limit for a record of n bytes, and a number is left for it
+pub record HasPlace (limit : ℕ) (log : RecordLogView) (n : ℕ) : Type 0 where
+  pub room : length_with log n ≤ limit
+  pub number : log.next < 2 ^ 62
+
+-- why a record of n bytes gets no place: no room in the log, or else no number; the force that comes then may fail
+abbrev pub LacksPlace : ℕ → RecordLogView → ℕ → ExecErr → Type 0
+LacksPlace limit log n (LogFull used need most) = (limit < length_with log n) × (used ≡ used_of log.log) × (need ≡ n + 5) × (most ≡ limit)
+LacksPlace limit log n (LsnEnd number) = (length_with log n ≤ limit) × (2 ^ 62 ≤ log.next) × (number ≡ log.next)
+LacksPlace limit log n DiskFault = (limit < length_with log n) ⊎ (2 ^ 62 ≤ log.next)
+LacksPlace limit log n (Refused refusal) = ⊥
+LacksPlace limit log n (Damaged file place) = ⊥
+LacksPlace limit log n Memory = ⊥
+
+-- Why a slot is not read: by a fault of the disk, which then counts it, by damage of the objects file, which no file has
+-- that the objects are laid on, or out of memory.
+abbrev pub IsReadFailure : Disk → Disk → Laid → ExecErr → Type 0
+IsReadFailure old new objects DiskFault = Rises old.disk_faults new.disk_faults
+IsReadFailure old new objects (Damaged file place) = (file ≡ Objects) × (old.tells_files → IsLaidOn objects (old.reads Objects) → ⊥)
+IsReadFailure old new objects Memory = ⊤
+IsReadFailure old new objects (Refused refusal) = ⊥
+IsReadFailure old new objects (LogFull used need limit) = ⊥
+IsReadFailure old new objects (LsnEnd number) = ⊥
+
+module _ {O : Type 0} (meaning : Bounds → Meaning O) (p : Params) (op : O) where
+  abbrev m : Meaning O
+  m = meaning_in meaning p
+
+  -- nothing refuses it on these values, which it may read
+  pub record IsReady (values : List (List ℕ)) : Type 0 where
+    pub shape : m.shape op ≡ None
+    pub fits : FitsReads m op values
+    pub check : m.check op values ≡ None
+
+  -- nothing refuses it on some values that it may read
+  abbrev pub IsAdmissible : Type 0
+  IsAdmissible = (values : List (List ℕ)) × IsReady values
+
+  -- it is refused whatever the values are, or else on some values that it may read
+  abbrev pub IsRefused : Refusal → Type 0
+  IsRefused r = (m.shape op ≡ Some r)
+      ⊎ ((values : List (List ℕ)) × (m.shape op ≡ None) × FitsReads m op values × (m.check op values ≡ Some r))
+
+  -- where memory may run out for a command before its place in the log is known: it reads objects, or no memory holds its code
+  abbrev pub NeedsMemory : Type 0
+  NeedsMemory = (0 < length (m.reads op)) ⊎ (2 ^ 63 ≤ length (m.code op))
+
+  -- Why a command is not admitted: it is refused, or a read of a slot fails, or memory runs out.
+  abbrev pub IsAdmitFailure : Disk → Disk → Laid → ExecErr → Type 0
+  IsAdmitFailure old new objects (Refused refusal) = IsRefused refusal
+  IsAdmitFailure old new objects Memory = NeedsMemory
+  IsAdmitFailure old new objects e = IsReadFailure old new objects e
+
+module _ {O : Type 0} (meaning : Bounds → Meaning O) (old new : Disk) (before : Parts) (op : O) where
+  abbrev p : Params
+  p = before.store.objects.slots.params
+
+  abbrev n : ℕ
+  n = command_length (meaning_in meaning p) op
+
+  -- Why a command is not done, on every machine: it gets no place, though some values admit it, or else it is not admitted.
+  -- Where a force fails for it, the disk counts that. For a command that reads no object, and whose code memory can hold,
+  -- memory runs out only where it has its place.
+  abbrev pub IsExecFailure : ExecErr → Type 0
+  IsExecFailure (LogFull used need limit) = IsAdmissible meaning p op × LacksPlace p.limit before.log n (LogFull used need limit)
+  IsExecFailure (LsnEnd number) = IsAdmissible meaning p op × LacksPlace p.limit before.log n (LsnEnd number)
+  IsExecFailure Memory = NeedsMemory meaning p op ⊎ (IsAdmissible meaning p op × HasPlace p.limit before.log n)
+  IsExecFailure e = IsAdmitFailure meaning p op old new before.store.objects e

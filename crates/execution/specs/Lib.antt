@@ -1,0 +1,7 @@
+pub mod Courses
+pub mod Answers
+pub mod Failures
+pub mod Unchanged
+pub mod Done
+pub mod Counted
+pub mod Taken

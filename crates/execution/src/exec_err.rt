@@ -1,0 +1,60 @@
+ghost use Rattle.std.specs.Prelude.{◌≡◌};
+ghost use Rattle.execution.specs.Failures.{exec_from_slots};
+ghost use Rattle.execution.specs.declared.exec_err.ExecErr.TheVariants.{DiskFault, Memory as OutOfMemory};
+
+use disk_model::{Failed, FileNo};
+use oper_core::Refusal;
+use stable_objects::SlotErr;
+use thiserror::Error;
+
+/// Why a command was not done, or an object not fetched.
+#[derive(Debug, Drop, Error)]
+pub enum ExecErr {
+    /// It is refused on the values as they are.
+    #[error("refused: {0}")]
+    Refused(Refusal),
+    /// The disk failed, and the engine is not used again.
+    #[error("the disk failed")]
+    DiskFault,
+    /// The slot that was read breaks its format, in this file at this place.
+    #[error("{file:?} is damaged at {place}")]
+    Damaged { file: FileNo, place: u64 },
+    /// The log has no room for its record.
+    #[error("the log is full: {used} bytes are used, {need} more are needed, the limit is {limit}")]
+    LogFull { used: u64, need: u64, limit: u64 },
+    /// No record may have this number.
+    #[error("no record may have the number {number}")]
+    LsnEnd { number: u64 },
+    /// Out of memory.
+    #[error("out of memory")]
+    Memory,
+}
+
+impl From<Failed> for ExecErr {
+    ghost from_gives = { λ _ e. e ≡ DiskFault };
+
+    fn from(_: Failed) -> Self {
+        ExecErr::DiskFault
+    }
+}
+
+impl From<oper_core::Memory> for ExecErr {
+    ghost from_gives = { λ _ e. e ≡ OutOfMemory };
+
+    fn from(_: oper_core::Memory) -> Self {
+        ExecErr::Memory
+    }
+}
+
+impl From<SlotErr> for ExecErr {
+    ghost from_gives = { λ cause e. e ≡ exec_from_slots cause };
+
+    // A slot that is read is one of a store.
+    fn from(cause: SlotErr) -> Self {
+        match cause {
+            SlotErr::DiskFault => ExecErr::DiskFault,
+            SlotErr::Damaged { file, place } => ExecErr::Damaged { file, place },
+            SlotErr::NotAStore | SlotErr::Memory => ExecErr::Memory,
+        }
+    }
+}
