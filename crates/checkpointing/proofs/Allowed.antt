@@ -1,0 +1,133 @@
+-- The steps of a checkpoint, of a restart's check and of a trim may be taken, and add no command.
+use Rattle.std.proofs.Common.{◌≡◌, sym, subst, ap, ℕ, Bool, true, false, List, [], ◌∷◌, ◌++◌, length, refl, arith, inl, inr}
+use Rattle.std.specs.Prelude.{⊤, IsFalse, nat_lt, nat_le, if◌then◌else◌, ◌^◌, ◌+◌}
+use Rattle.std.proofs.lemmas.Bool.{cases_Bool, or_parts, ltb-false, cond_both, cond-true, cond-false}
+use Rattle.oper_core.specs.Meaning.{Meaning}
+use Rattle.explain_core.specs.RunLaws.{allowed-append}
+use Rattle.explain_core.specs.World.{World, Step, step, run, IsLive, NoGroup, AreAllowed}
+use Rattle.explain_core.specs.World.Step.{Begin, End, Append, Block_gate, Check, Slot_gate, Removal, Header_gate, Replay, Crash}
+use Rattle.cache_manager.specs.CourseLaws.{behind_both}
+use Rattle.cache_manager.specs.Courses.{Course, course, and_then, buffered, force_course, force_steps, grown, is_through, room_steps, waits}
+use Rattle.cache_manager.specs.Courses.Stop.{Through, Full, Worn}
+use Rattle.cache_manager.specs.Logged.{log_limit}
+use Rattle.cache_manager.specs.Running.{AreUpkeep, IsRunning, KeepsSound, MayBeTaken, may_be_taken, running_after}
+use Rattle.cache_manager.specs.Upkeep.{upkeep_append, upkeep_force}
+use Rattle.checkpointing.specs.Courses.{check_course, check_length, check_steps, checkpoint_course, closing_course, last_epoch, logged_course, new_base, rewrite_course, trim_course, trimmed, trimmed_file}
+use Rattle.checkpointing.proofs.Base.{trim_allowed}
+
+-- steps on the log alone, which may be taken wherever calls are made
+abbrev IsPlain : {O : Type 0} → Step O → Type 0
+IsPlain Begin = ⊥
+IsPlain End = ⊥
+IsPlain (Append member) = ⊥
+IsPlain Block_gate = ⊤
+IsPlain Check = ⊤
+IsPlain (Slot_gate node x) = ⊥
+IsPlain (Removal node) = ⊥
+IsPlain (Header_gate base) = ⊥
+IsPlain Replay = ⊥
+IsPlain Crash = ⊥
+
+abbrev ArePlain : {O : Type 0} → List (Step O) → Type 0
+ArePlain [] = ⊤
+ArePlain (s ∷ steps) = IsPlain s × ArePlain steps
+
+module _ {O : Type 0} (m : Meaning O) where
+  plain_allowed : (w : World O) (steps : List (Step O)) → ArePlain steps → IsLive w → NoGroup w → AreAllowed m w steps
+  unfolding step
+  plain_allowed w [] are live alone = tt
+  plain_allowed w (Begin ∷ steps) are live alone = absurd are.0
+  plain_allowed w (End ∷ steps) are live alone = absurd are.0
+  plain_allowed w (Append member ∷ steps) are live alone = absurd are.0
+  plain_allowed w (Block_gate ∷ steps) are live alone = ((live, alone), plain_allowed (step m w Block_gate) steps are.1 live alone)
+  plain_allowed w (Check ∷ steps) are live alone = ((live, alone), plain_allowed (step m w Check) steps are.1 live alone)
+  plain_allowed w (Slot_gate node x ∷ steps) are live alone = absurd are.0
+  plain_allowed w (Removal node ∷ steps) are live alone = absurd are.0
+  plain_allowed w (Header_gate base ∷ steps) are live alone = absurd are.0
+  plain_allowed w (Replay ∷ steps) are live alone = absurd are.0
+  plain_allowed w (Crash ∷ steps) are live alone = absurd are.0
+
+  plain_upkeep : (steps : List (Step O)) → ArePlain steps → AreUpkeep steps
+  plain_upkeep [] are = tt
+  plain_upkeep (Begin ∷ steps) are = absurd are.0
+  plain_upkeep (End ∷ steps) are = absurd are.0
+  plain_upkeep (Append member ∷ steps) are = absurd are.0
+  plain_upkeep (Block_gate ∷ steps) are = (tt, plain_upkeep steps are.1)
+  plain_upkeep (Check ∷ steps) are = (tt, plain_upkeep steps are.1)
+  plain_upkeep (Slot_gate node x ∷ steps) are = absurd are.0
+  plain_upkeep (Removal node ∷ steps) are = absurd are.0
+  plain_upkeep (Header_gate base ∷ steps) are = absurd are.0
+  plain_upkeep (Replay ∷ steps) are = absurd are.0
+  plain_upkeep (Crash ∷ steps) are = absurd are.0
+
+  plain_append : (xs ys : List (Step O)) → ArePlain xs → ArePlain ys → ArePlain (xs ++ ys)
+  plain_append [] ys first second = second
+  plain_append (x ∷ xs) ys first second = (first.0, plain_append xs ys first.1 second)
+
+  plain_force : (w : World O) → ArePlain (force_steps m w)
+  plain_force w = cond_both (waits m w) (Block_gate ∷ []) [] (λ (l : List (Step O)). ArePlain l) (λ some. (tt, tt)) (λ none. tt)
+
+  plain_room : (w : World O) (n : ℕ) → ArePlain (room_steps m w n)
+  plain_room w n = cond_both (nat_lt (2 ^ 30) (buffered m w + n)) (force_steps m w) [] (λ (l : List (Step O)). ArePlain l) (λ long. plain_force w) (λ short. tt)
+
+  plain_logged : (w : World O) (used : ℕ) → ArePlain (logged_course m w used).steps
+  plain_logged w used =
+      let n = check_length m w in
+      cond_both (nat_lt log_limit (grown m w used n)) (course [] used (Full used (n + 5) log_limit)) (course check_steps (grown m w used n) Through) (λ (c : Course O). ArePlain c.steps) (λ full. tt) (λ fits. (tt, (tt, tt)))
+
+  plain_check : (w : World O) (used : ℕ) → ArePlain (check_course m w used).steps
+  plain_check w used =
+      let first : Course O = course (room_steps m w (check_length m w)) used Through in
+      let second = logged_course m (run m w first.steps) used in
+      plain_append first.steps second.steps (plain_room w (check_length m w)) (plain_logged (run m w first.steps) used)
+
+  plain_checkpoint : (w : World O) (used : ℕ) → ArePlain (checkpoint_course m w used).steps
+  plain_checkpoint w used =
+      let c = check_course m w used in
+      let v = run m w c.steps in
+      cond_both (is_through c.stop) c (course (c.steps ++ force_steps m v) c.used c.stop) (λ (c : Course O). ArePlain c.steps) (λ through. plain_check w used)
+      (λ stopped. plain_append c.steps (force_steps m v) (plain_check w used) (plain_force v))
+
+  module _ (keeps : KeepsSound m) (w : World O) (is : IsRunning m w) where
+    plain_taken : (steps : List (Step O)) → ArePlain steps → MayBeTaken m w steps
+    plain_taken steps are = may_be_taken m w steps keeps is (plain_upkeep steps are) (plain_allowed w steps are is.live is.alone)
+
+    pub checkpoint_taken : (used : ℕ) → MayBeTaken m w (checkpoint_course m w used).steps
+    checkpoint_taken used = plain_taken (checkpoint_course m w used).steps (plain_checkpoint w used)
+
+    pub closing_taken : (used : ℕ) → MayBeTaken m w (closing_course m w used).steps
+    closing_taken used = plain_taken (closing_course m w used).steps (plain_check w used)
+
+    -- after a force all is stable
+    forced_all : (run m w (force_steps m w)).forced ≡ length (run m w (force_steps m w)).history
+    unfolding run step
+    forced_all = elim (cases_Bool (waits m w)) [
+      | inl some ↦ subst (λ (l : List (Step O)). (run m w l).forced ≡ length (run m w l).history) (sym (cond-true (waits m w) (Block_gate ∷ []) [] some)) refl
+      | inr none ↦
+          let parts = or_parts (nat_lt w.forced (length w.history)) (nat_lt 0 (length w.pending)) none in
+          subst (λ (l : List (Step O)). (run m w l).forced ≡ length (run m w l).history) (sym (cond-false (waits m w) (Block_gate ∷ []) [] none))
+          (omega (arith, ltb-false w.forced (length w.history) parts.0, is.sound.forced))
+    ]
+
+    abbrev v : World O
+    v = run m w (force_steps m w)
+
+    forced_running : IsRunning m v
+    forced_running = running_after m w (force_steps m w) keeps is (plain_upkeep (force_steps m w) (plain_force w)) (plain_allowed w (force_steps m w) (plain_force w) is.live is.alone)
+
+    rewrite_allowed : (used : ℕ) → AreAllowed m v (rewrite_course m v used).steps
+    rewrite_allowed used =
+        cond_both (nat_lt log_limit (trimmed_file m v)) (course [] used (Full used (trimmed_file m v) log_limit)) (course (Header_gate (new_base m v) ∷ []) (trimmed m v) Through) (λ (c : Course O). AreAllowed m v c.steps) (λ full. tt)
+        (λ fits. (trim_allowed m v forced_running.sound forced_running.live forced_running.alone forced_all, tt))
+
+    rewrite_upkeep : (used : ℕ) → AreUpkeep (rewrite_course m v used).steps
+    rewrite_upkeep used =
+        cond_both (nat_lt log_limit (trimmed_file m v)) (course [] used (Full used (trimmed_file m v) log_limit)) (course (Header_gate (new_base m v) ∷ []) (trimmed m v) Through) (λ (c : Course O). AreUpkeep c.steps) (λ full. tt) (λ fits. (tt, tt))
+
+    pub trim_taken : (epoch used : ℕ) → MayBeTaken m w (trim_course m epoch w used).steps
+    trim_taken epoch used =
+        let rest = rewrite_course m v used in
+        cond_both (nat_le last_epoch epoch) (course [] used (Worn epoch)) (and_then m w (force_course m w used) (λ v used. rewrite_course m v used)) (λ (c : Course O). MayBeTaken m w c.steps)
+        (λ worn. plain_taken [] tt)
+        (λ early. may_be_taken m w (force_steps m w ++ rest.steps) keeps is (upkeep_append m (force_steps m w) rest.steps (plain_upkeep (force_steps m w) (plain_force w)) (rewrite_upkeep used))
+        (allowed-append m w (force_steps m w) rest.steps (plain_allowed w (force_steps m w) (plain_force w) is.live is.alone) (rewrite_allowed used)))

@@ -1,0 +1,12 @@
+mod Starts
+mod Checked
+mod Tails
+mod Base
+mod Then
+mod Rewritten
+mod Stays
+mod CheckLogs
+mod Closing
+mod Trims
+mod Kept
+mod Allowed

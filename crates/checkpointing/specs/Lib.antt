@@ -1,0 +1,5 @@
+pub mod Causes
+pub mod Courses
+pub mod Checks
+pub mod Left
+pub mod Worked
