@@ -1,0 +1,5 @@
+pub mod Opened
+pub mod Redone
+pub mod Restarts
+pub mod Judged
+pub mod Reopens

@@ -1,0 +1,175 @@
+-- What a redo of what was loaded makes of the world.
+use Rattle.std.proofs.Common.{◌≡◌, ◌∙◌, sym, ap, subst, ℕ, zero, suc, ◌++◌, ◌+◌, ◌-◌, ◌*◌, ◌≤◌, List, [], ◌∷◌, take, drop, refl, arith}
+use Rattle.std.proofs.lemmas.List.{drop_all}
+use Rattle.disk_model.specs.Disk.{Files, Disk, IsDisk, Runs, In, Any, Same, IsSettled}
+use Rattle.disk_model.specs.Moments.{started}
+use Rattle.disk_model.specs.declared.machine.FileNo.TheVariants.{Objects}
+use Rattle.oper_core.specs.Meaning.{Meaning}
+use Rattle.formats.specs.Log.{Header}
+use Rattle.formats.specs.Objects.{bounds_of}
+use Rattle.formats.specs.Records.{records_of, next_after, AreRecords}
+use Rattle.formats.specs.declared.params.Params.{Params}
+use Rattle.formats.specs.declared.record.Record.{Record}
+use Rattle.formats.specs.declared.record.Record.TheVariants.{Command, Identity, Check}
+use Rattle.log_records.specs.CodecLaws.{HasCodes}
+use Rattle.log_records.specs.RecordLaws.{next_rises}
+use Rattle.log_records.specs.RecordLog.{RecordLogView, HasRecords}
+use Rattle.log_records.specs.Uniqueness.{one_records}
+use Rattle.stable_objects.specs.SlotsView.{SlotsView, AreOf}
+use Rattle.install_order.specs.declared.entry.Entry.{Entry}
+use Rattle.explain_core.specs.KeptLog.{AreQuiet, IsQuiet, quiet_turn, turns_kept, kept_stable}
+use Rattle.explain_core.specs.Sound.{IsSound}
+use Rattle.explain_core.specs.TurnLaws.{turns_next, turns_none}
+use Rattle.explain_core.specs.Turns.{turn, turns}
+use Rattle.explain_core.specs.World.{World, Step, step, run, end_of}
+use Rattle.explain_core.specs.World.Step.{Begin, End, Append, Block_gate, Check as Take_check, Slot_gate, Removal, Header_gate, Replay, Crash}
+use Rattle.standing.specs.Crashed.{crashed-pending, crashed-stable}
+use Rattle.standing.specs.Members.{members_of, tables_in}
+use Rattle.standing.specs.Moments.{TakesSome, moments_none}
+use Rattle.standing.specs.Standing.{FilesShow}
+use Rattle.analysis_pass.specs.Analysis.{PlanView, plan_table, least_start}
+use Rattle.cache_manager.specs.Flushed.{AreEarly}
+use Rattle.cache_manager.specs.Laid.{Laid}
+use Rattle.cache_manager.specs.Parts.{AreInUse, Shows, ShowsLog, parts, store}
+use Rattle.cache_manager.specs.Stored.{keeps_beside}
+use Rattle.cache_manager.specs.Taking.{ArePartsInUse}
+use Rattle.redo_pass.specs.Redo.{IsDue, IsRedone, redone_world}
+use Rattle.redo_pass.specs.Rising.{Rise}
+use Rattle.redo_pass.specs.Causes as again
+use Rattle.redo_pass.specs.declared.redo_err.RedoErr.{RedoErr}
+use Rattle.redo_pass.specs.declared.redo_err.RedoErr.TheVariants as of_redo
+use Rattle.restart.specs.Causes.{FailsBy, from_redo}
+use Rattle.restart.specs.Redoing.{IsToRedo}
+
+-- records in their places rise up to the number behind them
+pub rise_placed : {O : Type 0} (m : Meaning O) (base low next end : ℕ) (rs : List (Record O)) → low ≤ next → next_after next rs ≤ end → AreRecords m base next rs → Rise low end rs
+rise_placed m base low next end [] le within are = tt
+rise_placed m base low next end (Command number op ∷ rs) le within are =
+    let here = are.1 in
+    let rest = next_rises m (next + 1) rs in
+    (omega (arith, le, here.0), omega (arith, here.0, rest, within), rise_placed m base (number + 1) (next + 1) end rs (omega (arith, here.0)) within are.2)
+rise_placed m base low next end (Identity number x value ∷ rs) le within are =
+    let here = are.1 in
+    let rest = next_rises m (next + 1) rs in
+    (omega (arith, le, here.0), omega (arith, here.0, rest, within), rise_placed m base (number + 1) (next + 1) end rs (omega (arith, here.0)) within are.2)
+rise_placed m base low next end (Check table ∷ rs) le within are = rise_placed m base low next end rs le within are.2
+
+-- what is loaded has them below the log's next number
+pub ready_rises : {O : Type 0} (m : Meaning O) (b : _) (log : RecordLogView) (records : List (Record O)) (end : ℕ) → HasRecords m b log records → log.next ≤ end → Rise 0 end records
+ready_rises m b log records end has within = rise_placed m log.log.header.base 0 log.log.header.base end records (omega arith) (omega (arith, within, has.next_is)) has.placed
+
+-- what is stable of a check that waits, and of the commands before the base, no quiet step changes
+record IsRestKept {O : Type 0} (w v : World O) : Type 0 where
+  pending : v.pending ≡ w.pending
+  commands_before : v.commands_before ≡ w.commands_before
+
+step_rest : {O : Type 0} (m : Meaning O) (w : World O) (s : Step O) → IsQuiet s → IsRestKept w (step m w s)
+unfolding step
+step_rest m w Begin q = absurd q
+step_rest m w End q = absurd q
+step_rest m w (Append member) q = absurd q
+step_rest m w Block_gate q = absurd q
+step_rest m w Take_check q = absurd q
+step_rest m w (Slot_gate node x) q = record { pending = refl; commands_before = refl }
+step_rest m w (Removal node) q = record { pending = refl; commands_before = refl }
+step_rest m w (Header_gate base) q = absurd q
+step_rest m w Replay q = record { pending = refl; commands_before = refl }
+step_rest m w Crash q = absurd q
+
+run_rest : {O : Type 0} (m : Meaning O) (w : World O) (steps : List (Step O)) → AreQuiet steps → IsRestKept w (run m w steps)
+unfolding run
+run_rest m w [] q = record { pending = refl; commands_before = refl }
+run_rest m w (s ∷ steps) q =
+    let first = step_rest m w s q.0 in
+    let then = run_rest m (step m w s) steps q.1 in
+    record { pending = then.pending ∙ first.pending; commands_before = then.commands_before ∙ first.commands_before }
+
+quiet_append : {O : Type 0} (xs ys : List (Step O)) → AreQuiet xs → AreQuiet ys → AreQuiet (xs ++ ys)
+quiet_append [] ys a b = b
+quiet_append (x ∷ xs) ys a b = (a.0, quiet_append xs ys a.1 b)
+
+quiet_turns : {O : Type 0} (m : Meaning O) (limit n : ℕ) (w : World O) → AreQuiet (turns m limit n w)
+quiet_turns {O} m limit zero w = subst (λ (l : List (Step O)). AreQuiet l) (sym (turns_none m limit w)) tt
+quiet_turns {O} m limit (suc n) w =
+    let first = turn m limit w in
+    subst (λ (l : List (Step O)). AreQuiet l) (sym (turns_next m limit n w)) (quiet_append first (turns m limit n (run m w first)) (quiet_turn m limit w) (quiet_turns m limit n (run m w first)))
+
+-- no step was taken yet
+pub moments_here : {O : Type 0} (m : Meaning O) (p : Params) (w : World O) (d : Disk) (steps : List (Step O)) → IsDisk d → d.tells_moments → IsSettled d → FilesShow m p d.reads w → TakesSome m p d d w steps
+moments_here m p w d steps disk told settled shows = moments_none m p d d w steps (started d _ (λ c s left. record {
+  silent = disk.said_now told c s left;
+  holds = subst (λ (f : Files). FilesShow m p f w) (λ i file. sym (settled file told c s left) i) shows;
+}))
+
+module _ {O : Type 0} (m : Meaning O) (codes : HasCodes m) (p : Params) (d : Disk) (objects : Laid) (log : RecordLogView) (records : List (Record O)) (w : World O) (to : IsToRedo m p d objects log records w) where
+  -- the log and its records are those in which the world was found
+  same_log : (log.log.active ≡ to.found.shows.active) × (log.log.header ≡ to.found.shows.header) × (records_of to.keeps.groups ≡ records_of to.found.shows.groups)
+  same_log = one_records m codes log.log.active to.found.shows.active log.log.header to.found.shows.header to.keeps.groups to.found.shows.groups d.reads
+      (record { in_force = to.keeps.in_force; log = to.keeps.file }) to.found.shows.log
+
+  pub same_records : records ≡ records_of to.found.shows.groups
+  same_records = sym to.keeps.stable_are ∙ same_log.2
+
+  pub same_base : log.log.header.base ≡ to.found.shows.header.base
+  same_base = ap (λ (h : Header). h.base) same_log.1
+
+  -- its redo is due, by the plan of these records
+  pub is_due : (plan : PlanView) (base : ℕ) → base ≡ log.log.header.base → plan.table ≡ plan_table base records → plan.start ≡ least_start plan.table.next plan.table.starts
+      → ((slots : SlotsView) (plan : PlanView) → slots.params ≡ p → AreOf slots (d.reads Objects) → plan.table ≡ plan_table to.found.shows.header.base (records_of to.found.shows.groups)
+      → plan.start ≡ least_start plan.table.next plan.table.starts → IsDue m p d.reads slots plan (records_of to.found.shows.groups) w)
+      → IsDue m p d.reads objects.slots plan records w
+  is_due plan base here table start due =
+      subst (λ (l : List (Record O)). IsDue m p d.reads objects.slots plan l w) (sym same_records)
+      (due objects.slots plan to.params to.of_file (table ∙ (λ i. plan_table ((here ∙ same_base) i) (same_records i))) start)
+
+  -- After the redo parts and files show its world.
+  module _ (new : Disk) (limit : ℕ) (after : Laid) (entries : List Entry) (runs : Runs (In Objects Any) Same d new) (settled : IsSettled new) where
+    abbrev later : World O
+    later = redone_world m limit w
+
+    redone_log : d.tells_files → ShowsLog m new log later
+    redone_log told =
+        let n = 2 * (end_of w - w.next) in
+        let shows = to.found.shows in
+        let kept = turns_kept m limit n w in
+        let rest = run_rest m w (turns m limit n w) (quiet_turns m limit n w) in
+        let stable = crashed-stable m w to.found.crashed to.found.sound in
+        let all = kept_stable w later kept stable in
+        record {
+          stable = records;
+          pending = [];
+          keeps = keeps_beside m p d new log records [] (runs.reads told).others settled to.keeps;
+          base = same_base ∙ shows.base ∙ sym kept.base;
+          commands_before = ap (λ (h : Header). h.commands) same_log.1 ∙ shows.commands_before ∙ sym rest.commands_before;
+          forced = ap (λ (l : List (Record O)). members_of l) same_records ∙ shows.members
+              ∙ sym (λ i. drop (kept.base i - 1) (take (kept.forced i) (kept.history i)));
+          waiting = sym (drop_all later.forced later.history (omega (arith, all.0)));
+          tables = ap (λ (l : List (Record O)). tables_in l) same_records ∙ shows.tables ∙ sym kept.tables;
+          pending_tables = sym (rest.pending ∙ crashed-pending m w to.found.crashed);
+        }
+
+    pub redone_shows : d.tells_files → IsSound m later → IsRedone m p new.reads (store after entries) limit w → Shows m p new (parts log after entries) later
+    redone_shows told sound redone =
+        let n = 2 * (end_of w - w.next) in
+        let kept = turns_kept m limit n w in
+        let stable = crashed-stable m w to.found.crashed to.found.sound in
+        record {
+          told = runs.time.files_told.0 told;
+          running = record { sound = sound; live = redone.live; alone = (kept_stable w later kept stable).1 };
+          bounds = to.bounds;
+          store = redone.store_shows;
+          log = redone_log told;
+        }
+
+-- what is in use after a redo is so for the log
+pub parts_in_use : {O : Type 0} (m : Meaning O) (p : Params) (log : RecordLogView) (records : List (Record O)) (objects : Laid) (entries : List Entry) → HasRecords m (bounds_of p) log records
+    → AreInUse p log.next (store objects entries) → AreEarly log.next objects → ArePartsInUse (parts log objects entries)
+parts_in_use m p log records objects entries has used early =
+    let same : p ≡ objects.slots.params = sym used.params in
+    record { bounds = has.bounds ∙ ap (λ (q : Params). bounds_of q) same; store = subst (λ (q : Params). AreInUse q log.next (store objects entries)) same used; early = early }
+
+-- why a redo fails
+pub redo_fails : (rises : Type 0) (d : Disk) (slots : SlotsView) (e : RedoErr) → again.FailsBy rises (again.IsNotOf d slots) e → FailsBy rises ⊥ (λ file place. d.tells_files → AreOf slots (d.reads Objects) → ⊥) (from_redo e)
+redo_fails rises d slots of_redo.DiskFault fails = fails
+redo_fails rises d slots (of_redo.Damaged file place) fails = fails.1
+redo_fails rises d slots of_redo.Memory fails = tt

@@ -1,0 +1,17 @@
+-- What a restart does, as a function of the world that the files show and of the log's length.
+use Rattle.std.specs.Prelude.{ℕ, ◌∷◌}
+use Rattle.oper_core.specs.Meaning.{Meaning}
+use Rattle.explain_core.specs.World.{World, step}
+use Rattle.explain_core.specs.World.Step.{Crash}
+use Rattle.cache_manager.specs.Courses.{Course, course, and_then}
+use Rattle.cache_manager.specs.Courses.Stop.{Through}
+use Rattle.checkpointing.specs.Courses.{closing_course}
+use Rattle.redo_pass.specs.Redo.{redo_steps}
+
+-- a crash, and all turns of the redo
+abbrev pub redo_course : {O : Type 0} → Meaning O → ℕ → World O → ℕ → Course O
+redo_course m limit w used = course (Crash ∷ redo_steps m limit (step m w Crash)) used Through
+
+-- and behind them a check, where the log has room for one
+abbrev pub restart_course : {O : Type 0} → Meaning O → ℕ → World O → ℕ → Course O
+restart_course m limit w used = and_then m w (redo_course m limit w used) (λ v used. closing_course m v used)

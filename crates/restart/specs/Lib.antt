@@ -1,0 +1,9 @@
+pub mod WellFormed
+pub mod DamageLaws
+pub mod Causes
+pub mod Courses
+pub mod Starts
+pub mod Loading
+pub mod Redoing
+pub mod Opening
+pub mod Reopened

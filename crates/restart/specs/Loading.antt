@@ -1,0 +1,33 @@
+-- What is read of the files before anything is done again.
+use Rattle.std.specs.Prelude.{◌≡◌, ◌<◌, ℕ, None, List, []}
+use Rattle.disk_model.specs.Disk.{Files, Disk, IsSettled}
+use Rattle.disk_model.specs.declared.machine.FileNo.TheVariants.{Objects}
+use Rattle.oper_core.specs.Meaning.{Meaning}
+use Rattle.oper_core.specs.declared.bounds.Bounds.{Bounds}
+use Rattle.formats.specs.Bytes.{IsOpenAt}
+use Rattle.formats.specs.Objects.{bounds_of, slot_place, identifier_at}
+use Rattle.formats.specs.Records.{HoldsRecordLog, records_of, next_after}
+use Rattle.formats.specs.declared.record.Record.{Record}
+use Rattle.log_records.specs.RecordLog.{RecordLogView, HasRecords, Keeps}
+use Rattle.dirty_cache.specs.Contents.{held}
+use Rattle.cache_manager.specs.Flushed.{AreEarly}
+use Rattle.cache_manager.specs.Laid.{Laid, IsLaidOn}
+
+-- On every machine: it is settled, no object is cached, the log, which is one of the store, has these records, and the
+-- identifiers of the slots are below its next number.
+pub record IsReady {O : Type 0} (meaning : Bounds → Meaning O) (d : Disk) (objects : Laid) (log : RecordLogView) (records : List (Record O)) : Type 0 where
+  pub settled : IsSettled d
+  pub empty : (x : ℕ) → held objects.cache x ≡ None
+  pub has : HasRecords (meaning (bounds_of objects.slots.params)) (bounds_of objects.slots.params) log records
+  pub early : AreEarly log.next objects
+
+-- Where the machine reports its files: the objects are those of the slots, the records are all those of the log in force,
+-- and no open slot has the number of a later one.
+pub record IsRead {O : Type 0} (meaning : Bounds → Meaning O) (files : Files) (d : Disk) (objects : Laid) (log : RecordLogView) (records : List (Record O)) : Type 0 where
+  pub laid : IsLaidOn objects (files Objects)
+  pub groups : List (List (Record O))
+  pub file : HoldsRecordLog (meaning (bounds_of objects.slots.params)) log.log.active log.log.header groups files
+  pub records_are : records ≡ records_of groups
+  pub none_late : (x s : ℕ) → x < objects.slots.params.objects → s < 2 → IsOpenAt (slot_place objects.slots.params.cap x s) (files Objects)
+      → identifier_at (slot_place objects.slots.params.cap x s) (files Objects) < next_after log.log.header.base (records_of groups)
+  pub keeps : Keeps (meaning (bounds_of objects.slots.params)) d log records []

@@ -1,0 +1,23 @@
+-- What is loaded of a world just after a crash.
+use Rattle.std.specs.Prelude.{◌≡◌, List, []}
+use Rattle.disk_model.specs.Disk.{Disk}
+use Rattle.disk_model.specs.declared.machine.FileNo.TheVariants.{Objects}
+use Rattle.oper_core.specs.Meaning.{Meaning}
+use Rattle.formats.specs.Objects.{bounds_of}
+use Rattle.formats.specs.declared.params.Params.{Params}
+use Rattle.formats.specs.declared.record.Record.{Record}
+use Rattle.stable_objects.specs.SlotsView.{AreOf}
+use Rattle.log_records.specs.RecordLog.{RecordLogView, Keeps}
+use Rattle.explain_core.specs.History.{commands_of}
+use Rattle.explain_core.specs.World.{World}
+use Rattle.standing.specs.Standing.{IsFound}
+use Rattle.cache_manager.specs.Laid.{Laid}
+
+-- The world is the one that a restart finds in the files. The slots are those of the objects file, and the log is that of
+-- the files, with these records; nothing waits in it.
+pub record IsToRedo {O : Type 0} (m : Meaning O) (p : Params) (d : Disk) (objects : Laid) (log : RecordLogView) (records : List (Record O)) (w : World O) : Type 0 where
+  pub found : IsFound m p d.reads (commands_of w.history) w
+  pub params : objects.slots.params ≡ p
+  pub bounds : log.bounds ≡ bounds_of p
+  pub of_file : AreOf objects.slots (d.reads Objects)
+  pub keeps : Keeps m d log records []

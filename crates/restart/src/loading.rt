@@ -1,0 +1,57 @@
+// The files of a store are read.
+ghost use Rattle.std.specs.Prelude.{◌≡◌, ◌<◌, ℕ, IfOk, IfErr, IsErrOf};
+ghost use Rattle.disk_model.specs.Disk.{Rises, Stays};
+ghost use Rattle.disk_model.specs.declared.machine.FileNo.TheVariants.{Objects as ObjectsFile};
+ghost use Rattle.formats.specs.Bytes.{IsClosedAt, IsOpenAt};
+ghost use Rattle.formats.specs.FirstFault.{IsDamaged};
+ghost use Rattle.restart.specs.Causes.{FailsBy, IsNoDamage};
+ghost use Rattle.restart.specs.Loading.{IsRead, IsReady};
+ghost use Rattle.restart.specs.WellFormed.{IsWellFormed};
+
+use crate::RestartErr;
+use cache_manager::Objects;
+use disk_model::{FileNo, Machine, settle};
+use formats::Record;
+use log_records::RecordLog;
+use oper_core::Oper;
+use std::alloc::Global;
+
+// What the files hold: the slots, of which no object is cached yet, and the log with its records.
+#[derive(Drop)]
+pub(crate) struct Loaded<O: Oper> {
+    pub(crate) objects: Objects,
+    pub(crate) log: RecordLog<O>,
+    pub(crate) records: Vec<Record<O>>,
+}
+
+// Syncs the files, and reads them.
+pub(crate) fn load<O: Oper, M: Machine>(
+    alloc: Global,
+    machine: &mut M,
+    clean: usize,
+) -> Result<Loaded<O>, RestartErr>
+    requires some { 0 < clean }
+    ensures kept { Stays (M.disk machine.old) (M.disk machine.new) }
+    ensures ready { IfOk result (λ it. IsReady O.meaning (M.disk machine.new) it.objects it.log it.records.items) }
+    ensures read { (M.disk machine.old).tells_files → IfOk result (λ it. IsRead O.meaning (M.disk machine.old).reads (M.disk machine.new) it.objects it.log it.records.items) }
+    ensures whole { (M.disk machine.old).tells_files → IsWellFormed O.meaning (M.disk machine.old).reads → IfErr result IsNoDamage }
+    ensures cause { IfErr result (FailsBy (Rises (M.disk machine.old).disk_faults (M.disk machine.new).disk_faults)
+        ((M.disk machine.old).tells_files → IsClosedAt 0 ((M.disk machine.old).reads ObjectsFile))
+        (λ file place. (M.disk machine.old).tells_files → IsDamaged O.meaning (M.disk machine.old).reads file place)) }
+    ensures memory { (M.disk machine.old).tells_files → IsErrOf result RestartErr.Memory → IsOpenAt 0 ((M.disk machine.old).reads ObjectsFile) }
+{
+    settle(machine)?;
+    let objects = Objects::load(alloc, machine, clean)?;
+    let (log, records) = RecordLog::<O>::load_records(alloc, machine, objects.bounds())?;
+    if let Some(place) = objects.first_late(log.next()) {
+        return Err(RestartErr::Damaged {
+            file: FileNo::Objects,
+            place,
+        });
+    }
+    Ok(Loaded {
+        objects,
+        log,
+        records,
+    })
+}
