@@ -1,5 +1,5 @@
 -- What the laying out of a store leaves at each moment.
-use Rattle.std.proofs.Common.{OnOk, Result, Ok, Err, is_err, false, ◌≡◌, inl, inr, ℕ, List, [], ◌∷◌, length, get_or, take, drop, refl, sym, ◌∙◌, ap, subst, arith, length-take}
+use Rattle.std.proofs.Common.{OnOk, Result, Ok, Err, is_err, false, ◌≡◌, inl, inr, ℕ, List, [], ◌∷◌, length, get_or, take, drop, sym, ◌∙◌, ap, subst, arith, length-take}
 use Rattle.std.specs.Prelude.{codes}
 use Rattle.std.proofs.lemmas.List.{get_or-take}
 use Rattle.std.proofs.lemmas.Bool.{cases_eq}
@@ -16,7 +16,7 @@ use Rattle.log_frames.specs.Creating.{LogsAlone, IsNewLog}
 use Rattle.log_frames.specs.Laws.{log_stays}
 use Rattle.stable_objects.specs.Making.{IsClosedFile, IsNewFile, IsClosedOrWhole}
 use Rattle.store_engine.specs.Engine.{InEachImage, IsNew}
-use Rattle.store_engine.specs.Starts.{OrAtStart, then_leaves}
+use Rattle.restart.specs.Starts.{OrAtStart, then_leaves}
 use Rattle.store_engine.specs.Store.{Stands}
 
 -- no store begins behind a closed gate
@@ -53,24 +53,11 @@ pub on_ok : {T E : Type 0} (r : Result T E) (P : Type 0) → is_err r ≡ false 
 on_ok (Ok x) P fine here = here
 on_ok (Err e) P fine here = cc
 
-module _ {O : Type 0} (meaning : Bounds → Meaning O) (p : Params) where
-  -- files with these parts are a store without commands
-  pub stands_new : (files : Files) → IsNewFile p (files Objects) → IsNewLog files → Stands meaning p files []
-  stands_new files objects log = record {
-    objects = objects.whole;
-    closed = objects.closed;
-    log = record {
-      active = _;
-      header = new_header;
-      groups = [];
-      log = record { in_force = log.in_force; log = record { log = log.log; placed = tt } };
-      base = refl;
-      none_before = refl;
-      only = tt;
-      commands_are = refl;
-    };
-  }
+-- the files of a new store stand for no commands
+abbrev pub NewStand : {O : Type 0} → (Bounds → Meaning O) → Params → Type 0
+NewStand meaning p = (files : Files) → IsNewFile p (files Objects) → IsNewLog files → Stands meaning p files []
 
+module _ {O : Type 0} (meaning : Bounds → Meaning O) (p : Params) (stands_new : NewStand meaning p) where
   -- so far no store is there, or one without commands
   abbrev pub NewSoFar : Disk → Files → List ℕ → Type 0
   NewSoFar old files said = IsNew meaning p files × (said ≡ old.said)

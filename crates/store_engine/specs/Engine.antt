@@ -1,168 +1,156 @@
--- What the engine and its files stand for.
-use Rattle.std.specs.Prelude.{◌≡◌, ◌≢◌, ◌⊎◌, ℕ, ◌+◌, ◌^◌, ◌≤◌, ◌<◌, ⊤, List, length, take, [], ◌∷◌, ◌++◌, Some, None, IsSome, Result, Ok, Err, Bool, true, false, if◌then◌else◌}
-use Rattle.disk_model.specs.Disk.{Files, Disk}
+-- What the engine and its files stand for, and what its calls make of them.
+use Rattle.std.specs.Prelude.{◌≡◌, ◌⊎◌, ◌↔◌, ℕ, ◌+◌, ◌-◌, ◌^◌, ◌≤◌, ◌<◌, ◌==◌, ◌&&◌, ⊤, Bool, true, false, List, length, take, [], Some, None, IsSome, Result, Ok, Err}
+use Rattle.disk_model.specs.Disk.{Files, Disk, LeavesOnly, Passes, Rises}
+use Rattle.disk_model.specs.declared.machine.FileNo.{FileNo}
 use Rattle.disk_model.specs.declared.machine.FileNo.TheVariants.{Objects}
-use Rattle.oper_core.specs.Meaning.{Meaning, FitsReads}
+use Rattle.oper_core.specs.Meaning.{Meaning, IsInGrammar}
 use Rattle.oper_core.specs.declared.bounds.Bounds.{Bounds}
-use Rattle.formats.specs.Objects.{bounds_of, AreSlotsClosed}
-use Rattle.formats.specs.Records.{record_code, commands_of, AreCommands}
-use Rattle.formats.specs.declared.record.Record.{Record}
-use Rattle.formats.specs.declared.record.Record.TheVariants.{Command}
 use Rattle.formats.specs.Image.{BeginsStore, EndsAt, NextIs}
+use Rattle.formats.specs.InForce.{HasHeader, IsInForce}
+use Rattle.formats.specs.Log.{Header}
 use Rattle.formats.specs.declared.params.Params.{Params}
-use Rattle.log_frames.specs.LogView.{used_of, growth_of}
-use Rattle.log_records.specs.RecordLog.{RecordLogView, Keeps}
+use Rattle.log_frames.specs.LogView.{used_of}
+use Rattle.log_records.specs.RecordLog.{RecordLogView}
 use Rattle.dirty_cache.specs.Contents.{held}
-use Rattle.cache_manager.specs.Laid.{Laid, IsLaidOn, values_in, KeepsCells, with_entries}
-use Rattle.store_engine.specs.declared.exec_err.ExecErr.{ExecErr}
-use Rattle.store_engine.specs.declared.exec_err.ExecErr.TheVariants.{Refused, LogFull, LsnEnd, DiskFault, Damaged as Broken, Memory}
-use Rattle.store_engine.specs.declared.restart_err.RestartErr.{RestartErr}
-use Rattle.store_engine.specs.declared.restart_err.RestartErr.TheVariants.{Damaged}
+use Rattle.install_order.specs.Computed.{least_below}
+use Rattle.install_order.specs.declared.entry.Entry.{Entry}
+use Rattle.explain_core.specs.History.{commands_of}
+use Rattle.explain_core.specs.Turns.{count_below, dirty_in}
+use Rattle.explain_core.specs.World.{World, end_of, node_named}
+use Rattle.cache_manager.specs.Courses.{Stop}
+use Rattle.cache_manager.specs.Courses.Stop.{Through, Full, At_end, Worn}
+use Rattle.cache_manager.specs.Kept as of_parts
+use Rattle.cache_manager.specs.Laid.{Laid, values_in}
+use Rattle.cache_manager.specs.Parts.{Parts, Shows, parts}
+use Rattle.cache_manager.specs.Taking.{ArePartsInUse, Ending}
+use Rattle.cache_manager.specs.Taking.Ending.{Done, Stopped, Short, Failed}
+use Rattle.execution.specs.declared.exec_err.ExecErr.{ExecErr}
+use Rattle.execution.specs.declared.exec_err.ExecErr.TheVariants.{Refused, LogFull, LsnEnd, DiskFault, Damaged, Memory}
+use Rattle.restart.specs.declared.restart_err.RestartErr.{RestartErr}
 use Rattle.store_engine.specs.Store.{meaning_in, state_of, refusal_after, record_length, Stands}
+use Rattle.store_engine.specs.declared.stat.Stat.{Stat}
 
 -- an engine, as contracts see it
 pub record EngineView : Type 0 where
-  -- its objects: the cache over the slots
-  pub objects : Laid
-  -- so many commands were accepted since the store was made
-  pub accepted : ℕ
-  -- so many of them are stable
-  pub forced : ℕ
-  -- their records
-  pub log : RecordLogView
+  -- its log, its objects, and the entries of its write graph
+  pub parts : Parts
+  -- so many identity writes were logged since the restart
+  pub identities : ℕ
   -- the disk failed
   pub broken : Bool
 
 -- the engine that these parts make
-abbrev pub view_of : Laid → RecordLogView → Bool → EngineView
-view_of objects log broken = record { objects = objects; accepted = log.accepted; forced = log.forced; log = log; broken = broken }
-
--- an object is cached
-abbrev pub IsCached : EngineView → ℕ → Type 0
-IsCached engine x = IsSome (held engine.objects.cache x)
+abbrev pub view_of : RecordLogView → Laid → List Entry → ℕ → Bool → EngineView
+view_of log objects entries identities broken = record { parts = parts log objects entries; identities = identities; broken = broken }
 
 -- the numbers of its store
 abbrev pub params_of : EngineView → Params
-params_of engine = engine.objects.slots.params
+params_of engine = engine.parts.store.objects.slots.params
 
--- how long a log is, what waits for a force counted, and whether anything waits
-pub record LogLength : Type 0 where
-  pub used : ℕ
-  pub waits : Bool
+-- the length of its log, what waits for a force counted
+abbrev pub used_in : EngineView → ℕ
+used_in engine = used_of engine.parts.log.log
 
-abbrev pub something_waits : List ℕ → Bool
-something_waits [] = false
-something_waits (byte ∷ bytes) = true
+-- so many commands were accepted since the store was made, and so many of them are stable
+abbrev pub accepted_in : EngineView → ℕ
+accepted_in engine = engine.parts.log.accepted
 
--- the length of an engine's log
-abbrev pub log_length : EngineView → LogLength
-log_length engine = record { used = used_of engine.log.log; waits = something_waits engine.log.log.pending }
+abbrev pub forced_in : EngineView → ℕ
+forced_in engine = engine.parts.log.forced
 
--- how long it is with a record of n bytes more: the first that waits begins a block, whose head has 5 bytes
-abbrev pub grown : LogLength → ℕ → ℕ
-grown log n = log.used + (if log.waits then n else n + 5)
-
--- a force makes it no longer
-abbrev pub forced_length : LogLength → LogLength
-forced_length log = record { used = log.used; waits = false }
-
--- what holds of the parts of every engine: the log is one of its store
-abbrev pub AreParts : Laid → RecordLogView → Type 0
-AreParts objects log = log.bounds ≡ bounds_of objects.slots.params
+-- an object is cached
+abbrev pub IsCached : EngineView → ℕ → Type 0
+IsCached engine x = IsSome (held engine.parts.store.objects.cache x)
 
 -- where the machine reports its files, the engine's objects are laid on the objects file, and its log is another one
 abbrev pub IsAttached : Disk → EngineView → Type 0
-IsAttached d engine = d.tells_files → IsLaidOn engine.objects (d.reads Objects) × (engine.log.log.active ≢ Objects)
+IsAttached d engine = of_parts.IsAttached d engine.parts
 
--- the engine is as it was, but for what is cached beside the dirty objects and for room: each object has the pair that it had
-pub record IsSameMap (d : Disk) (before engine : EngineView) : Type 0 where
-  pub slots : engine.objects.slots ≡ before.objects.slots
-  pub accepted : engine.accepted ≡ before.accepted
-  pub forced : engine.forced ≡ before.forced
-  pub log : engine.log ≡ record before.log { log = record before.log.log { room = engine.log.log.room } }
-  pub broken : engine.broken ≡ before.broken
-  pub cells : d.tells_files → IsLaidOn before.objects (d.reads Objects) → KeepsCells (d.reads Objects) before.objects engine.objects × IsLaidOn engine.objects (d.reads Objects)
-
--- the log has room for a record of n bytes, and a number is left for it
-pub record HasPlace (engine : EngineView) (n : ℕ) : Type 0 where
-  pub room : used_of engine.log.log + growth_of engine.log.log.pending n ≤ (params_of engine).limit
-  pub number : engine.log.next < 2 ^ 62
-
--- why a record of n bytes gets no place: no room in the log, or else no number; the force that comes then may fail
-abbrev pub LacksPlace : EngineView → ℕ → ExecErr → Type 0
-LacksPlace engine n (LogFull used need limit) =
-    ((params_of engine).limit < used_of engine.log.log + growth_of engine.log.log.pending n) × (used ≡ used_of engine.log.log) × (need ≡ n + 5) × (limit ≡ (params_of engine).limit)
-LacksPlace engine n (LsnEnd number) = (used_of engine.log.log + growth_of engine.log.log.pending n ≤ (params_of engine).limit) × (2 ^ 62 ≤ engine.log.next) × (number ≡ engine.log.next)
-LacksPlace engine n DiskFault = ((params_of engine).limit < used_of engine.log.log + growth_of engine.log.log.pending n) ⊎ (2 ^ 62 ≤ engine.log.next)
-LacksPlace engine n (Refused refusal) = ⊥
-LacksPlace engine n (Broken file place) = ⊥
-LacksPlace engine n Memory = ⊥
-
--- a log that is as it was, but for room
-abbrev pub IsSameLog : RecordLogView → RecordLogView → Type 0
-IsSameLog before log = log ≡ record before { log = record before.log { room = log.log.room } }
-
--- a log of which all that waited is forced
-abbrev pub IsForcedLog : RecordLogView → RecordLogView → Type 0
-IsForcedLog before log = log ≡ record before { log = record before.log { end = used_of before.log; pending = []; room = log.log.room }; forced = before.accepted }
-
--- the log after a command that was not done: without a place for its record all that waited is forced, else it is as it was
-abbrev pub LogWithout : RecordLogView → RecordLogView → ExecErr → Type 0
-LogWithout before log (LogFull used need limit) = IsForcedLog before log
-LogWithout before log (LsnEnd number) = IsForcedLog before log
-LogWithout before log e = IsSameLog before log
+-- what holds of the parts of an engine that is not broken: they are in use, and no more identity writes were logged than
+-- there are numbers below the next
+pub record IsUsable (it : Parts) (identities : ℕ) : Type 0 where
+  pub in_use : ArePartsInUse it
+  pub counted : identities ≤ it.log.next
 
 -- this is true of the files and of whatever a crash now leaves of them
 abbrev pub InEachImage : Disk → (Files → Type 0) → Type 0
 InEachImage d P = P d.reads × (d.tells_moments → (files : Files) (said : List ℕ) → d.left_since d.clock files said → P files)
 
--- the files do not break their format
-abbrev pub IsNoDamage : RestartErr → Type 0
-IsNoDamage (Damaged file place) = ⊥
-IsNoDamage error = ⊤
+-- the disk failed
+abbrev pub IsFailed : Ending → Type 0
+IsFailed Done = ⊥
+IsFailed (Stopped stop) = ⊥
+IsFailed Short = ⊥
+IsFailed Failed = ⊤
+
+-- how a call ended that fails with the disk alone
+abbrev pub ending_of_force : {T E : Type 0} → Result T E → Ending
+ending_of_force (Ok value) = Done
+ending_of_force (Err e) = Failed
+
+-- what an opening answers, without the counts of the engine
+abbrev pub opened : Result EngineView RestartErr → Result Parts RestartErr
+opened (Ok engine) = Ok engine.parts
+opened (Err cause) = Err cause
+
+-- Why a call was stopped, by the log that it leaves, in which nothing waits: a record has no room behind it, or no number
+-- is left for a record, or no epoch for a log.
+abbrev pub StopsAt : RecordLogView → Stop → Type 0
+StopsAt log Through = ⊥
+StopsAt log (Full used need limit) = (used ≡ used_of log.log) × (log.log.pending ≡ []) × (limit < used + need)
+StopsAt log (At_end number) = (number ≡ log.next) × (log.log.pending ≡ []) × (number ≡ 2 ^ 62)
+StopsAt log (Worn epoch) = (epoch ≡ log.log.header.epoch) × (epoch ≡ 2 ^ 62)
+
+-- What holds of each call on every machine: time passes, nothing is said, the store's numbers stay; unless the disk failed
+-- the engine stays attached; so many identity writes are logged; a call that was stopped says the numbers of the log that
+-- it leaves; the engine is broken exactly if the disk failed, and then the disk counted that.
+pub record IsCall (old new : Disk) (before after : EngineView) (logged : ℕ) (ending : Ending) : Type 0 where
+  pub time : Passes old new
+  pub quiet : old.tells_files → new.said ≡ old.said
+  pub params : params_of after ≡ params_of before
+  pub attached : IsFailed ending ⊎ (IsAttached old before → IsAttached new after)
+  pub identities : after.identities ≡ before.identities + logged
+  pub stopped : (stop : Stop) → ending ≡ Stopped stop → StopsAt after.parts.log stop
+  pub broken : (after.broken ≡ true) ↔ IsFailed ending
+  pub fault : IsFailed ending → Rises old.disk_faults new.disk_faults
+
+-- so many identity writes are logged in a call that logs nothing else with a number
+abbrev pub logged_since : EngineView → EngineView → ℕ
+logged_since before after = after.parts.log.next - before.parts.log.next
+
+-- the epoch of the log in force is this one
+pub record EpochIs (files : Files) (epoch : ℕ) : Type 0 where
+  pub active : FileNo
+  pub header : Header
+  pub in_force : IsInForce active header.epoch files
+  pub has : HasHeader header (files active)
+  pub here : epoch ≡ header.epoch
 
 module _ {O : Type 0} (meaning : Bounds → Meaning O) where
-  -- the machine reports its files, and what reads give stands for the commands
-  pub record Opens (p : Params) (d : Disk) (commands : List O) : Type 0 where
-    pub told : d.tells_files
-    pub stands : Stands meaning p d.reads commands
+  -- engine and files show the world
+  pub record ShowsIn (p : Params) (d : Disk) (engine : EngineView) (w : World O) : Type 0 where
+    pub unbroken : engine.broken ≡ false
+    pub shows : Shows (meaning_in meaning p) p d engine.parts w
+
+  -- Engine and files stand for the commands: they show a sound world whose history has these commands.
+  pub record Holds (p : Params) (d : Disk) (engine : EngineView) (commands : List O) : Type 0 where
+    pub world : World O
+    pub shows : ShowsIn p d engine world
+    pub commands_are : commands_of world.history ≡ commands
 
   -- the cache, laid over the slots, is the state after the commands
   abbrev pub IsMapOf : Params → Disk → EngineView → List O → Type 0
-  IsMapOf p d engine commands = (x : ℕ) → x < p.objects → values_in engine.objects (d.reads Objects) x ≡ state_of meaning p commands x
+  IsMapOf p d engine commands = (x : ℕ) → x < p.objects → values_in engine.parts.store.objects (d.reads Objects) x ≡ state_of meaning p commands x
 
-  -- The records of the commands are in the log, and no others, those that are stable in the file in force; the objects file is that of
-  -- a store, and the map has the values after all commands.
-  pub record Carries (p : Params) (d : Disk) (engine : EngineView) (commands : List O) : Type 0 where
-    pub told : d.tells_files
-    pub params : params_of engine ≡ p
-    pub stable : List (Record O)
-    pub pending : List (Record O)
-    pub log : Keeps (meaning_in meaning p) d engine.log stable pending
-    pub only : AreCommands (stable ++ pending)
-    pub commands_are : commands ≡ commands_of (stable ++ pending)
-    pub base : engine.log.log.header.base ≡ 1
-    pub none_before : engine.log.log.header.commands ≡ 0
-    pub accepted : engine.accepted ≡ engine.log.accepted
-    pub forced : engine.forced ≡ engine.log.forced
-    pub laid : IsLaidOn engine.objects (d.reads Objects)
-    pub closed : AreSlotsClosed p (d.reads Objects)
-    pub values : IsMapOf p d engine commands
-    pub unbroken : engine.broken ≡ false
-
-  -- Engine and files stand for the commands: the files, and whatever a crash now leaves of them, for those that are
-  -- forced, the map for all.
-  pub record Holds (p : Params) (d : Disk) (engine : EngineView) (commands : List O) : Type 0 where
-    pub told : d.tells_files
-    pub params : params_of engine ≡ p
-    pub accepted : engine.accepted ≡ length commands
-    pub forced : engine.forced ≤ length commands
-    pub now : Stands meaning p d.reads (take engine.forced commands)
-    pub images : d.tells_moments → (files : Files) (said : List ℕ) → d.left_since d.clock files said → Stands meaning p files (take engine.forced commands)
+  -- What the images of a moment and the map say, where engine and files stand for the commands: the images stand for those
+  -- that are forced, the map is that of all. Where nothing waits all are forced, and the log in the files is as long as the
+  -- engine says.
+  pub record Says (p : Params) (d : Disk) (engine : EngineView) (commands : List O) : Type 0 where
+    pub accepted : accepted_in engine ≡ length commands
+    pub forced : forced_in engine ≤ length commands
+    pub images : InEachImage d (λ files. Stands meaning p files (take (forced_in engine) commands))
     pub map_is : IsMapOf p d engine commands
-    -- where all are forced, the log in the files is as long as the engine says, and nothing waits
-    pub ends : engine.forced ≡ length commands → EndsAt d.reads (log_length engine).used × ((log_length engine).waits ≡ false)
-    pub carried : Carries p d engine commands
+    pub none_waits : engine.parts.log.log.pending ≡ [] → (forced_in engine ≡ length commands) × InEachImage d (λ files. EndsAt files (used_in engine))
 
   -- an image at a moment of a call on an engine that stands for the commands: nothing more is said, and at least the
   -- forced ones are there
@@ -176,76 +164,46 @@ module _ {O : Type 0} (meaning : Bounds → Meaning O) where
   -- what engine and files stand for after a call: no fewer are forced
   pub record Kept (p : Params) (before : EngineView) (d : Disk) (engine : EngineView) (commands : List O) : Type 0 where
     pub holds : Holds p d engine commands
-    pub rising : before.forced ≤ engine.forced
+    pub rising : forced_in before ≤ forced_in engine
 
-  -- an operation that nothing refuses on the values that it reads
-  pub record IsReady (p : Params) (op : O) (values : List (List ℕ)) : Type 0 where
-    pub shape : (meaning_in meaning p).shape op ≡ None
-    pub fits : FitsReads (meaning_in meaning p) op values
-    pub check : (meaning_in meaning p).check op values ≡ None
+  -- The call adds no command: engine and files stand for the same ones after it, unless the disk failed, no fewer are
+  -- forced, and at each moment each image stands for a front of them with at least those that were forced.
+  pub record KeepsCommands (old new : Disk) (before after : EngineView) (ending : Ending) : Type 0 where
+    pub holds : (p : Params) (commands : List O) → Holds p old before commands → IsFailed ending ⊎ Kept p before new after commands
+    pub images : old.tells_moments → (p : Params) (commands : List O) → Holds p old before commands → LeavesOnly old new (Between p old (forced_in before) commands)
 
-  -- the command was refused since the log is full: all others are forced, and this is the place where the log ends
-  pub record IsFull (p : Params) (d : Disk) (engine : EngineView) (commands : List O) (op : O) (used need limit : ℕ) : Type 0 where
-    pub accepted : refusal_after meaning p commands op ≡ None
-    pub all : engine.forced ≡ length commands
-    pub asked : need ≡ record_length meaning p op + 5
-    pub bound : limit ≡ p.limit
-    pub over : limit < used + need
-    pub place : InEachImage d (λ files. EndsAt files used)
+  -- What an `exec` says of the map: it is done where nothing refuses it, and is the next command; it is refused so; it is
+  -- stopped only where nothing refuses it; it fails with the disk only so, or where it reads objects. No file is damaged.
+  abbrev pub HasCause : Params → List O → O → Result ℕ ExecErr → Type 0
+  HasCause p commands op (Ok n) = (refusal_after meaning p commands op ≡ None) × (length commands + 1 < 2 ^ 62) × (n ≡ length commands + 1)
+  HasCause p commands op (Err (Refused refusal)) = refusal_after meaning p commands op ≡ Some refusal
+  HasCause p commands op (Err (LogFull used need limit)) = (refusal_after meaning p commands op ≡ None) × (need ≡ record_length meaning p op + 5) × (limit ≡ p.limit)
+  HasCause p commands op (Err (LsnEnd number)) = refusal_after meaning p commands op ≡ None
+  HasCause p commands op (Err DiskFault) = (IsInGrammar (meaning_in meaning p) op × (0 < length ((meaning_in meaning p).reads op))) ⊎ (refusal_after meaning p commands op ≡ None)
+  HasCause p commands op (Err (Damaged file place)) = ⊥
+  HasCause p commands op (Err Memory) = ⊤
 
-  -- the command was refused since the numbers are used up: all others are forced, and this is the number after the log
-  pub record IsAtEnd (p : Params) (d : Disk) (engine : EngineView) (commands : List O) (op : O) (number : ℕ) : Type 0 where
-    pub accepted : refusal_after meaning p commands op ≡ None
-    pub all : engine.forced ≡ length commands
-    pub last : number ≡ 2 ^ 62
-    pub next : InEachImage d (λ files. NextIs (meaning_in meaning p) files number)
+  -- what the files say of a stop
+  abbrev pub SaysStop : Params → Files → Stop → Type 0
+  SaysStop p files Through = ⊤
+  SaysStop p files (Full used need limit) = EndsAt files used
+  SaysStop p files (At_end number) = NextIs (meaning_in meaning p) files number
+  SaysStop p files (Worn epoch) = EpochIs files epoch
 
-  -- a command's record fits in a log of this length
-  abbrev pub Fits : Params → LogLength → O → Type 0
-  Fits p log op = grown log (record_length meaning p op) ≤ p.limit
+  -- n is in the graph, and the least of its node
+  abbrev pub is_name : Params → World O → ℕ → Bool
+  is_name p w n = w.graph n && (least_below (end_of w) (node_named (meaning_in meaning p) w n) == n)
 
-  -- Why a command gets its answer after these commands, with a log of this length: it is refused; or else its record does
-  -- not fit; or else no number is left for it; or else it is done. No two of these hold at once, so each answer comes
-  -- exactly where its cause holds, but that a fault may stand in the place of the second and the third, and want of
-  -- memory in that of any. No file is damaged.
-  abbrev pub HasCause : Params → List O → LogLength → O → Result ℕ ExecErr → Type 0
-  HasCause p commands log op (Ok n) = (refusal_after meaning p commands op ≡ None) × Fits p log op × (length commands + 1 < 2 ^ 62)
-  HasCause p commands log op (Err (Refused refusal)) = refusal_after meaning p commands op ≡ Some refusal
-  HasCause p commands log op (Err (LogFull used need limit)) = (refusal_after meaning p commands op ≡ None) × (p.limit < grown log (record_length meaning p op)) × (used ≡ log.used)
-  HasCause p commands log op (Err (LsnEnd number)) = (refusal_after meaning p commands op ≡ None) × Fits p log op × (2 ^ 62 ≤ length commands + 1)
-  HasCause p commands log op (Err DiskFault) = (refusal_after meaning p commands op ≡ None) × ((p.limit < grown log (record_length meaning p op)) ⊎ (2 ^ 62 ≤ length commands + 1))
-  HasCause p commands log op (Err (Broken file place)) = ⊥
-  HasCause p commands log op (Err Memory) = ⊤
+  -- the numbers that `stat` answers of the graph and the cache of a world
+  pub record IsStat (p : Params) (w : World O) (stat : Stat) : Type 0 where
+    pub nodes : stat.nodes ≡ count_below (end_of w) (is_name p w)
+    pub dirty : stat.dirty ≡ dirty_in (meaning_in meaning p) w
+    pub uninstalled : stat.uninstalled ≡ count_below (end_of w) w.graph
 
-  -- the log's length after a command's answer: its record waits, or all that waited is forced, or it is as it was
-  abbrev pub Lengthens : Params → LogLength → O → Result ℕ ExecErr → LogLength → Type 0
-  Lengthens p old op (Ok n) new = new ≡ record { used = grown old (record_length meaning p op); waits = true }
-  Lengthens p old op (Err (Refused refusal)) new = new ≡ old
-  Lengthens p old op (Err (LogFull used need limit)) new = new ≡ forced_length old
-  Lengthens p old op (Err (LsnEnd number)) new = new ≡ forced_length old
-  Lengthens p old op (Err (Broken file place)) new = new ≡ old
-  Lengthens p old op (Err Memory) new = new ≡ old
-  Lengthens p old op (Err DiskFault) new = ⊤
-
-  -- the log with a record of the command that waits behind all others
-  abbrev pub IsLogWith : Params → O → RecordLogView → RecordLogView → Type 0
-  IsLogWith p op before log = log ≡ record before {
-    log = record before.log { pending = before.log.pending ++ record_code (meaning_in meaning p) (Command before.next op); room = log.log.room };
-    next = before.next + 1;
-    accepted = before.accepted + 1;
-  }
-
-  -- An engine that took an operation in: its record waits with the next number, and each object that it writes is cached
-  -- with that number and the value that it makes of the values read.
-  pub record TookIn (op : O) (values : List (List ℕ)) (before engine : EngineView) : Type 0 where
-    pub slots : engine.objects.slots ≡ before.objects.slots
-    pub accepted : engine.accepted ≡ engine.log.accepted
-    pub forced : engine.forced ≡ engine.log.forced
-    pub broken : engine.broken ≡ before.broken
-    pub log : IsLogWith (params_of before) op before.log engine.log
-    pub laid : (file : List ℕ) → IsLaidOn before.objects file → IsLaidOn engine.objects file
-    pub entries : (x : ℕ) → held engine.objects.cache x
-        ≡ with_entries (held before.objects.cache) before.log.next ((meaning_in meaning (params_of before)).writes op) ((meaning_in meaning (params_of before)).effect op values) x
+  -- the machine reports its files, and what reads give stands for the commands
+  pub record Opens (p : Params) (d : Disk) (commands : List O) : Type 0 where
+    pub told : d.tells_files
+    pub stands : Stands meaning p d.reads commands
 
   -- no store is there, or one without commands
   abbrev pub IsNew : Params → Files → Type 0

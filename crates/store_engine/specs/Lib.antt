@@ -1,8 +1,6 @@
-pub mod Redone
 pub mod Store
 pub mod Engine
-pub mod Opening
-pub mod Starts
+pub mod Failures
 pub mod ImageLaws
 pub mod Uniqueness
-pub mod DamageLaws
+pub mod Emptied

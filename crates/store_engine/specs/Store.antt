@@ -1,19 +1,15 @@
 -- A store of some operations, and what its files stand for.
-use Rattle.std.specs.Prelude.{◌<◌, ℕ, ◌+◌, List, length, Option}
+use Rattle.std.specs.Prelude.{ℕ, List, Option}
 use Rattle.oper_core.specs.State.{State}
 use Rattle.oper_core.specs.Meaning.{Meaning, refusal_of, state_after}
 use Rattle.oper_core.specs.declared.bounds.Bounds.{Bounds}
 use Rattle.oper_core.specs.declared.refusal.Refusal.{Refusal}
 use Rattle.disk_model.specs.Disk.{Files}
-use Rattle.disk_model.specs.declared.machine.FileNo.{FileNo}
-use Rattle.disk_model.specs.declared.machine.FileNo.TheVariants.{Objects}
-use Rattle.formats.specs.Bytes.{IsOpenAt}
-use Rattle.formats.specs.Log.{Header}
-use Rattle.formats.specs.Records.{HoldsRecordLog, records_of, next_after}
-use Rattle.formats.specs.declared.record.Record.{Record}
-use Rattle.formats.specs.Objects.{bounds_of, slot_place, identifier_at, IsObjectsFile}
-use Rattle.formats.specs.Image.{StandsFor}
+use Rattle.formats.specs.Objects.{bounds_of}
 use Rattle.formats.specs.declared.params.Params.{Params}
+use Rattle.standing.specs.Standing.{StandsFor}
+use Rattle.execution.specs.Courses.{command_length}
+use Rattle.restart.specs.WellFormed as of_files
 
 module _ {O : Type 0} (meaning : Bounds → Meaning O) where
   -- what the operations mean in a store with these numbers
@@ -30,19 +26,11 @@ module _ {O : Type 0} (meaning : Bounds → Meaning O) where
 
   -- the length of a command's record: kind, number and code
   abbrev pub record_length : Params → O → ℕ
-  record_length p op = 9 + length ((meaning_in p).code op)
+  record_length p op = command_length (meaning_in p) op
 
-  -- The files meet their format: the objects file is whole, the log in force is one of records of its store, and each
-  -- open slot has the number of a record before the log's end.
-  pub record IsWellFormed (files : Files) : Type 0 where
-    pub params : Params
-    pub active : FileNo
-    pub header : Header
-    pub groups : List (List (Record O))
-    pub objects : IsObjectsFile params (files Objects)
-    pub log : HoldsRecordLog (meaning_in params) active header groups files
-    pub none_late : (x s : ℕ) → x < params.objects → s < 2 → IsOpenAt (slot_place params.cap x s) (files Objects)
-        → identifier_at (slot_place params.cap x s) (files Objects) < next_after header.base (records_of groups)
+  -- the files meet their format
+  abbrev pub IsWellFormed : Files → Type 0
+  IsWellFormed files = of_files.IsWellFormed meaning files
 
   -- the files stand for the commands
   abbrev pub Stands : Params → Files → List O → Type 0

@@ -1,28 +1,38 @@
-//! The engine: commands on a store's objects, logged before they count, and replayed when the files are opened.
+//! The engine: commands on a store's objects, logged before they count, installed one node of the write graph at a time,
+//! and done again when the files are opened.
 //!
-//! The one contract is [`Engine`]: engine and files stand for the commands that were accepted, the files for those that
-//! are forced, and a crash at any moment of a call leaves a store with no fewer. The crate depends on log_records for the
-//! log, on cache_manager for the objects, which are cached over the slots of stable_objects, on oper_core for what a command
-//! means, on formats for what the files are, and on disk_model for the machine.
+//! The one contract is [`Engine`]. Engine and files stand for the commands that were accepted: they show a sound world of
+//! the theory whose history has these commands. What a call does is a course of steps, a function of that world and of the
+//! log's length; the files stand for the commands that are forced, and a crash at any moment of a call leaves a store with
+//! no fewer. Each method is a call of the layer below that takes the course: the crate depends on restart, execution,
+//! checkpointing and cache_manager for these, on standing and explain_core for images and worlds, on log_records and
+//! write_graph for the parts of a store, on stable_objects for a new one, on oper_core for what a command means, on formats
+//! for what the files are, and on disk_model for the machine.
 #![tactic(auto)]
 
+mod checking;
 mod engine;
-mod exec_err;
 mod executing;
 mod force_err;
 mod forcing;
 mod init_err;
+mod installing;
+mod laws;
 mod making;
 mod opening;
-mod replay;
-mod restart_err;
-mod tuning;
+mod stat;
 mod uniqueness;
 
+pub use cache_manager::{Install, InstallErr};
+pub use checkpointing::TrimErr;
 pub use engine::Engine;
-pub use exec_err::ExecErr;
+pub use execution::ExecErr;
 pub use force_err::ForceErr;
 pub use init_err::InitErr;
-pub use restart_err::RestartErr;
-pub use tuning::Tuning;
-pub use uniqueness::{one_damage, one_state};
+pub use laws::{
+    a_trim_behind_a_drain_leaves_nothing, engine_stands, identities_are_counted, opens_on_a_world,
+    standing_files_meet_their_format, stop_is_said,
+};
+pub use restart::{RestartErr, Tuning, one_damage};
+pub use stat::Stat;
+pub use uniqueness::one_state;

@@ -5,7 +5,7 @@ ghost use Rattle.disk_model.specs.declared.machine.FileNo.TheVariants.{Objects};
 ghost use Rattle.formats.specs.Objects.{IsInRange};
 ghost use Rattle.formats.specs.Image.{BeginsStore};
 ghost use Rattle.store_engine.specs.Engine.{InEachImage, IsNew};
-ghost use Rattle.store_engine.specs.Starts.{OrAtStart};
+ghost use Rattle.restart.specs.Starts.{OrAtStart};
 ghost use Rattle.store_engine.specs.Store.{Stands};
 
 use crate::Engine;
@@ -34,6 +34,7 @@ impl<O: Oper> Engine<O> {
         ensures fresh { (M.disk machine.old).tells_files → OnOk result (BeginsStore ((M.disk machine.old).reads Objects) → ⊥) }
         ensures fault { IsErrOf result InitErr.DiskFault → Rises (M.disk machine.old).disk_faults (M.disk machine.new).disk_faults }
     {
+        standing::new_files_stand_for_nothing::<O>();
         settle(machine)?;
         if Slots::begins(machine)? {
             return Err(InitErr::AlreadyStore);

@@ -1,92 +1,77 @@
-// The files are opened, and their commands replayed.
-ghost use Rattle.std.specs.Prelude.{◌≡◌, ◌≢◌, ◌⊎◌, ◌<◌, false, List, ℕ, length, OnOk, IfOk, IfErr, IsErrOf};
-ghost use Rattle.disk_model.specs.Disk.{Rises, Passes, Stays, LeavesOnly, IsSettled};
-ghost use Rattle.disk_model.specs.declared.machine.FileNo.TheVariants.{Objects as ObjectsFile};
-ghost use Rattle.formats.specs.Bytes.{IsOpenAt, IsClosedAt};
-ghost use Rattle.formats.specs.FirstFault.{IsDamaged};
+// The files are opened, and what is not installed of their commands is done again.
+ghost use Rattle.std.specs.Prelude.{◌≡◌, ◌<◌, false, List, ℕ, length, IfOk};
+ghost use Rattle.disk_model.specs.Disk.{LeavesOnly};
 ghost use Rattle.formats.specs.declared.params.Params.{Params};
-ghost use Rattle.store_engine.specs.Engine.{Opens, Holds, Between, IsAttached, IsNoDamage};
-ghost use Rattle.store_engine.specs.Opening.{IsRead, FailsBy};
-ghost use Rattle.store_engine.specs.Store.{IsWellFormed};
+ghost use Rattle.explain_core.specs.World.{World};
+ghost use Rattle.cache_manager.specs.Taking.{ArePartsInUse, IsAfter};
+ghost use Rattle.restart.specs.Courses.{restart_course};
+ghost use Rattle.restart.specs.Opening as of_parts;
+ghost use Rattle.restart.specs.Opening.{IsJudged, IsOpening, OpensOn, OpensThrough};
+ghost use Rattle.restart.specs.Starts.{OrAtStart};
+ghost use Rattle.store_engine.specs.Engine.{Opens, Holds, Between, IsAttached, forced_in, opened};
+ghost use Rattle.store_engine.specs.Store.{meaning_in};
 
 use crate::Engine;
-use crate::replay::redo;
-use crate::restart_err::RestartErr;
-use crate::tuning::Tuning;
-use cache_manager::Objects;
-use disk_model::{FileNo, Machine, settle};
-use log_records::RecordLog;
+use disk_model::Machine;
 use oper_core::Oper;
+use restart::{RestartErr, Restarted, Tuning};
 use std::alloc::Global;
 
-impl<O: Oper> Engine<O> {
-    // The engine that the files hold.
-    fn load<M: Machine>(
-        alloc: Global,
-        machine: &mut M,
-        tuning: Tuning,
-    ) -> Result<Engine<O>, RestartErr>
-        requires { 0 < tuning.clean }
-        ensures kept { Stays (M.disk machine.old) (M.disk machine.new) }
-        ensures read { (M.disk machine.old).tells_files → IfOk result (IsRead O.meaning (M.disk machine.old).reads (M.disk machine.new)) }
-        ensures settled { OnOk result (IsSettled (M.disk machine.new)) }
-        ensures unbroken { IfOk result (λ engine. engine.broken ≡ false) }
-        ensures whole { (M.disk machine.old).tells_files → IsWellFormed O.meaning (M.disk machine.old).reads → IfErr result (λ e. (e ≢ RestartErr.NotAStore) × IsNoDamage e) }
-        ensures cause { IfErr result (FailsBy (Rises (M.disk machine.old).disk_faults (M.disk machine.new).disk_faults)
-            ((M.disk machine.old).tells_files → IsClosedAt 0 ((M.disk machine.old).reads ObjectsFile))
-            (λ file place. (M.disk machine.old).tells_files → IsDamaged O.meaning (M.disk machine.old).reads file place)) }
-        ensures memory { (M.disk machine.old).tells_files → IsErrOf result RestartErr.Memory → IsOpenAt 0 ((M.disk machine.old).reads ObjectsFile) }
-    {
-        settle(machine)?;
-        let mut objects = Objects::load(alloc, machine, tuning.clean)?;
-        let log = RecordLog::<O>::load(alloc, machine, objects.bounds())?;
-        if let Some(place) = objects.first_late(log.next()) {
-            return Err(RestartErr::Damaged {
-                file: FileNo::Objects,
-                place,
-            });
-        }
-        let records = log.stable(machine)?;
-        redo(alloc, &mut objects, machine, records.as_slice())?;
-        Ok(Engine {
+// The engine of these parts, none of whose identity writes it has logged.
+fn built<O: Oper>(
+    alloc: Global,
+    answer: Result<Restarted<O>, RestartErr>,
+) -> Result<Engine<O>, RestartErr>
+    requires { IfOk (of_parts.opened answer) ArePartsInUse }
+    ensures same { opened result ≡ of_parts.opened answer }
+    ensures fresh { IfOk result (λ engine. (engine.broken ≡ false) × (engine.identities ≡ 0)) }
+{
+    match answer {
+        Ok(it) => Ok(Engine {
             alloc,
-            objects,
-            log,
+            objects: it.objects,
+            log: it.log,
+            graph: it.graph,
+            identities: 0,
             broken: false,
-        })
+        }),
+        Err(cause) => Err(cause),
     }
+}
 
-    /// Opens the files. What a crash leaves meanwhile a crash at the start could have left: it begins with a sync of each
-    /// file. The machine need not be settled: what reads give is what the files stand for. The objects gate is looked at
-    /// before memory is taken.
+impl<O: Oper> Engine<O> {
+    /// Opens the files: what a process before this one left unsynced is synced, the log and the slots are read, what is not
+    /// installed is done again, and one check is logged and forced, where the log stays within 2^48 bytes.
+    ///
+    /// The machine need not be settled: what reads give is what the files stand for. The objects gate is looked at before
+    /// memory is taken.
     pub fn restart<M: Machine>(
         alloc: Global,
         machine: &mut M,
         tuning: Tuning,
     ) -> Result<Engine<O>, RestartErr>
         requires { 0 < tuning.clean }
-        ensures time { Passes (M.disk machine.old) (M.disk machine.new) }
-        ensures quiet { (M.disk machine.old).tells_files → (M.disk machine.new).said ≡ (M.disk machine.old).said }
-        ensures ok { (p : Params) (commands : List O) → Opens O.meaning p (M.disk machine.old) commands →
-            IfOk result (λ engine. Holds O.meaning p (M.disk machine.new) engine commands × (engine.forced ≡ length commands)) }
-        ensures moments { (p : Params) (commands : List O) → Opens O.meaning p (M.disk machine.old) commands → (M.disk machine.old).tells_moments → IsSettled (M.disk machine.old) →
-            LeavesOnly (M.disk machine.old) (M.disk machine.new) (Between O.meaning p (M.disk machine.old) (length commands) commands) }
-        ensures whole { (p : Params) (commands : List O) → Opens O.meaning p (M.disk machine.old) commands →
-            IfErr result (λ e. (e ≢ RestartErr.NotAStore) × IsNoDamage e) }
-        ensures kept { Stays (M.disk machine.old) (M.disk machine.new) }
-        ensures settled { OnOk result (IsSettled (M.disk machine.new)) }
-        ensures attached { IfOk result (IsAttached (M.disk machine.new)) }
-        ensures unbroken { IfOk result (λ engine. engine.broken ≡ false) }
-        ensures read { (M.disk machine.old).tells_files → OnOk result (IsWellFormed O.meaning (M.disk machine.old).reads) }
-        ensures undamaged { (M.disk machine.old).tells_files → IsWellFormed O.meaning (M.disk machine.old).reads → IfErr result (λ e. (e ≢ RestartErr.NotAStore) × IsNoDamage e) }
-        ensures no_store { (M.disk machine.old).tells_files → IsErrOf result RestartErr.NotAStore → IsClosedAt 0 ((M.disk machine.old).reads ObjectsFile) }
-        ensures damaged { (M.disk machine.old).tells_files → (file : FileNo) (place : ℕ) → IsErrOf result (RestartErr.Damaged file place) → IsDamaged O.meaning (M.disk machine.old).reads file place }
-        // Where they are damaged it reports that, unless the disk fails or memory runs out.
-        ensures exactly { (M.disk machine.old).tells_files → (file : FileNo) (place : ℕ) → IsDamaged O.meaning (M.disk machine.old).reads file place →
-            IsErrOf result (RestartErr.Damaged file place) ⊎ (IsErrOf result RestartErr.Memory ⊎ IsErrOf result RestartErr.DiskFault) }
-        ensures fault { IsErrOf result RestartErr.DiskFault → Rises (M.disk machine.old).disk_faults (M.disk machine.new).disk_faults }
-        ensures memory { (M.disk machine.old).tells_files → IsErrOf result RestartErr.Memory → IsOpenAt 0 ((M.disk machine.old).reads ObjectsFile) }
+        ensures opening { IsOpening (M.disk machine.old) (M.disk machine.new) (opened result) }
+        ensures judged { (M.disk machine.old).tells_files → IsJudged O.meaning (M.disk machine.old) (M.disk machine.new) (opened result) }
+        ensures ready { IfOk result (λ engine. (engine.broken ≡ false) × (engine.identities ≡ 0) × IsAttached (M.disk machine.new) engine) }
+
+        // Of each world that the files show the whole course is taken, and the log is as long as that says.
+        ensures follows { (p : Params) (used : ℕ) (w : World O) → OpensOn (meaning_in O.meaning p) p (M.disk machine.old) used w →
+            IfOk result (λ engine. IsAfter (meaning_in O.meaning p) p (M.disk machine.new) engine.parts w (restart_course (meaning_in O.meaning p) tuning.redo_dirty w used)) }
+        ensures moments { (M.disk machine.old).tells_moments → (p : Params) (used : ℕ) (w : World O) → OpensOn (meaning_in O.meaning p) p (M.disk machine.old) used w →
+            OpensThrough (meaning_in O.meaning p) p (M.disk machine.old) (M.disk machine.new) w (restart_course (meaning_in O.meaning p) tuning.redo_dirty w used).steps }
+
+        // So engine and files stand for the commands of the files, all of them forced.
+        ensures holds { (p : Params) (commands : List O) → Opens O.meaning p (M.disk machine.old) commands →
+            IfOk result (λ engine. Holds O.meaning p (M.disk machine.new) engine commands × (forced_in engine ≡ length commands)) }
+        ensures images { (M.disk machine.old).tells_moments → (p : Params) (commands : List O) → Opens O.meaning p (M.disk machine.old) commands →
+            LeavesOnly (M.disk machine.old) (M.disk machine.new) (OrAtStart (M.disk machine.old) (Between O.meaning p (M.disk machine.old) (length commands) commands)) }
     {
-        Engine::load(alloc, machine, tuning)
+        explain_core::every_run_keeps::<O>();
+        standing::image_stands::<O>();
+        standing::files_show_a_world::<O>();
+        restart::a_restart_may_be_made::<O>();
+        let answer = restart::restart(alloc, machine, tuning);
+        built(alloc, answer)
     }
 }

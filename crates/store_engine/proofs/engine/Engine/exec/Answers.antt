@@ -1,205 +1,107 @@
-use Rattle.std.proofs.Common.{◌≡◌, ◌≢◌, ◌<◌, ◌^◌, ◌∙◌, ℕ, List, None, Err, ap, sym, subst}
-use Rattle.std.specs.Prelude.{IfOk}
-use Rattle.std.proofs.lemmas.Result.{err_from_is_err_and, IfOk-weaker}
-use Rattle.disk_model.specs.Disk.{Disk, Stays}
-use Rattle.stable_objects.specs.SlotsView.{SlotsView}
-use Rattle.formats.specs.declared.params.Params.{Params}
-use Rattle.store_engine.specs.Store.{meaning_in, record_length, refusal_after}
-use Rattle.store_engine.specs.Engine.{EngineView, params_of, IsSameMap, Holds, Kept, TookIn, LogLength, LacksPlace, HasCause, Lengthens, log_length}
-use Rattle.store_engine.specs.declared.exec_err.ExecErr.{ExecErr}
-use Rattle.store_engine.specs.declared.exec_err.ExecErr.TheVariants.{LogFull, LsnEnd, DiskFault}
-use Rattle.store_engine.proofs.SameMap.{all_closed, same_map_kept, same_map_twice, attached_stays}
-use Rattle.store_engine.proofs.Admitted.{same_refusal}
-use Rattle.store_engine.proofs.Executed.{same_length, kept_twice, lacks_cause, place_cause, is_full, is_at_end, taken_length}
-use Rattle.store_engine.proofs.Answered.{fine, unless_failed, err_anyway, on_err, prepared, unlogged, taken_attached, moments_here, moments_after, admit_cause, admit_length, admitted, executed}
-use Rattle.store_engine.proofs.engine.Engine.exec.Given.{Over}
-use Rattle.store_engine.proofs.engine.Engine.exec.Goals.{In_ok-values, After-prepare, After-log_and_set}
+use Rattle.std.proofs.Common.{subst, inr, arith}
+use Rattle.std.specs.Prelude.{IfOk, IfErr}
+use Rattle.formats.specs.Objects.{bounds_of}
+use Rattle.cache_manager.specs.Parts.{Shows, parts}
+use Rattle.execution.specs.Answers as of_world
+use Rattle.execution.specs.Answers.{ending_of_exec}
+use Rattle.execution.specs.Courses.{exec_course}
+use Rattle.execution.specs.Done.{IsDone, IsUndone}
+use Rattle.execution.specs.Failures.{IsExecFailure}
+use Rattle.store_engine.specs.Engine.{EngineView, params_of, used_in, view_of}
+use Rattle.store_engine.specs.Store.{meaning_in}
+use Rattle.store_engine.proofs.Calls.{call_of, takes_of, usable_after, parts_in_use}
+use Rattle.store_engine.proofs.Commands.{exec_cause, exec_err, exec_images, exec_ok, next_rises, params_kept}
+use Rattle.store_engine.proofs.Ways.{exec_failed, stops_exec, unbroken_unless}
 use Rattle.store_engine.proofs.engine.Engine.exec.Goals as goal
 
--- the engine that admitted the operation has the objects that it had
-same_map : (g : Over) (c : In_ok-values g) → IsSameMap (g.M.Machine.disk c.args.machine.now) c.args.self.now c.admit.new.self
-same_map g c = fine _ _ c.in_ok-values.ensures.same
+pub execute-answer-requires : goal.execute-answer-requires
+execute-answer-requires g c =
+    record { in_use = (parts_in_use c.self.inside.log c.self.inside.objects c.self.inside.graph.entries c.self.inside.identities c.self.inside.broken c.args.self.now c.self.view_is c.self.invariant c.requires.unbroken).in_use }
 
--- the length of the record
-long : (g : Over) (c : In_ok-values g) → c.in_ok-values.length ≡ record_length g.O.Oper.meaning (params_of c.admit.new.self) c.args.op
-long g c = c.in_ok-values.ensures.length ∙ ap (λ (q : Params). record_length g.O.Oper.meaning q c.args.op) (sym (ap (λ (s : SlotsView). s.params) (same_map g c).slots))
+pub invariant_of-self : goal.invariant_of-self
+invariant_of-self g c =
+    let before = parts c.self.inside.log c.self.inside.objects c.self.inside.graph.entries in
+    let after = parts c.execute-answer.new.log c.execute-answer.new.objects c.execute-answer.new.graph.entries in
+    let was = parts_in_use c.self.inside.log c.self.inside.objects c.self.inside.graph.entries c.self.inside.identities c.self.inside.broken c.args.self.now c.self.view_is c.self.invariant c.requires.unbroken in
+    usable_after c.execute-answer.new.log c.execute-answer.new.objects c.execute-answer.new.graph.entries c.self.inside.identities c.is_disk_fault-failed.result (ending_of_exec c.execute-answer.result) c.is_disk_fault-failed.ensures (inr c.execute-answer.ensures.in_use)
+    (omega (arith, was.counted, next_rises g.O.Oper.meaning before after c.args.op c.execute-answer.result c.execute-answer.ensures.done c.execute-answer.ensures.undone))
 
-module _ (g : Over) (c : In_ok-values g) (p : Params) (commands : List g.row.O.Denot) (h : Holds g.O.Oper.meaning p (g.M.Machine.disk c.args.machine.now) c.args.self.now commands) where
-  kept : Kept g.O.Oper.meaning p c.args.self.now (g.M.Machine.disk c.admit.new.machine) c.admit.new.self commands
-  kept = same_map_kept g.O.Oper.meaning p (g.M.Machine.disk c.args.machine.now) c.args.self.now commands h (g.M.Machine.disk c.admit.new.machine) c.admit.new.self c.admit.ensures.kept (same_map g c)
-
-  accepted : refusal_after g.O.Oper.meaning p commands c.args.op ≡ None
-  accepted = admitted g.O.Oper.meaning g.met.O.Oper.bounded g.met.O.Oper.lawful p (g.M.Machine.disk c.args.machine.now) c.args.self.now commands h c.args.op c.in_ok-values.values
-      c.in_ok-values.ensures.ready (c.in_ok-values.ensures.read h.told h.carried.laid)
-
-  no_call : g.M.Machine.disk c.admit.new.machine ≡ g.M.Machine.disk c.args.machine.now
-  no_call = ap (λ m. g.M.Machine.disk m) (c.in_ok-values.ensures.none (all_closed g.O.Oper.meaning p (g.M.Machine.disk c.args.machine.now) c.args.self.now commands h)).0
-
--- so has the one whose memory is taken, and the machine stays
-module _ (g : Over) (c : After-prepare g) where
-  same_made : IsSameMap (g.M.Machine.disk c.args.machine.now) c.args.self.now c.admit.new.self → IsSameMap (g.M.Machine.disk c.args.machine.now) c.args.self.now c.prepare.new.self
-  same_made same =
-      let old = g.M.Machine.disk c.args.machine.now in
-      same_map_twice old c.args.self.now c.require_log_room.new.self c.prepare.new.self
-      (subst (λ (e : EngineView). IsSameMap old c.args.self.now e) (sym c.in_ok-require_log_room.ensures.untouched.1) same)
-      (prepared old c.require_log_room.new.self c.prepare.new.self c.prepare.ensures.same c.prepare.ensures.entries c.prepare.ensures.laid)
-
-  stays : Stays (g.M.Machine.disk c.args.machine.now) (g.M.Machine.disk c.require_log_room.new.machine)
-  stays = subst (λ (d : Disk). Stays (g.M.Machine.disk c.args.machine.now) d) (sym (ap (λ m. g.M.Machine.disk m) c.in_ok-require_log_room.ensures.untouched.0)) c.admit.ensures.kept
-
-  kept_made : IsSameMap (g.M.Machine.disk c.args.machine.now) c.args.self.now c.admit.new.self → (p : Params) (commands : List g.row.O.Denot)
-      → Holds g.O.Oper.meaning p (g.M.Machine.disk c.args.machine.now) c.args.self.now commands
-      → Kept g.O.Oper.meaning p c.args.self.now (g.M.Machine.disk c.require_log_room.new.machine) c.prepare.new.self commands
-  kept_made same p commands h =
-      same_map_kept g.O.Oper.meaning p (g.M.Machine.disk c.args.machine.now) c.args.self.now commands h (g.M.Machine.disk c.require_log_room.new.machine) c.prepare.new.self stays (same_made same)
-
--- the operation was logged, and the objects have the values that it makes
-took : (g : Over) (c : After-log_and_set g) → IfOk c.log_and_set.result (λ n. (n ≡ c.log_and_set.new.self.accepted) × TookIn g.O.Oper.meaning c.args.op c.in_ok-values.values c.prepare.new.self c.log_and_set.new.self)
-took g c = c.log_and_set.ensures.ok c.in_ok-values.values
-    (c.in_ok-made.ensures.made ∙ ap (λ (q : Params). (meaning_in g.O.Oper.meaning q).effect c.args.op c.in_ok-values.values) (sym (ap (λ (e : EngineView). params_of e) c.prepare.ensures.same)))
-
-pub returns-in_err-values-clause-err : goal.returns-in_err-values-clause-err
-returns-in_err-values-clause-err g c p commands h =
+pub returns-clause-call : goal.returns-clause-call
+returns-clause-call g c =
     let old = g.M.Machine.disk c.args.machine.now in
-    let new = g.M.Machine.disk c.admit.new.machine in
-    let q = err_from_is_err_and c.from_residual.result c.from_residual.ensures.1 in
-    rw (q.1, q.2) (unless_failed c.in_err-values.field-0.0 _ _ c.in_err-values.ensures.same
-    (λ same. same_map_kept g.O.Oper.meaning p old c.args.self.now commands h new c.admit.new.self c.admit.ensures.kept same))
+    let new = g.M.Machine.disk c.execute-answer.new.machine in
+    let before = parts c.self.inside.log c.self.inside.objects c.self.inside.graph.entries in
+    let after = parts c.execute-answer.new.log c.execute-answer.new.objects c.execute-answer.new.graph.entries in
+    call_of old new c.args.self.now c.self.inside.log c.execute-answer.new.log c.self.inside.objects c.execute-answer.new.objects c.self.inside.graph.entries c.execute-answer.new.graph.entries c.self.inside.identities c.self.inside.identities c.self.inside.broken c.is_disk_fault-failed.result
+    c.self.view_is (λ e. 0) (ending_of_exec c.execute-answer.result) c.execute-answer.ensures.quiet
+    (params_kept g.O.Oper.meaning before after c.args.op c.execute-answer.result c.execute-answer.ensures.done c.execute-answer.ensures.undone) (inr c.execute-answer.ensures.attached) (omega arith)
+    (stops_exec c.execute-answer.new.log (ending_of_exec c.execute-answer.result) c.execute-answer.ensures.stops) c.is_disk_fault-failed.ensures (λ failed. c.execute-answer.ensures.cause (exec_failed c.execute-answer.result failed))
 
-pub returns-in_err-values-clause-exactly : goal.returns-in_err-values-clause-exactly
-returns-in_err-values-clause-exactly g c p commands h =
-    let old = g.M.Machine.disk c.args.machine.now in
-    let q = err_from_is_err_and c.from_residual.result c.from_residual.ensures.1 in
-    let only = (c.in_err-values.ensures.none (all_closed g.O.Oper.meaning p old c.args.self.now commands h)).1 in
-    rw (q.1, q.2) (admit_cause g.O.Oper.meaning g.met.O.Oper.bounded g.met.O.Oper.lawful p old c.args.self.now commands h c.args.op c.in_err-values.field-0.0 only
-    (λ r is. c.in_err-values.ensures.refused h.told h.carried.laid r (λ i. Err (is i))))
+pub returns-clause-takes : goal.returns-clause-takes
+returns-clause-takes g c =
+    takes_of (g.M.Machine.disk c.args.machine.now) (g.M.Machine.disk c.execute-answer.new.machine) c.args.self.now c.self.inside.log c.execute-answer.new.log c.self.inside.objects c.execute-answer.new.objects c.self.inside.graph.entries c.execute-answer.new.graph.entries c.self.inside.identities c.self.inside.identities c.self.inside.broken c.is_disk_fault-failed.result
+    c.self.view_is (λ e. 0) (ending_of_exec c.execute-answer.result) g.O.Oper.meaning (λ e m w used. exec_course m (params_of e).limit c.args.op w used) c.execute-answer.ensures.takes
 
-pub returns-in_err-values-clause-lengthens : goal.returns-in_err-values-clause-lengthens
-returns-in_err-values-clause-lengthens g c p commands h =
-    let old = g.M.Machine.disk c.args.machine.now in
-    let q = err_from_is_err_and c.from_residual.result c.from_residual.ensures.1 in
-    let only = (c.in_err-values.ensures.none (all_closed g.O.Oper.meaning p old c.args.self.now commands h)).1 in
-    rw (q.1, q.2) (admit_length g.O.Oper.meaning g.met.O.Oper.bounded g.met.O.Oper.lawful p old c.args.self.now commands h c.args.op c.in_err-values.field-0.0 only c.admit.new.self c.in_err-values.ensures.same)
-
-pub returns-in_err-values-clause-refused : goal.returns-in_err-values-clause-refused
-returns-in_err-values-clause-refused g c p commands h r is =
-    let old = g.M.Machine.disk c.args.machine.now in
-    let q = err_from_is_err_and c.from_residual.result c.from_residual.ensures.1 in
-    sym (same_refusal g.O.Oper.meaning g.met.O.Oper.bounded g.met.O.Oper.lawful p old c.args.self.now commands h.carried c.args.op)
-    ∙ c.in_err-values.ensures.refused h.told h.carried.laid r (cc (q.1, q.2, is))
-
-pub returns-in_err-values-clause-moments : goal.returns-in_err-values-clause-moments
-returns-in_err-values-clause-moments g c p commands h told =
-    let old = g.M.Machine.disk c.args.machine.now in
-    let new = g.M.Machine.disk c.admit.new.machine in
-    let none = (c.in_err-values.ensures.none (all_closed g.O.Oper.meaning p old c.args.self.now commands h)).0 in
-    moments_here g.O.Oper.meaning p old new c.args.self.now commands (ap (λ m. g.M.Machine.disk m) none) c.admit.ensures.kept.begins h told
-
-pub returns-in_err-require_log_room-clause-err : goal.returns-in_err-require_log_room-clause-err
-returns-in_err-require_log_room-clause-err g c p commands h =
-    let q = err_from_is_err_and c.from_residual-in_err-require_log_room.result c.from_residual-in_err-require_log_room.ensures.1 in
-    let before = kept g (goal.at.returns-in_err-require_log_room-clause-err g c).In_ok-values p commands h in
-    rw (q.1, q.2) (λ other.
-    kept_twice g.O.Oper.meaning p (g.M.Machine.disk c.admit.new.machine) (g.M.Machine.disk c.require_log_room.new.machine) c.args.self.now c.admit.new.self c.require_log_room.new.self commands commands before
-    (c.in_err-require_log_room.ensures.forced p commands before.holds other).1)
-
-pub returns-in_err-require_log_room-clause-exactly : goal.returns-in_err-require_log_room-clause-exactly
-returns-in_err-require_log_room-clause-exactly g c p commands h =
-    let q = err_from_is_err_and c.from_residual-in_err-require_log_room.result c.from_residual-in_err-require_log_room.ensures.1 in
-    let here = (goal.at.returns-in_err-require_log_room-clause-exactly g c).In_ok-values in
-    let cause = lacks_cause g.O.Oper.meaning p (g.M.Machine.disk c.admit.new.machine) c.admit.new.self commands (kept g here p commands h).holds c.args.op (accepted g here p commands h)
-    c.in_ok-values.length (long g here) c.in_err-require_log_room.field-0.0 c.in_err-require_log_room.ensures.lacks in
-    rw (q.1, q.2) (subst (λ (l : LogLength). HasCause g.O.Oper.meaning p commands l c.args.op (Err c.in_err-require_log_room.field-0.0)) (same_length (g.M.Machine.disk c.args.machine.now) c.args.self.now c.admit.new.self (same_map g here)) cause)
-
-pub returns-in_err-require_log_room-clause-full : goal.returns-in_err-require_log_room-clause-full
-returns-in_err-require_log_room-clause-full g c p commands h used need limit is =
-    let q = err_from_is_err_and c.from_residual-in_err-require_log_room.result c.from_residual-in_err-require_log_room.ensures.1 in
-    let here = (goal.at.returns-in_err-require_log_room-clause-full g c).In_ok-values in
-    let holds = (kept g here p commands h).holds in
-    let e : c.in_err-require_log_room.field-0.0 ≡ LogFull used need limit = cc (q.1, q.2, is) in
-    let other : c.in_err-require_log_room.field-0.0 ≢ DiskFault = λ failed. cc (e, failed) in
-    let forced = c.in_err-require_log_room.ensures.forced p commands holds other in
-    is_full g.O.Oper.meaning p (g.M.Machine.disk c.admit.new.machine) c.admit.new.self commands holds c.args.op (accepted g here p commands h)
-    c.in_ok-values.length (long g here) (g.M.Machine.disk c.require_log_room.new.machine) c.require_log_room.new.self forced.0 forced.1 used need limit
-    (subst (λ (x : ExecErr). LacksPlace c.admit.new.self c.in_ok-values.length x) e c.in_err-require_log_room.ensures.lacks) (c.in_err-require_log_room.ensures.emptied other)
-
-pub returns-in_err-require_log_room-clause-end : goal.returns-in_err-require_log_room-clause-end
-returns-in_err-require_log_room-clause-end g c p commands h number is =
-    let q = err_from_is_err_and c.from_residual-in_err-require_log_room.result c.from_residual-in_err-require_log_room.ensures.1 in
-    let here = (goal.at.returns-in_err-require_log_room-clause-end g c).In_ok-values in
-    let holds = (kept g here p commands h).holds in
-    let e : c.in_err-require_log_room.field-0.0 ≡ LsnEnd number = cc (q.1, q.2, is) in
-    let other : c.in_err-require_log_room.field-0.0 ≢ DiskFault = λ failed. cc (e, failed) in
-    let forced = c.in_err-require_log_room.ensures.forced p commands holds other in
-    is_at_end g.O.Oper.meaning p (g.M.Machine.disk c.admit.new.machine) c.admit.new.self commands holds c.args.op (accepted g here p commands h)
-    c.in_ok-values.length (long g here) (g.M.Machine.disk c.require_log_room.new.machine) c.require_log_room.new.self forced.0 forced.1 number
-    (subst (λ (x : ExecErr). LacksPlace c.admit.new.self c.in_ok-values.length x) e c.in_err-require_log_room.ensures.lacks)
-
-pub returns-in_err-require_log_room-clause-moments : goal.returns-in_err-require_log_room-clause-moments
-returns-in_err-require_log_room-clause-moments g c p commands h =
-    let here = (goal.at.returns-in_err-require_log_room-clause-moments g c).In_ok-values in
-    moments_after g.O.Oper.meaning p (g.M.Machine.disk c.args.machine.now) (g.M.Machine.disk c.admit.new.machine) (g.M.Machine.disk c.require_log_room.new.machine) c.args.self.now.forced c.admit.new.self.forced commands
-    (no_call g here p commands h) (same_map g here).forced (c.require_log_room.ensures.moments p commands (kept g here p commands h).holds)
-
-pub returns-in_err-require_log_room-clause-attached : goal.returns-in_err-require_log_room-clause-attached
-returns-in_err-require_log_room-clause-attached g c attached =
-    c.require_log_room.ensures.attached (c.admit.ensures.attached attached)
-
-pub returns-in_err-made-clause-err : goal.returns-in_err-made-clause-err
-returns-in_err-made-clause-err g c p commands h =
-    let at = goal.at.returns-in_err-made-clause-err g c in
-    err_anyway c.from_residual-in_err-made.result _ (kept_made g at.After-prepare (same_map g at.In_ok-values) p commands h)
-
-pub returns-in_err-made-clause-moments : goal.returns-in_err-made-clause-moments
-returns-in_err-made-clause-moments g c p commands h told =
-    moments_here g.O.Oper.meaning p (g.M.Machine.disk c.args.machine.now) (g.M.Machine.disk c.require_log_room.new.machine) c.args.self.now commands
-    (ap (λ m. g.M.Machine.disk m) c.in_ok-require_log_room.ensures.untouched.0 ∙ no_call g (goal.at.returns-in_err-made-clause-moments g c).In_ok-values p commands h) c.admit.ensures.kept.begins h told
+pub returns-clause-answers : goal.returns-clause-answers
+returns-clause-answers g c = λ p w shows.
+    let m = meaning_in g.O.Oper.meaning p in
+    subst (λ (e : EngineView). Shows m p (g.M.Machine.disk c.args.machine.now) e.parts w → of_world.HasCause m p.limit w (used_in e) c.args.op c.execute-answer.result) c.self.view_is (c.execute-answer.ensures.exactly p w) shows.shows
 
 pub returns-clause-ok : goal.returns-clause-ok
-returns-clause-ok g c p commands h =
-    let at = goal.at.returns-clause-ok g c in
-    let number : c.prepare.new.self.log.next ≡ c.admit.new.self.log.next
-    = ap (λ (e : EngineView). e.log.next) c.prepare.ensures.same ∙ ap (λ (e : EngineView). e.log.next) c.in_ok-require_log_room.ensures.untouched.1 in
-    IfOk-weaker c.log_and_set.result _ _
-    (λ n t. executed g.O.Oper.meaning g.met.O.Oper.bounded g.met.O.Oper.lawful p (g.M.Machine.disk c.args.machine.now) c.args.self.now commands h c.args.op c.in_ok-values.values
-    c.in_ok-values.ensures.ready (c.in_ok-values.ensures.read h.told h.carried.laid) (g.M.Machine.disk c.require_log_room.new.machine) c.prepare.new.self c.log_and_set.new.self n
-    (kept_made g at.After-prepare (same_map g at.In_ok-values) p commands h)
-    (subst (λ (n : ℕ). n < 2 ^ 62) (sym number) c.in_ok-require_log_room.ensures.has.number) t)
-    (took g at.After-log_and_set)
+returns-clause-ok g c = λ p commands holds.
+    let m = meaning_in g.O.Oper.meaning p in
+    let old = g.M.Machine.disk c.args.machine.now in
+    let new = g.M.Machine.disk c.execute-answer.new.machine in
+    let after = view_of c.execute-answer.new.log c.execute-answer.new.objects c.execute-answer.new.graph.entries c.self.inside.identities c.is_disk_fault-failed.result in
+    let takes = takes_of old new c.args.self.now c.self.inside.log c.execute-answer.new.log c.self.inside.objects c.execute-answer.new.objects c.self.inside.graph.entries c.execute-answer.new.graph.entries c.self.inside.identities c.self.inside.identities c.self.inside.broken c.is_disk_fault-failed.result
+    c.self.view_is (λ e. 0) (ending_of_exec c.execute-answer.result) g.O.Oper.meaning (λ e m w used. exec_course m (params_of e).limit c.args.op w used) c.execute-answer.ensures.takes in
+    let cause = subst (λ (e : EngineView). Shows m p old e.parts holds.world → of_world.HasCause m p.limit holds.world (used_in e) c.args.op c.execute-answer.result) c.self.view_is (c.execute-answer.ensures.exactly p holds.world) holds.shows.shows in
+    exec_ok g.O.Oper.meaning p old new c.args.self.now after c.args.op commands holds (λ b w used small running. c.exec_may_be_taken.ensures b w (params_of c.args.self.now).limit c.args.op used small running)
+    c.execute-answer.result (takes.follows p holds.world holds.shows.shows) cause (unbroken_unless c.is_disk_fault-failed.result (ending_of_exec c.execute-answer.result) c.is_disk_fault-failed.ensures)
 
 pub returns-clause-err : goal.returns-clause-err
-returns-clause-err g c p commands h =
-    let at = goal.at.returns-clause-err g c in
+returns-clause-err g c = λ p commands holds.
+    let m = meaning_in g.O.Oper.meaning p in
     let old = g.M.Machine.disk c.args.machine.now in
-    on_err c.log_and_set.result _ _ c.log_and_set.ensures.err
-    (λ is. same_map_kept g.O.Oper.meaning p old c.args.self.now commands h (g.M.Machine.disk c.require_log_room.new.machine) c.log_and_set.new.self (stays g at.After-prepare)
-    (same_map_twice old c.args.self.now c.prepare.new.self c.log_and_set.new.self (same_made g at.After-prepare (same_map g at.In_ok-values))
-    (unlogged old c.prepare.new.self c.log_and_set.new.self is)))
+    let new = g.M.Machine.disk c.execute-answer.new.machine in
+    let after = view_of c.execute-answer.new.log c.execute-answer.new.objects c.execute-answer.new.graph.entries c.self.inside.identities c.is_disk_fault-failed.result in
+    let takes = takes_of old new c.args.self.now c.self.inside.log c.execute-answer.new.log c.self.inside.objects c.execute-answer.new.objects c.self.inside.graph.entries c.execute-answer.new.graph.entries c.self.inside.identities c.self.inside.identities c.self.inside.broken c.is_disk_fault-failed.result
+    c.self.view_is (λ e. 0) (ending_of_exec c.execute-answer.result) g.O.Oper.meaning (λ e m w used. exec_course m (params_of e).limit c.args.op w used) c.execute-answer.ensures.takes in
+    let cause = subst (λ (e : EngineView). Shows m p old e.parts holds.world → of_world.HasCause m p.limit holds.world (used_in e) c.args.op c.execute-answer.result) c.self.view_is (c.execute-answer.ensures.exactly p holds.world) holds.shows.shows in
+    let undone = subst (λ (e : EngineView). IfErr c.execute-answer.result (IsUndone e.parts after.parts)) c.self.view_is c.execute-answer.ensures.undone in
+    exec_err g.O.Oper.meaning p old new c.args.self.now after c.args.op commands holds (λ b w used small running. c.exec_may_be_taken.ensures b w (params_of c.args.self.now).limit c.args.op used small running)
+    c.execute-answer.result (takes.follows p holds.world holds.shows.shows) cause (unbroken_unless c.is_disk_fault-failed.result (ending_of_exec c.execute-answer.result) c.is_disk_fault-failed.ensures) undone
+
+pub returns-clause-images : goal.returns-clause-images
+returns-clause-images g c = λ told p commands holds.
+    let old = g.M.Machine.disk c.args.machine.now in
+    let new = g.M.Machine.disk c.execute-answer.new.machine in
+    let after = view_of c.execute-answer.new.log c.execute-answer.new.objects c.execute-answer.new.graph.entries c.self.inside.identities c.is_disk_fault-failed.result in
+    let takes = takes_of old new c.args.self.now c.self.inside.log c.execute-answer.new.log c.self.inside.objects c.execute-answer.new.objects c.self.inside.graph.entries c.execute-answer.new.graph.entries c.self.inside.identities c.self.inside.identities c.self.inside.broken c.is_disk_fault-failed.result
+    c.self.view_is (λ e. 0) (ending_of_exec c.execute-answer.result) g.O.Oper.meaning (λ e m w used. exec_course m (params_of e).limit c.args.op w used) c.execute-answer.ensures.takes in
+    exec_images g.O.Oper.meaning p old new c.args.self.now after c.args.op commands holds (λ b w used small running. c.exec_may_be_taken.ensures b w (params_of c.args.self.now).limit c.args.op used small running)
+    (λ b w steps. c.every_run_keeps.ensures.from_sound b w steps) (λ files w. c.image_stands.ensures p files w) (takes.moments told p holds.world holds.shows.shows)
 
 pub returns-clause-exactly : goal.returns-clause-exactly
-returns-clause-exactly g c p commands h =
-    let here = (goal.at.returns-clause-exactly g c).In_ok-values in
-    subst (λ (l : LogLength). HasCause g.O.Oper.meaning p commands l c.args.op c.log_and_set.result) (same_length (g.M.Machine.disk c.args.machine.now) c.args.self.now c.admit.new.self (same_map g here))
-    (place_cause g.O.Oper.meaning p (g.M.Machine.disk c.admit.new.machine) c.admit.new.self commands (kept g here p commands h).holds c.args.op (accepted g here p commands h)
-    c.in_ok-values.length (long g here) c.log_and_set.result c.in_ok-require_log_room.ensures.has c.log_and_set.ensures.only)
+returns-clause-exactly g c = λ p commands holds.
+    let m = meaning_in g.O.Oper.meaning p in
+    let old = g.M.Machine.disk c.args.machine.now in
+    let new = g.M.Machine.disk c.execute-answer.new.machine in
+    let after = view_of c.execute-answer.new.log c.execute-answer.new.objects c.execute-answer.new.graph.entries c.self.inside.identities c.is_disk_fault-failed.result in
+    let cause = subst (λ (e : EngineView). Shows m p old e.parts holds.world → of_world.HasCause m p.limit holds.world (used_in e) c.args.op c.execute-answer.result) c.self.view_is (c.execute-answer.ensures.exactly p holds.world) holds.shows.shows in
+    exec_cause g.O.Oper.meaning p old new c.args.self.now after c.args.op commands holds (λ b w used small running. c.exec_may_be_taken.ensures b w (params_of c.args.self.now).limit c.args.op used small running)
+    (λ w x. c.live_cache_is_the_map.ensures (bounds_of p) w x) c.execute-answer.result cause
 
-pub returns-clause-lengthens : goal.returns-clause-lengthens
-returns-clause-lengthens g c p commands h =
-    let at = goal.at.returns-clause-lengthens g c in
-    let same = same_made g at.After-prepare (same_map g at.In_ok-values) in
-    subst (λ (l : LogLength). Lengthens g.O.Oper.meaning p l c.args.op c.log_and_set.result (log_length c.log_and_set.new.self)) (same_length (g.M.Machine.disk c.args.machine.now) c.args.self.now c.prepare.new.self same)
-    (taken_length g.O.Oper.meaning p c.prepare.new.self c.log_and_set.new.self c.args.op c.in_ok-values.values
-    (ap (λ (s : SlotsView). s.params) same.slots ∙ h.params) c.log_and_set.result (took g at.After-log_and_set) c.log_and_set.ensures.only c.log_and_set.ensures.err)
+pub returns-clause-done : goal.returns-clause-done
+returns-clause-done g c =
+    let after = parts c.execute-answer.new.log c.execute-answer.new.objects c.execute-answer.new.graph.entries in
+    subst (λ (e : EngineView). IfOk c.execute-answer.result (IsDone g.O.Oper.meaning e.parts after c.args.op)) c.self.view_is c.execute-answer.ensures.done
 
-pub returns-clause-moments : goal.returns-clause-moments
-returns-clause-moments g c p commands h told =
-    moments_here g.O.Oper.meaning p (g.M.Machine.disk c.args.machine.now) (g.M.Machine.disk c.require_log_room.new.machine) c.args.self.now commands
-    (ap (λ m. g.M.Machine.disk m) c.in_ok-require_log_room.ensures.untouched.0 ∙ no_call g (goal.at.returns-clause-moments g c).In_ok-values p commands h) c.admit.ensures.kept.begins h told
+pub returns-clause-undone : goal.returns-clause-undone
+returns-clause-undone g c =
+    let after = parts c.execute-answer.new.log c.execute-answer.new.objects c.execute-answer.new.graph.entries in
+    subst (λ (e : EngineView). IfErr c.execute-answer.result (IsUndone e.parts after)) c.self.view_is c.execute-answer.ensures.undone
 
-pub returns-clause-attached : goal.returns-clause-attached
-returns-clause-attached g c attached =
-    let at = goal.at.returns-clause-attached g c in
-    taken_attached g.O.Oper.meaning (g.M.Machine.disk c.require_log_room.new.machine) c.prepare.new.self c.log_and_set.new.self c.args.op c.in_ok-values.values c.log_and_set.result
-    (took g at.After-log_and_set) c.log_and_set.ensures.err
-    (attached_stays (g.M.Machine.disk c.args.machine.now) (g.M.Machine.disk c.require_log_room.new.machine) c.args.self.now c.prepare.new.self (stays g at.After-prepare)
-    (same_made g at.After-prepare (same_map g at.In_ok-values)) attached)
+pub returns-clause-failure : goal.returns-clause-failure
+returns-clause-failure g c =
+    subst (λ (e : EngineView). IfErr c.execute-answer.result (IsExecFailure g.O.Oper.meaning (g.M.Machine.disk c.args.machine.now) (g.M.Machine.disk c.execute-answer.new.machine) e.parts c.args.op)) c.self.view_is c.execute-answer.ensures.failure

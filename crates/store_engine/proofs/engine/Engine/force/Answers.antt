@@ -1,40 +1,71 @@
-use Rattle.std.proofs.Common.{rules, ◌∙◌, ap, sym, subst, true}
+use Rattle.std.proofs.Common.{◌≡◌, ◌∙◌, ap, sym, subst, [], length, inr, refl, arith}
 use Rattle.log_records.specs.RecordLog.{RecordLogView}
-use Rattle.store_engine.specs.Engine.{EngineView, IsAttached}
-use Rattle.store_engine.proofs.Holding.{forced_all, forced_between, attached_after}
+use Rattle.cache_manager.specs.Courses.{force_course}
+use Rattle.cache_manager.specs.Forced.{IsForced}
+use Rattle.cache_manager.specs.Taking.{Ending}
+use Rattle.cache_manager.specs.Upkeep.{upkeep_force}
+use Rattle.store_engine.specs.Engine.{EngineView, IsCall, KeepsCommands, ending_of_force, view_of}
+use Rattle.cache_manager.specs.Taking.{Takes}
+use Rattle.store_engine.proofs.Calls.{call_of, takes_of, usable_after, parts_in_use}
+use Rattle.store_engine.proofs.Forces.{counted_as, done_as, force_attached, force_failed, force_in_use, force_never_stops, force_next, force_takes, on_ok_here, on_ok_so, quiet_force}
+use Rattle.store_engine.proofs.Holding.{holds_accepted}
+use Rattle.store_engine.proofs.Keeping.{takes_keeps}
+use Rattle.store_engine.proofs.Steps.{are_plain}
+use Rattle.store_engine.proofs.Ways.{unbroken_unless}
 use Rattle.store_engine.proofs.engine.Engine.force.Goals as goal
 
-pub returns-in-Ok-clause-ok : goal.returns-in-Ok-clause-ok
-returns-in-Ok-clause-ok g c p commands h =
-    let all = forced_all g.O.Oper.meaning p (g.M.Machine.disk c.args.machine.now) (g.M.Machine.disk c.force.new.m) c.self.inside.objects c.self.inside.log c.force.new.self c.self.inside.broken c.args.self.now commands c.self.view_is c.self.invariant h
-    c.force.ensures.runs (c.in-Ok.ensures.acknowledged h.told)
-    (ap (λ (v : RecordLogView). v.log.active) c.in-Ok.ensures.forced) (ap (λ (v : RecordLogView). v.log.header) c.in-Ok.ensures.forced) in
-    (c.forced.ensures ∙ all.0, all.1, all.2)
+pub invariant_of-self : goal.invariant_of-self
+invariant_of-self g c =
+    let was = parts_in_use c.self.inside.log c.self.inside.objects c.self.inside.graph.entries c.self.inside.identities c.self.inside.broken c.args.self.now c.self.view_is c.self.invariant c.requires.unbroken in
+    usable_after c.force_all-answer.new.log c.self.inside.objects c.self.inside.graph.entries c.self.inside.identities c.has_failed-failed.result (ending_of_force c.force_all-answer.result) c.has_failed-failed.ensures
+    (inr (force_in_use (g.M.Machine.disk c.args.machine.now) (g.M.Machine.disk c.force_all-answer.new.machine) c.self.inside.log c.force_all-answer.new.log c.self.inside.objects c.self.inside.graph.entries c.force_all-answer.result c.force_all-answer.ensures.forced c.force_all-answer.ensures.kept was.in_use)) (omega (arith, was.counted, force_next (g.M.Machine.disk c.args.machine.now) (g.M.Machine.disk c.force_all-answer.new.machine) c.self.inside.log c.force_all-answer.new.log c.self.inside.objects c.self.inside.graph.entries c.force_all-answer.result c.force_all-answer.ensures.forced c.force_all-answer.ensures.kept))
 
-pub returns-in-Ok-clause-moments : goal.returns-in-Ok-clause-moments
-returns-in-Ok-clause-moments g c p commands h told =
-    forced_between g.O.Oper.meaning p (g.M.Machine.disk c.args.machine.now) (g.M.Machine.disk c.force.new.m) c.self.inside.objects c.self.inside.log c.force.new.self c.self.inside.broken c.args.self.now commands c.self.view_is c.self.invariant h
-    (c.force.ensures.any_moment told)
+pub returns-clause-call : goal.returns-clause-call
+returns-clause-call g c =
+    let old = g.M.Machine.disk c.args.machine.now in
+    let new = g.M.Machine.disk c.force_all-answer.new.machine in
+    let after = view_of c.force_all-answer.new.log c.self.inside.objects c.self.inside.graph.entries c.self.inside.identities c.has_failed-failed.result in
+    subst (λ (e : Ending). IsCall old new c.args.self.now after 0 e) (sym c.stable.ensures.ending)
+    (call_of old new c.args.self.now c.self.inside.log c.force_all-answer.new.log c.self.inside.objects c.self.inside.objects c.self.inside.graph.entries c.self.inside.graph.entries c.self.inside.identities c.self.inside.identities c.self.inside.broken c.has_failed-failed.result
+    c.self.view_is (λ e. 0) (ending_of_force c.force_all-answer.result) (quiet_force old new c.self.inside.log.log.active c.force_all-answer.ensures.runs) refl
+    (inr (force_attached (g.M.Machine.disk c.args.machine.now) (g.M.Machine.disk c.force_all-answer.new.machine) c.self.inside.log c.force_all-answer.new.log c.self.inside.objects c.self.inside.graph.entries c.force_all-answer.result c.force_all-answer.ensures.forced c.force_all-answer.ensures.kept c.force_all-answer.ensures.runs)) (omega arith)
+    (force_never_stops c.force_all-answer.result c.force_all-answer.new.log) c.has_failed-failed.ensures (λ failed. c.force_all-answer.ensures.cause (force_failed c.force_all-answer.result failed)))
 
-pub returns-in-Err-clause-moments : goal.returns-in-Err-clause-moments
-returns-in-Err-clause-moments g c p commands h told =
-    forced_between g.O.Oper.meaning p (g.M.Machine.disk c.args.machine.now) (g.M.Machine.disk c.force.new.m) c.self.inside.objects c.self.inside.log c.force.new.self c.self.inside.broken c.args.self.now commands c.self.view_is c.self.invariant h
-    (c.force.ensures.any_moment told)
+pub returns-clause-takes : goal.returns-clause-takes
+returns-clause-takes g c =
+    let old = g.M.Machine.disk c.args.machine.now in
+    let new = g.M.Machine.disk c.force_all-answer.new.machine in
+    let after = view_of c.force_all-answer.new.log c.self.inside.objects c.self.inside.graph.entries c.self.inside.identities c.has_failed-failed.result in
+    subst (λ (e : Ending). Takes g.O.Oper.meaning old new c.args.self.now.parts after.parts (λ m w used. force_course m w used) e) (sym c.stable.ensures.ending)
+    (takes_of old new c.args.self.now c.self.inside.log c.force_all-answer.new.log c.self.inside.objects c.self.inside.objects c.self.inside.graph.entries c.self.inside.graph.entries c.self.inside.identities c.self.inside.identities c.self.inside.broken c.has_failed-failed.result
+    c.self.view_is (λ e. 0) (ending_of_force c.force_all-answer.result) g.O.Oper.meaning (λ e m w used. force_course m w used) (force_takes (g.M.Machine.disk c.args.machine.now) (g.M.Machine.disk c.force_all-answer.new.machine) c.self.inside.log c.force_all-answer.new.log c.self.inside.objects c.self.inside.graph.entries c.force_all-answer.result c.force_all-answer.ensures.forced c.force_all-answer.ensures.kept g.O.Oper.meaning c.force_all-answer.ensures.shows c.force_all-answer.ensures.moments))
 
-pub returns-in-Err-clause-attached : goal.returns-in-Err-clause-attached
-returns-in-Err-clause-attached g c is =
-    attached_after (g.M.Machine.disk c.args.machine.now) (g.M.Machine.disk c.force.new.m) c.self.inside.objects c.self.inside.log c.force.new.self c.self.inside.broken true
-    c.force.ensures.runs (ap (λ (v : RecordLogView). v.log.active) c.in-Err.ensures.kept)
-    (subst (λ (e : EngineView). IsAttached (g.M.Machine.disk c.args.machine.now) e) (sym c.self.view_is) is)
+pub returns-clause-commands : goal.returns-clause-commands
+returns-clause-commands g c =
+    let old = g.M.Machine.disk c.args.machine.now in
+    let new = g.M.Machine.disk c.force_all-answer.new.machine in
+    let after = view_of c.force_all-answer.new.log c.self.inside.objects c.self.inside.graph.entries c.self.inside.identities c.has_failed-failed.result in
+    let takes = takes_of old new c.args.self.now c.self.inside.log c.force_all-answer.new.log c.self.inside.objects c.self.inside.objects c.self.inside.graph.entries c.self.inside.graph.entries c.self.inside.identities c.self.inside.identities c.self.inside.broken c.has_failed-failed.result
+    c.self.view_is (λ e. 0) (ending_of_force c.force_all-answer.result) g.O.Oper.meaning (λ e m w used. force_course m w used) (force_takes (g.M.Machine.disk c.args.machine.now) (g.M.Machine.disk c.force_all-answer.new.machine) c.self.inside.log c.force_all-answer.new.log c.self.inside.objects c.self.inside.graph.entries c.force_all-answer.result c.force_all-answer.ensures.forced c.force_all-answer.ensures.kept g.O.Oper.meaning c.force_all-answer.ensures.shows c.force_all-answer.ensures.moments) in
+    subst (λ (e : Ending). KeepsCommands g.O.Oper.meaning old new c.args.self.now after e) (sym c.stable.ensures.ending)
+    (takes_keeps g.O.Oper.meaning old new c.args.self.now after (λ m w used. force_course m w used) (ending_of_force c.force_all-answer.result) takes
+    (unbroken_unless c.has_failed-failed.result (ending_of_force c.force_all-answer.result) c.has_failed-failed.ensures)
+    (λ b w steps. c.every_run_keeps.ensures.from_sound b w steps) (λ p files w. c.image_stands.ensures p files w) (λ b w used small running. c.force_may_be_taken.ensures b w used small running)
+    (λ m w used. are_plain (force_course m w used).steps (upkeep_force m w)))
 
-pub returns-in-Err-clause-broken : goal.returns-in-Err-clause-broken
-returns-in-Err-clause-broken g c = search rules
+pub returns-clause-forced : goal.returns-clause-forced
+returns-clause-forced g c = λ p commands holds.
+    let d = g.M.Machine.disk c.args.machine.now in
+    let accepted = holds_accepted g.O.Oper.meaning p d c.args.self.now commands holds in
+    let all = done_as c.force_all-answer.result c.stable.result (c.force_all-answer.new.log.forced ≡ length commands) c.stable.ensures.ending
+    (on_ok_so c.force_all-answer.result (IsForced c.self.inside.log c.force_all-answer.new.log) _ (λ forced. ap (λ (l : RecordLogView). l.forced) forced ∙ ap (λ (e : EngineView). e.parts.log.accepted) c.self.view_is ∙ accepted) c.force_all-answer.ensures.forced) in
+    counted_as c.stable.result (λ n. (n ≡ length commands) × (c.force_all-answer.new.log.forced ≡ length commands)) c.forced-forced.result c.stable.ensures.count
+    (on_ok_so c.stable.result (c.force_all-answer.new.log.forced ≡ length commands) _ (λ is. (c.forced-forced.ensures ∙ is, is)) all)
 
-pub returns-in-Err-clause-ok : goal.returns-in-Err-clause-ok
-returns-in-Err-clause-ok g c = search rules
+pub returns-clause-empty : goal.returns-clause-empty
+returns-clause-empty g c =
+    done_as c.force_all-answer.result c.stable.result (c.force_all-answer.new.log.log.pending ≡ []) c.stable.ensures.ending
+    (on_ok_so c.force_all-answer.result (IsForced c.self.inside.log c.force_all-answer.new.log) _ (λ forced. ap (λ (l : RecordLogView). l.log.pending) forced) c.force_all-answer.ensures.forced)
 
-pub returns-in-Err-clause-log : goal.returns-in-Err-clause-log
-returns-in-Err-clause-log g c = search rules
-
-pub returns-in-Err-clause-emptied : goal.returns-in-Err-clause-emptied
-returns-in-Err-clause-emptied g c = search rules
+pub returns-clause-answer : goal.returns-clause-answer
+returns-clause-answer g c = counted_as c.stable.result (λ n. n ≡ c.force_all-answer.new.log.forced) c.forced-forced.result c.stable.ensures.count (on_ok_here c.stable.result _ c.forced-forced.ensures)

@@ -1,0 +1,57 @@
+-- What a call of the engine leaves, from what the call on its parts does.
+use Rattle.std.proofs.Common.{◌≡◌, ◌∙◌, subst, ap, ℕ, ◌+◌, ◌≤◌, List, ◌⊎◌, ⊎_elim, Bool, true, false}
+use Rattle.std.specs.Prelude.{◌↔◌}
+use Rattle.std.proofs.lemmas.Bool.{both_ways}
+use Rattle.disk_model.specs.Disk.{Disk, Rises}
+use Rattle.oper_core.specs.Meaning.{Meaning}
+use Rattle.oper_core.specs.declared.bounds.Bounds.{Bounds}
+use Rattle.install_order.specs.declared.entry.Entry.{Entry}
+use Rattle.log_records.specs.RecordLog.{RecordLogView}
+use Rattle.explain_core.specs.World.{World}
+use Rattle.cache_manager.specs.Courses.{Course, Stop}
+use Rattle.cache_manager.specs.Finished.{IsQuiet}
+use Rattle.cache_manager.specs.Kept as of_parts
+use Rattle.cache_manager.specs.Laid.{Laid}
+use Rattle.cache_manager.specs.Parts.{parts}
+use Rattle.cache_manager.specs.Taking.{ArePartsInUse, Ending, Takes}
+use Rattle.cache_manager.specs.Taking.Ending.{Stopped}
+use Rattle.store_engine.specs.Engine.{EngineView, IsCall, IsFailed, IsUsable, StopsAt, view_of}
+
+-- the parts of an engine that is not broken are in use
+pub parts_in_use : (log : RecordLogView) (objects : Laid) (entries : List Entry) (identities : ℕ) (broken : Bool) (before : EngineView)
+    → view_of log objects entries identities broken ≡ before → (broken ≡ false → IsUsable (parts log objects entries) identities) → before.broken ≡ false → IsUsable (parts log objects entries) identities
+parts_in_use log objects entries identities broken before is invariant fine = invariant (ap (λ (e : EngineView). e.broken) is ∙ fine)
+
+-- where a call fails with the disk or else leaves the parts in use, and it is broken exactly where the disk failed, what
+-- holds of every engine holds
+pub usable_after : (log : RecordLogView) (objects : Laid) (entries : List Entry) (identities : ℕ) (broken : Bool) (ending : Ending)
+    → (broken ≡ true) ↔ IsFailed ending → IsFailed ending ⊎ ArePartsInUse (parts log objects entries) → identities ≤ log.next → broken ≡ false → IsUsable (parts log objects entries) identities
+usable_after log objects entries identities broken ending so in_use counted fine =
+    ⊎_elim (λ failed. absurd (both_ways _ fine (so.1 failed))) (λ used. record { in_use = used; counted = counted }) in_use
+
+module _ (old new : Disk) (before : EngineView) (log after_log : RecordLogView) (objects after_objects : Laid) (entries after_entries : List Entry) (identities after_identities : ℕ) (broken after_broken : Bool)
+    (is : view_of log objects entries identities broken ≡ before) (logged : EngineView → ℕ) (ending : Ending) where
+  abbrev pub after : EngineView
+  after = view_of after_log after_objects after_entries after_identities after_broken
+
+  abbrev pub inside : EngineView
+  inside = view_of log objects entries identities broken
+
+  pub call_of : IsQuiet old new → after_objects.slots.params ≡ objects.slots.params
+      → IsFailed ending ⊎ (of_parts.IsAttached old (parts log objects entries) → of_parts.IsAttached new (parts after_log after_objects after_entries))
+      → after_identities ≡ identities + logged inside → ((stop : Stop) → ending ≡ Stopped stop → StopsAt after_log stop)
+      → (after_broken ≡ true) ↔ IsFailed ending → (IsFailed ending → Rises old.disk_faults new.disk_faults) → IsCall old new before after (logged before) ending
+  call_of quiet params attached counted stopped so fault = subst (λ (e : EngineView). IsCall old new e after (logged e) ending) is (record {
+    time = quiet.time;
+    quiet = quiet.said;
+    params = params;
+    attached = attached;
+    identities = counted;
+    stopped = stopped;
+    broken = so;
+    fault = fault;
+  })
+
+  pub takes_of : {O : Type 0} (meaning : Bounds → Meaning O) (course : EngineView → Meaning O → World O → ℕ → Course O)
+      → Takes meaning old new (parts log objects entries) (parts after_log after_objects after_entries) (course inside) ending → Takes meaning old new before.parts after.parts (course before) ending
+  takes_of meaning course takes = subst (λ (e : EngineView). Takes meaning old new e.parts after.parts (course e) ending) is takes

@@ -1,0 +1,118 @@
+-- A call that takes a course without commands keeps the commands that engine and files stand for.
+use Rattle.std.proofs.Common.{◌≡◌, ◌∙◌, sym, subst, ap, ℕ, ◌≤◌, List, length, take, arith, inl, inr, ◌⊎◌, ⊎_elim}
+use Rattle.std.specs.Prelude.{false}
+use Rattle.disk_model.specs.Disk.{Files, Disk}
+use Rattle.disk_model.specs.Moments.{weaker}
+use Rattle.disk_model.specs.declared.machine.FileNo.TheVariants.{Objects}
+use Rattle.disk_model.specs.Silent.{IsSilent}
+use Rattle.oper_core.specs.Meaning.{Meaning, IsSmall}
+use Rattle.oper_core.specs.declared.bounds.Bounds.{Bounds}
+use Rattle.formats.specs.Objects.{bounds_of}
+use Rattle.formats.specs.declared.params.Params.{Params}
+use Rattle.log_frames.specs.LogView.{used_of}
+use Rattle.explain_core.specs.History.{commands_of}
+use Rattle.explain_core.specs.RunLaws.{begins-allowed}
+use Rattle.explain_core.specs.Sound.{IsSound}
+use Rattle.explain_core.specs.Taken.{IsAfterSome}
+use Rattle.explain_core.specs.World.{World, Step, run, AreAllowed}
+use Rattle.standing.specs.Moments.{ShowsSome}
+use Rattle.standing.specs.Standing.{StandsFor}
+use Rattle.cache_manager.specs.Courses.{Course}
+use Rattle.cache_manager.specs.Parts.{Parts, Shows}
+use Rattle.cache_manager.specs.Running.{IsRunning, MayBeTaken}
+use Rattle.cache_manager.specs.Taking.{Ending, Follows, Takes}
+use Rattle.cache_manager.specs.Taking.Ending.{Done, Stopped, Short, Failed}
+use Rattle.store_engine.specs.Engine.{EngineView, Between, Holds, IsFailed, Kept, KeepsCommands, forced_in}
+use Rattle.store_engine.specs.Store.{meaning_in}
+use Rattle.store_engine.proofs.Counts.{forced_shown}
+use Rattle.store_engine.proofs.Holding.{Stand, holds_forced}
+use Rattle.store_engine.proofs.Stats.{small_in}
+use Rattle.store_engine.proofs.Steps.{ArePlain, HasFront, plain_front, steps_extend, same_commands, more_forced, front_extended}
+
+-- every run of steps that may be taken keeps a world sound
+abbrev pub KeepsRuns : {O : Type 0} → (Bounds → Meaning O) → Type 0
+KeepsRuns {O} meaning = (b : Bounds) (w : World O) (steps : List (Step O)) → IsSmall b → IsSound (meaning b) w → AreAllowed (meaning b) w steps → IsSound (meaning b) (run (meaning b) w steps)
+
+-- the course of each world in which calls are made may be taken
+abbrev pub MayTake : {O : Type 0} → (Bounds → Meaning O) → (Meaning O → World O → ℕ → Course O) → Type 0
+MayTake {O} meaning course = (b : Bounds) (w : World O) (used : ℕ) → IsSmall b → IsRunning (meaning b) w → MayBeTaken (meaning b) w (course (meaning b) w used).steps
+
+-- and it has no command
+abbrev pub IsPlainCourse : {O : Type 0} → (Meaning O → World O → ℕ → Course O) → Type 0
+IsPlainCourse {O} course = (m : Meaning O) (w : World O) (used : ℕ) → ArePlain (course m w used).steps
+
+-- a store that is shown has small numbers
+pub small_shown : {O : Type 0} (m : Meaning O) (p : Params) (d : Disk) (it : Parts) (w : World O) → Shows m p d it w → IsSmall (bounds_of p)
+small_shown m p d it w shows = small_in m p (d.reads Objects) it.store w shows.store
+
+-- an image that shows a sound later world, of whose stable members these are first commands
+pub between_front : {O : Type 0} (meaning : Bounds → Meaning O) (p : Params) (old : Disk) (before : EngineView) (commands : List O) (holds : Holds meaning p old before commands) (later : World O) (files : Files) (said : List ℕ)
+    → HasFront holds.world later → said ≡ old.said → StandsFor meaning p files (commands_of (take later.forced later.history)) → Between meaning p old (forced_in before) commands files said
+between_front {O} meaning p old before commands holds later files said has quiet stands =
+    let n = length (commands_of (take later.forced later.history)) in
+    let front : take n commands ≡ commands_of (take later.forced later.history) = ap (λ (l : List O). take n l) (sym holds.commands_are) ∙ has.front in
+    record {
+      quiet = quiet;
+      kept = n;
+      enough = omega (arith, has.enough, holds_forced meaning p old before commands holds);
+      within = omega (arith, has.within, ap (λ (l : List O). length l) holds.commands_are);
+      stands = subst (λ (l : List O). StandsFor meaning p files l) (sym front) stands;
+    }
+
+module _ {O : Type 0} (meaning : Bounds → Meaning O) (p : Params) (old new : Disk) (before after : EngineView) (commands : List O) (holds : Holds meaning p old before commands) where
+  abbrev m : Meaning O
+  m = meaning_in meaning p
+
+  within : holds.world.forced ≤ length holds.world.history
+  within = holds.shows.shows.running.sound.forced
+
+  -- parts that show the world after plain steps stand for the commands
+  pub kept_plainly : (steps : List (Step O)) → ArePlain steps → after.broken ≡ false → Shows m p new after.parts (run m holds.world steps) → Kept meaning p before new after commands
+  kept_plainly steps plain unbroken shows =
+      let w = holds.world in
+      let later = run m w steps in
+      let e = steps_extend m w steps plain within in
+      record {
+        holds = record { world = later; shows = record { unbroken = unbroken; shows = shows }; commands_are = same_commands w later e ∙ holds.commands_are };
+        rising = omega (arith, more_forced w later within e.extends, holds_forced meaning p old before commands holds, forced_shown m p new after.parts later shows);
+      }
+
+  kept_some : (steps : List (Step O)) → ArePlain steps → after.broken ≡ false → IsAfterSome m (λ v. Shows m p new after.parts v) holds.world steps → Kept meaning p before new after commands
+  kept_some steps plain unbroken is = kept_plainly is.taken (plain_front steps is.taken is.begins plain) unbroken is.holds
+
+  kept_by : (c : Course O) → ArePlain c.steps → (e : Ending) → IsFailed e ⊎ (after.broken ≡ false) → Follows m p new after.parts holds.world c e → IsFailed e ⊎ Kept meaning p before new after commands
+  kept_by c plain Done unbroken f = ⊎_elim (λ failed. absurd failed) (λ fine. inr (kept_plainly c.steps plain fine f.1.shows)) unbroken
+  kept_by c plain (Stopped stop) unbroken f = ⊎_elim (λ failed. absurd failed) (λ fine. inr (kept_plainly c.steps plain fine f.1.shows)) unbroken
+  kept_by c plain Short unbroken f = ⊎_elim (λ failed. absurd failed) (λ fine. inr (kept_some c.steps plain fine f)) unbroken
+  kept_by c plain Failed unbroken f = inl tt
+
+  -- an image within plain steps that may be taken stands for a front of the commands
+  pub between_plainly : KeepsRuns meaning → Stand meaning p → (steps : List (Step O)) → ArePlain steps → AreAllowed m holds.world steps → (files : Files) (said : List ℕ)
+      → IsSilent (ShowsSome m p holds.world steps) old.said files said → Between meaning p old (forced_in before) commands files said
+  between_plainly keeps stand steps plain may files said is =
+      let w = holds.world in
+      let some = is.holds in
+      let later = run m w some.taken in
+      let e = steps_extend m w some.taken (plain_front steps some.taken some.begins plain) within in
+      let small = small_shown m p old before.parts w holds.shows.shows in
+      let sound = keeps (bounds_of p) w some.taken small holds.shows.shows.running.sound (begins-allowed m w steps some.taken some.begins may) in
+      between_front meaning p old before commands holds later files said (front_extended w later within e) is.silent (stand files later sound some.holds)
+
+pub takes_keeps : {O : Type 0} (meaning : Bounds → Meaning O) (old new : Disk) (before after : EngineView) (course : Meaning O → World O → ℕ → Course O) (ending : Ending)
+    → Takes meaning old new before.parts after.parts course ending → IsFailed ending ⊎ (after.broken ≡ false)
+    → KeepsRuns meaning → ((p : Params) → Stand meaning p) → MayTake meaning course → IsPlainCourse course
+    → KeepsCommands meaning old new before after ending
+takes_keeps {O} meaning old new before after course ending takes unbroken keeps stand may plain = record {
+  holds = λ p commands holds.
+      let m = meaning_in meaning p in
+      let c = course m holds.world (used_of before.parts.log.log) in
+      kept_by meaning p old new before after commands holds c (plain m holds.world (used_of before.parts.log.log)) ending unbroken (takes.follows p holds.world holds.shows.shows);
+  images = λ told p commands holds.
+      let m = meaning_in meaning p in
+      let w = holds.world in
+      let used = used_of before.parts.log.log in
+      let shows = holds.shows.shows in
+      let allowed = (may (bounds_of p) w used (small_shown m p old before.parts w shows) shows.running).allowed in
+      weaker old new (IsSilent (ShowsSome m p w (course m w used).steps) old.said) (Between meaning p old (forced_in before) commands) (takes.moments told p w shows)
+      (λ files said is. between_plainly meaning p old new before after commands holds keeps (stand p) (course m w used).steps (plain m w used) allowed files said is);
+}

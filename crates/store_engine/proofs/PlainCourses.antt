@@ -1,0 +1,65 @@
+-- No course but that of a command appends one.
+use Rattle.std.proofs.Common.{ℕ, zero, suc, ◌+◌, Bool, List, [], ◌∷◌, ◌++◌, length}
+use Rattle.std.specs.Prelude.{◌*◌, ◌-◌, nat_lt, nat_le, if◌then◌else◌}
+use Rattle.std.proofs.lemmas.Bool.{cond_both}
+use Rattle.oper_core.specs.Meaning.{Meaning}
+use Rattle.install_order.specs.Computed.{some_below, least_below}
+use Rattle.explain_core.specs.Turns.{turn, turns, thin_steps, thin_name, has_work, must_install}
+use Rattle.explain_core.specs.World.{World, Step, run, end_of, node_named}
+use Rattle.explain_core.specs.World.Step.{Slot_gate, Removal, Replay, Header_gate}
+use Rattle.cache_manager.specs.Courses.{Course, course, grown, is_through, force_steps, force_course, room_steps}
+use Rattle.cache_manager.specs.Courses.Stop.{Through, Full}
+use Rattle.cache_manager.specs.Logged.{log_limit}
+use Rattle.cache_manager.specs.Running.{AreUpkeep}
+use Rattle.cache_manager.specs.Upkeep.{upkeep_append, upkeep_either, upkeep_force, upkeep_room, upkeep_then}
+use Rattle.checkpointing.specs.Courses.{check_course, check_length, check_steps, checkpoint_course, closing_course, logged_course, last_epoch, new_base, rewrite_course, trim_course, trimmed, trimmed_file}
+use Rattle.redo_pass.specs.Redo.{redo_steps}
+use Rattle.store_engine.proofs.Steps.{ArePlain, plain_append}
+
+module _ {O : Type 0} (m : Meaning O) where
+  upkeep_logged : (w : World O) (used : ℕ) → AreUpkeep (logged_course m w used).steps
+  upkeep_logged w used =
+      let n = check_length m w in
+      upkeep_either m (nat_lt log_limit (grown m w used n)) (course [] used (Full used (n + 5) log_limit)) (course check_steps (grown m w used n) Through) tt (tt, (tt, tt))
+
+  upkeep_check : (w : World O) (used : ℕ) → AreUpkeep (check_course m w used).steps
+  upkeep_check w used = upkeep_then m w (course (room_steps m w (check_length m w)) used Through) (logged_course m) (upkeep_room m w (check_length m w)) (λ v used. upkeep_logged v used)
+
+  pub upkeep_checkpoint : (w : World O) (used : ℕ) → AreUpkeep (checkpoint_course m w used).steps
+  upkeep_checkpoint w used =
+      let c = check_course m w used in
+      upkeep_either m (is_through c.stop) c (course (c.steps ++ force_steps m (run m w c.steps)) c.used c.stop) (upkeep_check w used)
+      (upkeep_append m c.steps (force_steps m (run m w c.steps)) (upkeep_check w used) (upkeep_force m (run m w c.steps)))
+
+  pub upkeep_closing : (w : World O) (used : ℕ) → AreUpkeep (closing_course m w used).steps
+  upkeep_closing w used = upkeep_check w used
+
+  upkeep_rewrite : (w : World O) (used : ℕ) → AreUpkeep (rewrite_course m w used).steps
+  upkeep_rewrite w used =
+      upkeep_either m (nat_lt log_limit (trimmed_file m w)) (course [] used (Full used (trimmed_file m w) log_limit)) (course (Header_gate (new_base m w) ∷ []) (trimmed m w) Through) tt (tt, tt)
+
+  pub upkeep_trim : (epoch : ℕ) (w : World O) (used : ℕ) → AreUpkeep (trim_course m epoch w used).steps
+  upkeep_trim epoch w used = cond_both (nat_le last_epoch epoch) _ _ (λ (c : Course O). AreUpkeep c.steps) (λ worn. tt)
+      (λ left. upkeep_then m w (force_course m w used) (rewrite_course m) (upkeep_force m w) (λ v used. upkeep_rewrite v used))
+
+  plain_if : (b : Bool) (xs ys : List (Step O)) → ArePlain xs → ArePlain ys → ArePlain (if b then xs else ys)
+  plain_if b xs ys first second = cond_both b xs ys (λ (l : List (Step O)). ArePlain l) (λ is. first) (λ is. second)
+
+  plain_thin : (w : World O) → ArePlain (thin_steps m w)
+  plain_thin w =
+      let node = node_named m w (thin_name m w) in
+      plain_if (some_below m.objects (has_work m w node)) (Slot_gate node (least_below m.objects (has_work m w node)) ∷ Removal node ∷ []) (Removal node ∷ []) (tt, (tt, tt)) (tt, tt)
+
+  plain_turn : (limit : ℕ) (w : World O) → ArePlain (turn m limit w)
+  plain_turn limit w =
+      plain_if (must_install m limit w) (thin_steps m w) (if nat_le w.next (length w.history) then Replay ∷ [] else []) (plain_thin w)
+      (plain_if (nat_le w.next (length w.history)) (Replay ∷ []) [] (tt, tt) tt)
+
+  plain_turns : (limit n : ℕ) (w : World O) → ArePlain (turns m limit n w)
+  unfolding turns
+  plain_turns limit zero w = tt
+  plain_turns limit (suc n) w = plain_append (turn m limit w) (turns m limit n (run m w (turn m limit w))) (plain_turn limit w) (plain_turns limit n (run m w (turn m limit w)))
+
+  -- a redo, and steps that log nothing behind it
+  pub plain_redo : (limit : ℕ) (w : World O) (closing : List (Step O)) → ArePlain closing → ArePlain (redo_steps m limit w ++ closing)
+  plain_redo limit w closing are = plain_append (redo_steps m limit w) closing (plain_turns limit (2 * (end_of w - w.next)) w) are

@@ -1,0 +1,125 @@
+-- A restart keeps the commands that the files stand for, and all of them are forced after it.
+use Rattle.std.proofs.Common.{◌≡◌, ◌∙◌, sym, subst, ap, ℕ, ◌≤◌, List, [], ◌∷◌, ◌++◌, length, take, drop, refl, arith}
+use Rattle.std.specs.Prelude.{Result, Ok, Err, IfOk, false}
+use Rattle.disk_model.specs.Disk.{Files, Disk, LeavesOnly}
+use Rattle.disk_model.specs.Silent.{IsSilent}
+use Rattle.oper_core.specs.Meaning.{Meaning, IsSmall}
+use Rattle.oper_core.specs.declared.bounds.Bounds.{Bounds}
+use Rattle.formats.specs.Objects.{bounds_of}
+use Rattle.formats.specs.declared.params.Params.{Params}
+use Rattle.explain_core.specs.History.{Member, commands_of}
+use Rattle.explain_core.specs.RunLaws.{Begins, begins-allowed}
+use Rattle.explain_core.specs.World.{World, Step, step, run, AreAllowed}
+use Rattle.explain_core.specs.World.Step.{Crash}
+use Rattle.standing.specs.Moments.{ShowsSome}
+use Rattle.standing.specs.Standing.{IsFound, StandsFor}
+use Rattle.cache_manager.specs.Kept.{IsAttached}
+use Rattle.cache_manager.specs.Parts.{Parts, Shows}
+use Rattle.cache_manager.specs.Taking.{IsAfter}
+use Rattle.checkpointing.specs.Courses.{closing_course}
+use Rattle.redo_pass.specs.Redo.{redo_steps}
+use Rattle.restart.specs.Courses.{redo_course, restart_course}
+use Rattle.restart.specs.Opening.{OpensThrough}
+use Rattle.restart.specs.Starts.{OrAtStart, or_weaker}
+use Rattle.restart.specs.declared.restart_err.RestartErr.{RestartErr}
+use Rattle.store_engine.specs.Engine.{EngineView, Between, Holds, IsAttached as AreAttached, forced_in, opened}
+use Rattle.store_engine.specs.Store.{meaning_in}
+use Rattle.store_engine.proofs.Counts.{commands-fewer, forced_shown}
+use Rattle.store_engine.proofs.Holding.{Stand}
+use Rattle.store_engine.proofs.Keeping.{KeepsRuns}
+use Rattle.store_engine.proofs.PlainCourses.{plain_redo, upkeep_closing}
+use Rattle.store_engine.proofs.Steps.{ArePlain, ExtendsPlainly, HasFront, are_plain, extends_same, front_extended, more_forced, plain_front, same_commands, steps_extend}
+
+module _ {O : Type 0} (m : Meaning O) (p : Params) (files : Files) (commands : List O) (w : World O) (found : IsFound m p files commands w) (dirty used : ℕ) where
+  within : w.forced ≤ length w.history
+  within = found.sound.forced
+
+  -- behind the crash the steps are plain
+  abbrev rest : List (Step O)
+  rest = redo_steps m dirty (step m w Crash) ++ (closing_course m (run m w (redo_course m dirty w used).steps) used).steps
+
+  rest_plain : ArePlain rest
+  rest_plain = plain_redo m dirty (step m w Crash) (closing_course m (run m w (redo_course m dirty w used).steps) used).steps (are_plain _ (upkeep_closing m (run m w (redo_course m dirty w used).steps) used))
+
+  -- the world after the crash and some plain steps
+  extended : (steps : List (Step O)) → ArePlain steps → ExtendsPlainly w (run m w (Crash ∷ steps))
+  unfolding run
+  extended steps plain = subst (λ (v : World O). ExtendsPlainly w (run m v steps)) (sym found.crashed) (steps_extend m w steps plain within)
+
+  all_extended : ExtendsPlainly w (run m w (restart_course m dirty w used).steps)
+  all_extended = extended rest rest_plain
+
+  some_extended : (taken : List (Step O)) → Begins (restart_course m dirty w used).steps taken → ExtendsPlainly w (run m w taken)
+  unfolding run
+  some_extended [] begins = extends_same w w refl (omega arith) within
+  some_extended (s ∷ taken) begins =
+      let first : Crash ∷ [] ≡ s ∷ [] = ap (λ (l : List (Step O)). take 1 l) begins.split in
+      let later : rest ≡ taken ++ begins.rest = ap (λ (l : List (Step O)). drop 1 l) begins.split in
+      let front : Begins rest taken = record { rest = begins.rest; split = later } in
+      subst (λ (l : List (Step O)). ExtendsPlainly w (run m w (l ++ taken))) first (extended taken (plain_front rest taken front rest_plain))
+
+  pub restart_keeps : commands_of (run m w (restart_course m dirty w used).steps).history ≡ commands
+  restart_keeps = same_commands w (run m w (restart_course m dirty w used).steps) all_extended ∙ found.commands_are
+
+  -- all members are stable
+  whole : take w.forced w.history ≡ w.history
+  unfolding step
+  whole = ap (λ (v : World O). v.history) found.crashed
+
+  all_forced : length (commands_of (take w.forced w.history)) ≡ length commands
+  all_forced = ap (λ (h : List (Member O)). length (commands_of h)) whole ∙ ap (λ (l : List O). length l) found.commands_are
+
+  pub restart_forced : (d : Disk) (it : Parts) → Shows m p d it (run m w (restart_course m dirty w used).steps) → it.log.forced ≡ length commands
+  restart_forced d it shows =
+      let later = run m w (restart_course m dirty w used).steps in
+      omega (
+        arith,
+        forced_shown m p d it later shows,
+        more_forced w later within all_extended.extends,
+        commands-fewer later.forced later.history,
+        ap (λ (l : List O). length l) restart_keeps,
+        all_forced,
+      )
+
+  pub some_front : (taken : List (Step O)) → Begins (restart_course m dirty w used).steps taken → HasFront w (run m w taken)
+  some_front taken begins = front_extended w (run m w taken) within (some_extended taken begins)
+
+module _ {O : Type 0} (meaning : Bounds → Meaning O) (p : Params) (old new : Disk) (commands : List O) (w : World O) (found : IsFound (meaning_in meaning p) p old.reads commands w) (dirty used : ℕ) where
+  abbrev m : Meaning O
+  m = meaning_in meaning p
+
+  -- engine and files stand for the commands of the files
+  pub restart_holds : (r : Result EngineView RestartErr) → IfOk r (λ (e : EngineView). (e.broken ≡ false) × (e.identities ≡ 0)) → IfOk r (λ (e : EngineView). IsAfter m p new e.parts w (restart_course m dirty w used))
+      → IfOk r (λ (e : EngineView). Holds meaning p new e commands × (forced_in e ≡ length commands))
+  restart_holds (Ok e) fresh after = (
+    record { world = run m w (restart_course m dirty w used).steps; shows = record { unbroken = fresh.0; shows = after.shows }; commands_are = restart_keeps m p old.reads commands w found dirty used },
+    restart_forced m p old.reads commands w found dirty used new e.parts after.shows,
+  )
+  restart_holds (Err cause) fresh after = tt
+
+  restart_between : IsSmall (bounds_of p) → KeepsRuns meaning → Stand meaning p → AreAllowed m w (restart_course m dirty w used).steps → (files : Files) (said : List ℕ)
+      → IsSilent (ShowsSome m p w (restart_course m dirty w used).steps) old.said files said → Between meaning p old (length commands) commands files said
+  restart_between small keeps stand may files said is =
+      let some = is.holds in
+      let later = run m w some.taken in
+      let n = length (commands_of (take later.forced later.history)) in
+      let has = some_front m p old.reads commands w found dirty used some.taken some.begins in
+      let sound = keeps (bounds_of p) w some.taken small found.sound (begins-allowed m w (restart_course m dirty w used).steps some.taken some.begins may) in
+      let front : take n commands ≡ commands_of (take later.forced later.history) = ap (λ (l : List O). take n l) (sym found.commands_are) ∙ has.front in
+      record {
+        quiet = is.silent;
+        kept = n;
+        enough = omega (arith, has.enough, all_forced m p old.reads commands w found dirty used);
+        within = omega (arith, has.within, ap (λ (l : List O). length l) found.commands_are);
+        stands = subst (λ (l : List O). StandsFor meaning p files l) (sym front) (stand files later sound some.holds);
+      }
+
+  -- and each image within the restart for a front of them
+  pub restart_images : IsSmall (bounds_of p) → KeepsRuns meaning → Stand meaning p → AreAllowed m w (restart_course m dirty w used).steps
+      → OpensThrough m p old new w (restart_course m dirty w used).steps → LeavesOnly old new (OrAtStart old (Between meaning p old (length commands) commands))
+  restart_images small keeps stand may moments =
+      or_weaker old new (IsSilent (ShowsSome m p w (restart_course m dirty w used).steps) old.said) (Between meaning p old (length commands) commands) moments (restart_between small keeps stand may)
+
+pub ready_engine : (new : Disk) (r : Result EngineView RestartErr) → IfOk r (λ (e : EngineView). (e.broken ≡ false) × (e.identities ≡ 0)) → IfOk (opened r) (IsAttached new) → IfOk r (λ (e : EngineView). (e.broken ≡ false) × (e.identities ≡ 0) × AreAttached new e)
+ready_engine new (Ok e) fresh attached = (fresh.0, fresh.1, attached)
+ready_engine new (Err cause) fresh attached = tt

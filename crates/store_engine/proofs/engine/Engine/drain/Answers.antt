@@ -1,0 +1,70 @@
+use Rattle.std.proofs.Common.{◌≡◌, ◌∙◌, subst, ℕ, ◌+◌, ◌-◌, inl, inr, ⊎_elim, arith}
+use Rattle.std.specs.Prelude.{IfOk, OnOk}
+use Rattle.cache_manager.specs.Courses.{drain_course, removals}
+use Rattle.cache_manager.specs.Parts.{Shows}
+use Rattle.cache_manager.specs.Taking.{ending_of}
+use Rattle.cache_manager.specs.Upkeep.{upkeep_drain}
+use Rattle.std.specs.Prelude.{false}
+use Rattle.dirty_cache.specs.Contents.{is_dirty}
+use Rattle.store_engine.specs.Engine.{EngineView, logged_since, used_in, view_of}
+use Rattle.store_engine.specs.Store.{meaning_in}
+use Rattle.store_engine.proofs.Calls.{call_of, takes_of, usable_after, parts_in_use}
+use Rattle.store_engine.proofs.Keeping.{takes_keeps}
+use Rattle.store_engine.proofs.Steps.{are_plain}
+use Rattle.store_engine.proofs.Ways.{failed_install, install_failed, stops_install, unbroken_unless}
+use Rattle.store_engine.proofs.engine.Engine.drain.Goals as goal
+
+pub drain-drained-requires : goal.drain-drained-requires
+drain-drained-requires g c =
+    record { in_use = (parts_in_use c.self.inside.log c.self.inside.objects c.self.inside.graph.entries c.self.inside.identities c.self.inside.broken c.args.self.now c.self.view_is c.self.invariant c.requires.unbroken).in_use }
+
+pub counted-total-requires : goal.counted-total-requires
+counted-total-requires g c =
+    let was = parts_in_use c.self.inside.log c.self.inside.objects c.self.inside.graph.entries c.self.inside.identities c.self.inside.broken c.args.self.now c.self.view_is c.self.invariant c.requires.unbroken in
+    (omega (arith, was.counted, c.next-first.ensures), omega (arith, c.next-first.ensures, c.next-last.ensures, c.drain-drained.ensures.numbered.rising))
+
+pub invariant_of-self : goal.invariant_of-self
+invariant_of-self g c =
+    let was = parts_in_use c.self.inside.log c.self.inside.objects c.self.inside.graph.entries c.self.inside.identities c.self.inside.broken c.args.self.now c.self.view_is c.self.invariant c.requires.unbroken in
+    usable_after c.drain-drained.new.log c.drain-drained.new.objects c.drain-drained.new.graph.entries c.counted-total.result c.is_disk_fault-failed.result (ending_of c.drain-drained.result) c.is_disk_fault-failed.ensures
+    (⊎_elim (λ failed. inl (failed_install c.drain-drained.result failed)) (λ kept. inr kept.in_use) c.drain-drained.ensures.kept)
+    (omega (arith, was.counted, c.counted-total.ensures, c.next-first.ensures, c.next-last.ensures, c.drain-drained.ensures.numbered.rising))
+
+pub returns-clause-call : goal.returns-clause-call
+returns-clause-call g c =
+    let after = view_of c.drain-drained.new.log c.drain-drained.new.objects c.drain-drained.new.graph.entries c.counted-total.result c.is_disk_fault-failed.result in
+    call_of (g.M.Machine.disk c.args.machine.now) (g.M.Machine.disk c.drain-drained.new.machine) c.args.self.now c.self.inside.log c.drain-drained.new.log c.self.inside.objects c.drain-drained.new.objects c.self.inside.graph.entries c.drain-drained.new.graph.entries c.self.inside.identities c.counted-total.result c.self.inside.broken c.is_disk_fault-failed.result
+    c.self.view_is (λ e. logged_since e after) (ending_of c.drain-drained.result) c.drain-drained.ensures.quiet c.drain-drained.ensures.numbered.params
+    (⊎_elim (λ failed. inl (failed_install c.drain-drained.result failed)) (λ kept. inr kept.attached) c.drain-drained.ensures.kept)
+    (c.counted-total.ensures ∙ (λ i. c.self.inside.identities + (c.next-last.ensures i - c.next-first.ensures i)))
+    (stops_install c.drain-drained.new.log (ending_of c.drain-drained.result) c.drain-drained.ensures.stops) c.is_disk_fault-failed.ensures (λ failed. c.drain-drained.ensures.cause (install_failed c.drain-drained.result failed))
+
+pub returns-clause-takes : goal.returns-clause-takes
+returns-clause-takes g c =
+    takes_of (g.M.Machine.disk c.args.machine.now) (g.M.Machine.disk c.drain-drained.new.machine) c.args.self.now c.self.inside.log c.drain-drained.new.log c.self.inside.objects c.drain-drained.new.objects c.self.inside.graph.entries c.drain-drained.new.graph.entries c.self.inside.identities c.counted-total.result c.self.inside.broken c.is_disk_fault-failed.result
+    c.self.view_is (λ e. 0) (ending_of c.drain-drained.result) g.O.Oper.meaning (λ e m w used. drain_course m w used) c.drain-drained.ensures.takes
+
+pub returns-clause-commands : goal.returns-clause-commands
+returns-clause-commands g c =
+    let old = g.M.Machine.disk c.args.machine.now in
+    let new = g.M.Machine.disk c.drain-drained.new.machine in
+    let after = view_of c.drain-drained.new.log c.drain-drained.new.objects c.drain-drained.new.graph.entries c.counted-total.result c.is_disk_fault-failed.result in
+    let takes = takes_of old new c.args.self.now c.self.inside.log c.drain-drained.new.log c.self.inside.objects c.drain-drained.new.objects c.self.inside.graph.entries c.drain-drained.new.graph.entries c.self.inside.identities c.counted-total.result c.self.inside.broken c.is_disk_fault-failed.result
+    c.self.view_is (λ e. 0) (ending_of c.drain-drained.result) g.O.Oper.meaning (λ e m w used. drain_course m w used) c.drain-drained.ensures.takes in
+    takes_keeps g.O.Oper.meaning old new c.args.self.now after (λ m w used. drain_course m w used) (ending_of c.drain-drained.result) takes
+    (unbroken_unless c.is_disk_fault-failed.result (ending_of c.drain-drained.result) c.is_disk_fault-failed.ensures)
+    (λ b w steps. c.every_run_keeps.ensures.from_sound b w steps) (λ p files w. c.image_stands.ensures p files w) (λ b w used small running. c.drain_may_be_taken.ensures.taken b w used small running)
+    (λ m w used. are_plain (drain_course m w used).steps (upkeep_drain m w used))
+
+pub returns-clause-count : goal.returns-clause-count
+returns-clause-count g c = λ p w shows.
+    let m = meaning_in g.O.Oper.meaning p in
+    subst (λ (e : EngineView). Shows m p (g.M.Machine.disk c.args.machine.now) e.parts w → IfOk c.drain-drained.result (λ n. n ≡ removals (drain_course m w (used_in e)).steps)) c.self.view_is (c.drain-drained.ensures.count p w) shows.shows
+
+pub returns-clause-drained : goal.returns-clause-drained
+returns-clause-drained g c = c.drain-drained.ensures.drained
+
+pub returns-clause-clean : goal.returns-clause-clean
+returns-clause-clean g c = λ p w shows.
+    let m = meaning_in g.O.Oper.meaning p in
+    subst (λ (e : EngineView). Shows m p (g.M.Machine.disk c.args.machine.now) e.parts w → OnOk c.drain-drained.result ((x : ℕ) → is_dirty c.drain-drained.new.objects.cache x ≡ false)) c.self.view_is (c.drain-drained.ensures.clean p w) shows.shows

@@ -1,0 +1,28 @@
+-- Why an object is not fetched, on every machine.
+use Rattle.std.specs.Prelude.{◌≡◌, ◌<◌, ◌≤◌, ⊤, ℕ, Result, Ok, Err}
+use Rattle.disk_model.specs.Disk.{Disk}
+use Rattle.oper_core.specs.declared.refusal.Refusal.TheVariants.{NoObject}
+use Rattle.stable_objects.specs.declared.slot_err.SlotErr.{SlotErr}
+use Rattle.stable_objects.specs.declared.slot_err.SlotErr.TheVariants as of_slot
+use Rattle.execution.specs.Failures.{IsReadFailure, exec_from_slots}
+use Rattle.execution.specs.declared.exec_err.ExecErr.{ExecErr}
+use Rattle.execution.specs.declared.exec_err.ExecErr.TheVariants.{Refused}
+use Rattle.store_engine.specs.Engine.{EngineView, params_of}
+
+-- there is none, or else a read of its slot fails
+abbrev pub IsFetchFailure : Disk → Disk → EngineView → ℕ → ExecErr → Type 0
+IsFetchFailure old new engine object (Refused refusal) = (refusal ≡ NoObject) × ((params_of engine).objects ≤ object)
+IsFetchFailure old new engine object e = (object < (params_of engine).objects) × IsReadFailure old new engine.parts.store.objects e
+
+-- what a fetch answers where a slot is read, or not
+abbrev pub of_slots : {T : Type 0} → Result T SlotErr → Result T ExecErr
+of_slots (Ok value) = Ok value
+of_slots (Err cause) = Err (exec_from_slots cause)
+
+-- the disk failed
+abbrev pub HasSlotFailed : {T : Type 0} → Result T SlotErr → Type 0
+HasSlotFailed (Ok value) = ⊥
+HasSlotFailed (Err of_slot.NotAStore) = ⊥
+HasSlotFailed (Err of_slot.DiskFault) = ⊤
+HasSlotFailed (Err (of_slot.Damaged file place)) = ⊥
+HasSlotFailed (Err of_slot.Memory) = ⊥

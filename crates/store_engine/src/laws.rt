@@ -1,0 +1,76 @@
+// What engines and images say of commands.
+ghost use Rattle.std.specs.Prelude.{◌≡◌, ◌<◌, ◌^◌, ◌+◌, ℕ, IsFalse, List, length};
+ghost use Rattle.disk_model.specs.Disk.{Files};
+ghost use Rattle.formats.specs.Image.{EndsAt};
+ghost use Rattle.formats.specs.declared.params.Params.{Params};
+ghost use Rattle.explain_core.specs.History.{commands_of};
+ghost use Rattle.explain_core.specs.World.{World, Step, run};
+ghost use Rattle.standing.specs.Standing.{IsFound};
+ghost use Rattle.cache_manager.specs.Courses.{Stop, logged_in};
+ghost use Rattle.cache_manager.specs.Courses.Stop.{Through};
+ghost use Rattle.cache_manager.specs.Running.{AreUpkeep};
+ghost use Rattle.checkpointing.specs.Courses.{trim_course};
+ghost use Rattle.restart.specs.Courses.{restart_course};
+ghost use Rattle.store_engine.specs.Emptied.{IsEmptied};
+ghost use Rattle.store_engine.specs.Engine.{Holds, InEachImage, Says, SaysStop, ShowsIn, StopsAt};
+ghost use Rattle.store_engine.specs.Store.{IsWellFormed, Stands, meaning_in};
+
+use crate::Engine;
+use disk_model::Machine;
+use oper_core::Oper;
+
+/// Engine and files that stand for commands say so: each image of the moment stands for those that are forced, and the map
+/// has the values after all.
+pub fn engine_stands<O: Oper, M: Machine>(machine: &M, engine: &Engine<O>)
+    ensures { (p : Params) (commands : List O) → Holds O.meaning p (M.disk machine.now) engine.now commands →
+        Says O.meaning p (M.disk machine.now) engine.now commands }
+{
+    standing::image_stands::<O>();
+    explain_core::live_cache_is_the_map::<O>();
+    let _ = machine;
+    let _ = engine;
+}
+
+/// Why a call was stopped is what each image of the moment says: where the log ends, which number is the next, or which
+/// epoch the log in force has.
+pub fn stop_is_said<O: Oper, M: Machine>(machine: &M, engine: &Engine<O>)
+    ensures { (p : Params) (w : World O) (stop : Stop) → ShowsIn O.meaning p (M.disk machine.now) engine.now w →
+        StopsAt engine.now.parts.log stop → InEachImage (M.disk machine.now) (λ files. SaysStop O.meaning p files stop) }
+{
+    let _ = machine;
+    let _ = engine;
+}
+
+/// Steps that add no command make the history longer by the identity writes that they log.
+pub fn identities_are_counted<O: Oper>()
+    ensures { (p : Params) (w : World O) (steps : List (Step O)) → AreUpkeep steps →
+        length (run (meaning_in O.meaning p) w steps).history ≡ length w.history + length (logged_in steps) }
+{}
+
+/// A trim of a store whose write graph is empty, as a drain leaves it, leaves nothing in the log but a check: no command and
+/// no identity write, and the log begins at the next number.
+pub fn a_trim_behind_a_drain_leaves_nothing<O: Oper>()
+    ensures { (p : Params) (w : World O) (epoch used : ℕ) → ((n : ℕ) → IsFalse (w.graph n)) →
+        (trim_course (meaning_in O.meaning p) epoch w used).stop ≡ Through →
+        IsEmptied (run (meaning_in O.meaning p) w (trim_course (meaning_in O.meaning p) epoch w used).steps) }
+{}
+
+/// Files that stand for commands show a world that a restart finds, which has these commands, and their log has a length;
+/// what a restart does keeps the commands.
+pub fn opens_on_a_world<O: Oper>()
+    ensures world { (p : Params) (files : Files) (commands : List O) → Stands O.meaning p files commands →
+        (used : ℕ) × (w : World O) × IsFound (meaning_in O.meaning p) p files commands w × EndsAt files used }
+    ensures kept { (p : Params) (files : Files) (commands : List O) (w : World O) (dirty used : ℕ) →
+        IsFound (meaning_in O.meaning p) p files commands w →
+        commands_of (run (meaning_in O.meaning p) w (restart_course (meaning_in O.meaning p) dirty w used).steps).history ≡ commands }
+{
+    standing::files_show_a_world::<O>();
+}
+
+/// Files that stand for commands meet their format, and stand for fewer commands than there are numbers.
+pub fn standing_files_meet_their_format<O: Oper>()
+    ensures format { (p : Params) (files : Files) (commands : List O) → Stands O.meaning p files commands → IsWellFormed O.meaning files }
+    ensures few { (p : Params) (files : Files) (commands : List O) → Stands O.meaning p files commands → length commands < 2 ^ 62 }
+{
+    standing::standing_files_have_no_fault::<O>();
+}
