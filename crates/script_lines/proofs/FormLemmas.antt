@@ -1,9 +1,9 @@
 -- The forms of a line.
-use Rattle.std.proofs.Common.{◌≡◌, ◌≢◌, ◌^◌, ◌<◌, List, ℕ, [], ◌∷◌, Option, Some, None, get_or, if◌then◌else◌, ◌==◌, refl, ap, arith, codes}
+use Rattle.std.proofs.Common.{◌≡◌, ◌≢◌, ◌^◌, ◌<◌, ◌≤◌, List, ℕ, [], ◌∷◌, Option, Some, None, get_or, if◌then◌else◌, ◌==◌, refl, ap, arith, codes}
 use Rattle.std.specs.Option.{MatchOption, IsSomeAnd, IfNone}
 use Rattle.std.specs.Str.{bytes_eq}
 use Rattle.std.specs.Fmt.{decimal}
-use Rattle.script_lines.specs.Grammar.{IsHex, Request, put, copy, append, cut, sort, swap, exec, aread, awrite, get, force, skip, number, hex, SayAll, AreOf}
+use Rattle.script_lines.specs.Grammar.{IsHex, Request, put, copy, append, cut, sort, swap, exec, aread, awrite, get, force, install, drain, checkpoint, trim, stat, skip, number, hex, SayAll, AreOf}
 
 -- the forms distinguished by a number
 abbrev pub tag : Request → ℕ
@@ -18,7 +18,12 @@ tag (aread app x) = 7
 tag (awrite app x) = 8
 tag (get x) = 9
 tag force = 10
-tag skip = 11
+tag install = 11
+tag drain = 12
+tag checkpoint = 13
+tag trim = 14
+tag stat = 15
+tag skip = 16
 
 -- the form that a first field has
 abbrev pub tag_of : List ℕ → ℕ
@@ -34,8 +39,13 @@ tag_of word =
     else if bytes_eq word (codes "awrite") then 8
     else if bytes_eq word (codes "get") then 9
     else if bytes_eq word (codes "force") then 10
-    else if get_or word 0 0 == 35 then 11
-    else 12
+    else if bytes_eq word (codes "install") then 11
+    else if bytes_eq word (codes "drain") then 12
+    else if bytes_eq word (codes "checkpoint") then 13
+    else if bytes_eq word (codes "trim") then 14
+    else if bytes_eq word (codes "stat") then 15
+    else if get_or word 0 0 == 35 then 16
+    else 17
 
 -- the first field reports the form
 pub form_told : (a : Request) (word : List ℕ) (fields : List (List ℕ)) → AreOf a (word ∷ fields) → tag_of word ≡ tag a
@@ -50,6 +60,11 @@ form_told (aread app x) word fields is = ap tag_of is.0
 form_told (awrite app x) word fields is = ap tag_of is.0
 form_told (get x) word fields is = ap tag_of is.0
 form_told force word fields is = ap tag_of is.0
+form_told install word fields is = ap tag_of is.0
+form_told drain word fields is = ap tag_of is.0
+form_told checkpoint word fields is = ap tag_of is.0
+form_told trim word fields is = ap tag_of is.0
+form_told stat word fields is = ap tag_of is.0
 form_told skip word fields is = ap tag_of is.1
 
 -- the fields behind the first one, of each kind
@@ -131,9 +146,15 @@ pub no_get : (word : List ℕ) (fields : List (List ℕ)) → word ≡ codes "ge
 no_get word fields is none (get x) asks = let d = one_is fields x asks.1 in none x d.1 d.0
 no_get word fields is none a asks = omega (arith, form_told a word fields asks, ap tag_of is)
 
-pub no_force : (word : List ℕ) (fields : List (List ℕ)) → word ≡ codes "force" → fields ≢ [] → (a : Request) → AreOf a (word ∷ fields) → ⊥
-no_force word fields is some force asks = some (none_are fields asks.1)
-no_force word fields is some a asks = omega (arith, form_told a word fields asks, ap tag_of is)
+-- nor does a word that stands alone, with a field behind it
+pub no_alone : (word : List ℕ) (fields : List (List ℕ)) → 10 ≤ tag_of word → tag_of word ≤ 15 → fields ≢ [] → (a : Request) → AreOf a (word ∷ fields) → ⊥
+no_alone word fields low high some force asks = some (none_are fields asks.1)
+no_alone word fields low high some install asks = some (none_are fields asks.1)
+no_alone word fields low high some drain asks = some (none_are fields asks.1)
+no_alone word fields low high some checkpoint asks = some (none_are fields asks.1)
+no_alone word fields low high some trim asks = some (none_are fields asks.1)
+no_alone word fields low high some stat asks = some (none_are fields asks.1)
+no_alone word fields low high some a asks = omega (arith, form_told a word fields asks, low, high)
 
 -- what was found was handed on, so where nothing is given nothing was found
 pub nothing_found : {A B : Type 0} {N G : Type 0} (Q : A → B → Type 0) (found : Option A) (given : Option B) → MatchOption found (given ≡ None) (λ x. IsSomeAnd given (Q x))

@@ -1,7 +1,7 @@
 -- A line asks for one thing.
 use Rattle.std.proofs.Common.{◌≡◌, ◌+◌, ◌*◌, ◌<◌, List, ℕ, [], ◌∷◌, length, Some, refl, sym, ◌∙◌, ap, subst, arith, codes, ⊎_elim}
 use Rattle.std.proofs.lemmas.Fmt.{decimal_injective}
-use Rattle.script_lines.specs.Grammar.{IsHex, IsHexOf, none, byte, hex_digit, AsksFor, AreOf, Request, put, copy, append, cut, sort, swap, exec, aread, awrite, get, force, skip, number, hex, Says, SayAll, fields_of, without_return}
+use Rattle.script_lines.specs.Grammar.{IsHex, IsHexOf, none, byte, hex_digit, AsksFor, AreOf, Request, put, copy, append, cut, sort, swap, exec, aread, awrite, get, force, install, drain, checkpoint, trim, stat, skip, number, hex, Says, SayAll, fields_of, without_return}
 use Rattle.script_lines.proofs.HexLemmas.{one_left}
 use Rattle.script_lines.proofs.FormLemmas.{tag, form_told}
 
@@ -85,6 +85,11 @@ same_one (aread w x) (aread y z) word fields same p q = two_one fields aread p.1
 same_one (awrite w x) (awrite y z) word fields same p q = two_one fields awrite p.1 q.1
 same_one (get x) (get y) word fields same p q = one_one fields get p.1 q.1
 same_one force force word fields same p q = refl
+same_one install install word fields same p q = refl
+same_one drain drain word fields same p q = refl
+same_one checkpoint checkpoint word fields same p q = refl
+same_one trim trim word fields same p q = refl
+same_one stat stat word fields same p q = refl
 same_one skip skip word fields same p q = refl
 same_one a b word fields same p q = absurd (omega (arith, same))
 

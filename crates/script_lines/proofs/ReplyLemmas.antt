@@ -1,6 +1,7 @@
 -- A text is that of one reply.
 use Rattle.std.proofs.Common.{◌≡◌, ◌≢◌, ◌*◌, ◌/◌, ◌%◌, ◌^◌, ◌<◌, ◌≤◌, ◌++◌, List, ℕ, [], ◌∷◌, length, drop, get_or, if◌then◌else◌, ◌==◌, refl, sym, ◌∙◌, ap, append_assoc, arith, Bool, true, false, codes}
 use Rattle.std.proofs.lemmas.Bool.Decides.{nat_tests}
+use Rattle.std.proofs.lemmas.List.{append-nil}
 use Rattle.std.proofs.lemmas.Fmt.{decimal_injective, decimal_nonempty, digits_decimal}
 use Rattle.std.specs.List.{flat_map}
 use Rattle.std.specs.Fmt.{decimal}
@@ -8,9 +9,10 @@ use Rattle.std.specs.Str.{bytes_eq, all_ascii_digits}
 use Rattle.std.specs.Char.{is_ascii_digit}
 use Rattle.oper_core.specs.declared.refusal.Refusal.{Refusal}
 use Rattle.oper_core.specs.declared.refusal.Refusal.TheVariants.{NoObject, Same, BadPlace, BadWidth, NotApp, NoInput, NotNode, NoKey, NodeFull, TooLarge}
-use Rattle.script_lines.specs.Replies.{Reply, ok, value, forced, bad, refused, full, end, object_value, command_count, silence, HasSmallNumbers, hex_glyph, hex_pair, hex_text, name_of, text_of, reply_of, said_line}
+use Rattle.script_lines.specs.Replies.{Reply, ok, value, forced, bad, refused, full, end, object_value, command_count, stat, silence, spaced, numbers_of, AreSmall, HasSmallNumbers, hex_glyph, hex_pair, hex_text, name_of, text_of, reply_of, said_line}
 use Rattle.script_lines.specs.declared.answer.Answer.{Answer}
-use Rattle.script_lines.specs.declared.answer.Answer.TheVariants.{Done, Value, Forced, Bad, Refused, Full, End, Object, Commands}
+use Rattle.script_lines.specs.declared.answer.Counts.{Counts}
+use Rattle.script_lines.specs.declared.answer.Answer.TheVariants.{Done, Value, Forced, Bad, Refused, Full, End, Object, Commands, Stat}
 use Rattle.script_lines.proofs.NumberLemmas.{own}
 
 -- some byte of the text is a space
@@ -29,6 +31,7 @@ kind (full used need limit) = 5
 kind (end n) = 6
 kind (object_value object bytes) = 7
 kind (command_count n) = 8
+kind (stat counts) = 9
 kind silence = 1
 
 -- the kind of a text: by three of its bytes, its length, and whether it has a space
@@ -37,6 +40,7 @@ kind_by first second fourth size spaced =
     if second == 107 then 0
     else if second == 117 then 5
     else if second == 110 then 6
+    else if second == 116 then 9
     else if second == 111 then (if first == 102 then 2 else 8)
     else if second == 101 then (if fourth == 117 then 4 else 1)
     else if second == 97 then (if size == 3 then 3 else 1)
@@ -139,6 +143,37 @@ number_parted m n u v small little same =
     let both = parted (decimal m) (decimal n) u v (no_space_digits (decimal m) (digits_decimal own m small)) (no_space_digits (decimal n) (digits_decimal own n little)) same in
     (decimal_injective m n small little both.0, both.1)
 
+-- as many numbers, each behind a space, are told by their text
+spaced_one : (m n : List ℕ) → AreSmall m → AreSmall n → length m ≡ length n → flat_map spaced m ≡ flat_map spaced n → m ≡ n
+spaced_one [] [] p q like same = refl
+spaced_one [] (b ∷ n) p q like same = absurd (omega (arith, like))
+spaced_one (a ∷ m) [] p q like same = absurd (omega (arith, like))
+spaced_one (a ∷ []) (b ∷ []) p q like same =
+    let whole : decimal a ++ [] ≡ decimal b ++ [] = ap (λ (l : List ℕ). drop 1 l) same in
+    let first = decimal_injective a b p.0 q.0 (sym (append-nil (decimal a)) ∙ whole ∙ append-nil (decimal b)) in
+    ap (λ (x : ℕ). x ∷ []) first
+spaced_one (a ∷ []) (b ∷ d ∷ n) p q like same = absurd (omega (arith, like))
+spaced_one (a ∷ c ∷ m) (b ∷ []) p q like same = absurd (omega (arith, like))
+spaced_one (a ∷ c ∷ m) (b ∷ d ∷ n) p q like same =
+    let both = number_parted a b (decimal c ++ flat_map spaced m) (decimal d ++ flat_map spaced n) p.0 q.0 (ap (λ (l : List ℕ). drop 1 l) same) in
+    let others = spaced_one (c ∷ m) (d ∷ n) p.1 q.1 (omega (arith, like)) (ap (λ (l : List ℕ). 32 ∷ l) both.1) in
+    cc (both.0, others)
+
+-- the counts that have these numbers
+abbrev counts_with : List ℕ → Counts
+counts_with numbers = record {
+  nodes = get_or numbers 0 0;
+  dirty = get_or numbers 1 0;
+  uninstalled = get_or numbers 2 0;
+  forced = get_or numbers 3 0;
+  accepted = get_or numbers 4 0;
+  used = get_or numbers 5 0;
+  identities = get_or numbers 6 0;
+}
+
+counts_one : (a b : Counts) → numbers_of a ≡ numbers_of b → a ≡ b
+counts_one a b same = ap counts_with same
+
 -- the refusal of a name
 abbrev refusal_of : List ℕ → Refusal
 refusal_of name =
@@ -179,6 +214,7 @@ kind_told (full used need limit) small = refl
 kind_told (end n) small = refl
 kind_told (object_value object bytes) small = object_kind object (hex_text bytes) small
 kind_told (command_count n) small = refl
+kind_told (stat counts) small = refl
 kind_told silence small = refl
 
 same_kind : (a b : Reply) → HasSmallNumbers a → HasSmallNumbers b → kind a ≡ kind b → text_of a ≡ text_of b → a ≡ b
@@ -200,6 +236,9 @@ same_kind (object_value x u) (object_value y v) p q like same =
     let bytes = hex_text_one u v both.1 in
     cc (both.0, bytes)
 same_kind (command_count m) (command_count n) p q like same = ap command_count (decimal_injective m n p q (ap (λ (l : List ℕ). drop 9 l) same))
+same_kind (stat a) (stat b) p q like same =
+    let whole : flat_map spaced (numbers_of a) ≡ flat_map spaced (numbers_of b) = ap (λ (l : List ℕ). drop 4 l) same in
+    ap stat (counts_one a b (spaced_one (numbers_of a) (numbers_of b) p q refl whole))
 same_kind silence silence p q like same = refl
 same_kind silence (value []) p q like same = absurd cc
 same_kind silence (value (b ∷ bytes)) p q like same = absurd cc
@@ -221,3 +260,4 @@ said_answer (Full used need limit) = refl
 said_answer (End number) = refl
 said_answer (Object object bytes) = refl
 said_answer (Commands n) = refl
+said_answer (Stat counts) = refl

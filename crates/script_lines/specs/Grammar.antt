@@ -2,7 +2,7 @@
 use Rattle.std.specs.Prelude.{◌≡◌, ⊤, ℕ, ◌+◌, ◌*◌, ◌-◌, ◌^◌, ◌<◌, ◌≤◌, ◌⊎◌, ◌++◌, List, [], ◌∷◌, Option, Some, None, codes, if◌then◌else◌, ◌==◌, nat_le, nat_lt, length}
 use Rattle.std.specs.Fmt.{decimal}
 use Rattle.script_lines.specs.declared.line.Line.{Line}
-use Rattle.script_lines.specs.declared.line.Line.TheVariants.{Put, Copy, Append, Cut, Sort, Swap, Exec, AppRead, AppWrite, Get, Force, Skip}
+use Rattle.script_lines.specs.declared.line.Line.TheVariants.{Put, Copy, Append, Cut, Sort, Swap, Exec, AppRead, AppWrite, Get, Force, Install, Drain, Checkpoint, Trim, Stat, Skip}
 
 -- one byte more in front of the first text
 abbrev pub before_first : ℕ → List (List ℕ) → List (List ℕ)
@@ -80,6 +80,16 @@ pub data Request : Type 0 where
   get : ℕ → Request
   -- all commands are made stable
   force : Request
+  -- one node of the write graph is installed, where there is one
+  install : Request
+  -- all nodes are installed
+  drain : Request
+  -- a check is logged and made stable
+  checkpoint : Request
+  -- the log is rewritten without the records that no redo needs
+  trim : Request
+  -- the counts of the store are reported
+  stat : Request
   -- nothing, and there is no answer
   skip : Request
 
@@ -102,6 +112,11 @@ form_of (aread app x) = word (codes "aread") ∷ number app ∷ number x ∷ []
 form_of (awrite app x) = word (codes "awrite") ∷ number app ∷ number x ∷ []
 form_of (get x) = word (codes "get") ∷ number x ∷ []
 form_of force = word (codes "force") ∷ []
+form_of install = word (codes "install") ∷ []
+form_of drain = word (codes "drain") ∷ []
+form_of checkpoint = word (codes "checkpoint") ∷ []
+form_of trim = word (codes "trim") ∷ []
+form_of stat = word (codes "stat") ∷ []
 form_of skip = []
 
 -- a text says what the field is to say
@@ -153,6 +168,11 @@ IsAsked fields (AppRead app from) = AreOf (aread app from) fields
 IsAsked fields (AppWrite app to) = AreOf (awrite app to) fields
 IsAsked fields (Get object) = AreOf (get object) fields
 IsAsked fields Force = AreOf force fields
+IsAsked fields Install = AreOf install fields
+IsAsked fields Drain = AreOf drain fields
+IsAsked fields Checkpoint = AreOf checkpoint fields
+IsAsked fields Trim = AreOf trim fields
+IsAsked fields Stat = AreOf stat fields
 IsAsked fields Skip = AreOf skip fields
 
 -- a line that was taken apart: it asks this. The bytes of a put are still in hexadecimal.
@@ -168,4 +188,9 @@ IsParsed line (AppRead app from) = AsksFor line (aread app from)
 IsParsed line (AppWrite app to) = AsksFor line (awrite app to)
 IsParsed line (Get object) = AsksFor line (get object)
 IsParsed line Force = AsksFor line force
+IsParsed line Install = AsksFor line install
+IsParsed line Drain = AsksFor line drain
+IsParsed line Checkpoint = AsksFor line checkpoint
+IsParsed line Trim = AsksFor line trim
+IsParsed line Stat = AsksFor line stat
 IsParsed line Skip = AsksFor line skip

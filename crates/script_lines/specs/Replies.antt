@@ -5,7 +5,8 @@ use Rattle.std.specs.Fmt.{decimal}
 use Rattle.oper_core.specs.declared.refusal.Refusal.{Refusal}
 use Rattle.oper_core.specs.declared.refusal.Refusal.TheVariants.{NoObject, Same, BadPlace, BadWidth, NotApp, NoInput, NotNode, NoKey, NodeFull, TooLarge}
 use Rattle.script_lines.specs.declared.answer.Answer.{Answer}
-use Rattle.script_lines.specs.declared.answer.Answer.TheVariants.{Done, Value, Forced, Bad, Refused, Full, End, Object, Commands}
+use Rattle.script_lines.specs.declared.answer.Counts.{Counts}
+use Rattle.script_lines.specs.declared.answer.Answer.TheVariants.{Done, Value, Forced, Bad, Refused, Full, End, Object, Commands, Stat}
 
 -- what a line may be reported, and the lines of a dump
 pub data Reply : Type 0 where
@@ -22,6 +23,8 @@ pub data Reply : Type 0 where
   object_value : ℕ → List ℕ → Reply
   -- how many commands a dumped store was given
   command_count : ℕ → Reply
+  -- the counts of the store
+  stat : Counts → Reply
   -- nothing: the line is skipped
   silence : Reply
 
@@ -36,6 +39,7 @@ reply_of (Full used need limit) = full used need limit
 reply_of (End number) = end number
 reply_of (Object object bytes) = object_value object bytes.now
 reply_of (Commands n) = command_count n
+reply_of (Stat counts) = stat counts
 
 -- a lower-case hexadecimal digit
 abbrev pub hex_glyph : ℕ → ℕ
@@ -63,6 +67,14 @@ name_of NoKey = codes "NoKey"
 name_of NodeFull = codes "NodeFull"
 name_of TooLarge = codes "TooLarge"
 
+-- a number in digits behind a space
+abbrev pub spaced : ℕ → List ℕ
+spaced n = 32 ∷ decimal n
+
+-- the numbers of a store's counts, in the order in which they are said
+abbrev pub numbers_of : Counts → List ℕ
+numbers_of c = c.nodes ∷ c.dirty ∷ c.uninstalled ∷ c.forced ∷ c.accepted ∷ c.used ∷ c.identities ∷ []
+
 -- the text of a reply
 unfoldable pub text_of : Reply → List ℕ
 text_of ok = codes "ok"
@@ -74,7 +86,13 @@ text_of (full used need limit) = codes "full " ++ decimal used ++ 32 ∷ decimal
 text_of (end number) = codes "end " ++ decimal number
 text_of (object_value object bytes) = decimal object ++ 32 ∷ hex_text bytes
 text_of (command_count n) = codes "commands " ++ decimal n
+text_of (stat counts) = codes "stat" ++ flat_map spaced (numbers_of counts)
 text_of silence = []
+
+-- each number has at most 64 bits
+abbrev pub AreSmall : List ℕ → Type 0
+AreSmall [] = ⊤
+AreSmall (n ∷ ns) = (n < 2 ^ 64) × AreSmall ns
 
 -- the numbers of a reply have at most 64 bits
 abbrev pub HasSmallNumbers : Reply → Type 0
@@ -83,6 +101,7 @@ HasSmallNumbers (full used need limit) = (used < 2 ^ 64) × (need < 2 ^ 64) × (
 HasSmallNumbers (end number) = number < 2 ^ 64
 HasSmallNumbers (object_value object bytes) = object < 2 ^ 64
 HasSmallNumbers (command_count n) = n < 2 ^ 64
+HasSmallNumbers (stat counts) = AreSmall (numbers_of counts)
 HasSmallNumbers reply = ⊤
 
 -- a reply's text and a newline, or nothing

@@ -1,10 +1,30 @@
-ghost use Rattle.std.specs.Prelude.{◌≡◌, ◌++◌, ◌∷◌, OnOk, IfOk};
+ghost use Rattle.std.specs.Prelude.{◌≡◌, ◌++◌, ◌∷◌, codes, OnOk, IfOk};
 ghost use Rattle.std.specs.Fmt.{decimal};
-ghost use Rattle.script_lines.specs.Replies.{reply_of, text_of, said_line, name_of, hex_text};
+ghost use Rattle.std.specs.List.{flat_map};
+ghost use Rattle.script_lines.specs.Replies.{reply_of, text_of, said_line, name_of, hex_text, spaced, numbers_of};
 
 use crate::hex::push_hex;
 use oper_core::{Memory, Refusal};
 use std::alloc::Global;
+
+/// The counts of a store, in the order in which they are reported.
+#[derive(Clone, Copy, Debug, Drop, PartialEq, Eq)]
+pub struct Counts {
+    /// The nodes of the write graph.
+    pub nodes: u64,
+    /// The objects whose value is newer than what their slots hold.
+    pub dirty: u64,
+    /// The records that are not yet installed.
+    pub uninstalled: u64,
+    /// The commands that are stable.
+    pub forced: u64,
+    /// The commands that were accepted.
+    pub accepted: u64,
+    /// The bytes of the log, those that wait to be written too.
+    pub used: u64,
+    /// The identity writes since the restart.
+    pub identities: u64,
+}
 
 /// What a line is answered, and what a dump says line by line.
 #[derive(Clone, Copy, Debug, Drop)]
@@ -27,6 +47,8 @@ pub enum Answer<'a> {
     Object { object: u32, value: &'a [u8] },
     /// So many commands were given to the dumped store: `commands n`.
     Commands(u64),
+    /// The counts of the store: `stat` and seven numbers.
+    Stat(Counts),
 }
 
 /// The name of a refusal.
@@ -77,6 +99,46 @@ fn push_counted(alloc: Global, text: &mut Vec<u8>, word: &[u8], number: u64) -> 
     push_number(alloc, text, number)
 }
 
+/// Adds each number in digits, behind a space.
+fn push_numbers(alloc: Global, text: &mut Vec<u8>, numbers: &[u64]) -> Result<(), Memory>
+    ensures { OnOk result (text.new.items ≡ text.old.items ++ flat_map spaced numbers.now) }
+{
+    for number in numbers {
+        text.push(b' ')?;
+        push_number(alloc, text, *number)?;
+    }
+    Ok(())
+}
+
+/// Adds `stat` and the counts.
+fn push_counts(alloc: Global, text: &mut Vec<u8>, counts: &Counts) -> Result<(), Memory>
+    ensures { OnOk result (text.new.items ≡ text.old.items ++ codes "stat" ++ flat_map spaced (numbers_of counts.now)) }
+{
+    let Counts {
+        nodes,
+        dirty,
+        uninstalled,
+        forced,
+        accepted,
+        used,
+        identities,
+    } = *counts;
+    text.extend_from_slice(b"stat")?;
+    push_numbers(
+        alloc,
+        text,
+        &[
+            nodes,
+            dirty,
+            uninstalled,
+            forced,
+            accepted,
+            used,
+            identities,
+        ],
+    )
+}
+
 /// The text of an answer, without a newline.
 #[tactic(auto, unfolding(crate::specs::Replies::text_of))]
 pub fn answer_text(alloc: Global, answer: &Answer<'_>) -> Result<Vec<u8>, Memory>
@@ -106,6 +168,7 @@ pub fn answer_text(alloc: Global, answer: &Answer<'_>) -> Result<Vec<u8>, Memory
             push_value(&mut text, value)?;
         }
         Answer::Commands(count) => push_counted(alloc, &mut text, b"commands", *count)?,
+        Answer::Stat(counts) => push_counts(alloc, &mut text, counts)?,
     }
     Ok(text)
 }

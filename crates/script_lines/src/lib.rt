@@ -19,7 +19,7 @@ mod read_error;
 mod reader;
 mod words;
 
-pub use answer::{Answer, answer_line, answer_text};
+pub use answer::{Answer, Counts, answer_line, answer_text};
 pub use hex::hex_bytes;
 pub use laws::{a_line_asks_one_thing, a_text_says_one_thing};
 pub use line::{Bad, Line, MAX_LINE, parse_line};

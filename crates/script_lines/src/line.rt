@@ -32,6 +32,16 @@ pub enum Line<'a> {
     Get { object: u32 },
     /// `force`: all commands so far are made stable.
     Force,
+    /// `install`: one node of the write graph is installed, where there is one.
+    Install,
+    /// `drain`: all nodes are installed.
+    Drain,
+    /// `checkpoint`: a check is logged and made stable.
+    Checkpoint,
+    /// `trim`: the log is rewritten without the records that no redo needs.
+    Trim,
+    /// `stat`: the counts of the store are reported.
+    Stat,
     /// A line without fields, or a comment: it gets no answer.
     Skip,
 }
@@ -80,6 +90,16 @@ fn line_of<'a>(word: &[u8], rest: &'a [u8]) -> Option<Line<'a>>
         one_number(rest).map(|object| Line::Get { object })
     } else if word == b"force".as_slice() {
         no_field(rest).map(|()| Line::Force)
+    } else if word == b"install".as_slice() {
+        no_field(rest).map(|()| Line::Install)
+    } else if word == b"drain".as_slice() {
+        no_field(rest).map(|()| Line::Drain)
+    } else if word == b"checkpoint".as_slice() {
+        no_field(rest).map(|()| Line::Checkpoint)
+    } else if word == b"trim".as_slice() {
+        no_field(rest).map(|()| Line::Trim)
+    } else if word == b"stat".as_slice() {
+        no_field(rest).map(|()| Line::Stat)
     } else {
         None
     }

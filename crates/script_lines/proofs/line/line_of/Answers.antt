@@ -1,5 +1,5 @@
-use Rattle.std.proofs.Common.{◌≡◌, codes, rules}
-use Rattle.script_lines.proofs.FormLemmas.{no_put, no_copy, no_append, no_cut, no_sort, no_swap, no_exec, no_aread, no_awrite, no_get, no_force, nothing_found}
+use Rattle.std.proofs.Common.{◌≡◌, codes, ap, arith, rules}
+use Rattle.script_lines.proofs.FormLemmas.{tag_of, no_put, no_copy, no_append, no_cut, no_sort, no_swap, no_exec, no_aread, no_awrite, no_get, no_alone, nothing_found}
 use Rattle.script_lines.proofs.line.line_of.Goals as goal
 
 pub returns-then-eq-clause-none : goal.returns-then-eq-clause-none
@@ -55,4 +55,29 @@ returns-then-eq-10-clause-none c =
 pub returns-then-eq-11-clause-none : goal.returns-then-eq-11-clause-none
 returns-then-eq-11-clause-none c =
     let is : c.args.word.now ≡ codes "force" = search rules in
-    nothing_found _ _ _ c.map-then-eq-11.ensures.cases c.no_field.ensures.none (no_force _ _ is)
+    nothing_found _ _ _ c.map-then-eq-11.ensures.cases c.no_field.ensures.none (no_alone _ _ (omega (arith, ap tag_of is)) (omega (arith, ap tag_of is)))
+
+pub returns-then-eq-12-clause-none : goal.returns-then-eq-12-clause-none
+returns-then-eq-12-clause-none c =
+    let is : c.args.word.now ≡ codes "install" = search rules in
+    nothing_found _ _ _ c.map-then-eq-12.ensures.cases c.no_field-then-eq-12.ensures.none (no_alone _ _ (omega (arith, ap tag_of is)) (omega (arith, ap tag_of is)))
+
+pub returns-then-eq-13-clause-none : goal.returns-then-eq-13-clause-none
+returns-then-eq-13-clause-none c =
+    let is : c.args.word.now ≡ codes "drain" = search rules in
+    nothing_found _ _ _ c.map-then-eq-13.ensures.cases c.no_field-then-eq-13.ensures.none (no_alone _ _ (omega (arith, ap tag_of is)) (omega (arith, ap tag_of is)))
+
+pub returns-then-eq-14-clause-none : goal.returns-then-eq-14-clause-none
+returns-then-eq-14-clause-none c =
+    let is : c.args.word.now ≡ codes "checkpoint" = search rules in
+    nothing_found _ _ _ c.map-then-eq-14.ensures.cases c.no_field-then-eq-14.ensures.none (no_alone _ _ (omega (arith, ap tag_of is)) (omega (arith, ap tag_of is)))
+
+pub returns-then-eq-15-clause-none : goal.returns-then-eq-15-clause-none
+returns-then-eq-15-clause-none c =
+    let is : c.args.word.now ≡ codes "trim" = search rules in
+    nothing_found _ _ _ c.map-then-eq-15.ensures.cases c.no_field-then-eq-15.ensures.none (no_alone _ _ (omega (arith, ap tag_of is)) (omega (arith, ap tag_of is)))
+
+pub returns-then-eq-16-clause-none : goal.returns-then-eq-16-clause-none
+returns-then-eq-16-clause-none c =
+    let is : c.args.word.now ≡ codes "stat" = search rules in
+    nothing_found _ _ _ c.map-then-eq-16.ensures.cases c.no_field-then-eq-16.ensures.none (no_alone _ _ (omega (arith, ap tag_of is)) (omega (arith, ap tag_of is)))
