@@ -26,8 +26,8 @@ pub fn advice(status: Status) -> Option<&'static str> {
             "an answer could not be written. In a run, commands after the last `forced` may be lost: run again with these.",
         ),
         Status::Memory => Some(
-            "out of memory. A restart takes about 100 bytes for each record of the log, beside the values: run again with \
-             more. All that was answered `forced` is there.",
+            "out of memory. A restart takes about 500 bytes for each record that it does again, beside the values: run \
+             again with more. All that was answered `forced` is there.",
         ),
         Status::TooLong => Some(
             "the input has 2^40 bytes or more. Run again with the rest of it: `redo dump` says how many commands are done.",

@@ -7,7 +7,7 @@ use Rattle.op_codec.specs.AllOps.{all_meaning}
 use Rattle.op_codec.specs.AllOpsLaws.{all_bounded, all_lawful}
 use Rattle.formats.specs.Bytes.{IsOpenAt}
 use Rattle.formats.specs.FirstFault.{IsDamaged}
-use Rattle.store_engine.specs.DamageLaws.{passes_all, one_first_fault}
+use Rattle.restart.specs.DamageLaws.{passes_all, one_first_fault}
 use Rattle.redo_shell.specs.Notices.{damaged}
 use Rattle.redo_shell.specs.Store.{IsWellFormed}
 use Rattle.redo_shell.specs.declared.status.Status.{Status}

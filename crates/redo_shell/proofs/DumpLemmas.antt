@@ -1,5 +1,5 @@
 -- What a dump says, row by row, and what its moments leave.
-use Rattle.std.proofs.Common.{◌≡◌, ◌≢◌, ◌<◌, ◌+◌, ◌++◌, List, ℕ, suc, [], ◌∷◌, length, take, sym, ap, ◌∙◌, subst, arith}
+use Rattle.std.proofs.Common.{inr, ◌≡◌, ◌≢◌, ◌<◌, ◌+◌, ◌++◌, List, ℕ, suc, [], ◌∷◌, length, take, sym, ap, ◌∙◌, subst, arith}
 use Rattle.std.proofs.lemmas.List.{append-nil, take_all}
 use Rattle.std.proofs.lemmas.List.Concat.{flat_map-append}
 use Rattle.std.specs.List.{flat_map}
@@ -8,16 +8,18 @@ use Rattle.disk_model.specs.Moments.{first_call, runs_on, weaker}
 use Rattle.formats.specs.declared.params.Params.{Params}
 use Rattle.oper_core.specs.State.{State}
 use Rattle.script_lines.specs.Replies.{object_value, command_count, said_line}
-use Rattle.store_engine.specs.Engine.{EngineView}
-use Rattle.store_engine.specs.Starts.{OrAtStart, at_start, then_leaves, from_settled}
+use Rattle.restart.specs.Starts.{OrAtStart, or_weaker, from_settled}
+use Rattle.store_engine.specs.Engine.{EngineView, InEachImage, forced_in}
 use Rattle.redo_shell.specs.Store.{Command, Stands, Opens, state_of, Holds, Between}
 use Rattle.redo_shell.specs.Calls.{IsDumpOn}
 use Rattle.redo_shell.specs.Dump.{row_of, rows_below, dump_of, DumpMoment}
+use Rattle.redo_shell.specs.Keeps.{KeepsFiles}
 use Rattle.redo_shell.specs.Status.{IsOfUnopened}
 use Rattle.redo_shell.specs.declared.status.Status.{Status}
 use Rattle.redo_shell.specs.declared.status.Status.TheVariants.{Done, NotAStore, Damaged, SayFault}
-use Rattle.redo_shell.proofs.HoldLemmas.{holds_stays, stays_between}
-use Rattle.redo_shell.proofs.OpenLemmas.{opening_failed}
+use Rattle.redo_shell.proofs.HoldLemmas.{holds_stays, stays_between, told_by}
+use Rattle.redo_shell.proofs.OpenLemmas.{OpensSo, opening_failed}
+use Rattle.redo_shell.proofs.KeepLemmas.{settled_each}
 
 -- an object that is empty has no row, and any other one
 pub no_row : (x : ℕ) (value text : List ℕ) → length value ≡ 0 → text ≡ text ++ flat_map said_line (row_of x value)
@@ -47,23 +49,29 @@ whole_table p commands objects accepted text row new all count rows is more =
     ∙ ap (λ (l : List ℕ). l ++ flat_map said_line (command_count (length commands) ∷ [])) (rows ∙ ap (λ (n : ℕ). flat_map said_line (rows_below (state_of p commands) n)) all)
     ∙ sym (flat_map-append said_line (rows_below (state_of p commands) p.objects) (command_count (length commands) ∷ []))
 
--- while the store is opened nothing is said
-pub dump_opens : (p : Params) (old mid : Disk) (commands : List Command) → LeavesOnly old mid (Between p old (length commands) commands) → LeavesOnly old mid (DumpMoment p commands old.said)
-dump_opens p old mid commands opening = weaker old mid (Between p old (length commands) commands) (DumpMoment p commands old.said) opening (λ files said b.
+-- while the store is opened, or read, nothing is said
+opens_dump : (p : Params) (old : Disk) (commands : List Command) (files : Files) (said : List ℕ) → Between p old (length commands) commands files said → DumpMoment p commands old.said files said
+opens_dump p old commands files said b =
     let enough = b.enough in
     record {
       stands = subst (λ (l : List Command). Stands p files l) (take_all b.kept commands enough) b.stands;
       count = 0;
       said_is = b.quiet ∙ sym (append-nil old.said);
-    })
+    }
+
+pub dump_opens : (p : Params) (old mid : Disk) (commands : List Command) → LeavesOnly old mid (Between p old (length commands) commands) → LeavesOnly old mid (DumpMoment p commands old.said)
+dump_opens p old mid commands opening = weaker old mid (Between p old (length commands) commands) (DumpMoment p commands old.said) opening (opens_dump p old commands)
+
+dump_opening : (p : Params) (old mid : Disk) (commands : List Command) → OpensSo p old mid commands → old.tells_moments → LeavesOnly old mid (OrAtStart old (DumpMoment p commands old.said))
+dump_opening p old mid commands opening told = or_weaker old mid (Between p old (length commands) commands) (DumpMoment p commands old.said) (opening told) (opens_dump p old commands)
 
 -- while an open store is read nothing is said
-pub dump_reads : (p : Params) (old mid : Disk) (engine : EngineView) (commands : List Command) → Stays old mid → Holds p old engine commands → engine.forced ≡ length commands → old.tells_moments
+pub dump_reads : (p : Params) (old mid : Disk) (engine : EngineView) (commands : List Command) → Stays old mid → Holds p old engine commands → (forced_in engine) ≡ length commands → old.tells_moments
     → LeavesOnly old mid (DumpMoment p commands old.said)
 dump_reads p old mid engine commands run h all told = dump_opens p old mid commands (subst (λ (n : ℕ). LeavesOnly old mid (Between p old n commands)) all (stays_between run h told))
 
 -- then the table is said
-pub dump_says : (p : Params) (old mid new : Disk) (engine : EngineView) (commands : List Command) (text : List ℕ) → Stays old mid → Holds p old engine commands → engine.forced ≡ length commands → text ≡ dump_of p commands
+pub dump_says : (p : Params) (old mid new : Disk) (engine : EngineView) (commands : List Command) (text : List ℕ) → Stays old mid → Holds p old engine commands → (forced_in engine) ≡ length commands → text ≡ dump_of p commands
     → Runs Same (SaysFront text) mid new → old.tells_moments → LeavesOnly old new (DumpMoment p commands old.said)
 dump_says p old mid new engine commands text run h all is say told =
     runs_on old mid new (DumpMoment p commands old.said) (dump_reads p old mid engine commands run h all told)
@@ -77,18 +85,19 @@ dump_says p old mid new engine commands text run h all is say told =
         let from = say.crash told_now files said left in
         let here = holds_stays run h in
         record {
-          stands = subst (λ (l : List Command). Stands p files l) (take_all engine.forced commands (omega (arith, all)))
-              (subst (λ (x : Files). Stands p x (take engine.forced commands)) (sym from.0.2) (here.images told_now from.0.0 mid.said from.0.1));
+          stands = subst (λ (l : List Command). Stands p files l) (take_all (forced_in engine) commands (omega (arith, all)))
+              (subst (λ (x : Files). Stands p x (take (forced_in engine) commands)) (sym from.0.2) (here.says.images.1 told_now from.0.0 mid.said from.0.1));
           count = from.1.0;
-          said_is = from.1.2 ∙ ap (λ (l : List ℕ). l ++ take from.1.0 text) (run.said h.told) ∙ ap (λ (l : List ℕ). old.said ++ take from.1.0 l) is;
+          said_is = from.1.2 ∙ ap (λ (l : List ℕ). l ++ take from.1.0 text) (run.said (told_by h)) ∙ ap (λ (l : List ℕ). old.said ++ take from.1.0 l) is;
         }
 
 -- a dump from before the store was opened
-pub dump_from : (p : Params) (old mid new : Disk) (commands : List Command) → Stays old mid → (mid.tells_moments → LeavesOnly mid new (DumpMoment p commands mid.said)) → old.tells_moments
+pub dump_from : (p : Params) (old mid new : Disk) (commands : List Command) → OpensSo p old mid commands → (old.tells_moments → mid.tells_moments) → mid.said ≡ old.said → (mid.tells_moments → LeavesOnly mid new (DumpMoment p commands mid.said)) → old.tells_moments
     → LeavesOnly old new (OrAtStart old (DumpMoment p commands old.said))
-dump_from p old mid new commands kept dumping told =
-    then_leaves old mid new (DumpMoment p commands old.said) kept told
-    (subst (λ (s : List ℕ). LeavesOnly mid new (DumpMoment p commands s)) (kept.said (kept.begins.telling told)) (dumping (kept.time.moments_told.0 told)))
+dump_from p old mid new commands opening telling quiet dumping told =
+    runs_on old mid new (OrAtStart old (DumpMoment p commands old.said)) (dump_opening p old mid commands opening told)
+    (weaker mid new (DumpMoment p commands old.said) (OrAtStart old (DumpMoment p commands old.said))
+    (subst (λ (s : List ℕ). LeavesOnly mid new (DumpMoment p commands s)) quiet (dumping (telling told))) (λ f s m. inr m))
 
 -- what reads give, before anything is said
 pub start_dump : (p : Params) (old : Disk) (commands : List Command) → Stands p old.reads commands → DumpMoment p commands old.said old.reads old.said
@@ -103,13 +112,20 @@ dump_begun p old mid new commands text quiet is front =
 pub dump_quiet : (p : Params) (old new : Disk) (commands : List Command) → new.said ≡ old.said → (count : ℕ) × (new.said ≡ old.said ++ take count (dump_of p commands))
 dump_quiet p old new commands quiet = (0, quiet ∙ sym (append-nil old.said))
 
+-- an open store stands for the commands, all forced, and so do files that are kept from then on
+pub dump_stands : (p : Params) (mid new : Disk) (engine : EngineView) (commands : List Command) → Holds p mid engine commands → forced_in engine ≡ length commands → KeepsFiles mid new → IsSettled new
+    → InEachImage new (λ files. Stands p files commands)
+dump_stands p mid new engine commands h all keeps settled =
+    let here : Stands p mid.reads commands = subst (λ (l : List Command). Stands p mid.reads l) (take_all (forced_in engine) commands (omega (arith, all))) h.says.images.0 in
+    settled_each new (λ files. Stands p files commands) settled (subst (λ (f : Files). Stands p f commands) (sym (keeps.reads (told_by h))) here)
+
 -- a dump of files that stand for commands, from before they were opened
-pub dump_on : (p : Params) (old mid new : Disk) (commands : List Command) (status : Status) → IsDisk old → Opens p old commands → Stays old mid → (mid.tells_moments → LeavesOnly mid new (DumpMoment p commands mid.said))
+pub dump_on : (p : Params) (old mid new : Disk) (commands : List Command) (status : Status) → IsDisk old → Opens p old commands → OpensSo p old mid commands → (old.tells_moments → mid.tells_moments) → mid.said ≡ old.said
+    → (mid.tells_moments → LeavesOnly mid new (DumpMoment p commands mid.said))
     → (count : ℕ) × (new.said ≡ mid.said ++ take count (dump_of p commands)) → (status ≡ Done → new.said ≡ mid.said ++ dump_of p commands) → (status ≢ NotAStore) × (status ≢ Damaged) → IsSettled new
-    → IsDumpOn p commands old new status
-dump_on p old mid new commands status lawful opens kept dumping said all store settled =
-    let quiet = kept.said opens.told in
-    let moments : old.tells_moments → LeavesOnly old new (OrAtStart old (DumpMoment p commands old.said)) = dump_from p old mid new commands kept dumping in
+    → InEachImage new (λ files. Stands p files commands) → IsDumpOn p commands old new status
+dump_on p old mid new commands status lawful opens opening telling quiet dumping said all store settled stands =
+    let moments : old.tells_moments → LeavesOnly old new (OrAtStart old (DumpMoment p commands old.said)) = dump_from p old mid new commands opening telling quiet dumping in
     record {
       moments = moments;
       from_settled = λ told settled_old. from_settled old new (DumpMoment p commands old.said) lawful told settled_old (start_dump p old commands opens.stands) (moments told);
@@ -117,17 +133,19 @@ dump_on p old mid new commands status lawful opens kept dumping said all store s
       all = λ done. all done ∙ ap (λ (l : List ℕ). l ++ dump_of p commands) quiet;
       store = store;
       settled = λ disk memory. settled;
+      stands = λ disk memory. stands;
     }
 
-pub dump_unopened : (p : Params) (old mid : Disk) (commands : List Command) (status : Status) → IsDisk old → Opens p old commands → Stays old mid → IsOfUnopened status
+pub dump_unopened : (p : Params) (old mid : Disk) (commands : List Command) (status : Status) → IsDisk old → Opens p old commands → OpensSo p old mid commands → mid.said ≡ old.said → IsOfUnopened status
     → (status ≢ NotAStore) × (status ≢ Damaged) → status ≢ SayFault → IsDumpOn p commands old mid status
-dump_unopened p old mid commands status lawful opens kept of store output =
-    let moments : old.tells_moments → LeavesOnly old mid (OrAtStart old (DumpMoment p commands old.said)) = at_start old mid (DumpMoment p commands old.said) kept in
+dump_unopened p old mid commands status lawful opens opening quiet of store output =
+    let moments : old.tells_moments → LeavesOnly old mid (OrAtStart old (DumpMoment p commands old.said)) = dump_opening p old mid commands opening in
     record {
       moments = moments;
       from_settled = λ told settled. from_settled old mid (DumpMoment p commands old.said) lawful told settled (start_dump p old commands opens.stands) (moments told);
-      said = dump_quiet p old mid commands (kept.said opens.told);
+      said = dump_quiet p old mid commands quiet;
       all = λ done. absurd (subst (λ (s : Status). IsOfUnopened s) done of);
       store = store;
       settled = λ disk memory. absurd (opening_failed status of store output disk memory);
+      stands = λ disk memory. absurd (opening_failed status of store output disk memory);
     }

@@ -14,3 +14,8 @@ pub mod SessionLemmas
 pub mod PrintedLemmas
 pub mod FuseLemmas
 pub mod DamageLemmas
+pub mod CourseLemmas
+pub mod DoneLemmas
+pub mod UpkeepLemmas
+pub mod FetchLemmas
+pub mod RestartLemmas

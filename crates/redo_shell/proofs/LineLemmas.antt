@@ -1,15 +1,14 @@
 -- What a line asks, from the line as it was taken apart.
-use Rattle.std.proofs.Common.{◌≡◌, ◌<◌, List, ℕ, length, sym, subst, arith, Bor, Err}
+use Rattle.std.proofs.Common.{◌≡◌, ◌<◌, List, ℕ, length, sym, subst, arith, Bor}
 use Rattle.std.specs.Prelude.{replicate}
 use Rattle.std.proofs.lemmas.List.{length-replicate}
 use Rattle.script_lines.specs.Grammar.{IsParsed, put, AsksFor, IsHex, IsBad}
 use Rattle.script_lines.specs.GrammarLaws.{long_is_bad}
-use Rattle.formats.specs.declared.params.Params.{Params}
-use Rattle.redo_shell.specs.Store.{Command, HasCause, Lengthens}
-use Rattle.redo_shell.specs.Work.{AsksWork}
+use Rattle.redo_shell.specs.Replies.{IsUpkeep}
+use Rattle.redo_shell.specs.Work.{AsksWork, request_for}
+use Rattle.redo_shell.specs.declared.work.Upkeep.{Upkeep}
+use Rattle.redo_shell.specs.declared.work.Upkeep.TheVariants.{Install, Drain, Checkpoint, Trim}
 use Rattle.redo_shell.specs.declared.work.Work.{Work}
-use Rattle.store_engine.specs.Engine.{LogLength}
-use Rattle.store_engine.specs.declared.exec_err.ExecErr.{ExecErr}
 use Rattle.script_lines.specs.Reading.{IsLine}
 use Rattle.script_lines.specs.declared.next.Next.{Next}
 use Rattle.script_lines.specs.declared.next.Next.TheVariants.{Line as Short, Long}
@@ -37,16 +36,16 @@ found_line next stored line is found = let here = subst (λ (n : Next). IsLine n
 pub found_long : (next : Next) (stored line : List ℕ) → next ≡ Long → IsLine next stored line → IsBad line
 found_long next stored line is found = long_is_bad line (subst (λ (n : Next). IsLine n stored line) is found)
 
--- why a command failed, and how long the log is then, by the error that came
-pub caused : (p : Params) (commands : List Command) (log : LogLength) (op : Command) {e same : ExecErr} → HasCause p commands log op (Err e) → e ≡ same → HasCause p commands log op (Err same)
-caused p commands log op cause is = subst (λ (x : ExecErr). HasCause p commands log op (Err x)) is cause
-
-pub after : (p : Params) (old new : LogLength) (op : Command) {e same : ExecErr} → Lengthens p old op (Err e) new → e ≡ same → Lengthens p old op (Err same) new
-after p old new op lengthens is = subst (λ (x : ExecErr). Lengthens p old op (Err x) new) is lengthens
-
 line_of : (n : ℕ) → (line : List ℕ) × (length line ≡ n)
 line_of n = (replicate n 0, length-replicate n 0)
 
 -- a line that is too long
 pub long_line : (line : List ℕ) × (40000 < length line)
 long_line = let (line, long) = line_of 40001 in (line, omega (arith, long))
+
+-- what is asked for that adds no command
+pub upkeep_kind : (upkeep : Upkeep) → IsUpkeep (request_for upkeep)
+upkeep_kind Install = tt
+upkeep_kind Drain = tt
+upkeep_kind Checkpoint = tt
+upkeep_kind Trim = tt

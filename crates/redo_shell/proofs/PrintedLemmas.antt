@@ -9,7 +9,7 @@ use Rattle.oper_core.specs.declared.refusal.Refusal.{Refusal}
 use Rattle.oper_core.specs.declared.refusal.Refusal.TheVariants.{NoObject, Same, BadPlace, BadWidth, NotApp, NoInput, NotNode, NoKey, NodeFull, TooLarge}
 use Rattle.formats.specs.declared.params.Params.{Params}
 use Rattle.script_lines.specs.Reading.{IsPlain}
-use Rattle.script_lines.specs.Replies.{Reply, ok, value, forced, bad, refused, full, end, object_value, command_count, silence, hex_glyph, hex_pair, hex_text, name_of, text_of, said_line}
+use Rattle.script_lines.specs.Replies.{Reply, ok, value, forced, bad, refused, full, end, object_value, command_count, stat, silence, spaced, numbers_of, hex_glyph, hex_pair, hex_text, name_of, text_of, said_line}
 use Rattle.redo_shell.specs.Store.{Command}
 use Rattle.redo_shell.specs.Answers.{Said, Begun}
 use Rattle.redo_shell.specs.Printed.{before_line, whole_lines, texts_of, SaysForced}
@@ -88,6 +88,10 @@ plain_name TooLarge = plain_when (name_of TooLarge) refl
 space_on : (bytes : List ℕ) → IsPlain bytes → IsPlain (32 ∷ bytes)
 space_on bytes plain = (λ e. omega arith, plain)
 
+plain_numbers : (numbers : List ℕ) → IsPlain (flat_map spaced numbers)
+plain_numbers [] = tt
+plain_numbers (n ∷ numbers) = plain_on (32 ∷ decimal n) (flat_map spaced numbers) (space_on (decimal n) (plain_decimal n)) (plain_numbers numbers)
+
 -- no answer's text has one
 pub plain_text : (reply : Reply) → IsPlain (text_of reply)
 unfolding text_of
@@ -103,6 +107,7 @@ plain_text (full used need limit) =
 plain_text (end number) = plain_on (codes "end ") (decimal number) (plain_when (codes "end ") refl) (plain_decimal number)
 plain_text (object_value object bytes) = plain_on (decimal object) (32 ∷ hex_text bytes) (plain_decimal object) (space_on (hex_text bytes) (plain_hex bytes))
 plain_text (command_count n) = plain_on (codes "commands ") (decimal n) (plain_when (codes "commands ") refl) (plain_decimal n)
+plain_text (stat counts) = plain_on (codes "stat") (flat_map spaced (numbers_of counts)) (plain_when (codes "stat") refl) (plain_numbers (numbers_of counts))
 plain_text silence = tt
 
 -- the whole lines of bytes
@@ -136,6 +141,7 @@ line_more (full used need limit) replies bytes rest = whole_line (full used need
 line_more (end number) replies bytes rest = whole_line (end number) replies bytes rest
 line_more (object_value object v) replies bytes rest = whole_line (object_value object v) replies bytes rest
 line_more (command_count n) replies bytes rest = whole_line (command_count n) replies bytes rest
+line_more (stat counts) replies bytes rest = whole_line (stat counts) replies bytes rest
 line_more silence replies bytes rest = rest
 
 -- the whole lines of what is said are the texts of the answers
@@ -174,6 +180,7 @@ forced_text (full used need limit) n same = absurd (omega (arith, ap (λ (l : Li
 forced_text (end number) n same = absurd (omega (arith, ap (λ (l : List ℕ). get_or l 1 0) same))
 forced_text (object_value object bytes) n same = absurd (omega (arith, low_decimal object (hex_text bytes), ap (λ (l : List ℕ). get_or l 0 0) same))
 forced_text (command_count m) n same = absurd (omega (arith, ap (λ (l : List ℕ). get_or l 0 0) same))
+forced_text (stat counts) n same = absurd (omega (arith, ap (λ (l : List ℕ). get_or l 0 0) same))
 forced_text silence n same = absurd (omega (arith, ap (λ (l : List ℕ). get_or l 1 0) same))
 
 -- one of the replies says so many

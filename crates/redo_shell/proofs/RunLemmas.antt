@@ -8,37 +8,44 @@ use Rattle.disk_model.specs.Disk.{Files, Disk, IsDisk, Passes, Runs, Same, SaysF
 use Rattle.disk_model.specs.Moments.{passes_none, first_call, runs_on, weaker}
 use Rattle.formats.specs.Image.{EndsAt}
 use Rattle.formats.specs.declared.params.Params.{Params}
-use Rattle.op_codec.specs.AllOps.{all_meaning}
+use Rattle.explain_core.specs.World.{World, run}
+use Rattle.cache_manager.specs.Courses.{force_steps, force_course}
+use Rattle.cache_manager.specs.Forced.{files_shown}
+use Rattle.cache_manager.specs.Taking.{IsAfter}
 use Rattle.oper_core.specs.declared.refusal.Refusal.TheVariants.{NoObject}
 use Rattle.script_lines.specs.Grammar.{AsksFor, get, skip}
 use Rattle.script_lines.specs.Replies.{Reply, value, forced, refused, silence, said_line}
-use Rattle.store_engine.specs.Engine.{EngineView, LogLength, log_length, forced_length}
-use Rattle.store_engine.specs.ImageLaws.{stands_few}
-use Rattle.redo_shell.specs.Store.{Command, state_of, Stands, Holds, Kept, Between}
+use Rattle.store_engine.specs.Engine.{EngineView, InEachImage, accepted_in, forced_in, used_in}
+use Rattle.redo_shell.specs.Store.{Command, meaning_in, state_of, Stands, Holds, Kept, Between}
 use Rattle.redo_shell.specs.Replies.{Replies, IsTrueIn, is_refusing}
-use Rattle.redo_shell.specs.Lengths.{GoesBy, GrowsTo}
+use Rattle.redo_shell.specs.Found.{IsDone}
+use Rattle.redo_shell.specs.Stages.{Stage, GoesBy, AllGoBy, stage_of}
 use Rattle.redo_shell.specs.Answers.{Moment, TrueWithin, SaysTruly}
 use Rattle.redo_shell.specs.Status.{status_after}
 use Rattle.redo_shell.specs.declared.status.Status.TheVariants.{DoneWithRefusals}
 use Rattle.redo_shell.specs.declared.stop.Stop.{Stop}
 use Rattle.redo_shell.specs.Run.{IsTrueSaying, IsTrueSoFar, IsAnswered, IsPartly, During, LineMoment, Going, IsComplete, IsFound, Answering, IsRun}
-use Rattle.redo_shell.proofs.HoldLemmas.{holds_stays, holds_between}
+use Rattle.redo_shell.proofs.HoldLemmas.{holds_as, holds_stays, holds_between, told_by}
 use Rattle.redo_shell.proofs.TrueLemmas.{truly_on, truly_quiet, line_behind, found_truly}
 use Rattle.redo_shell.proofs.PrintedLemmas.{printed_acked}
-use Rattle.redo_shell.proofs.StoryLemmas.{grows_more, told_grows, said_longer, Story, Told, story_start, story_more, story_end, said_more, spoken_more, told_whole, told_partly}
+use Rattle.redo_shell.proofs.StoryLemmas.{goes_by_more, told_goes, said_longer, Story, Told, story_start, story_more, story_end, said_more, spoken_more, told_whole, told_partly}
+
+-- files stand for fewer commands than there are numbers
+abbrev pub AreFew : Type 0
+AreFew = (p : Params) (files : Files) (commands : List Command) → Stands p files commands → length commands < 2 ^ 62
 
 -- the story so far
-abbrev story_of : {p : Params} {start now : Disk} {engine : EngineView} {commands : List Command} {script todo : List (List ℕ)} {refusing : Bool}
-    → (g : Going p start now engine commands script todo refusing) → Story p commands script todo g.replies g.acc
+abbrev story_of : {p : Params} {first : Stage} {start now : Disk} {engine : EngineView} {commands : List Command} {script todo : List (List ℕ)} {refusing : Bool}
+    → (g : Going p first start now engine commands script todo refusing) → Story p commands script todo g.replies g.acc
 story_of g = record { lines = g.lines; script_is = g.script_is; answers = g.answers }
 
 -- bytes that were reported, beside files that stand for enough of what they report
-moment_of : {p : Params} {commands : List Command} {script lines : List (List ℕ)} {replies : List Reply} {acc : List Command} (before bytes : List ℕ) (f : Files) (s : List ℕ) (kept : ℕ)
+moment_of : AreFew → {p : Params} {commands : List Command} {script lines : List (List ℕ)} {replies : List Reply} {acc : List Command} (before bytes : List ℕ) (f : Files) (s : List ℕ) (kept : ℕ)
     → Told p (IsTrueIn p f) commands script lines replies acc bytes → s ≡ before ++ bytes → length commands ≤ kept → kept ≤ length (commands ++ acc)
     → Stands p f (take kept (commands ++ acc)) → ((n : ℕ) → Contains replies (forced n) → n ≤ kept) → Moment p commands script before f s
-moment_of {p} {commands} {script} {lines} {replies} {acc} before bytes f s kept told since all_before no_more stands acked =
-    let few : length (take kept (commands ++ acc)) < 2 ^ 62 = stands_few all_meaning stands in
-    let small : kept < 2 ^ 64 = omega (arith, few, length-take-le kept (commands ++ acc) no_more) in
+moment_of few {p} {commands} {script} {lines} {replies} {acc} before bytes f s kept told since all_before no_more stands acked =
+    let low : length (take kept (commands ++ acc)) < 2 ^ 62 = few p f (take kept (commands ++ acc)) stands in
+    let small : kept < 2 ^ 64 = omega (arith, low, length-take-le kept (commands ++ acc) no_more) in
     record {
       bytes = bytes;
       since = since;
@@ -51,18 +58,18 @@ moment_of {p} {commands} {script} {lines} {replies} {acc} before bytes f s kept 
     }
 
 -- while the engine works, the story is that of the lines before
-between_moment : {p : Params} {start now : Disk} {engine : EngineView} {commands : List Command} {script todo : List (List ℕ)} {refusing : Bool}
-    (g : Going p start now engine commands script todo refusing) → (f : Files) (s : List ℕ) → Between p now engine.forced (commands ++ g.acc) f s → Moment p commands script start.said f s
-between_moment {p} {start} {now} {engine} {commands} {script} g f s b =
-    moment_of start.said (flat_map said_line g.replies) f s b.kept (told_whole (IsTrueIn p f) (story_of g)) (b.quiet ∙ g.said_is) (omega (arith, g.all_before, b.enough)) b.within b.stands
+between_moment : AreFew → {p : Params} {first : Stage} {start now : Disk} {engine : EngineView} {commands : List Command} {script todo : List (List ℕ)} {refusing : Bool}
+    (g : Going p first start now engine commands script todo refusing) → (f : Files) (s : List ℕ) → Between p now (forced_in engine) (commands ++ g.acc) f s → Moment p commands script start.said f s
+between_moment few {p} {first} {start} {now} {engine} {commands} {script} g f s b =
+    moment_of few start.said (flat_map said_line g.replies) f s b.kept (told_whole (IsTrueIn p f) (story_of g)) (b.quiet ∙ g.said_is) (omega (arith, g.all_before, b.enough)) b.within b.stands
     (λ n has. omega (arith, g.acked n has, b.enough))
 
 -- while an answer is said, it has begun, or is whole
-during_moment : {p : Params} {start now : Disk} {engine : EngineView} {commands : List Command} {script todo : List (List ℕ)} {refusing : Bool} (line : List ℕ)
-    (g : Going p start now engine commands script (line ∷ todo) refusing) → (f : Files) (s : List ℕ) → During p now engine.forced (commands ++ g.acc) line f s → Moment p commands script start.said f s
-during_moment {p} {start} {now} {engine} {commands} {script} line g f s d =
+during_moment : AreFew → {p : Params} {first : Stage} {start now : Disk} {engine : EngineView} {commands : List Command} {script todo : List (List ℕ)} {refusing : Bool} (line : List ℕ)
+    (g : Going p first start now engine commands script (line ∷ todo) refusing) → (f : Files) (s : List ℕ) → During p now (forced_in engine) (commands ++ g.acc) line f s → Moment p commands script start.said f s
+during_moment few {p} {first} {start} {now} {engine} {commands} {script} line g f s d =
     let same : commands ++ g.acc ++ d.added ≡ commands ++ (g.acc ++ d.added) = append_assoc commands g.acc d.added in
-    moment_of start.said (flat_map said_line g.replies ++ take d.count (said_line d.reply)) f s d.kept
+    moment_of few start.said (flat_map said_line g.replies ++ take d.count (said_line d.reply)) f s d.kept
     (told_partly (IsTrueIn p f) line d.reply d.added d.count (story_of g) d.replies d.tied)
     (d.said_is ∙ ap (λ (l : List ℕ). l ++ take d.count (said_line d.reply)) g.said_is ∙ append_assoc start.said (flat_map said_line g.replies) _)
     (omega (arith, g.all_before, d.enough))
@@ -70,17 +77,17 @@ during_moment {p} {start} {now} {engine} {commands} {script} line g f s d =
     (subst (λ (l : List Command). Stands p f (take d.kept l)) same d.stands)
     (λ n has. ⊎_elim (λ (h : Contains g.replies (forced n)). omega (arith, g.acked n h, d.enough)) (λ (h : d.reply ≡ forced n). d.acked n h) (spoken_more g.replies d.reply n has))
 
-line_moment : {p : Params} {start now : Disk} {engine : EngineView} {commands : List Command} {script todo : List (List ℕ)} {refusing : Bool} (line : List ℕ)
-    (g : Going p start now engine commands script (line ∷ todo) refusing) → (f : Files) (s : List ℕ) → LineMoment p now engine.forced (commands ++ g.acc) line f s → Moment p commands script start.said f s
-line_moment line g f s here = ⊎_elim (between_moment g f s) (during_moment line g f s) here
+line_moment : AreFew → {p : Params} {first : Stage} {start now : Disk} {engine : EngineView} {commands : List Command} {script todo : List (List ℕ)} {refusing : Bool} (line : List ℕ)
+    (g : Going p first start now engine commands script (line ∷ todo) refusing) → (f : Files) (s : List ℕ) → LineMoment p now (forced_in engine) (commands ++ g.acc) line f s → Moment p commands script start.said f s
+line_moment few line g f s here = ⊎_elim (between_moment few g f s) (during_moment few line g f s) here
 
 -- the moments of a run, one line further
-moments_more : {p : Params} {start now new : Disk} {engine after : EngineView} {commands : List Command} {script todo : List (List ℕ)} {refusing : Bool} {result : Result Bool Stop} (line : List ℕ)
-    (g : Going p start now engine commands script (line ∷ todo) refusing) → Passes start now → Answering p now new engine after (commands ++ g.acc) line result
+moments_more : AreFew → {p : Params} {first : Stage} {start now new : Disk} {engine after : EngineView} {commands : List Command} {script todo : List (List ℕ)} {refusing : Bool} {result : Result Bool Stop} (line : List ℕ)
+    (g : Going p first start now engine commands script (line ∷ todo) refusing) → Passes start now → Answering p now new engine after g.holds.world (commands ++ g.acc) line result
     → start.tells_moments → LeavesOnly start new (Moment p commands script start.said)
-moments_more {p} {start} {now} {new} {engine} {after} {commands} {script} {todo} {refusing} {result} line g time a told =
+moments_more few {p} {first} {start} {now} {new} {engine} {after} {commands} {script} {todo} {refusing} {result} line g time a told =
     runs_on start now new (Moment p commands script start.said) (g.moments told)
-    (weaker now new (LineMoment p now engine.forced (commands ++ g.acc) line) (Moment p commands script start.said) (a.moments (time.moments_told.0 told)) (line_moment line g))
+    (weaker now new (LineMoment p now (forced_in engine) (commands ++ g.acc) line) (Moment p commands script start.said) (a.moments (time.moments_told.0 told)) (line_moment few line g))
 
 acked_more : (replies : List Reply) (reply : Reply) (least kept : ℕ) → ((n : ℕ) → Contains replies (forced n) → n ≤ least) → least ≤ kept
     → ((n : ℕ) → reply ≡ forced n → n ≤ kept) → (n : ℕ) → Contains (replies ++ reply ∷ []) (forced n) → n ≤ kept
@@ -91,11 +98,11 @@ kind_more : (refusing kind : Bool) (replies : List Reply) (reply : Reply) → re
 kind_more refusing kind replies reply before here = grind (arith, before, here, list_any-append is_refusing replies (reply ∷ []))
 
 -- a line was answered: the run is one line further
-pub goes_on : {p : Params} {start now new : Disk} {engine after : EngineView} {commands : List Command} {script todo : List (List ℕ)} {refusing kind : Bool} {result : Result Bool Stop} (line : List ℕ)
-    (g : Going p start now engine commands script (line ∷ todo) refusing) → Passes start now → result ≡ Ok kind → Answering p now new engine after (commands ++ g.acc) line result
-    → Going p start new after commands script todo (refusing || kind)
-goes_on {p} {start} {now} {new} {engine} {after} {commands} {script} {todo} {refusing} {kind} {result} line g time is a =
-    let whole = subst (λ (r : Result Bool Stop). IfOk r (IsAnswered p now new engine after (commands ++ g.acc) line)) is a.whole in
+pub goes_on : AreFew → {p : Params} {first : Stage} {start now new : Disk} {engine after : EngineView} {commands : List Command} {script todo : List (List ℕ)} {refusing kind : Bool} {result : Result Bool Stop} (line : List ℕ)
+    (g : Going p first start now engine commands script (line ∷ todo) refusing) → Passes start now → result ≡ Ok kind → Answering p now new engine after g.holds.world (commands ++ g.acc) line result
+    → Going p first start new after commands script todo (refusing || kind)
+goes_on few {p} {first} {start} {now} {new} {engine} {after} {commands} {script} {todo} {refusing} {kind} {result} line g time is a =
+    let whole = subst (λ (r : Result Bool Stop). IfOk r (IsAnswered p now new engine after g.holds.world (commands ++ g.acc) line)) is a.whole in
     let story = story_more line whole.reply whole.added (story_of g) whole.replies in
     record {
       lines = story.lines;
@@ -105,75 +112,75 @@ goes_on {p} {start} {now} {new} {engine} {after} {commands} {script} {todo} {ref
       said_is = whole.said ∙ ap (λ (l : List ℕ). l ++ said_line whole.reply) g.said_is ∙ append_assoc start.said (flat_map said_line g.replies) (said_line whole.reply)
           ∙ ap (λ (l : List ℕ). start.said ++ l) (sym (said_more g.replies whole.reply));
       answers = story.answers;
-      holds = subst (λ (l : List Command). Holds p new after l) (append_assoc commands g.acc whole.added) whole.kept.holds;
+      holds = holds_as (append_assoc commands g.acc whole.added) whole.kept.holds;
       all_before = omega (arith, g.all_before, whole.kept.rising);
-      acked = acked_more g.replies whole.reply engine.forced after.forced g.acked whole.kept.rising whole.acked;
+      acked = acked_more g.replies whole.reply (forced_in engine) (forced_in after) g.acked whole.kept.rising whole.acked;
       kind = kind_more refusing kind g.replies whole.reply g.kind whole.kind;
-      moments = moments_more line g time a;
+      moments = moments_more few line g time a;
       truly = λ told. subst (λ (l : List ℕ). LeavesOnly start new (IsTrueSoFar p start.said (g.replies ++ whole.reply ∷ []) l)) (sym whole.said)
           (truly_on whole.reply (g.truly told) g.said_is (whole.truly (time.moments_told.0 told)));
-      lengths = grows_more (log_length after) line whole.reply g.lengths whole.length_is;
+      goes = goes_by_more p first (stage_of engine g.holds.world) (stage_of after whole.kept.holds.world) g.lines g.replies line whole.reply g.goes whole.goes;
     }
 
 -- the start of a run, of which nothing is said yet
-pub first_moment : {p : Params} {start : Disk} {commands : List Command} (script : List (List ℕ)) → (f : Files) (s : List ℕ) → Between p start (length commands) commands f s → Moment p commands script start.said f s
-first_moment {p} {start} {commands} script f s b =
+pub first_moment : AreFew → {p : Params} {start : Disk} {commands : List Command} (script : List (List ℕ)) → (f : Files) (s : List ℕ) → Between p start (length commands) commands f s → Moment p commands script start.said f s
+first_moment few {p} {start} {commands} script f s b =
     let same : commands ++ [] ≡ commands = append-nil commands in
-    moment_of start.said [] f s b.kept (told_whole (IsTrueIn p f) (story_start p commands script)) (b.quiet ∙ sym (append-nil start.said)) b.enough (omega (arith, b.within, ap length same))
+    moment_of few start.said [] f s b.kept (told_whole (IsTrueIn p f) (story_start p commands script)) (b.quiet ∙ sym (append-nil start.said)) b.enough (omega (arith, b.within, ap length same))
     (subst (λ (l : List Command). Stands p f (take b.kept l)) (sym same) b.stands)
     (λ n has. absurd (omega (arith, has.1)))
 
 -- a store is open: nothing is said, and the whole script is still to be answered
-pub opened : {p : Params} {start : Disk} {engine : EngineView} {commands : List Command} (script : List (List ℕ)) → IsDisk start → Holds p start engine commands
-    → engine.forced ≡ length commands → Going p start start engine commands script script false
-opened {p} {start} {engine} {commands} script lawful holds all = record {
+pub opened : AreFew → {p : Params} {start : Disk} {engine : EngineView} {commands : List Command} (script : List (List ℕ)) → IsDisk start → (holds : Holds p start engine commands)
+    → forced_in engine ≡ length commands → Going p (stage_of engine holds.world) start start engine commands script script false
+opened few {p} {start} {engine} {commands} script lawful holds all = record {
   lines = [];
   replies = [];
   acc = [];
   script_is = refl;
   said_is = sym (append-nil start.said);
   answers = refl;
-  holds = subst (λ (l : List Command). Holds p start engine l) (sym (append-nil commands)) holds;
+  holds = holds_as (sym (append-nil commands)) holds;
   all_before = omega (arith, all);
   acked = λ n has. absurd (omega (arith, has.1));
   kind = refl;
-  moments = λ told. weaker start start (Between p start engine.forced commands) (Moment p commands script start.said) (holds_between lawful holds told)
-      (λ f s b. first_moment script f s (subst (λ (n : ℕ). Between p start n commands f s) all b));
-  truly = λ told. weaker start start (Between p start engine.forced commands) (IsTrueSoFar p start.said [] start.said) (holds_between lawful holds told)
+  moments = λ told. weaker start start (Between p start (forced_in engine) commands) (Moment p commands script start.said) (holds_between lawful holds told)
+      (λ f s b. first_moment few script f s (subst (λ (n : ℕ). Between p start n commands f s) all b));
+  truly = λ told. weaker start start (Between p start (forced_in engine) commands) (IsTrueSoFar p start.said [] start.said) (holds_between lawful holds told)
       (λ f s b. record { true_within = tt; no_longer = omega (arith, ap length b.quiet) });
-  lengths = record { first = log_length engine; ends = (holds.ends all).0; none_waits = (holds.ends all).1; all = refl };
+  goes = refl;
 }
 
 -- a run that ends between two lines
-pub ends_here : {p : Params} {start now : Disk} {engine : EngineView} {commands : List Command} {script todo : List (List ℕ)} {refusing : Bool}
-    → Going p start now engine commands script todo refusing → IsRun p start now commands script
-ends_here {p} {start} {now} {engine} g = let all = told_whole (λ reply. ⊤) (story_of g) in record {
+pub ends_here : {p : Params} {first : Stage} {start now : Disk} {engine : EngineView} {commands : List Command} {script todo : List (List ℕ)} {refusing : Bool}
+    → Going p first start now engine commands script todo refusing → IsRun p first start now commands script
+ends_here {p} {first} {start} {now} {engine} g = let all = told_whole (λ reply. ⊤) (story_of g) in record {
   says = record {
     says = record { bytes = flat_map said_line g.replies; since = g.said_is; story = all.story };
     truly = λ told. subst (λ (l : List Reply). LeavesOnly start now (TrueWithin p start.said l)) (sym all.with_last) (weaker start now (IsTrueSoFar p start.said g.replies now.said) (TrueWithin p start.said g.replies) (g.truly told) (λ files said t. t.true_within));
-    last = log_length engine;
-    lengths = told_grows all g.lengths;
+    last = stage_of engine g.holds.world;
+    goes = told_goes first (stage_of engine g.holds.world) all g.goes;
   };
   moments = g.moments;
 }
 
 -- a run that ends while a line is answered
-pub ends_in_line : {p : Params} {start now new : Disk} {engine after : EngineView} {commands : List Command} {script todo : List (List ℕ)} {refusing : Bool} {result : Result Bool Stop} {stop : Stop} (line : List ℕ)
-    (g : Going p start now engine commands script (line ∷ todo) refusing) → Passes start now → result ≡ Err stop → Answering p now new engine after (commands ++ g.acc) line result → IsRun p start new commands script
-ends_in_line {p} {start} {now} {new} {engine} {after} {commands} {script} {todo} {refusing} {result} {stop} line g time is a = let all = told_whole (λ reply. ⊤) (story_of g) in record {
+pub ends_in_line : AreFew → {p : Params} {first : Stage} {start now new : Disk} {engine after : EngineView} {commands : List Command} {script todo : List (List ℕ)} {refusing : Bool} {result : Result Bool Stop} {stop : Stop} (line : List ℕ)
+    (g : Going p first start now engine commands script (line ∷ todo) refusing) → Passes start now → result ≡ Err stop → Answering p now new engine after g.holds.world (commands ++ g.acc) line result → IsRun p first start new commands script
+ends_in_line few {p} {first} {start} {now} {new} {engine} {after} {commands} {script} {todo} {refusing} {result} {stop} line g time is a = let all = told_whole (λ reply. ⊤) (story_of g) in record {
   says = ⊎_elim
       (λ (quiet : new.said ≡ now.said). record {
         says = record { bytes = flat_map said_line g.replies; since = quiet ∙ g.said_is; story = all.story };
         truly = λ told. subst (λ (l : List Reply). LeavesOnly start new (TrueWithin p start.said l)) (sym all.with_last) (truly_quiet (g.truly told) g.said_is (a.moments (time.moments_told.0 told)) line_behind);
-        last = log_length engine;
-        lengths = told_grows all g.lengths;
+        last = stage_of engine g.holds.world;
+        goes = told_goes first (stage_of engine g.holds.world) all g.goes;
       })
-      (λ (part : IsPartly p now new (log_length engine) (commands ++ g.acc) line). begun part)
-      (subst (λ (r : Result Bool Stop). OnErr r ((new.said ≡ now.said) ⊎ IsPartly p now new (log_length engine) (commands ++ g.acc) line)) is a.partly);
-  moments = moments_more line g time a;
+      (λ (part : IsPartly p now new (stage_of engine g.holds.world) (commands ++ g.acc) line). begun part)
+      (subst (λ (r : Result Bool Stop). OnErr r ((new.said ≡ now.said) ⊎ IsPartly p now new (stage_of engine g.holds.world) (commands ++ g.acc) line)) is a.partly);
+  moments = moments_more few line g time a;
 }
   where
-    begun : IsPartly p now new (log_length engine) (commands ++ g.acc) line → SaysTruly p commands script start new
+    begun : IsPartly p now new (stage_of engine g.holds.world) (commands ++ g.acc) line → SaysTruly p first commands script start new
     begun part =
         let told_part = told_partly (λ reply. ⊤) line part.reply part.added part.count (story_of g) part.replies tt in
         record {
@@ -186,23 +193,23 @@ ends_in_line {p} {start} {now} {new} {engine} {after} {commands} {script} {todo}
               (weaker start new (IsTrueSoFar p start.said (g.replies ++ part.reply ∷ []) (now.said ++ said_line part.reply)) (TrueWithin p start.said (g.replies ++ part.reply ∷ []))
               (truly_on part.reply (g.truly told) g.said_is (part.truly (time.moments_told.0 told))) (λ files said t. t.true_within));
           last = part.after;
-          lengths = told_grows told_part (grows_more part.after line part.reply g.lengths part.length_is);
+          goes = told_goes first part.after told_part (goes_by_more p first (stage_of engine g.holds.world) part.after g.lines g.replies line part.reply g.goes part.goes);
         }
 
 -- a run that ends in the last force
-pub ends_in_force : {p : Params} {start now new : Disk} {engine : EngineView} {commands : List Command} {script todo : List (List ℕ)} {refusing : Bool}
-    (g : Going p start now engine commands script todo refusing) → Passes start now → new.said ≡ now.said
-    → (now.tells_moments → LeavesOnly now new (Between p now engine.forced (commands ++ g.acc))) → IsRun p start new commands script
-ends_in_force {p} {start} {now} {new} {engine} {commands} {script} g time quiet moments = let all = told_whole (λ reply. ⊤) (story_of g) in record {
+pub ends_in_force : AreFew → {p : Params} {first : Stage} {start now new : Disk} {engine : EngineView} {commands : List Command} {script todo : List (List ℕ)} {refusing : Bool}
+    (g : Going p first start now engine commands script todo refusing) → Passes start now → new.said ≡ now.said
+    → (now.tells_moments → LeavesOnly now new (Between p now (forced_in engine) (commands ++ g.acc))) → IsRun p first start new commands script
+ends_in_force few {p} {first} {start} {now} {new} {engine} {commands} {script} g time quiet moments = let all = told_whole (λ reply. ⊤) (story_of g) in record {
   says = record {
     says = record { bytes = flat_map said_line g.replies; since = quiet ∙ g.said_is; story = all.story };
     truly = λ told. subst (λ (l : List Reply). LeavesOnly start new (TrueWithin p start.said l)) (sym all.with_last)
         (truly_quiet (g.truly told) g.said_is (moments (time.moments_told.0 told)) (λ files said b. omega (arith, ap length b.quiet)));
-    last = log_length engine;
-    lengths = told_grows all g.lengths;
+    last = stage_of engine g.holds.world;
+    goes = told_goes first (stage_of engine g.holds.world) all g.goes;
   };
   moments = λ told. runs_on start now new (Moment p commands script start.said) (g.moments told)
-      (weaker now new (Between p now engine.forced (commands ++ g.acc)) (Moment p commands script start.said) (moments (time.moments_told.0 told)) (between_moment g));
+      (weaker now new (Between p now (forced_in engine) (commands ++ g.acc)) (Moment p commands script start.said) (moments (time.moments_told.0 told)) (between_moment few g));
 }
 
 tells : (refusing any : Bool) → refusing ≡ any → (status_after (Ok refusing) ≡ DoneWithRefusals) ↔ (any ≡ true)
@@ -210,44 +217,47 @@ tells true any is = (λ e. sym is, λ e. refl)
 tells false any is = (λ e. cc, λ e. cc (e, is))
 
 -- the end of a whole run
-pub completes : {p : Params} {start now new : Disk} {engine after : EngineView} {commands : List Command} {script todo : List (List ℕ)} {refusing : Bool}
-    (g : Going p start now engine commands script todo refusing) → todo ≡ [] → new.said ≡ now.said → after.forced ≡ length (commands ++ g.acc) → Holds p new after (commands ++ g.acc)
-    → log_length after ≡ forced_length (log_length engine) → IsComplete p start new commands script (status_after (Ok refusing))
-completes {p} {start} {now} {new} {engine} {after} {commands} {script} {todo} {refusing} g none quiet all holds emptied =
-    let whole : take after.forced (commands ++ g.acc) ≡ commands ++ g.acc = take_all after.forced (commands ++ g.acc) (omega (arith, all)) in
+pub completes : {p : Params} {first : Stage} {start now new : Disk} {engine after : EngineView} {commands : List Command} {script todo : List (List ℕ)} {refusing : Bool}
+    (g : Going p first start now engine commands script todo refusing) → todo ≡ [] → new.said ≡ now.said → forced_in after ≡ length (commands ++ g.acc) → Holds p new after (commands ++ g.acc)
+    → after.parts.log.log.pending ≡ [] → IsAfter (meaning_in p) p new after.parts g.holds.world (force_course (meaning_in p) g.holds.world (used_in engine))
+    → IsComplete p first start new commands script (status_after (Ok refusing))
+completes {p} {first} {start} {now} {new} {engine} {after} {commands} {script} {todo} {refusing} g none quiet all holds emptied taken =
+    let whole : take (forced_in after) (commands ++ g.acc) ≡ commands ++ g.acc = take_all (forced_in after) (commands ++ g.acc) (omega (arith, all)) in
+    let images = holds.says.images in
     record {
       replies = g.replies;
       acc = g.acc;
       answers = story_end (story_of g) none;
       said_is = quiet ∙ g.said_is;
       stands = (
-        subst (λ (l : List Command). Stands p new.reads l) whole holds.now,
-        λ told f s left. subst (λ (l : List Command). Stands p f l) whole (holds.images told f s left),
+        subst (λ (l : List Command). Stands p new.reads l) whole images.0,
+        λ told f s left. subst (λ (l : List Command). Stands p f l) whole (images.1 told f s left),
       );
-      settled = holds.carried.log.settled;
+      settled = holds.shows.shows.log.keeps.settled;
       refusals = tells refusing (list_any is_refusing g.replies) g.kind;
-      last = log_length engine;
-      ends_last = subst (λ (l : LogLength). EndsAt new.reads l.used) emptied (holds.ends all).0;
-      lengths = subst (λ (l : List (List ℕ)). GrowsTo p start.reads l g.replies (log_length engine)) (sym (g.script_is ∙ ap (λ (l : List (List ℕ)). g.lines ++ l) none ∙ append-nil g.lines)) g.lengths;
+      last = stage_of engine g.holds.world;
+      shows = files_shown (meaning_in p) p new after.parts (run (meaning_in p) g.holds.world (force_steps (meaning_in p) g.holds.world)) taken.shows;
+      ends_last = subst (λ (n : ℕ). EndsAt new.reads n) taken.used (holds.says.none_waits emptied).1.0;
+      goes = subst (λ (l : List (List ℕ)). AllGoBy p first l g.replies (stage_of engine g.holds.world)) (sym (g.script_is ∙ ap (λ (l : List (List ℕ)). g.lines ++ l) none ∙ append-nil g.lines)) g.goes;
     }
 
-pub goes_to : {p : Params} {start now : Disk} {engine : EngineView} {commands : List Command} {script todo : List (List ℕ)} {refusing : Bool} (line : List ℕ) (rest : List (List ℕ))
-    → Going p start now engine commands script todo refusing → todo ≡ line ∷ rest → Going p start now engine commands script (line ∷ rest) refusing
-goes_to {p} {start} {now} {engine} {commands} {script} {todo} {refusing} line rest g is = subst (λ (l : List (List ℕ)). Going p start now engine commands script l refusing) is g
+pub goes_to : {p : Params} {first : Stage} {start now : Disk} {engine : EngineView} {commands : List Command} {script todo : List (List ℕ)} {refusing : Bool} (line : List ℕ) (rest : List (List ℕ))
+    → Going p first start now engine commands script todo refusing → todo ≡ line ∷ rest → Going p first start now engine commands script (line ∷ rest) refusing
+goes_to {p} {first} {start} {now} {engine} {commands} {script} {todo} {refusing} line rest g is = subst (λ (l : List (List ℕ)). Going p first start now engine commands script l refusing) is g
 
 -- the moments while the answer is found and said
-found_moments : {p : Params} {old mid new : Disk} {before after : EngineView} {commands : List Command} {line : List ℕ} {reply : Reply}
-    → (old.tells_moments → LeavesOnly old mid (Between p old before.forced commands)) → Passes old mid → IsFound p old mid before after commands line reply
-    → Runs Same (SaysFront (said_line reply)) mid new → old.tells_moments → LeavesOnly old new (LineMoment p old before.forced commands line)
-found_moments {p} {old} {mid} {new} {before} {after} {commands} {line} {reply} moments time found say told =
-    runs_on old mid new (LineMoment p old before.forced commands line)
-    (weaker old mid (Between p old before.forced commands) (LineMoment p old before.forced commands line) (moments told) (λ f s b. inl b))
-    (first_call mid new (LineMoment p old before.forced commands line) told_now say.time during)
+found_moments : {p : Params} {old mid new : Disk} {before after : EngineView} {w : World Command} {commands : List Command} {line : List ℕ} {reply : Reply}
+    → (old.tells_moments → LeavesOnly old mid (Between p old (forced_in before) commands)) → Passes old mid → IsFound p old mid before after w commands line reply
+    → Runs Same (SaysFront (said_line reply)) mid new → old.tells_moments → LeavesOnly old new (LineMoment p old (forced_in before) commands line)
+found_moments {p} {old} {mid} {new} {before} {after} {w} {commands} {line} {reply} moments time found say told =
+    runs_on old mid new (LineMoment p old (forced_in before) commands line)
+    (weaker old mid (Between p old (forced_in before) commands) (LineMoment p old (forced_in before) commands line) (moments told) (λ f s b. inl b))
+    (first_call mid new (LineMoment p old (forced_in before) commands line) told_now say.time during)
   where
     told_now : mid.tells_moments
     told_now = time.moments_told.0 told
 
-    during : (f : Files) (s : List ℕ) → new.left_since mid.clock f s → LineMoment p old before.forced commands line f s
+    during : (f : Files) (s : List ℕ) → new.left_since mid.clock f s → LineMoment p old (forced_in before) commands line f s
     during f s left =
         let from = say.crash told_now f s left in
         inr (record {
@@ -257,36 +267,36 @@ found_moments {p} {old} {mid} {new} {before} {after} {commands} {line} {reply} m
           tied = subst (λ (x : Files). IsTrueIn p x reply) (sym from.0.2) (found.tied.1 told_now from.0.0 mid.said from.0.1);
           count = from.1.0;
           said_is = from.1.2 ∙ ap (λ (l : List ℕ). l ++ take from.1.0 (said_line reply)) found.quiet;
-          kept = after.forced;
+          kept = (forced_in after);
           enough = found.kept.rising;
-          within = found.kept.holds.forced;
-          stands = subst (λ (x : Files). Stands p x (take after.forced (commands ++ found.added))) (sym from.0.2) (found.kept.holds.images told_now from.0.0 mid.said from.0.1);
+          within = found.kept.holds.says.forced;
+          stands = subst (λ (x : Files). Stands p x (take (forced_in after) (commands ++ found.added))) (sym from.0.2) (found.kept.holds.says.images.1 told_now from.0.0 mid.said from.0.1);
           acked = found.acked;
         })
 
 -- the answer that was found has been said, or a beginning of it
-pub found_said : {p : Params} {old mid new : Disk} {before after : EngineView} {commands : List Command} {line : List ℕ} {reply : Reply} (result : Result Bool Stop)
-    → (old.tells_moments → LeavesOnly old mid (Between p old before.forced commands)) → Passes old mid → IsFound p old mid before after commands line reply
+pub found_said : {p : Params} {old mid new : Disk} {before after : EngineView} {w : World Command} {commands : List Command} {line : List ℕ} {reply : Reply} (result : Result Bool Stop)
+    → (old.tells_moments → LeavesOnly old mid (Between p old (forced_in before) commands)) → Passes old mid → IsFound p old mid before after w commands line reply
     → Runs Same (SaysFront (said_line reply)) mid new → (mid.tells_files → OnOk result (new.said ≡ mid.said ++ said_line reply)) → IfOk result (λ kind. kind ≡ is_refusing reply)
-    → Answering p old new before after commands line result
+    → Answering p old new before after w commands line result
 found_said {reply = reply} (Ok kind) moments time found say all is = record {
   whole = record {
     reply = reply;
     added = found.added;
     replies = found.replies;
-    said = all found.kept.holds.told ∙ ap (λ (l : List ℕ). l ++ said_line reply) found.quiet;
+    said = all (told_by found.kept.holds) ∙ ap (λ (l : List ℕ). l ++ said_line reply) found.quiet;
     kept = record { holds = holds_stays say found.kept.holds; rising = found.kept.rising };
     acked = found.acked;
     kind = is;
     truly = found_truly moments time found say;
-    length_is = found.length_is;
+    goes = found.goes;
   };
   partly = tt;
   moments = found_moments moments time found say;
 }
 found_said {after = after} {reply = reply} (Err stop) moments time found say all is = record {
   whole = tt;
-  partly = let front = say.said found.kept.holds.told in
+  partly = let front = say.said (told_by found.kept.holds) in
       inr (record {
         reply = reply;
         added = found.added;
@@ -294,41 +304,41 @@ found_said {after = after} {reply = reply} (Err stop) moments time found say all
         count = front.0;
         said_is = front.2 ∙ ap (λ (l : List ℕ). l ++ take front.0 (said_line reply)) found.quiet;
         truly = found_truly moments time found say;
-        after = log_length after;
-        length_is = found.length_is;
+        after = stage_of after found.kept.holds.world;
+        goes = found.goes;
       });
   moments = found_moments moments time found say;
 }
 
 -- nothing was said of the answer
-pub stops_before : {p : Params} {old new : Disk} {before after : EngineView} {commands : List Command} {line : List ℕ} (result : Result Bool Stop) → IsErr result
-    → (old.tells_moments → LeavesOnly old new (Between p old before.forced commands)) → new.said ≡ old.said → Answering p old new before after commands line result
+pub stops_before : {p : Params} {old new : Disk} {before after : EngineView} {w : World Command} {commands : List Command} {line : List ℕ} (result : Result Bool Stop) → IsErr result
+    → (old.tells_moments → LeavesOnly old new (Between p old (forced_in before) commands)) → new.said ≡ old.said → Answering p old new before after w commands line result
 stops_before (Ok kind) is moments quiet = absurd (cc is)
-stops_before {p} {old} {new} {before} {after} {commands} {line} (Err stop) is moments quiet = record {
+stops_before {p} {old} {new} {before} {after} {w} {commands} {line} (Err stop) is moments quiet = record {
   whole = tt;
   partly = inl quiet;
-  moments = λ told. weaker old new (Between p old before.forced commands) (LineMoment p old before.forced commands line) (moments told) (λ f s b. inl b);
+  moments = λ told. weaker old new (Between p old (forced_in before) commands) (LineMoment p old (forced_in before) commands line) (moments told) (λ f s b. inl b);
 }
 
+abbrev pub kept_nil : {p : Params} {d : Disk} {before engine : EngineView} {commands : List Command} → Kept p before d engine commands → Kept p before d engine (commands ++ [])
+kept_nil {commands = commands} kept = record { holds = holds_as (sym (append-nil commands)) kept.holds; rising = kept.rising }
+
 -- what is answered without a call
-pub found_at_once : {p : Params} {d : Disk} {engine : EngineView} {commands : List Command} {line : List ℕ} (reply : Reply) → Holds p d engine commands
-    → Replies p commands line reply [] → ((f : Files) → IsTrueIn p f reply) → ((n : ℕ) → reply ≢ forced n) → ((log : LogLength) → GoesBy p log line reply log) → IsFound p d d engine engine commands line reply
-found_at_once {p} {d} {engine} {commands} reply holds replies tied other lengths = record {
+pub found_at_once : {p : Params} {d : Disk} {engine : EngineView} {commands : List Command} {line : List ℕ} (reply : Reply) → (holds : Holds p d engine commands)
+    → Replies p commands line reply [] → ((f : Files) → IsTrueIn p f reply) → ((n : ℕ) → reply ≢ forced n) → ((s : Stage) → GoesBy p s line reply s) → IsFound p d d engine engine holds.world commands line reply
+found_at_once {p} {d} {engine} {commands} reply holds replies tied other goes = record {
   added = [];
   replies = replies;
   quiet = refl;
-  kept = record { holds = subst (λ (l : List Command). Holds p d engine l) (sym (append-nil commands)) holds; rising = omega arith };
+  kept = kept_nil (record { holds = holds; rising = omega arith });
   tied = (tied d.reads, λ told f s left. tied f);
   acked = λ n is. absurd (other n is);
-  length_is = lengths (log_length engine);
+  goes = goes (stage_of engine holds.world);
 }
 
-pub kept_nil : {p : Params} {d : Disk} {before engine : EngineView} {commands : List Command} → Kept p before d engine commands → Kept p before d engine (commands ++ [])
-kept_nil {p} {d} {before} {engine} {commands} kept = subst (λ (l : List Command). Kept p before d engine l) (sym (append-nil commands)) kept
-
 -- the value that was fetched
-pub found_value : {p : Params} {old mid : Disk} {before after : EngineView} {commands : List Command} {line : List ℕ} (object : ℕ) (bytes : List ℕ) → AsksFor line (get object) → object < p.objects
-    → bytes ≡ state_of p commands object → mid.said ≡ old.said → Kept p before mid after commands → log_length after ≡ log_length before → IsFound p old mid before after commands line (value bytes)
+pub found_value : {p : Params} {old mid : Disk} {before after : EngineView} {w : World Command} {commands : List Command} {line : List ℕ} (object : ℕ) (bytes : List ℕ) → AsksFor line (get object) → object < p.objects
+    → bytes ≡ state_of p commands object → mid.said ≡ old.said → (kept : Kept p before mid after commands) → stage_of after kept.holds.world ≡ stage_of before w → IsFound p old mid before after w commands line (value bytes)
 found_value object bytes asks there is quiet kept same = record {
   added = [];
   replies = (object, asks, there, is, refl);
@@ -336,12 +346,12 @@ found_value object bytes asks there is quiet kept same = record {
   kept = kept_nil kept;
   tied = (tt, λ told f s left. tt);
   acked = λ n is. cc;
-  length_is = same;
+  goes = same;
 }
 
 -- or there is no such object
-pub found_none : {p : Params} {old mid : Disk} {before after : EngineView} {commands : List Command} {line : List ℕ} (object : ℕ) → AsksFor line (get object) → p.objects ≤ object
-    → mid.said ≡ old.said → Kept p before mid after commands → log_length after ≡ log_length before → IsFound p old mid before after commands line (refused NoObject)
+pub found_none : {p : Params} {old mid : Disk} {before after : EngineView} {w : World Command} {commands : List Command} {line : List ℕ} (object : ℕ) → AsksFor line (get object) → p.objects ≤ object
+    → mid.said ≡ old.said → (kept : Kept p before mid after commands) → stage_of after kept.holds.world ≡ stage_of before w → IsFound p old mid before after w commands line (refused NoObject)
 found_none object asks past quiet kept same = record {
   added = [];
   replies = (inr (object, asks, past, refl), refl);
@@ -349,19 +359,19 @@ found_none object asks past quiet kept same = record {
   kept = kept_nil kept;
   tied = (tt, λ told f s left. tt);
   acked = λ n is. cc;
-  length_is = same;
+  goes = same;
 }
 
 -- it is said where it is found
 pub said_at_once : {p : Params} {d new : Disk} {engine : EngineView} {commands : List Command} {line : List ℕ} {reply : Reply} (result : Result Bool Stop)
-    → IsDisk d → IsFound p d d engine engine commands line reply → Holds p d engine commands
+    → IsDisk d → (holds : Holds p d engine commands) → IsFound p d d engine engine holds.world commands line reply
     → Runs Same (SaysFront (said_line reply)) d new → (d.tells_files → OnOk result (new.said ≡ d.said ++ said_line reply)) → IfOk result (λ kind. kind ≡ is_refusing reply)
-    → Answering p d new engine engine commands line result
-said_at_once {d = d} result lawful found holds say all is = found_said result (holds_between lawful holds) (passes_none d) found say all is
+    → Answering p d new engine engine holds.world commands line result
+said_at_once {d = d} result lawful holds found say all is = found_said result (holds_between lawful holds) (passes_none d) found say all is
 
 -- a line that is skipped
-pub skipped : {p : Params} {d : Disk} {engine : EngineView} {commands : List Command} {line : List ℕ} → IsDisk d → Holds p d engine commands → AsksFor line skip
-    → Answering p d d engine engine commands line (Ok false)
+pub skipped : {p : Params} {d : Disk} {engine : EngineView} {commands : List Command} {line : List ℕ} → IsDisk d → (holds : Holds p d engine commands) → AsksFor line skip
+    → Answering p d d engine engine holds.world commands line (Ok false)
 skipped {p} {d} {engine} {commands} {line} lawful holds asks = record {
   whole = record {
     reply = silence;
@@ -371,15 +381,15 @@ skipped {p} {d} {engine} {commands} {line} lawful holds asks = record {
     kept = kept_nil (record { holds = holds; rising = omega arith });
     acked = λ n is. cc;
     kind = refl;
-    length_is = refl;
-    truly = λ told. weaker d d (Between p d engine.forced commands) (IsTrueSaying p d.said silence) (holds_between lawful holds told) (λ files said b. record {
+    goes = refl;
+    truly = λ told. weaker d d (Between p d (forced_in engine) commands) (IsTrueSaying p d.said silence) (holds_between lawful holds told) (λ files said b. record {
       true_in = λ e. tt;
       no_shorter = omega (arith, ap length b.quiet);
       no_longer = omega (arith, ap length b.quiet, length-append d.said []);
     });
   };
   partly = tt;
-  moments = λ told. weaker d d (Between p d engine.forced commands) (LineMoment p d engine.forced commands line) (holds_between lawful holds told) (λ f s b. inl b);
+  moments = λ told. weaker d d (Between p d (forced_in engine) commands) (LineMoment p d (forced_in engine) commands line) (holds_between lawful holds told) (λ f s b. inl b);
 }
 
 pub moment_longer : {p : Params} {commands : List Command} {script : List (List ℕ)} {before : List ℕ} (more : List (List ℕ)) (f : Files) (s : List ℕ) → Moment p commands script before f s → Moment p commands (script ++ more) before f s
@@ -395,9 +405,9 @@ moment_longer more f s m = record {
 }
 
 -- a run that has answered all its lines has one more
-abbrev pub with_next : {p : Params} {start now : Disk} {engine : EngineView} {commands : List Command} {script : List (List ℕ)} {refusing : Bool} (line : List ℕ)
-    → Going p start now engine commands script [] refusing → Going p start now engine commands (script ++ line ∷ []) (line ∷ []) refusing
-with_next {p} {start} {now} {engine} {commands} {script} line g = record {
+abbrev pub with_next : {p : Params} {first : Stage} {start now : Disk} {engine : EngineView} {commands : List Command} {script : List (List ℕ)} {refusing : Bool} (line : List ℕ)
+    → Going p first start now engine commands script [] refusing → Going p first start now engine commands (script ++ line ∷ []) (line ∷ []) refusing
+with_next {p} {first} {start} {now} {engine} {commands} {script} line g = record {
   lines = g.lines;
   replies = g.replies;
   acc = g.acc;
@@ -410,5 +420,5 @@ with_next {p} {start} {now} {engine} {commands} {script} line g = record {
   kind = g.kind;
   moments = λ told. weaker start now (Moment p commands script start.said) (Moment p commands (script ++ line ∷ []) start.said) (g.moments told) (moment_longer (line ∷ []));
   truly = g.truly;
-  lengths = g.lengths;
+  goes = g.goes;
 }

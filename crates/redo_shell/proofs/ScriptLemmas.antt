@@ -1,7 +1,7 @@
 -- The end of a script's run, and what was taken off its source.
 use Rattle.std.proofs.Common.{◌≡◌, ◌≢◌, ◌++◌, List, ℕ, [], ◌∷◌, length-append, append_assoc, refl, sym, ◌∙◌, ap, subst, arith, ◌<◌, ◌≤◌, ◌^◌, ◌==◌, if◌then◌else◌, true, false, length, Bool, Result, Ok, Err, IfErr}
 use Rattle.std.specs.Result.{IsErrAnd, IsErrOf}
-use Rattle.disk_model.specs.Disk.{Disk, Passes}
+use Rattle.disk_model.specs.Disk.{Disk, Passes, Rises}
 use Rattle.script_lines.specs.Grammar.{lines_of, before_first}
 use Rattle.script_lines.specs.Reading.{Takes, IsNext, IsLine}
 use Rattle.script_lines.specs.declared.next.Next.{Next}
@@ -56,6 +56,12 @@ line_stops (Ok refusing) answered why old mid new before now is was time cause =
 line_stops (Err stop) answered why old mid new before now is was time cause =
     let here = subst (λ (r : Result Bool Stop). IfErr r (λ s. IsCaused s mid new)) was cause in
     subst (λ (s : Stop). IsStopped s old new before now) (sym is) (stopped_line why old mid new before now time here)
+
+-- or the last force failed
+pub force_stops : (result : Result Bool Stop) (old mid new : Disk) (before now : ℕ) → IsErrAnd result (λ stop. stop ≡ DiskFault) → Passes old mid → Rises mid.disk_faults new.disk_faults → IfErr result (λ stop. IsStopped stop old new before now)
+force_stops (Ok refusing) old mid new before now is time fault = tt
+force_stops (Err stop) old mid new before now is time fault =
+    subst (λ (s : Stop). IsStopped s old new before now) (sym is) (rises_within old.disk_faults mid.disk_faults new.disk_faults new.disk_faults time.disk_faults (omega arith) fault)
 
 -- and not for too much input
 pub line_not_long : (result answered : Result Bool Stop) (why : Stop) (mid new : Disk) → IsErrAnd result (λ stop. stop ≡ why) → answered ≡ Err why → IfErr answered (λ stop. IsCaused stop mid new) → IsErrOf result TooLong → ⊥

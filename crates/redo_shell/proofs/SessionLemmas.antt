@@ -10,7 +10,7 @@ use Rattle.store_engine.specs.ImageLaws.{stands_begins}
 use Rattle.script_lines.specs.Replies.{Reply}
 use Rattle.redo_shell.specs.Store.{Command, Stands, IsNew}
 use Rattle.redo_shell.specs.Answers.{Said, Begun, Moment}
-use Rattle.redo_shell.specs.Sessions.{Ran, Adds, Survives, Follows, Sessions, AllSilent, IsAsked, IsThere, Arises, none, more, start, run, init, other}
+use Rattle.redo_shell.specs.Sessions.{Ran, Adds, Survives, Follows, Sessions, AllSilent, IsAsked, IsThere, Arises, none, more, start, run, init, dump, other}
 use Rattle.redo_shell.proofs.PrintedLemmas.{nothing_printed}
 use Rattle.redo_shell.proofs.StoryLemmas.{story_start, told_whole}
 
@@ -70,6 +70,10 @@ survives_run {p} {commands} {runs} {was} {files} ran now s adds stands =
       acked = λ n said. ⊎_elim (λ before. let enough = s.acked n before in omega (arith, enough, adds.all_before, long)) (λ has. let enough = adds.acked n has in omega (arith, enough, long)) said;
     }
 
+-- other files that stand for the same
+abbrev survives_as : {p : Params} {commands : List Command} {runs : List Ran} {was files : Files} → (s : Survives p commands runs was) → Stands p files s.now → Survives p commands runs files
+survives_as s stands = record { now = s.now; later = s.later; now_is = s.now_is; grows = s.grows; stands = stands; acked = s.acked }
+
 -- before the first run
 abbrev survives_start : (p : Params) (commands : List Command) (files : Files) → Stands p files commands → Survives p commands [] files
 survives_start p commands files stands = record { now = commands; later = []; now_is = sym (append-nil commands); grows = none; stands = stands; acked = λ n was. absurd was }
@@ -108,6 +112,14 @@ module _ {T : Type 0} (disk : T → Disk) (lawful : (m : T) → IsDisk (disk m))
       let (told_old, each_old) = survive before in
       let read = each_old (disk old).reads (disk old).said ((lawful old).as_read told_old) in
       absurd (no_store (stands_begins all_meaning read.stands))
+  survive (dump old new next bytes before keeps leaves follows) =
+      let (told_old, each_old) = survive before in
+      let read = each_old (disk old).reads (disk old).said ((lawful old).as_read told_old) in
+      let moments = leaves p read.now (record { told = (lawful old).telling told_old; stands = read.stands }) told_old in
+      let told_next = follows.told told_old in (
+        told_next,
+        λ files said left. ⊎_elim (λ was. each_old files bytes was) (λ m. survives_as read m.stands) (moments.each files bytes (follows.within told_next files said left)),
+      )
   survive (other old new next bytes before kept follows) =
       let (told_old, each_old) = survive before in
       let told_next = follows.told told_old in (
@@ -165,6 +177,19 @@ module _ {T : Type 0} (disk : T → Disk) (lawful : (m : T) → IsDisk (disk m))
             (λ is. ⊎_elim (λ still. inl (still, none_read.1)) (λ stands. inr (p, inl (inl refl), (survives_silent p files runs none_read.1 stands).0)) is.0)
             ((leaves told_old).each files _ (follows.within told_next files said left)))
             (λ (is_read : (q : Params) × (IsAsked inits q ⊎ IsThere (disk first) q) × Survives q [] runs (disk old).reads). absurd (no_store (stands_begins all_meaning is_read.2.stands)))
+            read_or,
+      )
+  arise (dump {inits} {runs} old new next bytes before keeps leaves follows) =
+      let (told_old, each_old) = arise before in
+      let read_or = each_old (disk old).reads (disk old).said ((lawful old).as_read told_old) in
+      let told_next = follows.told told_old in (
+        told_next,
+        λ files said left. ⊎_elim
+            (λ no_store. each_old files (disk old).said (((keeps no_store.0 told_old).images told_old).each files bytes (follows.within told_next files said left)))
+            (λ (is_read : (p : Params) × (IsAsked inits p ⊎ IsThere (disk first) p) × Survives p [] runs (disk old).reads).
+            let (p, from, read) = is_read in
+            let moments = leaves p read.now (record { told = (lawful old).telling told_old; stands = read.stands }) told_old in
+            ⊎_elim (λ was. each_old files bytes was) (λ m. inr (p, from, survives_as read m.stands)) (moments.each files bytes (follows.within told_next files said left)))
             read_or,
       )
   arise (other old new next bytes before kept follows) =

@@ -6,11 +6,10 @@ use Rattle.std.proofs.lemmas.List.Concat.{flat_map-append}
 use Rattle.std.specs.List.{flat_map}
 use Rattle.disk_model.specs.Disk.{Files}
 use Rattle.formats.specs.declared.params.Params.{Params}
-use Rattle.script_lines.specs.Replies.{Reply, ok, value, forced, bad, refused, full, end, object_value, command_count, silence, text_of, said_line}
-use Rattle.store_engine.specs.Engine.{LogLength}
+use Rattle.script_lines.specs.Replies.{Reply, ok, value, forced, bad, refused, full, end, object_value, command_count, stat, silence, text_of, said_line}
 use Rattle.redo_shell.specs.Store.{Command}
 use Rattle.redo_shell.specs.Replies.{Replies}
-use Rattle.redo_shell.specs.Lengths.{GoesBy, AllGoBy, GrowsTo}
+use Rattle.redo_shell.specs.Stages.{Stage, GoesBy, AllGoBy}
 use Rattle.redo_shell.specs.Answers.{Answers, Begun, Said, with_begun, with_line}
 
 -- the first lines of a script, and the answers to them
@@ -118,6 +117,7 @@ beginning (full used need limit) count less = within_text (text_of (full used ne
 beginning (end number) count less = within_text (text_of (end number)) count less
 beginning (object_value object bytes) count less = within_text (text_of (object_value object bytes)) count less
 beginning (command_count n) count less = within_text (text_of (command_count n)) count less
+beginning (stat counts) count less = within_text (text_of (stat counts)) count less
 beginning silence count less = absurd (omega arith)
 
 -- a beginning of the next answer was said, or all of it
@@ -154,30 +154,21 @@ told_partly {p} tie {commands} {script} {todo} {replies} {acc} line reply added 
         = said_more replies reply ∙ ap (λ (l : List ℕ). flat_map said_line replies ++ l) (sym (take_all count (said_line reply) all)) in
         subst (λ (l : List ℕ). Told p tie commands script (s.lines ++ line ∷ []) (replies ++ reply ∷ []) (acc ++ added) l) same (told_whole tie (story_more line reply added s here))
 
--- the log's length goes on with an answer more
-pub goes_by_more : (p : Params) (first mid last : LogLength) (lines : List (List ℕ)) (replies : List Reply) (line : List ℕ) (reply : Reply) → AllGoBy p first lines replies mid → GoesBy p mid line reply last
+-- the stages go on with an answer more
+pub goes_by_more : (p : Params) (first mid last : Stage) (lines : List (List ℕ)) (replies : List Reply) (line : List ℕ) (reply : Reply) → AllGoBy p first lines replies mid → GoesBy p mid line reply last
     → AllGoBy p first (lines ++ line ∷ []) (replies ++ reply ∷ []) last
-goes_by_more p first mid last [] [] line reply so_far here = (last, subst (λ (m : LogLength). GoesBy p m line reply last) so_far here, refl)
+goes_by_more p first mid last [] [] line reply so_far here = (last, subst (λ (m : Stage). GoesBy p m line reply last) so_far here, refl)
 goes_by_more p first mid last (l ∷ lines) (r ∷ replies) line reply (next, one, rest) here = (next, one, goes_by_more p next mid last lines replies line reply rest here)
 goes_by_more p first mid last [] (r ∷ replies) line reply so_far here = absurd so_far
 goes_by_more p first mid last (l ∷ lines) [] line reply so_far here = absurd so_far
 
-pub grows_more : {p : Params} {files : Files} {mid : LogLength} (last : LogLength) {lines : List (List ℕ)} {replies : List Reply} (line : List ℕ) (reply : Reply) → GrowsTo p files lines replies mid → GoesBy p mid line reply last
-    → GrowsTo p files (lines ++ line ∷ []) (replies ++ reply ∷ []) last
-grows_more {p} {files} {mid} last {lines} {replies} line reply g here = record {
-  first = g.first;
-  ends = g.ends;
-  none_waits = g.none_waits;
-  all = goes_by_more p g.first mid last lines replies line reply g.all here;
-}
-
--- it goes along what was reported
-pub told_grows : {p : Params} {tie : Reply → Type 0} {commands : List Command} {script lines : List (List ℕ)} {replies : List Reply} {acc : List Command} {said : List ℕ} {files : Files} {last : LogLength}
-    → (t : Told p tie commands script lines replies acc said) → GrowsTo p files lines replies last
-    → GrowsTo p files (with_line t.story.lines t.story.work) (with_begun t.story.replies t.story.work) last
-told_grows {p} {lines = lines} {files = files} {last = last} t g =
-    subst (λ (l : List (List ℕ)). GrowsTo p files l (with_begun t.story.replies t.story.work) last) (sym t.lines_are)
-    (subst (λ (r : List Reply). GrowsTo p files lines r last) (sym t.with_last) g)
+-- they go along what was reported
+pub told_goes : {p : Params} {tie : Reply → Type 0} {commands : List Command} {script lines : List (List ℕ)} {replies : List Reply} {acc : List Command} {said : List ℕ} (first last : Stage)
+    → (t : Told p tie commands script lines replies acc said) → AllGoBy p first lines replies last
+    → AllGoBy p first (with_line t.story.lines t.story.work) (with_begun t.story.replies t.story.work) last
+told_goes {p} {lines = lines} first last t g =
+    subst (λ (l : List (List ℕ)). AllGoBy p first l (with_begun t.story.replies t.story.work) last) (sym t.lines_are)
+    (subst (λ (r : List Reply). AllGoBy p first lines r last) (sym t.with_last) g)
 
 -- what answers the first lines of a script answers those of a longer one
 abbrev pub said_longer : {p : Params} {tie : Reply → Type 0} {commands : List Command} {script : List (List ℕ)} {said : List ℕ} (more : List (List ℕ)) → Said p tie commands script said → Said p tie commands (script ++ more) said

@@ -5,8 +5,9 @@ use Rattle.std.specs.List.{flat_map}
 use Rattle.disk_model.specs.Disk.{Files, Disk, Passes, Runs, Same, SaysFront, LeavesOnly}
 use Rattle.disk_model.specs.Moments.{first_call, runs_on, weaker}
 use Rattle.formats.specs.declared.params.Params.{Params}
-use Rattle.script_lines.specs.Replies.{Reply, ok, value, forced, bad, refused, full, end, object_value, command_count, silence, text_of, said_line}
-use Rattle.store_engine.specs.Engine.{EngineView}
+use Rattle.script_lines.specs.Replies.{Reply, ok, value, forced, bad, refused, full, end, object_value, command_count, stat, silence, text_of, said_line}
+use Rattle.explain_core.specs.World.{World}
+use Rattle.store_engine.specs.Engine.{EngineView, forced_in}
 use Rattle.redo_shell.specs.Store.{Command, Between}
 use Rattle.redo_shell.specs.Replies.{IsTrueIn}
 use Rattle.redo_shell.specs.Answers.{EndsInside, TrueWithin}
@@ -30,6 +31,7 @@ within_line (full used need limit) count some within = newline_behind (text_of (
 within_line (end number) count some within = newline_behind (text_of (end number)) count within
 within_line (object_value object bytes) count some within = newline_behind (text_of (object_value object bytes)) count within
 within_line (command_count n) count some within = newline_behind (text_of (command_count n)) count within
+within_line (stat counts) count some within = newline_behind (text_of (stat counts)) count within
 within_line silence count some within = absurd (omega (arith, some, within, none_of_silence))
 
 -- how many bytes are said where they end inside an answer
@@ -106,12 +108,12 @@ line_behind {p} {d} {least} {commands} {line} files said m = ⊎_elim
     m
 
 -- the moments while an answer is found and said
-pub found_truly : {p : Params} {old mid new : Disk} {before after : EngineView} {commands : List Command} {line : List ℕ} {reply : Reply}
-    → (old.tells_moments → LeavesOnly old mid (Between p old before.forced commands)) → Passes old mid → IsFound p old mid before after commands line reply
+pub found_truly : {p : Params} {old mid new : Disk} {before after : EngineView} {w : World Command} {commands : List Command} {line : List ℕ} {reply : Reply}
+    → (old.tells_moments → LeavesOnly old mid (Between p old (forced_in before) commands)) → Passes old mid → IsFound p old mid before after w commands line reply
     → Runs Same (SaysFront (said_line reply)) mid new → old.tells_moments → LeavesOnly old new (IsTrueSaying p old.said reply)
-found_truly {p} {old} {mid} {new} {before} {after} {commands} {line} {reply} moments time found say told =
+found_truly {p} {old} {mid} {new} {before} {after} {w} {commands} {line} {reply} moments time found say told =
     runs_on old mid new (IsTrueSaying p old.said reply)
-    (weaker old mid (Between p old before.forced commands) (IsTrueSaying p old.said reply) (moments told) (λ files said b. record {
+    (weaker old mid (Between p old (forced_in before) commands) (IsTrueSaying p old.said reply) (moments told) (λ files said b. record {
       true_in = λ e. absurd (omega (arith, ends_behind e, ap length b.quiet));
       no_shorter = omega (arith, ap length b.quiet);
       no_longer = omega (arith, ap length b.quiet, length-append old.said (said_line reply));

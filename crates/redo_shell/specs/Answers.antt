@@ -5,11 +5,10 @@ use Rattle.std.specs.List.{flat_map}
 use Rattle.disk_model.specs.Disk.{Files, Disk, LeavesOnly}
 use Rattle.formats.specs.declared.params.Params.{Params}
 use Rattle.script_lines.specs.Replies.{Reply, text_of, said_line}
-use Rattle.store_engine.specs.Engine.{LogLength}
 use Rattle.redo_shell.specs.Store.{Command, Stands}
 use Rattle.redo_shell.specs.Replies.{Replies, IsTrueIn}
 use Rattle.redo_shell.specs.Printed.{SaysForced}
-use Rattle.redo_shell.specs.Lengths.{GrowsTo}
+use Rattle.redo_shell.specs.Stages.{Stage, AllGoBy}
 
 -- The lines get these answers, one after the other, and add these commands.
 abbrev pub Answers : Params → List Command → List (List ℕ) → List Reply → List Command → Type 0
@@ -85,10 +84,10 @@ with_line answered (inl whole) = answered
 with_line answered (inr begun) = answered ++ begun.line ∷ []
 
 -- What was said in a run is answers to the lines of a script, and each of them, the last one begun too, is true of every
--- image of each moment at which the bytes said end inside it. The log grows with them, so `full` comes exactly where the
--- record that is asked for does not fit, however the run ends.
-pub record SaysTruly (p : Params) (commands : List Command) (script : List (List ℕ)) (old new : Disk) : Type 0 where
+-- image of each moment at which the bytes said end inside it. They go by the stages from the first on, so `full` comes
+-- exactly where what is asked for does not fit, however the run ends.
+pub record SaysTruly (p : Params) (first : Stage) (commands : List Command) (script : List (List ℕ)) (old new : Disk) : Type 0 where
   pub says : SaysAnswers p commands script old.said new.said
   pub truly : old.tells_moments → LeavesOnly old new (TrueWithin p old.said (with_begun says.story.replies says.story.work))
-  pub last : LogLength
-  pub lengths : GrowsTo p old.reads (with_line says.story.lines says.story.work) (with_begun says.story.replies says.story.work) last
+  pub last : Stage
+  pub goes : AllGoBy p first (with_line says.story.lines says.story.work) (with_begun says.story.replies says.story.work) last

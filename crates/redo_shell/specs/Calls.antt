@@ -11,13 +11,14 @@ use Rattle.formats.specs.declared.params.Params.{Params}
 use Rattle.script_lines.specs.Words.{Asks}
 use Rattle.script_lines.specs.declared.words.Asked.TheVariants.{Init, Run, Dump}
 use Rattle.store_engine.specs.Engine.{InEachImage}
-use Rattle.store_engine.specs.Starts.{OrAtStart}
+use Rattle.restart.specs.Starts.{OrAtStart}
 use Rattle.redo_shell.specs.Store.{Command, IsWellFormed, Stands, IsNew}
 use Rattle.redo_shell.specs.Answers.{Moment, SaysTruly}
 use Rattle.redo_shell.specs.Dump.{dump_of, DumpMoment}
 use Rattle.redo_shell.specs.Keeps.{KeepsFiles}
 use Rattle.redo_shell.specs.Notices as notices
 use Rattle.redo_shell.specs.Run.{IsComplete}
+use Rattle.redo_shell.specs.Stages.{Stage, IsFirst}
 use Rattle.redo_shell.specs.Sessions.{Ran, Follows, Sessions}
 use Rattle.redo_shell.specs.Status.{IsOfInit}
 use Rattle.redo_shell.specs.declared.status.Status.{Status}
@@ -35,10 +36,12 @@ pub record IsRunOn (p : Params) (commands : List Command) (script : List (List �
   -- but where the disk or memory may have failed the opening, the syncs at its start are done: what a crash then leaves
   -- stands for these commands and a beginning of those that the script has added, with all that was said
   pub opened : old.tells_moments → status ≢ DiskFault → status ≢ Memory → InEachImage new (λ files. Moment p commands script old.said files new.said)
-  -- what was said is the answers to the script's lines, whatever the status
-  pub answers : SaysTruly p commands script old new
+  -- what was said is the answers to the script's lines, whatever the status, from the stage that a restart makes of the files
+  pub first : Stage
+  pub begins : IsFirst p commands old first
+  pub answers : SaysTruly p first commands script old new
   -- with status 0 or 1 the whole script is answered, and the files stand for all of it
-  pub complete : (status ≡ Done) ⊎ (status ≡ DoneWithRefusals) → IsComplete p old new commands script status
+  pub complete : (status ≡ Done) ⊎ (status ≡ DoneWithRefusals) → IsComplete p first old new commands script status
   -- such files are never taken for no store or for damaged
   pub store : (status ≢ NotAStore) × (status ≢ Damaged)
 
@@ -51,8 +54,10 @@ pub record IsDumpOn (p : Params) (commands : List Command) (old new : Disk) (sta
   pub said : (count : ℕ) × (new.said ≡ old.said ++ take count (dump_of p commands))
   pub all : status ≡ Done → new.said ≡ old.said ++ dump_of p commands
   pub store : (status ≢ NotAStore) × (status ≢ Damaged)
-  -- but where the disk or memory may have failed the opening, the machine is settled then
+  -- but where the disk or memory may have failed the opening, the machine is settled then, and the files stand for these
+  -- commands
   pub settled : status ≢ DiskFault → status ≢ Memory → IsSettled new
+  pub stands : status ≢ DiskFault → status ≢ Memory → InEachImage new (λ files. Stands p files commands)
 
 -- The making of a store with these numbers.
 pub record IsMaking (p : Params) (old new : Disk) (status : Status) : Type 0 where

@@ -2,8 +2,10 @@ pub mod Store
 pub mod Replies
 pub mod Work
 pub mod Printed
-pub mod Lengths
+pub mod Stages
+pub mod Open
 pub mod Answers
+pub mod Found
 pub mod Status
 pub mod Notices
 pub mod Run

@@ -5,11 +5,14 @@ use Rattle.disk_model.specs.Disk.{Files, Disk, LeavesOnly, Rises, IsSettled}
 use Rattle.formats.specs.Image.{EndsAt}
 use Rattle.formats.specs.declared.params.Params.{Params}
 use Rattle.script_lines.specs.Replies.{Reply, forced, said_line}
-use Rattle.store_engine.specs.Engine.{EngineView, InEachImage, LogLength, log_length}
-use Rattle.redo_shell.specs.Store.{Command, Stands, Holds, Kept, Between}
+use Rattle.explain_core.specs.World.{World, run}
+use Rattle.standing.specs.Standing.{FilesShow}
+use Rattle.cache_manager.specs.Courses.{force_steps}
+use Rattle.store_engine.specs.Engine.{EngineView, InEachImage, forced_in}
+use Rattle.redo_shell.specs.Store.{Command, meaning_in, Stands, Holds, Kept, Between}
 use Rattle.redo_shell.specs.Replies.{Replies, IsTrueIn, is_refusing}
 use Rattle.redo_shell.specs.Answers.{Answers, Moment, EndsInside, TrueWithin, SaysTruly}
-use Rattle.redo_shell.specs.Lengths.{GoesBy, GrowsTo}
+use Rattle.redo_shell.specs.Stages.{Stage, GoesBy, AllGoBy, stage_of}
 use Rattle.redo_shell.specs.declared.status.Status.{Status}
 use Rattle.redo_shell.specs.declared.status.Status.TheVariants.{DoneWithRefusals}
 use Rattle.redo_shell.specs.declared.stop.Stop.{Stop}
@@ -26,28 +29,28 @@ pub record IsTrueSoFar (p : Params) (before : List ℕ) (replies : List Reply) (
   pub true_within : TrueWithin p before replies files said
   pub no_longer : length said ≤ length now
 
--- a line was answered
-pub record IsAnswered (p : Params) (old new : Disk) (before after : EngineView) (commands : List Command) (line : List ℕ) (refusing : Bool) : Type 0 where
+-- a line was answered, where engine and files showed the world
+pub record IsAnswered (p : Params) (old new : Disk) (before after : EngineView) (w : World Command) (commands : List Command) (line : List ℕ) (refusing : Bool) : Type 0 where
   pub reply : Reply
   pub added : List Command
   pub replies : Replies p commands line reply added
   pub said : new.said ≡ old.said ++ said_line reply
   pub kept : Kept p before new after (commands ++ added)
-  pub acked : (n : ℕ) → reply ≡ forced n → n ≤ after.forced
+  pub acked : (n : ℕ) → reply ≡ forced n → n ≤ forced_in after
   pub kind : refusing ≡ is_refusing reply
   pub truly : old.tells_moments → LeavesOnly old new (IsTrueSaying p old.said reply)
-  pub length_is : GoesBy p (log_length before) line reply (log_length after)
+  pub goes : GoesBy p (stage_of before w) line reply (stage_of after kept.holds.world)
 
--- the bytes said while a line is answered, with a log of this length: a beginning of its answer
-pub record IsPartly (p : Params) (old new : Disk) (log : LogLength) (commands : List Command) (line : List ℕ) : Type 0 where
+-- the bytes said while a line is answered, from this stage: a beginning of its answer
+pub record IsPartly (p : Params) (old new : Disk) (stage : Stage) (commands : List Command) (line : List ℕ) : Type 0 where
   pub reply : Reply
   pub added : List Command
   pub replies : Replies p commands line reply added
   pub count : ℕ
   pub said_is : new.said ≡ old.said ++ take count (said_line reply)
   pub truly : old.tells_moments → LeavesOnly old new (IsTrueSaying p old.said reply)
-  pub after : LogLength
-  pub length_is : GoesBy p log line reply after
+  pub after : Stage
+  pub goes : GoesBy p stage line reply after
 
 -- a moment while an answer is said
 pub record During (p : Params) (old : Disk) (least : ℕ) (commands : List Command) (line : List ℕ) (files : Files) (said : List ℕ) : Type 0 where
@@ -68,8 +71,8 @@ abbrev pub LineMoment : Params → Disk → ℕ → List Command → List ℕ �
 LineMoment p old least commands line files said =
     Between p old least commands files said ⊎ During p old least commands line files said
 
--- a run so far, from a start with these commands: the answers to the lines that were taken
-pub record Going (p : Params) (start now : Disk) (engine : EngineView) (commands : List Command) (script todo : List (List ℕ)) (refusing : Bool) : Type 0 where
+-- a run so far, from a start with these commands and this stage: the answers to the lines that were taken
+pub record Going (p : Params) (first : Stage) (start now : Disk) (engine : EngineView) (commands : List Command) (script todo : List (List ℕ)) (refusing : Bool) : Type 0 where
   pub lines : List (List ℕ)
   pub replies : List Reply
   pub acc : List Command
@@ -77,16 +80,17 @@ pub record Going (p : Params) (start now : Disk) (engine : EngineView) (commands
   pub said_is : now.said ≡ start.said ++ flat_map said_line replies
   pub answers : Answers p commands lines replies acc
   pub holds : Holds p now engine (commands ++ acc)
-  pub all_before : length commands ≤ engine.forced
-  pub acked : (n : ℕ) → Contains replies (forced n) → n ≤ engine.forced
+  pub all_before : length commands ≤ forced_in engine
+  pub acked : (n : ℕ) → Contains replies (forced n) → n ≤ forced_in engine
   pub kind : refusing ≡ list_any is_refusing replies
   pub moments : start.tells_moments → LeavesOnly start now (Moment p commands script start.said)
   pub truly : start.tells_moments → LeavesOnly start now (IsTrueSoFar p start.said replies now.said)
-  pub lengths : GrowsTo p start.reads lines replies (log_length engine)
+  pub goes : AllGoBy p first lines replies (stage_of engine holds.world)
 
 -- A whole run: each line is answered, the files stand for all that was added, and the status reports refusals. The
--- lengths of the log go from its end in the files at the start, with each answer.
-pub record IsComplete (p : Params) (start now : Disk) (commands : List Command) (script : List (List ℕ)) (status : Status) : Type 0 where
+-- stages go from the first on, with each answer; the files show the world of the last behind a force, and the log in them
+-- ends where the last has its length.
+pub record IsComplete (p : Params) (first : Stage) (start now : Disk) (commands : List Command) (script : List (List ℕ)) (status : Status) : Type 0 where
   pub replies : List Reply
   pub acc : List Command
   pub answers : Answers p commands script replies acc
@@ -94,19 +98,20 @@ pub record IsComplete (p : Params) (start now : Disk) (commands : List Command) 
   pub stands : InEachImage now (λ files. Stands p files (commands ++ acc))
   pub settled : IsSettled now
   pub refusals : (status ≡ DoneWithRefusals) ↔ (list_any is_refusing replies ≡ true)
-  pub last : LogLength
-  pub lengths : GrowsTo p start.reads script replies last
+  pub last : Stage
+  pub goes : AllGoBy p first script replies last
+  pub shows : FilesShow (meaning_in p) p now.reads (run (meaning_in p) last.world (force_steps (meaning_in p) last.world))
   pub ends_last : EndsAt now.reads last.used
 
 -- the answer to a line is found and not said yet: what it adds is done, and it is true in each image
-pub record IsFound (p : Params) (old now : Disk) (before after : EngineView) (commands : List Command) (line : List ℕ) (reply : Reply) : Type 0 where
+pub record IsFound (p : Params) (old now : Disk) (before after : EngineView) (w : World Command) (commands : List Command) (line : List ℕ) (reply : Reply) : Type 0 where
   pub added : List Command
   pub replies : Replies p commands line reply added
   pub quiet : now.said ≡ old.said
   pub kept : Kept p before now after (commands ++ added)
   pub tied : InEachImage now (λ files. IsTrueIn p files reply)
-  pub length_is : GoesBy p (log_length before) line reply (log_length after)
-  pub acked : (n : ℕ) → reply ≡ forced n → n ≤ after.forced
+  pub goes : GoesBy p (stage_of before w) line reply (stage_of after kept.holds.world)
+  pub acked : (n : ℕ) → reply ≡ forced n → n ≤ forced_in after
 
 -- no slot that was read broke its format
 abbrev pub IsUndamaged : Stop → Type 0
@@ -132,12 +137,12 @@ IsStopped Memory old new reads_before reads_now = ⊤
 IsStopped TooLong old new reads_before reads_now = ⊤
 
 -- a line was answered, or a beginning of its answer was said, or nothing
-pub record Answering (p : Params) (old new : Disk) (before after : EngineView) (commands : List Command) (line : List ℕ) (result : Result Bool Stop) : Type 0 where
-  pub whole : IfOk result (IsAnswered p old new before after commands line)
-  pub partly : OnErr result ((new.said ≡ old.said) ⊎ IsPartly p old new (log_length before) commands line)
-  pub moments : old.tells_moments → LeavesOnly old new (LineMoment p old before.forced commands line)
+pub record Answering (p : Params) (old new : Disk) (before after : EngineView) (w : World Command) (commands : List Command) (line : List ℕ) (result : Result Bool Stop) : Type 0 where
+  pub whole : IfOk result (IsAnswered p old new before after w commands line)
+  pub partly : OnErr result ((new.said ≡ old.said) ⊎ IsPartly p old new (stage_of before w) commands line)
+  pub moments : old.tells_moments → LeavesOnly old new (LineMoment p old (forced_in before) commands line)
 
 -- a script was answered, or a beginning of it
-pub record IsRun (p : Params) (start now : Disk) (commands : List Command) (script : List (List ℕ)) : Type 0 where
-  pub says : SaysTruly p commands script start now
+pub record IsRun (p : Params) (first : Stage) (start now : Disk) (commands : List Command) (script : List (List ℕ)) : Type 0 where
+  pub says : SaysTruly p first commands script start now
   pub moments : start.tells_moments → LeavesOnly start now (Moment p commands script start.said)

@@ -4,10 +4,11 @@ use Rattle.disk_model.specs.Disk.{Files, Disk, LeavesOnly}
 use Rattle.disk_model.specs.declared.machine.FileNo.TheVariants.{Objects}
 use Rattle.formats.specs.Image.{BeginsStore}
 use Rattle.formats.specs.declared.params.Params.{Params}
-use Rattle.store_engine.specs.Starts.{OrAtStart}
+use Rattle.restart.specs.Starts.{OrAtStart}
 use Rattle.redo_shell.specs.Store.{Command, Stands, Opens, IsNew}
 use Rattle.redo_shell.specs.Printed.{SaysForced}
 use Rattle.redo_shell.specs.Answers.{Said, Moment}
+use Rattle.redo_shell.specs.Dump.{DumpMoment}
 use Rattle.redo_shell.specs.Keeps.{KeepsFiles}
 
 -- a run: the lines of its script, and the bytes that it said
@@ -64,7 +65,11 @@ pub data Sessions {T : Type 0} (disk : T → Disk) (first : T) : List Params →
   init : {inits : List Params} {runs : List Ran} → (old new next : T) (p : Params) (said : List ℕ) → Sessions disk first inits runs old → (BeginsStore ((disk old).reads Objects) → ⊥)
       → ((disk old).tells_moments → LeavesOnly (disk old) (disk new) (OrAtStart (disk old) (λ files bytes. IsNew p files × (bytes ≡ (disk old).said))))
       → Follows (disk old) (disk new) (disk next) said → Sessions disk first (p ∷ inits) runs next
-  -- any other call, by `dump_keeps`, `run_keeps`, `usage_keeps`, or `init`, its part `keeps`
+  -- a dump, by `dump`, its part `moments`, and by `unopened_keeps` where there is no store
+  dump : {inits : List Params} {runs : List Ran} → (old new next : T) (said : List ℕ) → Sessions disk first inits runs old → ((BeginsStore ((disk old).reads Objects) → ⊥) → (disk old).tells_moments → KeepsFiles (disk old) (disk new))
+      → ((p : Params) (commands : List Command) → Opens p (disk old) commands → (disk old).tells_moments → LeavesOnly (disk old) (disk new) (OrAtStart (disk old) (DumpMoment p commands (disk old).said)))
+      → Follows (disk old) (disk new) (disk next) said → Sessions disk first inits runs next
+  -- any other call, by `unopened_keeps`, `usage_keeps`, or `init`, its part `keeps`
   other : {inits : List Params} {runs : List Ran} → (old new next : T) (said : List ℕ) → Sessions disk first inits runs old → KeepsFiles (disk old) (disk new)
       → Follows (disk old) (disk new) (disk next) said → Sessions disk first inits runs next
 

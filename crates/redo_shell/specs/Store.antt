@@ -1,5 +1,5 @@
 -- The store that the program runs: its operations, and what its engine and its files stand for.
-use Rattle.std.specs.Prelude.{ℕ, List, Option, Result}
+use Rattle.std.specs.Prelude.{◌≡◌, ◌≤◌, ℕ, List, Option, Result}
 use Rattle.oper_core.specs.State.{State}
 use Rattle.oper_core.specs.Meaning.{Meaning}
 use Rattle.oper_core.specs.declared.refusal.Refusal.{Refusal}
@@ -7,10 +7,12 @@ use Rattle.disk_model.specs.Disk.{Files, Disk}
 use Rattle.formats.specs.declared.params.Params.{Params}
 use Rattle.op_codec.specs.declared.all_ops.AllOps.{AllOps}
 use Rattle.op_codec.specs.AllOps.{all_meaning}
+use Rattle.explain_core.specs.History.{commands_of}
+use Rattle.explain_core.specs.World.{World}
 use Rattle.store_engine.specs.Store as of_store
 use Rattle.store_engine.specs.Engine as of_engine
-use Rattle.store_engine.specs.Engine.{EngineView, LogLength}
-use Rattle.store_engine.specs.declared.exec_err.ExecErr.{ExecErr}
+use Rattle.store_engine.specs.Engine.{EngineView, forced_in}
+use Rattle.execution.specs.declared.exec_err.ExecErr.{ExecErr}
 
 -- the operations of a script's commands
 abbrev pub Command : Type 0
@@ -48,34 +50,31 @@ IsNew p files = of_engine.IsNew all_meaning p files
 abbrev pub Opens : Params → Disk → List Command → Type 0
 Opens p d commands = of_engine.Opens all_meaning p d commands
 
--- the cache, laid over the slots, is the state after the commands
-abbrev pub IsMapOf : Params → Disk → EngineView → List Command → Type 0
-IsMapOf p d engine commands = of_engine.IsMapOf all_meaning p d engine commands
+-- engine and files show the world
+abbrev pub ShowsIn : Params → Disk → EngineView → World Command → Type 0
+ShowsIn p d engine w = of_engine.ShowsIn all_meaning p d engine w
 
--- the commands' records are in the log, the other two files are those of a store, and the map has the values
-abbrev pub Carries : Params → Disk → EngineView → List Command → Type 0
-Carries p d engine commands = of_engine.Carries all_meaning p d engine commands
+-- each image stands for the commands that are forced, and the map has the values after all
+abbrev pub Says : Params → Disk → EngineView → List Command → Type 0
+Says p d engine commands = of_engine.Says all_meaning p d engine commands
 
--- engine and files stand for the commands: the files for those that are forced, the map for all
-abbrev pub Holds : Params → Disk → EngineView → List Command → Type 0
-Holds p d engine commands = of_engine.Holds all_meaning p d engine commands
+-- Engine and files stand for the commands: they show a sound world whose history has these commands, so that the files
+-- stand for those that are forced, and the map for all.
+pub record Holds (p : Params) (d : Disk) (engine : EngineView) (commands : List Command) : Type 0 where
+  pub world : World Command
+  pub shows : ShowsIn p d engine world
+  pub commands_are : commands_of world.history ≡ commands
+  pub says : Says p d engine commands
 
 -- an image at a moment of a call on an engine that stands for the commands: at least the forced ones are there
 abbrev pub Between : Params → Disk → ℕ → List Command → Files → List ℕ → Type 0
 Between p old forced commands files said = of_engine.Between all_meaning p old forced commands files said
 
 -- what engine and files stand for after a call: no fewer are forced
-abbrev pub Kept : Params → EngineView → Disk → EngineView → List Command → Type 0
-Kept p before d engine commands = of_engine.Kept all_meaning p before d engine commands
+pub record Kept (p : Params) (before : EngineView) (d : Disk) (engine : EngineView) (commands : List Command) : Type 0 where
+  pub holds : Holds p d engine commands
+  pub rising : forced_in before ≤ forced_in engine
 
--- a command's record fits in a log of this length
-abbrev pub Fits : Params → LogLength → Command → Type 0
-Fits p log op = of_engine.Fits all_meaning p log op
-
--- why a command gets its answer after these commands, with a log of this length
-abbrev pub HasCause : Params → List Command → LogLength → Command → Result ℕ ExecErr → Type 0
-HasCause p commands log op result = of_engine.HasCause all_meaning p commands log op result
-
--- the log's length after a command's answer
-abbrev pub Lengthens : Params → LogLength → Command → Result ℕ ExecErr → LogLength → Type 0
-Lengthens p old op result new = of_engine.Lengthens all_meaning p old op result new
+-- why a command gets its answer after these commands
+abbrev pub HasCause : Params → List Command → Command → Result ℕ ExecErr → Type 0
+HasCause p commands op result = of_engine.HasCause all_meaning p commands op result

@@ -4,10 +4,11 @@ ghost use Rattle.disk_model.specs.Disk.{Passes, LeavesOnly};
 ghost use Rattle.formats.specs.declared.params.Params.{Params};
 ghost use Rattle.script_lines.specs.Grammar.{AsksFor, force};
 ghost use Rattle.script_lines.specs.Replies.{reply_of};
-ghost use Rattle.store_engine.specs.Engine.{IsAttached};
+ghost use Rattle.store_engine.specs.Engine.{IsAttached, forced_in};
 ghost use Rattle.redo_shell.specs.Store.{Command, Holds, Between};
+ghost use Rattle.redo_shell.specs.Found.{IsDone};
 ghost use Rattle.redo_shell.specs.Replies.{AsksCommand};
-ghost use Rattle.redo_shell.specs.Run.{IsFound, IsCaused, IsUndamaged};
+ghost use Rattle.redo_shell.specs.Run.{IsCaused, IsUndamaged};
 
 use crate::stop::Stop;
 use disk_model::Machine;
@@ -24,13 +25,13 @@ pub fn command_answer<M: Machine>(
     requires { engine.old.broken ≡ false }
     ensures time { Passes (M.disk machine.old) (M.disk machine.new) }
     ensures quiet { (M.disk machine.old).tells_files → (M.disk machine.new).said ≡ (M.disk machine.old).said }
-    ensures found { (p : Params) (commands : List Command) (line : List ℕ) → Holds p (M.disk machine.old) engine.old commands → AsksCommand line op →
-        IfOk result (λ answer. IsFound p (M.disk machine.old) (M.disk machine.new) engine.old engine.new commands line (reply_of answer)) }
+    ensures done { (p : Params) (commands : List Command) (line : List ℕ) → (holds : Holds p (M.disk machine.old) engine.old commands) → AsksCommand line op →
+        IfOk result (λ answer. IsDone p (M.disk machine.old) (M.disk machine.new) engine.old engine.new holds.world commands line (reply_of answer)) }
     ensures moments { (p : Params) (commands : List Command) → Holds p (M.disk machine.old) engine.old commands → (M.disk machine.old).tells_moments →
-        LeavesOnly (M.disk machine.old) (M.disk machine.new) (Between p (M.disk machine.old) engine.old.forced commands) }
+        LeavesOnly (M.disk machine.old) (M.disk machine.new) (Between p (M.disk machine.old) (forced_in engine.old) commands) }
     ensures cause { IfErr result (λ stop. IsCaused stop (M.disk machine.old) (M.disk machine.new)) }
     ensures undamaged { (M.disk machine.old).tells_files → IsAttached (M.disk machine.old) engine.old → IfErr result IsUndamaged }
-    ensures attached { IsAttached (M.disk machine.old) engine.old → IsAttached (M.disk machine.new) engine.new }
+    ensures attached { IsAttached (M.disk machine.old) engine.old → OnOk result (IsAttached (M.disk machine.new) engine.new) }
     ensures unbroken { OnOk result (engine.new.broken ≡ false) }
 {
     match engine.exec(machine, op) {
@@ -52,13 +53,13 @@ pub fn force_answer<M: Machine>(
     requires { engine.old.broken ≡ false }
     ensures time { Passes (M.disk machine.old) (M.disk machine.new) }
     ensures quiet { (M.disk machine.old).tells_files → (M.disk machine.new).said ≡ (M.disk machine.old).said }
-    ensures found { (p : Params) (commands : List Command) (line : List ℕ) → Holds p (M.disk machine.old) engine.old commands → AsksFor line force →
-        IfOk result (λ answer. IsFound p (M.disk machine.old) (M.disk machine.new) engine.old engine.new commands line (reply_of answer)) }
+    ensures done { (p : Params) (commands : List Command) (line : List ℕ) → (holds : Holds p (M.disk machine.old) engine.old commands) → AsksFor line force →
+        IfOk result (λ answer. IsDone p (M.disk machine.old) (M.disk machine.new) engine.old engine.new holds.world commands line (reply_of answer)) }
     ensures moments { (p : Params) (commands : List Command) → Holds p (M.disk machine.old) engine.old commands → (M.disk machine.old).tells_moments →
-        LeavesOnly (M.disk machine.old) (M.disk machine.new) (Between p (M.disk machine.old) engine.old.forced commands) }
+        LeavesOnly (M.disk machine.old) (M.disk machine.new) (Between p (M.disk machine.old) (forced_in engine.old) commands) }
     ensures cause { IfErr result (λ stop. IsCaused stop (M.disk machine.old) (M.disk machine.new)) }
     ensures undamaged { (M.disk machine.old).tells_files → IsAttached (M.disk machine.old) engine.old → IfErr result IsUndamaged }
-    ensures attached { IsAttached (M.disk machine.old) engine.old → IsAttached (M.disk machine.new) engine.new }
+    ensures attached { IsAttached (M.disk machine.old) engine.old → OnOk result (IsAttached (M.disk machine.new) engine.new) }
     ensures unbroken { OnOk result (engine.new.broken ≡ false) }
 {
     let count = engine.force(machine)?;

@@ -9,7 +9,7 @@ ghost use Rattle.formats.specs.FirstFault.{IsDamaged};
 ghost use Rattle.formats.specs.declared.params.Params.{Params};
 ghost use Rattle.op_codec.specs.AllOps.{all_meaning};
 ghost use Rattle.script_lines.specs.Replies.{command_count, said_line};
-ghost use Rattle.store_engine.specs.Engine.{IsAttached};
+ghost use Rattle.store_engine.specs.Engine.{IsAttached, forced_in};
 ghost use Rattle.redo_shell.specs.Store.{Command, IsWellFormed, Opens, Holds, state_of};
 ghost use Rattle.redo_shell.specs.Calls.{IsDumpOn};
 ghost use Rattle.redo_shell.specs.Dump.{row_of, dump_of, DumpMoment};
@@ -29,7 +29,7 @@ use op_codec::AllOps;
 use oper_core::Memory;
 use script_lines::{Answer, answer_line};
 use std::alloc::Global;
-use store_engine::Engine;
+use store_engine::{Engine, standing_files_meet_their_format};
 
 /// Adds the row of an object that is not empty.
 fn push_row(alloc: Global, table: &mut Vec<u8>, object: u32, value: &[u8]) -> Result<(), Memory>
@@ -67,7 +67,7 @@ fn push_object<M: Machine>(
     ensures holds { (p : Params) (commands : List Command) → Holds p (M.disk machine.old) engine.old commands → OnOk result (Holds p (M.disk machine.new) engine.new commands) }
     ensures cause { IfErr result (λ stop. IsCaused stop (M.disk machine.old) (M.disk machine.new)) }
     ensures undamaged { (M.disk machine.old).tells_files → IsAttached (M.disk machine.old) engine.old → IfErr result IsUndamaged }
-    ensures attached { IsAttached (M.disk machine.old) engine.old → IsAttached (M.disk machine.new) engine.new }
+    ensures attached { IsAttached (M.disk machine.old) engine.old → OnOk result (IsAttached (M.disk machine.new) engine.new) }
     ensures unbroken { OnOk result (engine.new.broken ≡ false) }
 {
     if fetched(engine, machine, object)? {
@@ -88,7 +88,7 @@ fn table<M: Machine>(
         IfOk result (λ table. table.items ≡ dump_of p commands) }
     ensures cause { IfErr result (λ stop. IsCaused stop (M.disk machine.old) (M.disk machine.new)) }
     ensures undamaged { (M.disk machine.old).tells_files → IsAttached (M.disk machine.old) engine.old → IfErr result IsUndamaged }
-    ensures attached { IsAttached (M.disk machine.old) engine.old → IsAttached (M.disk machine.new) engine.new }
+    ensures attached { IsAttached (M.disk machine.old) engine.old → OnOk result (IsAttached (M.disk machine.new) engine.new) }
 {
     let mut table = Vec::new(alloc);
     for object in 0..engine.params().objects {
@@ -102,7 +102,7 @@ fn table<M: Machine>(
 fn dump_open<M: Machine>(alloc: Global, engine: &mut Engine<AllOps>, machine: &mut M) -> Status
     requires { engine.old.broken ≡ false }
     ensures time { Passes (M.disk machine.old) (M.disk machine.new) }
-    ensures moments { (p : Params) (commands : List Command) → Holds p (M.disk machine.old) engine.old commands → engine.old.forced ≡ length commands → (M.disk machine.old).tells_moments →
+    ensures moments { (p : Params) (commands : List Command) → Holds p (M.disk machine.old) engine.old commands → forced_in engine.old ≡ length commands → (M.disk machine.old).tells_moments →
         LeavesOnly (M.disk machine.old) (M.disk machine.new) (DumpMoment p commands (M.disk machine.old).said) }
     ensures said { (p : Params) (commands : List Command) → Holds p (M.disk machine.old) engine.old commands →
         (count : ℕ) × ((M.disk machine.new).said ≡ (M.disk machine.old).said ++ take count (dump_of p commands)) }
@@ -127,7 +127,7 @@ pub fn dump<M: Machine>(alloc: Global, machine: &mut M) -> Status
     ensures time { Passes (M.disk machine.old) (M.disk machine.new) }
     ensures dump { (p : Params) (commands : List Command) → Opens p (M.disk machine.old) commands → IsDumpOn p commands (M.disk machine.old) (M.disk machine.new) result }
     ensures settled { result ≡ Status.Done → IsSettled (M.disk machine.new) }
-    ensures keeps { KeepsFiles (M.disk machine.old) (M.disk machine.new) }
+    ensures unopened { (M.disk machine.old).tells_files → (IsWellFormed (M.disk machine.old).reads → ⊥) → KeepsFiles (M.disk machine.old) (M.disk machine.new) }
     ensures opened { (M.disk machine.old).tells_files → IsOfStore result → IsWellFormed (M.disk machine.old).reads }
     ensures store { (M.disk machine.old).tells_files → IsWellFormed (M.disk machine.old).reads → (result ≢ Status.NotAStore) × (result ≢ Status.Damaged) }
     ensures no_store { (M.disk machine.old).tells_files → result ≡ Status.NotAStore → IsClosedAt 0 ((M.disk machine.old).reads Objects)
@@ -140,6 +140,7 @@ pub fn dump<M: Machine>(alloc: Global, machine: &mut M) -> Status
     // No memory is taken before the objects gate is looked at.
     ensures memory { (M.disk machine.old).tells_files → result ≡ Status.Memory → IsOpenAt 0 ((M.disk machine.old).reads Objects) }
 {
+    standing_files_meet_their_format::<AllOps>();
     match open_store(alloc, machine) {
         Ok(mut engine) => dump_open(alloc, &mut engine, machine),
         Err(status) => status,

@@ -5,7 +5,7 @@ ghost use Rattle.disk_model.specs.declared.machine.FileNo.TheVariants.{Objects};
 ghost use Rattle.formats.specs.Objects.{IsInRange};
 ghost use Rattle.formats.specs.Image.{BeginsStore};
 ghost use Rattle.store_engine.specs.Engine.{InEachImage};
-ghost use Rattle.store_engine.specs.Starts.{OrAtStart};
+ghost use Rattle.restart.specs.Starts.{OrAtStart};
 ghost use Rattle.redo_shell.specs.Store.{Stands, IsNew};
 ghost use Rattle.redo_shell.specs.Keeps.{KeepsFiles};
 ghost use Rattle.redo_shell.specs.Notices.{already_a_store};

@@ -4,24 +4,26 @@ ghost use Rattle.std.specs.List.{flat_map};
 ghost use Rattle.formats.specs.declared.params.Params.{Params};
 ghost use Rattle.oper_core.specs.declared.refusal.Refusal.{Refusal as Why};
 ghost use Rattle.oper_core.specs.declared.refusal.Refusal.TheVariants.{NoObject};
-ghost use Rattle.script_lines.specs.Grammar.{AsksFor, IsBad, get, force, skip};
-ghost use Rattle.script_lines.specs.Replies.{Reply, bad, value, refused, forced, silence, text_of, said_line, HasSmallNumbers};
+ghost use Rattle.script_lines.specs.Grammar.{AsksFor, IsBad, get, force, stat as asks_stat, skip};
+ghost use Rattle.script_lines.specs.Replies.{Reply, bad, value, refused, forced, stat, silence, text_of, said_line, HasSmallNumbers};
+ghost use Rattle.script_lines.specs.declared.answer.Counts.{Counts};
 ghost use Rattle.disk_model.specs.Disk.{Passes, IsSettled};
 ghost use Rattle.disk_model.specs.Fuse.{disk_through};
 ghost use Rattle.disk_model.specs.declared.fuse.Fuse.{Fuse};
-ghost use Rattle.store_engine.specs.Engine.{InEachImage, LogLength, grown};
-ghost use Rattle.redo_shell.specs.Store.{Command, Stands, IsNew, refusal_after, state_of, record_length};
+ghost use Rattle.cache_manager.specs.Courses.{grown};
+ghost use Rattle.store_engine.specs.Engine.{InEachImage};
+ghost use Rattle.redo_shell.specs.Store.{Command, Stands, IsNew, meaning_in, refusal_after, state_of, record_length};
 ghost use Rattle.redo_shell.specs.Printed.{whole_lines, texts_of};
 ghost use Rattle.redo_shell.specs.Sessions.{Ran, Follows, Survives, Arises, Sessions};
 ghost use Rattle.redo_shell.specs.Replies.{AsksCommand, Replies, IsFull};
-ghost use Rattle.redo_shell.specs.Lengths.{GoesBy};
+ghost use Rattle.redo_shell.specs.Stages.{Stage, GoesBy};
 
 use disk_model::Machine;
 use script_lines::{a_line_asks_one_thing, a_text_says_one_thing};
 
 /// Each answer to a line comes exactly where its cause holds: `bad` where the line is outside the grammar, `refused` with
 /// the first refusal, a value, `forced` with the number of commands, none where it is skipped, and `full` where the record
-/// of a command that nothing refuses does not fit. What is left is `ok` and `end`, by the number of commands.
+/// of a command that nothing refuses does not fit. What is left is `ok` and `end`, by the numbers that are left.
 pub fn a_line_gets_the_answer_of_its_cause()
     ensures bad { (p : Params) (commands : List Command) (line : List ℕ) (reply : Reply) (added : List Command) → Replies p commands line reply added →
         (reply ≡ bad) ↔ IsBad line }
@@ -33,9 +35,11 @@ pub fn a_line_gets_the_answer_of_its_cause()
         AsksFor line (get object) → object < p.objects → reply ≡ value (state_of p commands object) }
     ensures forced { (p : Params) (commands : List Command) (line : List ℕ) (reply : Reply) (added : List Command) → Replies p commands line reply added →
         AsksFor line force → reply ≡ forced (length commands) }
-    // The answers of each run go by the length of the log, however it ends (`SaysTruly`, its `lengths`).
-    ensures full { (p : Params) (commands : List Command) (line : List ℕ) (reply : Reply) (added : List Command) (op : Command) (before after : LogLength) → Replies p commands line reply added →
-        GoesBy p before line reply after → AsksCommand line op → refusal_after p commands op ≡ None → IsFull reply ↔ (p.limit < grown before (record_length p op)) }
+    // The answers of each run go by its stages, however it ends (`SaysTruly`, its `goes`).
+    ensures full { (p : Params) (commands : List Command) (line : List ℕ) (reply : Reply) (added : List Command) (op : Command) (before after : Stage) → Replies p commands line reply added →
+        GoesBy p before line reply after → AsksCommand line op → refusal_after p commands op ≡ None → IsFull reply ↔ (p.limit < grown (meaning_in p) before.world before.used (record_length p op)) }
+    ensures counts { (p : Params) (commands : List Command) (line : List ℕ) (reply : Reply) (added : List Command) → Replies p commands line reply added →
+        AsksFor line asks_stat → (counts : Counts) × (reply ≡ stat counts) }
     ensures silence { (p : Params) (commands : List Command) (line : List ℕ) (reply : Reply) (added : List Command) → Replies p commands line reply added →
         AsksFor line skip → reply ≡ silence }
 {

@@ -3,9 +3,12 @@
 //! The one contract is that of [`top`]: run on files that stand for a list of commands, it says what a plain map would
 //! answer to the script, and whatever a crash leaves of the files at any moment is what one at the start could leave, or
 //! stands for that list and a beginning of the commands that the script has added, no shorter than any number that was
-//! printed to be forced. A law says the same of any number of calls, kills and crashes in a row. The crate depends on
-//! store_engine for the store, on script_lines for lines, answers and words, on op_codec and op_meaning for the operation
-//! that a line asks for, on formats for what files stand for, and on the machine and the source of disk_model.
+//! printed to be forced. Its answers go by the stages of the store, from the world that a restart finds in the files: `full`,
+//! `end` and the counts follow from the course that each line takes. A law says the same of any number of calls, kills and
+//! crashes in a row. The crate depends on store_engine for the store, on script_lines for lines, answers and words, on
+//! op_codec and op_meaning for the operation that a line asks for, on explain_core, cache_manager, execution, checkpointing
+//! and restart for worlds and the courses of calls, on formats and standing for what files stand for, on log_records,
+//! log_frames and stable_objects for the log and the slots of an engine, and on the machine and the source of disk_model.
 #![tactic(auto)]
 
 mod answers;
@@ -22,6 +25,7 @@ mod say;
 mod script;
 mod status;
 mod stop;
+mod upkeep;
 mod work;
 
 pub use laws::{

@@ -2,24 +2,26 @@
 ghost use Rattle.std.specs.Prelude.{◌≡◌, ◌≢◌, false, List, ℕ, OnOk, IfErr};
 ghost use Rattle.disk_model.specs.Disk.{Passes};
 ghost use Rattle.formats.specs.declared.params.Params.{Params};
-ghost use Rattle.script_lines.specs.Grammar.{AsksFor, get};
+ghost use Rattle.script_lines.specs.Grammar.{AsksFor, force, get, stat};
 ghost use Rattle.script_lines.specs.Reading.{IsLine};
 ghost use Rattle.store_engine.specs.Engine.{IsAttached};
 ghost use Rattle.redo_shell.specs.Store.{Command, Holds};
 ghost use Rattle.redo_shell.specs.Replies.{AsksCommand};
 ghost use Rattle.redo_shell.specs.Run.{Answering, IsCaused, IsUndamaged};
+ghost use Rattle.redo_shell.specs.Work.{request_for};
 
 use crate::answers::{command_answer, force_answer};
 use crate::fetching::fetched;
 use crate::say::say_answer;
 use crate::stop::Stop;
-use crate::work::Work;
+use crate::upkeep::{counts_answer, upkeep_answer};
+use crate::work::{Upkeep, Work};
 use disk_model::Machine;
 use op_codec::AllOps;
 use oper_core::Refusal;
 use script_lines::{Answer, Next};
 use std::alloc::Global;
-use store_engine::Engine;
+use store_engine::{Engine, engine_stands, identities_are_counted, stop_is_said};
 
 /// Runs the command that a line asks for, and says its answer. It reports whether the answer is a refusal.
 fn run_command<M: Machine>(
@@ -30,14 +32,81 @@ fn run_command<M: Machine>(
 ) -> Result<bool, Stop>
     requires { engine.old.broken ≡ false }
     ensures time { Passes (M.disk machine.old) (M.disk machine.new) }
-    ensures answers { (p : Params) (commands : List Command) (line : List ℕ) → Holds p (M.disk machine.old) engine.old commands → AsksCommand line op →
-        Answering p (M.disk machine.old) (M.disk machine.new) engine.old engine.new commands line result }
+    ensures answers { (p : Params) (commands : List Command) (line : List ℕ) → (holds : Holds p (M.disk machine.old) engine.old commands) → AsksCommand line op →
+        Answering p (M.disk machine.old) (M.disk machine.new) engine.old engine.new holds.world commands line result }
     ensures cause { IfErr result (λ stop. IsCaused stop (M.disk machine.old) (M.disk machine.new)) }
     ensures undamaged { (M.disk machine.old).tells_files → IsAttached (M.disk machine.old) engine.old → IfErr result IsUndamaged }
-    ensures attached { IsAttached (M.disk machine.old) engine.old → IsAttached (M.disk machine.new) engine.new }
+    ensures attached { IsAttached (M.disk machine.old) engine.old → OnOk result (IsAttached (M.disk machine.new) engine.new) }
     ensures unbroken { OnOk result (engine.new.broken ≡ false) }
 {
     let answer = command_answer(engine, machine, op)?;
+    engine_stands(machine, engine);
+    stop_is_said(machine, engine);
+    say_answer(alloc, machine, &answer)
+}
+
+/// Forces the log, and says how many commands are stable. It reports whether the answer is a refusal.
+fn run_force<M: Machine>(
+    alloc: Global,
+    engine: &mut Engine<AllOps>,
+    machine: &mut M,
+) -> Result<bool, Stop>
+    requires { engine.old.broken ≡ false }
+    ensures time { Passes (M.disk machine.old) (M.disk machine.new) }
+    ensures answers { (p : Params) (commands : List Command) (line : List ℕ) → (holds : Holds p (M.disk machine.old) engine.old commands) → AsksFor line force →
+        Answering p (M.disk machine.old) (M.disk machine.new) engine.old engine.new holds.world commands line result }
+    ensures cause { IfErr result (λ stop. IsCaused stop (M.disk machine.old) (M.disk machine.new)) }
+    ensures undamaged { (M.disk machine.old).tells_files → IsAttached (M.disk machine.old) engine.old → IfErr result IsUndamaged }
+    ensures attached { IsAttached (M.disk machine.old) engine.old → OnOk result (IsAttached (M.disk machine.new) engine.new) }
+    ensures unbroken { OnOk result (engine.new.broken ≡ false) }
+{
+    let answer = force_answer(engine, machine)?;
+    engine_stands(machine, engine);
+    stop_is_said(machine, engine);
+    say_answer(alloc, machine, &answer)
+}
+
+/// Installs, logs a check, or rewrites the log, and says the answer. It reports whether the answer is a refusal.
+fn run_upkeep<M: Machine>(
+    alloc: Global,
+    engine: &mut Engine<AllOps>,
+    machine: &mut M,
+    upkeep: Upkeep,
+) -> Result<bool, Stop>
+    requires { engine.old.broken ≡ false }
+    ensures time { Passes (M.disk machine.old) (M.disk machine.new) }
+    ensures answers { (p : Params) (commands : List Command) (line : List ℕ) → (holds : Holds p (M.disk machine.old) engine.old commands) → AsksFor line (request_for upkeep) →
+        Answering p (M.disk machine.old) (M.disk machine.new) engine.old engine.new holds.world commands line result }
+    ensures cause { IfErr result (λ stop. IsCaused stop (M.disk machine.old) (M.disk machine.new)) }
+    ensures undamaged { (M.disk machine.old).tells_files → IsAttached (M.disk machine.old) engine.old → IfErr result IsUndamaged }
+    ensures attached { IsAttached (M.disk machine.old) engine.old → OnOk result (IsAttached (M.disk machine.new) engine.new) }
+    ensures unbroken { OnOk result (engine.new.broken ≡ false) }
+{
+    identities_are_counted::<AllOps>();
+    let answer = upkeep_answer(engine, machine, upkeep)?;
+    engine_stands(machine, engine);
+    stop_is_said(machine, engine);
+    say_answer(alloc, machine, &answer)
+}
+
+/// Says the counts of the store. It reports whether the answer is a refusal.
+fn say_counts<M: Machine>(
+    alloc: Global,
+    engine: &mut Engine<AllOps>,
+    machine: &mut M,
+) -> Result<bool, Stop>
+    requires { engine.old.broken ≡ false }
+    ensures time { Passes (M.disk machine.old) (M.disk machine.new) }
+    ensures answers { (p : Params) (commands : List Command) (line : List ℕ) → (holds : Holds p (M.disk machine.old) engine.old commands) → AsksFor line stat →
+        Answering p (M.disk machine.old) (M.disk machine.new) engine.old engine.new holds.world commands line result }
+    ensures cause { IfErr result (λ stop. IsCaused stop (M.disk machine.old) (M.disk machine.new)) }
+    ensures undamaged { (M.disk machine.old).tells_files → IsAttached (M.disk machine.old) engine.old → IfErr result IsUndamaged }
+    ensures attached { IsAttached (M.disk machine.old) engine.old → OnOk result (IsAttached (M.disk machine.new) engine.new) }
+    ensures unbroken { OnOk result (engine.new.broken ≡ false) }
+{
+    engine_stands(machine, engine);
+    stop_is_said(machine, engine);
+    let answer = counts_answer(engine, machine);
     say_answer(alloc, machine, &answer)
 }
 
@@ -50,11 +119,11 @@ fn say_value<M: Machine>(
 ) -> Result<bool, Stop>
     requires { engine.old.broken ≡ false }
     ensures time { Passes (M.disk machine.old) (M.disk machine.new) }
-    ensures answers { (p : Params) (commands : List Command) (line : List ℕ) → Holds p (M.disk machine.old) engine.old commands → AsksFor line (get object) →
-        Answering p (M.disk machine.old) (M.disk machine.new) engine.old engine.new commands line result }
+    ensures answers { (p : Params) (commands : List Command) (line : List ℕ) → (holds : Holds p (M.disk machine.old) engine.old commands) → AsksFor line (get object) →
+        Answering p (M.disk machine.old) (M.disk machine.new) engine.old engine.new holds.world commands line result }
     ensures cause { IfErr result (λ stop. IsCaused stop (M.disk machine.old) (M.disk machine.new)) }
     ensures undamaged { (M.disk machine.old).tells_files → IsAttached (M.disk machine.old) engine.old → IfErr result IsUndamaged }
-    ensures attached { IsAttached (M.disk machine.old) engine.old → IsAttached (M.disk machine.new) engine.new }
+    ensures attached { IsAttached (M.disk machine.old) engine.old → OnOk result (IsAttached (M.disk machine.new) engine.new) }
     ensures unbroken { OnOk result (engine.new.broken ≡ false) }
 {
     if fetched(engine, machine, object)? {
@@ -73,21 +142,20 @@ fn answer_line<M: Machine>(
 ) -> Result<bool, Stop>
     requires { engine.old.broken ≡ false }
     ensures time { Passes (M.disk machine.old) (M.disk machine.new) }
-    ensures answers { (p : Params) (commands : List Command) → Holds p (M.disk machine.old) engine.old commands →
-        Answering p (M.disk machine.old) (M.disk machine.new) engine.old engine.new commands line.now result }
+    ensures answers { (p : Params) (commands : List Command) → (holds : Holds p (M.disk machine.old) engine.old commands) →
+        Answering p (M.disk machine.old) (M.disk machine.new) engine.old engine.new holds.world commands line.now result }
     ensures cause { IfErr result (λ stop. IsCaused stop (M.disk machine.old) (M.disk machine.new)) }
     ensures undamaged { (M.disk machine.old).tells_files → IsAttached (M.disk machine.old) engine.old → IfErr result IsUndamaged }
-    ensures attached { IsAttached (M.disk machine.old) engine.old → IsAttached (M.disk machine.new) engine.new }
+    ensures attached { IsAttached (M.disk machine.old) engine.old → OnOk result (IsAttached (M.disk machine.new) engine.new) }
     ensures unbroken { OnOk result (engine.new.broken ≡ false) }
 {
     let work = Work::of_line(alloc, line)?;
     match work {
         Work::Run(op) => run_command(alloc, engine, machine, op),
         Work::Tell { object } => say_value(alloc, engine, machine, object),
-        Work::Force => {
-            let answer = force_answer(engine, machine)?;
-            say_answer(alloc, machine, &answer)
-        }
+        Work::Force => run_force(alloc, engine, machine),
+        Work::Keep(upkeep) => run_upkeep(alloc, engine, machine, upkeep),
+        Work::Count => say_counts(alloc, engine, machine),
         Work::Nothing => Ok(false),
         Work::Bad => say_answer(alloc, machine, &Answer::Bad),
     }
@@ -103,14 +171,14 @@ pub fn answer_next<M: Machine>(
 ) -> Result<bool, Stop>
     requires { engine.old.broken ≡ false }
     ensures time { Passes (M.disk machine.old) (M.disk machine.new) }
-    ensures answers { (p : Params) (commands : List Command) (line : List ℕ) → IsLine next bytes.now line → Holds p (M.disk machine.old) engine.old commands →
-        Answering p (M.disk machine.old) (M.disk machine.new) engine.old engine.new commands line result }
+    ensures answers { (p : Params) (commands : List Command) (line : List ℕ) → IsLine next bytes.now line → (holds : Holds p (M.disk machine.old) engine.old commands) →
+        Answering p (M.disk machine.old) (M.disk machine.new) engine.old engine.new holds.world commands line result }
     // Whatever a source that reports nothing gave, it is the answer to some line.
-    ensures some { next ≢ Next.End → (line : List ℕ) × ((p : Params) (commands : List Command) → Holds p (M.disk machine.old) engine.old commands →
-        Answering p (M.disk machine.old) (M.disk machine.new) engine.old engine.new commands line result) }
+    ensures some { next ≢ Next.End → (line : List ℕ) × ((p : Params) (commands : List Command) → (holds : Holds p (M.disk machine.old) engine.old commands) →
+        Answering p (M.disk machine.old) (M.disk machine.new) engine.old engine.new holds.world commands line result) }
     ensures cause { IfErr result (λ stop. IsCaused stop (M.disk machine.old) (M.disk machine.new)) }
     ensures undamaged { (M.disk machine.old).tells_files → IsAttached (M.disk machine.old) engine.old → IfErr result IsUndamaged }
-    ensures attached { IsAttached (M.disk machine.old) engine.old → IsAttached (M.disk machine.new) engine.new }
+    ensures attached { IsAttached (M.disk machine.old) engine.old → OnOk result (IsAttached (M.disk machine.new) engine.new) }
     ensures unbroken { OnOk result (engine.new.broken ≡ false) }
 {
     match next {

@@ -1,14 +1,18 @@
 // How a store is opened, and what is said where it is not.
 ghost use Rattle.std.specs.Prelude.{◌≡◌, ◌≢◌, ◌⊎◌, ◌++◌, false, List, ℕ, length, OnOk, IfOk, IfErr, IsErrOf};
-ghost use Rattle.disk_model.specs.Disk.{Rises, Passes, Stays, IsSettled};
+ghost use Rattle.disk_model.specs.Disk.{Rises, Passes, LeavesOnly, IsSettled};
 ghost use Rattle.disk_model.specs.declared.machine.FileNo.{FileNo};
 ghost use Rattle.disk_model.specs.declared.machine.FileNo.TheVariants.{Objects};
 ghost use Rattle.formats.specs.Bytes.{IsOpenAt, IsClosedAt};
 ghost use Rattle.formats.specs.FirstFault.{IsDamaged};
 ghost use Rattle.formats.specs.declared.params.Params.{Params};
 ghost use Rattle.op_codec.specs.AllOps.{all_meaning};
-ghost use Rattle.store_engine.specs.Engine.{IsAttached, IsNoDamage};
-ghost use Rattle.redo_shell.specs.Store.{Command, IsWellFormed, Opens, Holds};
+ghost use Rattle.restart.specs.Causes.{IsNoDamage};
+ghost use Rattle.restart.specs.Starts.{OrAtStart};
+ghost use Rattle.store_engine.specs.Engine.{IsAttached};
+ghost use Rattle.redo_shell.specs.Open.{IsOpen};
+ghost use Rattle.redo_shell.specs.Stages.{Stage, IsFirst};
+ghost use Rattle.redo_shell.specs.Store.{Command, IsWellFormed, Opens, Between};
 ghost use Rattle.redo_shell.specs.Keeps.{KeepsFiles};
 ghost use Rattle.redo_shell.specs.Notices.{not_a_store, damaged};
 ghost use Rattle.redo_shell.specs.Status.{IsOfUnopened};
@@ -19,10 +23,15 @@ use crate::status::Status;
 use disk_model::Machine;
 use op_codec::AllOps;
 use std::alloc::Global;
-use store_engine::{Engine, RestartErr, Tuning};
+use store_engine::{
+    Engine, RestartErr, Tuning, engine_stands, opens_on_a_world, standing_files_meet_their_format,
+};
 
 // How much of a store the program keeps in memory.
-const TUNING: Tuning = Tuning { clean: 64 };
+const TUNING: Tuning = Tuning {
+    clean: 64,
+    redo_dirty: 64,
+};
 
 /// Says why a store was not opened, where there is a line for that, and ends with the status that reports it, or by want
 /// of memory for the line with that, or where the output fails with that.
@@ -51,11 +60,12 @@ fn end_unopened<M: Machine>(alloc: Global, machine: &mut M, cause: RestartErr) -
 /// Opens the store. Where there is none to open it says a line, and answers the status that the program ends with.
 pub fn open_store<M: Machine>(alloc: Global, machine: &mut M) -> Result<Engine<AllOps>, Status>
     ensures time { Passes (M.disk machine.old) (M.disk machine.new) }
-    ensures keeps { KeepsFiles (M.disk machine.old) (M.disk machine.new) }
-    ensures kept { OnOk result (Stays (M.disk machine.old) (M.disk machine.new)) }
-    ensures ok { (p : Params) (commands : List Command) → Opens p (M.disk machine.old) commands →
-        IfOk result (λ engine. Holds p (M.disk machine.new) engine commands × (engine.forced ≡ length commands)) }
-    ensures stays { (p : Params) (commands : List Command) → Opens p (M.disk machine.old) commands → Stays (M.disk machine.old) (M.disk machine.new) }
+    // Files that do not meet their format are kept.
+    ensures keeps { (M.disk machine.old).tells_files → (IsWellFormed (M.disk machine.old).reads → ⊥) → KeepsFiles (M.disk machine.old) (M.disk machine.new) }
+    ensures ok { (p : Params) (commands : List Command) → Opens p (M.disk machine.old) commands → IfOk result (IsOpen p commands (M.disk machine.old) (M.disk machine.new)) }
+    ensures first { (p : Params) (commands : List Command) → Opens p (M.disk machine.old) commands → (first : Stage) × IsFirst p commands (M.disk machine.old) first }
+    ensures images { (M.disk machine.old).tells_moments → (p : Params) (commands : List Command) → Opens p (M.disk machine.old) commands →
+        LeavesOnly (M.disk machine.old) (M.disk machine.new) (OrAtStart (M.disk machine.old) (Between p (M.disk machine.old) (length commands) commands)) }
     ensures settled { OnOk result (IsSettled (M.disk machine.new)) }
     ensures calm { (p : Params) (commands : List Command) → Opens p (M.disk machine.old) commands → IfErr result (λ status. status ≢ Status.SayFault) }
     ensures quiet { (p : Params) (commands : List Command) → Opens p (M.disk machine.old) commands → (M.disk machine.new).said ≡ (M.disk machine.old).said }
@@ -72,8 +82,13 @@ pub fn open_store<M: Machine>(alloc: Global, machine: &mut M) -> Result<Engine<A
     ensures say_fault { IsErrOf result Status.SayFault → Rises (M.disk machine.old).say_faults (M.disk machine.new).say_faults }
     ensures memory { (M.disk machine.old).tells_files → IsErrOf result Status.Memory → IsOpenAt 0 ((M.disk machine.old).reads Objects) }
 {
+    standing_files_meet_their_format::<AllOps>();
+    opens_on_a_world::<AllOps>();
     match Engine::restart(alloc, machine, TUNING) {
-        Ok(engine) => Ok(engine),
+        Ok(engine) => {
+            engine_stands(machine, &engine);
+            Ok(engine)
+        }
         Err(cause) => Err(end_unopened(alloc, machine, cause)),
     }
 }

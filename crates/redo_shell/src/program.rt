@@ -27,8 +27,10 @@ use crate::run::run;
 use crate::say::end_with;
 use crate::status::Status;
 use disk_model::{Machine, Source};
+use op_codec::AllOps;
 use script_lines::{Asked, read_words};
 use std::alloc::Global;
+use store_engine::standing_files_meet_their_format;
 
 /// What is said where the words ask nothing.
 const USAGE: &[u8] = b"usage: redo init N CAP LIMIT | run | dump | demo --seed S --steps T\n";
@@ -47,19 +49,19 @@ pub fn top<M: Machine, S: Source>(
         IsRunOn p commands (lines_of (S.left input.old)) (M.disk machine.old) (M.disk machine.new) result }
     ensures run_untold { Asks (map string_bytes words.now) Run → (script : List (List ℕ)) × ((p : Params) (commands : List Command) → Opens p (M.disk machine.old) commands →
         IsRunOn p commands script (M.disk machine.old) (M.disk machine.new) result) }
-    // Files that are no store, or a damaged one, are kept.
-    ensures run_keeps { Asks (map string_bytes words.now) Run → (M.disk machine.old).tells_files → (IsWellFormed (M.disk machine.old).reads → ⊥) → KeepsFiles (M.disk machine.old) (M.disk machine.new) }
     // With status 0 or 1 the input is read to its end, and has fewer bytes than it may have.
     ensures run_input { Asks (map string_bytes words.now) Run → S.tells input.old → (result ≡ Status.Done) ⊎ (result ≡ Status.DoneWithRefusals) →
         (S.left input.new ≡ []) × (length (S.left input.old) < 2 ^ 40) }
     ensures run_status { Asks (map string_bytes words.now) Run → IsOfRun result }
-    // `dump` on files that stand for commands. Whatever they are, it keeps them.
+    // `dump` on files that stand for commands.
     ensures dump { (p : Params) (commands : List Command) → Asks (map string_bytes words.now) Dump → Opens p (M.disk machine.old) commands →
         IsDumpOn p commands (M.disk machine.old) (M.disk machine.new) result }
     ensures dump_settled { Asks (map string_bytes words.now) Dump → result ≡ Status.Done → IsSettled (M.disk machine.new) }
-    ensures dump_keeps { Asks (map string_bytes words.now) Dump → KeepsFiles (M.disk machine.old) (M.disk machine.new) }
     ensures dump_opened { Asks (map string_bytes words.now) Dump → (M.disk machine.old).tells_files → result ≡ Status.Done → IsWellFormed (M.disk machine.old).reads }
     ensures dump_status { Asks (map string_bytes words.now) Dump → IsOfDump result }
+    // Files that are no store, or a damaged one, are kept by `run` and by `dump`.
+    ensures unopened_keeps { Asks (map string_bytes words.now) Run ⊎ Asks (map string_bytes words.now) Dump → (M.disk machine.old).tells_files → (IsWellFormed (M.disk machine.old).reads → ⊥) →
+        KeepsFiles (M.disk machine.old) (M.disk machine.new) }
     // `init` makes a store where none begins.
     ensures init { (p : Params) → Asks (map string_bytes words.now) (Init p) → IsMaking p (M.disk machine.old) (M.disk machine.new) result }
     ensures usage { result ≡ Status.Usage → (asked : Asked) → Asks (map string_bytes words.now) asked → ⊥ }
@@ -100,6 +102,7 @@ pub fn top<M: Machine, S: Source>(
     ensures exactly_init { (p : Params) → Asks (map string_bytes words.now) (Init p) → (M.disk machine.old).tells_files →
         IsFaultless (M.disk machine.old) (M.disk machine.new) (S.faults input.old) (S.faults input.new) → MakesExactly (M.disk machine.old) result }
 {
+    standing_files_meet_their_format::<AllOps>();
     match read_words(words) {
         Some(Asked::Run) => run(alloc, machine, input),
         Some(Asked::Dump) => dump(alloc, machine),

@@ -9,7 +9,8 @@ ghost use Rattle.formats.specs.declared.params.Params.{Params};
 ghost use Rattle.op_codec.specs.AllOps.{all_meaning};
 ghost use Rattle.script_lines.specs.Grammar.{lines_of};
 ghost use Rattle.script_lines.specs.Reading.{Takes};
-ghost use Rattle.store_engine.specs.Engine.{IsAttached};
+ghost use Rattle.store_engine.specs.Engine.{IsAttached, forced_in};
+ghost use Rattle.redo_shell.specs.Stages.{stage_of};
 ghost use Rattle.redo_shell.specs.Store.{Command, IsWellFormed, Opens, Holds};
 ghost use Rattle.redo_shell.specs.Keeps.{KeepsFiles};
 ghost use Rattle.redo_shell.specs.Notices.{not_a_store, damaged};
@@ -25,7 +26,7 @@ use crate::stop::Stop;
 use disk_model::{Machine, Source};
 use op_codec::AllOps;
 use std::alloc::Global;
-use store_engine::Engine;
+use store_engine::{Engine, standing_files_meet_their_format};
 
 /// Answers the lines of a script on an open store, and forces the log at its end. Where a slot breaks its format it says
 /// a line.
@@ -37,15 +38,15 @@ fn run_open<M: Machine, S: Source>(
 ) -> Status
     requires { engine.old.broken ≡ false }
     ensures time { Passes (M.disk machine.old) (M.disk machine.new) }
-    ensures answers { (p : Params) (commands : List Command) → Holds p (M.disk machine.old) engine.old commands → engine.old.forced ≡ length commands → S.tells input.old →
-        IsRun p (M.disk machine.old) (M.disk machine.new) commands (lines_of (S.left input.old)) }
-    ensures complete { (p : Params) (commands : List Command) → Holds p (M.disk machine.old) engine.old commands → engine.old.forced ≡ length commands → S.tells input.old →
+    ensures answers { (p : Params) (commands : List Command) → (holds : Holds p (M.disk machine.old) engine.old commands) → forced_in engine.old ≡ length commands → S.tells input.old →
+        IsRun p (stage_of engine.old holds.world) (M.disk machine.old) (M.disk machine.new) commands (lines_of (S.left input.old)) }
+    ensures complete { (p : Params) (commands : List Command) → (holds : Holds p (M.disk machine.old) engine.old commands) → forced_in engine.old ≡ length commands → S.tells input.old →
         (result ≡ Status.Done) ⊎ (result ≡ Status.DoneWithRefusals) →
-        IsComplete p (M.disk machine.old) (M.disk machine.new) commands (lines_of (S.left input.old)) result }
+        IsComplete p (stage_of engine.old holds.world) (M.disk machine.old) (M.disk machine.new) commands (lines_of (S.left input.old)) result }
     // Whatever a source that reports nothing gave, it is some script.
-    ensures some { (script : List (List ℕ)) × ((p : Params) (commands : List Command) → Holds p (M.disk machine.old) engine.old commands → engine.old.forced ≡ length commands →
-        IsRun p (M.disk machine.old) (M.disk machine.new) commands script
-        × ((result ≡ Status.Done) ⊎ (result ≡ Status.DoneWithRefusals) → IsComplete p (M.disk machine.old) (M.disk machine.new) commands script result)) }
+    ensures some { (script : List (List ℕ)) × ((p : Params) (commands : List Command) → (holds : Holds p (M.disk machine.old) engine.old commands) → forced_in engine.old ≡ length commands →
+        IsRun p (stage_of engine.old holds.world) (M.disk machine.old) (M.disk machine.new) commands script
+        × ((result ≡ Status.Done) ⊎ (result ≡ Status.DoneWithRefusals) → IsComplete p (stage_of engine.old holds.world) (M.disk machine.old) (M.disk machine.new) commands script result)) }
     ensures input { S.tells input.old → (result ≡ Status.Done) ⊎ (result ≡ Status.DoneWithRefusals) → (S.left input.new ≡ []) × (length (S.left input.old) < 2 ^ 40) }
     // No slot of the files that were opened is damaged.
     ensures store { (M.disk machine.old).tells_files → IsAttached (M.disk machine.old) engine.old → (result ≢ Status.NotAStore) × (result ≢ Status.Damaged) }
@@ -87,6 +88,7 @@ pub fn run<M: Machine, S: Source>(alloc: Global, machine: &mut M, input: &mut S)
     // No memory is taken before the objects gate is looked at.
     ensures memory { (M.disk machine.old).tells_files → result ≡ Status.Memory → IsOpenAt 0 ((M.disk machine.old).reads Objects) }
 {
+    standing_files_meet_their_format::<AllOps>();
     match open_store(alloc, machine) {
         Ok(mut engine) => run_open(alloc, &mut engine, machine, input),
         Err(status) => status,

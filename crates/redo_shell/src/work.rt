@@ -7,6 +7,19 @@ use oper_core::{ByteList, Memory};
 use script_lines::{Line, hex_bytes, parse_line};
 use std::alloc::Global;
 
+/// What changes no value and adds no command.
+#[derive(Clone, Copy, Debug, PartialEq, Eq)]
+pub enum Upkeep {
+    /// Install one node of the write graph.
+    Install,
+    /// Install all nodes.
+    Drain,
+    /// Log a check and make it stable.
+    Checkpoint,
+    /// Rewrite the log without the records that no redo needs.
+    Trim,
+}
+
 /// What a line has the program do.
 #[derive(Drop)]
 pub enum Work {
@@ -16,6 +29,10 @@ pub enum Work {
     Tell { object: u32 },
     /// Force the log.
     Force,
+    /// Install, log a check, or rewrite the log.
+    Keep(Upkeep),
+    /// Report the counts of the store.
+    Count,
     /// Nothing: the line is skipped.
     Nothing,
     /// Say that the line is outside the grammar.
@@ -45,6 +62,11 @@ impl Work {
             Line::AppWrite { app, to } => Ok(Work::Run(AllOps::AppWrite(AppWrite { app, to }))),
             Line::Get { object } => Ok(Work::Tell { object }),
             Line::Force => Ok(Work::Force),
+            Line::Install => Ok(Work::Keep(Upkeep::Install)),
+            Line::Drain => Ok(Work::Keep(Upkeep::Drain)),
+            Line::Checkpoint => Ok(Work::Keep(Upkeep::Checkpoint)),
+            Line::Trim => Ok(Work::Keep(Upkeep::Trim)),
+            Line::Stat => Ok(Work::Count),
             Line::Skip => Ok(Work::Nothing),
         }
     }

@@ -5,13 +5,13 @@ use disk_model::{Failed, Source};
 use formats::Params;
 use oper_core::Refusal;
 use script_lines::{
-    Answer, Asked, Bad, Line, LineReader, Next, ReadError, answer_line, answer_text, hex_bytes,
-    parse_line, read_words,
+    Answer, Asked, Bad, Counts, Line, LineReader, Next, ReadError, answer_line, answer_text,
+    hex_bytes, parse_line, read_words,
 };
 use std::alloc::Global;
 
 // A line of each form, and what it asks.
-const FORMS: [(&[u8], Line<'static>); 11] = [
+const FORMS: [(&[u8], Line<'static>); 16] = [
     (
         b"put 4294967295 00FfA9",
         Line::Put {
@@ -49,10 +49,15 @@ const FORMS: [(&[u8], Line<'static>); 11] = [
     (b"awrite 3 4", Line::AppWrite { app: 3, to: 4 }),
     (b"get 4294967295", Line::Get { object: 4294967295 }),
     (b"force", Line::Force),
+    (b"install", Line::Install),
+    (b"drain", Line::Drain),
+    (b"checkpoint", Line::Checkpoint),
+    (b"trim", Line::Trim),
+    (b"stat", Line::Stat),
 ];
 
 // Lines, and the plain ones that ask the same.
-const SPACED: [(&[u8], &[u8]); 8] = [
+const SPACED: [(&[u8], &[u8]); 10] = [
     (b"  put   0  aa ", b"put 0 aa"),
     (b"put 0 aa\r", b"put 0 aa"),
     (b"put 0 -  \r", b"put 0 -"),
@@ -61,6 +66,8 @@ const SPACED: [(&[u8], &[u8]); 8] = [
     (b"force\r", b"force"),
     (b"cut  10 20  30", b"cut 10 20 30"),
     (b" get   0", b"get 0"),
+    (b" trim ", b"trim"),
+    (b"  stat\r", b"stat"),
 ];
 
 const SKIPPED: [&[u8]; 10] = [
@@ -76,7 +83,13 @@ const SKIPPED: [&[u8]; 10] = [
     b"#\r\r",
 ];
 
-const BAD: [&[u8]; 61] = [
+const BAD: [&[u8]; 67] = [
+    b"install 1",
+    b"drain #",
+    b"Checkpoint",
+    b"trim -",
+    b"stat 0",
+    b"stats",
     b"put",
     b"put 0",
     b"put 0 ",
@@ -229,7 +242,7 @@ fn hex_is_read(rt: HostRuntime) {
 }
 
 // Answers, and their texts.
-const TEXTS: [(Answer<'static>, &[u8]); 22] = [
+const TEXTS: [(Answer<'static>, &[u8]); 23] = [
     (Answer::Done, b"ok"),
     (Answer::Value(&[]), b"-"),
     (Answer::Value(&[0x00, 0x9a, 0xff]), b"009aff"),
@@ -285,6 +298,18 @@ const TEXTS: [(Answer<'static>, &[u8]); 22] = [
         b"1 -",
     ),
     (Answer::Commands(1), b"commands 1"),
+    (
+        Answer::Stat(Counts {
+            nodes: 3,
+            dirty: 2,
+            uninstalled: 10,
+            forced: 0,
+            accepted: 18446744073709551615,
+            used: 112,
+            identities: 1,
+        }),
+        b"stat 3 2 10 0 18446744073709551615 112 1",
+    ),
 ];
 
 fn has_text(alloc: Global, answer: &Answer, want: &[u8]) -> bool {

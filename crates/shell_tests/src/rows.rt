@@ -14,7 +14,7 @@ const NO_STORE: Run = ("redo run", b"get 0\n", Status::NotAStore, b"not a store\
 const USAGE: &[u8] = b"usage: redo init N CAP LIMIT | run | dump | demo --seed S --steps T\n";
 
 // Runs in one folder, empty at first, with a crash between them that loses what was not synced.
-const ROWS: [&[Run]; 20] = [
+const ROWS: [&[Run]; 29] = [
     &[
         NEW,
         (
@@ -196,6 +196,93 @@ const ROWS: [&[Run]; 20] = [
     &[("redo fly", b"", Status::Usage, USAGE), NO_STORE, NEW],
     &[("redo", b"", Status::Usage, USAGE), NO_STORE, NEW],
     &[("redo --help", b"", Status::Usage, USAGE), NO_STORE, NEW],
+    &[
+        NEW,
+        (
+            "redo run",
+            b"put 0 aa\ncopy 0 1\nput 0 bb\nstat\ninstall\nstat\ninstall\nstat\ninstall\nstat\n",
+            Status::Done,
+            b"ok\nok\nok\nstat 3 2 3 0 3 112 0\nok\nstat 2 1 2 3 3 112 0\nok\nstat 1 1 1 3 3 112 0\nok\nstat 0 0 0 3 3 112 0\n",
+        ),
+    ],
+    &[
+        NEW,
+        (
+            "redo run",
+            b"copy 0 1\ncopy 1 0\nstat\nput 1 cc\nstat\ninstall\nstat\n",
+            Status::Done,
+            b"ok\nok\nstat 2 2 2 0 2 92 0\nok\nstat 2 2 3 0 3 111 0\nok\nstat 1 1 1 3 3 111 0\n",
+        ),
+    ],
+    &[
+        NEW,
+        (
+            "redo run",
+            b"put 0 aa\nput 1 bb\nswap 0 1\nstat\ninstall\nstat\nget 0\nget 1\n",
+            Status::Done,
+            b"ok\nok\nok\nstat 1 2 3 0 3 112 0\nok\nstat 1 1 1 3 3 130 1\nbb\naa\n",
+        ),
+    ],
+    &[
+        NEW,
+        (
+            "redo run",
+            b"put 0 aacc\nput 1 bb\nswap 0 1\ninstall\nstat\n",
+            Status::Done,
+            b"ok\nok\nok\nok\nstat 1 1 1 3 3 131 1\n",
+        ),
+    ],
+    &[
+        NEW,
+        (
+            "redo run",
+            b"put 0 aa\ncheckpoint\nstat\n",
+            Status::Done,
+            b"ok\nok\nstat 1 1 1 1 1 100 0\n",
+        ),
+    ],
+    &[
+        NEW,
+        (
+            "redo run",
+            b"put 0 aa\nappend 1 0\ncheckpoint\n",
+            Status::Done,
+            b"ok\nok\nok\n",
+        ),
+        ("redo run", b"get 0\n", Status::Done, b"aa\n"),
+    ],
+    &[
+        NEW,
+        (
+            "redo run",
+            b"put 0 aa\nput 1 bb\ninstall\ntrim\nstat\n",
+            Status::Done,
+            b"ok\nok\nok\nok\nstat 1 1 1 2 2 82 0\n",
+        ),
+        ("redo run", b"get 0\nget 1\n", Status::Done, b"aa\nbb\n"),
+        ("redo dump", b"", Status::Done, b"0 aa\n1 bb\ncommands 2\n"),
+    ],
+    &[
+        NEW,
+        (
+            "redo run",
+            b"put 0 bb\nappend 0 1\ninstall\ninstall\n",
+            Status::Done,
+            b"ok\nok\nok\nok\n",
+        ),
+        ("redo run", b"get 1\n", Status::Done, b"bb\n"),
+    ],
+    // Nothing is left after a drain and a trim, and nothing to install is no refusal.
+    &[
+        NEW,
+        (
+            "redo run",
+            b"install\ndrain\nput 0 aa\nput 1 bb\nswap 0 1\ndrain\ntrim\nstat 0\ninstall\nforce\n",
+            Status::DoneWithRefusals,
+            b"ok\nok\nok\nok\nok\nok\nok\nbad\nok\nforced 3\n",
+        ),
+        ("redo run", b"get 0\nget 1\n", Status::Done, b"bb\naa\n"),
+    ],
 ];
 
 // Whether the program answers so.
@@ -225,22 +312,22 @@ type Puts = (u8, usize, usize);
 const FULL: [(&str, &[Puts], &[u8]); 4] = [
     (
         "redo init 1 64 4224",
-        &[(b'0', 1, 220), (b'0', 25, 1)],
-        b"ok\nfull 4218 48 4224\n",
+        &[(b'0', 1, 219), (b'0', 25, 1)],
+        b"ok\nfull 4217 48 4224\n",
     ),
     (
         "redo init 2 16 4128",
-        &[(b'0', 16, 120), (b'2', 17, 1), (b'1', 17, 1), (b'1', 16, 1)],
-        b"ok\nrefused NoObject\nrefused TooLarge\nfull 4118 39 4128\n",
+        &[(b'0', 16, 119), (b'2', 17, 1), (b'1', 17, 1), (b'1', 16, 1)],
+        b"ok\nrefused NoObject\nrefused TooLarge\nfull 4102 39 4128\n",
     ),
     (
         "redo init 2 1024 6144",
-        &[(b'0', 1024, 5), (b'0', 879, 1)],
-        b"ok\nfull 5248 902 6144\n",
+        &[(b'0', 1024, 5), (b'0', 861, 1)],
+        b"ok\nfull 5266 884 6144\n",
     ),
     (
         "redo init 2 1024 6144",
-        &[(b'0', 1024, 5), (b'0', 878, 1)],
+        &[(b'0', 1024, 5), (b'0', 860, 1)],
         b"ok\nok\n",
     ),
 ];

@@ -15,7 +15,7 @@ pub const CRASHES: [Crash; 6] = [
 ];
 
 pub fn empty_folder(alloc: Global) -> Result<MemMachine, AllocError> {
-    MemMachine::new(alloc, [8192, 65536, 64], 1000, 65536, Vec::new(alloc))
+    MemMachine::new(alloc, [8192, 65536, 65536], 1000, 65536, Vec::new(alloc))
 }
 
 // The words of a line.

@@ -1,65 +1,101 @@
-use Rattle.std.proofs.Common.{[], ◌∷◌, refl, inl}
-use Rattle.store_engine.specs.Engine.{log_length}
-use Rattle.redo_shell.proofs.LineLemmas.{caused, after}
-use Rattle.redo_shell.proofs.RunLemmas.{kept_nil}
+use Rattle.std.proofs.Common.{inl, inr, ⊎_elim, sym, subst, Ok, Err}
+use Rattle.execution.specs.declared.exec_err.ExecErr.{ExecErr}
+use Rattle.execution.specs.declared.exec_err.ExecErr.TheVariants.{Refused, LogFull, LsnEnd, DiskFault, Memory, Damaged}
+use Rattle.redo_shell.proofs.HoldLemmas.{in_engine}
+use Rattle.redo_shell.proofs.DoneLemmas.{IsExec, exec_done, exec_refused, exec_full, exec_end, still_attached, still_whole, works_on, fails_so, none_damaged}
 use Rattle.redo_shell.proofs.answers.command_answer.Goals as goal
 
-pub returns-in-Ok-clause-found : goal.returns-in-Ok-clause-found
-returns-in-Ok-clause-found g c = λ p commands line holds asks.
-    let ok = c.in-Ok.ensures.ok p commands holds in
-    let cause = c.in-Ok.ensures.exactly p commands holds in
-    record {
-      added = c.args.op ∷ [];
-      replies = (c.args.op, asks, ok.0, cause.2, refl);
-      length_is = (c.args.op, asks, cause.1, c.in-Ok.ensures.lengthens p commands holds);
-      quiet = c.exec.ensures.quiet holds.told;
-      kept = ok.2;
-      tied = (tt, λ told f s left. tt);
-      acked = λ n is. cc;
-    }
+pub returns-in-Ok-clause-done : goal.returns-in-Ok-clause-done
+returns-in-Ok-clause-done g c = λ p commands line holds asks.
+    let e : IsExec p (g.M.Machine.disk c.args.machine.now) (g.M.Machine.disk c.exec.new.machine) c.args.engine.now c.exec.new.self holds.world commands c.args.op (Ok c.in-Ok.field-0) = record {
+      call = c.in-Ok.ensures.call;
+      follows = c.in-Ok.ensures.takes.follows p holds.world holds.shows.shows;
+      answers = c.in-Ok.ensures.answers p holds.world holds.shows;
+      exactly = c.in-Ok.ensures.exactly p commands (in_engine holds);
+      rising = inr (c.in-Ok.ensures.ok p commands (in_engine holds)).rising;
+    } in
+    exec_done p _ _ _ _ commands line c.args.op holds asks c.in-Ok.field-0 e
 
-pub returns-in-Err-Refused-clause-found : goal.returns-in-Err-Refused-clause-found
-returns-in-Err-Refused-clause-found g c = λ p commands line holds asks.
-    let why = c.in-Err-Refused.ensures.refused p commands holds c.in-Err-Refused.refusal (cc (c.in-Err-Refused.field-0-is)) in
-    let kept = c.in-Err-Refused.ensures.err p commands holds (λ e. cc) in
-    record {
-      added = [];
-      replies = (inl (c.args.op, asks, why), refl);
-      length_is = after p (log_length c.args.engine.now) (log_length c.exec.new.self) c.args.op (c.in-Err-Refused.ensures.lengthens p commands holds) c.in-Err-Refused.field-0-is;
-      quiet = c.exec.ensures.quiet holds.told;
-      kept = kept_nil kept;
-      tied = (tt, λ told f s left. tt);
-      acked = λ n is. cc;
-    }
+pub returns-in-Err-Refused-clause-done : goal.returns-in-Err-Refused-clause-done
+returns-in-Err-Refused-clause-done g c = λ p commands line holds asks.
+    let e : IsExec p (g.M.Machine.disk c.args.machine.now) (g.M.Machine.disk c.exec.new.machine) c.args.engine.now c.exec.new.self holds.world commands c.args.op (Err c.in-Err-Refused.field-0) = record {
+      call = c.in-Err-Refused.ensures.call;
+      follows = c.in-Err-Refused.ensures.takes.follows p holds.world holds.shows.shows;
+      answers = c.in-Err-Refused.ensures.answers p holds.world holds.shows;
+      exactly = c.in-Err-Refused.ensures.exactly p commands (in_engine holds);
+      rising = ⊎_elim (λ fault. inl fault) (λ kept. inr kept.rising) (c.in-Err-Refused.ensures.err p commands (in_engine holds));
+    } in
+    exec_refused p _ _ _ _ commands line c.args.op holds asks c.in-Err-Refused.refusal (subst (λ (x : ExecErr). IsExec p (g.M.Machine.disk c.args.machine.now) (g.M.Machine.disk c.exec.new.machine) c.args.engine.now c.exec.new.self holds.world commands c.args.op (Err x)) c.in-Err-Refused.field-0-is e)
 
-pub returns-in-Err-LogFull-clause-found : goal.returns-in-Err-LogFull-clause-found
-returns-in-Err-LogFull-clause-found g c = λ p commands line holds asks.
-    let full = c.in-Err-LogFull.ensures.full p commands holds c.in-Err-LogFull.used c.in-Err-LogFull.need c.in-Err-LogFull.limit (cc (c.in-Err-LogFull.field-0-is)) in
-    let kept = c.in-Err-LogFull.ensures.err p commands holds (λ e. cc) in
-    record {
-      added = [];
-      replies = ((c.args.op, asks, full.accepted, full.asked), full.bound, full.over, refl);
-      length_is =
-          let cause = caused p commands (log_length c.args.engine.now) c.args.op (c.in-Err-LogFull.ensures.exactly p commands holds) c.in-Err-LogFull.field-0-is in
-          ((c.args.op, asks, cause.1), cause.2, after p (log_length c.args.engine.now) (log_length c.exec.new.self) c.args.op (c.in-Err-LogFull.ensures.lengthens p commands holds) c.in-Err-LogFull.field-0-is);
-      quiet = c.exec.ensures.quiet holds.told;
-      kept = kept_nil kept;
-      tied = full.place;
-      acked = λ n is. cc;
-    }
+pub returns-in-Err-LogFull-clause-done : goal.returns-in-Err-LogFull-clause-done
+returns-in-Err-LogFull-clause-done g c = λ p commands line holds asks.
+    let e : IsExec p (g.M.Machine.disk c.args.machine.now) (g.M.Machine.disk c.exec.new.machine) c.args.engine.now c.exec.new.self holds.world commands c.args.op (Err c.in-Err-LogFull.field-0) = record {
+      call = c.in-Err-LogFull.ensures.call;
+      follows = c.in-Err-LogFull.ensures.takes.follows p holds.world holds.shows.shows;
+      answers = c.in-Err-LogFull.ensures.answers p holds.world holds.shows;
+      exactly = c.in-Err-LogFull.ensures.exactly p commands (in_engine holds);
+      rising = ⊎_elim (λ fault. inl fault) (λ kept. inr kept.rising) (c.in-Err-LogFull.ensures.err p commands (in_engine holds));
+    } in
+    exec_full p _ _ _ _ commands line c.args.op holds asks c.in-Err-LogFull.used c.in-Err-LogFull.need c.in-Err-LogFull.limit (subst (λ (x : ExecErr). IsExec p (g.M.Machine.disk c.args.machine.now) (g.M.Machine.disk c.exec.new.machine) c.args.engine.now c.exec.new.self holds.world commands c.args.op (Err x)) c.in-Err-LogFull.field-0-is e)
 
-pub returns-in-Err-LsnEnd-clause-found : goal.returns-in-Err-LsnEnd-clause-found
-returns-in-Err-LsnEnd-clause-found g c = λ p commands line holds asks.
-    let end = c.in-Err-LsnEnd.ensures.end p commands holds c.in-Err-LsnEnd.number (cc (c.in-Err-LsnEnd.field-0-is)) in
-    let kept = c.in-Err-LsnEnd.ensures.err p commands holds (λ e. cc) in
-    record {
-      added = [];
-      replies = ((c.args.op, asks, end.accepted), end.last, (caused p commands (log_length c.args.engine.now) c.args.op (c.in-Err-LsnEnd.ensures.exactly p commands holds) c.in-Err-LsnEnd.field-0-is).2, refl);
-      length_is =
-          let cause = caused p commands (log_length c.args.engine.now) c.args.op (c.in-Err-LsnEnd.ensures.exactly p commands holds) c.in-Err-LsnEnd.field-0-is in
-          ((c.args.op, asks, cause.1), after p (log_length c.args.engine.now) (log_length c.exec.new.self) c.args.op (c.in-Err-LsnEnd.ensures.lengthens p commands holds) c.in-Err-LsnEnd.field-0-is);
-      quiet = c.exec.ensures.quiet holds.told;
-      kept = kept_nil kept;
-      tied = end.next;
-      acked = λ n is. cc;
-    }
+pub returns-in-Err-LsnEnd-clause-done : goal.returns-in-Err-LsnEnd-clause-done
+returns-in-Err-LsnEnd-clause-done g c = λ p commands line holds asks.
+    let e : IsExec p (g.M.Machine.disk c.args.machine.now) (g.M.Machine.disk c.exec.new.machine) c.args.engine.now c.exec.new.self holds.world commands c.args.op (Err c.in-Err-LsnEnd.field-0) = record {
+      call = c.in-Err-LsnEnd.ensures.call;
+      follows = c.in-Err-LsnEnd.ensures.takes.follows p holds.world holds.shows.shows;
+      answers = c.in-Err-LsnEnd.ensures.answers p holds.world holds.shows;
+      exactly = c.in-Err-LsnEnd.ensures.exactly p commands (in_engine holds);
+      rising = ⊎_elim (λ fault. inl fault) (λ kept. inr kept.rising) (c.in-Err-LsnEnd.ensures.err p commands (in_engine holds));
+    } in
+    exec_end p _ _ _ _ commands line c.args.op holds asks c.in-Err-LsnEnd.number (subst (λ (x : ExecErr). IsExec p (g.M.Machine.disk c.args.machine.now) (g.M.Machine.disk c.exec.new.machine) c.args.engine.now c.exec.new.self holds.world commands c.args.op (Err x)) c.in-Err-LsnEnd.field-0-is e)
+
+pub returns-in-Ok-clause-moments : goal.returns-in-Ok-clause-moments
+returns-in-Ok-clause-moments g c = λ p commands holds told. c.exec.ensures.images told p commands (in_engine holds)
+
+pub returns-in-Err-Refused-clause-moments : goal.returns-in-Err-Refused-clause-moments
+returns-in-Err-Refused-clause-moments g c = λ p commands holds told. c.exec.ensures.images told p commands (in_engine holds)
+
+pub returns-in-Err-LogFull-clause-moments : goal.returns-in-Err-LogFull-clause-moments
+returns-in-Err-LogFull-clause-moments g c = λ p commands holds told. c.exec.ensures.images told p commands (in_engine holds)
+
+pub returns-in-Err-LsnEnd-clause-moments : goal.returns-in-Err-LsnEnd-clause-moments
+returns-in-Err-LsnEnd-clause-moments g c = λ p commands holds told. c.exec.ensures.images told p commands (in_engine holds)
+
+pub returns-in-Err-Damaged-clause-moments : goal.returns-in-Err-Damaged-clause-moments
+returns-in-Err-Damaged-clause-moments g c = λ p commands holds told. c.exec.ensures.images told p commands (in_engine holds)
+
+pub returns-in-Err-DiskFault-clause-moments : goal.returns-in-Err-DiskFault-clause-moments
+returns-in-Err-DiskFault-clause-moments g c = λ p commands holds told. c.exec.ensures.images told p commands (in_engine holds)
+
+pub returns-in-Err-Memory-clause-moments : goal.returns-in-Err-Memory-clause-moments
+returns-in-Err-Memory-clause-moments g c = λ p commands holds told. c.exec.ensures.images told p commands (in_engine holds)
+
+pub returns-in-Ok-clause-attached : goal.returns-in-Ok-clause-attached
+returns-in-Ok-clause-attached g c = λ attached. still_attached c.in-Ok.ensures.call (λ f. f) attached
+
+pub returns-in-Ok-clause-unbroken : goal.returns-in-Ok-clause-unbroken
+returns-in-Ok-clause-unbroken g c = still_whole c.in-Ok.ensures.call (λ f. f)
+
+pub returns-in-Err-Refused-clause-attached : goal.returns-in-Err-Refused-clause-attached
+returns-in-Err-Refused-clause-attached g c = λ attached. still_attached c.in-Err-Refused.ensures.call (works_on (Refused c.in-Err-Refused.refusal) c.in-Err-Refused.field-0-is (λ f. f)) attached
+
+pub returns-in-Err-Refused-clause-unbroken : goal.returns-in-Err-Refused-clause-unbroken
+returns-in-Err-Refused-clause-unbroken g c = still_whole c.in-Err-Refused.ensures.call (works_on (Refused c.in-Err-Refused.refusal) c.in-Err-Refused.field-0-is (λ f. f))
+
+pub returns-in-Err-LogFull-clause-attached : goal.returns-in-Err-LogFull-clause-attached
+returns-in-Err-LogFull-clause-attached g c = λ attached. still_attached c.in-Err-LogFull.ensures.call (works_on (LogFull c.in-Err-LogFull.used c.in-Err-LogFull.need c.in-Err-LogFull.limit) c.in-Err-LogFull.field-0-is (λ f. f)) attached
+
+pub returns-in-Err-LogFull-clause-unbroken : goal.returns-in-Err-LogFull-clause-unbroken
+returns-in-Err-LogFull-clause-unbroken g c = still_whole c.in-Err-LogFull.ensures.call (works_on (LogFull c.in-Err-LogFull.used c.in-Err-LogFull.need c.in-Err-LogFull.limit) c.in-Err-LogFull.field-0-is (λ f. f))
+
+pub returns-in-Err-LsnEnd-clause-attached : goal.returns-in-Err-LsnEnd-clause-attached
+returns-in-Err-LsnEnd-clause-attached g c = λ attached. still_attached c.in-Err-LsnEnd.ensures.call (works_on (LsnEnd c.in-Err-LsnEnd.number) c.in-Err-LsnEnd.field-0-is (λ f. f)) attached
+
+pub returns-in-Err-LsnEnd-clause-unbroken : goal.returns-in-Err-LsnEnd-clause-unbroken
+returns-in-Err-LsnEnd-clause-unbroken g c = still_whole c.in-Err-LsnEnd.ensures.call (works_on (LsnEnd c.in-Err-LsnEnd.number) c.in-Err-LsnEnd.field-0-is (λ f. f))
+
+pub returns-in-Err-Damaged-clause-undamaged : goal.returns-in-Err-Damaged-clause-undamaged
+returns-in-Err-Damaged-clause-undamaged g c = λ told attached. none_damaged (g.M.Machine.disk c.args.machine.now) (g.M.Machine.disk c.exec.new.machine) c.args.engine.now c.args.op c.in-Err-Damaged.file c.in-Err-Damaged.place c.in-Err-Damaged.ensures.failure c.in-Err-Damaged.field-0-is told attached
+
+pub returns-in-Err-DiskFault-clause-cause : goal.returns-in-Err-DiskFault-clause-cause
+returns-in-Err-DiskFault-clause-cause g c = c.in-Err-DiskFault.ensures.call.fault (fails_so c.in-Err-DiskFault.field-0-is)

@@ -1,4 +1,6 @@
-use Rattle.std.proofs.Common.{◌++◌, List, ℕ, ap, ◌∙◌}
+use Rattle.std.proofs.Common.{◌++◌, List, ℕ, ap, subst, ◌∙◌}
+use Rattle.redo_shell.specs.Run.{IsUndamaged}
+use Rattle.redo_shell.proofs.HoldLemmas.{told_by, attached_of}
 use Rattle.redo_shell.proofs.DumpLemmas.{dump_reads, dump_says, dump_begun, dump_quiet}
 use Rattle.redo_shell.proofs.KeepLemmas.{keeps_once, keeps_behind}
 use Rattle.redo_shell.proofs.dump.dump_open.Goals as goal
@@ -10,12 +12,12 @@ returns-in-Ok-clause-moments g c = λ p commands holds all telling.
 
 pub returns-in-Ok-clause-said : goal.returns-in-Ok-clause-said
 returns-in-Ok-clause-said g c = λ p commands holds.
-    dump_begun p (g.M.Machine.disk c.args.machine.now) (g.M.Machine.disk c.table.new.machine) (g.M.Machine.disk c.end_with.new.machine) commands c.as_slice.result.now (c.table.ensures.kept.said holds.told)
-    (c.as_slice.ensures.value ∙ c.in-Ok.ensures.rows p commands holds) (c.end_with.ensures.runs.said (c.table.ensures.kept.time.files_told.0 holds.told))
+    dump_begun p (g.M.Machine.disk c.args.machine.now) (g.M.Machine.disk c.table.new.machine) (g.M.Machine.disk c.end_with.new.machine) commands c.as_slice.result.now (c.table.ensures.kept.said holds.shows.shows.told)
+    (c.as_slice.ensures.value ∙ c.in-Ok.ensures.rows p commands holds) (c.end_with.ensures.runs.said (c.table.ensures.kept.time.files_told.0 holds.shows.shows.told))
 
 pub returns-in-Ok-clause-all : goal.returns-in-Ok-clause-all
 returns-in-Ok-clause-all g c = λ p commands holds done.
-    c.end_with.ensures.all (c.table.ensures.kept.time.files_told.0 holds.told) (λ e. cc (done, e)) ∙ ap (λ (l : List ℕ). l ++ c.as_slice.result.now) (c.table.ensures.kept.said holds.told)
+    c.end_with.ensures.all (c.table.ensures.kept.time.files_told.0 holds.shows.shows.told) (λ e. cc (done, e)) ∙ ap (λ (l : List ℕ). l ++ c.as_slice.result.now) (c.table.ensures.kept.said holds.shows.shows.told)
     ∙ ap (λ (l : List ℕ). (g.M.Machine.disk c.args.machine.now).said ++ l) (c.as_slice.ensures.value ∙ c.in-Ok.ensures.rows p commands holds)
 
 pub returns-in-Ok-clause-keeps : goal.returns-in-Ok-clause-keeps
@@ -28,7 +30,11 @@ pub returns-in-Err-clause-moments : goal.returns-in-Err-clause-moments
 returns-in-Err-clause-moments g c = λ p commands holds all telling. dump_reads p (g.M.Machine.disk c.args.machine.now) (g.M.Machine.disk c.table.new.machine) c.args.engine.now commands c.table.ensures.kept holds all telling
 
 pub returns-in-Err-clause-said : goal.returns-in-Err-clause-said
-returns-in-Err-clause-said g c = λ p commands holds. dump_quiet p (g.M.Machine.disk c.args.machine.now) (g.M.Machine.disk c.table.new.machine) commands (c.table.ensures.kept.said holds.told)
+returns-in-Err-clause-said g c = λ p commands holds. dump_quiet p (g.M.Machine.disk c.args.machine.now) (g.M.Machine.disk c.table.new.machine) commands (c.table.ensures.kept.said holds.shows.shows.told)
 
 pub returns-in-Err-clause-keeps : goal.returns-in-Err-clause-keeps
 returns-in-Err-clause-keeps g c = keeps_once (g.M.Machine.disk c.args.machine.now) (g.M.Machine.disk c.table.new.machine) c.table.ensures.kept
+
+pub returns-in-Err-Damaged-clause-moments : goal.returns-in-Err-Damaged-clause-moments
+returns-in-Err-Damaged-clause-moments g c = λ p commands holds all telling.
+    absurd (subst IsUndamaged c.in-Err-Damaged.field-0-is (c.in-Err-Damaged.ensures.undamaged (told_by holds) (attached_of holds)))

@@ -9,10 +9,10 @@ returns-in_ok-push_row-clause-row g c = λ p commands holds below.
     row_of_value (state_of p commands) c.args.object c.args.table.now.items c.get.result.now c.push_row.new.table.items c.in_ok-push_row.ensures (c.get.ensures.value [] ∙ there.1 [])
 
 pub returns-in_ok-push_row-clause-holds : goal.returns-in_ok-push_row-clause-holds
-returns-in_ok-push_row-clause-holds g c = λ p commands holds. let kept = c.in_ok-fetched.ensures.holds p commands holds in kept.holds
+returns-in_ok-push_row-clause-holds g c = λ p commands holds. let kept = c.in_ok-fetched.ensures.holds p commands holds in kept.0.holds
 
 pub returns-else-branch-clause-row : goal.returns-else-branch-clause-row
 returns-else-branch-clause-row g c = λ p commands holds below. absurd (omega (arith, below, c.in_ok-fetched.ensures.none p commands holds c.if-branch.false))
 
 pub returns-else-branch-clause-holds : goal.returns-else-branch-clause-holds
-returns-else-branch-clause-holds g c = λ p commands holds. let kept = c.in_ok-fetched.ensures.holds p commands holds in kept.holds
+returns-else-branch-clause-holds g c = λ p commands holds. let kept = c.in_ok-fetched.ensures.holds p commands holds in kept.0.holds

@@ -9,22 +9,19 @@ pub loop-object-preserved : goal.loop-object-preserved
 loop-object-preserved g c = let inv = c.loop-object.invariant in record {
   kept = stays_twice _ _ _ inv.kept c.push_object.ensures.kept;
   unbroken = c.in_ok-push_object.ensures.unbroken;
-  attached = λ attached. c.push_object.ensures.attached (inv.attached attached);
+  attached = λ attached. c.in_ok-push_object.ensures.attached (inv.attached attached);
   holds = λ p commands holds. c.in_ok-push_object.ensures.holds p commands (inv.holds p commands holds);
   rows = λ p commands holds.
-      let all = ap (λ (q : Params). q.objects) (c.params-object-end.ensures.value ∙ holds.params) in
+      let all = ap (λ (q : Params). q.objects) (c.params-object-end.ensures.value ∙ holds.shows.shows.store.params) in
       let below : c.loop-object.object < p.objects = omega (arith, c.loop-object-test.true, all) in
       rows_more (state_of p commands) c.loop-object.object c.loop-object.table.items c.push_object.new.table.items (inv.rows p commands holds)
       (c.in_ok-push_object.ensures.row p commands (inv.holds p commands holds) below);
 }
 
-pub returns-in_err-push_object-clause-attached : goal.returns-in_err-push_object-clause-attached
-returns-in_err-push_object-clause-attached g c = λ attached. c.push_object.ensures.attached (c.loop-object.invariant.attached attached)
-
 pub returns-clause-rows : goal.returns-clause-rows
 returns-clause-rows g c = λ p commands holds.
     let inv = c.loop-object.invariant in
     let here = inv.holds p commands holds in
-    let all = ap (λ (q : Params). q.objects) (c.params-object-end.ensures.value ∙ holds.params) in
+    let all = ap (λ (q : Params). q.objects) (c.params-object-end.ensures.value ∙ holds.shows.shows.store.params) in
     let whole : c.loop-object.object ≡ p.objects = omega (arith, c.loop-object-test.false, c.loop-object.auto.object-end, all) in
-    whole_table p commands c.loop-object.object c.accepted.result c.loop-object.table.items _ c.push_count.new.table.items whole (c.accepted.ensures ∙ here.accepted) (inv.rows p commands holds) refl c.in_ok-push_count.ensures
+    whole_table p commands c.loop-object.object c.accepted.result c.loop-object.table.items _ c.push_count.new.table.items whole (c.accepted.ensures ∙ here.says.accepted) (inv.rows p commands holds) refl c.in_ok-push_count.ensures

@@ -1,14 +1,27 @@
-use Rattle.std.proofs.Common.{◌<◌, ⊎_elim, subst}
+use Rattle.std.proofs.Common.{◌<◌, ⊎_elim, subst, sym, refl, false, true}
 use Rattle.formats.specs.declared.params.Params.{Params}
+use Rattle.execution.specs.declared.exec_err.ExecErr.{ExecErr}
+use Rattle.execution.specs.declared.exec_err.ExecErr.TheVariants.{Refused, DiskFault}
+use Rattle.redo_shell.proofs.FetchLemmas.{fetched_kept, not_a_fault}
+use Rattle.redo_shell.proofs.HoldLemmas.{in_engine}
 use Rattle.redo_shell.proofs.fetching.fetched.Goals as goal
 
 pub returns-in-Ok-clause-holds : goal.returns-in-Ok-clause-holds
-returns-in-Ok-clause-holds g c = λ p commands holds. ⊎_elim (λ fault. cc fault) (λ kept. kept) (c.in-Ok.ensures.holds p commands holds)
+returns-in-Ok-clause-holds g c = λ p commands holds.
+    fetched_kept holds (⊎_elim (λ fault. cc fault) (λ shows. shows) (c.in-Ok.ensures.shows p holds.world holds.shows)) c.in-Ok.ensures.log c.in-Ok.ensures.identities (c.engine_stands.ensures p commands)
 
 pub returns-in-Ok-clause-value : goal.returns-in-Ok-clause-value
 returns-in-Ok-clause-value g c = λ p commands holds there.
-    let kept = returns-in-Ok-clause-holds g c p commands holds in
-    (subst (λ (q : Params). c.args.object < q.objects) kept.holds.params c.in-Ok.ensures.cached.0, c.in-Ok.ensures.value p commands holds)
+    let shows = ⊎_elim (λ fault. cc fault) (λ shows. shows) (c.in-Ok.ensures.shows p holds.world holds.shows) in
+    (subst (λ (q : Params). c.args.object < q.objects) shows.shows.store.params c.in-Ok.ensures.cached.0, c.in-Ok.ensures.value p commands (in_engine holds))
 
 pub returns-in-Err-Refused-clause-holds : goal.returns-in-Err-Refused-clause-holds
-returns-in-Err-Refused-clause-holds g c = λ p commands holds. ⊎_elim (λ fault. cc (c.in-Err-Refused.field-0-is, fault)) (λ kept. kept) (c.in-Err-Refused.ensures.holds p commands holds)
+returns-in-Err-Refused-clause-holds g c = λ p commands holds.
+    fetched_kept holds (⊎_elim (λ fault. cc (c.in-Err-Refused.field-0-is, fault)) (λ shows. shows) (c.in-Err-Refused.ensures.shows p holds.world holds.shows)) c.in-Err-Refused.ensures.log
+    c.in-Err-Refused.ensures.identities (c.engine_stands-in-Err-Refused.ensures p commands)
+
+pub returns-in-Ok-clause-unbroken : goal.returns-in-Ok-clause-unbroken
+returns-in-Ok-clause-unbroken g c = not_a_fault c.fetch.new.self.broken (λ e. cc (c.in-Ok.ensures.broken.0 e))
+
+pub returns-in-Err-Refused-clause-unbroken : goal.returns-in-Err-Refused-clause-unbroken
+returns-in-Err-Refused-clause-unbroken g c = not_a_fault c.fetch.new.self.broken (λ e. cc (c.in-Err-Refused.field-0-is, c.in-Err-Refused.ensures.broken.0 e))

@@ -36,3 +36,6 @@ returns-in-Err-AlreadyStore-clause-already_each g c = λ told is.
     let settled = c.in-Err-AlreadyStore.ensures.already_settled (cc (c.in-Err-AlreadyStore.field-0-is)) in
     settled_each (g.M.Machine.disk c.end_with.new.machine) (λ (files : Files). BeginsStore (files Objects)) (still_settled c.end_with.ensures.runs told_now settled)
     (subst (λ (files : Files). BeginsStore (files Objects)) (sym (c.end_with.ensures.runs.reads told_now ∙ kept.reads told)) begins)
+
+pub returns-in-Ok-clause-done : goal.returns-in-Ok-clause-done
+returns-in-Ok-clause-done g c = λ told is. c.in-Ok.ensures.ok told

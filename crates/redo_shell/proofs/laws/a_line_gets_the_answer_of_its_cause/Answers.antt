@@ -1,4 +1,4 @@
-use Rattle.redo_shell.proofs.CauseLemmas.{bad_exactly, refused_exactly, no_object_exactly, value_exactly, forced_exactly, silence_exactly, full_exactly}
+use Rattle.redo_shell.proofs.CauseLemmas.{bad_exactly, refused_exactly, no_object_exactly, value_exactly, forced_exactly, silence_exactly, full_exactly, stat_exactly}
 use Rattle.redo_shell.proofs.laws.a_line_gets_the_answer_of_its_cause.Goals as goal
 
 pub returns-clause-bad : goal.returns-clause-bad
@@ -21,3 +21,6 @@ returns-clause-silence c = λ p commands line reply added. silence_exactly p com
 
 pub returns-clause-full : goal.returns-clause-full
 returns-clause-full c = λ p commands line reply added op before after. full_exactly p commands line (c.a_line_asks_one_thing.ensures line) reply added op before after
+
+pub returns-clause-counts : goal.returns-clause-counts
+returns-clause-counts c = λ p commands line reply added. stat_exactly p commands line (c.a_line_asks_one_thing.ensures line) reply added

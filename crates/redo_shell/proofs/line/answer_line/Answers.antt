@@ -1,9 +1,9 @@
 use Rattle.std.proofs.Common.{refl}
 use Rattle.script_lines.specs.Replies.{bad}
-use Rattle.redo_shell.specs.declared.work.Work.TheVariants.{Run, Tell, Force, Nothing, Bad}
+use Rattle.redo_shell.specs.declared.work.Work.TheVariants.{Run, Tell, Force, Keep, Count, Nothing, Bad}
 use Rattle.redo_shell.proofs.HoldLemmas.{holds_between}
 use Rattle.redo_shell.proofs.LineLemmas.{as_work}
-use Rattle.redo_shell.proofs.RunLemmas.{found_at_once, found_said, said_at_once, stops_before, skipped}
+use Rattle.redo_shell.proofs.RunLemmas.{found_at_once, said_at_once, stops_before, skipped}
 use Rattle.redo_shell.proofs.line.answer_line.Goals as goal
 
 pub returns-in_err-work-clause-answers : goal.returns-in_err-work-clause-answers
@@ -18,15 +18,17 @@ pub returns-in-Tell-clause-answers : goal.returns-in-Tell-clause-answers
 returns-in-Tell-clause-answers g c = λ p commands holds.
     c.say_value.ensures.answers p commands c.args.line.now holds (as_work c.args.line.now (Tell c.in-Tell.object) c.in_ok-work.ensures c.in-Tell.is)
 
-pub returns-in_err-answer-in-Force-clause-answers : goal.returns-in_err-answer-in-Force-clause-answers
-returns-in_err-answer-in-Force-clause-answers g c = λ p commands holds.
-    stops_before c.from_residual-in_err-answer-in-Force.result c.from_residual-in_err-answer-in-Force.ensures.0 (c.force_answer.ensures.moments p commands holds) (c.force_answer.ensures.quiet holds.told)
+pub returns-in-Force-clause-answers : goal.returns-in-Force-clause-answers
+returns-in-Force-clause-answers g c = λ p commands holds.
+    c.run_force.ensures.answers p commands c.args.line.now holds (as_work c.args.line.now Force c.in_ok-work.ensures c.in-Force.is)
 
-pub returns-in_ok-answer-in-Force-clause-answers : goal.returns-in_ok-answer-in-Force-clause-answers
-returns-in_ok-answer-in-Force-clause-answers g c = λ p commands holds.
-    let force = as_work c.args.line.now Force c.in_ok-work.ensures c.in-Force.is in
-    let found = c.in_ok-answer-in-Force.ensures.found p commands c.args.line.now holds force in
-    found_said c.say_answer.result (c.force_answer.ensures.moments p commands holds) c.force_answer.ensures.time found c.say_answer.ensures.runs c.say_answer.ensures.all c.say_answer.ensures.kind
+pub returns-in-Keep-clause-answers : goal.returns-in-Keep-clause-answers
+returns-in-Keep-clause-answers g c = λ p commands holds.
+    c.run_upkeep.ensures.answers p commands c.args.line.now holds (as_work c.args.line.now (Keep c.in-Keep.upkeep) c.in_ok-work.ensures c.in-Keep.is)
+
+pub returns-in-Count-clause-answers : goal.returns-in-Count-clause-answers
+returns-in-Count-clause-answers g c = λ p commands holds.
+    c.say_counts.ensures.answers p commands c.args.line.now holds (as_work c.args.line.now Count c.in_ok-work.ensures c.in-Count.is)
 
 pub returns-in-Nothing-clause-answers : goal.returns-in-Nothing-clause-answers
 returns-in-Nothing-clause-answers g c = λ p commands holds.
@@ -36,4 +38,4 @@ pub returns-in-Bad-clause-answers : goal.returns-in-Bad-clause-answers
 returns-in-Bad-clause-answers g c = λ p commands holds.
     let bad_line = as_work c.args.line.now Bad c.in_ok-work.ensures c.in-Bad.is in
     let found = found_at_once {line = c.args.line.now} bad holds (bad_line, refl) (λ f. tt) (λ n is. cc) (λ log. refl) in
-    said_at_once c.say_answer-in-Bad.result (g.met.M.Machine.lawful c.args.machine.now) found holds c.say_answer-in-Bad.ensures.runs c.say_answer-in-Bad.ensures.all c.say_answer-in-Bad.ensures.kind
+    said_at_once c.say_answer.result (g.met.M.Machine.lawful c.args.machine.now) holds found c.say_answer.ensures.runs c.say_answer.ensures.all c.say_answer.ensures.kind

@@ -5,16 +5,16 @@ use Rattle.redo_shell.proofs.line.say_value.Goals as goal
 
 pub returns-in_err-fetched-clause-answers : goal.returns-in_err-fetched-clause-answers
 returns-in_err-fetched-clause-answers g c = λ p commands line holds asks.
-    stops_before c.from_residual.result c.from_residual.ensures.0 (stays_between c.fetched.ensures.kept holds) (c.fetched.ensures.kept.said holds.told)
+    stops_before c.from_residual.result c.from_residual.ensures.0 (stays_between c.fetched.ensures.kept holds) (c.fetched.ensures.kept.said holds.shows.shows.told)
 
 pub returns-then-branch-clause-answers : goal.returns-then-branch-clause-answers
 returns-then-branch-clause-answers g c = λ p commands line holds asks.
     let there = c.in_ok-fetched.ensures.value p commands holds c.if-branch.true in
-    let found = found_value c.args.object c.get.result.now asks there.0 (c.get.ensures.value [] ∙ there.1 []) (c.fetched.ensures.kept.said holds.told) (c.in_ok-fetched.ensures.holds p commands holds) c.in_ok-fetched.ensures.length in
+    let found = found_value c.args.object c.get.result.now asks there.0 (c.get.ensures.value [] ∙ there.1 []) (c.fetched.ensures.kept.said holds.shows.shows.told) (c.in_ok-fetched.ensures.holds p commands holds).0 (c.in_ok-fetched.ensures.holds p commands holds).1 in
     found_said c.say_answer.result (stays_between c.fetched.ensures.kept holds) c.fetched.ensures.kept.time found c.say_answer.ensures.runs c.say_answer.ensures.all c.say_answer.ensures.kind
 
 pub returns-clause-answers : goal.returns-clause-answers
 returns-clause-answers g c = λ p commands line holds asks.
     let past = c.in_ok-fetched.ensures.none p commands holds c.if-branch.false in
-    let found = found_none c.args.object asks past (c.fetched.ensures.kept.said holds.told) (c.in_ok-fetched.ensures.holds p commands holds) c.in_ok-fetched.ensures.length in
+    let found = found_none c.args.object asks past (c.fetched.ensures.kept.said holds.shows.shows.told) (c.in_ok-fetched.ensures.holds p commands holds).0 (c.in_ok-fetched.ensures.holds p commands holds).1 in
     found_said c.say_answer-2.result (stays_between c.fetched.ensures.kept holds) c.fetched.ensures.kept.time found c.say_answer-2.ensures.runs c.say_answer-2.ensures.all c.say_answer-2.ensures.kind

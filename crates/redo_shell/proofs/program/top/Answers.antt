@@ -1,15 +1,17 @@
-use Rattle.std.proofs.Common.{◌≡◌, ◌≢◌, ⊎_elim, inl, refl, subst, map, string_bytes}
+use Rattle.std.proofs.Common.{◌≡◌, ◌≢◌, ⊎_elim, inl, refl, sym, subst, map, string_bytes}
 use Rattle.disk_model.specs.Disk.{LeavesOnly}
 use Rattle.formats.specs.declared.params.Params.{Params}
 use Rattle.op_codec.specs.AllOps.{all_meaning}
-use Rattle.store_engine.specs.ImageLaws.{well_formed, opens_gate}
-use Rattle.store_engine.specs.Starts.{OrAtStart, from_settled}
+use Rattle.restart.specs.WellFormed.{opens_gate}
+use Rattle.restart.specs.Starts.{OrAtStart, from_settled}
+use Rattle.redo_shell.proofs.RestartLemmas.{image_begins}
 use Rattle.script_lines.specs.Grammar.{lines_of}
 use Rattle.script_lines.specs.Words.{Asks}
 use Rattle.script_lines.specs.declared.words.Asked.{Asked}
 use Rattle.redo_shell.specs.Store.{IsNew}
 use Rattle.redo_shell.specs.Calls.{IsMaking}
-use Rattle.redo_shell.specs.Sessions.{run, init, other}
+use Rattle.redo_shell.specs.Status.{IsOfStore}
+use Rattle.redo_shell.specs.Sessions.{run, init, dump, other}
 use Rattle.redo_shell.proofs.WordLemmas.{only_params, run_not_dump, run_not_init, dump_not_init}
 use Rattle.redo_shell.proofs.ScriptLemmas.{enough_taken, not_so_few}
 use Rattle.redo_shell.proofs.ExactLemmas.{calm_run, no_store_exactly, damaged_exactly, whole_run, calm_told, calm_dump, calm_init}
@@ -65,7 +67,7 @@ returns-in-Some-Run-clause-exactly_too_long g c = λ asks files image told calm.
 pub returns-in-Some-Run-clause-run_succeeds : goal.returns-in-Some-Run-clause-run_succeeds
 returns-in-Some-Run-clause-run_succeeds g c = λ p commands asks opens told calm few.
     let calm' = calm_run c.run.result calm.faultless c.run.ensures.status c.run.ensures.disk_fault c.run.ensures.read_fault c.run.ensures.say_fault in
-    ⊎_elim (λ e. absurd (not_so_few few (enough_taken (c.run.ensures.too_long told e)))) (λ e. e) (whole_run c.run.result calm' calm.memory (c.run.ensures.store opens.told (well_formed all_meaning opens.stands)))
+    ⊎_elim (λ e. absurd (not_so_few few (enough_taken (c.run.ensures.too_long told e)))) (λ e. e) (whole_run c.run.result calm' calm.memory (c.run.ensures.store opens.told (c.standing_files_meet_their_format.ensures.format p _ commands opens.stands)))
 
 pub returns-in-Some-Run-clause-exactly_dump : goal.returns-in-Some-Run-clause-exactly_dump
 returns-in-Some-Run-clause-exactly_dump g c = λ asks. absurd (run_not_dump (map string_bytes c.args.words.now) (subst (λ (a : Asked). Asks (map string_bytes c.args.words.now) a) c.in-Some-Run.field-0-is c.in-Some-Run.ensures.some) asks)
@@ -93,7 +95,7 @@ returns-in-Some-Dump-clause-session g c = record {
   run = λ first next inits runs bytes asks. absurd (run_not_dump (map string_bytes c.args.words.now) asks (subst (λ (a : Asked). Asks (map string_bytes c.args.words.now) a) c.in-Some-Dump.field-0-is c.in-Some-Dump.ensures.some));
   run_untold = λ asks. absurd (run_not_dump (map string_bytes c.args.words.now) asks (subst (λ (a : Asked). Asks (map string_bytes c.args.words.now) a) c.in-Some-Dump.field-0-is c.in-Some-Dump.ensures.some));
   init = λ p first next inits runs said asks. absurd (dump_not_init (map string_bytes c.args.words.now) p (subst (λ (a : Asked). Asks (map string_bytes c.args.words.now) a) c.in-Some-Dump.field-0-is c.in-Some-Dump.ensures.some) asks);
-  dump = λ first next inits runs said asks before follows. other c.args.machine.now c.dump.new.machine next said before c.dump.ensures.keeps follows;
+  dump = λ first next inits runs said asks before follows. dump c.args.machine.now c.dump.new.machine next said before (λ none telling. c.dump.ensures.unopened ((g.met.M.Machine.lawful c.args.machine.now).telling telling) (λ image. none (image_begins image))) (λ p commands opens. (c.dump.ensures.dump p commands opens).moments) follows;
 }
 
 pub returns-in-Some-Dump-clause-exactly_run : goal.returns-in-Some-Dump-clause-exactly_run
@@ -113,7 +115,7 @@ returns-in-Some-Dump-clause-exactly_dump g c = λ asks told calm.
 
 pub returns-in-Some-Dump-clause-dump_succeeds : goal.returns-in-Some-Dump-clause-dump_succeeds
 returns-in-Some-Dump-clause-dump_succeeds g c = λ p commands asks opens calm.
-    calm_dump c.dump.result calm c.dump.ensures.status c.dump.ensures.disk_fault c.dump.ensures.say_fault (c.dump.ensures.store opens.told (well_formed all_meaning opens.stands))
+    calm_dump c.dump.result calm c.dump.ensures.status c.dump.ensures.disk_fault c.dump.ensures.say_fault (c.dump.ensures.store opens.told (c.standing_files_meet_their_format.ensures.format p _ commands opens.stands))
 
 pub returns-in-Some-Dump-clause-exactly_init : goal.returns-in-Some-Dump-clause-exactly_init
 returns-in-Some-Dump-clause-exactly_init g c = λ p asks. absurd (dump_not_init (map string_bytes c.args.words.now) p (subst (λ (a : Asked). Asks (map string_bytes c.args.words.now) a) c.in-Some-Dump.field-0-is c.in-Some-Dump.ensures.some) asks)
@@ -181,9 +183,6 @@ returns-in-None-clause-run g c = λ p commands asks. absurd (c.in-None.ensures.n
 pub returns-in-None-clause-run_untold : goal.returns-in-None-clause-run_untold
 returns-in-None-clause-run_untold g c = λ asks. absurd (c.in-None.ensures.none _ asks)
 
-pub returns-in-None-clause-run_keeps : goal.returns-in-None-clause-run_keeps
-returns-in-None-clause-run_keeps g c = λ asks. absurd (c.in-None.ensures.none _ asks)
-
 pub returns-in-None-clause-run_input : goal.returns-in-None-clause-run_input
 returns-in-None-clause-run_input g c = λ asks. absurd (c.in-None.ensures.none _ asks)
 
@@ -196,8 +195,8 @@ returns-in-None-clause-dump g c = λ p commands asks. absurd (c.in-None.ensures.
 pub returns-in-None-clause-dump_settled : goal.returns-in-None-clause-dump_settled
 returns-in-None-clause-dump_settled g c = λ asks. absurd (c.in-None.ensures.none _ asks)
 
-pub returns-in-None-clause-dump_keeps : goal.returns-in-None-clause-dump_keeps
-returns-in-None-clause-dump_keeps g c = λ asks. absurd (c.in-None.ensures.none _ asks)
+pub returns-in-None-clause-unopened_keeps : goal.returns-in-None-clause-unopened_keeps
+returns-in-None-clause-unopened_keeps g c = λ asks. ⊎_elim (λ run. absurd (c.in-None.ensures.none _ run)) (λ dump. absurd (c.in-None.ensures.none _ dump)) asks
 
 pub returns-in-None-clause-dump_opened : goal.returns-in-None-clause-dump_opened
 returns-in-None-clause-dump_opened g c = λ asks. absurd (c.in-None.ensures.none _ asks)
@@ -239,3 +238,18 @@ returns-in-None-clause-usage_said g c = λ told is. c.end_with.ensures.all told 
 
 pub returns-in-None-clause-usage_keeps : goal.returns-in-None-clause-usage_keeps
 returns-in-None-clause-usage_keeps g c = λ none. keeps_once (g.M.Machine.disk c.args.machine.now) (g.M.Machine.disk c.end_with.new.machine) c.end_with.ensures.runs
+
+pub returns-in-Some-Run-clause-unopened_keeps : goal.returns-in-Some-Run-clause-unopened_keeps
+returns-in-Some-Run-clause-unopened_keeps g c = λ asks told broken. c.run.ensures.unopened told broken
+
+pub returns-in-Some-Dump-clause-unopened_keeps : goal.returns-in-Some-Dump-clause-unopened_keeps
+returns-in-Some-Dump-clause-unopened_keeps g c = λ asks told broken. c.dump.ensures.unopened told broken
+
+pub returns-in-Some-Init-clause-unopened_keeps : goal.returns-in-Some-Init-clause-unopened_keeps
+returns-in-Some-Init-clause-unopened_keeps g c = λ asks. ⊎_elim
+    (λ run. absurd (run_not_init (map string_bytes c.args.words.now) c.in-Some-Init.params run (subst (λ (a : Asked). Asks (map string_bytes c.args.words.now) a) c.in-Some-Init.field-0-is c.in-Some-Init.ensures.some)))
+    (λ dump. absurd (dump_not_init (map string_bytes c.args.words.now) c.in-Some-Init.params dump (subst (λ (a : Asked). Asks (map string_bytes c.args.words.now) a) c.in-Some-Init.field-0-is c.in-Some-Init.ensures.some)))
+    asks
+
+pub returns-in-Some-Dump-clause-dump_opened : goal.returns-in-Some-Dump-clause-dump_opened
+returns-in-Some-Dump-clause-dump_opened g c = λ asks told is. c.dump.ensures.opened told (subst IsOfStore (sym is) tt)

@@ -4,17 +4,19 @@ use Rattle.disk_model.specs.Moments.{passes_none, passes_twice}
 use Rattle.script_lines.specs.Grammar.{lines_of}
 use Rattle.script_lines.specs.Reading.{IsLine, Takes}
 use Rattle.redo_shell.specs.Run.{Going}
+use Rattle.redo_shell.specs.Stages.{stage_of}
+use Rattle.redo_shell.proofs.HoldLemmas.{in_engine, holds_after}
 use Rattle.redo_shell.proofs.RunLemmas.{opened, goes_to, with_next, goes_on, ends_here, ends_in_line, ends_in_force, completes}
-use Rattle.redo_shell.proofs.ScriptLemmas.{takes_on, next_line, ended, input_end, too_much, line_stops, line_not_long, line_undamaged}
+use Rattle.redo_shell.proofs.ScriptLemmas.{takes_on, next_line, ended, input_end, too_much, force_stops, line_stops, line_not_long, line_undamaged}
 use Rattle.redo_shell.proofs.script.answer_script.Goals as goal
 
 pub returns-in_err-lines-clause-answers : goal.returns-in_err-lines-clause-answers
 returns-in_err-lines-clause-answers g c = λ p commands holds all told.
-    ends_here (opened (lines_of (g.S.Source.left c.args.input.now)) (g.met.M.Machine.lawful c.args.machine.now) holds all)
+    ends_here (opened c.standing_files_meet_their_format.ensures.few (lines_of (g.S.Source.left c.args.input.now)) (g.met.M.Machine.lawful c.args.machine.now) holds all)
 
 pub returns-in_err-lines-clause-some : goal.returns-in_err-lines-clause-some
 returns-in_err-lines-clause-some g c =
-    ([], λ p commands holds all. (ends_here (opened [] (g.met.M.Machine.lawful c.args.machine.now) holds all), IfOk-from_err c.from_residual.result _ c.from_residual.ensures.0))
+    ([], λ p commands holds all. (ends_here (opened c.standing_files_meet_their_format.ensures.few [] (g.met.M.Machine.lawful c.args.machine.now) holds all), IfOk-from_err c.from_residual.result _ c.from_residual.ensures.0))
 
 pub loop-lines-init : goal.loop-lines-init
 loop-lines-init g c = record {
@@ -23,9 +25,9 @@ loop-lines-init g c = record {
   attached = λ attached. attached;
   time = passes_none (g.M.Machine.disk c.args.machine.now);
   going = λ p commands holds all told.
-      subst (λ (l : List ℕ). Going p (g.M.Machine.disk c.args.machine.now) (g.M.Machine.disk c.args.machine.now) c.args.engine.now commands (lines_of (g.S.Source.left c.args.input.now)) (lines_of (l ++ g.S.Source.left c.args.input.now)) false)
-      (sym c.in_ok-lines.ensures.0) (opened (lines_of (g.S.Source.left c.args.input.now)) (g.met.M.Machine.lawful c.args.machine.now) holds all);
-  some = ([], λ p commands holds all. opened [] (g.met.M.Machine.lawful c.args.machine.now) holds all);
+      subst (λ (l : List ℕ). Going p (stage_of c.args.engine.now holds.world) (g.M.Machine.disk c.args.machine.now) (g.M.Machine.disk c.args.machine.now) c.args.engine.now commands (lines_of (g.S.Source.left c.args.input.now)) (lines_of (l ++ g.S.Source.left c.args.input.now)) false)
+      (sym c.in_ok-lines.ensures.0) (opened c.standing_files_meet_their_format.ensures.few (lines_of (g.S.Source.left c.args.input.now)) (g.met.M.Machine.lawful c.args.machine.now) holds all);
+  some = ([], λ p commands holds all. opened c.standing_files_meet_their_format.ensures.few [] (g.met.M.Machine.lawful c.args.machine.now) holds all);
   reads = omega arith;
   takes = λ told. record { bytes = []; front = refl; count = omega (arith, c.in_ok-lines.ensures.1) };
 }
@@ -52,7 +54,7 @@ returns-in_err-refusing-in_default g c = record {
       let l = next_line c.in_ok-next.next _ _ _ (c.in_ok-next.ensures.next (c.loop-lines.invariant.told told)) c.in_default.not-End in
       let here = goes_to l.0 _ so_far l.2 in
       let is_line = subst (λ (s : List ℕ). IsLine c.in_ok-next.next s l.0) (sym c.line.ensures) l.1 in
-      ends_in_line l.0 here c.loop-lines.invariant.time c.in_err-refusing-in_default.was (c.answer_next.ensures.answers p (commands ++ here.acc) l.0 is_line here.holds);
+      ends_in_line c.standing_files_meet_their_format.ensures.few l.0 here c.loop-lines.invariant.time c.in_err-refusing-in_default.was (c.answer_next.ensures.answers p (commands ++ here.acc) l.0 is_line here.holds);
   complete = λ p commands holds all told. IfOk-from_err c.from_residual-in_err-refusing-in_default.result _ c.from_residual-in_err-refusing-in_default.ensures.0;
   some =
       let (script, so_far) = c.loop-lines.invariant.some in
@@ -60,7 +62,7 @@ returns-in_err-refusing-in_default g c = record {
         script ++ line ∷ [],
         λ p commands holds all.
             let here = so_far p commands holds all in (
-              ends_in_line line (with_next line here) c.loop-lines.invariant.time c.in_err-refusing-in_default.was (answering p (commands ++ here.acc) here.holds),
+              ends_in_line c.standing_files_meet_their_format.ensures.few line (with_next line here) c.loop-lines.invariant.time c.in_err-refusing-in_default.was (answering p (commands ++ here.acc) here.holds),
               IfOk-from_err c.from_residual-in_err-refusing-in_default.result _ c.from_residual-in_err-refusing-in_default.ensures.0,
             ),
       );
@@ -69,7 +71,6 @@ returns-in_err-refusing-in_default g c = record {
       (g.S.Source.faults c.args.input.now) (g.S.Source.faults c.next.new.input) c.from_residual-in_err-refusing-in_default.ensures.1 c.in_err-refusing-in_default.was c.loop-lines.invariant.time c.answer_next.ensures.cause;
   undamaged = λ told attached. line_undamaged c.from_residual-in_err-refusing-in_default.result c.answer_next.result c.in_err-refusing-in_default.field-0.0 c.from_residual-in_err-refusing-in_default.ensures.1 c.in_err-refusing-in_default.was
       (c.answer_next.ensures.undamaged (c.loop-lines.invariant.time.files_told.0 told) (c.loop-lines.invariant.attached attached));
-  attached = λ attached. c.answer_next.ensures.attached (c.loop-lines.invariant.attached attached);
   too_long = λ told long. absurd (line_not_long c.from_residual-in_err-refusing-in_default.result c.answer_next.result c.in_err-refusing-in_default.field-0.0 (g.M.Machine.disk c.loop-lines.machine) (g.M.Machine.disk c.answer_next.new.machine)
       c.from_residual-in_err-refusing-in_default.ensures.1 c.in_err-refusing-in_default.was c.answer_next.ensures.cause long);
 }
@@ -78,21 +79,21 @@ pub loop-lines-preserved : goal.loop-lines-preserved
 loop-lines-preserved g c = record {
   told = λ told. c.next.ensures.told (c.loop-lines.invariant.told told);
   unbroken = c.in_ok-refusing-in_default.ensures.unbroken;
-  attached = λ attached. c.answer_next.ensures.attached (c.loop-lines.invariant.attached attached);
+  attached = λ attached. c.in_ok-refusing-in_default.ensures.attached (c.loop-lines.invariant.attached attached);
   time = passes_twice (g.M.Machine.disk c.args.machine.now) (g.M.Machine.disk c.loop-lines.machine) (g.M.Machine.disk c.answer_next.new.machine) (g.met.M.Machine.lawful c.answer_next.new.machine) c.loop-lines.invariant.time c.answer_next.ensures.time;
   going = λ p commands holds all told.
       let so_far = c.loop-lines.invariant.going p commands holds all told in
       let l = next_line c.in_ok-next.next _ _ _ (c.in_ok-next.ensures.next (c.loop-lines.invariant.told told)) c.in_default.not-End in
       let here = goes_to l.0 _ so_far l.2 in
       let is_line = subst (λ (s : List ℕ). IsLine c.in_ok-next.next s l.0) (sym c.line.ensures) l.1 in
-      goes_on l.0 here c.loop-lines.invariant.time c.in_ok-refusing-in_default.was (c.answer_next.ensures.answers p (commands ++ here.acc) l.0 is_line here.holds);
+      goes_on c.standing_files_meet_their_format.ensures.few l.0 here c.loop-lines.invariant.time c.in_ok-refusing-in_default.was (c.answer_next.ensures.answers p (commands ++ here.acc) l.0 is_line here.holds);
   some =
       let (script, so_far) = c.loop-lines.invariant.some in
       let (line, answering) = c.answer_next.ensures.some c.in_default.not-End in (
         script ++ line ∷ [],
         λ p commands holds all.
             let here = so_far p commands holds all in
-            goes_on line (with_next line here) c.loop-lines.invariant.time c.in_ok-refusing-in_default.was (answering p (commands ++ here.acc) here.holds),
+            goes_on c.standing_files_meet_their_format.ensures.few line (with_next line here) c.loop-lines.invariant.time c.in_ok-refusing-in_default.was (answering p (commands ++ here.acc) here.holds),
       );
   reads = omega (arith, c.loop-lines.invariant.reads, c.next.ensures.later);
   takes = λ told. takes_on (c.loop-lines.invariant.takes told) (c.next.ensures.takes (c.loop-lines.invariant.told told));
@@ -101,7 +102,7 @@ loop-lines-preserved g c = record {
 pub returns-in_err-force-clause-answers : goal.returns-in_err-force-clause-answers
 returns-in_err-force-clause-answers g c = λ p commands holds all told.
     let so_far = c.loop-lines.invariant.going p commands holds all told in
-    ends_in_force so_far c.loop-lines.invariant.time (c.force.ensures.quiet so_far.holds.told) (c.force.ensures.moments p (commands ++ so_far.acc) so_far.holds)
+    ends_in_force c.standing_files_meet_their_format.ensures.few so_far c.loop-lines.invariant.time (c.force.ensures.call.quiet so_far.holds.shows.shows.told) (λ telling. c.force.ensures.commands.images telling p (commands ++ so_far.acc) (in_engine so_far.holds))
 
 pub returns-in_err-force-clause-some : goal.returns-in_err-force-clause-some
 returns-in_err-force-clause-some g c =
@@ -109,7 +110,7 @@ returns-in_err-force-clause-some g c =
       script,
       λ p commands holds all.
           let here = so_far p commands holds all in (
-            ends_in_force here c.loop-lines.invariant.time (c.force.ensures.quiet here.holds.told) (c.force.ensures.moments p (commands ++ here.acc) here.holds),
+            ends_in_force c.standing_files_meet_their_format.ensures.few here c.loop-lines.invariant.time (c.force.ensures.call.quiet here.holds.shows.shows.told) (λ telling. c.force.ensures.commands.images telling p (commands ++ here.acc) (in_engine here.holds)),
             IfOk-from_err c.from_residual-in_err-force.result _ c.from_residual-in_err-force.ensures.0,
           ),
     )
@@ -120,23 +121,25 @@ returns-clause-some g c =
       script,
       λ p commands holds all.
           let here = so_far p commands holds all in
-          let forced = c.in_ok-force.ensures.ok p (commands ++ here.acc) here.holds in (
-            ends_in_force here c.loop-lines.invariant.time (c.force.ensures.quiet here.holds.told) (c.force.ensures.moments p (commands ++ here.acc) here.holds),
-            completes here refl (c.force.ensures.quiet here.holds.told) forced.1 forced.2.holds c.in_ok-force.ensures.emptied,
+          let forced = c.in_ok-force.ensures.forced p (commands ++ here.acc) (in_engine here.holds) in
+          let after = holds_after (c.in_ok-force.ensures.commands.holds p (commands ++ here.acc) (in_engine here.holds)) (c.engine_stands.ensures p (commands ++ here.acc)) in (
+            ends_in_force c.standing_files_meet_their_format.ensures.few here c.loop-lines.invariant.time (c.force.ensures.call.quiet here.holds.shows.shows.told) (λ telling. c.force.ensures.commands.images telling p (commands ++ here.acc) (in_engine here.holds)),
+            completes here refl (c.force.ensures.call.quiet here.holds.shows.shows.told) forced.1 after c.in_ok-force.ensures.empty (c.in_ok-force.ensures.takes.follows p here.holds.world here.holds.shows.shows).1,
           ),
     )
 
 pub returns-clause-answers : goal.returns-clause-answers
 returns-clause-answers g c = λ p commands holds all told.
     let so_far = c.loop-lines.invariant.going p commands holds all told in
-    ends_in_force so_far c.loop-lines.invariant.time (c.force.ensures.quiet so_far.holds.told) (c.force.ensures.moments p (commands ++ so_far.acc) so_far.holds)
+    ends_in_force c.standing_files_meet_their_format.ensures.few so_far c.loop-lines.invariant.time (c.force.ensures.call.quiet so_far.holds.shows.shows.told) (λ telling. c.force.ensures.commands.images telling p (commands ++ so_far.acc) (in_engine so_far.holds))
 
 pub returns-clause-complete : goal.returns-clause-complete
 returns-clause-complete g c = λ p commands holds all told.
     let so_far = c.loop-lines.invariant.going p commands holds all told in
     let over = ended c.in_ok-next.next _ _ _ (c.in_ok-next.ensures.next (c.loop-lines.invariant.told told)) c.in-End.is in
-    let forced = c.in_ok-force.ensures.ok p (commands ++ so_far.acc) so_far.holds in
-    completes so_far over (c.force.ensures.quiet so_far.holds.told) forced.1 forced.2.holds c.in_ok-force.ensures.emptied
+    let forced = c.in_ok-force.ensures.forced p (commands ++ so_far.acc) (in_engine so_far.holds) in
+    let after = holds_after (c.in_ok-force.ensures.commands.holds p (commands ++ so_far.acc) (in_engine so_far.holds)) (c.engine_stands.ensures p (commands ++ so_far.acc)) in
+    completes so_far over (c.force.ensures.call.quiet so_far.holds.shows.shows.told) forced.1 after c.in_ok-force.ensures.empty (c.in_ok-force.ensures.takes.follows p so_far.holds.world so_far.holds.shows.shows).1
 
 pub returns-clause-input : goal.returns-clause-input
 returns-clause-input g c = λ told.
@@ -144,8 +147,7 @@ returns-clause-input g c = λ told.
     input_end c.in_ok-next.next _ _ c.next.new.self.ahead (g.S.Source.left c.args.input.now) (g.S.Source.left c.next.new.input) c.next.new.self.taken (c.in_ok-next.ensures.next here) c.in-End.is
     (takes_on (c.loop-lines.invariant.takes told) (c.next.ensures.takes here)) (c.next.ensures.before (c.in_ok-next.was ∙ ap (λ n. Ok n) c.in-End.is))
 
-pub returns-in_err-force-clause-attached : goal.returns-in_err-force-clause-attached
-returns-in_err-force-clause-attached g c = λ attached. c.force.ensures.attached (c.loop-lines.invariant.attached attached)
-
-pub returns-clause-attached : goal.returns-clause-attached
-returns-clause-attached g c = λ attached. c.force.ensures.attached (c.loop-lines.invariant.attached attached)
+pub returns-in_err-force-clause-cause : goal.returns-in_err-force-clause-cause
+returns-in_err-force-clause-cause g c =
+    let fault = c.in_err-force.ensures.call.fault tt in
+    force_stops c.from_residual-in_err-force.result (g.M.Machine.disk c.args.machine.now) (g.M.Machine.disk c.loop-lines.machine) (g.M.Machine.disk c.force.new.machine) (g.S.Source.faults c.args.input.now) (g.S.Source.faults c.next.new.input) c.from_residual-in_err-force.ensures.1 c.loop-lines.invariant.time fault

@@ -1,5 +1,5 @@
 use Rattle.std.proofs.Common.{◌∙◌}
-use Rattle.script_lines.specs.declared.line.Line.TheVariants.{Copy, Append, Cut, Sort, Swap, Exec, AppRead, AppWrite, Get, Force, Skip}
+use Rattle.script_lines.specs.declared.line.Line.TheVariants.{Copy, Append, Cut, Sort, Swap, Exec, AppRead, AppWrite, Get, Force, Install, Drain, Checkpoint, Trim, Stat, Skip}
 use Rattle.redo_shell.proofs.LineLemmas.{as_form, put_parsed}
 use Rattle.redo_shell.proofs.work.Work.of_line.Goals as goal
 
@@ -37,6 +37,21 @@ returns-in-Get c = as_form c.args.line.now (Get c.in-Get.object) c.in-Ok.ensures
 
 pub returns-in-Force : goal.returns-in-Force
 returns-in-Force c = as_form c.args.line.now Force c.in-Ok.ensures.ok c.in-Force.is
+
+pub returns-in-Stat : goal.returns-in-Stat
+returns-in-Stat c = as_form c.args.line.now Stat c.in-Ok.ensures.ok c.in-Stat.is
+
+pub returns-in-Trim : goal.returns-in-Trim
+returns-in-Trim c = as_form c.args.line.now Trim c.in-Ok.ensures.ok c.in-Trim.is
+
+pub returns-in-Checkpoint : goal.returns-in-Checkpoint
+returns-in-Checkpoint c = as_form c.args.line.now Checkpoint c.in-Ok.ensures.ok c.in-Checkpoint.is
+
+pub returns-in-Drain : goal.returns-in-Drain
+returns-in-Drain c = as_form c.args.line.now Drain c.in-Ok.ensures.ok c.in-Drain.is
+
+pub returns-in-Install : goal.returns-in-Install
+returns-in-Install c = as_form c.args.line.now Install c.in-Ok.ensures.ok c.in-Install.is
 
 pub returns-in-Skip : goal.returns-in-Skip
 returns-in-Skip c = as_form c.args.line.now Skip c.in-Ok.ensures.ok c.in-Skip.is

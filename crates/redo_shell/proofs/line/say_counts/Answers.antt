@@ -1,0 +1,14 @@
+use Rattle.redo_shell.proofs.DoneLemmas.{found_of, done_holds}
+use Rattle.redo_shell.proofs.HoldLemmas.{attached_said, always}
+use Rattle.redo_shell.proofs.RunLemmas.{said_at_once}
+use Rattle.redo_shell.proofs.line.say_counts.Goals as goal
+
+pub returns-clause-answers : goal.returns-clause-answers
+returns-clause-answers g c = λ p commands line holds asks.
+    let done = c.counts_answer-answer.ensures p commands line holds asks in
+    let found = found_of done (c.engine_stands.ensures p _ (done_holds done)) (λ stop is. c.stop_is_said.ensures p done.world stop done.shows is) in
+    said_at_once c.say_answer.result (g.met.M.Machine.lawful c.args.machine.now) holds found c.say_answer.ensures.runs c.say_answer.ensures.all c.say_answer.ensures.kind
+
+pub returns-clause-attached : goal.returns-clause-attached
+returns-clause-attached g c = λ attached. always c.say_answer.result
+    (attached_said (g.M.Machine.disk c.args.machine.now) (g.M.Machine.disk c.say_answer.new.machine) c.args.engine.now c.say_answer.ensures.runs attached)

@@ -1,0 +1,94 @@
+-- What the answers of a run go by: the world that engine and files show, and the length of the log.
+use Rattle.std.specs.Prelude.{◌≡◌, ◌⊎◌, ◌+◌, ℕ, List, [], ◌∷◌, length}
+use Rattle.disk_model.specs.Disk.{Disk}
+use Rattle.oper_core.specs.Meaning.{Meaning}
+use Rattle.formats.specs.declared.params.Params.{Params}
+use Rattle.explain_core.specs.History.{commands_of}
+use Rattle.explain_core.specs.Turns.{count_below, dirty_in}
+use Rattle.explain_core.specs.World.{World, run, end_of}
+use Rattle.cache_manager.specs.Courses.{Course, Stop, course, logged_in, force_course, install_course, drain_course}
+use Rattle.cache_manager.specs.Courses.Stop.{Through, Full, At_end, Worn}
+use Rattle.op_codec.specs.AllOps.{all_meaning}
+use Rattle.script_lines.specs.Grammar.{Request, install, drain, checkpoint, trim, AsksFor}
+use Rattle.script_lines.specs.Replies.{Reply, ok, forced, full, end, stat}
+use Rattle.script_lines.specs.declared.answer.Counts.{Counts}
+use Rattle.execution.specs.Courses.{append_course}
+use Rattle.checkpointing.specs.Courses.{checkpoint_course, trim_course}
+use Rattle.restart.specs.Courses.{restart_course}
+use Rattle.restart.specs.Opening.{OpensOn}
+use Rattle.store_engine.specs.Engine.{EngineView, is_name, used_in}
+use Rattle.redo_shell.specs.Store.{Command, meaning_in}
+use Rattle.redo_shell.specs.Replies.{AsksCommand, IsUpkeep}
+
+-- a world that engine and files show, the length of the log, what waits for a force counted, and how many identity writes
+-- were logged since the restart
+pub record Stage : Type 0 where
+  pub world : World Command
+  pub used : ℕ
+  pub identities : ℕ
+
+-- that of an engine which shows the world
+abbrev pub stage_of : EngineView → World Command → Stage
+stage_of engine w = record { world = w; used = used_in engine; identities = engine.identities }
+
+-- the stage after a course
+abbrev pub stage_after : Params → Stage → Course Command → Stage
+stage_after p s c = record { world = run (meaning_in p) s.world c.steps; used = c.used; identities = s.identities + length (logged_in c.steps) }
+
+-- what is done for a request that adds no command, in a world with a log of a length; this is the epoch of the log in force
+abbrev pub upkeep_course : ℕ → Request → Meaning Command → World Command → ℕ → Course Command
+upkeep_course epoch install m w used = install_course m w used
+upkeep_course epoch drain m w used = drain_course m w used
+upkeep_course epoch checkpoint m w used = checkpoint_course m w used
+upkeep_course epoch trim m w used = trim_course m epoch w used
+upkeep_course epoch request m w used = course [] used Through
+
+-- The line has the engine take this course: that of a command which nothing refuses, or that of an install, a drain, a
+-- checkpoint or a trim.
+abbrev pub HasCourse : Params → Stage → List ℕ → Course Command → Type 0
+HasCourse p s line c = ((op : Command) × AsksCommand line op × (c ≡ append_course (meaning_in p) p.limit op s.world s.used))
+    ⊎ ((request : Request) × (epoch : ℕ) × IsUpkeep request × AsksFor line request × (c ≡ upkeep_course epoch request (meaning_in p) s.world s.used))
+
+-- the course ends so, and leads from the old stage to the new one
+abbrev pub Ends : Params → Stage → List ℕ → Stop → Stage → Type 0
+Ends p old line stop new = (c : Course Command) × HasCourse p old line c × (c.stop ≡ stop) × (new ≡ stage_after p old c)
+
+-- the counts that are told of a stage, beside the numbers of commands
+pub record IsCounted (p : Params) (s : Stage) (counts : Counts) : Type 0 where
+  pub nodes : counts.nodes ≡ count_below (end_of s.world) (is_name all_meaning p s.world)
+  pub dirty : counts.dirty ≡ dirty_in (meaning_in p) s.world
+  pub uninstalled : counts.uninstalled ≡ count_below (end_of s.world) s.world.graph
+  pub used : counts.used ≡ s.used
+  pub identities : counts.identities ≡ s.identities
+
+-- What an answer says of the old stage, and the new one: `ok` comes where nothing stops the course, `full` where its next
+-- record or log has no room, with these numbers, and `end` where no number is left for a record, or no epoch for a log;
+-- `forced` comes after a force; `stat` counts. No other answer changes anything.
+abbrev pub GoesBy : Params → Stage → List ℕ → Reply → Stage → Type 0
+GoesBy p old line ok new = Ends p old line Through new
+GoesBy p old line (full used need limit) new = Ends p old line (Full used need limit) new
+GoesBy p old line (end number) new = Ends p old line (At_end number) new ⊎ Ends p old line (Worn number) new
+GoesBy p old line (forced n) new = new ≡ stage_after p old (force_course (meaning_in p) old.world old.used)
+GoesBy p old line (stat counts) new = IsCounted p old counts × (new ≡ old)
+GoesBy p old line reply new = new ≡ old
+
+-- the answers to all these lines, one after the other, from the first stage to the last
+abbrev pub AllGoBy : Params → Stage → List (List ℕ) → List Reply → Stage → Type 0
+AllGoBy p first [] [] last = last ≡ first
+AllGoBy p first (line ∷ lines) (reply ∷ replies) last = (mid : Stage) × GoesBy p first line reply mid × AllGoBy p mid lines replies last
+AllGoBy p first [] (reply ∷ replies) last = ⊥
+AllGoBy p first (line ∷ lines) [] last = ⊥
+
+-- how many objects may be dirty in a redo before it installs
+abbrev pub redo_dirty : ℕ
+redo_dirty = 64
+
+-- The first stage of a run: that of a restart, from a world that the files show, with these commands.
+pub record IsFirst (p : Params) (commands : List Command) (old : Disk) (first : Stage) : Type 0 where
+  pub used : ℕ
+  pub world : World Command
+  pub found : OpensOn (meaning_in p) p old used world
+  pub commands_are : commands_of world.history ≡ commands
+  pub world_is : first.world ≡ run (meaning_in p) world (restart_course (meaning_in p) redo_dirty world used).steps
+  pub used_is : first.used ≡ (restart_course (meaning_in p) redo_dirty world used).used
+  pub none_logged : first.identities ≡ 0
