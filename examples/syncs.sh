@@ -8,8 +8,22 @@ syncs() {
   echo "$*: $(grep -c "sync(" calls) syncs"
 }
 
+# the same for a run on these lines
+lines() {
+  printf '%s\n' "$@" | syncs run | sed "s/^run/run, $*/"
+}
+
 syncs init 8 64 65536
 syncs init 8 64 65536
 printf 'put 0 aa\n' | syncs run
 syncs run </dev/null
 syncs dump
+
+# A run without lines makes 8: 6 at its start, and 2 for the check of its restart. A force makes 2, a check 2, a flush 2, or
+# 3 where the slot is open and its gate is closed first, a trim 2, or 3 where the gate of the other log is open.
+lines install
+lines 'put 0 bb' drain
+lines 'put 0 cc' drain
+lines checkpoint
+lines trim
+lines trim

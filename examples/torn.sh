@@ -4,8 +4,8 @@ redo init 2 16 4128
 echo "put 0 aa" | redo run
 echo "put 0 bb" | redo run
 
-# The second block begins at byte 57, with its gate. Here the gate is closed again, and the block's bytes stay behind it.
-printf '\0' | dd of=log_a.rdo bs=1 seek=57 conv=notrunc 2>/dev/null
+# The block of the second put begins at byte 105, with its gate. Here the gate is closed again, and the block's bytes stay behind it.
+printf '\0' | dd of=log_a.rdo bs=1 seek=105 conv=notrunc 2>/dev/null
 redo dump
 echo "put 1 cc" | redo run
 redo dump
