@@ -13,6 +13,7 @@ pub mod KeptLog
 pub mod ThinLaws
 pub mod Stable
 pub mod StableLaws
+pub mod TurnBound
 pub mod Backup
 pub mod Exact
 pub mod ByteOps

@@ -20,7 +20,8 @@ pub use flush_order::{
 };
 pub use recovery::{
     crash_takes_the_group, forced_splits_no_group, history_gives_the_map, live_cache_is_the_map,
-    one_state, redo_gives_the_map, stable_parts_stand, turns_keep, wider_bounds_keep_stable_parts,
+    one_state, redo_gives_the_map, stable_parts_stand, turns_end, turns_keep,
+    wider_bounds_keep_stable_parts,
 };
 pub use steps::{
     append_keeps, begin_keeps, block_gate_keeps, check_keeps, crash_keeps, end_keeps,

@@ -1,4 +1,4 @@
-ghost use Rattle.std.specs.Prelude.{ℕ, ◌≡◌, ◌+◌, ◌-◌, ◌<◌, ◌≤◌, Bool, Some, IfSome, List, [], length, take};
+ghost use Rattle.std.specs.Prelude.{ℕ, ◌≡◌, ◌+◌, ◌*◌, ◌-◌, ◌<◌, ◌≤◌, Bool, false, Some, IfSome, List, [], length, take};
 ghost use Rattle.std.specs.List.{AllByRecursion};
 ghost use Rattle.oper_core.specs.Meaning.{IsSmall, AreWithin, state_after};
 ghost use Rattle.oper_core.specs.declared.bounds.Bounds.{Bounds};
@@ -7,7 +7,7 @@ ghost use Rattle.explain_core.specs.World.{World, Step, step, run, AreAllowed, I
 ghost use Rattle.explain_core.specs.World.Step.{Crash};
 ghost use Rattle.explain_core.specs.Sound.{IsSound};
 ghost use Rattle.explain_core.specs.Group.{IsUnsplit, groups_of};
-ghost use Rattle.explain_core.specs.Turns.{turns};
+ghost use Rattle.explain_core.specs.Turns.{turn, turns};
 ghost use Rattle.explain_core.specs.KeptLog.{IsLogKept};
 ghost use Rattle.explain_core.specs.Stable.{Stable, IsStableOf, world_of, stable_of};
 
@@ -51,6 +51,13 @@ pub fn turns_keep<O: Oper>()
         IsAllStable w → IsLive (run (O.meaning b) w (turns (O.meaning b) limit n w)) →
         ((run (O.meaning b) w (turns (O.meaning b) limit n w)).cache x).value
         ≡ state_after (O.meaning b) (commands_of w.history) x }
+{}
+
+/// From a world whose graph is empty, twice as many turns as members are left to replay are a whole redo: behind them
+/// nothing is left to do.
+pub fn turns_end<O: Oper>()
+    ensures { (b : Bounds) (w : World O) (limit : ℕ) → ((n : ℕ) → w.graph n ≡ false) →
+        turn (O.meaning b) limit (run (O.meaning b) w (turns (O.meaning b) limit (2 * (end_of w - w.next)) w)) ≡ [] }
 {}
 
 /// What is stable in a sound world is that of its stable history; a crash leaves the world that these parts make; and

@@ -9,7 +9,7 @@ use Rattle.oper_core.specs.Meaning.{Meaning, state_after}
 use Rattle.formats.specs.declared.params.Params.{Params}
 use Rattle.explain_core.specs.History.{Member, commands_of}
 use Rattle.explain_core.specs.KeptLog.{turns_kept}
-use Rattle.redo_pass.proofs.TurnBound.{turns_stay, redo_over}
+use Rattle.explain_core.specs.TurnBound.{turns_stay, redo_over}
 use Rattle.explain_core.specs.TurnLaws.{turns_join}
 use Rattle.install_order.specs.Computed.{least_below, some_below}
 use Rattle.explain_core.specs.Turns.{has_work, must_install, thin_name, thin_steps, turn, turns}

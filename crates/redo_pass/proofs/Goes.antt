@@ -9,7 +9,7 @@ use Rattle.formats.specs.declared.params.Params.{Params}
 use Rattle.formats.specs.declared.record.Record.{Record}
 use Rattle.explain_core.specs.History.{Member, numbered}
 use Rattle.explain_core.specs.KeptLog.{turns_kept}
-use Rattle.redo_pass.proofs.TurnBound.{redo_over}
+use Rattle.explain_core.specs.TurnBound.{redo_over}
 use Rattle.explain_core.specs.TurnLaws.{turns_join, run_join, run_replay}
 use Rattle.explain_core.specs.Turns.{must_install, turns}
 use Rattle.explain_core.specs.World.{World, Step, step, run, end_of}

@@ -1,4 +1,3 @@
-mod TurnBound
 mod Plans
 mod Members
 mod Due
