@@ -82,10 +82,3 @@ pub record IsRecordLog {O : Type 0} (m : Meaning O) (header : Header) (groups : 
 pub record HoldsRecordLog {O : Type 0} (m : Meaning O) (active : FileNo) (header : Header) (groups : List (List (Record O))) (files : Files) : Type 0 where
   pub in_force : IsInForce active header.epoch files
   pub log : IsRecordLog m header groups (files active)
-
--- each record is a command
-abbrev pub AreCommands : {O : Type 0} → List (Record O) → Type 0
-AreCommands [] = ⊤
-AreCommands (Command number op ∷ records) = AreCommands records
-AreCommands (Identity number x value ∷ records) = ⊥
-AreCommands (Check table ∷ records) = ⊥
