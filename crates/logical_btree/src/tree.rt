@@ -9,6 +9,7 @@ use btree_ops::{Node, Short};
 use std::marker::Model;
 
 /// A range of objects for an ordered map. Its first object is the root.
+#[derive(Drop)]
 pub struct Tree {
     lo: u32,
     hi: u32,
