@@ -7,6 +7,7 @@ use Rattle.disk_model.specs.Disk.{Disk, Runs, In, Any, Same}
 use Rattle.disk_model.specs.declared.machine.FileNo.TheVariants.{Objects}
 use Rattle.oper_core.specs.Cell.{Cell}
 use Rattle.oper_core.specs.Meaning.{Meaning}
+use Rattle.oper_core.specs.declared.bounds.Bounds.{Bounds}
 use Rattle.oper_core.specs.State.{is_among}
 use Rattle.formats.specs.Objects.{cell_of}
 use Rattle.formats.specs.declared.params.Params.{Params}
@@ -19,9 +20,10 @@ use Rattle.dirty_cache.specs.declared.entry.Entry.{Entry as Pair}
 use Rattle.explain_core.specs.History.Member.{Identity}
 use Rattle.cache_manager.specs.Flushed.{AreEarly, IsFlushed}
 use Rattle.cache_manager.specs.Forced.{IsForced}
-use Rattle.cache_manager.specs.Kept.{AreKept, AreNumbered, IsLonger, StopsAt}
+use Rattle.cache_manager.specs.Kept.{AreKept, AreNumbered, HasLog, IsLonger, KeepsLog, StopsOnly}
+use Rattle.cache_manager.specs.KeptLaws.{appended_log, roomed_log}
 use Rattle.cache_manager.specs.Laid.{Laid, IsLaidOn}
-use Rattle.cache_manager.specs.Logged.{IsRoomed, LacksRecordPlace}
+use Rattle.cache_manager.specs.Logged.{IsRoomed, LacksRecordPlace, log_limit}
 use Rattle.cache_manager.specs.Parts.{AreInUse, IsAppended, Parts, Store, entry_of}
 use Rattle.cache_manager.specs.Taking.{ArePartsInUse, ending_of}
 use Rattle.cache_manager.proofs.Written.{same_object, written_dirty}
@@ -29,10 +31,10 @@ use Rattle.cache_manager.specs.declared.install_err.InstallErr.{InstallErr}
 use Rattle.cache_manager.specs.declared.install_err.InstallErr.TheVariants.{LogFull, LsnEnd, DiskFault, Memory}
 
 -- one call behind the other
-pub kept_here : (d : Disk) (it : Parts) → ArePartsInUse it → AreKept d d it it
+pub kept_here : {O : Type 0} {meaning : Bounds → Meaning O} (d : Disk) (it : Parts) → ArePartsInUse it → AreKept meaning d d it it
 kept_here d it used = record { in_use = used; attached = λ at. at }
 
-pub kept_twice : (old mid new : Disk) (before here after : Parts) → AreKept old mid before here → AreKept mid new here after → AreKept old new before after
+pub kept_twice : {O : Type 0} {meaning : Bounds → Meaning O} (old mid new : Disk) (before here after : Parts) → AreKept meaning old mid before here → AreKept meaning mid new here after → AreKept meaning old new before after
 kept_twice old mid new before here after first second = record { in_use = second.in_use; attached = λ at. second.attached (first.attached at) }
 
 pub numbered_here : (it : Parts) → AreNumbered it it
@@ -65,7 +67,7 @@ handed_on {T} {U} P r e is one =
     ⊎_elim (λ fault. let same : q.0 ≡ DiskFault = q.2 ∙ ap (err_or {T = U} e) fault in inl (q.1 ∙ (λ i. Err (same i)))) (λ kept. inr kept) one
 
 -- what is kept by a call before this one is kept by both
-pub kept_on : {F : Type 0} (old mid new : Disk) (before here after : Parts) → AreKept old mid before here → F ⊎ AreKept mid new here after → F ⊎ AreKept old new before after
+pub kept_on : {F : Type 0} {O : Type 0} {meaning : Bounds → Meaning O} (old mid new : Disk) (before here after : Parts) → AreKept meaning old mid before here → F ⊎ AreKept meaning mid new here after → F ⊎ AreKept meaning old new before after
 kept_on old mid new before here after first second = ⊎_elim (λ fault. inl fault) (λ kept. inr (kept_twice old mid new before here after first kept)) second
 
 -- a call that is done kept what it was to keep
@@ -73,8 +75,9 @@ pub no_fault : {T : Type 0} (P : Type 0) (x : T) → IsErrOf {T = T} {E = Instal
 no_fault {T} P x (inl fault) = let h : ◌≡◌ {A = Result T InstallErr} (Ok x) (Err DiskFault) = fault in cc
 no_fault {T} P x (inr kept) = kept
 
-pub kept_done : {T : Type 0} {x : T} (old mid new : Disk) (before here after : Parts) → AreKept old mid before here → IsErrOf {T = T} {E = InstallErr} (Ok x) DiskFault ⊎ AreKept mid new here after → AreKept old new before after
-kept_done {T} {x} old mid new before here after first second = kept_twice old mid new before here after first (no_fault (AreKept mid new here after) x second)
+pub kept_done : {T : Type 0} {x : T} {O : Type 0} {meaning : Bounds → Meaning O} (old mid new : Disk) (before here after : Parts) → AreKept meaning old mid before here
+    → IsErrOf {T = T} {E = InstallErr} (Ok x) DiskFault ⊎ AreKept meaning mid new here after → AreKept meaning old new before after
+kept_done {T} {x} {O} {meaning} old mid new before here after first second = kept_twice old mid new before here after first (no_fault (AreKept meaning mid new here after) x second)
 
 -- a force, or none
 pub same_log : (before after : RecordLogView) → (after ≡ before) ⊎ IsForced before after → (after.bounds ≡ before.bounds) × (after.next ≡ before.next) × (after.log.active ≡ before.log.active)
@@ -85,17 +88,17 @@ same_log before after is = ⊎_elim
 abbrev with_log : RecordLogView → Store → Parts
 with_log log it = record { log = log; store = it }
 
-pub log_kept : (old new : Disk) (log later : RecordLogView) (it : Store) → Runs (In log.log.active Any) Same old new → (later ≡ log) ⊎ IsForced log later → ArePartsInUse (with_log log it)
-    → AreKept old new (with_log log it) (with_log later it)
-log_kept old new log later it runs is used =
+pub log_kept : {O : Type 0} (meaning : Bounds → Meaning O) (old new : Disk) (log later : RecordLogView) (it : Store) → Runs (In log.log.active Any) Same old new → (later ≡ log) ⊎ IsForced log later
+    → KeepsLog meaning old new log later → ArePartsInUse (with_log log it) → AreKept meaning old new (with_log log it) (with_log later it)
+log_kept meaning old new log later it runs is keeps used =
     let same = same_log log later is in
     record {
       in_use = record { bounds = same.0 ∙ used.bounds; store = subst (λ (n : ℕ). AreInUse it.objects.slots.params n it) (sym same.1) used.store; early = subst (λ (n : ℕ). AreEarly n it.objects) (sym same.1) used.early };
       attached = λ at told.
           let before = runs.time.files_told.1 told in
           let was = at before in (
-            subst (λ (f : List ℕ). IsLaidOn it.objects f) (sym ((runs.reads before).others Objects (λ e. was.1 (sym e)))) was.0,
-            λ e. was.1 (sym same.2 ∙ e),
+            subst (λ (f : List ℕ). IsLaidOn it.objects f) (sym ((runs.reads before).others Objects (λ e. was.1.keeps.in_force.a_log (sym e)))) was.0,
+            keeps before was.1,
           );
     }
 
@@ -107,11 +110,12 @@ growth_low : (pending : List ℕ) (n : ℕ) → growth_of pending n ≤ n + 5
 growth_low [] n = omega arith
 growth_low (byte ∷ bytes) n = omega arith
 
-pub refused_stops : (log later : RecordLogView) (n : ℕ) (e : InstallErr) → LacksRecordPlace log n e → IsForced log later → log.next ≤ 2 ^ 62 → StopsAt later (ending_of {T = Unit {0}} (Err e))
+pub refused_stops : (log later : RecordLogView) (n : ℕ) (e : InstallErr) → LacksRecordPlace log n e → IsForced log later → log.next ≤ 2 ^ 62 → StopsOnly log_limit later (ending_of {T = Unit {0}} (Err e))
 refused_stops log later n (LogFull used need limit) lacks forced low = (
   lacks.1 ∙ sym (ap (λ (r : RecordLogView). used_of r.log) forced),
   ap (λ (r : RecordLogView). r.log.pending) forced,
   omega (arith, lacks.0, lacks.1, lacks.2, lacks.3, growth_low log.log.pending n),
+  lacks.3,
 )
 refused_stops log later n (LsnEnd number) lacks forced low =
     (lacks.2 ∙ sym (ap (λ (r : RecordLogView). r.next) forced), ap (λ (r : RecordLogView). r.log.pending) forced, omega (arith, lacks.1, lacks.2, low))
@@ -119,9 +123,14 @@ refused_stops log later n DiskFault lacks forced low = absurd lacks
 refused_stops log later n Memory lacks forced low = absurd lacks
 
 -- room alone
-pub roomed_kept : (d : Disk) (before after : Parts) → IsRoomed before after → ArePartsInUse before → AreKept d d before after
-roomed_kept d before after same used =
-    subst (λ (k : Parts). AreKept d d before k) (sym same) (record { in_use = record { bounds = used.bounds; store = used.store; early = used.early }; attached = λ at. at })
+pub roomed_kept : {O : Type 0} (meaning : Bounds → Meaning O) (d : Disk) (before after : Parts) → IsRoomed before after → ArePartsInUse before → AreKept meaning d d before after
+roomed_kept meaning d before after same used =
+    let log = ap (λ (k : Parts). k.log) same in
+    let roomed : RecordLogView = record before.log { log = record before.log.log { room = after.log.log.room } } in
+    subst (λ (k : Parts). AreKept meaning d d before k) (sym same) (record {
+      in_use = record { bounds = used.bounds; store = used.store; early = used.early };
+      attached = λ at told. let was = at told in (was.0, roomed_log meaning d before.log roomed refl told was.1);
+    })
 
 pub roomed_numbered : (before after : Parts) → IsRoomed before after → AreNumbered before after
 roomed_numbered before after same = subst (λ (k : Parts). AreNumbered before k) (sym same) (record { params = refl; rising = omega arith })
@@ -140,10 +149,16 @@ module _ {O : Type 0} (m : Meaning O) (x : ℕ) (pair : Pair) (before after : Pa
     ];
   }
 
-  pub appended_kept : (d : Disk) → ArePartsInUse after → AreKept d d before after
-  appended_kept d used = record {
+  pub appended_kept : (meaning : Bounds → Meaning O) → meaning before.log.bounds ≡ m → x < m.objects → length pair.bytes ≤ m.cap → before.log.next < 2 ^ 62 → (d : Disk) → ArePartsInUse after
+      → AreKept meaning d d before after
+  appended_kept meaning is below short low d used = record {
     in_use = used;
-    attached = λ at told. let was = at told in (appended_laid (d.reads Objects) was.0, λ e. was.1 (sym (ap (λ (r : RecordLogView). r.log.active) done.log) ∙ e));
+    attached = λ at told.
+        let was = at told in
+        let log = appended_log m d before after (Identity x pair.bytes) (pair.bytes ∷ []) done (omega (arith, low), below, short) low (subst (λ (n : Meaning O). HasLog n d before.log) is was.1) in (
+          appended_laid (d.reads Objects) was.0,
+          subst (λ (n : Meaning O). HasLog n d after.log) (sym (ap (λ (r : RecordLogView). meaning r.bounds) done.log ∙ is)) log,
+        );
   }
 
   pub appended_numbered : AreNumbered before after

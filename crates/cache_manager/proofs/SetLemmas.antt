@@ -1,17 +1,13 @@
 -- Values that stand beside objects are set from the back, one after the other.
-use Rattle.std.proofs.Common.{◌≡◌, ℕ, zero, suc, ◌<◌, ◌≤◌, ◌+◌, ◌==◌, ◌||◌, ◌&&◌, nat_eq, nat_lt, Bool, true, false, if◌then◌else◌, List, [], ◌∷◌, ◌++◌, Option, Some, length, take, drop, slice_index, get_or, drop-cons, subst, refl, sym, ap, ◌∙◌, arith, length-append, length-take}
+use Rattle.std.proofs.Common.{◌≡◌, ℕ, suc, ◌<◌, ◌≤◌, ◌+◌, ◌==◌, ◌||◌, ◌&&◌, Bool, true, false, if◌then◌else◌, List, [], ◌∷◌, ◌++◌, Option, Some, length, take, drop, slice_index, get_or, drop-cons, subst, refl, sym, ap, ◌∙◌, arith, length-append, length-take}
 use Rattle.std.specs.Prelude.{All}
-use Rattle.std.specs.List.{IsDistinct, AllByRecursion}
 use Rattle.std.proofs.Math.Seq.{get_or-append_seam}
 use Rattle.std.proofs.lemmas.Bool.{eqb-true}
 use Rattle.std.proofs.lemmas.List.{take_at, take-take, get_or-take, take_more}
 use Rattle.std.proofs.lemmas.List.Elements.{All-append, All-cons}
-use Rattle.std.proofs.lemmas.Map.Keys.{IsDistinct-head, IsDistinct-tail}
 use Rattle.oper_core.specs.State.{is_among, value_for}
-use Rattle.dirty_cache.specs.Contents.{held}
 use Rattle.dirty_cache.specs.declared.entry.Entry.{Entry}
-use Rattle.stable_objects.specs.SlotsView.{id_in}
-use Rattle.cache_manager.specs.Laid.{Laid, id_at, lsn_or, with_chosen, with_entries, with_newer}
+use Rattle.cache_manager.specs.Laid.{with_chosen, with_entries}
 
 -- the values that are left after the last is taken
 pub record IsTaken (values left : List (List ℕ)) (v : List ℕ) : Type 0 where
@@ -35,16 +31,6 @@ all_next P Q xs i keeps all within next =
     subst (λ (l : List ℕ). All Q l) (sym (take_more xs i 0 within))
     (All-append Q (take i xs) (slice_index xs i ∷ []) (λ k d below. keeps _ (all k d below)) (All-cons Q (slice_index xs i) [] next (λ k d below. absurd (omega (arith, below)))))
 
-none_among : (x : ℕ) (objects : List ℕ) → AllByRecursion (λ y. nat_eq x y ≡ false) objects → is_among x objects ≡ false
-none_among x [] all = refl
-none_among x (y ∷ objects) all = ap (λ (b : Bool). b || is_among x objects) all.0 ∙ none_among x objects all.1
-
--- of distinct objects none stands behind itself
-pub apart_behind : (objects : List ℕ) (n : ℕ) → n < length objects → IsDistinct nat_eq objects → is_among (slice_index objects n) (drop (suc n) objects) ≡ false
-apart_behind [] n there apart = absurd (omega (arith, there))
-apart_behind (y ∷ objects) zero there apart = none_among y objects (IsDistinct-head nat_eq y objects apart)
-apart_behind (y ∷ objects) (suc n) there apart = apart_behind objects n (omega (arith, there)) (IsDistinct-tail nat_eq y objects apart)
-
 module _ (lsn : ℕ) where
   abbrev pub entry_of : List ℕ → Entry
   entry_of v = record { lsn = lsn; bytes = v }
@@ -55,22 +41,6 @@ module _ (lsn : ℕ) where
   entries_cons old o objects v values x =
       elim (x == o) as (λ b. (if (b || is_among x objects) then Some (entry_of (if b then v else value_for x objects values)) else old x) ≡ (if b then Some (entry_of v) else with_entries old lsn objects values x))
       [ true ↦ refl | false ↦ refl ]
-
-  newer_cases : (b t a : Bool) (v w : List ℕ) (h : Option Entry)
-      → (if (b || a) && t then Some (entry_of (if b then v else w)) else h) ≡ (if b && t then Some (entry_of v) else (if a && t then Some (entry_of w) else h))
-  newer_cases true true a v w h = refl
-  newer_cases true false true v w h = refl
-  newer_cases true false false v w h = refl
-  newer_cases false t a v w h = refl
-
-  newer_cons : (old : Laid) (o : ℕ) (objects : List ℕ) (v : List ℕ) (values : List (List ℕ)) (x : ℕ)
-      → with_newer old lsn (o ∷ objects) (v ∷ values) x ≡ (if (x == o) && nat_lt (id_at old x) lsn then Some (entry_of v) else with_newer old lsn objects values x)
-  newer_cons old o objects v values x = newer_cases (x == o) (nat_lt (id_at old x) lsn) (is_among x objects) v (value_for x objects values) (held old.cache x)
-
-  -- tests of numbers that are one where they count
-  where_one : (b : Bool) (m k : ℕ) (e f : Option Entry) → (b ≡ true → m ≡ k) → (if b && nat_lt m lsn then e else f) ≡ (if b && nat_lt k lsn then e else f)
-  where_one true m k e f same = ap (λ (n : ℕ). if nat_lt n lsn then e else f) (same refl)
-  where_one false m k e f same = refl
 
   -- tests of two objects that are one where they count
   chosen_cases : (e b a : Bool) (new rest old : Option Entry) → (e ≡ true → b ≡ a)
@@ -146,26 +116,3 @@ module _ (lsn : ℕ) where
         ∙ dirty_cases (x == slice_index objects n) (is_among (slice_index objects n) chosen) (is_among x chosen) (is_among x (drop (suc n) objects)) (old x)
         (λ same. ap (λ y. is_among y chosen) (sym (eqb-true x (slice_index objects n) same)))
         ∙ ap (λ (os : List ℕ). (is_among x chosen && is_among x os) || old x) (sym objects_here)
-
-    module _ (old now : Laid) (next : ℕ → Option Entry) (slots : now.slots ≡ old.slots) (apart : is_among (slice_index objects n) (drop (suc n) objects) ≡ false)
-        (before : (x : ℕ) → held now.cache x ≡ with_newer old lsn (drop (suc n) objects) (drop (suc n) values) x) where
-      -- the object has what it had
-      same_held : held now.cache (slice_index objects n) ≡ held old.cache (slice_index objects n)
-      same_held =
-          let o = slice_index objects n in
-          before o ∙ ap (λ (a : Bool). if a && nat_lt (id_at old o) lsn then Some (entry_of (value_for o (drop (suc n) objects) (drop (suc n) values))) else held old.cache o) apart
-
-      same_id : id_at now (slice_index objects n) ≡ id_at old (slice_index objects n)
-      same_id = λ i. lsn_or (same_held i) (id_in (slots i) (slice_index objects n))
-
-      -- the last of the values that are left is set, where its object has a lower identifier
-      pub newer_back : ((x : ℕ) → next x ≡ (if (x == slice_index objects n) && nat_lt (id_at now x) lsn then Some (entry_of v) else held now.cache x))
-          → (x : ℕ) → next x ≡ with_newer old lsn (drop n objects) (drop n values) x
-      newer_back set x =
-          set x
-          ∙ where_one (x == slice_index objects n) (id_at now x) (id_at old x) (Some (entry_of v)) (held now.cache x)
-          (λ same. subst (λ (y : ℕ). id_at now y ≡ id_at old y) (sym (eqb-true x (slice_index objects n) same)) same_id)
-          ∙ ap (λ (e : Option Entry). if (x == slice_index objects n) && nat_lt (id_at old x) lsn then Some (entry_of v) else e) (before x)
-          ∙ sym (newer_cons old (slice_index objects n) (drop (suc n) objects) v (drop (suc n) values) x)
-          ∙ ap (λ (vs : List (List ℕ)). with_newer old lsn (slice_index objects n ∷ drop (suc n) objects) vs x) (sym values_here)
-          ∙ ap (λ (os : List ℕ). with_newer old lsn os (drop n values) x) (sym objects_here)

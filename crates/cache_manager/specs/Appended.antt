@@ -41,11 +41,11 @@ module _ {O : Type 0} where
   no_table number (Command op) = refl
   no_table number (Identity x value) = refl
 
-  behind_member : (next number : ℕ) (member : Member O) → next_behind next (record_of number member) ≡ next + 1
+  pub behind_member : (next number : ℕ) (member : Member O) → next_behind next (record_of number member) ≡ next + 1
   behind_member next number (Command op) = refl
   behind_member next number (Identity x value) = refl
 
-  place_of : (m : Meaning O) (base next : ℕ) (member : Member O) → next < 2 ^ 62 → IsPlaced m base next (record_of next member)
+  pub place_of : (m : Meaning O) (base next : ℕ) (member : Member O) → next < 2 ^ 62 → IsPlaced m base next (record_of next member)
   place_of m base next (Command op) low = (refl, low)
   place_of m base next (Identity x value) low = (refl, low)
 

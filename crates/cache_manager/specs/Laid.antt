@@ -1,5 +1,5 @@
 -- The objects of a store in use: a cache, laid over the slots.
-use Rattle.std.specs.Prelude.{◌≡◌, ◌<◌, ◌≤◌, ◌&&◌, ℕ, nat_lt, if◌then◌else◌, List, length, Option, None, Some, false}
+use Rattle.std.specs.Prelude.{◌≡◌, ◌<◌, ◌≤◌, ℕ, if◌then◌else◌, List, length, Option, None, Some, false}
 use Rattle.oper_core.specs.State.{State, value_for, is_among}
 use Rattle.oper_core.specs.Cell.{Cell}
 use Rattle.formats.specs.Objects.{IsInRange, cell_of}
@@ -56,7 +56,3 @@ with_entries entries lsn objects values x = if is_among x objects then Some (rec
 -- the same, at those of the objects that are chosen
 abbrev pub with_chosen : (ℕ → Option Entry) → ℕ → List ℕ → List ℕ → List (List ℕ) → ℕ → Option Entry
 with_chosen entries lsn chosen objects values x = if is_among x chosen then with_entries entries lsn objects values x else entries x
-
--- the same, at those of the objects whose identifier is lower
-abbrev pub with_newer : Laid → ℕ → List ℕ → List (List ℕ) → ℕ → Option Entry
-with_newer laid lsn objects values x = if is_among x objects && nat_lt (id_at laid x) lsn then Some (record { lsn = lsn; bytes = value_for x objects values }) else held laid.cache x

@@ -1,5 +1,5 @@
--- Laws of objects in a cache over slots: when each has the pair that it had, and which it has where one is set.
-use Rattle.std.proofs.Common.{◌≡◌, ℕ, ◌<◌, ◌&&◌, nat_lt, Bool, true, false, if◌then◌else◌, List, Option, None, Some, IsSome, sym, ap, ◌∙◌, subst, refl}
+-- Laws of objects in a cache over slots: when each has the pair that it had.
+use Rattle.std.proofs.Common.{◌≡◌, ℕ, ◌<◌, List, Option, None, Some, IsSome, sym, ◌∙◌, subst, refl}
 use Rattle.oper_core.specs.Cell.{Cell}
 use Rattle.formats.specs.Objects.{cell_of}
 use Rattle.stable_objects.specs.SlotsView.{SlotsView, id_in}
@@ -35,20 +35,3 @@ id_or (Some e) id cell same = refl
 pub id_told : (file : List ℕ) (laid : Laid) (x : ℕ) → IsLaidOn laid file → x < laid.slots.params.objects → id_at laid x ≡ (cell_in laid file x).id
 id_told file laid x is below =
     id_or (held laid.cache x) (id_in laid.slots x) (cell_of laid.slots.params.cap x file) (id_is laid.slots file x is.slots below)
-
--- a cached pair or another, where it is chosen of two
-chosen_cell : (b : Bool) (e : Entry) (h : Option Entry) (cell : Cell) → cell_or (if b then Some e else h) cell ≡ (if b then record { id = e.lsn; value = e.bytes } else cell_or h cell)
-chosen_cell true e h cell = refl
-chosen_cell false e h cell = refl
-
--- an object's pair, where it is set if this holds and its identifier is lower
-pub newer_cell : (file : List ℕ) (old next : Laid) (number : ℕ) (b : Bool) (value : List ℕ) → IsLaidOn old file → next.slots ≡ old.slots → (x : ℕ) → x < old.slots.params.objects
-    → held next.cache x ≡ (if b && nat_lt (id_at old x) number then Some (record { lsn = number; bytes = value }) else held old.cache x)
-    → cell_in next file x ≡ (if b && nat_lt (cell_in old file x).id number then record { id = number; value = value } else cell_in old file x)
-newer_cell file old next number b value laid slots x below entries =
-    let cell = cell_of old.slots.params.cap x file in
-    let set : Entry = record { lsn = number; bytes = value } in
-    let at : cell_in next file x ≡ cell_or (if b && nat_lt (id_at old x) number then Some set else held old.cache x) cell = λ i. cell_or (entries i) (cell_of (slots i).params.cap x file) in
-    at
-    ∙ chosen_cell (b && nat_lt (id_at old x) number) set (held old.cache x) cell
-    ∙ ap (λ (id : ℕ). if b && nat_lt id number then record { id = number; value = value } else cell_in old file x) (id_told file old x laid below)

@@ -17,6 +17,7 @@ pub mod Forced
 pub mod Stored
 pub mod Taking
 pub mod Kept
+pub mod KeptLaws
 pub mod Told
 pub mod Identities
 pub mod Finished

@@ -25,7 +25,7 @@ use Rattle.explain_core.specs.Sound.{IsSound}
 use Rattle.standing.specs.Members.{members_of, tables_in}
 use Rattle.standing.specs.Standing.{stored, FilesShow}
 use Rattle.cache_manager.specs.Running.{IsRunning}
-use Rattle.cache_manager.specs.Laid.{Laid, IsLaidOn, KeepsCells, cell_or, with_entries}
+use Rattle.cache_manager.specs.Laid.{Laid, IsLaidOn, cell_or, with_entries}
 
 -- what operations mean in a store with these numbers
 abbrev pub meaning_in : {O : Type 0} → (Bounds → Meaning O) → Params → Meaning O
@@ -131,11 +131,3 @@ pub record IsAppended {O : Type 0} (m : Meaning O) (before after : Parts) (membe
   pub held : (x : ℕ) → held after.store.objects.cache x ≡ with_entries (held before.store.objects.cache) before.log.next (writes_of m member) made x
   pub dirty : (x : ℕ) → is_dirty after.store.objects.cache x ≡ (is_among x (writes_of m member) || is_dirty before.store.objects.cache x)
   pub entries : after.store.entries ≡ before.store.entries ++ entry_of m before.log.next member ∷ []
-
--- The same parts, but for room, and for what is cached of clean objects: each has the pair that it had.
-pub record AreSame (file : List ℕ) (before after : Parts) : Type 0 where
-  pub log : after.log ≡ record before.log { log = record before.log.log { room = after.log.log.room } }
-  pub slots : after.store.objects.slots ≡ before.store.objects.slots
-  pub cells : KeepsCells file before.store.objects after.store.objects
-  pub dirty : (x : ℕ) → is_dirty after.store.objects.cache x ≡ is_dirty before.store.objects.cache x
-  pub entries : after.store.entries ≡ before.store.entries

@@ -1,11 +1,11 @@
 // One object at a time is looked up in the cache, kept there, and changed.
-ghost use Rattle.std.specs.Prelude.{◌≡◌, ◌==◌, ◌&&◌, ◌||◌, ◌<◌, ◌≤◌, ℕ, List, length, None, Some, is_some, nat_lt, if◌then◌else◌, OnOk};
+ghost use Rattle.std.specs.Prelude.{◌≡◌, ◌==◌, ◌&&◌, ◌||◌, ◌<◌, ◌≤◌, ℕ, List, length, None, Some, is_some, if◌then◌else◌, OnOk};
 ghost use Rattle.formats.specs.Objects.{cell_of};
 ghost use Rattle.dirty_cache.specs.Contents.{held, is_dirty, HasRoom, KeepsRooms};
 ghost use Rattle.oper_core.specs.State.{is_among};
 ghost use Rattle.stable_objects.specs.SlotsView.{id_in};
 ghost use Rattle.cache_manager.specs.Fetched.{IsFetched};
-ghost use Rattle.cache_manager.specs.Laid.{IsLaidOn, KeepsCells, id_at};
+ghost use Rattle.cache_manager.specs.Laid.{IsLaidOn, KeepsCells};
 
 use crate::objects::Objects;
 use oper_core::{ByteList, Memory};
@@ -80,21 +80,6 @@ impl Objects {
         ensures laid { (file : List ℕ) → IsLaidOn self.old file → IsLaidOn self.new file }
     {
         if is_one_of(object, chosen) {
-            self.set(object, lsn, value);
-        }
-    }
-
-    /// The same, where the object has a lower identifier than this one.
-    pub(crate) fn set_if_newer(&mut self, object: u32, lsn: u64, value: ByteList)
-        requires below { object < self.old.slots.params.objects }
-        requires room { HasRoom self.old.cache object }
-        requires short { length value ≤ self.old.slots.params.cap }
-        ensures rooms { KeepsRooms self.old.cache self.new.cache }
-        ensures slots { self.new.slots ≡ self.old.slots }
-        ensures entries { (x : ℕ) → held self.new.cache x ≡ (if (x == object) && nat_lt (id_at self.old x) lsn then Some (record { lsn = lsn; bytes = value }) else held self.old.cache x) }
-        ensures laid { (file : List ℕ) → IsLaidOn self.old file → IsLaidOn self.new file }
-    {
-        if self.id(object) < lsn {
             self.set(object, lsn, value);
         }
     }

@@ -8,6 +8,7 @@ ghost use Rattle.explain_core.specs.World.{World, run};
 ghost use Rattle.standing.specs.Moments.{TakesSome};
 ghost use Rattle.cache_manager.specs.Courses.{force_steps, room_steps};
 ghost use Rattle.cache_manager.specs.Forced.{IsForced};
+ghost use Rattle.cache_manager.specs.Kept.{KeepsLog};
 ghost use Rattle.cache_manager.specs.Logged.{IsAsLong};
 ghost use Rattle.cache_manager.specs.Parts.{Store, Shows, meaning_in};
 
@@ -59,6 +60,7 @@ pub fn make_block_room<O: Oper, M: Machine>(
     ensures room { OnOk result (length log.new.log.pending + n ≤ 2 ^ 30) }
     ensures same { OnOk result (IsAsLong log.old log.new) }
     ensures forced { OnOk result ((log.new ≡ log.old) ⊎ IsForced log.old log.new) }
+    ensures keeps { OnOk result (KeepsLog O.meaning (M.disk machine.old) (M.disk machine.new) log.old log.new) }
     ensures kept { OnErr result (log.new ≡ log.old) }
     ensures cause { IsErr result → Rises (M.disk machine.old).disk_faults (M.disk machine.new).disk_faults }
 {

@@ -5,8 +5,9 @@ ghost use Rattle.disk_model.specs.Disk.{Rises};
 ghost use Rattle.dirty_cache.specs.Contents.{is_dirty};
 ghost use Rattle.cache_manager.specs.Courses.{but_longest, cached_length, identities};
 ghost use Rattle.cache_manager.specs.Finished.{IsQuiet};
-ghost use Rattle.cache_manager.specs.Kept.{AreKept, AreNumbered, IsLonger, StopsAt};
+ghost use Rattle.cache_manager.specs.Kept.{AreKept, AreNumbered, StopsOnly, IsLonger};
 ghost use Rattle.cache_manager.specs.Laid.{values_in};
+ghost use Rattle.cache_manager.specs.Logged.{log_limit};
 ghost use Rattle.cache_manager.specs.Parts.{parts};
 ghost use Rattle.cache_manager.specs.Taking.{ArePartsInUse, Takes, ending_of};
 
@@ -34,10 +35,10 @@ pub(crate) fn log_all<O: Oper, M: Machine>(
     ensures takes { Takes O.meaning (M.disk machine.old) (M.disk machine.new) (parts log.old objects.old graph.old.entries)
         (parts log.new objects.new graph.new.entries) (λ m w used. identities m xs.now w used) (ending_of result) }
     ensures quiet { IsQuiet (M.disk machine.old) (M.disk machine.new) }
-    ensures kept { IsErrOf result InstallErr.DiskFault ⊎ AreKept (M.disk machine.old) (M.disk machine.new)
+    ensures kept { IsErrOf result InstallErr.DiskFault ⊎ AreKept O.meaning (M.disk machine.old) (M.disk machine.new)
         (parts log.old objects.old graph.old.entries) (parts log.new objects.new graph.new.entries) }
     ensures numbered { AreNumbered (parts log.old objects.old graph.old.entries) (parts log.new objects.new graph.new.entries) }
-    ensures stops { StopsAt log.new (ending_of result) }
+    ensures stops { StopsOnly log_limit log.new (ending_of result) }
     ensures logged { OnOk result (IsLonger (length xs.now) (parts log.old objects.old graph.old.entries) (parts log.new objects.new graph.new.entries)) }
     ensures cause { IsErrOf result InstallErr.DiskFault → Rises (M.disk machine.old).disk_faults (M.disk machine.new).disk_faults }
 {
@@ -76,10 +77,10 @@ pub(crate) fn log_others<O: Oper, M: Machine>(
     ensures takes { Takes O.meaning (M.disk machine.old) (M.disk machine.new) (parts log.old objects.old graph.old.entries)
         (parts log.new objects.new graph.new.entries) (λ m w used. identities m (but_longest (cached_length m w) work.now) w used) (ending_of result) }
     ensures quiet { IsQuiet (M.disk machine.old) (M.disk machine.new) }
-    ensures kept { IsErrOf result InstallErr.DiskFault ⊎ AreKept (M.disk machine.old) (M.disk machine.new)
+    ensures kept { IsErrOf result InstallErr.DiskFault ⊎ AreKept O.meaning (M.disk machine.old) (M.disk machine.new)
         (parts log.old objects.old graph.old.entries) (parts log.new objects.new graph.new.entries) }
     ensures numbered { AreNumbered (parts log.old objects.old graph.old.entries) (parts log.new objects.new graph.new.entries) }
-    ensures stops { StopsAt log.new (ending_of result) }
+    ensures stops { StopsOnly log_limit log.new (ending_of result) }
     ensures logged { OnOk result ((n : ℕ) × (0 < n) × IsLonger n (parts log.old objects.old graph.old.entries) (parts log.new objects.new graph.new.entries)) }
     ensures cause { IsErrOf result InstallErr.DiskFault → Rises (M.disk machine.old).disk_faults (M.disk machine.new).disk_faults }
 {

@@ -7,8 +7,8 @@ ghost use Rattle.dirty_cache.specs.declared.entry.Entry.{Entry as Pair};
 ghost use Rattle.explain_core.specs.History.Member.{Identity};
 ghost use Rattle.cache_manager.specs.Courses.{identity_course, identity_length};
 ghost use Rattle.cache_manager.specs.Finished.{IsQuiet};
-ghost use Rattle.cache_manager.specs.Kept.{AreKept, AreNumbered, IsLonger, StopsAt};
-ghost use Rattle.cache_manager.specs.Logged.{HasPlace, HasRecordPlace, IsRoomed, LacksRecordPlace};
+ghost use Rattle.cache_manager.specs.Kept.{AreKept, AreNumbered, StopsOnly, IsLonger};
+ghost use Rattle.cache_manager.specs.Logged.{HasPlace, HasRecordPlace, IsRoomed, LacksRecordPlace, log_limit};
 ghost use Rattle.cache_manager.specs.Parts.{AreInUse, IsAppended, parts, store};
 ghost use Rattle.cache_manager.specs.Taking.{ArePartsInUse, Takes, ending_of};
 
@@ -105,10 +105,10 @@ pub(crate) fn log_identity<O: Oper, M: Machine>(
     ensures takes { Takes O.meaning (M.disk machine.old) (M.disk machine.new) (parts log.old objects.old graph.old.entries)
         (parts log.new objects.new graph.new.entries) (λ m w used. identity_course m x w used) (ending_of result) }
     ensures quiet { IsQuiet (M.disk machine.old) (M.disk machine.new) }
-    ensures kept { IsErrOf result InstallErr.DiskFault ⊎ AreKept (M.disk machine.old) (M.disk machine.new)
+    ensures kept { IsErrOf result InstallErr.DiskFault ⊎ AreKept O.meaning (M.disk machine.old) (M.disk machine.new)
         (parts log.old objects.old graph.old.entries) (parts log.new objects.new graph.new.entries) }
     ensures numbered { AreNumbered (parts log.old objects.old graph.old.entries) (parts log.new objects.new graph.new.entries) }
-    ensures stops { StopsAt log.new (ending_of result) }
+    ensures stops { StopsOnly log_limit log.new (ending_of result) }
     ensures logged { OnOk result (IsLonger 1 (parts log.old objects.old graph.old.entries) (parts log.new objects.new graph.new.entries)) }
     ensures cause { IsErrOf result InstallErr.DiskFault → Rises (M.disk machine.old).disk_faults (M.disk machine.new).disk_faults }
 {

@@ -153,8 +153,8 @@ pub(crate) fn install_node<O: Oper, M: Machine>(
     requires named { NamesMinimal graph.old.entries n }
     requires may { All (MayFlush objects.old) work.now }
     ensures quiet { IsQuiet (M.disk machine.old) (M.disk machine.new) }
-    ensures attached { OnOk result (IsAttached (M.disk machine.old) (parts log.old objects.old graph.old.entries) →
-        IsAttached (M.disk machine.new) (parts log.new objects.new graph.new.entries)) }
+    ensures attached { OnOk result (IsAttached O.meaning (M.disk machine.old) (parts log.old objects.old graph.old.entries) →
+        IsAttached O.meaning (M.disk machine.new) (parts log.new objects.new graph.new.entries)) }
     ensures numbered { AreNumbered (parts log.old objects.old graph.old.entries) (parts log.new objects.new graph.new.entries) }
     ensures shows { (p : Numbers) (w : World O) (node : ℕ → Bool) →
         let m = meaning_in O.meaning p in Shows m p (M.disk machine.old) (parts log.old objects.old graph.old.entries) w →

@@ -1,6 +1,5 @@
 // The objects of a store in use: a cache, laid over the slots.
-ghost use Rattle.std.specs.Prelude.{◌≡◌, ◌<◌, ◌≤◌, ◌+◌, ◌*◌, ◌&&◌, ◌||◌, ◌==◌, ℕ, All, List, length, map, None, Some, IsSome, IfSome, IfNone, nat_eq, nat_lt, if◌then◌else◌, OnOk, OnErr, IfOk, IfErr, IsErrOf};
-ghost use Rattle.std.specs.List.{IsDistinct};
+ghost use Rattle.std.specs.Prelude.{◌≡◌, ◌<◌, ◌≤◌, ◌+◌, ◌*◌, ◌&&◌, ◌||◌, ℕ, All, List, length, map, None, Some, IsSome, IfSome, IfNone, OnOk, OnErr, IfOk, IfErr, IsErrOf};
 ghost use Rattle.disk_model.specs.Disk.{Rises, Stays};
 ghost use Rattle.disk_model.specs.declared.machine.FileNo.TheVariants.{Objects as ObjectsFile};
 ghost use Rattle.formats.specs.Bytes.{IsOpenAt, IsClosedAt};
@@ -11,7 +10,7 @@ ghost use Rattle.stable_objects.specs.SlotsView.{AreOf, IsLate, id_in};
 ghost use Rattle.oper_core.specs.State.{is_among};
 ghost use Rattle.dirty_cache.specs.Contents.{held, is_dirty, AreDirty, HasRoom};
 ghost use Rattle.cache_manager.specs.Fetched.{IsFetched};
-ghost use Rattle.cache_manager.specs.Laid.{IsLaidOn, values_in, id_at, KeepsCells, with_chosen, with_entries, with_newer};
+ghost use Rattle.cache_manager.specs.Laid.{IsLaidOn, values_in, id_at, KeepsCells, with_chosen, with_entries};
 
 use dirty_cache::Cache;
 use disk_model::Machine;
@@ -226,39 +225,5 @@ impl Objects {
         while let Some(value) = values.pop() {
             self.set_if_among(chosen, objects[values.len()], lsn, value);
         }
-    }
-
-    /// Gives those of these objects new values that have a lower identifier than this one.
-    pub fn set_newer(&mut self, lsn: u64, objects: &[u32], values: Values)
-        requires below { All (λ x. x < self.old.slots.params.objects) objects.now }
-        requires apart { IsDistinct nat_eq objects.now }
-        requires room { All (HasRoom self.old.cache) objects.now }
-        requires count { length values ≡ length objects.now }
-        requires short { All (λ v. length v ≤ self.old.slots.params.cap) values }
-        ensures slots { self.new.slots ≡ self.old.slots }
-        ensures entries { (x : ℕ) → held self.new.cache x ≡ with_newer self.old lsn objects.now values x }
-        ensures laid { (file : List ℕ) → IsLaidOn self.old file → IsLaidOn self.new file }
-    {
-        let mut values = values.into_lists();
-        while let Some(value) = values.pop() {
-            self.set_if_newer(objects[values.len()], lsn, value);
-        }
-    }
-
-    /// Gives an object a copy of a value and an identifier, where it has a lower one. Without memory each object has the
-    /// pair that it had.
-    pub fn set_copy_newer(&mut self, lsn: u64, object: u32, value: &[u8]) -> Result<(), Memory>
-        requires below { object < self.old.slots.params.objects }
-        requires short { length value.now ≤ self.old.slots.params.cap }
-        ensures slots { self.new.slots ≡ self.old.slots }
-        ensures entries { OnOk result ((x : ℕ) → held self.new.cache x
-            ≡ (if (x == object) && nat_lt (id_at self.old x) lsn then Some (record { lsn = lsn; bytes = value.now }) else held self.old.cache x)) }
-        ensures kept { OnErr result ((x : ℕ) → held self.new.cache x ≡ held self.old.cache x) }
-        ensures laid { (file : List ℕ) → IsLaidOn self.old file → IsLaidOn self.new file }
-    {
-        let copy = value.to_vec(self.alloc)?;
-        self.room_for(object)?;
-        self.set_if_newer(object, lsn, ByteList::new(copy));
-        Ok(())
     }
 }

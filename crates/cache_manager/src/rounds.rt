@@ -9,7 +9,8 @@ ghost use Rattle.explain_core.specs.World.{World};
 ghost use Rattle.cache_manager.specs.Courses.{course, finish_steps, install_course};
 ghost use Rattle.cache_manager.specs.Courses.Stop.{Through};
 ghost use Rattle.cache_manager.specs.Finished.{IsQuiet};
-ghost use Rattle.cache_manager.specs.Kept.{AreKept, AreNumbered, StopsAt};
+ghost use Rattle.cache_manager.specs.Kept.{AreKept, AreNumbered, StopsOnly};
+ghost use Rattle.cache_manager.specs.Logged.{log_limit};
 ghost use Rattle.cache_manager.specs.Parts.{Shows, meaning_in, parts, store};
 ghost use Rattle.cache_manager.specs.Taking.{ArePartsInUse, Takes, ending_of};
 ghost use Rattle.cache_manager.specs.Thin.{IsWork};
@@ -42,10 +43,10 @@ pub(crate) fn finish_next<O: Oper, M: Machine>(
     ensures takes { Takes O.meaning (M.disk machine.old) (M.disk machine.new) (parts log.old objects.old graph.old.entries)
         (parts log.new objects.new graph.new.entries) (λ m w used. course (finish_steps m w) used Through) (ending_of result) }
     ensures quiet { IsQuiet (M.disk machine.old) (M.disk machine.new) }
-    ensures kept { IsErrOf result InstallErr.DiskFault ⊎ AreKept (M.disk machine.old) (M.disk machine.new)
+    ensures kept { IsErrOf result InstallErr.DiskFault ⊎ AreKept O.meaning (M.disk machine.old) (M.disk machine.new)
         (parts log.old objects.old graph.old.entries) (parts log.new objects.new graph.new.entries) }
     ensures numbered { AreNumbered (parts log.old objects.old graph.old.entries) (parts log.new objects.new graph.new.entries) }
-    ensures stops { StopsAt log.new (ending_of result) }
+    ensures stops { StopsOnly log_limit log.new (ending_of result) }
     ensures ops { IfOk result (λ ops. (0 < ops) × (log.new.next ≡ log.old.next) × (length graph.old.entries ≡ length graph.new.entries + ops)) }
     ensures rising { OnOk result (IsStrictlyIncreasing (numbers graph.new.entries)) }
     ensures cause { IsErrOf result InstallErr.DiskFault → Rises (M.disk machine.old).disk_faults (M.disk machine.new).disk_faults }
@@ -79,10 +80,10 @@ pub fn install_one<O: Oper, M: Machine>(
     ensures takes { Takes O.meaning (M.disk machine.old) (M.disk machine.new) (parts log.old objects.old graph.old.entries)
         (parts log.new objects.new graph.new.entries) (λ m w used. install_course m w used) (ending_of result) }
     ensures quiet { IsQuiet (M.disk machine.old) (M.disk machine.new) }
-    ensures kept { IsErrOf result InstallErr.DiskFault ⊎ AreKept (M.disk machine.old) (M.disk machine.new)
+    ensures kept { IsErrOf result InstallErr.DiskFault ⊎ AreKept O.meaning (M.disk machine.old) (M.disk machine.new)
         (parts log.old objects.old graph.old.entries) (parts log.new objects.new graph.new.entries) }
     ensures numbered { AreNumbered (parts log.old objects.old graph.old.entries) (parts log.new objects.new graph.new.entries) }
-    ensures stops { StopsAt log.new (ending_of result) }
+    ensures stops { StopsOnly log_limit log.new (ending_of result) }
     ensures told { (p : Numbers) (w : World O) → Shows (meaning_in O.meaning p) p (M.disk machine.old) (parts log.old objects.old graph.old.entries) w →
         IfOk result (IsInstall (meaning_in O.meaning p) w (install_course (meaning_in O.meaning p) w (used_of log.old.log)).steps) }
     ensures tells { IfOk result (TellsParts (parts log.old objects.old graph.old.entries) (parts log.new objects.new graph.new.entries)) }

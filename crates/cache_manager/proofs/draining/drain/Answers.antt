@@ -1,7 +1,8 @@
 use Rattle.std.proofs.Common.{◌≡◌, ◌∙◌, sym, subst, ap, ℕ, List, [], length, arith, inr, Option}
 use Rattle.install_order.specs.declared.entry.Entry.{Entry}
 use Rattle.cache_manager.specs.Courses.{drain_course, install_course}
-use Rattle.cache_manager.specs.Kept.{AreKept, StopsAt}
+use Rattle.cache_manager.specs.Kept.{AreKept, StopsOnly}
+use Rattle.cache_manager.specs.Logged.{log_limit}
 use Rattle.cache_manager.specs.Parts.{Parts, parts}
 use Rattle.cache_manager.specs.Taking.{Takes, Ending}
 use Rattle.cache_manager.specs.Told.{TellsParts, identities_of, ops_of}
@@ -36,6 +37,7 @@ loop-count-init g c =
       quiet = quiet_none old lawful;
       kept = kept_here old before c.requires.in_use;
       numbered = numbered_here before;
+      bounded = omega arith;
       counted = omega (arith, few, c.requires.in_use.store.low);
       under = under_begins meaning old before (λ m w used. drain_course m w used) (λ m whole taken v used. DrainGoesOn 0 m whole taken v used) lawful
           (λ p w shows. drain_left meaning g.met.O.Oper.lawful (λ b small v taken sound may. c.every_run_keeps.ensures.from_sound b v taken small sound may) c.last_blind_write_is_alone.ensures old before p w shows);
@@ -58,6 +60,7 @@ loop-count-preserved g c =
       quiet = quiet_both old now later so_far.quiet c.in_ok-install_one.ensures.quiet;
       kept = kept;
       numbered = numbered_twice before here after so_far.numbered c.in_ok-install_one.ensures.numbered;
+      bounded = omega (arith, so_far.bounded, tells.some some, tells.numbered, tells.entries);
       counted = omega (arith, so_far.counted, tells.some some, tells.numbered, tells.entries, kept.in_use.store.low);
       under = installed_under meaning g.met.O.Oper.lawful (λ b small v taken sound may. c.every_run_keeps.ensures.from_sound b v taken small sound may) c.last_blind_write_is_alone.ensures now here old later before after c.loop-count.count so_far.under so_far.quiet c.in_ok-install_one.ensures.takes (λ none. some (tells.clean.1 none));
     }
@@ -103,7 +106,7 @@ returns-in_err-install_one-clause-kept g c =
     let here : Parts = parts c.loop-count.log c.loop-count.objects c.loop-count.graph.entries in
     let after : Parts = parts c.install_one.new.log c.install_one.new.objects c.install_one.new.graph.entries in
     let so_far = c.loop-count.invariant in
-    handed_on (AreKept old later before after) c.from_residual.result c.in_err-install_one.field-0.0 c.from_residual.ensures.1
+    handed_on (AreKept g.O.Oper.meaning old later before after) c.from_residual.result c.in_err-install_one.field-0.0 c.from_residual.ensures.1
     (kept_on old now later before here after so_far.kept c.in_err-install_one.ensures.kept)
 
 pub returns-in_err-install_one-clause-numbered : goal.returns-in_err-install_one-clause-numbered
@@ -120,7 +123,7 @@ returns-in_err-install_one-clause-numbered g c =
 
 pub returns-in_err-install_one-clause-stops : goal.returns-in_err-install_one-clause-stops
 returns-in_err-install_one-clause-stops g c =
-    subst (λ (k : Ending). StopsAt c.install_one.new.log k) (ends_as Install c.from_residual.result c.in_err-install_one.field-0.0 c.from_residual.ensures.1) c.in_err-install_one.ensures.stops
+    subst (λ (k : Ending). StopsOnly log_limit c.install_one.new.log k) (ends_as Install c.from_residual.result c.in_err-install_one.field-0.0 c.from_residual.ensures.1) c.in_err-install_one.ensures.stops
 
 pub returns-clause-takes : goal.returns-clause-takes
 returns-clause-takes g c =
@@ -198,6 +201,12 @@ returns-clause-drained g c =
     let after : Parts = parts c.install_one.new.log c.install_one.new.objects c.install_one.new.graph.entries in
     let so_far = c.loop-count.invariant in
     none_left here after c.in_ok-install_one.field-0 c.in_ok-install_one.ensures.tells c.in_default.is
+
+pub returns-clause-bounded : goal.returns-clause-bounded
+returns-clause-bounded g c =
+    let so_far = c.loop-count.invariant in
+    let tells = c.in_ok-install_one.ensures.tells in
+    omega (arith, so_far.bounded, tells.numbered, tells.entries)
 
 pub returns-clause-clean : goal.returns-clause-clean
 returns-clause-clean g c =

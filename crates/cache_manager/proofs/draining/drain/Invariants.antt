@@ -15,8 +15,9 @@ invariant-loop-count g l =
     let here : Parts = parts l.log l.objects l.graph.entries in
     record {
       quiet : IsQuiet old now;
-      kept : AreKept old now before here;
+      kept : AreKept g.O.Oper.meaning old now before here;
       numbered : AreNumbered before here;
+      bounded : l.count + l.fn.log.next + length l.graph.entries ≤ length l.fn.graph.entries + l.log.next;
       counted : l.count + (2 * (2 ^ 62 - l.log.next) + length l.graph.entries) ≤ 2 ^ 63;
       under : AreUnder g.O.Oper.meaning old now before here (λ m w used. drain_course m w used) (λ m whole taken v used. DrainGoesOn l.count m whole taken v used);
     }

@@ -5,6 +5,7 @@ use Rattle.standing.specs.Moments.{TakesSome}
 use Rattle.cache_manager.specs.Buffered.{room_none, room_force}
 use Rattle.cache_manager.specs.Courses.{room_steps}
 use Rattle.explain_core.specs.TurnLaws.{run_none}
+use Rattle.cache_manager.specs.KeptLaws.{forced_log}
 use Rattle.cache_manager.specs.Parts.{Shows}
 use Rattle.cache_manager.specs.Stored.{stays_shown, store_shown}
 use Rattle.cache_manager.proofs.forcing.make_block_room.Goals as goal
@@ -50,3 +51,10 @@ returns-then-buffered-room-clause-forced g c = inl refl
 
 pub returns-clause-forced : goal.returns-clause-forced
 returns-clause-forced g c = inr c.in_ok-force_all.ensures.forced
+
+pub returns-then-buffered-room-clause-keeps : goal.returns-then-buffered-room-clause-keeps
+returns-then-buffered-room-clause-keeps g c = λ told has. has
+
+pub returns-clause-keeps : goal.returns-clause-keeps
+returns-clause-keeps g c =
+    forced_log g.O.Oper.meaning (g.M.Machine.disk c.args.machine.now) (g.M.Machine.disk c.force_all.new.machine) c.args.log.now c.force_all.new.log c.in_ok-force_all.ensures.forced c.in_ok-force_all.ensures.keeps

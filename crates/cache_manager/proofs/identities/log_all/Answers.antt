@@ -5,7 +5,8 @@ use Rattle.log_frames.specs.LogView.{used_of}
 use Rattle.explain_core.specs.World.{World, Step, run}
 use Rattle.cache_manager.specs.CourseLaws.{IsLeft, left_next, left_none}
 use Rattle.cache_manager.specs.Courses.{Course, identities, identity_course}
-use Rattle.cache_manager.specs.Kept.{AreKept, IsLonger, StopsAt}
+use Rattle.cache_manager.specs.Kept.{AreKept, IsLonger, StopsOnly}
+use Rattle.cache_manager.specs.Logged.{log_limit}
 use Rattle.cache_manager.specs.Parts.{Parts, meaning_in, parts}
 use Rattle.cache_manager.specs.Taking.{Takes, Ending}
 use Rattle.cache_manager.proofs.Keeping.{handed_on, kept_done, kept_here, kept_on, longer_here, longer_twice, numbered_here, numbered_twice}
@@ -115,7 +116,7 @@ returns-in_err-log_identity-clause-kept g c =
     let old = g.M.Machine.disk c.args.machine.now in
     let now = g.M.Machine.disk c.loop-x.machine in
     let later = g.M.Machine.disk c.log_identity.new.machine in
-    handed_on (AreKept old later before after) c.from_residual.result c.in_err-log_identity.field-0.0 c.from_residual.ensures.1
+    handed_on (AreKept g.O.Oper.meaning old later before after) c.from_residual.result c.in_err-log_identity.field-0.0 c.from_residual.ensures.1
     (kept_on old now later before here after c.loop-x.invariant.kept c.in_err-log_identity.ensures.kept)
 
 pub returns-in_err-log_identity-clause-numbered : goal.returns-in_err-log_identity-clause-numbered
@@ -125,7 +126,7 @@ returns-in_err-log_identity-clause-numbered g c =
 
 pub returns-in_err-log_identity-clause-stops : goal.returns-in_err-log_identity-clause-stops
 returns-in_err-log_identity-clause-stops g c =
-    subst (λ (k : Ending). StopsAt c.log_identity.new.log k) (ends_as (Unit {0}) c.from_residual.result c.in_err-log_identity.field-0.0 c.from_residual.ensures.1) c.in_err-log_identity.ensures.stops
+    subst (λ (k : Ending). StopsOnly log_limit c.log_identity.new.log k) (ends_as (Unit {0}) c.from_residual.result c.in_err-log_identity.field-0.0 c.from_residual.ensures.1) c.in_err-log_identity.ensures.stops
 
 pub returns-clause-kept : goal.returns-clause-kept
 returns-clause-kept g c = inr c.loop-x.invariant.kept

@@ -15,7 +15,7 @@ invariant-loop-x g l =
     let here : Parts = parts l.log l.objects l.graph.entries in
     record {
       quiet : IsQuiet old now;
-      kept : AreKept old now before here;
+      kept : AreKept g.O.Oper.meaning old now before here;
       numbered : AreNumbered before here;
       logged : IsLonger l.x-index before here;
       under : AreUnder g.O.Oper.meaning old now before here (λ m w used. identities m l.fn.xs w used) (λ m whole taken v used. IsLeft whole taken (identities m (drop l.x-index l.fn.xs) v used));

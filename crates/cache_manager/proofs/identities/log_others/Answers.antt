@@ -7,7 +7,8 @@ use Rattle.identity_writes.specs.Plan.{IsKept, without}
 use Rattle.dirty_cache.specs.Contents.{is_dirty}
 use Rattle.cache_manager.specs.Courses.{but_longest, cached_length, identities}
 use Rattle.cache_manager.specs.Laid.{values_in}
-use Rattle.cache_manager.specs.Kept.{AreKept, StopsAt}
+use Rattle.cache_manager.specs.Kept.{AreKept, StopsOnly}
+use Rattle.cache_manager.specs.Logged.{log_limit}
 use Rattle.cache_manager.specs.Parts.{Parts, meaning_in, parts}
 use Rattle.cache_manager.specs.Taking.{Takes, Ending, ending_of}
 use Rattle.cache_manager.proofs.IdentityTakes.{lacks_memory}
@@ -65,7 +66,7 @@ pub returns-in_err-lengths-clause-numbered : goal.returns-in_err-lengths-clause-
 returns-in_err-lengths-clause-numbered g c = numbered_here (parts c.args.log.now c.args.objects.now c.args.graph.now.entries)
 
 pub returns-in_err-lengths-clause-stops : goal.returns-in_err-lengths-clause-stops
-returns-in_err-lengths-clause-stops g c = subst (λ (k : Ending). StopsAt c.args.log.now k) (lacks_memory c.from_residual.result c.from_residual.ensures.1) tt
+returns-in_err-lengths-clause-stops g c = subst (λ (k : Ending). StopsOnly log_limit c.args.log.now k) (lacks_memory c.from_residual.result c.from_residual.ensures.1) tt
 
 pub returns-in_err-keep-clause-kept : goal.returns-in_err-keep-clause-kept
 returns-in_err-keep-clause-kept g c =
@@ -75,18 +76,18 @@ pub returns-in_err-keep-clause-numbered : goal.returns-in_err-keep-clause-number
 returns-in_err-keep-clause-numbered g c = numbered_here (parts c.args.log.now c.args.objects.now c.args.graph.now.entries)
 
 pub returns-in_err-keep-clause-stops : goal.returns-in_err-keep-clause-stops
-returns-in_err-keep-clause-stops g c = subst (λ (k : Ending). StopsAt c.args.log.now k) (lacks_memory c.from_residual-in_err-keep.result c.from_residual-in_err-keep.ensures.1) tt
+returns-in_err-keep-clause-stops g c = subst (λ (k : Ending). StopsOnly log_limit c.args.log.now k) (lacks_memory c.from_residual-in_err-keep.result c.from_residual-in_err-keep.ensures.1) tt
 
 pub returns-in_err-log_all-clause-kept : goal.returns-in_err-log_all-clause-kept
 returns-in_err-log_all-clause-kept g c = handed_on _ c.from_residual-in_err-log_all.result c.in_err-log_all.field-0.0 c.from_residual-in_err-log_all.ensures.1 c.in_err-log_all.ensures.kept
 
 pub returns-in_err-log_all-clause-stops : goal.returns-in_err-log_all-clause-stops
 returns-in_err-log_all-clause-stops g c =
-    subst (λ (k : Ending). StopsAt c.log_all.new.log k) (ends_as (Unit {0}) c.from_residual-in_err-log_all.result c.in_err-log_all.field-0.0 c.from_residual-in_err-log_all.ensures.1) c.in_err-log_all.ensures.stops
+    subst (λ (k : Ending). StopsOnly log_limit c.log_all.new.log k) (ends_as (Unit {0}) c.from_residual-in_err-log_all.result c.in_err-log_all.field-0.0 c.from_residual-in_err-log_all.ensures.1) c.in_err-log_all.ensures.stops
 
 pub returns-clause-kept : goal.returns-clause-kept
 returns-clause-kept g c =
-    inr (no_fault (AreKept (g.M.Machine.disk c.args.machine.now) (g.M.Machine.disk c.log_all.new.machine) (parts c.args.log.now c.args.objects.now c.args.graph.now.entries)
+    inr (no_fault (AreKept g.O.Oper.meaning (g.M.Machine.disk c.args.machine.now) (g.M.Machine.disk c.log_all.new.machine) (parts c.args.log.now c.args.objects.now c.args.graph.now.entries)
     (parts c.log_all.new.log c.log_all.new.objects c.log_all.new.graph.entries)) _ c.in_ok-log_all.ensures.kept)
 
 pub returns-clause-takes : goal.returns-clause-takes

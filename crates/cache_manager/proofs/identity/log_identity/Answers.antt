@@ -1,9 +1,12 @@
-use Rattle.std.proofs.Common.{subst, ap, arith, ℕ, ◌+◌, List, length, refl, inl, inr}
+use Rattle.std.proofs.Common.{subst, ap, arith, ℕ, ◌+◌, ◌<◌, ◌≤◌, List, length, refl, inl, inr}
+use Rattle.oper_core.specs.declared.bounds.Bounds.{Bounds}
 use Rattle.log_frames.specs.LogView.{used_of}
 use Rattle.log_records.specs.RecordLog.{RecordLogView}
 use Rattle.cache_manager.specs.Courses.{identity_course, identity_length}
 use Rattle.cache_manager.specs.Finished.{quiet_twice}
-use Rattle.cache_manager.specs.Kept.{StopsAt}
+use Rattle.cache_manager.specs.Kept.{StopsOnly}
+use Rattle.cache_manager.specs.KeptLaws.{forced_log}
+use Rattle.cache_manager.specs.Logged.{log_limit}
 use Rattle.cache_manager.specs.Parts.{Parts, meaning_in, parts, store}
 use Rattle.cache_manager.specs.Taking.{Takes, Ending}
 use Rattle.cache_manager.proofs.IdentityTakes.{fails, lacks_memory, takes_no_room, takes_unforced, takes_refusal, takes_short, takes_done}
@@ -117,7 +120,7 @@ returns-in_err-make_block_room-clause-numbered g c =
     log_numbered c.args.log.now c.make_block_room.new.log (store c.args.objects.now c.args.graph.now.entries) (inl c.in_err-make_block_room.ensures.kept)
 
 pub returns-in_err-make_block_room-clause-stops : goal.returns-in_err-make_block_room-clause-stops
-returns-in_err-make_block_room-clause-stops g c = subst (λ (k : Ending). StopsAt c.make_block_room.new.log k) (fails c.from_residual.result c.from_residual.ensures.1) tt
+returns-in_err-make_block_room-clause-stops g c = subst (λ (k : Ending). StopsOnly log_limit c.make_block_room.new.log k) (fails c.from_residual.result c.from_residual.ensures.1) tt
 
 pub returns-in_err-force_all-clause-kept : goal.returns-in_err-force_all-clause-kept
 returns-in_err-force_all-clause-kept g c = of_fault _ c.from_residual-in_err-force_all.result c.from_residual-in_err-force_all.ensures.1
@@ -129,7 +132,7 @@ returns-in_err-force_all-clause-numbered g c =
     (log_numbered c.args.log.now c.make_block_room.new.log it c.in_ok-make_block_room.ensures.forced) (log_numbered c.make_block_room.new.log c.force_all.new.log it (inl c.in_err-force_all.ensures.kept))
 
 pub returns-in_err-force_all-clause-stops : goal.returns-in_err-force_all-clause-stops
-returns-in_err-force_all-clause-stops g c = subst (λ (k : Ending). StopsAt c.force_all.new.log k) (fails c.from_residual-in_err-force_all.result c.from_residual-in_err-force_all.ensures.1) tt
+returns-in_err-force_all-clause-stops g c = subst (λ (k : Ending). StopsOnly log_limit c.force_all.new.log k) (fails c.from_residual-in_err-force_all.result c.from_residual-in_err-force_all.ensures.1) tt
 
 pub returns-in-Some-clause-kept : goal.returns-in-Some-clause-kept
 returns-in-Some-clause-kept g c =
@@ -137,9 +140,10 @@ returns-in-Some-clause-kept g c =
     let old = g.M.Machine.disk c.args.machine.now in
     let mid = g.M.Machine.disk c.make_block_room.new.machine in
     let new = g.M.Machine.disk c.force_all.new.machine in
-    let first = log_kept old mid c.args.log.now c.make_block_room.new.log it c.make_block_room.ensures.runs c.in_ok-make_block_room.ensures.forced c.requires.in_use in
+    let first = log_kept g.O.Oper.meaning old mid c.args.log.now c.make_block_room.new.log it c.make_block_room.ensures.runs c.in_ok-make_block_room.ensures.forced c.in_ok-make_block_room.ensures.keeps c.requires.in_use in
     inr (kept_twice old mid new (record { log = c.args.log.now; store = it }) (record { log = c.make_block_room.new.log; store = it }) (record { log = c.force_all.new.log; store = it }) first
-    (log_kept mid new c.make_block_room.new.log c.force_all.new.log it c.force_all.ensures.runs (inr c.in_ok-force_all.ensures.forced) first.in_use))
+    (log_kept g.O.Oper.meaning mid new c.make_block_room.new.log c.force_all.new.log it c.force_all.ensures.runs (inr c.in_ok-force_all.ensures.forced)
+    (forced_log g.O.Oper.meaning mid new c.make_block_room.new.log c.force_all.new.log c.in_ok-force_all.ensures.forced c.in_ok-force_all.ensures.keeps) first.in_use))
 
 pub returns-in-Some-clause-numbered : goal.returns-in-Some-clause-numbered
 returns-in-Some-clause-numbered g c =
@@ -161,8 +165,8 @@ returns-in_err-append_identity-clause-kept g c =
     let before : Parts = record { log = c.args.log.now; store = it } in
     let here : Parts = record { log = c.make_block_room.new.log; store = it } in
     let after = parts c.append_identity.new.log c.append_identity.new.objects c.append_identity.new.graph.entries in
-    let first = log_kept old mid c.args.log.now c.make_block_room.new.log it c.make_block_room.ensures.runs c.in_ok-make_block_room.ensures.forced c.requires.in_use in
-    inr (kept_twice old mid mid before here after first (roomed_kept mid here after c.in_err-append_identity.ensures.err first.in_use))
+    let first = log_kept g.O.Oper.meaning old mid c.args.log.now c.make_block_room.new.log it c.make_block_room.ensures.runs c.in_ok-make_block_room.ensures.forced c.in_ok-make_block_room.ensures.keeps c.requires.in_use in
+    inr (kept_twice old mid mid before here after first (roomed_kept g.O.Oper.meaning mid here after c.in_err-append_identity.ensures.err first.in_use))
 
 pub returns-in_err-append_identity-clause-numbered : goal.returns-in_err-append_identity-clause-numbered
 returns-in_err-append_identity-clause-numbered g c =
@@ -174,7 +178,7 @@ returns-in_err-append_identity-clause-numbered g c =
 
 pub returns-in_err-append_identity-clause-stops : goal.returns-in_err-append_identity-clause-stops
 returns-in_err-append_identity-clause-stops g c =
-    subst (λ (k : Ending). StopsAt c.append_identity.new.log k) (lacks_memory c.from_residual-in_err-append_identity.result c.from_residual-in_err-append_identity.ensures.1) tt
+    subst (λ (k : Ending). StopsOnly log_limit c.append_identity.new.log k) (lacks_memory c.from_residual-in_err-append_identity.result c.from_residual-in_err-append_identity.ensures.1) tt
 
 pub returns-clause-kept : goal.returns-clause-kept
 returns-clause-kept g c =
@@ -188,9 +192,14 @@ returns-clause-kept g c =
     let pair = dirty_held c.args.objects.now.cache x c.requires.dirty in
     let meaning = g.O.Oper.meaning c.make_block_room.new.log.bounds in
     let done = c.in_ok-append_identity.ensures.ok pair.0 pair.1 in
-    let first = log_kept old mid c.args.log.now c.make_block_room.new.log it c.make_block_room.ensures.runs c.in_ok-make_block_room.ensures.forced c.requires.in_use in
+    let first = log_kept g.O.Oper.meaning old mid c.args.log.now c.make_block_room.new.log it c.make_block_room.ensures.runs c.in_ok-make_block_room.ensures.forced c.in_ok-make_block_room.ensures.keeps c.requires.in_use in
     let used = written_parts meaning x pair.0 before here after pair.1 done c.requires.in_use c.in_ok-make_block_room.ensures.same refl c.requires.dirty c.in_default.ensures.none.number in
-    inr (kept_twice old mid mid before here after first (appended_kept meaning x pair.0 here after pair.1 done c.requires.dirty mid used))
+    let has = g.met.O.Oper.bounded c.make_block_room.new.log.bounds in
+    let bounds = first.in_use.bounds in
+    let value = value_cached c.args.objects.now x pair.0 c.value.result.now pair.1 c.value.ensures.value in
+    let below : x < meaning.objects = omega (arith, c.value.ensures.there, has.objects, ap (λ (b : Bounds). b.objects) bounds) in
+    let short : length pair.0.bytes ≤ meaning.cap = omega (arith, c.value.ensures.short, ap length value, has.cap, ap (λ (b : Bounds). b.cap) bounds) in
+    inr (kept_twice old mid mid before here after first (appended_kept meaning x pair.0 here after pair.1 done c.requires.dirty g.O.Oper.meaning refl below short c.in_default.ensures.none.number mid used))
 
 pub returns-clause-numbered : goal.returns-clause-numbered
 returns-clause-numbered g c =

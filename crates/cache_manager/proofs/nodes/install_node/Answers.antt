@@ -1,9 +1,10 @@
-use Rattle.std.proofs.Common.{◌∙◌, sym, subst, ℕ, List, arith, inl, inr}
+use Rattle.std.proofs.Common.{sym, subst, ℕ, List, arith, inl, inr}
 use Rattle.disk_model.specs.declared.machine.FileNo.TheVariants.{Objects}
 use Rattle.formats.specs.Objects.{bounds_of}
 use Rattle.explain_core.specs.World.{run}
 use Rattle.cache_manager.specs.Courses.{force_steps}
 use Rattle.cache_manager.specs.Finished.{quiet_twice, finished_shows, finish_allowed, forcing_moments, finishing_moments, finish_shows}
+use Rattle.cache_manager.specs.KeptLaws.{beside_log, forced_log}
 use Rattle.cache_manager.specs.Laid.{IsLaidOn}
 use Rattle.cache_manager.specs.Parts.{parts, store}
 use Rattle.cache_manager.specs.Stored.{store_shown}
@@ -67,8 +68,15 @@ returns-clause-attached g c = λ at told.
     let mid_told = c.finish.ensures.runs.time.files_told.1 told in
     let old_told = forced.time.files_told.1 mid_told in
     let was = at old_told in
-    let same = same_log c.args.log.now c.force_all.new.log (inr c.in_ok-force_all.ensures.forced) in
-    (c.in_ok-finish.ensures.laid mid_told (subst (λ (f : List ℕ). IsLaidOn c.args.objects.now f) (sym ((forced.reads old_told).others Objects (λ e. was.1 (sym e)))) was.0), λ e. was.1 (sym same.2 ∙ e))
+    let meaning = g.O.Oper.meaning in
+    let old = g.M.Machine.disk c.args.machine.now in
+    let mid = g.M.Machine.disk c.force_all.new.machine in
+    let new = g.M.Machine.disk c.finish.new.machine in
+    let later = c.force_all.new.log in
+    let log = forced_log meaning old mid c.args.log.now later c.in_ok-force_all.ensures.forced c.in_ok-force_all.ensures.keeps old_told was.1 in (
+      c.in_ok-finish.ensures.laid mid_told (subst (λ (f : List ℕ). IsLaidOn c.args.objects.now f) (sym ((forced.reads old_told).others Objects (λ e. was.1.keeps.in_force.a_log (sym e)))) was.0),
+      beside_log (meaning later.bounds) c.args.objects.now.slots.params mid new later mid_told c.finish.ensures.runs (c.in_ok-finish.ensures.settled log.keeps.settled) log,
+    )
 
 pub returns-in_err-force_all-clause-numbered : goal.returns-in_err-force_all-clause-numbered
 returns-in_err-force_all-clause-numbered g c =

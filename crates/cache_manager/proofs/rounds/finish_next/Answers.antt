@@ -10,7 +10,8 @@ use Rattle.standing.specs.OneStable.{small_store}
 use Rattle.cache_manager.specs.Courses.{course, finish_steps, force_steps, next_node, removal_steps}
 use Rattle.cache_manager.specs.Courses.Stop.{Through}
 use Rattle.cache_manager.specs.Flushed.{AreEarly}
-use Rattle.cache_manager.specs.Kept.{StopsAt}
+use Rattle.cache_manager.specs.Kept.{StopsOnly}
+use Rattle.cache_manager.specs.Logged.{log_limit}
 use Rattle.cache_manager.specs.Parts.{AreInUse, Parts, Shows, meaning_in, parts, store}
 use Rattle.cache_manager.specs.Running.{KeepsSound}
 use Rattle.cache_manager.specs.Taking.{Takes, Ending}
@@ -90,7 +91,7 @@ pub returns-in_err-install_node-clause-kept : goal.returns-in_err-install_node-c
 returns-in_err-install_node-clause-kept g c = of_fault _ c.from_residual.result c.from_residual.ensures.1
 
 pub returns-in_err-install_node-clause-stops : goal.returns-in_err-install_node-clause-stops
-returns-in_err-install_node-clause-stops g c = subst (λ (k : Ending). StopsAt c.install_node.new.log k) (fails c.from_residual.result c.from_residual.ensures.1) tt
+returns-in_err-install_node-clause-stops g c = subst (λ (k : Ending). StopsOnly log_limit c.install_node.new.log k) (fails c.from_residual.result c.from_residual.ensures.1) tt
 
 pub returns-clause-ops : goal.returns-clause-ops
 returns-clause-ops g c =

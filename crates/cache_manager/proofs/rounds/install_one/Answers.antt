@@ -11,7 +11,8 @@ use Rattle.log_frames.specs.LogView.{used_of}
 use Rattle.write_graph.specs.Graph.{numbers}
 use Rattle.cache_manager.specs.Courses.{but_longest, cached_length, course, finish_steps, identities, install_course, others}
 use Rattle.cache_manager.specs.Courses.Stop.{Through}
-use Rattle.cache_manager.specs.Kept.{AreKept, StopsAt}
+use Rattle.cache_manager.specs.Kept.{AreKept, StopsOnly}
+use Rattle.cache_manager.specs.Logged.{log_limit}
 use Rattle.cache_manager.specs.Parts.{Parts, meaning_in, parts, store}
 use Rattle.cache_manager.specs.Taking.{Takes, Ending, ending_of}
 use Rattle.cache_manager.specs.Thin.{IsWork}
@@ -114,7 +115,7 @@ returns-in_err-log_others-clause-kept g c =
     let so_far = c.loop-name.invariant in
     let later = g.M.Machine.disk c.log_others.new.machine in
     let after : Parts = parts c.log_others.new.log c.log_others.new.objects c.log_others.new.graph.entries in
-    handed_on (AreKept old later before after) c.from_residual-in_err-log_others.result c.in_err-log_others.field-0.0 c.from_residual-in_err-log_others.ensures.1 (kept_on old now later before here after so_far.kept c.in_err-log_others.ensures.kept)
+    handed_on (AreKept g.O.Oper.meaning old later before after) c.from_residual-in_err-log_others.result c.in_err-log_others.field-0.0 c.from_residual-in_err-log_others.ensures.1 (kept_on old now later before here after so_far.kept c.in_err-log_others.ensures.kept)
 
 pub returns-in_err-log_others-clause-numbered : goal.returns-in_err-log_others-clause-numbered
 returns-in_err-log_others-clause-numbered g c =
@@ -130,7 +131,7 @@ returns-in_err-log_others-clause-numbered g c =
 
 pub returns-in_err-log_others-clause-stops : goal.returns-in_err-log_others-clause-stops
 returns-in_err-log_others-clause-stops g c =
-    subst (λ (k : Ending). StopsAt c.log_others.new.log k) (ends_as (Unit {0}) c.from_residual-in_err-log_others.result c.in_err-log_others.field-0.0 c.from_residual-in_err-log_others.ensures.1) c.in_err-log_others.ensures.stops
+    subst (λ (k : Ending). StopsOnly log_limit c.log_others.new.log k) (ends_as (Unit {0}) c.from_residual-in_err-log_others.result c.in_err-log_others.field-0.0 c.from_residual-in_err-log_others.ensures.1) c.in_err-log_others.ensures.stops
 
 pub returns-in_err-log_others-clause-quiet : goal.returns-in_err-log_others-clause-quiet
 returns-in_err-log_others-clause-quiet g c =
@@ -146,7 +147,7 @@ returns-in_err-ops-clause-kept g c =
     let so_far = c.loop-name.invariant in
     let later = g.M.Machine.disk c.finish_next.new.machine in
     let after : Parts = parts c.finish_next.new.log c.finish_next.new.objects c.finish_next.new.graph.entries in
-    handed_on (AreKept old later before after) c.from_residual-in_err-ops.result c.in_err-ops.field-0.0 c.from_residual-in_err-ops.ensures.1 (kept_on old now later before here after so_far.kept c.in_err-ops.ensures.kept)
+    handed_on (AreKept g.O.Oper.meaning old later before after) c.from_residual-in_err-ops.result c.in_err-ops.field-0.0 c.from_residual-in_err-ops.ensures.1 (kept_on old now later before here after so_far.kept c.in_err-ops.ensures.kept)
 
 pub returns-in_err-ops-clause-numbered : goal.returns-in_err-ops-clause-numbered
 returns-in_err-ops-clause-numbered g c =
@@ -162,7 +163,7 @@ returns-in_err-ops-clause-numbered g c =
 
 pub returns-in_err-ops-clause-stops : goal.returns-in_err-ops-clause-stops
 returns-in_err-ops-clause-stops g c =
-    subst (λ (k : Ending). StopsAt c.finish_next.new.log k) (ends_as (ℕ) c.from_residual-in_err-ops.result c.in_err-ops.field-0.0 c.from_residual-in_err-ops.ensures.1) c.in_err-ops.ensures.stops
+    subst (λ (k : Ending). StopsOnly log_limit c.finish_next.new.log k) (ends_as (ℕ) c.from_residual-in_err-ops.result c.in_err-ops.field-0.0 c.from_residual-in_err-ops.ensures.1) c.in_err-ops.ensures.stops
 
 pub returns-in_err-ops-clause-quiet : goal.returns-in_err-ops-clause-quiet
 returns-in_err-ops-clause-quiet g c =
@@ -279,7 +280,7 @@ pub returns-in_err-work-clause-numbered : goal.returns-in_err-work-clause-number
 returns-in_err-work-clause-numbered g c = c.loop-name.invariant.numbered
 
 pub returns-in_err-work-clause-stops : goal.returns-in_err-work-clause-stops
-returns-in_err-work-clause-stops g c = subst (λ (k : Ending). StopsAt c.loop-name.log k) (lacks_memory c.from_residual.result c.from_residual.ensures.1) tt
+returns-in_err-work-clause-stops g c = subst (λ (k : Ending). StopsOnly log_limit c.loop-name.log k) (lacks_memory c.from_residual.result c.from_residual.ensures.1) tt
 
 pub returns-clause-takes : goal.returns-clause-takes
 returns-clause-takes g c =

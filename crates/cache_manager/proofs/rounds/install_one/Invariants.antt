@@ -15,7 +15,7 @@ invariant-loop-name g l =
     let here : Parts = parts l.log l.objects l.graph.entries in
     record {
       quiet : IsQuiet old now;
-      kept : AreKept old now before here;
+      kept : AreKept g.O.Oper.meaning old now before here;
       numbered : AreNumbered before here;
       logged : (n : ℕ) × IsLonger n before here;
       none : l.fn.graph.entries ≡ [] → l.graph.entries ≡ [];
