@@ -6,7 +6,8 @@ use Rattle.std.proofs.lemmas.List.{map-append}
 use Rattle.std.proofs.lemmas.List.Elements.{All-push, All-weaker}
 use Rattle.disk_model.specs.Disk.{Disk}
 use Rattle.disk_model.specs.declared.machine.FileNo.TheVariants.{Objects}
-use Rattle.oper_core.specs.Meaning.{Meaning}
+use Rattle.oper_core.specs.Meaning.{Meaning, IsInGrammar}
+use Rattle.oper_core.specs.declared.bounds.Bounds.{Bounds}
 use Rattle.oper_core.specs.State.{is_among, value_for}
 use Rattle.formats.specs.Objects.{bounds_of}
 use Rattle.formats.specs.Records.{record_code}
@@ -20,7 +21,8 @@ use Rattle.dirty_cache.specs.Contents.{held, is_dirty}
 use Rattle.dirty_cache.specs.declared.entry.Entry.{Entry as Pair}
 use Rattle.explain_core.specs.History.Member.{Command}
 use Rattle.cache_manager.specs.Growth.{code_length, end_more}
-use Rattle.cache_manager.specs.Kept.{IsAttached}
+use Rattle.cache_manager.specs.Kept.{HasLog, IsAttached}
+use Rattle.cache_manager.specs.KeptLaws.{appended_log}
 use Rattle.cache_manager.specs.Laid.{IsLaidOn}
 use Rattle.cache_manager.specs.Parts.{IsAppended, Parts, entry_of, record_of}
 use Rattle.cache_manager.specs.Taking.{ArePartsInUse}
@@ -98,7 +100,11 @@ module _ {O : Type 0} (m : Meaning O) (op : O) (made : List (List ℕ)) (before 
   }
 
   -- and attached
-  pub done_attached : (d : Disk) → ((file : List ℕ) → IsLaidOn before.store.objects file → IsLaidOn after.store.objects file) → IsAttached d before → IsAttached d after
-  done_attached d laid attached told =
+  pub done_attached : (meaning : Bounds → Meaning O) → meaning before.log.bounds ≡ m → IsInGrammar m op → before.log.next < 2 ^ 62 → (d : Disk)
+      → ((file : List ℕ) → IsLaidOn before.store.objects file → IsLaidOn after.store.objects file) → IsAttached meaning d before → IsAttached meaning d after
+  done_attached meaning is grammar low d laid attached told =
       let was = attached told in
-      (laid (d.reads Objects) was.0, λ same. was.1 (ap (λ (r : RecordLogView). r.log.active) (sym done.log) ∙ same))
+      let log = appended_log m d before after (Command op) made done (omega (arith, low), grammar) low (subst (λ (n : Meaning O). HasLog n d before.log) is was.1) in (
+        laid (d.reads Objects) was.0,
+        subst (λ (n : Meaning O). HasLog n d after.log) (sym (ap (λ (r : RecordLogView). meaning r.bounds) done.log ∙ is)) log,
+      )

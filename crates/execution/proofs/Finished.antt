@@ -65,8 +65,8 @@ module _ {O : Type 0} (meaning : Bounds → Meaning O) (op : O) (old mid : Disk)
     pub short_in_use : ArePartsInUse before → ArePartsInUse after
     short_in_use used = untaken_in_use here after untaken (read_in_use old mid before objects read used)
 
-    pub short_attached : IsAttached old before → IsAttached mid after
-    short_attached attached = untaken_attached here after untaken mid (read_attached old mid before objects read attached)
+    pub short_attached : IsAttached meaning old before → IsAttached meaning mid after
+    short_attached attached = untaken_attached here after untaken meaning mid (read_attached meaning old mid before objects read attached)
 
     pub short_undone : IsUndone before after Memory
     short_undone = record {
@@ -94,9 +94,10 @@ module _ {O : Type 0} (meaning : Bounds → Meaning O) (op : O) (old mid : Disk)
       entries = done_here.entries;
     }
 
-    pub finished_attached : ((file : List ℕ) → IsLaidOn objects file → IsLaidOn after.store.objects file) → IsAttached old before → IsAttached mid after
-    finished_attached laid attached =
-        done_attached (meaning_in meaning p) op ((meaning_in meaning p).effect op values) here after done_here mid laid (read_attached old mid before objects read attached)
+    pub finished_attached : ArePartsInUse before → ((file : List ℕ) → IsLaidOn objects file → IsLaidOn after.store.objects file) → IsAttached meaning old before → IsAttached meaning mid after
+    finished_attached used laid attached =
+        done_attached (meaning_in meaning p) op ((meaning_in meaning p).effect op values) here after done_here meaning (ap meaning used.bounds) ready.shape place.number mid laid
+        (read_attached meaning old mid before objects read attached)
 
     module _ (bounded : (b : Bounds) → HasBounds b (meaning b)) (lawful : (b : Bounds) → IsSmall b → IsLawful (meaning b)) where
       writes_below : (q : Params) → IsInRange q → IsReady meaning q op values → (x : ℕ) → IsTrue (is_among x ((meaning_in meaning q).writes op)) → x < q.objects

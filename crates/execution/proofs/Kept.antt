@@ -3,6 +3,7 @@ use Rattle.std.proofs.Common.{◌≡◌, ◌∙◌, sym, subst, ap, ℕ, ◌<◌
 use Rattle.disk_model.specs.Disk.{Disk, Files}
 use Rattle.disk_model.specs.declared.machine.FileNo.TheVariants.{Objects}
 use Rattle.oper_core.specs.Meaning.{Meaning}
+use Rattle.oper_core.specs.declared.bounds.Bounds.{Bounds}
 use Rattle.formats.specs.Objects.{bounds_of, cell_of}
 use Rattle.formats.specs.declared.params.Params.{Params}
 use Rattle.log_frames.specs.LogView.{used_of}
@@ -16,6 +17,7 @@ use Rattle.explain_core.specs.World.{World}
 use Rattle.cache_manager.specs.Fetched.{IsFetched, fetched-in_use, fetched-same, fetched-shows}
 use Rattle.cache_manager.specs.Flushed.{AreEarly}
 use Rattle.cache_manager.specs.Kept.{IsAttached}
+use Rattle.cache_manager.specs.KeptLaws.{roomed_log, stays_log}
 use Rattle.cache_manager.specs.Laid.{Laid, IsLaidOn, KeepsCells, cell_or}
 use Rattle.cache_manager.specs.Parts.{AreInUse, Parts, Shows, ShowsStore, parts, store}
 use Rattle.cache_manager.specs.Taking.{ArePartsInUse}
@@ -59,12 +61,13 @@ read_in_use old new before after read used =
       early = subst (λ (s : SlotsView). (x : ℕ) → x < s.params.objects → id_in s x < before.log.next) (sym read.fetched.slots) used.early;
     }
 
-pub read_attached : (old new : Disk) (before : Parts) (after : Laid) → HasRead old new before.store.objects after → IsAttached old before → IsAttached new (with_objects before after)
-read_attached old new before after read attached told =
+pub read_attached : {O : Type 0} (meaning : Bounds → Meaning O) (old new : Disk) (before : Parts) (after : Laid) → HasRead old new before.store.objects after → IsAttached meaning old before
+    → IsAttached meaning new (with_objects before after)
+read_attached meaning old new before after read attached told =
     let told_old = read.stays.time.files_told.1 told in
     let was = attached told_old in
     let same : new.reads ≡ old.reads = read.stays.reads told_old in
-    (subst (λ (f : Files). IsLaidOn after (f Objects)) (sym same) (read.cells told_old was.0).1, was.1)
+    (subst (λ (f : Files). IsLaidOn after (f Objects)) (sym same) (read.cells told_old was.0).1, stays_log (meaning before.log.bounds) old new before.log told_old read.stays was.1)
 
 module _ (before after : Parts) (it : IsUntaken before after) where
   pub untaken_fetched : IsFetched before.store.objects after.store.objects
@@ -112,7 +115,5 @@ module _ (before after : Parts) (it : IsUntaken before after) where
             (subst (λ (s : SlotsView). (x : ℕ) → x < s.params.objects → id_in s x < before.log.next) (sym it.slots) used.early);
       }
 
-  pub untaken_attached : (d : Disk) → IsAttached d before → IsAttached d after
-  untaken_attached d attached told =
-      let was = attached told in
-      (it.laid (d.reads Objects) was.0, λ same. was.1 (ap (λ (r : RecordLogView). r.log.active) (sym it.log) ∙ same))
+  pub untaken_attached : {O : Type 0} (meaning : Bounds → Meaning O) (d : Disk) → IsAttached meaning d before → IsAttached meaning d after
+  untaken_attached meaning d attached told = let was = attached told in (it.laid (d.reads Objects) was.0, roomed_log meaning d before.log after.log it.log told was.1)

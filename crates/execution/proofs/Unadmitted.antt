@@ -1,5 +1,5 @@
 -- What holds of a command that is not admitted.
-use Rattle.std.proofs.Common.{◌≡◌, ◌∙◌, sym, inl, refl}
+use Rattle.std.proofs.Common.{◌≡◌, ◌∙◌, sym, inl, refl, ℕ}
 use Rattle.std.specs.Prelude.{Some, Err}
 use Rattle.disk_model.specs.Disk.{Disk, Stays, Rises}
 use Rattle.disk_model.specs.Moments.{runs_wider}
@@ -15,7 +15,8 @@ use Rattle.cache_manager.specs.Laid.{Laid, IsLaidOn, values_in}
 use Rattle.cache_manager.specs.Parts.{Parts, Shows, meaning_in}
 use Rattle.cache_manager.specs.Taking.{Ending, Takes}
 use Rattle.explain_core.specs.World.{World}
-use Rattle.execution.specs.Answers.{StopsAt, ending_of_exec}
+use Rattle.cache_manager.specs.Kept.{StopsAt}
+use Rattle.execution.specs.Answers.{ending_of_exec}
 use Rattle.execution.specs.Courses.{exec_course, refusal_in}
 use Rattle.execution.specs.Done.{IsUndone, LogWithout}
 use Rattle.execution.specs.Failures.{IsAdmitFailure, IsExecFailure}
@@ -54,13 +55,13 @@ module _ {O : Type 0} (meaning : Bounds → Meaning O) (op : O) (old new : Disk)
   admit_failure (LsnEnd number) fails = absurd fails
   admit_failure Memory fails = inl fails
 
-  pub admit_never_stops : (e : ExecErr) → Fails e → (log : RecordLogView) (stop : Stop) → ending_of_exec (Err e) ≡ Ending.Stopped stop → StopsAt log stop
-  admit_never_stops (Refused refusal) fails log stop is = cc is
-  admit_never_stops DiskFault fails log stop is = cc is
-  admit_never_stops (Damaged file place) fails log stop is = cc is
-  admit_never_stops (LogFull used need limit) fails log stop is = absurd fails
-  admit_never_stops (LsnEnd number) fails log stop is = absurd fails
-  admit_never_stops Memory fails log stop is = cc is
+  pub admit_never_stops : (e : ExecErr) → Fails e → (most : ℕ) (log : RecordLogView) (stop : Stop) → ending_of_exec (Err e) ≡ Ending.Stopped stop → StopsAt most log stop
+  admit_never_stops (Refused refusal) fails most log stop is = cc is
+  admit_never_stops DiskFault fails most log stop is = cc is
+  admit_never_stops (Damaged file place) fails most log stop is = cc is
+  admit_never_stops (LogFull used need limit) fails most log stop is = absurd fails
+  admit_never_stops (LsnEnd number) fails most log stop is = absurd fails
+  admit_never_stops Memory fails most log stop is = cc is
 
   module _ (after : Laid) (read : HasRead old new before.store.objects after) where
     admit_log : (e : ExecErr) → Fails e → LogWithout before.log before.log e

@@ -17,11 +17,11 @@ use Rattle.cache_manager.specs.Courses.Stop.{Full, At_end}
 use Rattle.cache_manager.specs.Finished.{IsQuiet}
 use Rattle.cache_manager.specs.Flushed.{AreEarly}
 use Rattle.cache_manager.specs.Forced.{IsForced}
-use Rattle.cache_manager.specs.Kept.{IsAttached}
+use Rattle.cache_manager.specs.Kept.{IsAttached, KeepsLog, StopsAt}
 use Rattle.cache_manager.specs.Laid.{IsLaidOn}
 use Rattle.cache_manager.specs.Parts.{AreInUse, Parts, Shows, meaning_in}
 use Rattle.cache_manager.specs.Taking.{ArePartsInUse, Ending, Takes}
-use Rattle.execution.specs.Answers.{StopsAt, ending_of_exec}
+use Rattle.execution.specs.Answers.{ending_of_exec}
 use Rattle.execution.specs.Courses.{command_length, exec_course, refusal_in}
 use Rattle.execution.specs.Done.{LogWithout}
 use Rattle.execution.specs.Failures.{IsAdmissible, IsExecFailure, LacksPlace}
@@ -79,29 +79,31 @@ module _ (here : Parts) (log : RecordLogView) (alike : IsAlike here.log log) whe
     early = subst (λ (n : ℕ). AreEarly n here.store.objects) (sym alike.next) used.early;
   }
 
-  pub alike_attached : (mid new : Disk) → Runs (In here.log.log.active Any) Same mid new → IsAttached mid here → IsAttached new (record { log = log; store = here.store })
-  alike_attached mid new runs attached told =
+  pub alike_attached : {O : Type 0} (meaning : Bounds → Meaning O) (mid new : Disk) → Runs (In here.log.log.active Any) Same mid new → KeepsLog meaning mid new here.log log → IsAttached meaning mid here
+      → IsAttached meaning new (record { log = log; store = here.store })
+  alike_attached meaning mid new runs keeps attached told =
       let told_mid = runs.time.files_told.1 told in
       let was = attached told_mid in
-      let same : new.reads Objects ≡ mid.reads Objects = (runs.reads told_mid).others Objects (λ is. was.1 (sym is)) in
-      (subst (λ (f : List ℕ). IsLaidOn here.store.objects f) (sym same) was.0, λ is. was.1 (sym alike.active ∙ is))
+      let same : new.reads Objects ≡ mid.reads Objects = (runs.reads told_mid).others Objects (λ is. was.1.keeps.in_force.a_log (sym is)) in
+      (subst (λ (f : List ℕ). IsLaidOn here.store.objects f) (sym same) was.0, keeps told_mid was.1)
 
 -- why it gets none, in the terms of the log after it
 module _ (limit : ℕ) (before after : RecordLogView) (n : ℕ) (low : before.next ≤ 2 ^ 62) where
-  pub lacks_stops : (e : ExecErr) → LacksPlace limit before n e → LogWithout before after e → (stop : Stop) → ending_of_exec (Err e) ≡ Ending.Stopped stop → StopsAt after stop
+  pub lacks_stops : (e : ExecErr) → LacksPlace limit before n e → LogWithout before after e → (stop : Stop) → ending_of_exec (Err e) ≡ Ending.Stopped stop → StopsAt limit after stop
   lacks_stops (Refused refusal) lacks log stop is = absurd lacks
   lacks_stops DiskFault lacks log stop is = cc is
   lacks_stops (Damaged file place) lacks log stop is = absurd lacks
   lacks_stops (LogFull used need most) lacks log stop is =
       let same : Full used need most ≡ stop = cc is in
-      subst (λ (s : Stop). StopsAt after s) same (
+      subst (λ (s : Stop). StopsAt limit after s) same (
         lacks.1 ∙ sym (ap (λ (r : RecordLogView). used_of r.log) log),
         ap (λ (r : RecordLogView). r.log.pending) log,
         omega (arith, lacks.0, lacks.1, lacks.2, lacks.3, growth_most before.log.pending n),
+        lacks.3,
       )
   lacks_stops (LsnEnd number) lacks log stop is =
       let same : At_end number ≡ stop = cc is in
-      subst (λ (s : Stop). StopsAt after s) same (
+      subst (λ (s : Stop). StopsAt limit after s) same (
         lacks.2 ∙ sym (ap (λ (r : RecordLogView). r.next) log),
         ap (λ (r : RecordLogView). r.log.pending) log,
         omega (arith, lacks.1, lacks.2, low),

@@ -1,12 +1,10 @@
 -- Which answer a command gets, in a world.
-use Rattle.std.specs.Prelude.{◌≡◌, ◌⊎◌, ◌+◌, ◌<◌, ◌≤◌, ◌^◌, ⊤, ℕ, [], length, Result, Ok, Err, None, Some}
+use Rattle.std.specs.Prelude.{◌≡◌, ◌⊎◌, ◌+◌, ◌<◌, ◌≤◌, ◌^◌, ⊤, ℕ, length, Result, Ok, Err, None, Some}
 use Rattle.oper_core.specs.Meaning.{Meaning, IsInGrammar}
-use Rattle.log_frames.specs.LogView.{used_of}
-use Rattle.log_records.specs.RecordLog.{RecordLogView}
 use Rattle.explain_core.specs.History.{commands_of}
 use Rattle.explain_core.specs.World.{World, end_of}
-use Rattle.cache_manager.specs.Courses.{Stop, grown}
-use Rattle.cache_manager.specs.Courses.Stop.{Through, Full, At_end, Worn}
+use Rattle.cache_manager.specs.Courses.{grown}
+use Rattle.cache_manager.specs.Courses.Stop.{Full, At_end}
 use Rattle.cache_manager.specs.Taking.{Ending}
 use Rattle.cache_manager.specs.Taking.Ending.{Done, Stopped, Short, Failed}
 use Rattle.execution.specs.Courses.{command_length, refusal_in}
@@ -44,11 +42,3 @@ module _ {O : Type 0} (m : Meaning O) (limit : ℕ) (w : World O) (used : ℕ) (
   HasCause (Err DiskFault) = (IsInGrammar m op × (0 < length (m.reads op))) ⊎ ((refusal_in m w op ≡ None) × (IsTooLong ⊎ (2 ^ 62 ≤ end_of w)))
   HasCause (Err (Damaged file place)) = ⊥
   HasCause (Err Memory) = ⊤
-
--- why a call is stopped, by the log that it leaves, in which nothing waits: the record has no room behind it, or no number
--- is left
-abbrev pub StopsAt : RecordLogView → Stop → Type 0
-StopsAt log Through = ⊥
-StopsAt log (Full used need limit) = (used ≡ used_of log.log) × (log.log.pending ≡ []) × (limit < used + need)
-StopsAt log (At_end number) = (number ≡ log.next) × (log.log.pending ≡ []) × (number ≡ 2 ^ 62)
-StopsAt log (Worn epoch) = ⊥

@@ -6,11 +6,11 @@ ghost use Rattle.log_frames.specs.LogView.{used_of};
 ghost use Rattle.explain_core.specs.World.{World};
 ghost use Rattle.cache_manager.specs.Courses.{Stop};
 ghost use Rattle.cache_manager.specs.Finished.{IsQuiet};
-ghost use Rattle.cache_manager.specs.Kept.{IsAttached};
+ghost use Rattle.cache_manager.specs.Kept.{IsAttached, StopsAt};
 ghost use Rattle.cache_manager.specs.Parts.{Shows, meaning_in, parts};
 ghost use Rattle.cache_manager.specs.Taking.{ArePartsInUse, Takes};
 ghost use Rattle.cache_manager.specs.Taking.Ending.{Stopped};
-ghost use Rattle.execution.specs.Answers.{HasCause, StopsAt, ending_of_exec};
+ghost use Rattle.execution.specs.Answers.{HasCause, ending_of_exec};
 ghost use Rattle.execution.specs.Courses.{exec_course};
 ghost use Rattle.execution.specs.Done.{IsDone, IsUndone};
 ghost use Rattle.execution.specs.Failures.{IsExecFailure};
@@ -46,9 +46,10 @@ pub fn execute<O: Oper, M: Machine>(
         (parts log.new objects.new graph.new.entries) (λ m w used. exec_course m objects.old.slots.params.limit op w used) (ending_of_exec result) }
     ensures quiet { IsQuiet (M.disk machine.old) (M.disk machine.new) }
 
-    // On every machine, after each answer.
+    // On every machine, after each answer, and unless the disk fails.
     ensures in_use { ArePartsInUse (parts log.new objects.new graph.new.entries) }
-    ensures attached { IsAttached (M.disk machine.old) (parts log.old objects.old graph.old.entries) → IsAttached (M.disk machine.new) (parts log.new objects.new graph.new.entries) }
+    ensures attached { IsErrOf result ExecErr.DiskFault ⊎ (IsAttached O.meaning (M.disk machine.old) (parts log.old objects.old graph.old.entries)
+        → IsAttached O.meaning (M.disk machine.new) (parts log.new objects.new graph.new.entries)) }
 
     // Each answer comes exactly where its cause holds.
     ensures exactly { (p : Numbers) (w : World O) → Shows (meaning_in O.meaning p) p (M.disk machine.old) (parts log.old objects.old graph.old.entries) w →
@@ -58,7 +59,7 @@ pub fn execute<O: Oper, M: Machine>(
     ensures done { IfOk result (IsDone O.meaning (parts log.old objects.old graph.old.entries) (parts log.new objects.new graph.new.entries) op) }
     ensures undone { IfErr result (IsUndone (parts log.old objects.old graph.old.entries) (parts log.new objects.new graph.new.entries)) }
     ensures failure { IfErr result (IsExecFailure O.meaning (M.disk machine.old) (M.disk machine.new) (parts log.old objects.old graph.old.entries) op) }
-    ensures stops { (stop : Stop) → ending_of_exec result ≡ Stopped stop → StopsAt log.new stop }
+    ensures stops { (stop : Stop) → ending_of_exec result ≡ Stopped stop → StopsAt objects.old.slots.params.limit log.new stop }
     ensures cause { IsErrOf result ExecErr.DiskFault → Rises (M.disk machine.old).disk_faults (M.disk machine.new).disk_faults }
 {
     explain_core::append_keeps::<O>();

@@ -5,6 +5,7 @@ ghost use Rattle.formats.specs.declared.params.Params.{Params as Numbers};
 ghost use Rattle.explain_core.specs.World.{World, run};
 ghost use Rattle.standing.specs.Moments.{TakesSome};
 ghost use Rattle.cache_manager.specs.Courses.{force_steps};
+ghost use Rattle.cache_manager.specs.Kept.{KeepsLog};
 ghost use Rattle.cache_manager.specs.Parts.{Store, Shows, meaning_in};
 ghost use Rattle.execution.specs.Done.{LogWithout};
 ghost use Rattle.execution.specs.Failures.{HasPlace, LacksPlace};
@@ -37,6 +38,7 @@ pub(crate) fn require_place<O: Oper, M: Machine>(
     ensures moments { (M.disk machine.old).tells_moments → (p : Numbers) (it : Store) (w : World O) → let m = meaning_in O.meaning p in
         Shows m p (M.disk machine.old) (record { log = log.old; store = it }) w →
         OnErr result (TakesSome m p (M.disk machine.old) (M.disk machine.new) w (force_steps m w)) }
+    ensures keeps { IfErr result (λ e. e ≢ ExecErr.DiskFault → KeepsLog O.meaning (M.disk machine.old) (M.disk machine.new) log.old log.new) }
     ensures fault { IsErrOf result ExecErr.DiskFault → Rises (M.disk machine.old).disk_faults (M.disk machine.new).disk_faults }
 {
     let used = log.used();

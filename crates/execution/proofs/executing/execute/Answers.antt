@@ -21,7 +21,7 @@ use Rattle.execution.proofs.Admitted.{accepted}
 use Rattle.execution.proofs.Causes.{admit_cause, lacks_cause}
 use Rattle.execution.proofs.Finished.{short_takes, short_in_use, short_attached, short_undone, is_done, finished_attached, finished_in_use, finished_cause, finished_takes}
 use Rattle.execution.proofs.Kept.{read_in_use, read_attached, read_shows, with_objects}
-use Rattle.execution.proofs.Results.{err_is, same_err}
+use Rattle.execution.proofs.Results.{err_is, same_err, unless_fault}
 use Rattle.execution.proofs.Unadmitted.{stays_quiet, admit_rises, admit_failure, admit_never_stops, admit_undone, admit_refused, admit_takes}
 use Rattle.execution.proofs.Unplaced.{alike_attached, alike_in_use, lacks_failure, lacks_stops, lacks_takes, reads_quiet, rises_later, unlogged_alike}
 use Rattle.execution.proofs.executing.execute.Given.{Over}
@@ -47,8 +47,8 @@ returns-in_err-values-clause-in_use g c =
     read_in_use (g.M.Machine.disk c.args.machine.now) (g.M.Machine.disk c.admit.new.machine) (parts c.args.log.now c.args.objects.now c.args.graph.now.entries) c.admit.new.objects c.admit.ensures.read c.requires.in_use
 
 pub returns-in_err-values-clause-attached : goal.returns-in_err-values-clause-attached
-returns-in_err-values-clause-attached g c attached =
-    read_attached (g.M.Machine.disk c.args.machine.now) (g.M.Machine.disk c.admit.new.machine) (parts c.args.log.now c.args.objects.now c.args.graph.now.entries) c.admit.new.objects c.admit.ensures.read attached
+returns-in_err-values-clause-attached g c = inr (λ attached.
+    read_attached g.O.Oper.meaning (g.M.Machine.disk c.args.machine.now) (g.M.Machine.disk c.admit.new.machine) (parts c.args.log.now c.args.objects.now c.args.graph.now.entries) c.admit.new.objects c.admit.ensures.read attached)
 
 pub returns-in_err-values-clause-exactly : goal.returns-in_err-values-clause-exactly
 returns-in_err-values-clause-exactly g c p w shows =
@@ -86,7 +86,7 @@ returns-in_err-values-clause-stops g c stop is =
     let new = g.M.Machine.disk c.admit.new.machine in
     let before = parts c.args.log.now c.args.objects.now c.args.graph.now.entries in
     let e = c.in_err-values.field-0.0 in
-    admit_never_stops g.O.Oper.meaning c.args.op old new before e c.in_err-values.ensures.cause c.args.log.now stop
+    admit_never_stops g.O.Oper.meaning c.args.op old new before e c.in_err-values.ensures.cause c.args.objects.now.slots.params.limit c.args.log.now stop
     (ap (λ (r : Result ℕ ExecErr). ending_of_exec r) (sym (err_is c.from_residual.result e c.from_residual.ensures.1)) ∙ is)
 
 pub returns-in_err-values-clause-cause : goal.returns-in_err-values-clause-cause
@@ -155,11 +155,13 @@ returns-in_err-require_place-clause-in_use g c =
     (read_in_use (g.M.Machine.disk c.args.machine.now) (g.M.Machine.disk c.admit.new.machine) start c.admit.new.objects c.admit.ensures.read c.requires.in_use)
 
 pub returns-in_err-require_place-clause-attached : goal.returns-in_err-require_place-clause-attached
-returns-in_err-require_place-clause-attached g c attached =
+returns-in_err-require_place-clause-attached g c =
     let start = parts c.args.log.now c.args.objects.now c.args.graph.now.entries in
+    let e = c.in_err-require_place.field-0.0 in
+    unless_fault c.from_residual-in_err-require_place.result e (err_is c.from_residual-in_err-require_place.result e c.from_residual-in_err-require_place.ensures.1) (λ other attached.
     alike_attached (with_objects start c.admit.new.objects) c.require_place.new.log (unlogged_alike c.args.log.now c.require_place.new.log c.in_err-require_place.field-0.0 c.in_err-require_place.ensures.log)
-    (g.M.Machine.disk c.admit.new.machine) (g.M.Machine.disk c.require_place.new.machine) c.in_err-require_place.ensures.runs
-    (read_attached (g.M.Machine.disk c.args.machine.now) (g.M.Machine.disk c.admit.new.machine) start c.admit.new.objects c.admit.ensures.read attached)
+    g.O.Oper.meaning (g.M.Machine.disk c.admit.new.machine) (g.M.Machine.disk c.require_place.new.machine) c.in_err-require_place.ensures.runs (c.in_err-require_place.ensures.keeps other)
+    (read_attached g.O.Oper.meaning (g.M.Machine.disk c.args.machine.now) (g.M.Machine.disk c.admit.new.machine) start c.admit.new.objects c.admit.ensures.read attached))
 
 pub returns-in_err-require_place-clause-exactly : goal.returns-in_err-require_place-clause-exactly
 returns-in_err-require_place-clause-exactly g c p w shows =
@@ -195,9 +197,11 @@ returns-in_err-require_place-clause-failure g c =
 
 pub returns-in_err-require_place-clause-stops : goal.returns-in_err-require_place-clause-stops
 returns-in_err-require_place-clause-stops g c stop is =
+    let at = goal.at.returns-in_err-require_place-clause-stops g c in
     let e = c.in_err-require_place.field-0.0 in
     let used = c.requires.in_use in
-    lacks_stops c.params-limit.result.limit c.args.log.now c.require_place.new.log c.in_ok-values.length used.store.low e c.in_err-require_place.ensures.lacks c.in_err-require_place.ensures.log stop
+    let n = command_length (meaning_in g.O.Oper.meaning c.args.objects.now.slots.params) c.args.op in
+    lacks_stops c.args.objects.now.slots.params.limit c.args.log.now c.require_place.new.log n used.store.low e (lacks g at.After-require_place e c.in_err-require_place.ensures.lacks) c.in_err-require_place.ensures.log stop
     (ap (λ (r : Result ℕ ExecErr). ending_of_exec r) (sym (err_is c.from_residual-in_err-require_place.result e c.from_residual-in_err-require_place.ensures.1)) ∙ is)
 
 pub returns-in_err-require_place-clause-cause : goal.returns-in_err-require_place-clause-cause
@@ -262,10 +266,10 @@ returns-in_err-append_command-clause-in_use g c =
     (read g at.In_ok-require_place) (parts c.append_command.new.log c.append_command.new.objects c.append_command.new.graph.entries) (untaken g at.In_err-append_command) c.requires.in_use
 
 pub returns-in_err-append_command-clause-attached : goal.returns-in_err-append_command-clause-attached
-returns-in_err-append_command-clause-attached g c attached =
+returns-in_err-append_command-clause-attached g c = inr (λ attached.
     let at = goal.at.returns-in_err-append_command-clause-attached g c in
     short_attached g.O.Oper.meaning c.args.op (g.M.Machine.disk c.args.machine.now) (g.M.Machine.disk c.require_place.new.machine) (parts c.args.log.now c.args.objects.now c.args.graph.now.entries) c.admit.new.objects
-    (read g at.In_ok-require_place) (parts c.append_command.new.log c.append_command.new.objects c.append_command.new.graph.entries) (untaken g at.In_err-append_command) attached
+    (read g at.In_ok-require_place) (parts c.append_command.new.log c.append_command.new.objects c.append_command.new.graph.entries) (untaken g at.In_err-append_command) attached)
 
 pub returns-in_err-append_command-clause-exactly : goal.returns-in_err-append_command-clause-exactly
 returns-in_err-append_command-clause-exactly g c p w shows =
@@ -328,11 +332,11 @@ returns-clause-in_use g c =
     (subst (λ (q : Params). IsInRange q) (params_same g at.In_ok-values) c.params-limit.ensures.range) c.requires.in_use
 
 pub returns-clause-attached : goal.returns-clause-attached
-returns-clause-attached g c attached =
+returns-clause-attached g c = inr (λ attached.
     let at = goal.at.returns-clause-attached g c in
     finished_attached g.O.Oper.meaning c.args.op (g.M.Machine.disk c.args.machine.now) (g.M.Machine.disk c.require_place.new.machine) (parts c.args.log.now c.args.objects.now c.args.graph.now.entries) c.admit.new.objects
     (read g at.In_ok-require_place) (parts c.append_command.new.log c.append_command.new.objects c.append_command.new.graph.entries) c.in_ok-values.values c.in_ok-values.ensures.ready (done g at.In_ok-append_command)
-    (has g at.After-require_place c.in_ok-require_place.ensures.has) c.append_command.ensures.laid attached
+    (has g at.After-require_place c.in_ok-require_place.ensures.has) c.requires.in_use c.append_command.ensures.laid attached)
 
 pub returns-clause-exactly : goal.returns-clause-exactly
 returns-clause-exactly g c p w shows =
