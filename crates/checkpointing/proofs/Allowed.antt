@@ -1,17 +1,16 @@
 -- The steps of a checkpoint, of a restart's check and of a trim may be taken, and add no command.
-use Rattle.std.proofs.Common.{◌≡◌, sym, subst, ap, ℕ, Bool, true, false, List, [], ◌∷◌, ◌++◌, length, refl, arith, inl, inr}
-use Rattle.std.specs.Prelude.{⊤, IsFalse, nat_lt, nat_le, if◌then◌else◌, ◌^◌, ◌+◌}
+use Rattle.std.proofs.Common.{◌≡◌, sym, subst, ℕ, List, [], ◌∷◌, ◌++◌, length, refl, arith, inl, inr}
+use Rattle.std.specs.Prelude.{⊤, nat_lt, nat_le, ◌^◌, ◌+◌}
 use Rattle.std.proofs.lemmas.Bool.{cases_Bool, or_parts, ltb-false, cond_both, cond-true, cond-false}
 use Rattle.oper_core.specs.Meaning.{Meaning}
 use Rattle.explain_core.specs.RunLaws.{allowed-append}
 use Rattle.explain_core.specs.World.{World, Step, step, run, IsLive, NoGroup, AreAllowed}
 use Rattle.explain_core.specs.World.Step.{Begin, End, Append, Block_gate, Check, Slot_gate, Removal, Header_gate, Replay, Crash}
-use Rattle.cache_manager.specs.CourseLaws.{behind_both}
 use Rattle.cache_manager.specs.Courses.{Course, course, and_then, buffered, force_course, force_steps, grown, is_through, room_steps, waits}
 use Rattle.cache_manager.specs.Courses.Stop.{Through, Full, Worn}
 use Rattle.cache_manager.specs.Logged.{log_limit}
 use Rattle.cache_manager.specs.Running.{AreUpkeep, IsRunning, KeepsSound, MayBeTaken, may_be_taken, running_after}
-use Rattle.cache_manager.specs.Upkeep.{upkeep_append, upkeep_force}
+use Rattle.cache_manager.specs.Upkeep.{upkeep_append}
 use Rattle.checkpointing.specs.Courses.{check_course, check_length, check_steps, checkpoint_course, closing_course, last_epoch, logged_course, new_base, rewrite_course, trim_course, trimmed, trimmed_file}
 use Rattle.checkpointing.proofs.Base.{trim_allowed}
 

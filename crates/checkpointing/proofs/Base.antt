@@ -1,11 +1,10 @@
 -- The least of a check's starts and of its next number is where a trim lets the log begin, and it may begin there.
-use Rattle.std.proofs.Common.{◌≡◌, ◌∙◌, sym, subst, ap, ℕ, zero, suc, ◌+◌, ◌<◌, ◌≤◌, Bool, true, false, List, [], ◌∷◌, length, map, refl, arith, inl, inr, Option, None, Some}
-use Rattle.std.specs.Prelude.{All, IsTrue, IfSome, ◌==◌, ◌&&◌, ◌||◌, slice_get}
+use Rattle.std.proofs.Common.{◌≡◌, sym, subst, ℕ, zero, suc, ◌<◌, ◌≤◌, List, [], ◌∷◌, length, map, refl, arith, inl, inr, Option, Some}
+use Rattle.std.specs.Prelude.{All, IsTrue, IfSome, ◌==◌, slice_get}
 use Rattle.std.proofs.lemmas.Bool.{both_ways, cases_lt, and_parts, and_from, or_cases, or_left, eqb-true, eq-eqb}
 use Rattle.std.proofs.lemmas.List.Elements.{All-head, All-tail, All-weaker}
 use Rattle.oper_core.specs.Meaning.{Meaning, IsLawful}
 use Rattle.oper_core.specs.State.{State, is_among}
-use Rattle.install_order.specs.Computed.{least_below}
 use Rattle.install_order.specs.Entries.{accesses}
 use Rattle.install_order.specs.NodeLaws.{least-is}
 use Rattle.install_order.specs.Order.{Access}
@@ -13,7 +12,7 @@ use Rattle.install_order.specs.declared.entry.Entry.{Entry}
 use Rattle.write_graph.specs.Graph.{Lists, IsLeast}
 use Rattle.write_graph.specs.Objects.{IsWriter, IsWritten}
 use Rattle.explain_core.specs.GraphLaws.{accepted-in_grammar}
-use Rattle.explain_core.specs.History.{Member, IsMember, accesses_of, numbered, value_at, writes_some}
+use Rattle.explain_core.specs.History.{Member, IsMember, value_at, writes_some}
 use Rattle.explain_core.specs.History.Member.{Command, Identity}
 use Rattle.explain_core.specs.Sound.{IsSound}
 use Rattle.explain_core.specs.World.{World, IsAllowed, IsLive, NoGroup, end_of, graph_access}

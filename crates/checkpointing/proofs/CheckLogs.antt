@@ -12,11 +12,10 @@ use Rattle.checkpoint.specs.declared.table.Table.{Table}
 use Rattle.formats.specs.declared.params.Params.{Params}
 use Rattle.log_frames.specs.LogView.{used_of, growth_of}
 use Rattle.log_records.specs.RecordLog.{RecordLogView}
-use Rattle.install_order.specs.declared.entry.Entry.{Entry}
 use Rattle.explain_core.specs.Sound.{IsSound}
 use Rattle.explain_core.specs.Taken.{after_none}
 use Rattle.explain_core.specs.TurnLaws.{run_none}
-use Rattle.explain_core.specs.World.{World, Step, run, table_now, end_of}
+use Rattle.explain_core.specs.World.{World, run, table_now, end_of}
 use Rattle.standing.specs.Members.{table_of}
 use Rattle.standing.specs.Moments.{TakesSome}
 use Rattle.cache_manager.specs.Appended.{next_number}
@@ -25,11 +24,10 @@ use Rattle.cache_manager.specs.Courses.{Course, course, grown, room_steps, table
 use Rattle.cache_manager.specs.Courses.Stop.{Through, Full}
 use Rattle.cache_manager.specs.Forced.{IsForced}
 use Rattle.cache_manager.specs.Growth.{growth_shown}
-use Rattle.cache_manager.specs.Laid.{Laid}
 use Rattle.cache_manager.specs.Logged.{log_limit}
-use Rattle.cache_manager.specs.Parts.{Parts, Shows, ShowsStore, Store, meaning_in, parts}
+use Rattle.cache_manager.specs.Parts.{Parts, Shows, ShowsStore, Store, meaning_in}
 use Rattle.cache_manager.specs.Stored.{stays_shown, store_shown}
-use Rattle.cache_manager.specs.Taking.{Ending, Follows, IsAfter, Takes}
+use Rattle.cache_manager.specs.Taking.{Ending, Follows, Takes}
 use Rattle.cache_manager.specs.Taking.Ending.{Done, Stopped, Short, Failed}
 use Rattle.cache_manager.specs.declared.install_err.InstallErr.{InstallErr}
 use Rattle.cache_manager.specs.declared.install_err.InstallErr.TheVariants.{DiskFault, Memory}

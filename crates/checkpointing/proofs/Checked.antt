@@ -1,33 +1,29 @@
 -- A log that shows a world shows, with a check appended, the world after that step, and with the check forced the one after
 -- both steps.
-use Rattle.std.proofs.Common.{◌≡◌, ◌∙◌, sym, subst, ap, ℕ, ◌+◌, ◌*◌, ◌<◌, true, List, [], ◌∷◌, ◌++◌, length, refl, arith}
+use Rattle.std.proofs.Common.{◌≡◌, ◌∙◌, sym, subst, ap, ℕ, ◌+◌, ◌*◌, List, [], ◌∷◌, ◌++◌, length, refl, arith}
 use Rattle.std.specs.Prelude.{nat_lt}
 use Rattle.std.proofs.lemmas.Bool.{cond-true, lt-ltb, or_right}
 use Rattle.std.proofs.lemmas.List.{append-nil}
 use Rattle.disk_model.specs.Disk.{Disk, IsDisk}
-use Rattle.disk_model.specs.declared.machine.FileNo.{FileNo}
-use Rattle.disk_model.specs.declared.machine.FileNo.TheVariants.{Objects}
 use Rattle.oper_core.specs.Meaning.{Meaning}
-use Rattle.oper_core.specs.declared.bounds.Bounds.{Bounds}
 use Rattle.checkpoint.specs.declared.table.Table.{Table as Logged_table}
-use Rattle.formats.specs.Log.{Header}
 use Rattle.formats.specs.Records.{record_code}
 use Rattle.formats.specs.declared.params.Params.{Params}
 use Rattle.formats.specs.declared.record.Record.{Record}
 use Rattle.formats.specs.declared.record.Record.TheVariants.{Check as Logged_check}
 use Rattle.log_frames.specs.LogView.{used_of, growth_of}
 use Rattle.log_records.specs.RecordLaws.{keeps_append, keeps_room}
-use Rattle.log_records.specs.RecordLog.{RecordLogView, counts}
-use Rattle.explain_core.specs.History.{Member}
+use Rattle.log_records.specs.RecordLog.{RecordLogView}
 use Rattle.explain_core.specs.Sound.{IsSound}
-use Rattle.explain_core.specs.World.{World, Table, Step, step, run, table_now}
+use Rattle.explain_core.specs.World.{World, Step, step, run, table_now}
 use Rattle.explain_core.specs.World.Step.{Block_gate, Check}
-use Rattle.standing.specs.Members.{members_of, tables_in, table_of, members-append, tables-append}
+use Rattle.standing.specs.Members.{members_of, table_of, members-append, tables-append}
 use Rattle.standing.specs.Moments.{TakesSome, moments_twice}
 use Rattle.cache_manager.specs.Courses.{force_steps, waits}
 use Rattle.cache_manager.specs.Forced.{IsForced, force_is_gate}
 use Rattle.cache_manager.specs.Growth.{end_more}
-use Rattle.cache_manager.specs.Parts.{Parts, Shows, Store}
+use Rattle.cache_manager.specs.Kept.{HasLog}
+use Rattle.cache_manager.specs.Parts.{Shows, Store}
 use Rattle.cache_manager.specs.Stored.{run_one, run_two, stays_shown, store_shown}
 use Rattle.checkpointing.specs.Checks.{IsCheckHere, IsSameLog}
 use Rattle.checkpointing.specs.Courses.{check_steps}
@@ -77,6 +73,16 @@ module _ {O : Type 0} (m : Meaning O) (log : RecordLogView) (table : Logged_tabl
   check_used last forced bytes =
       ap (λ (r : RecordLogView). used_of r.log) forced ∙ end_more log.log.end log.log.pending (record_code m (Logged_check table)) (omega (arith, bytes))
       ∙ ap (λ (n : ℕ). used_of log.log + growth_of log.log.pending n) bytes
+
+  -- a log that keeps some records keeps the check behind them
+  pub checked_log : (d : Disk) → IsCheckHere m log table → HasLog m d log → HasLog m d after
+  checked_log d here has =
+      let new : Record O = Logged_check table in
+      record {
+        stable = has.stable;
+        pending = has.pending ++ new ∷ [];
+        keeps = keeps_append m d log after has.stable has.pending new has.keeps here.grammar here.placed refl refl refl refl refl refl refl;
+      }
 
   module _ (p : Params) (d : Disk) (it : Store) (v : World O) (shows : Shows m p d (record { log = log; store = it }) v) where
     -- more room changes nothing

@@ -1,5 +1,5 @@
 -- A checkpoint and the check of a restart take their courses by that of a check.
-use Rattle.std.proofs.Common.{◌≡◌, ◌∙◌, sym, subst, ap, ℕ, true, false, List, [], ◌++◌, refl, inl, inr, ◌⊎◌, ⊎_elim, Option, Some, None}
+use Rattle.std.proofs.Common.{◌≡◌, ◌∙◌, sym, subst, ap, ℕ, List, [], ◌++◌, refl, inl, inr, ◌⊎◌, ⊎_elim, Option, Some, None}
 use Rattle.std.specs.Prelude.{IsFalse, Result, Ok, Err, IsErrAnd}
 use Rattle.std.proofs.lemmas.Bool.{cases_Bool, cond-true, cond-false}
 use Rattle.std.proofs.lemmas.List.{append-nil}
@@ -18,7 +18,7 @@ use Rattle.cache_manager.specs.Courses.{Course, Stop, course, force_steps, is_th
 use Rattle.cache_manager.specs.Courses.Stop.{Through, Full}
 use Rattle.cache_manager.specs.Logged.{log_limit}
 use Rattle.cache_manager.specs.Parts.{Parts, Shows, meaning_in}
-use Rattle.cache_manager.specs.Taking.{Ending, Follows, IsAfter, Takes, ending_of as ended}
+use Rattle.cache_manager.specs.Taking.{Ending, Follows, Takes, ending_of as ended}
 use Rattle.cache_manager.specs.Taking.Ending.{Done, Stopped, Short, Failed}
 use Rattle.cache_manager.specs.declared.install_err.InstallErr.{InstallErr}
 use Rattle.cache_manager.specs.declared.install_err.InstallErr.TheVariants.{LogFull, LsnEnd, DiskFault, Memory}

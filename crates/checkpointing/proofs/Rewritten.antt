@@ -1,5 +1,5 @@
 -- A log that is all forced shows, with another in its place, the world after a header's gate.
-use Rattle.std.proofs.Common.{◌≡◌, ◌≢◌, ◌∙◌, sym, subst, ap, ℕ, ◌+◌, ◌-◌, ◌<◌, ◌≤◌, List, [], ◌∷◌, ◌++◌, length, take, drop, map, refl, arith, inl, inr, ◌⊎◌, ⊎_elim, length-append, length-drop}
+use Rattle.std.proofs.Common.{◌≡◌, ◌≢◌, ◌∙◌, sym, subst, ap, ℕ, ◌+◌, ◌-◌, ◌≤◌, List, [], ◌∷◌, ◌++◌, length, take, drop, map, refl, arith, inl, inr, ⊎_elim, length-append, length-drop}
 use Rattle.std.proofs.Math.Seq.{take-length, drop-length, take-add}
 use Rattle.std.proofs.lemmas.List.{append-nil, drop-drop, map-append}
 use Rattle.disk_model.specs.Disk.{Disk, Files, LeavesOnly}
@@ -15,7 +15,6 @@ use Rattle.formats.specs.Records.{AreRecords, payload_of, record_code, commands_
 use Rattle.formats.specs.declared.params.Params.{Params}
 use Rattle.formats.specs.declared.record.Record.{Record}
 use Rattle.formats.specs.declared.record.Record.TheVariants.{Command as Logged_command, Identity as Logged_identity, Check as Logged_check}
-use Rattle.log_frames.specs.LogView.{used_of}
 use Rattle.log_frames.specs.Rewriting.{file_length}
 use Rattle.log_records.specs.RecordLaws.{AreRecords-front}
 use Rattle.log_records.specs.RecordLog.{RecordLogView, Keeps}
@@ -24,16 +23,16 @@ use Rattle.log_records.specs.Rewriting.{IsRewrittenPartly, code_lengths, command
 use Rattle.explain_core.specs.History.{Member, commands_of}
 use Rattle.explain_core.specs.Sound.{IsSound}
 use Rattle.explain_core.specs.StableLaws.{commands_of-append}
-use Rattle.explain_core.specs.World.{World, Step, Table, step, table_now}
+use Rattle.explain_core.specs.World.{World, Table, step, table_now}
 use Rattle.explain_core.specs.World.Step.{Header_gate}
 use Rattle.standing.specs.Members.{members_of, tables_in, table_of, members-append, tables-append}
 use Rattle.standing.specs.Moments.{ShowsEither, TakesSome, moments_one}
-use Rattle.standing.specs.Standing.{FilesShow, stored}
+use Rattle.standing.specs.Standing.{stored}
 use Rattle.cache_manager.specs.Buffered.{check_bytes}
 use Rattle.cache_manager.specs.Courses.{record_length, table_length}
-use Rattle.cache_manager.specs.Parts.{Parts, Shows, Store}
+use Rattle.cache_manager.specs.Parts.{Shows, Store}
 use Rattle.checkpointing.specs.Checks.{IsCheckHere}
-use Rattle.checkpointing.specs.Courses.{check_length, lengths_left, new_base, trimmed, trimmed_file}
+use Rattle.checkpointing.specs.Courses.{check_length, lengths_left, new_base, trimmed_file}
 use Rattle.checkpointing.proofs.Tails.{tail_members, tail_tables, tail_lengths, left_commands}
 
 -- the other log is not the objects file
@@ -43,7 +42,7 @@ other_log LogA a_log = λ e. cc
 other_log LogB a_log = λ e. cc
 
 -- records of no bytes are none
-no_records : {O : Type 0} (m : Meaning O) (records : List (Record O)) → [] ≡ payload_of m records → records ≡ []
+pub no_records : {O : Type 0} (m : Meaning O) (records : List (Record O)) → [] ≡ payload_of m records → records ≡ []
 no_records m [] none = refl
 no_records m (Logged_command number op ∷ records) none = absurd (omega (arith, ap length none))
 no_records m (Logged_identity number x value ∷ records) none = absurd (omega (arith, ap length none))

@@ -1,20 +1,19 @@
 -- Of the redo starts of a graph those are kept that a check may have; where the store shows a world, these are all.
-use Rattle.std.proofs.Common.{◌≡◌, ◌∙◌, sym, subst, ap, ℕ, zero, suc, ◌+◌, ◌*◌, ◌<◌, ◌≤◌, Bool, true, List, [], ◌∷◌, ◌++◌, length, map, get_or, refl, arith, inl, inr, length-append}
+use Rattle.std.proofs.Common.{◌≡◌, ◌∙◌, subst, ap, ℕ, zero, suc, ◌+◌, ◌*◌, ◌<◌, ◌≤◌, Bool, true, List, [], ◌∷◌, ◌++◌, length, map, get_or, refl, arith, inl, inr, length-append}
 use Rattle.std.specs.Prelude.{All, IsTrue, ◌^◌, ◌&&◌, ◌==◌, nat_lt, nat_le}
-use Rattle.std.specs.List.{filter, AllPairs, flat_map, list_any}
+use Rattle.std.specs.List.{filter, AllPairs, flat_map}
 use Rattle.std.specs.List.Sorted.{IsStrictlyIncreasing}
-use Rattle.std.proofs.lemmas.Bool.{both_ways, and_parts, and_from, or_cases, cond_both, cond-true, ltb-true, leb-true, lt-ltb, le-leb, eqb-true}
+use Rattle.std.proofs.lemmas.Bool.{both_ways, and_parts, and_from, or_cases, or_left, eq-eqb, cond_both, cond-true, ltb-true, leb-true, lt-ltb, le-leb, eqb-true}
 use Rattle.std.proofs.lemmas.List.Elements.{All-nil, All-cons, All-head, All-tail, All-filter, All-weaker, filter_passes}
 use Rattle.std.proofs.lemmas.List.Kept.{AllPairs-cons, AllPairs-from_increasing}
 use Rattle.byteorder.specs.Endian.{little_bytes}
 use Rattle.oper_core.specs.LittleEndian.{length-little_bytes}
 use Rattle.oper_core.specs.Meaning.{Meaning, IsLawful}
 use Rattle.oper_core.specs.State.{is_among}
-use Rattle.checkpoint.specs.Codec.{FitsStart, IsTable, start_code}
+use Rattle.checkpoint.specs.Codec.{start_code}
 use Rattle.checkpoint.specs.declared.table.Table.{Table}
-use Rattle.formats.specs.Records.{IsCheckAt, record_code}
+use Rattle.formats.specs.Records.{record_code}
 use Rattle.formats.specs.declared.record.Record.TheVariants.{Check as Logged_check}
-use Rattle.install_order.specs.Computed.{IsWithin}
 use Rattle.install_order.specs.Entries.{accesses, writes_at}
 use Rattle.install_order.specs.Order.{Access}
 use Rattle.install_order.specs.declared.entry.Entry.{Entry}
@@ -30,6 +29,11 @@ use Rattle.checkpointing.specs.Checks.{is_in_log, IsCheckHere}
 -- the objects of starts
 abbrev pub firsts : List (ℕ × ℕ) → List ℕ
 firsts starts = map (λ s. s.0) starts
+
+-- of a graph without entries nothing is redone
+pub no_starts : (starts : List (ℕ × ℕ)) → Lists (IsWritten (accesses [])) (firsts starts) → starts ≡ []
+no_starts [] lists = refl
+no_starts (s ∷ starts) lists = let written = (lists.exactly s.0).0 (or_left (s.0 == s.0) (is_among s.0 (firsts starts)) (eq-eqb s.0 s.0 refl)) in absurd (both_ways _ refl written.1)
 
 firsts_kept : (P : ℕ → Type 0) (f : ℕ × ℕ → Bool) (starts : List (ℕ × ℕ)) → All P (firsts starts) → All P (firsts (filter f starts))
 firsts_kept P f [] all = all

@@ -1,5 +1,5 @@
 -- Where no file changes the same world is shown, and no step is taken.
-use Rattle.std.proofs.Common.{sym, subst, ap, List, ℕ}
+use Rattle.std.proofs.Common.{sym, subst, List}
 use Rattle.disk_model.specs.Disk.{Disk, Files, Same, Stays}
 use Rattle.disk_model.specs.Moments.{first_call, from_reads}
 use Rattle.disk_model.specs.Silent.{IsSilent}

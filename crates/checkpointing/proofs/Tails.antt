@@ -1,17 +1,15 @@
 -- The records that a rewrite keeps are the members from the new base on, and those that it leaves out the ones before it.
-use Rattle.std.proofs.Common.{◌≡◌, ◌∙◌, sym, subst, ap, ℕ, suc, ◌+◌, ◌-◌, ◌<◌, ◌≤◌, Bool, true, false, List, [], ◌∷◌, ◌++◌, length, take, drop, map, refl, arith, inl, inr, drop-cons}
-use Rattle.std.specs.Prelude.{not, nat_le}
-use Rattle.std.specs.List.{filter}
+use Rattle.std.proofs.Common.{◌≡◌, ◌∙◌, sym, subst, ap, ℕ, suc, ◌+◌, ◌-◌, ◌<◌, ◌≤◌, true, false, List, [], ◌∷◌, take, drop, map, refl, arith, inl, inr}
+use Rattle.std.specs.Prelude.{nat_le}
 use Rattle.std.proofs.Math.Seq.{drop-nil, take-nil}
 use Rattle.std.proofs.lemmas.Bool.{cases_Bool, cases_lt, cond-true, cond-false, le-leb, lt-leb, not_from_true, not_from_false}
 use Rattle.oper_core.specs.Meaning.{Meaning}
-use Rattle.formats.specs.Records.{AreRecords, record_code, commands_of as logged_commands}
+use Rattle.formats.specs.Records.{AreRecords, commands_of as logged_commands}
 use Rattle.formats.specs.declared.record.Record.{Record}
 use Rattle.formats.specs.declared.record.Record.TheVariants.{Command as Logged_command, Identity as Logged_identity, Check as Logged_check}
 use Rattle.log_records.specs.Rewriting.{is_numbered_from, numbered_from, left_out, code_lengths}
 use Rattle.explain_core.specs.History.{Member, commands_of}
 use Rattle.explain_core.specs.History.Member.{Command, Identity}
-use Rattle.explain_core.specs.World.{Table}
 use Rattle.standing.specs.Members.{members_of, tables_in}
 use Rattle.cache_manager.specs.Courses.{record_length}
 use Rattle.cache_manager.specs.Growth.{code_length}

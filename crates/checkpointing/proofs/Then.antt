@@ -1,17 +1,16 @@
 -- A call that takes a course by two calls, one behind the other.
-use Rattle.std.proofs.Common.{◌≡◌, ◌∙◌, sym, subst, ap, ℕ, List, ◌++◌}
+use Rattle.std.proofs.Common.{sym, subst, ap, ℕ}
 use Rattle.disk_model.specs.Disk.{Disk, Runs, Same, Files}
 use Rattle.oper_core.specs.Meaning.{Meaning}
 use Rattle.oper_core.specs.declared.bounds.Bounds.{Bounds}
 use Rattle.formats.specs.declared.params.Params.{Params}
 use Rattle.log_frames.specs.LogView.{used_of}
 use Rattle.explain_core.specs.RunLaws.{run-append}
-use Rattle.explain_core.specs.Taken.{IsAfterSome, after_behind}
-use Rattle.explain_core.specs.World.{World, Step, run}
+use Rattle.explain_core.specs.Taken.{after_behind}
+use Rattle.explain_core.specs.World.{World, run}
 use Rattle.standing.specs.Moments.{TakesSome, moments_longer, moments_twice}
 use Rattle.cache_manager.specs.CourseLaws.{joined, behind_both, behind_through}
-use Rattle.cache_manager.specs.Courses.{Course, Stop, course, behind, and_then, is_through}
-use Rattle.cache_manager.specs.Courses.Stop.{Through}
+use Rattle.cache_manager.specs.Courses.{Course, and_then, is_through}
 use Rattle.cache_manager.specs.Parts.{Parts, Shows, meaning_in}
 use Rattle.cache_manager.specs.Taking.{Ending, Follows, IsAfter, Takes}
 use Rattle.cache_manager.specs.Taking.Ending.{Done, Stopped, Short, Failed}

@@ -1,6 +1,6 @@
 -- A rewrite takes its course, and with the force before it that of a trim.
-use Rattle.std.proofs.Common.{◌≡◌, ◌∙◌, sym, subst, ap, ℕ, ◌+◌, ◌<◌, ◌≤◌, false, List, [], ◌∷◌, length, map, refl, arith, inl, inr}
-use Rattle.std.specs.Prelude.{◌≢◌, All, ◌^◌, nat_le, nat_lt, Result, Err, IfErr, IsErrAnd}
+use Rattle.std.proofs.Common.{◌≡◌, ◌∙◌, sym, subst, ap, ℕ, ◌<◌, ◌≤◌, false, List, [], ◌∷◌, refl, arith, inl, inr, ◌⊎◌}
+use Rattle.std.specs.Prelude.{◌≢◌, All, ◌^◌, nat_le, nat_lt, Result, Err, IsErrAnd, IsErrOf}
 use Rattle.std.proofs.lemmas.Result.{err_from_is_err_and}
 use Rattle.std.proofs.lemmas.Bool.{cases_lt, lt-ltb, le-ltb, lt-leb, le-leb, cond-true, cond-false}
 use Rattle.disk_model.specs.Disk.{Any, Disk, In, IsDisk, Files, LeavesOnly, Runs, Same, Stays}
@@ -13,7 +13,6 @@ use Rattle.formats.specs.InForce.{other_of}
 use Rattle.formats.specs.Objects.{IsObjectsFile, bounds_of}
 use Rattle.formats.specs.Image.{IsRecordFault}
 use Rattle.formats.specs.Log.{IsWholeLog}
-use Rattle.formats.specs.Records.{IsCheckAt, record_code}
 use Rattle.formats.specs.declared.params.Params.{Params}
 use Rattle.formats.specs.declared.record.Record.{Record}
 use Rattle.log_frames.specs.Rewriting.{file_length}
@@ -26,7 +25,7 @@ use Rattle.log_records.specs.Rewriting.{IsNewLength, IsRewritable, IsRewrittenPa
 use Rattle.explain_core.specs.Sound.{IsSound}
 use Rattle.explain_core.specs.Taken.{after_none}
 use Rattle.explain_core.specs.TurnLaws.{run_none}
-use Rattle.explain_core.specs.World.{World, Step, step, run, end_of, IsAllowed}
+use Rattle.explain_core.specs.World.{World, step, end_of, IsAllowed}
 use Rattle.explain_core.specs.World.Step.{Header_gate}
 use Rattle.standing.specs.Moments.{TakesSome}
 use Rattle.standing.specs.OneStable.{small_store}
@@ -36,12 +35,12 @@ use Rattle.cache_manager.specs.Courses.Stop.{Through, Full, Worn}
 use Rattle.cache_manager.specs.Logged.{log_limit}
 use Rattle.cache_manager.specs.Parts.{Parts, Shows, ShowsStore, Store, meaning_in}
 use Rattle.cache_manager.specs.Stored.{run_one, stays_shown, store_shown}
-use Rattle.cache_manager.specs.Taking.{Ending, Follows, IsAfter, Takes}
+use Rattle.cache_manager.specs.Taking.{Ending, Follows, Takes}
 use Rattle.cache_manager.specs.Taking.Ending.{Done, Stopped, Short, Failed}
 use Rattle.checkpointing.specs.Causes.{from_log}
 use Rattle.checkpointing.specs.Checks.{IsCheckHere, IsTakenNow}
 use Rattle.checkpointing.specs.Courses.{last_epoch, new_base, rewrite_course, trim_course, trimmed, trimmed_file}
-use Rattle.checkpointing.specs.Left.{DamagedBy, ending_of}
+use Rattle.checkpointing.specs.Left.{DamagedBy, IsTooLong, ending_of}
 use Rattle.checkpointing.specs.declared.trim_err.TrimErr.{TrimErr}
 use Rattle.checkpointing.specs.declared.trim_err.TrimErr.TheVariants as of_trim
 use Rattle.checkpointing.proofs.Base.{base_is, trim_allowed}
@@ -253,6 +252,22 @@ damage_told m old new log rises length_is (of_log.LogFull len need limit) cause 
 damage_told m old new log rises length_is (of_log.Damaged file place) cause stays = tail_still m old new log file place (stays (λ e. cc)) cause.0
 damage_told m old new log rises length_is (of_log.Exhausted epoch) cause stays = tt
 damage_told m old new log rises length_is of_log.Memory cause stays = tt
+
+-- what is reported to be too long
+pub long_told : (rises : Type 0) (fault : FileNo → ℕ → Type 0) (length_is : ℕ → Type 0) (log : LogView) (e : LogErr) → RewriteFails rises fault length_is log e → IsTooLong (from_log e)
+long_told rises fault length_is log of_log.DiskFault cause = tt
+long_told rises fault length_is log (of_log.LogFull len need limit) cause = cause.3
+long_told rises fault length_is log (of_log.Damaged file place) cause = tt
+long_told rises fault length_is log (of_log.Exhausted epoch) cause = tt
+long_told rises fault length_is log of_log.Memory cause = tt
+
+-- the disk failed, or what holds of every other error holds of it
+pub unless_fault : {T P : Type 0} (r : Result T TrimErr) (e : LogErr) → IsErrAnd r (λ k. k ≡ from_log e) → (e ≢ of_log.DiskFault → P) → IsErrOf r of_trim.DiskFault ⊎ P
+unless_fault r of_log.DiskFault is so = let q = err_from_is_err_and r is in inl (q.1 ∙ (λ i. Err (q.2 i)))
+unless_fault r (of_log.LogFull len need limit) is so = inr (so (λ same. cc))
+unless_fault r (of_log.Damaged file place) is so = inr (so (λ same. cc))
+unless_fault r (of_log.Exhausted epoch) is so = inr (so (λ same. cc))
+unless_fault r of_log.Memory is so = inr (so (λ same. cc))
 
 -- how a trim ends that hands on why a call failed
 pub ends_by : {T : Type 0} (r : Result T TrimErr) (e : TrimErr) → IsErrAnd r (λ k. k ≡ e) → ending_of {T = Unit {0}} (Err e) ≡ ending_of r

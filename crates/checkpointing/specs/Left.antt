@@ -1,5 +1,5 @@
 -- How the calls end, and what they leave on every machine.
-use Rattle.std.specs.Prelude.{◌≡◌, ⊤, ℕ, Option, None, Some, Result, Ok, Err}
+use Rattle.std.specs.Prelude.{◌≡◌, ◌<◌, ⊤, ℕ, Option, None, Some, Result, Ok, Err}
 use Rattle.disk_model.specs.declared.machine.FileNo.{FileNo}
 use Rattle.log_frames.specs.LogView.{used_of}
 use Rattle.log_records.specs.RecordLog.{RecordLogView}
@@ -30,6 +30,14 @@ ending_of (Err DiskFault) = Failed
 ending_of (Err (Damaged file place)) = Short
 ending_of (Err (LogFull used need limit)) = Stopped (Full used need limit)
 ending_of (Err Memory) = Short
+
+-- a log is too long for a trim only where the file of the new one would be longer than the limit
+abbrev pub IsTooLong : TrimErr → Type 0
+IsTooLong (LogFull used need limit) = limit < need
+IsTooLong (Exhausted epoch) = ⊤
+IsTooLong DiskFault = ⊤
+IsTooLong (Damaged file place) = ⊤
+IsTooLong Memory = ⊤
 
 -- a trim reports damage only so
 abbrev pub DamagedBy : (FileNo → ℕ → Type 0) → TrimErr → Type 0

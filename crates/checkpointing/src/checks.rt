@@ -1,8 +1,9 @@
 // Checks: a checkpoint, and the one with which a restart ends.
-ghost use Rattle.std.specs.Prelude.{◌⊎◌, IsOk, OnOk, IsErrOf};
+ghost use Rattle.std.specs.Prelude.{◌⊎◌, ℕ, IsOk, OnOk, IsErrOf};
 ghost use Rattle.disk_model.specs.Disk.{Rises, IsSettled};
 ghost use Rattle.cache_manager.specs.Finished.{IsQuiet};
-ghost use Rattle.cache_manager.specs.Kept.{AreKept, StopsAt};
+ghost use Rattle.cache_manager.specs.Kept.{AreKept, StopsOnly};
+ghost use Rattle.cache_manager.specs.Logged.{log_limit};
 ghost use Rattle.cache_manager.specs.Parts.{parts};
 ghost use Rattle.cache_manager.specs.Taking.{ArePartsInUse, Takes, ending_of};
 ghost use Rattle.checkpointing.specs.Courses.{checkpoint_course, closing_course};
@@ -27,10 +28,11 @@ pub fn checkpoint<O: Oper, M: Machine>(
     ensures takes { Takes O.meaning (M.disk machine.old) (M.disk machine.new) (parts log.old objects.now graph.now.entries)
         (parts log.new objects.now graph.now.entries) (λ m w used. checkpoint_course m w used) (ending_of result) }
     ensures quiet { IsQuiet (M.disk machine.old) (M.disk machine.new) }
-    ensures kept { IsErrOf result InstallErr.DiskFault ⊎ AreKept (M.disk machine.old) (M.disk machine.new)
+    ensures kept { IsErrOf result InstallErr.DiskFault ⊎ AreKept O.meaning (M.disk machine.old) (M.disk machine.new)
         (parts log.old objects.now graph.now.entries) (parts log.new objects.now graph.now.entries) }
     ensures counts { KeepsCounts log.old log.new }
-    ensures stops { StopsAt log.new (ending_of result) }
+    ensures stops { StopsOnly log_limit log.new (ending_of result) }
+    ensures numbered { (number : ℕ) → IsErrOf result (InstallErr.LsnEnd number) → ⊥ }
     ensures cause { IsErrOf result InstallErr.DiskFault → Rises (M.disk machine.old).disk_faults (M.disk machine.new).disk_faults }
 {
     let Some(need) = take_check::<O, M>(log, objects, graph, machine)? else {
@@ -57,7 +59,7 @@ pub fn closing_check<O: Oper, M: Machine>(
     ensures takes { Takes O.meaning (M.disk machine.old) (M.disk machine.new) (parts log.old objects.now graph.now.entries)
         (parts log.new objects.now graph.now.entries) (λ m w used. closing_course m w used) (ending_of result) }
     ensures quiet { IsQuiet (M.disk machine.old) (M.disk machine.new) }
-    ensures kept { IsErrOf result InstallErr.DiskFault ⊎ AreKept (M.disk machine.old) (M.disk machine.new)
+    ensures kept { IsErrOf result InstallErr.DiskFault ⊎ AreKept O.meaning (M.disk machine.old) (M.disk machine.new)
         (parts log.old objects.now graph.now.entries) (parts log.new objects.now graph.now.entries) }
     ensures settled { IsSettled (M.disk machine.old) → OnOk result (IsSettled (M.disk machine.new)) }
     ensures counts { KeepsCounts log.old log.new }

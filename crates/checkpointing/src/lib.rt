@@ -1,5 +1,5 @@
-//! The calls that keep the log short: checks, from which a restart knows where a redo begins, and trims, which leave out what
-//! is installed.
+//! The calls that keep the log short: checks, from which a restart knows where a redo begins, and trims, which leave out the
+//! records below the least one that is not installed.
 //!
 //! The one contract: each call takes its course, a list of steps that is a function of the world shown and of the log's
 //! length, and at each moment each image shows the world after some first ones of these. [`checkpoint`] takes a check and

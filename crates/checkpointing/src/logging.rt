@@ -6,6 +6,7 @@ ghost use Rattle.log_frames.specs.LogView.{used_of};
 ghost use Rattle.explain_core.specs.World.{World, table_now};
 ghost use Rattle.standing.specs.Members.{table_of};
 ghost use Rattle.standing.specs.Moments.{TakesSome};
+ghost use Rattle.cache_manager.specs.Kept.{KeepsLog};
 ghost use Rattle.cache_manager.specs.Logged.{log_limit};
 ghost use Rattle.cache_manager.specs.Parts.{Store, Shows, meaning_in, parts};
 ghost use Rattle.cache_manager.specs.Taking.{ArePartsInUse, Follows, Takes};
@@ -57,6 +58,7 @@ fn log_check<O: Oper, M: Machine>(
     ensures runs { Runs (In log.old.log.active Any) Same (M.disk machine.old) (M.disk machine.new) }
     ensures settled { IsSettled (M.disk machine.old) → OnOk result (IsSettled (M.disk machine.new)) }
     ensures same { IsSameLog log.old log.new }
+    ensures keeps { IsErrOf result InstallErr.DiskFault ⊎ KeepsLog O.meaning (M.disk machine.old) (M.disk machine.new) log.old log.new }
     ensures full { IfOk result (λ placed. IfSome placed (λ need. log_limit < used_of log.new.log + need)) }
     ensures only { IfErr result (λ e. (e ≡ InstallErr.Memory) ⊎ (e ≡ InstallErr.DiskFault)) }
     ensures cause { IsErrOf result InstallErr.DiskFault → Rises (M.disk machine.old).disk_faults (M.disk machine.new).disk_faults }
@@ -87,6 +89,7 @@ pub(crate) fn take_check<O: Oper, M: Machine>(
     ensures runs { Runs (In log.old.log.active Any) Same (M.disk machine.old) (M.disk machine.new) }
     ensures settled { IsSettled (M.disk machine.old) → OnOk result (IsSettled (M.disk machine.new)) }
     ensures same { IsSameLog log.old log.new }
+    ensures keeps { IsErrOf result InstallErr.DiskFault ⊎ KeepsLog O.meaning (M.disk machine.old) (M.disk machine.new) log.old log.new }
     ensures full { IfOk result (λ placed. IfSome placed (λ need. log_limit < used_of log.new.log + need)) }
     ensures only { IfErr result (λ e. (e ≡ InstallErr.Memory) ⊎ (e ≡ InstallErr.DiskFault)) }
     ensures cause { IsErrOf result InstallErr.DiskFault → Rises (M.disk machine.old).disk_faults (M.disk machine.new).disk_faults }

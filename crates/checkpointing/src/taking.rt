@@ -1,5 +1,5 @@
 // The check that may be taken now, and where the log may begin.
-ghost use Rattle.std.specs.Prelude.{◌≡◌, ◌≤◌, ℕ, All, List, IfOk};
+ghost use Rattle.std.specs.Prelude.{◌≡◌, ◌≤◌, ℕ, All, [], List, IfOk};
 ghost use Rattle.std.specs.List.{filter};
 ghost use Rattle.formats.specs.declared.params.Params.{Params as Numbers};
 ghost use Rattle.explain_core.specs.Sound.{IsSound};
@@ -36,6 +36,7 @@ pub(crate) fn check_now<O: Oper>(
 ) -> Result<Table, Memory>
     requires in_use { ArePartsInUse (parts log.now objects.now graph.now.entries) }
     ensures here { IfOk result (IsCheckHere (O.meaning log.now.bounds) log.now) }
+    ensures none { graph.now.entries ≡ [] → IfOk result (λ table. table.starts ≡ []) }
     ensures now { (p : Numbers) (file : List ℕ) (w : World O) → IsSound (meaning_in O.meaning p) w →
         ShowsStore (meaning_in O.meaning p) p file (store objects.now graph.now.entries) w →
         log.now.next ≡ end_of w → log.now.log.header.base ≡ w.base →

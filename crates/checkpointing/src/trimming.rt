@@ -1,15 +1,16 @@
 // A trim.
-ghost use Rattle.std.specs.Prelude.{◌≡◌, ◌⊎◌, ℕ, ◌+◌, List, OnOk, IfErr, IsErrOf};
+ghost use Rattle.std.specs.Prelude.{◌≡◌, ◌⊎◌, ℕ, ◌+◌, [], List, OnOk, IfErr, IsErrOf};
 ghost use Rattle.disk_model.specs.Disk.{Rises};
 ghost use Rattle.formats.specs.declared.record.Record.{Record};
 ghost use Rattle.log_records.specs.Loading.{IsTailFault};
 ghost use Rattle.log_records.specs.RecordLog.{Keeps};
 ghost use Rattle.cache_manager.specs.Finished.{IsQuiet};
-ghost use Rattle.cache_manager.specs.Kept.{AreKept, StopsAt};
+ghost use Rattle.cache_manager.specs.Kept.{AreKept, StopsOnly};
+ghost use Rattle.cache_manager.specs.Logged.{log_limit};
 ghost use Rattle.cache_manager.specs.Parts.{parts};
 ghost use Rattle.cache_manager.specs.Taking.{ArePartsInUse, Takes};
 ghost use Rattle.checkpointing.specs.Courses.{trim_course};
-ghost use Rattle.checkpointing.specs.Left.{KeepsCounts, DamagedBy, ending_of};
+ghost use Rattle.checkpointing.specs.Left.{KeepsCounts, DamagedBy, IsTooLong, ending_of};
 
 use crate::TrimErr;
 use crate::taking::{check_now, least_start};
@@ -35,14 +36,16 @@ pub fn trim<O: Oper, M: Machine>(
     ensures takes { Takes O.meaning (M.disk machine.old) (M.disk machine.new) (parts log.old objects.now graph.now.entries)
         (parts log.new objects.now graph.now.entries) (λ m w used. trim_course m log.old.log.header.epoch w used) (ending_of result) }
     ensures quiet { IsQuiet (M.disk machine.old) (M.disk machine.new) }
-    ensures kept { IsErrOf result TrimErr.DiskFault ⊎ AreKept (M.disk machine.old) (M.disk machine.new)
+    ensures kept { IsErrOf result TrimErr.DiskFault ⊎ AreKept O.meaning (M.disk machine.old) (M.disk machine.new)
         (parts log.old objects.now graph.now.entries) (parts log.new objects.now graph.now.entries) }
     ensures counts { KeepsCounts log.old log.new }
-    ensures stops { StopsAt log.new (ending_of result) }
+    ensures stops { StopsOnly log_limit log.new (ending_of result) }
     ensures epoch { OnOk result (log.new.log.header.epoch ≡ log.old.log.header.epoch + 1) }
     ensures undamaged { (M.disk machine.old).tells_files → (stable pending : List (Record O)) →
         Keeps (O.meaning log.old.bounds) (M.disk machine.old) log.old stable pending → IfErr result (DamagedBy (λ file place. ⊥)) }
     ensures damage { IfErr result (DamagedBy (IsTailFault (O.meaning log.new.bounds) (M.disk machine.new) log.new.log)) }
+    ensures long { IfErr result IsTooLong }
+    ensures emptied { graph.now.entries ≡ [] → OnOk result (log.new.log.header.base ≡ log.new.next) }
     ensures cause { IsErrOf result TrimErr.DiskFault → Rises (M.disk machine.old).disk_faults (M.disk machine.new).disk_faults }
 {
     explain_core::header_gate_keeps::<O>();

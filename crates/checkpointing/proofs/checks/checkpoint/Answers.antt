@@ -1,8 +1,9 @@
-use Rattle.std.proofs.Common.{◌≡◌, ◌∙◌, sym, subst, ap, ℕ, inr, refl, Option}
-use Rattle.std.specs.Prelude.{Ok, Err}
+use Rattle.std.proofs.Common.{◌∙◌, sym, subst, ap, ℕ, ◌+◌, ◌<◌, arith, inr, refl, Option}
+use Rattle.std.specs.Prelude.{IfSome, Ok}
 use Rattle.log_frames.specs.LogView.{used_of}
 use Rattle.log_records.specs.RecordLog.{RecordLogView}
 use Rattle.cache_manager.specs.Courses.Stop.{Full}
+use Rattle.cache_manager.specs.KeptLaws.{forced_log, log_twice}
 use Rattle.cache_manager.specs.Logged.{log_limit}
 use Rattle.cache_manager.specs.Parts.{Parts, parts, store}
 use Rattle.cache_manager.specs.Taking.{Ending, Takes}
@@ -12,7 +13,7 @@ use Rattle.checkpointing.specs.Courses.{check_course, checkpoint_course}
 use Rattle.checkpointing.specs.Left.{check_ending}
 use Rattle.checkpointing.proofs.Checked.{forced_same, same_twice}
 use Rattle.checkpointing.proofs.Closing.{checkpoint_done, checkpoint_fails, checkpoint_full, checkpoint_unforced, ends_as}
-use Rattle.checkpointing.proofs.Kept.{kept_in_force, quiet_on_log, runs_on_log}
+use Rattle.checkpointing.proofs.Kept.{kept_in_force, numbers_left, on_done, on_error, quiet_on_log, runs_on_log}
 use Rattle.checkpointing.proofs.checks.checkpoint.Goals as goal
 
 pub returns-in_err-need-clause-takes : goal.returns-in_err-need-clause-takes
@@ -28,8 +29,9 @@ returns-in_err-need-clause-takes g c =
 
 pub returns-in_err-need-clause-kept : goal.returns-in_err-need-clause-kept
 returns-in_err-need-clause-kept g c =
-    inr (kept_in_force (g.M.Machine.disk c.args.machine.now) (g.M.Machine.disk c.take_check.new.machine) c.args.log.now c.take_check.new.log (store c.args.objects.now c.args.graph.now.entries)
-    c.take_check.ensures.same c.take_check.ensures.runs c.requires.in_use)
+    on_error c.from_residual.result c.in_err-need.field-0.0 c.from_residual.ensures.1
+    (λ keeps. kept_in_force g.O.Oper.meaning (g.M.Machine.disk c.args.machine.now) (g.M.Machine.disk c.take_check.new.machine) c.args.log.now c.take_check.new.log (store c.args.objects.now c.args.graph.now.entries)
+    c.take_check.ensures.same c.take_check.ensures.runs keeps c.requires.in_use) c.in_err-need.ensures.keeps
 
 pub returns-in_default-clause-takes : goal.returns-in_default-clause-takes
 returns-in_default-clause-takes g c =
@@ -43,8 +45,8 @@ returns-in_default-clause-takes g c =
 
 pub returns-in_default-clause-kept : goal.returns-in_default-clause-kept
 returns-in_default-clause-kept g c =
-    inr (kept_in_force (g.M.Machine.disk c.args.machine.now) (g.M.Machine.disk c.take_check.new.machine) c.args.log.now c.take_check.new.log (store c.args.objects.now c.args.graph.now.entries)
-    c.take_check.ensures.same c.take_check.ensures.runs c.requires.in_use)
+    inr (kept_in_force g.O.Oper.meaning (g.M.Machine.disk c.args.machine.now) (g.M.Machine.disk c.take_check.new.machine) c.args.log.now c.take_check.new.log (store c.args.objects.now c.args.graph.now.entries)
+    c.take_check.ensures.same c.take_check.ensures.runs (on_done c.in_ok-need.ensures.keeps) c.requires.in_use)
 
 pub returns-in_err-force_all-clause-takes : goal.returns-in_err-force_all-clause-takes
 returns-in_err-force_all-clause-takes g c =
@@ -98,5 +100,28 @@ returns-clause-kept g c =
     let log = c.args.log.now in
     let here = c.take_check.new.log in
     let last = c.force_all.new.log in
-    inr (kept_in_force d new log last (store c.args.objects.now c.args.graph.now.entries) (same_twice log here last c.take_check.ensures.same (forced_same here last c.in_ok-force_all.ensures.forced))
-    (runs_on_log d (g.M.Machine.disk c.take_check.new.machine) new log here c.take_check.ensures.same c.take_check.ensures.runs c.force_all.ensures.runs) c.requires.in_use)
+    let mid = g.M.Machine.disk c.take_check.new.machine in
+    let meaning = g.O.Oper.meaning in
+    inr (kept_in_force meaning d new log last (store c.args.objects.now c.args.graph.now.entries) (same_twice log here last c.take_check.ensures.same (forced_same here last c.in_ok-force_all.ensures.forced))
+    (runs_on_log d mid new log here c.take_check.ensures.same c.take_check.ensures.runs c.force_all.ensures.runs)
+    (log_twice meaning d mid new log here last (λ told. c.take_check.ensures.runs.time.files_told.0 told) (on_done c.in_ok-need.ensures.keeps)
+    (forced_log meaning mid new here last c.in_ok-force_all.ensures.forced c.in_ok-force_all.ensures.keeps)) c.requires.in_use)
+
+pub returns-in_err-need-clause-numbered : goal.returns-in_err-need-clause-numbered
+returns-in_err-need-clause-numbered g c = λ number is. numbers_left c.from_residual.result c.in_err-need.field-0.0 number c.from_residual.ensures.1 c.in_err-need.ensures.only is
+
+pub returns-in_default-clause-numbered : goal.returns-in_default-clause-numbered
+returns-in_default-clause-numbered g c = λ number is. cc
+
+pub returns-in_err-force_all-clause-numbered : goal.returns-in_err-force_all-clause-numbered
+returns-in_err-force_all-clause-numbered g c = λ number is. numbers_left c.from_residual-in_err-force_all.result DiskFault number c.from_residual-in_err-force_all.ensures.1 (inr refl) is
+
+pub returns-clause-numbered : goal.returns-clause-numbered
+returns-clause-numbered g c = λ number is. cc
+
+pub returns-clause-stops : goal.returns-clause-stops
+returns-clause-stops g c =
+    let log = c.take_check.new.log in
+    let forced = c.in_ok-force_all.ensures.forced in
+    let full = subst (λ (o : Option ℕ). IfSome o (λ need. log_limit < used_of log.log + need)) c.in-Some.is c.in_ok-need.ensures.full in
+    (c.used-used.ensures ∙ sym (ap (λ (r : RecordLogView). used_of r.log) forced), ap (λ (r : RecordLogView). r.log.pending) forced, omega (arith, full, c.used-used.ensures), refl)

@@ -3,7 +3,7 @@ use Rattle.cache_manager.specs.Parts.{Parts, parts, store}
 use Rattle.cache_manager.specs.Taking.{Ending, Takes}
 use Rattle.checkpointing.specs.Courses.{closing_course}
 use Rattle.checkpointing.proofs.Closing.{closing_fails, closing_ok, ends_as}
-use Rattle.checkpointing.proofs.Kept.{kept_in_force}
+use Rattle.checkpointing.proofs.Kept.{kept_in_force, on_done, on_error}
 use Rattle.checkpointing.proofs.checks.closing_check.Goals as goal
 
 pub returns-in_err-take_check-clause-takes : goal.returns-in_err-take_check-clause-takes
@@ -19,8 +19,9 @@ returns-in_err-take_check-clause-takes g c =
 
 pub returns-in_err-take_check-clause-kept : goal.returns-in_err-take_check-clause-kept
 returns-in_err-take_check-clause-kept g c =
-    inr (kept_in_force (g.M.Machine.disk c.args.machine.now) (g.M.Machine.disk c.take_check.new.machine) c.args.log.now c.take_check.new.log (store c.args.objects.now c.args.graph.now.entries)
-    c.take_check.ensures.same c.take_check.ensures.runs c.requires.in_use)
+    on_error c.from_residual.result c.in_err-take_check.field-0.0 c.from_residual.ensures.1
+    (λ keeps. kept_in_force g.O.Oper.meaning (g.M.Machine.disk c.args.machine.now) (g.M.Machine.disk c.take_check.new.machine) c.args.log.now c.take_check.new.log (store c.args.objects.now c.args.graph.now.entries)
+    c.take_check.ensures.same c.take_check.ensures.runs keeps c.requires.in_use) c.in_err-take_check.ensures.keeps
 
 pub returns-clause-takes : goal.returns-clause-takes
 returns-clause-takes g c =
@@ -32,5 +33,5 @@ returns-clause-takes g c =
 
 pub returns-clause-kept : goal.returns-clause-kept
 returns-clause-kept g c =
-    inr (kept_in_force (g.M.Machine.disk c.args.machine.now) (g.M.Machine.disk c.take_check.new.machine) c.args.log.now c.take_check.new.log (store c.args.objects.now c.args.graph.now.entries)
-    c.take_check.ensures.same c.take_check.ensures.runs c.requires.in_use)
+    inr (kept_in_force g.O.Oper.meaning (g.M.Machine.disk c.args.machine.now) (g.M.Machine.disk c.take_check.new.machine) c.args.log.now c.take_check.new.log (store c.args.objects.now c.args.graph.now.entries)
+    c.take_check.ensures.same c.take_check.ensures.runs (on_done c.in_ok-take_check.ensures.keeps) c.requires.in_use)

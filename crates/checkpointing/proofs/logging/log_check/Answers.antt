@@ -1,4 +1,4 @@
-use Rattle.std.proofs.Common.{◌≡◌, sym, subst, ap, ℕ, ◌+◌, ◌-◌, ◌*◌, ◌<◌, ◌≤◌, length, arith}
+use Rattle.std.proofs.Common.{◌≡◌, sym, subst, ap, inr, ℕ, ◌+◌, ◌-◌, ◌*◌, ◌<◌, ◌≤◌, length, arith}
 use Rattle.oper_core.specs.declared.bounds.Bounds.{Bounds}
 use Rattle.formats.specs.Objects.{bounds_of}
 use Rattle.log_frames.specs.LogView.{used_of, growth_of}
@@ -7,14 +7,17 @@ use Rattle.explain_core.specs.World.{step}
 use Rattle.explain_core.specs.World.Step.{Check}
 use Rattle.cache_manager.specs.Forced.{IsForced}
 use Rattle.cache_manager.specs.Growth.{growth_some}
+use Rattle.cache_manager.specs.Kept.{HasLog}
+use Rattle.cache_manager.specs.KeptLaws.{forced_log, roomed_log}
 use Rattle.cache_manager.specs.Logged.{log_limit}
 use Rattle.cache_manager.specs.Parts.{Shows}
 use Rattle.cache_manager.specs.Taking.{Follows}
 use Rattle.cache_manager.specs.Taking.Ending.{Short}
 use Rattle.checkpointing.specs.Checks.{IsCheckHere}
 use Rattle.checkpointing.specs.Courses.{logged_course}
-use Rattle.checkpointing.proofs.Checked.{with_check, check_used, checked_shows, check_shows, check_moments}
+use Rattle.checkpointing.proofs.Checked.{with_check, check_used, checked_log, checked_shows, check_shows, check_moments}
 use Rattle.checkpointing.proofs.CheckLogs.{full_follows, short_follows, logged_follows, logged_moments, none_moments}
+use Rattle.checkpointing.proofs.Kept.{by_fault}
 use Rattle.checkpointing.proofs.logging.log_check.Goals as goal
 
 -- a growth below what is left below the limit
@@ -114,3 +117,21 @@ returns-clause-follows g c = λ p it v shows now.
     let forced = subst (λ (r : RecordLogView). IsForced r last) eq c.in_ok-force_all.ensures.forced in
     logged_follows m p d log it v shows table now here new last room (check_used m log table after.log.room last forced here.bytes)
     (check_shows m log table after.log.room p d it v shows now here sound new last (c.in_ok-force_all.ensures.shows p it u shown))
+
+pub returns-then-saturating_sub-growth-clause-keeps : goal.returns-then-saturating_sub-growth-clause-keeps
+returns-then-saturating_sub-growth-clause-keeps g c = inr (λ told has. has)
+
+pub returns-in_default-clause-keeps : goal.returns-in_default-clause-keeps
+returns-in_default-clause-keeps g c = inr (roomed_log g.O.Oper.meaning (g.M.Machine.disk c.args.machine.now) c.args.log.now c.append.new.self c.in_default.ensures.err)
+
+pub returns-in_err-force_all-clause-keeps : goal.returns-in_err-force_all-clause-keeps
+returns-in_err-force_all-clause-keeps g c = by_fault c.from_residual.result c.from_residual.ensures.1
+
+pub returns-clause-keeps : goal.returns-clause-keeps
+returns-clause-keeps g c = inr (λ told has.
+    let meaning = g.O.Oper.meaning in
+    let d = g.M.Machine.disk c.args.machine.now in
+    let log = c.args.log.now in
+    let after = c.append.new.self in
+    let appended = subst (λ (r : RecordLogView). HasLog (meaning r.bounds) d r) (sym c.in-Ok.ensures.ok) (checked_log (meaning log.bounds) log c.args.table after.log.room d c.requires.check has) in
+    forced_log meaning d (g.M.Machine.disk c.force_all.new.machine) after c.force_all.new.log c.in_ok-force_all.ensures.forced c.in_ok-force_all.ensures.keeps told appended)

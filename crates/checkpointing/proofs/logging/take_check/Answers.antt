@@ -1,13 +1,14 @@
-use Rattle.std.proofs.Common.{subst, ℕ}
+use Rattle.std.proofs.Common.{subst, ℕ, inl, inr, ⊎_elim}
 use Rattle.explain_core.specs.World.{run}
 use Rattle.standing.specs.Moments.{TakesSome}
 use Rattle.cache_manager.specs.Courses.{room_steps}
+use Rattle.cache_manager.specs.KeptLaws.{log_twice}
 use Rattle.cache_manager.specs.Parts.{Parts, Shows, meaning_in, parts, store}
 use Rattle.cache_manager.specs.Taking.{Ending, Takes}
 use Rattle.checkpointing.specs.Courses.{check_course}
 use Rattle.checkpointing.specs.Left.{check_ending}
 use Rattle.checkpointing.proofs.CheckLogs.{ends_failed, ends_short, no_room, room_kept, room_then, takes_nothing}
-use Rattle.checkpointing.proofs.Kept.{runs_on_log}
+use Rattle.checkpointing.proofs.Kept.{by_fault, runs_on_log}
 use Rattle.checkpointing.proofs.logging.take_check.Goals as goal
 
 pub returns-in_err-table-clause-takes : goal.returns-in_err-table-clause-takes
@@ -55,3 +56,16 @@ returns-clause-runs g c =
     let here = c.make_block_room.new.log in
     runs_on_log (g.M.Machine.disk c.args.machine.now) (g.M.Machine.disk c.make_block_room.new.machine) (g.M.Machine.disk c.log_check.new.machine) log here (room_kept log here c.in_ok-make_block_room.ensures.forced)
     c.make_block_room.ensures.runs c.log_check.ensures.runs
+
+pub returns-in_err-table-clause-keeps : goal.returns-in_err-table-clause-keeps
+returns-in_err-table-clause-keeps g c = inr (λ told has. has)
+
+pub returns-in_err-make_block_room-clause-keeps : goal.returns-in_err-make_block_room-clause-keeps
+returns-in_err-make_block_room-clause-keeps g c = by_fault c.from_residual-in_err-make_block_room.result c.from_residual-in_err-make_block_room.ensures.1
+
+pub returns-clause-keeps : goal.returns-clause-keeps
+returns-clause-keeps g c =
+    let mid = g.M.Machine.disk c.make_block_room.new.machine in
+    ⊎_elim (λ fault. inl fault)
+    (λ keeps. inr (log_twice g.O.Oper.meaning (g.M.Machine.disk c.args.machine.now) mid (g.M.Machine.disk c.log_check.new.machine) c.args.log.now c.make_block_room.new.log c.log_check.new.log
+    (λ told. c.make_block_room.ensures.runs.time.files_told.0 told) c.in_ok-make_block_room.ensures.keeps keeps)) c.log_check.ensures.keeps

@@ -1,17 +1,18 @@
-use Rattle.std.proofs.Common.{arith, ◌≡◌, ◌∙◌, sym, subst, ap, ℕ, List}
+use Rattle.std.proofs.Common.{arith, ◌≡◌, ◌∙◌, sym, subst, ap, ℕ, List, []}
 use Rattle.std.specs.Prelude.{All}
 use Rattle.std.specs.List.{filter}
 use Rattle.checkpoint.specs.declared.table.Table.{Table}
 use Rattle.formats.specs.Objects.{IsObjectsFile, bounds_of}
 use Rattle.formats.specs.declared.params.Params.{Params}
 use Rattle.install_order.specs.Entries.{accesses}
+use Rattle.install_order.specs.declared.entry.Entry.{Entry}
 use Rattle.oper_core.specs.declared.bounds.Bounds.{Bounds}
 use Rattle.write_graph.specs.Graph.{Lists, IsLeast}
 use Rattle.write_graph.specs.Objects.{IsWriter, IsWritten}
 use Rattle.standing.specs.OneStable.{small_store}
 use Rattle.cache_manager.specs.Parts.{store}
 use Rattle.checkpointing.specs.Checks.{is_in_log, IsCheckHere}
-use Rattle.checkpointing.proofs.Starts.{firsts, check_here, starts_in_log}
+use Rattle.checkpointing.proofs.Starts.{firsts, check_here, no_starts, starts_in_log}
 use Rattle.checkpointing.proofs.taking.check_now.Goals as goal
 
 pub returns-clause-here : goal.returns-clause-here
@@ -50,3 +51,9 @@ returns-clause-now g c = λ p file w sound shows next base.
     let objects = subst (λ (l : List (ℕ × ℕ)). Lists (IsWritten a) (firsts l)) (sym kept) c.in_ok-starts.ensures.objects in
     let least = subst (λ (l : List (ℕ × ℕ)). All (λ s. IsLeast (IsWriter a s.0) s.1) l) (sym kept) c.in_ok-starts.ensures.numbers in
     record { now = c.a_check_taken_now.ensures p file it w made sound shows objects least (c.next.ensures ∙ next); objects = objects; least = least }
+
+pub returns-clause-none : goal.returns-clause-none
+returns-clause-none g c = λ empty.
+    let starts = c.in_ok-starts.starts.items in
+    let none : starts ≡ [] = no_starts starts (subst (λ (l : List Entry). Lists (IsWritten (accesses l)) (firsts starts)) empty c.in_ok-starts.ensures.objects) in
+    c.new.ensures ∙ c.keep_in_log.ensures ∙ ap (λ (l : List (ℕ × ℕ)). filter (is_in_log c.params.result.objects c.base.result) l) none

@@ -1,9 +1,8 @@
-use Rattle.std.proofs.Common.{◌≡◌, ◌≢◌, ◌∙◌, sym, subst, ap, ℕ, ◌<◌, ◌≤◌, List, inr, refl, arith}
-use Rattle.std.specs.Prelude.{All, Err, ◌^◌}
+use Rattle.std.proofs.Common.{◌≡◌, ◌∙◌, sym, subst, ap, ℕ, ◌<◌, ◌≤◌, List, [], inr, refl, arith}
+use Rattle.std.specs.Prelude.{All, Err}
 use Rattle.std.proofs.lemmas.Result.{err_from_is_err_and}
-use Rattle.disk_model.specs.Disk.{Disk, Runs, In, Any, Same, Rises}
+use Rattle.disk_model.specs.Disk.{Runs, In, Any, Same, Rises}
 use Rattle.disk_model.specs.declared.machine.FileNo.{FileNo}
-use Rattle.disk_model.specs.declared.machine.FileNo.TheVariants.{Objects}
 use Rattle.formats.specs.InForce.{other_of}
 use Rattle.log_frames.specs.LogView.{used_of}
 use Rattle.log_records.specs.Loading.{IsTailFault}
@@ -11,21 +10,20 @@ use Rattle.log_records.specs.RecordLog.{RecordLogView}
 use Rattle.log_records.specs.Rewriting.{IsNewLength}
 use Rattle.cache_manager.specs.Courses.{force_course}
 use Rattle.cache_manager.specs.Courses.Stop.{Worn}
-use Rattle.cache_manager.specs.Finished.{IsQuiet, quiet_twice}
+use Rattle.cache_manager.specs.Finished.{quiet_twice}
 use Rattle.cache_manager.specs.Kept.{AreKept}
-use Rattle.cache_manager.specs.Parts.{Parts, Store, parts, store}
+use Rattle.cache_manager.specs.KeptLaws.{forced_log, log_twice, stays_log}
+use Rattle.cache_manager.specs.Parts.{Parts, parts, store}
 use Rattle.cache_manager.specs.Taking.{Ending, Takes}
-use Rattle.cache_manager.specs.Taking.Ending.{Done, Failed, Short, Stopped}
+use Rattle.cache_manager.specs.Taking.Ending.{Done, Short, Stopped}
 use Rattle.checkpointing.specs.Causes.{from_log}
-use Rattle.checkpointing.specs.Checks.{IsCheckHere}
 use Rattle.checkpointing.specs.Courses.{last_epoch, rewrite_course, trim_course}
 use Rattle.checkpointing.specs.Left.{DamagedBy, ending_of}
 use Rattle.checkpointing.specs.declared.trim_err.TrimErr.TheVariants.{DiskFault, Memory}
 use Rattle.checkpointing.proofs.CheckLogs.{takes_nothing}
 use Rattle.checkpointing.proofs.Checked.{forced_same}
-use Rattle.checkpointing.proofs.Kept.{kept_beside, kept_in_force, quiet_on_log}
-use Rattle.checkpointing.proofs.Rewritten.{other_log}
-use Rattle.checkpointing.proofs.Trims.{damage_told, ends_by, may_rewrite, rewrite_done, rewrite_ends, trim_then, trim_unforced, trim_worn}
+use Rattle.checkpointing.proofs.Kept.{kept_beside, kept_in_force, rewritten_keeps}
+use Rattle.checkpointing.proofs.Trims.{damage_told, ends_by, long_told, may_rewrite, rewrite_done, rewrite_ends, trim_then, trim_unforced, trim_worn, unless_fault}
 use Rattle.checkpointing.proofs.trimming.trim.Goals as goal
 
 pub returns-then-epoch-ge-NUMBERS_END-clause-takes : goal.returns-then-epoch-ge-NUMBERS_END-clause-takes
@@ -69,8 +67,13 @@ returns-in_err-table-clause-takes g c =
 
 pub returns-in_err-table-clause-kept : goal.returns-in_err-table-clause-kept
 returns-in_err-table-clause-kept g c =
-    inr (kept_in_force (g.M.Machine.disk c.args.machine.now) (g.M.Machine.disk c.force_all.new.machine) c.args.log.now c.force_all.new.log (store c.args.objects.now c.args.graph.now.entries)
-    (forced_same c.args.log.now c.force_all.new.log c.in_ok-force_all.ensures.forced) c.force_all.ensures.runs c.requires.in_use)
+    let d = g.M.Machine.disk c.args.machine.now in
+    let new = g.M.Machine.disk c.force_all.new.machine in
+    let log = c.args.log.now in
+    let later = c.force_all.new.log in
+    let forced = c.in_ok-force_all.ensures.forced in
+    inr (kept_in_force g.O.Oper.meaning d new log later (store c.args.objects.now c.args.graph.now.entries) (forced_same log later forced) c.force_all.ensures.runs
+    (forced_log g.O.Oper.meaning d new log later forced c.in_ok-force_all.ensures.keeps) c.requires.in_use)
 
 -- no start is below the base
 each_start : (base : ℕ) (given starts : List (ℕ × ℕ)) → given ≡ starts → All (λ s. base ≤ s.1) given → All (λ s. base ≤ s.1) starts
@@ -138,8 +141,14 @@ returns-in_err-rewrite-clause-kept g c =
     let it = store c.args.objects.now c.args.graph.now.entries in
     let same = forced_same before here c.in_ok-force_all.ensures.forced in
     let runs = subst (λ (f : FileNo). Runs (In (other_of f) Any) Same mid new) same.active c.rewrite.ensures.runs in
-    inr (subst (λ (r : RecordLogView). AreKept d new (record { log = before; store = it }) (record { log = r; store = it })) (sym c.in_err-rewrite.ensures.kept)
-    (kept_beside d mid new before here it same.bounds same.next (λ ne. subst (λ (f : FileNo). f ≢ Objects) (sym same.active) ne) c.force_all.ensures.runs runs c.requires.in_use))
+    let meaning = g.O.Oper.meaning in
+    unless_fault c.from_residual-in_err-rewrite.result c.in_err-rewrite.field-0.0 c.from_residual-in_err-rewrite.ensures.1
+    (λ other. subst (λ (r : RecordLogView). AreKept meaning d new (record { log = before; store = it }) (record { log = r; store = it })) (sym c.in_err-rewrite.ensures.kept)
+    (kept_beside meaning d mid new before here it same.bounds same.next
+    (λ told has.
+    let told_mid = c.force_all.ensures.runs.time.files_told.0 told in
+    stays_log (meaning here.bounds) mid new here told_mid (c.in_err-rewrite.ensures.refused other) (forced_log meaning d mid before here c.in_ok-force_all.ensures.forced c.in_ok-force_all.ensures.keeps told has))
+    c.force_all.ensures.runs runs c.requires.in_use))
 
 pub returns-in_err-rewrite-clause-damage : goal.returns-in_err-rewrite-clause-damage
 returns-in_err-rewrite-clause-damage g c =
@@ -200,5 +209,31 @@ returns-clause-kept g c =
     let same = forced_same before here c.in_ok-force_all.ensures.forced in
     let runs = subst (λ (f : FileNo). Runs (In (other_of f) Any) Same mid new) same.active c.rewrite.ensures.runs in
     let is = c.in_ok-rewrite.ensures.rewritten.2 in
-    inr (kept_beside d mid new before last it (ap (λ (r : RecordLogView). r.bounds) is ∙ same.bounds) (ap (λ (r : RecordLogView). r.next) is ∙ same.next)
-    (λ ne. subst (λ (f : FileNo). f ≢ Objects) (sym (ap (λ (r : RecordLogView). r.log.active) is ∙ ap other_of same.active)) (other_log before.log.active ne)) c.force_all.ensures.runs runs c.requires.in_use)
+    let meaning = g.O.Oper.meaning in
+    let forced = c.in_ok-force_all.ensures.forced in
+    let bounds = ap (λ (r : RecordLogView). r.bounds) is in
+    inr (kept_beside meaning d mid new before last it (bounds ∙ same.bounds) (ap (λ (r : RecordLogView). r.next) is ∙ same.next)
+    (log_twice meaning d mid new before here last (λ told. c.force_all.ensures.runs.time.files_told.0 told) (forced_log meaning d mid before here forced c.in_ok-force_all.ensures.keeps)
+    (rewritten_keeps meaning mid new here last c.least_start-base.result c.in_ok-table.table (ap (λ (r : RecordLogView). r.log.pending) forced) bounds
+    (λ told stable keeps. (c.in_ok-rewrite.ensures.acknowledged told stable keeps).0)))
+    c.force_all.ensures.runs runs c.requires.in_use)
+
+pub returns-in_err-rewrite-clause-long : goal.returns-in_err-rewrite-clause-long
+returns-in_err-rewrite-clause-long g c =
+    let mid = g.M.Machine.disk c.force_all.new.machine in
+    let log = c.force_all.new.log in
+    let m = g.O.Oper.meaning log.bounds in
+    let e = c.in_err-rewrite.field-0.0 in
+    let told = long_told (Rises mid.disk_faults (g.M.Machine.disk c.rewrite.new.m).disk_faults) (IsTailFault m mid log.log) (IsNewLength m mid log c.least_start-base.result c.in_ok-table.table) log.log e c.in_err-rewrite.ensures.cause in
+    let p = err_from_is_err_and c.from_residual-in_err-rewrite.result c.from_residual-in_err-rewrite.ensures.1 in
+    rw (p.1, p.2) told
+
+pub returns-clause-emptied : goal.returns-clause-emptied
+returns-clause-emptied g c = λ empty.
+    let log = c.force_all.new.log in
+    let least = c.least_start-base in
+    let none : c.as_slice.result.now ≡ [] = c.as_slice.ensures ∙ c.in_ok-table.ensures.none empty in
+    let all : All (λ s. c.next.result ≤ s.1) c.as_slice.result.now = each_start c.next.result [] c.as_slice.result.now (sym none) (λ k d below. absurd (omega (arith, below))) in
+    let high = least.ensures.greatest c.next.result (omega arith) all in
+    let is = c.in_ok-rewrite.ensures.rewritten.2 in
+    ap (λ (r : RecordLogView). r.log.header.base) is ∙ omega (arith, high, least.ensures.next, c.next.ensures) ∙ sym (ap (λ (r : RecordLogView). r.next) is)
