@@ -42,15 +42,15 @@ pub rises_behind : (old mid new : Disk) → IsQuiet old mid → Rises mid.disk_f
 rises_behind old mid new first rises small = let rose = rises small in omega (arith, rose, first.time.disk_faults)
 
 -- a store that is not opened
-pub not_opened : (old new : Disk) (closed : Type 0) (fault : FileNo → ℕ → Type 0) (e : RestartErr) → IsQuiet old new → FailsBy (Rises old.disk_faults new.disk_faults) closed fault e → IsOpening old new (Err e)
-not_opened old new closed fault DiskFault quiet fails = record { time = quiet.time; quiet = λ told. quiet.said told; fault = λ is. fails; settled = tt; in_use = tt; attached = tt }
-not_opened old new closed fault NotAStore quiet fails = record { time = quiet.time; quiet = λ told. quiet.said told; fault = λ is. cc; settled = tt; in_use = tt; attached = tt }
-not_opened old new closed fault (Damaged file place) quiet fails = record { time = quiet.time; quiet = λ told. quiet.said told; fault = λ is. cc; settled = tt; in_use = tt; attached = tt }
-not_opened old new closed fault Memory quiet fails = record { time = quiet.time; quiet = λ told. quiet.said told; fault = λ is. cc; settled = tt; in_use = tt; attached = tt }
+pub not_opened : {O : Type 0} (meaning : Bounds → Meaning O) (old new : Disk) (closed : Type 0) (fault : FileNo → ℕ → Type 0) (e : RestartErr) → IsQuiet old new → FailsBy (Rises old.disk_faults new.disk_faults) closed fault e → IsOpening meaning old new (Err e)
+not_opened meaning old new closed fault DiskFault quiet fails = record { time = quiet.time; quiet = λ told. quiet.said told; fault = λ is. fails; settled = tt; in_use = tt; attached = tt }
+not_opened meaning old new closed fault NotAStore quiet fails = record { time = quiet.time; quiet = λ told. quiet.said told; fault = λ is. cc; settled = tt; in_use = tt; attached = tt }
+not_opened meaning old new closed fault (Damaged file place) quiet fails = record { time = quiet.time; quiet = λ told. quiet.said told; fault = λ is. cc; settled = tt; in_use = tt; attached = tt }
+not_opened meaning old new closed fault Memory quiet fails = record { time = quiet.time; quiet = λ told. quiet.said told; fault = λ is. cc; settled = tt; in_use = tt; attached = tt }
 
 -- one that is
-pub is_opened : (old new : Disk) (it : Parts) → IsQuiet old new → IsSettled new → ArePartsInUse it → IsAttached new it → IsOpening old new (Ok it)
-is_opened old new it quiet settled used attached =
+pub is_opened : {O : Type 0} (meaning : Bounds → Meaning O) (old new : Disk) (it : Parts) → IsQuiet old new → IsSettled new → ArePartsInUse it → IsAttached meaning new it → IsOpening meaning old new (Ok it)
+is_opened meaning old new it quiet settled used attached =
     record { time = quiet.time; quiet = λ told. quiet.said told; fault = λ is. cc; settled = settled; in_use = used; attached = attached }
 
 -- why the check fails

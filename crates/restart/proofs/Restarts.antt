@@ -1,7 +1,7 @@
 -- A restart takes its course, step by step.
 use Rattle.std.proofs.Common.{◌≡◌, ◌∙◌, sym, ap, subst, ℕ, List, [], ◌∷◌, ◌++◌, map, refl, arith}
 use Rattle.std.proofs.lemmas.List.{take-take}
-use Rattle.disk_model.specs.Disk.{Files, Disk, Runs, In, Any, Stays, Same, LeavesOnly}
+use Rattle.disk_model.specs.Disk.{Files, Disk, IsSettled, Runs, In, Any, Stays, Same, LeavesOnly}
 use Rattle.disk_model.specs.Silent.{IsSilent, silent_weaker}
 use Rattle.disk_model.specs.declared.machine.FileNo.TheVariants.{Objects}
 use Rattle.oper_core.specs.Meaning.{Meaning}
@@ -29,6 +29,7 @@ use Rattle.standing.specs.Moments.{ShowsSome, TakesSome, moments_twice, moments_
 use Rattle.standing.specs.Standing.{FilesShow}
 use Rattle.cache_manager.specs.Courses.{Course}
 use Rattle.cache_manager.specs.Kept.{IsAttached}
+use Rattle.cache_manager.specs.KeptLaws.{beside_log}
 use Rattle.cache_manager.specs.Laid.{Laid, IsLaidOn}
 use Rattle.cache_manager.specs.Parts.{Parts, Shows, parts}
 use Rattle.cache_manager.specs.Taking.{IsAfter}
@@ -132,9 +133,12 @@ module _ {O : Type 0} (m : Meaning O) (p : Params) (old d : Disk) (used : ℕ) (
 -- after the redo of what was read the parts are attached
 pub attached_again : {O : Type 0} (meaning : Bounds → Meaning O) (old d mid : Disk) (objects after : Laid) (log : RecordLogView) (records : List (Record O)) (entries : List Entry) → Stays old d
     → (old.tells_files → IsRead meaning old.reads d objects log records) → Runs (In Objects Any) Same d mid
-    → (d.tells_files → IsLaidOn objects (d.reads Objects) → IsLaidOn after (mid.reads Objects)) → IsAttached mid (parts log after entries)
-attached_again meaning old d mid objects after log records entries kept read runs laid told_mid =
+    → IsSettled mid → log.bounds ≡ bounds_of objects.slots.params → (d.tells_files → IsLaidOn objects (d.reads Objects) → IsLaidOn after (mid.reads Objects)) → IsAttached meaning mid (parts log after entries)
+attached_again meaning old d mid objects after log records entries kept read runs settled bounds laid told_mid =
     let told_d = runs.time.files_told.1 told_mid in
     let told = kept.time.files_told.1 told_d in
-    let is = read told in
-    (laid told_d (subst (λ (f : Files). IsLaidOn objects (f Objects)) (sym (kept.reads told)) is.laid), is.file.in_force.a_log)
+    let is = read told in (
+      laid told_d (subst (λ (f : Files). IsLaidOn objects (f Objects)) (sym (kept.reads told)) is.laid),
+      beside_log (meaning log.bounds) objects.slots.params d mid log told_d runs settled
+          (record { stable = records; pending = []; keeps = subst (λ (b : Bounds). Keeps (meaning b) d log records []) (sym bounds) is.keeps }),
+    )

@@ -34,13 +34,13 @@ pub record OpensOn {O : Type 0} (m : Meaning O) (p : Params) (d : Disk) (used : 
 
 -- What a restart says on every machine: time passes and nothing is said, and a fault of the disk is counted. What it opens
 -- is in use, and settled; where the machine reports its files, it is attached to them.
-pub record IsOpening (old new : Disk) (result : Result Parts RestartErr) : Type 0 where
+pub record IsOpening {O : Type 0} (meaning : Bounds → Meaning O) (old new : Disk) (result : Result Parts RestartErr) : Type 0 where
   pub time : Passes old new
   pub quiet : old.tells_files → new.said ≡ old.said
   pub fault : IsErrOf result DiskFault → Rises old.disk_faults new.disk_faults
   pub settled : OnOk result (IsSettled new)
   pub in_use : IfOk result ArePartsInUse
-  pub attached : IfOk result (IsAttached new)
+  pub attached : IfOk result (IsAttached meaning new)
 
 -- What a restart says of the files, where the machine reports them. A store is opened only where they meet their format;
 -- where they do, they are neither called damaged nor no store. Where they do not, they stay as they are, and the damage

@@ -25,7 +25,7 @@ pub fn restart<O: Oper, M: Machine>(
     tuning: Tuning,
 ) -> Result<Restarted<O>, RestartErr>
     requires some { 0 < tuning.clean }
-    ensures opening { IsOpening (M.disk machine.old) (M.disk machine.new) (opened result) }
+    ensures opening { IsOpening O.meaning (M.disk machine.old) (M.disk machine.new) (opened result) }
     ensures judged { (M.disk machine.old).tells_files → IsJudged O.meaning (M.disk machine.old) (M.disk machine.new) (opened result) }
 
     // Of each world that the files show the whole course is taken, and the log is as long as that says.

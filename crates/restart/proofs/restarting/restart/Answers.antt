@@ -19,8 +19,8 @@ use Rattle.restart.proofs.restarting.restart.Goals as goal
 
 pub returns-in_err-loaded-clause-opening : goal.returns-in_err-loaded-clause-opening
 returns-in_err-loaded-clause-opening g c =
-    passed_on (λ r. IsOpening (g.M.Machine.disk c.args.machine.now) (g.M.Machine.disk c.load.new.machine) (opened r)) c.from_residual.result c.in_err-loaded.field-0.0 c.from_residual.ensures.1
-    (not_opened (g.M.Machine.disk c.args.machine.now) (g.M.Machine.disk c.load.new.machine) _ _ c.in_err-loaded.field-0.0 (quiet_stays (g.M.Machine.disk c.args.machine.now) (g.M.Machine.disk c.load.new.machine) c.load.ensures.kept) c.in_err-loaded.ensures.cause)
+    passed_on (λ r. IsOpening g.O.Oper.meaning (g.M.Machine.disk c.args.machine.now) (g.M.Machine.disk c.load.new.machine) (opened r)) c.from_residual.result c.in_err-loaded.field-0.0 c.from_residual.ensures.1
+    (not_opened g.O.Oper.meaning (g.M.Machine.disk c.args.machine.now) (g.M.Machine.disk c.load.new.machine) _ _ c.in_err-loaded.field-0.0 (quiet_stays (g.M.Machine.disk c.args.machine.now) (g.M.Machine.disk c.load.new.machine) c.load.ensures.kept) c.in_err-loaded.ensures.cause)
 
 pub returns-in_err-loaded-clause-judged : goal.returns-in_err-loaded-clause-judged
 returns-in_err-loaded-clause-judged g c told =
@@ -38,8 +38,8 @@ do_again-requires g c =
 pub returns-in_err-graph-clause-opening : goal.returns-in_err-graph-clause-opening
 returns-in_err-graph-clause-opening g c =
     let first = quiet_stays (g.M.Machine.disk c.args.machine.now) (g.M.Machine.disk c.load.new.machine) c.load.ensures.kept in
-    passed_on (λ r. IsOpening (g.M.Machine.disk c.args.machine.now) (g.M.Machine.disk c.do_again.new.machine) (opened r)) c.from_residual-in_err-graph.result c.in_err-graph.field-0.0 c.from_residual-in_err-graph.ensures.1
-    (not_opened (g.M.Machine.disk c.args.machine.now) (g.M.Machine.disk c.do_again.new.machine) (Unit {0}) (λ f place. Unit {0}) c.in_err-graph.field-0.0 (quiet_then (g.M.Machine.disk c.args.machine.now) (g.M.Machine.disk c.load.new.machine) (g.M.Machine.disk c.do_again.new.machine) first (quiet_objects (g.M.Machine.disk c.load.new.machine) (g.M.Machine.disk c.do_again.new.machine) c.do_again.ensures.runs))
+    passed_on (λ r. IsOpening g.O.Oper.meaning (g.M.Machine.disk c.args.machine.now) (g.M.Machine.disk c.do_again.new.machine) (opened r)) c.from_residual-in_err-graph.result c.in_err-graph.field-0.0 c.from_residual-in_err-graph.ensures.1
+    (not_opened g.O.Oper.meaning (g.M.Machine.disk c.args.machine.now) (g.M.Machine.disk c.do_again.new.machine) (Unit {0}) (λ f place. Unit {0}) c.in_err-graph.field-0.0 (quiet_then (g.M.Machine.disk c.args.machine.now) (g.M.Machine.disk c.load.new.machine) (g.M.Machine.disk c.do_again.new.machine) first (quiet_objects (g.M.Machine.disk c.load.new.machine) (g.M.Machine.disk c.do_again.new.machine) c.do_again.ensures.runs))
     (redo_rises _ _ _ _ _ c.in_err-graph.field-0.0 (rises_behind (g.M.Machine.disk c.args.machine.now) (g.M.Machine.disk c.load.new.machine) (g.M.Machine.disk c.do_again.new.machine) first) (λ f place is. tt) c.in_err-graph.ensures.cause))
 
 pub returns-in_err-graph-clause-judged : goal.returns-in_err-graph-clause-judged
@@ -64,8 +64,8 @@ closing_check-requires g c = record { in_use = c.in_ok-graph.ensures.in_use }
 pub returns-in_err-closing_check-clause-opening : goal.returns-in_err-closing_check-clause-opening
 returns-in_err-closing_check-clause-opening g c =
     let first = quiet_then (g.M.Machine.disk c.args.machine.now) (g.M.Machine.disk c.load.new.machine) (g.M.Machine.disk c.do_again.new.machine) (quiet_stays (g.M.Machine.disk c.args.machine.now) (g.M.Machine.disk c.load.new.machine) c.load.ensures.kept) (quiet_objects (g.M.Machine.disk c.load.new.machine) (g.M.Machine.disk c.do_again.new.machine) c.do_again.ensures.runs) in
-    passed_on (λ r. IsOpening (g.M.Machine.disk c.args.machine.now) (g.M.Machine.disk c.closing_check.new.machine) (opened r)) c.from_residual-in_err-closing_check.result (from_check c.in_err-closing_check.field-0.0) c.from_residual-in_err-closing_check.ensures.1
-    (not_opened (g.M.Machine.disk c.args.machine.now) (g.M.Machine.disk c.closing_check.new.machine) (Unit {0}) (λ f place. Unit {0}) (from_check c.in_err-closing_check.field-0.0) (quiet_then (g.M.Machine.disk c.args.machine.now) (g.M.Machine.disk c.do_again.new.machine) (g.M.Machine.disk c.closing_check.new.machine) first c.closing_check.ensures.quiet)
+    passed_on (λ r. IsOpening g.O.Oper.meaning (g.M.Machine.disk c.args.machine.now) (g.M.Machine.disk c.closing_check.new.machine) (opened r)) c.from_residual-in_err-closing_check.result (from_check c.in_err-closing_check.field-0.0) c.from_residual-in_err-closing_check.ensures.1
+    (not_opened g.O.Oper.meaning (g.M.Machine.disk c.args.machine.now) (g.M.Machine.disk c.closing_check.new.machine) (Unit {0}) (λ f place. Unit {0}) (from_check c.in_err-closing_check.field-0.0) (quiet_then (g.M.Machine.disk c.args.machine.now) (g.M.Machine.disk c.do_again.new.machine) (g.M.Machine.disk c.closing_check.new.machine) first c.closing_check.ensures.quiet)
     (check_fails _ _ _ c.in_err-closing_check.field-0.0 (λ is. rises_behind (g.M.Machine.disk c.args.machine.now) (g.M.Machine.disk c.do_again.new.machine) (g.M.Machine.disk c.closing_check.new.machine) first (c.in_err-closing_check.ensures.cause (λ i. Err (is i))))))
 
 pub returns-in_err-closing_check-clause-judged : goal.returns-in_err-closing_check-clause-judged
@@ -92,10 +92,10 @@ pub returns-clause-opening : goal.returns-clause-opening
 returns-clause-opening g c =
     let first = quiet_then (g.M.Machine.disk c.args.machine.now) (g.M.Machine.disk c.load.new.machine) (g.M.Machine.disk c.do_again.new.machine) (quiet_stays (g.M.Machine.disk c.args.machine.now) (g.M.Machine.disk c.load.new.machine) c.load.ensures.kept) (quiet_objects (g.M.Machine.disk c.load.new.machine) (g.M.Machine.disk c.do_again.new.machine) c.do_again.ensures.runs) in
     let kept = unless_failed _ _ c.in_ok-closing_check.ensures.kept in
-    is_opened (g.M.Machine.disk c.args.machine.now) (g.M.Machine.disk c.closing_check.new.machine) (parts c.closing_check.new.log c.do_again.new.objects c.in_ok-graph.graph.entries) (quiet_then (g.M.Machine.disk c.args.machine.now) (g.M.Machine.disk c.do_again.new.machine) (g.M.Machine.disk c.closing_check.new.machine) first c.closing_check.ensures.quiet)
+    is_opened g.O.Oper.meaning (g.M.Machine.disk c.args.machine.now) (g.M.Machine.disk c.closing_check.new.machine) (parts c.closing_check.new.log c.do_again.new.objects c.in_ok-graph.graph.entries) (quiet_then (g.M.Machine.disk c.args.machine.now) (g.M.Machine.disk c.do_again.new.machine) (g.M.Machine.disk c.closing_check.new.machine) first c.closing_check.ensures.quiet)
     (c.in_ok-closing_check.ensures.settled c.in_ok-graph.ensures.settled) kept.in_use
     (kept.attached (attached_again g.O.Oper.meaning (g.M.Machine.disk c.args.machine.now) (g.M.Machine.disk c.load.new.machine) (g.M.Machine.disk c.do_again.new.machine) c.in_ok-loaded.loaded.objects c.do_again.new.objects c.in_ok-loaded.loaded.log c.in_ok-loaded.loaded.records.items c.in_ok-graph.graph.entries
-    c.load.ensures.kept c.in_ok-loaded.ensures.read c.do_again.ensures.runs c.in_ok-graph.ensures.laid))
+    c.load.ensures.kept c.in_ok-loaded.ensures.read c.do_again.ensures.runs c.in_ok-graph.ensures.settled c.in_ok-loaded.ensures.ready.has.bounds c.in_ok-graph.ensures.laid))
 
 pub returns-clause-judged : goal.returns-clause-judged
 returns-clause-judged g c told =
