@@ -15,7 +15,7 @@ use Rattle.cache_manager.specs.Laid.{Laid}
 use Rattle.cache_manager.specs.Parts.{parts}
 use Rattle.cache_manager.specs.Taking.{ArePartsInUse, Ending, Takes}
 use Rattle.cache_manager.specs.Taking.Ending.{Stopped}
-use Rattle.store_engine.specs.Engine.{EngineView, IsCall, IsFailed, IsUsable, StopsAt, view_of}
+use Rattle.store_engine.specs.Engine.{EngineView, IsCall, IsFailed, IsUsable, view_of}
 
 -- the parts of an engine that is not broken are in use
 pub parts_in_use : (log : RecordLogView) (objects : Laid) (entries : List Entry) (identities : ℕ) (broken : Bool) (before : EngineView)
@@ -37,11 +37,11 @@ module _ (old new : Disk) (before : EngineView) (log after_log : RecordLogView) 
   abbrev pub inside : EngineView
   inside = view_of log objects entries identities broken
 
-  pub call_of : IsQuiet old new → after_objects.slots.params ≡ objects.slots.params
-      → IsFailed ending ⊎ (of_parts.IsAttached old (parts log objects entries) → of_parts.IsAttached new (parts after_log after_objects after_entries))
-      → after_identities ≡ identities + logged inside → ((stop : Stop) → ending ≡ Stopped stop → StopsAt after_log stop)
-      → (after_broken ≡ true) ↔ IsFailed ending → (IsFailed ending → Rises old.disk_faults new.disk_faults) → IsCall old new before after (logged before) ending
-  call_of quiet params attached counted stopped so fault = subst (λ (e : EngineView). IsCall old new e after (logged e) ending) is (record {
+  pub call_of : {O : Type 0} (meaning : Bounds → Meaning O) (most : EngineView → ℕ) → IsQuiet old new → after_objects.slots.params ≡ objects.slots.params
+      → IsFailed ending ⊎ (of_parts.IsAttached meaning old (parts log objects entries) → of_parts.IsAttached meaning new (parts after_log after_objects after_entries))
+      → after_identities ≡ identities + logged inside → ((stop : Stop) → ending ≡ Stopped stop → of_parts.StopsAt (most inside) after_log stop)
+      → (after_broken ≡ true) ↔ IsFailed ending → (IsFailed ending → Rises old.disk_faults new.disk_faults) → IsCall meaning (most before) old new before after (logged before) ending
+  call_of meaning most quiet params attached counted stopped so fault = subst (λ (e : EngineView). IsCall meaning (most e) old new e after (logged e) ending) is (record {
     time = quiet.time;
     quiet = quiet.said;
     params = params;

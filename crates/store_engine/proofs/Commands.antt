@@ -32,10 +32,11 @@ use Rattle.execution.specs.Answers.{ending_of_exec}
 use Rattle.execution.specs.Counted.{accepted_shown}
 use Rattle.execution.specs.Courses.{append_course, command_length, exec_course, refusal_in, unless_refused}
 use Rattle.execution.specs.Done.{IsDone, IsUndone, LogWithout}
+use Rattle.execution.specs.Failures.{IsExecFailure}
 use Rattle.execution.specs.Taken.{MayExec}
 use Rattle.execution.specs.declared.exec_err.ExecErr.{ExecErr}
 use Rattle.execution.specs.declared.exec_err.ExecErr.TheVariants.{Refused, LogFull, LsnEnd, DiskFault, Damaged, Memory}
-use Rattle.store_engine.specs.Engine.{EngineView, Between, HasCause, Holds, IsFailed, Kept, forced_in, params_of, used_in}
+use Rattle.store_engine.specs.Engine.{EngineView, Between, HasCause, Holds, IsFailed, IsOutcome, Kept, forced_in, params_of, used_in}
 use Rattle.store_engine.specs.Store.{meaning_in, refusal_after}
 use Rattle.store_engine.proofs.Counts.{forced_shown, commands-members_of}
 use Rattle.store_engine.proofs.Holding.{IsLiveMap, Stand, holds_forced}
@@ -210,3 +211,9 @@ module _ {O : Type 0} (meaning : Bounds → Meaning O) (before after : Parts) (o
   pub next_rises : (r : Result ℕ ExecErr) → IfOk r (IsDone meaning before after op) → IfErr r (IsUndone before after) → before.log.next ≤ after.log.next
   next_rises (Ok n) done undone = omega (arith, ap (λ (l : RecordLogView). l.next) done.log)
   next_rises (Err e) done undone = omega (arith, next_without e undone.log)
+
+-- what holds of a command on every machine, by its answer
+pub outcome_of : {O : Type 0} (meaning : Bounds → Meaning O) (old new : Disk) (before after : Parts) (op : O) (r : Result ℕ ExecErr) → IfOk r (IsDone meaning before after op) → IfErr r (IsUndone before after)
+    → IfErr r (IsExecFailure meaning old new before op) → IsOutcome meaning old new before after op r
+outcome_of meaning old new before after op (Ok n) done undone failure = done
+outcome_of meaning old new before after op (Err e) done undone failure = (undone, failure)

@@ -1,7 +1,9 @@
 -- What a fetch leaves: each object has the value that it had, and engine and files show what they showed.
-use Rattle.std.proofs.Common.{◌≡◌, ◌∙◌, sym, subst, ap, ℕ, ◌<◌, List, refl, false, Bool, arith, Option, Some, None}
-use Rattle.std.specs.Prelude.{Result, Ok, Err, OnOk, IfErr, IsErrOf, IsSome}
-use Rattle.disk_model.specs.Disk.{Disk, Files, Rises, Stays}
+use Rattle.std.proofs.Common.{◌≡◌, ◌∙◌, sym, subst, ap, ℕ, ◌<◌, List, refl, true, false, Bool, arith, Option, Some, None}
+use Rattle.std.specs.Prelude.{Result, Ok, Err, OnOk, IfErr, IsErrOf, IsSome, ◌↔◌}
+use Rattle.std.proofs.lemmas.Bool.{both_ways}
+use Rattle.disk_model.specs.Disk.{Disk, Files, IsDisk, Rises, Stays}
+use Rattle.disk_model.specs.Moments.{stays_here}
 use Rattle.disk_model.specs.declared.machine.FileNo.TheVariants.{Objects}
 use Rattle.oper_core.specs.Meaning.{Meaning}
 use Rattle.oper_core.specs.declared.bounds.Bounds.{Bounds}
@@ -19,10 +21,11 @@ use Rattle.install_order.specs.declared.entry.Entry.{Entry}
 use Rattle.explain_core.specs.World.{World}
 use Rattle.cache_manager.specs.Fetched.{IsFetched, fetched-in_use, fetched-shows}
 use Rattle.cache_manager.specs.Kept.{IsAttached}
+use Rattle.cache_manager.specs.KeptLaws.{stays_log}
 use Rattle.cache_manager.specs.Laid.{Laid, IsLaidOn, KeepsCells, cell_or, values_in}
 use Rattle.cache_manager.specs.Parts.{AreInUse, Shows, ShowsStore, parts, store}
 use Rattle.execution.specs.declared.exec_err.ExecErr.TheVariants.{DiskFault}
-use Rattle.store_engine.specs.Engine.{EngineView, Holds, IsUsable, Kept, ShowsIn, params_of, view_of}
+use Rattle.store_engine.specs.Engine.{EngineView, Holds, IsFetch, IsUsable, Kept, ShowsIn, params_of, view_of}
 use Rattle.store_engine.specs.Failures.{HasSlotFailed, IsFetchFailure, of_slots}
 use Rattle.store_engine.specs.Store.{meaning_in, state_of}
 use Rattle.store_engine.proofs.Holding.{IsLiveMap, holds_map}
@@ -74,15 +77,21 @@ module _ (old new : Disk) (before : EngineView) (log : RecordLogView) (objects a
         counted = used.counted;
       }
 
-  fetched_attached : IsAttached old (parts log objects entries) → IsAttached new (parts log after entries)
-  fetched_attached attached told =
+  fetched_attached : {O : Type 0} (meaning : Bounds → Meaning O) → IsAttached meaning old (parts log objects entries) → IsAttached meaning new (parts log after entries)
+  fetched_attached meaning attached told =
       let told_old = stays.time.files_told.1 told in
       let was = attached told_old in
       let same : new.reads ≡ old.reads = stays.reads told_old in
-      (subst (λ (f : Files). IsLaidOn after (f Objects)) (sym same) (cells told_old was.0).1, was.1)
+      (subst (λ (f : Files). IsLaidOn after (f Objects)) (sym same) (cells told_old was.0).1, stays_log (meaning log.bounds) old new log told_old stays was.1)
 
-  pub attached_now : IsAttached old before.parts → IsAttached new now.parts
-  attached_now = subst (λ (e : EngineView). IsAttached old e.parts → IsAttached new now.parts) is fetched_attached
+  pub fetch_call : {O : Type 0} (meaning : Bounds → Meaning O) (bad : Type 0) → (failed ≡ true) ↔ bad → IsFetch meaning old new before now bad
+  fetch_call meaning bad so = record {
+    kept = stays;
+    log = ap (λ (e : EngineView). e.parts.log) is;
+    identities = ap (λ (e : EngineView). e.identities) is;
+    attached = subst (λ (e : EngineView). IsAttached meaning old e.parts → IsAttached meaning new now.parts) is (fetched_attached meaning);
+    broken = so;
+  }
 
   fetched_world : {O : Type 0} (m : Meaning O) (p : Params) (w : World O) → Shows m p old (parts log objects entries) w → Shows m p new (parts log after entries) w
   fetched_world m p w shows =
@@ -133,3 +142,13 @@ module _ (old new : Disk) (before : EngineView) (log : RecordLogView) (objects a
         let kept = kept_now commands fine holds in
         let here = subst (λ (q : Params). x < q.objects) kept.holds.shows.shows.store.params below in
         cached_value file (new.reads Objects) x cached ∙ holds_map meaning p new now commands kept.holds map x here
+
+-- a fetch that makes no call leaves an engine that is not broken as it was
+pub fetched_nothing : {O : Type 0} (meaning : Bounds → Meaning O) (d : Disk) (engine : EngineView) (bad : Type 0) → IsDisk d → engine.broken ≡ false → (bad → ⊥) → IsFetch meaning d d engine engine bad
+fetched_nothing meaning d engine bad lawful fine none = record {
+  kept = stays_here d lawful;
+  log = refl;
+  identities = refl;
+  attached = λ at. at;
+  broken = (λ is. absurd (both_ways _ fine is), λ is. absurd (none is));
+}

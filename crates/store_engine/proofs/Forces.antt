@@ -1,5 +1,5 @@
 -- What a force of the engine leaves, from what the force of its log does.
-use Rattle.std.proofs.Common.{◌≡◌, ◌∙◌, sym, subst, ap, ℕ, List, refl}
+use Rattle.std.proofs.Common.{◌≡◌, ◌∙◌, sym, subst, ap, ℕ, List, [], ◌++◌, refl, inl, inr, ◌⊎◌}
 use Rattle.std.specs.Prelude.{Result, Ok, Err, OnOk, OnErr, IfOk, IsErr}
 use Rattle.disk_model.specs.Disk.{Disk, Runs, In, Any, Same}
 use Rattle.disk_model.specs.Moments.{runs_wider}
@@ -7,27 +7,29 @@ use Rattle.disk_model.specs.declared.machine.FileNo.TheVariants.{Objects}
 use Rattle.oper_core.specs.Meaning.{Meaning}
 use Rattle.oper_core.specs.declared.bounds.Bounds.{Bounds}
 use Rattle.formats.specs.declared.params.Params.{Params}
+use Rattle.formats.specs.declared.record.Record.{Record}
 use Rattle.install_order.specs.declared.entry.Entry.{Entry}
 use Rattle.log_frames.specs.LogView.{used_of}
-use Rattle.log_records.specs.RecordLog.{RecordLogView}
+use Rattle.log_records.specs.RecordLog.{RecordLogView, Keeps}
 use Rattle.explain_core.specs.World.{World, run}
 use Rattle.standing.specs.Moments.{TakesSome}
 use Rattle.cache_manager.specs.Courses.{Stop, force_course, force_steps}
 use Rattle.cache_manager.specs.Finished.{IsQuiet}
 use Rattle.cache_manager.specs.Flushed.{AreEarly}
 use Rattle.cache_manager.specs.Forced.{IsForced}
-use Rattle.cache_manager.specs.Kept.{IsAttached}
+use Rattle.cache_manager.specs.Kept.{IsAttached, StopsAt}
+use Rattle.cache_manager.specs.KeptLaws.{forced_log}
 use Rattle.cache_manager.specs.Laid.{Laid, IsLaidOn}
 use Rattle.cache_manager.specs.Parts.{AreInUse, Shows, Store, parts, store}
 use Rattle.cache_manager.specs.Taking.{ArePartsInUse, Follows, Takes}
 use Rattle.cache_manager.specs.Taking.Ending.{Stopped}
-use Rattle.store_engine.specs.Engine.{IsFailed, StopsAt, ending_of_force}
+use Rattle.store_engine.specs.Engine.{IsFailed, ending_of_force}
 use Rattle.store_engine.specs.Store.{meaning_in}
 
 -- a call that fails with the disk alone is never stopped, and fails exactly where it answers so
-pub force_never_stops : {T E : Type 0} (r : Result T E) (log : RecordLogView) (stop : Stop) → ending_of_force r ≡ Stopped stop → StopsAt log stop
-force_never_stops (Ok value) log stop is = cc
-force_never_stops (Err e) log stop is = cc
+pub force_never_stops : {T E : Type 0} (r : Result T E) (most : ℕ) (log : RecordLogView) (stop : Stop) → ending_of_force r ≡ Stopped stop → StopsAt most log stop
+force_never_stops (Ok value) most log stop is = cc
+force_never_stops (Err e) most log stop is = cc
 
 pub force_failed : {T E : Type 0} (r : Result T E) → IsFailed (ending_of_force r) → IsErr r
 force_failed (Ok value) is = absurd is
@@ -37,20 +39,13 @@ pub quiet_force : (old new : Disk) (active : _) → Runs (In active Any) Same ol
 quiet_force old new active runs = runs_wider old new (In active Any) (λ a b. Unit {0}) (λ a b changed. tt) runs
 
 module _ (old new : Disk) (log after : RecordLogView) (objects : Laid) (entries : List Entry) {T E : Type 0} (r : Result T E) (forced : OnOk r (IsForced log after)) (kept : OnErr r (after ≡ log)) where
-  -- the log has the same numbers, and stands in the same file
+  -- the log has the same numbers
   pub force_next : after.next ≡ log.next
   force_next = by_answer r forced kept
     where
       by_answer : (r : Result T E) → OnOk r (IsForced log after) → OnErr r (after ≡ log) → after.next ≡ log.next
       by_answer (Ok value) forced kept = ap (λ (l : RecordLogView). l.next) forced
       by_answer (Err e) forced kept = ap (λ (l : RecordLogView). l.next) kept
-
-  force_active : after.log.active ≡ log.log.active
-  force_active = by_answer r forced kept
-    where
-      by_answer : (r : Result T E) → OnOk r (IsForced log after) → OnErr r (after ≡ log) → after.log.active ≡ log.log.active
-      by_answer (Ok value) forced kept = ap (λ (l : RecordLogView). l.log.active) forced
-      by_answer (Err e) forced kept = ap (λ (l : RecordLogView). l.log.active) kept
 
   force_bounds : after.bounds ≡ log.bounds
   force_bounds = by_answer r forced kept
@@ -66,12 +61,20 @@ module _ (old new : Disk) (log after : RecordLogView) (objects : Laid) (entries 
     early = subst (λ (n : ℕ). AreEarly n objects) (sym force_next) used.early;
   }
 
-  pub force_attached : Runs (In log.log.active Any) Same old new → IsAttached old (parts log objects entries) → IsAttached new (parts after objects entries)
-  force_attached runs attached told =
-      let told_old = runs.time.files_told.1 told in
-      let was = attached told_old in
-      let same : new.reads Objects ≡ old.reads Objects = (runs.reads told_old).others Objects (λ is. was.1 (sym is)) in
-      (subst (λ (f : List ℕ). IsLaidOn objects f) (sym same) was.0, λ is. was.1 (sym force_active ∙ is))
+  pub force_attached : {O : Type 0} (meaning : Bounds → Meaning O) → Runs (In log.log.active Any) Same old new
+      → (old.tells_files → (stable pending : List (Record O)) → Keeps (meaning log.bounds) old log stable pending → OnOk r (Keeps (meaning log.bounds) new after (stable ++ pending) []))
+      → IsFailed (ending_of_force r) ⊎ (IsAttached meaning old (parts log objects entries) → IsAttached meaning new (parts after objects entries))
+  force_attached {O} meaning runs keeps = by_answer r forced keeps
+    where
+      by_answer : (r : Result T E) → OnOk r (IsForced log after)
+          → (old.tells_files → (stable pending : List (Record O)) → Keeps (meaning log.bounds) old log stable pending → OnOk r (Keeps (meaning log.bounds) new after (stable ++ pending) []))
+          → IsFailed (ending_of_force r) ⊎ (IsAttached meaning old (parts log objects entries) → IsAttached meaning new (parts after objects entries))
+      by_answer (Err e) forced keeps = inl tt
+      by_answer (Ok value) forced keeps = inr (λ attached told.
+          let told_old = runs.time.files_told.1 told in
+          let was = attached told_old in
+          let same : new.reads Objects ≡ old.reads Objects = (runs.reads told_old).others Objects (λ is. was.1.keeps.in_force.a_log (sym is)) in
+          (subst (λ (f : List ℕ). IsLaidOn objects f) (sym same) was.0, forced_log meaning old new log after forced keeps told_old was.1))
 
   pub force_takes : {O : Type 0} (meaning : Bounds → Meaning O)
       → ((p : Params) (it : Store) (w : World O) → Shows (meaning_in meaning p) p old (record { log = log; store = it }) w → OnOk r (Shows (meaning_in meaning p) p new (record { log = after; store = it }) (run (meaning_in meaning p) w (force_steps (meaning_in meaning p) w))))

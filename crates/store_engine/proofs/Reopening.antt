@@ -120,6 +120,7 @@ module _ {O : Type 0} (meaning : Bounds → Meaning O) (p : Params) (old new : D
   restart_images small keeps stand may moments =
       or_weaker old new (IsSilent (ShowsSome m p w (restart_course m dirty w used).steps) old.said) (Between meaning p old (length commands) commands) moments (restart_between small keeps stand may)
 
-pub ready_engine : (new : Disk) (r : Result EngineView RestartErr) → IfOk r (λ (e : EngineView). (e.broken ≡ false) × (e.identities ≡ 0)) → IfOk (opened r) (IsAttached new) → IfOk r (λ (e : EngineView). (e.broken ≡ false) × (e.identities ≡ 0) × AreAttached new e)
-ready_engine new (Ok e) fresh attached = (fresh.0, fresh.1, attached)
-ready_engine new (Err cause) fresh attached = tt
+pub ready_engine : {O : Type 0} (meaning : Bounds → Meaning O) (new : Disk) (r : Result EngineView RestartErr) → IfOk r (λ (e : EngineView). (e.broken ≡ false) × (e.identities ≡ 0)) → IfOk (opened r) (IsAttached meaning new)
+    → IfOk r (λ (e : EngineView). (e.broken ≡ false) × (e.identities ≡ 0) × AreAttached meaning new e)
+ready_engine meaning new (Ok e) fresh attached = (fresh.0, fresh.1, attached)
+ready_engine meaning new (Err cause) fresh attached = tt

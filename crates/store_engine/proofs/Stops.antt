@@ -13,12 +13,13 @@ use Rattle.log_frames.specs.Laws.{has_header}
 use Rattle.explain_core.specs.World.{World}
 use Rattle.cache_manager.specs.Courses.{Stop}
 use Rattle.cache_manager.specs.Courses.Stop.{Through, Full, At_end, Worn}
-use Rattle.store_engine.specs.Engine.{EngineView, ShowsIn, StopsAt, SaysStop, InEachImage}
+use Rattle.cache_manager.specs.Kept.{StopsAt}
+use Rattle.store_engine.specs.Engine.{EngineView, ShowsIn, SaysStop, InEachImage}
 use Rattle.store_engine.specs.Store.{meaning_in}
 use Rattle.store_engine.proofs.Holding.{in_each, no_records}
 
-module _ {O : Type 0} (meaning : Bounds → Meaning O) (p : Params) (d : Disk) (engine : EngineView) (w : World O) (shows : ShowsIn meaning p d engine w) where
-  now : (stop : Stop) → StopsAt engine.parts.log stop → SaysStop meaning p d.reads stop
+module _ {O : Type 0} (meaning : Bounds → Meaning O) (p : Params) (d : Disk) (engine : EngineView) (w : World O) (shows : ShowsIn meaning p d engine w) (most : ℕ) where
+  now : (stop : Stop) → StopsAt most engine.parts.log stop → SaysStop meaning p d.reads stop
   now Through at = absurd at
   now (Full used need limit) at =
       let k = shows.shows.log.keeps in
@@ -52,5 +53,5 @@ module _ {O : Type 0} (meaning : Bounds → Meaning O) (p : Params) (d : Disk) (
         here = at.0;
       }
 
-  pub stop_said : (stop : Stop) → StopsAt engine.parts.log stop → InEachImage d (λ files. SaysStop meaning p files stop)
+  pub stop_said : (stop : Stop) → StopsAt most engine.parts.log stop → InEachImage d (λ files. SaysStop meaning p files stop)
   stop_said stop at = in_each d (λ files. SaysStop meaning p files stop) shows.shows.log.keeps.settled (now stop at)

@@ -1,12 +1,11 @@
 -- What the answers of calls say of how they ended.
-use Rattle.std.proofs.Common.{◌≡◌, subst, sym, ℕ, inl, inr, ◌⊎◌, refl, Bool, true, false}
+use Rattle.std.proofs.Common.{◌≡◌, subst, sym, ℕ, ◌+◌, ◌-◌, ◌≤◌, arith, inl, inr, ◌⊎◌, refl, Bool, true, false}
 use Rattle.std.specs.Prelude.{Result, Ok, Err, IsErrOf, IfOk, IfErr, ◌↔◌}
 use Rattle.std.proofs.lemmas.Bool.{cases_Bool}
 use Rattle.disk_model.specs.declared.machine.FileNo.{FileNo}
 use Rattle.log_records.specs.RecordLog.{RecordLogView}
 use Rattle.cache_manager.specs.Courses.{Stop}
-use Rattle.cache_manager.specs.Courses.Stop.{Through, Full, At_end, Worn}
-use Rattle.cache_manager.specs.Kept as of_parts
+use Rattle.cache_manager.specs.Kept.{StopsAt, StopsOnly}
 use Rattle.cache_manager.specs.Parts.{Parts}
 use Rattle.cache_manager.specs.Taking.{Ending, ending_of}
 use Rattle.cache_manager.specs.Taking.Ending.{Stopped}
@@ -19,7 +18,7 @@ use Rattle.execution.specs.Answers as of_command
 use Rattle.execution.specs.declared.exec_err.ExecErr.{ExecErr}
 use Rattle.execution.specs.declared.exec_err.ExecErr.TheVariants as of_exec
 use Rattle.restart.specs.declared.restart_err.RestartErr.{RestartErr}
-use Rattle.store_engine.specs.Engine.{EngineView, IsFailed, StopsAt, opened}
+use Rattle.store_engine.specs.Engine.{EngineView, IsFailed, opened}
 
 -- a flag that is raised exactly where P holds is down, or P holds
 pub unbroken_or : (broken : Bool) (P : Type 0) → (broken ≡ true) ↔ P → P ⊎ (broken ≡ false)
@@ -65,29 +64,18 @@ trim_failed (Err of_trim.Memory) is = absurd is
 pub failed_trim : {T : Type 0} (r : Result T TrimErr) → IsErrOf r of_trim.DiskFault → IsFailed (of_log.ending_of r)
 failed_trim {T} r is = subst (λ (x : Result T TrimErr). IsFailed (of_log.ending_of x)) (sym is) tt
 
--- a trim that is never damaged
-pub never_damaged : {T : Type 0} (r : Result T TrimErr) (file : FileNo) (place : ℕ) → (IfErr r (of_log.DamagedBy (λ f n. ⊥))) → IsErrOf r (of_trim.Damaged file place) → ⊥
-never_damaged {T} r file place none is = subst (λ (x : Result T TrimErr). IfErr x (of_log.DamagedBy (λ f n. ⊥))) is none
+-- a bound on a count, by the numbers that were given meanwhile
+pub bounded_so : {E : Type 0} (r : Result ℕ E) (first last entries : ℕ) → first ≤ last → IfOk r (λ n. n + first ≤ entries + last) → IfOk r (λ n. n ≤ entries + (last - first))
+bounded_so (Ok n) first last entries rising bound = omega (arith, rising, bound)
+bounded_so (Err e) first last entries rising bound = tt
 
-module _ (log : RecordLogView) where
-  -- the numbers of a stop, as the calls below say them
-  pub stops_install : (ending : Ending) → of_parts.StopsAt log ending → (stop : Stop) → ending ≡ Stopped stop → StopsAt log stop
-  stops_install ending says stop is = by_stop stop (subst (λ (e : Ending). of_parts.StopsAt log e) is says)
-    where
-      by_stop : (stop : Stop) → of_parts.StopsAt log (Stopped stop) → StopsAt log stop
-      by_stop Through at = at
-      by_stop (Full used need limit) at = at
-      by_stop (At_end number) at = at
-      by_stop (Worn epoch) at = at
+-- a trim that reports damage
+pub damaged_by : {T : Type 0} (fault : FileNo → ℕ → Type 0) (r : Result T TrimErr) (file : FileNo) (place : ℕ) → IfErr r (of_log.DamagedBy fault) → IsErrOf r (of_trim.Damaged file place) → fault file place
+damaged_by {T} fault r file place told is = subst (λ (x : Result T TrimErr). IfErr x (of_log.DamagedBy fault)) is told
 
-  pub stops_exec : (ending : Ending) → ((stop : Stop) → ending ≡ Stopped stop → of_command.StopsAt log stop) → (stop : Stop) → ending ≡ Stopped stop → StopsAt log stop
-  stops_exec ending says stop is = by_stop stop (says stop is)
-    where
-      by_stop : (stop : Stop) → of_command.StopsAt log stop → StopsAt log stop
-      by_stop Through at = at
-      by_stop (Full used need limit) at = at
-      by_stop (At_end number) at = at
-      by_stop (Worn epoch) at = absurd at
+-- the numbers of a stop, as the calls below say them
+pub stops_so : (most : ℕ) (log : RecordLogView) (ending : Ending) → StopsOnly most log ending → (stop : Stop) → ending ≡ Stopped stop → StopsAt most log stop
+stops_so most log ending says stop is = subst (λ (e : Ending). StopsOnly most log e) is says
 
 -- what holds of the parts that are opened holds of those of the engine
 pub opened_ok : (r : Result EngineView RestartErr) (P : Parts → Type 0) → IfOk (opened r) P → IfOk r (λ (e : EngineView). P e.parts)

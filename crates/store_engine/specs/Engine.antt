@@ -1,6 +1,6 @@
 -- What the engine and its files stand for, and what its calls make of them.
 use Rattle.std.specs.Prelude.{◌≡◌, ◌⊎◌, ◌↔◌, ℕ, ◌+◌, ◌-◌, ◌^◌, ◌≤◌, ◌<◌, ◌==◌, ◌&&◌, ⊤, Bool, true, false, List, length, take, [], Some, None, IsSome, Result, Ok, Err}
-use Rattle.disk_model.specs.Disk.{Files, Disk, LeavesOnly, Passes, Rises}
+use Rattle.disk_model.specs.Disk.{Files, Disk, LeavesOnly, Passes, Rises, Stays}
 use Rattle.disk_model.specs.declared.machine.FileNo.{FileNo}
 use Rattle.disk_model.specs.declared.machine.FileNo.TheVariants.{Objects}
 use Rattle.oper_core.specs.Meaning.{Meaning, IsInGrammar}
@@ -20,10 +20,13 @@ use Rattle.explain_core.specs.World.{World, end_of, node_named}
 use Rattle.cache_manager.specs.Courses.{Stop}
 use Rattle.cache_manager.specs.Courses.Stop.{Through, Full, At_end, Worn}
 use Rattle.cache_manager.specs.Kept as of_parts
+use Rattle.cache_manager.specs.Kept.{StopsAt}
 use Rattle.cache_manager.specs.Laid.{Laid, values_in}
 use Rattle.cache_manager.specs.Parts.{Parts, Shows, parts}
 use Rattle.cache_manager.specs.Taking.{ArePartsInUse, Ending}
 use Rattle.cache_manager.specs.Taking.Ending.{Done, Stopped, Short, Failed}
+use Rattle.execution.specs.Done.{IsDone, IsUndone}
+use Rattle.execution.specs.Failures.{IsExecFailure}
 use Rattle.execution.specs.declared.exec_err.ExecErr.{ExecErr}
 use Rattle.execution.specs.declared.exec_err.ExecErr.TheVariants.{Refused, LogFull, LsnEnd, DiskFault, Damaged, Memory}
 use Rattle.restart.specs.declared.restart_err.RestartErr.{RestartErr}
@@ -62,10 +65,6 @@ forced_in engine = engine.parts.log.forced
 abbrev pub IsCached : EngineView → ℕ → Type 0
 IsCached engine x = IsSome (held engine.parts.store.objects.cache x)
 
--- where the machine reports its files, the engine's objects are laid on the objects file, and its log is another one
-abbrev pub IsAttached : Disk → EngineView → Type 0
-IsAttached d engine = of_parts.IsAttached d engine.parts
-
 -- what holds of the parts of an engine that is not broken: they are in use, and no more identity writes were logged than
 -- there are numbers below the next
 pub record IsUsable (it : Parts) (identities : ℕ) : Type 0 where
@@ -93,27 +92,6 @@ abbrev pub opened : Result EngineView RestartErr → Result Parts RestartErr
 opened (Ok engine) = Ok engine.parts
 opened (Err cause) = Err cause
 
--- Why a call was stopped, by the log that it leaves, in which nothing waits: a record has no room behind it, or no number
--- is left for a record, or no epoch for a log.
-abbrev pub StopsAt : RecordLogView → Stop → Type 0
-StopsAt log Through = ⊥
-StopsAt log (Full used need limit) = (used ≡ used_of log.log) × (log.log.pending ≡ []) × (limit < used + need)
-StopsAt log (At_end number) = (number ≡ log.next) × (log.log.pending ≡ []) × (number ≡ 2 ^ 62)
-StopsAt log (Worn epoch) = (epoch ≡ log.log.header.epoch) × (epoch ≡ 2 ^ 62)
-
--- What holds of each call on every machine: time passes, nothing is said, the store's numbers stay; unless the disk failed
--- the engine stays attached; so many identity writes are logged; a call that was stopped says the numbers of the log that
--- it leaves; the engine is broken exactly if the disk failed, and then the disk counted that.
-pub record IsCall (old new : Disk) (before after : EngineView) (logged : ℕ) (ending : Ending) : Type 0 where
-  pub time : Passes old new
-  pub quiet : old.tells_files → new.said ≡ old.said
-  pub params : params_of after ≡ params_of before
-  pub attached : IsFailed ending ⊎ (IsAttached old before → IsAttached new after)
-  pub identities : after.identities ≡ before.identities + logged
-  pub stopped : (stop : Stop) → ending ≡ Stopped stop → StopsAt after.parts.log stop
-  pub broken : (after.broken ≡ true) ↔ IsFailed ending
-  pub fault : IsFailed ending → Rises old.disk_faults new.disk_faults
-
 -- so many identity writes are logged in a call that logs nothing else with a number
 abbrev pub logged_since : EngineView → EngineView → ℕ
 logged_since before after = after.parts.log.next - before.parts.log.next
@@ -127,6 +105,40 @@ pub record EpochIs (files : Files) (epoch : ℕ) : Type 0 where
   pub here : epoch ≡ header.epoch
 
 module _ {O : Type 0} (meaning : Bounds → Meaning O) where
+  -- where the machine reports its files, the engine's objects are laid on the objects file, and its log, which is another
+  -- one, keeps some records
+  abbrev pub IsAttached : Disk → EngineView → Type 0
+  IsAttached d engine = of_parts.IsAttached meaning d engine.parts
+
+  -- What holds on every machine of each call that may change the log, which may have `most` bytes: time passes, nothing is
+  -- said, the store's numbers stay; unless the disk failed the engine stays attached; so many identity writes are logged; a
+  -- call that was stopped says the numbers of the log that it leaves; the engine is broken exactly if the disk failed, and
+  -- then the disk counted that.
+  pub record IsCall (most : ℕ) (old new : Disk) (before after : EngineView) (logged : ℕ) (ending : Ending) : Type 0 where
+    pub time : Passes old new
+    pub quiet : old.tells_files → new.said ≡ old.said
+    pub params : params_of after ≡ params_of before
+    pub attached : IsFailed ending ⊎ (IsAttached old before → IsAttached new after)
+    pub identities : after.identities ≡ before.identities + logged
+    pub stopped : (stop : Stop) → ending ≡ Stopped stop → StopsAt most after.parts.log stop
+    pub broken : (after.broken ≡ true) ↔ IsFailed ending
+    pub fault : IsFailed ending → Rises old.disk_faults new.disk_faults
+
+  -- What holds on every machine of a fetch: the files, the log and the counts stay, and nothing is said; the engine stays
+  -- attached; it is broken exactly if the disk failed.
+  pub record IsFetch (old new : Disk) (before after : EngineView) (failed : Type 0) : Type 0 where
+    pub kept : Stays old new
+    pub log : after.parts.log ≡ before.parts.log
+    pub identities : after.identities ≡ before.identities
+    pub attached : IsAttached old before → IsAttached new after
+    pub broken : (after.broken ≡ true) ↔ failed
+
+  -- What holds on every machine of a command: where it is done its record waits, and it has its entry; where it is not the
+  -- log has none, and nothing but slots was read. The answer has a cause.
+  abbrev pub IsOutcome : Disk → Disk → Parts → Parts → O → Result ℕ ExecErr → Type 0
+  IsOutcome old new before after op (Ok n) = IsDone meaning before after op n
+  IsOutcome old new before after op (Err e) = IsUndone before after e × IsExecFailure meaning old new before op e
+
   -- engine and files show the world
   pub record ShowsIn (p : Params) (d : Disk) (engine : EngineView) (w : World O) : Type 0 where
     pub unbroken : engine.broken ≡ false

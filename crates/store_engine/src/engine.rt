@@ -1,10 +1,9 @@
 ghost use Rattle.std.specs.Prelude.{◌≡◌, ◌⊎◌, ◌<◌, ◌↔◌, ℕ, List, true, false, IfErr, IsErrOf, OnOk};
-ghost use Rattle.disk_model.specs.Disk.{Stays};
 ghost use Rattle.formats.specs.Objects.{IsInRange};
 ghost use Rattle.formats.specs.declared.params.Params.{Params as Numbers};
 ghost use Rattle.explain_core.specs.World.{World};
 ghost use Rattle.cache_manager.specs.Laid.{values_in};
-ghost use Rattle.store_engine.specs.Engine.{Holds, IsAttached, IsCached, Kept, ShowsIn, params_of};
+ghost use Rattle.store_engine.specs.Engine.{Holds, IsCached, IsFetch, Kept, ShowsIn, params_of};
 ghost use Rattle.store_engine.specs.Failures.{HasSlotFailed, IsFetchFailure, of_slots};
 ghost use Rattle.store_engine.specs.Store.{state_of};
 
@@ -95,9 +94,8 @@ impl<O: Oper> Engine<O> {
     /// its format, and `Memory`; of the other answers none. Each object has the value that it had.
     pub fn fetch<M: Machine>(&mut self, machine: &mut M, object: u32) -> Result<(), ExecErr>
         requires unbroken { self.old.broken ≡ false }
-        ensures kept { Stays (M.disk machine.old) (M.disk machine.new) }
-        ensures log { self.new.parts.log ≡ self.old.parts.log }
-        ensures identities { self.new.identities ≡ self.old.identities }
+        ensures call { IsFetch O.meaning (M.disk machine.old) (M.disk machine.new) self.old self.new (IsErrOf result ExecErr.DiskFault) }
+        ensures params { params_of self.new ≡ params_of self.old }
         ensures shows { (p : Numbers) (w : World O) → ShowsIn O.meaning p (M.disk machine.old) self.old w →
             IsErrOf result ExecErr.DiskFault ⊎ ShowsIn O.meaning p (M.disk machine.new) self.new w }
         ensures holds { (p : Numbers) (commands : List O) → Holds O.meaning p (M.disk machine.old) self.old commands →
@@ -108,8 +106,6 @@ impl<O: Oper> Engine<O> {
         ensures cause { IfErr result (IsFetchFailure (M.disk machine.old) (M.disk machine.new) self.old object) }
         // What is cached costs no device call.
         ensures known { IsCached self.old object → machine.new ≡ machine.old }
-        ensures attached { IsAttached (M.disk machine.old) self.old → IsAttached (M.disk machine.new) self.new }
-        ensures broken { (self.new.broken ≡ true) ↔ IsErrOf result ExecErr.DiskFault }
     {
         explain_core::live_cache_is_the_map::<O>();
         if object >= self.params().objects {

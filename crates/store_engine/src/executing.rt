@@ -1,5 +1,5 @@
 // A command is checked, logged, and done on the objects.
-ghost use Rattle.std.specs.Prelude.{◌≡◌, ◌++◌, [], ◌∷◌, ◌⊎◌, ◌↔◌, List, ℕ, true, false, IfOk, IfErr, IsErrOf, OnErr, OnOk};
+ghost use Rattle.std.specs.Prelude.{◌≡◌, ◌++◌, [], ◌∷◌, ◌⊎◌, ◌↔◌, List, ℕ, true, false, IsErrOf, OnErr, OnOk};
 ghost use Rattle.disk_model.specs.Disk.{LeavesOnly};
 ghost use Rattle.formats.specs.declared.params.Params.{Params};
 ghost use Rattle.explain_core.specs.World.{World};
@@ -7,9 +7,7 @@ ghost use Rattle.cache_manager.specs.Taking.{Takes};
 ghost use Rattle.execution.specs.Answers.{ending_of_exec};
 ghost use Rattle.execution.specs.Answers as of_world;
 ghost use Rattle.execution.specs.Courses.{exec_course};
-ghost use Rattle.execution.specs.Done.{IsDone, IsUndone};
-ghost use Rattle.execution.specs.Failures.{IsExecFailure};
-ghost use Rattle.store_engine.specs.Engine.{Holds, Kept, Between, IsCall, IsFailed, HasCause, ShowsIn, forced_in, params_of, used_in};
+ghost use Rattle.store_engine.specs.Engine.{Holds, Kept, Between, IsCall, IsFailed, IsOutcome, HasCause, ShowsIn, forced_in, params_of, used_in};
 ghost use Rattle.store_engine.specs.Store.{meaning_in};
 
 use crate::Engine;
@@ -44,7 +42,7 @@ impl<O: Oper> Engine<O> {
     /// map is as it was.
     pub fn exec<M: Machine>(&mut self, machine: &mut M, op: O) -> Result<u64, ExecErr>
         requires unbroken { self.old.broken ≡ false }
-        ensures call { IsCall (M.disk machine.old) (M.disk machine.new) self.old self.new 0 (ending_of_exec result) }
+        ensures call { IsCall O.meaning (params_of self.old).limit (M.disk machine.old) (M.disk machine.new) self.old self.new 0 (ending_of_exec result) }
         ensures takes { Takes O.meaning (M.disk machine.old) (M.disk machine.new) self.old.parts self.new.parts (λ m w used. exec_course m (params_of self.old).limit op w used) (ending_of_exec result) }
         ensures ok { (p : Params) (commands : List O) → Holds O.meaning p (M.disk machine.old) self.old commands →
             OnOk result (Kept O.meaning p self.old (M.disk machine.new) self.new (commands ++ op ∷ [])) }
@@ -59,9 +57,7 @@ impl<O: Oper> Engine<O> {
         ensures exactly { (p : Params) (commands : List O) → Holds O.meaning p (M.disk machine.old) self.old commands → HasCause O.meaning p commands op result }
 
         // What holds on every machine of a command that is done, and why one is not.
-        ensures done { IfOk result (IsDone O.meaning self.old.parts self.new.parts op) }
-        ensures undone { IfErr result (IsUndone self.old.parts self.new.parts) }
-        ensures failure { IfErr result (IsExecFailure O.meaning (M.disk machine.old) (M.disk machine.new) self.old.parts op) }
+        ensures outcome { IsOutcome O.meaning (M.disk machine.old) (M.disk machine.new) self.old.parts self.new.parts op result }
     {
         explain_core::every_run_keeps::<O>();
         explain_core::live_cache_is_the_map::<O>();

@@ -2,6 +2,7 @@
 ghost use Rattle.std.specs.Prelude.{◌≡◌, ◌↔◌, [], List, ℕ, true, false, length, OnOk, IfOk};
 ghost use Rattle.formats.specs.declared.params.Params.{Params};
 ghost use Rattle.cache_manager.specs.Courses.{force_course};
+ghost use Rattle.cache_manager.specs.Logged.{log_limit};
 ghost use Rattle.cache_manager.specs.Taking.{Takes};
 ghost use Rattle.store_engine.specs.Engine.{Holds, IsCall, IsFailed, KeepsCommands, ending_of_force, forced_in};
 
@@ -36,7 +37,7 @@ impl<O: Oper> Engine<O> {
     /// Forces the log. It answers how many commands are stable now.
     pub fn force<M: Machine>(&mut self, machine: &mut M) -> Result<u64, ForceErr>
         requires unbroken { self.old.broken ≡ false }
-        ensures call { IsCall (M.disk machine.old) (M.disk machine.new) self.old self.new 0 (ending_of_force result) }
+        ensures call { IsCall O.meaning log_limit (M.disk machine.old) (M.disk machine.new) self.old self.new 0 (ending_of_force result) }
         ensures takes { Takes O.meaning (M.disk machine.old) (M.disk machine.new) self.old.parts self.new.parts (λ m w used. force_course m w used) (ending_of_force result) }
         ensures commands { KeepsCommands O.meaning (M.disk machine.old) (M.disk machine.new) self.old self.new (ending_of_force result) }
         ensures forced { (p : Params) (commands : List O) → Holds O.meaning p (M.disk machine.old) self.old commands →

@@ -12,7 +12,8 @@ ghost use Rattle.cache_manager.specs.Running.{AreUpkeep};
 ghost use Rattle.checkpointing.specs.Courses.{trim_course};
 ghost use Rattle.restart.specs.Courses.{restart_course};
 ghost use Rattle.store_engine.specs.Emptied.{IsEmptied};
-ghost use Rattle.store_engine.specs.Engine.{Holds, InEachImage, Says, SaysStop, ShowsIn, StopsAt};
+ghost use Rattle.cache_manager.specs.Kept.{StopsAt};
+ghost use Rattle.store_engine.specs.Engine.{Holds, InEachImage, Says, SaysStop, ShowsIn};
 ghost use Rattle.store_engine.specs.Store.{IsWellFormed, Stands, meaning_in};
 
 use crate::Engine;
@@ -34,8 +35,8 @@ pub fn engine_stands<O: Oper, M: Machine>(machine: &M, engine: &Engine<O>)
 /// Why a call was stopped is what each image of the moment says: where the log ends, which number is the next, or which
 /// epoch the log in force has.
 pub fn stop_is_said<O: Oper, M: Machine>(machine: &M, engine: &Engine<O>)
-    ensures { (p : Params) (w : World O) (stop : Stop) → ShowsIn O.meaning p (M.disk machine.now) engine.now w →
-        StopsAt engine.now.parts.log stop → InEachImage (M.disk machine.now) (λ files. SaysStop O.meaning p files stop) }
+    ensures { (p : Params) (w : World O) (most : ℕ) (stop : Stop) → ShowsIn O.meaning p (M.disk machine.now) engine.now w →
+        StopsAt most engine.now.parts.log stop → InEachImage (M.disk machine.now) (λ files. SaysStop O.meaning p files stop) }
 {
     let _ = machine;
     let _ = engine;

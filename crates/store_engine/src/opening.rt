@@ -51,9 +51,9 @@ impl<O: Oper> Engine<O> {
         tuning: Tuning,
     ) -> Result<Engine<O>, RestartErr>
         requires { 0 < tuning.clean }
-        ensures opening { IsOpening (M.disk machine.old) (M.disk machine.new) (opened result) }
+        ensures opening { IsOpening O.meaning (M.disk machine.old) (M.disk machine.new) (opened result) }
         ensures judged { (M.disk machine.old).tells_files → IsJudged O.meaning (M.disk machine.old) (M.disk machine.new) (opened result) }
-        ensures ready { IfOk result (λ engine. (engine.broken ≡ false) × (engine.identities ≡ 0) × IsAttached (M.disk machine.new) engine) }
+        ensures ready { IfOk result (λ engine. (engine.broken ≡ false) × (engine.identities ≡ 0) × IsAttached O.meaning (M.disk machine.new) engine) }
 
         // Of each world that the files show the whole course is taken, and the log is as long as that says.
         ensures follows { (p : Params) (used : ℕ) (w : World O) → OpensOn (meaning_in O.meaning p) p (M.disk machine.old) used w →

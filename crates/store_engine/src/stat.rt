@@ -18,7 +18,7 @@ pub struct Stat {
     pub nodes: u64,
     /// The objects whose slots do not have the version that is cached.
     pub dirty: u64,
-    /// The records that are not installed.
+    /// The records in the write graph: those that are not installed.
     pub uninstalled: u64,
     /// The commands that are stable.
     pub forced: u64,

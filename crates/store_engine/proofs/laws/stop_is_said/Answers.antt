@@ -2,4 +2,4 @@ use Rattle.store_engine.proofs.Stops.{stop_said}
 use Rattle.store_engine.proofs.laws.stop_is_said.Goals as goal
 
 pub returns : goal.returns
-returns g c = λ p w stop shows at. stop_said g.O.Oper.meaning p (g.M.Machine.disk c.args.machine.now) c.args.engine.now w shows stop at
+returns g c = λ p w most stop shows at. stop_said g.O.Oper.meaning p (g.M.Machine.disk c.args.machine.now) c.args.engine.now w shows most stop at

@@ -1,14 +1,13 @@
 use Rattle.std.proofs.Common.{inl, inr, ⊎_elim, refl, arith}
-use Rattle.cache_manager.specs.Parts.{parts}
+use Rattle.cache_manager.specs.Logged.{log_limit}
 use Rattle.checkpointing.specs.Courses.{checkpoint_course}
 use Rattle.cache_manager.specs.Taking.{ending_of}
-use Rattle.store_engine.proofs.Checks.{never_ended}
 use Rattle.store_engine.specs.Engine.{view_of}
 use Rattle.store_engine.proofs.Calls.{call_of, takes_of, usable_after, parts_in_use}
 use Rattle.store_engine.proofs.Keeping.{takes_keeps}
 use Rattle.store_engine.proofs.PlainCourses.{upkeep_checkpoint}
 use Rattle.store_engine.proofs.Steps.{are_plain}
-use Rattle.store_engine.proofs.Ways.{failed_install, install_failed, stops_install, unbroken_unless}
+use Rattle.store_engine.proofs.Ways.{failed_install, install_failed, stops_so, unbroken_unless}
 use Rattle.store_engine.proofs.engine.Engine.checkpoint.Goals as goal
 
 pub checkpoint-answer-requires : goal.checkpoint-answer-requires
@@ -25,9 +24,9 @@ invariant_of-self g c =
 pub returns-clause-call : goal.returns-clause-call
 returns-clause-call g c =
     call_of (g.M.Machine.disk c.args.machine.now) (g.M.Machine.disk c.checkpoint-answer.new.machine) c.args.self.now c.self.inside.log c.checkpoint-answer.new.log c.self.inside.objects c.self.inside.objects c.self.inside.graph.entries c.self.inside.graph.entries c.self.inside.identities c.self.inside.identities c.self.inside.broken c.is_disk_fault-failed.result
-    c.self.view_is (λ e. 0) (ending_of c.checkpoint-answer.result) c.checkpoint-answer.ensures.quiet refl
+    c.self.view_is (λ e. 0) (ending_of c.checkpoint-answer.result) g.O.Oper.meaning (λ e. log_limit) c.checkpoint-answer.ensures.quiet refl
     (⊎_elim (λ failed. inl (failed_install c.checkpoint-answer.result failed)) (λ kept. inr kept.attached) c.checkpoint-answer.ensures.kept) (omega arith)
-    (stops_install c.checkpoint-answer.new.log (ending_of c.checkpoint-answer.result) c.checkpoint-answer.ensures.stops) c.is_disk_fault-failed.ensures (λ failed. c.checkpoint-answer.ensures.cause (install_failed c.checkpoint-answer.result failed))
+    (stops_so log_limit c.checkpoint-answer.new.log (ending_of c.checkpoint-answer.result) c.checkpoint-answer.ensures.stops) c.is_disk_fault-failed.ensures (λ failed. c.checkpoint-answer.ensures.cause (install_failed c.checkpoint-answer.result failed))
 
 pub returns-clause-takes : goal.returns-clause-takes
 returns-clause-takes g c =
@@ -47,10 +46,4 @@ returns-clause-commands g c =
     (λ m w used. are_plain (checkpoint_course m w used).steps (upkeep_checkpoint m w used))
 
 pub returns-clause-numbered : goal.returns-clause-numbered
-returns-clause-numbered g c = λ p w shows.
-    let old = g.M.Machine.disk c.args.machine.now in
-    let new = g.M.Machine.disk c.checkpoint-answer.new.machine in
-    let after = parts c.checkpoint-answer.new.log c.self.inside.objects c.self.inside.graph.entries in
-    let takes = takes_of old new c.args.self.now c.self.inside.log c.checkpoint-answer.new.log c.self.inside.objects c.self.inside.objects c.self.inside.graph.entries c.self.inside.graph.entries c.self.inside.identities c.self.inside.identities c.self.inside.broken c.is_disk_fault-failed.result
-    c.self.view_is (λ e. 0) (ending_of c.checkpoint-answer.result) g.O.Oper.meaning (λ e m w used. checkpoint_course m w used) c.checkpoint-answer.ensures.takes in
-    never_ended g.O.Oper.meaning p old new c.args.self.now.parts after w c.checkpoint-answer.result takes shows.shows
+returns-clause-numbered g c = c.checkpoint-answer.ensures.numbered

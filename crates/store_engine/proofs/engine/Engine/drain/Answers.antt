@@ -1,6 +1,7 @@
-use Rattle.std.proofs.Common.{◌≡◌, ◌∙◌, subst, ℕ, ◌+◌, ◌-◌, inl, inr, ⊎_elim, arith}
+use Rattle.std.proofs.Common.{◌≡◌, ◌∙◌, subst, ℕ, ◌+◌, ◌-◌, ◌≤◌, length, inl, inr, ⊎_elim, arith}
 use Rattle.std.specs.Prelude.{IfOk, OnOk}
 use Rattle.cache_manager.specs.Courses.{drain_course, removals}
+use Rattle.cache_manager.specs.Logged.{log_limit}
 use Rattle.cache_manager.specs.Parts.{Shows}
 use Rattle.cache_manager.specs.Taking.{ending_of}
 use Rattle.cache_manager.specs.Upkeep.{upkeep_drain}
@@ -11,7 +12,7 @@ use Rattle.store_engine.specs.Store.{meaning_in}
 use Rattle.store_engine.proofs.Calls.{call_of, takes_of, usable_after, parts_in_use}
 use Rattle.store_engine.proofs.Keeping.{takes_keeps}
 use Rattle.store_engine.proofs.Steps.{are_plain}
-use Rattle.store_engine.proofs.Ways.{failed_install, install_failed, stops_install, unbroken_unless}
+use Rattle.store_engine.proofs.Ways.{bounded_so, failed_install, install_failed, stops_so, unbroken_unless}
 use Rattle.store_engine.proofs.engine.Engine.drain.Goals as goal
 
 pub drain-drained-requires : goal.drain-drained-requires
@@ -34,10 +35,10 @@ pub returns-clause-call : goal.returns-clause-call
 returns-clause-call g c =
     let after = view_of c.drain-drained.new.log c.drain-drained.new.objects c.drain-drained.new.graph.entries c.counted-total.result c.is_disk_fault-failed.result in
     call_of (g.M.Machine.disk c.args.machine.now) (g.M.Machine.disk c.drain-drained.new.machine) c.args.self.now c.self.inside.log c.drain-drained.new.log c.self.inside.objects c.drain-drained.new.objects c.self.inside.graph.entries c.drain-drained.new.graph.entries c.self.inside.identities c.counted-total.result c.self.inside.broken c.is_disk_fault-failed.result
-    c.self.view_is (λ e. logged_since e after) (ending_of c.drain-drained.result) c.drain-drained.ensures.quiet c.drain-drained.ensures.numbered.params
+    c.self.view_is (λ e. logged_since e after) (ending_of c.drain-drained.result) g.O.Oper.meaning (λ e. log_limit) c.drain-drained.ensures.quiet c.drain-drained.ensures.numbered.params
     (⊎_elim (λ failed. inl (failed_install c.drain-drained.result failed)) (λ kept. inr kept.attached) c.drain-drained.ensures.kept)
     (c.counted-total.ensures ∙ (λ i. c.self.inside.identities + (c.next-last.ensures i - c.next-first.ensures i)))
-    (stops_install c.drain-drained.new.log (ending_of c.drain-drained.result) c.drain-drained.ensures.stops) c.is_disk_fault-failed.ensures (λ failed. c.drain-drained.ensures.cause (install_failed c.drain-drained.result failed))
+    (stops_so log_limit c.drain-drained.new.log (ending_of c.drain-drained.result) c.drain-drained.ensures.stops) c.is_disk_fault-failed.ensures (λ failed. c.drain-drained.ensures.cause (install_failed c.drain-drained.result failed))
 
 pub returns-clause-takes : goal.returns-clause-takes
 returns-clause-takes g c =
@@ -60,6 +61,12 @@ pub returns-clause-count : goal.returns-clause-count
 returns-clause-count g c = λ p w shows.
     let m = meaning_in g.O.Oper.meaning p in
     subst (λ (e : EngineView). Shows m p (g.M.Machine.disk c.args.machine.now) e.parts w → IfOk c.drain-drained.result (λ n. n ≡ removals (drain_course m w (used_in e)).steps)) c.self.view_is (c.drain-drained.ensures.count p w) shows.shows
+
+pub returns-clause-bounded : goal.returns-clause-bounded
+returns-clause-bounded g c =
+    let after = view_of c.drain-drained.new.log c.drain-drained.new.objects c.drain-drained.new.graph.entries c.counted-total.result c.is_disk_fault-failed.result in
+    subst (λ (e : EngineView). IfOk c.drain-drained.result (λ n. n ≤ length e.parts.store.entries + logged_since e after)) c.self.view_is
+    (bounded_so c.drain-drained.result c.self.inside.log.next c.drain-drained.new.log.next (length c.self.inside.graph.entries) c.drain-drained.ensures.numbered.rising c.drain-drained.ensures.bounded)
 
 pub returns-clause-drained : goal.returns-clause-drained
 returns-clause-drained g c = c.drain-drained.ensures.drained

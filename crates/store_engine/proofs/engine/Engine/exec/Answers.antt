@@ -1,17 +1,16 @@
-use Rattle.std.proofs.Common.{subst, inr, arith}
-use Rattle.std.specs.Prelude.{IfOk, IfErr}
+use Rattle.std.proofs.Common.{subst, inl, inr, ⊎_elim, arith}
+use Rattle.std.specs.Prelude.{IfErr}
 use Rattle.formats.specs.Objects.{bounds_of}
 use Rattle.cache_manager.specs.Parts.{Shows, parts}
 use Rattle.execution.specs.Answers as of_world
 use Rattle.execution.specs.Answers.{ending_of_exec}
 use Rattle.execution.specs.Courses.{exec_course}
-use Rattle.execution.specs.Done.{IsDone, IsUndone}
-use Rattle.execution.specs.Failures.{IsExecFailure}
-use Rattle.store_engine.specs.Engine.{EngineView, params_of, used_in, view_of}
+use Rattle.execution.specs.Done.{IsUndone}
+use Rattle.store_engine.specs.Engine.{EngineView, IsOutcome, params_of, used_in, view_of}
 use Rattle.store_engine.specs.Store.{meaning_in}
 use Rattle.store_engine.proofs.Calls.{call_of, takes_of, usable_after, parts_in_use}
-use Rattle.store_engine.proofs.Commands.{exec_cause, exec_err, exec_images, exec_ok, next_rises, params_kept}
-use Rattle.store_engine.proofs.Ways.{exec_failed, stops_exec, unbroken_unless}
+use Rattle.store_engine.proofs.Commands.{exec_cause, exec_err, exec_images, exec_ok, next_rises, outcome_of, params_kept}
+use Rattle.store_engine.proofs.Ways.{exec_failed, failed_exec, unbroken_unless}
 use Rattle.store_engine.proofs.engine.Engine.exec.Goals as goal
 
 pub execute-answer-requires : goal.execute-answer-requires
@@ -33,9 +32,9 @@ returns-clause-call g c =
     let before = parts c.self.inside.log c.self.inside.objects c.self.inside.graph.entries in
     let after = parts c.execute-answer.new.log c.execute-answer.new.objects c.execute-answer.new.graph.entries in
     call_of old new c.args.self.now c.self.inside.log c.execute-answer.new.log c.self.inside.objects c.execute-answer.new.objects c.self.inside.graph.entries c.execute-answer.new.graph.entries c.self.inside.identities c.self.inside.identities c.self.inside.broken c.is_disk_fault-failed.result
-    c.self.view_is (λ e. 0) (ending_of_exec c.execute-answer.result) c.execute-answer.ensures.quiet
-    (params_kept g.O.Oper.meaning before after c.args.op c.execute-answer.result c.execute-answer.ensures.done c.execute-answer.ensures.undone) (inr c.execute-answer.ensures.attached) (omega arith)
-    (stops_exec c.execute-answer.new.log (ending_of_exec c.execute-answer.result) c.execute-answer.ensures.stops) c.is_disk_fault-failed.ensures (λ failed. c.execute-answer.ensures.cause (exec_failed c.execute-answer.result failed))
+    c.self.view_is (λ e. 0) (ending_of_exec c.execute-answer.result) g.O.Oper.meaning (λ e. (params_of e).limit) c.execute-answer.ensures.quiet
+    (params_kept g.O.Oper.meaning before after c.args.op c.execute-answer.result c.execute-answer.ensures.done c.execute-answer.ensures.undone) (⊎_elim (λ fault. inl (failed_exec c.execute-answer.result fault)) (λ kept. inr kept) c.execute-answer.ensures.attached) (omega arith)
+    c.execute-answer.ensures.stops c.is_disk_fault-failed.ensures (λ failed. c.execute-answer.ensures.cause (exec_failed c.execute-answer.result failed))
 
 pub returns-clause-takes : goal.returns-clause-takes
 returns-clause-takes g c =
@@ -92,16 +91,12 @@ returns-clause-exactly g c = λ p commands holds.
     exec_cause g.O.Oper.meaning p old new c.args.self.now after c.args.op commands holds (λ b w used small running. c.exec_may_be_taken.ensures b w (params_of c.args.self.now).limit c.args.op used small running)
     (λ w x. c.live_cache_is_the_map.ensures (bounds_of p) w x) c.execute-answer.result cause
 
-pub returns-clause-done : goal.returns-clause-done
-returns-clause-done g c =
+pub returns-clause-outcome : goal.returns-clause-outcome
+returns-clause-outcome g c =
+    let meaning = g.O.Oper.meaning in
+    let old = g.M.Machine.disk c.args.machine.now in
+    let new = g.M.Machine.disk c.execute-answer.new.machine in
+    let before = parts c.self.inside.log c.self.inside.objects c.self.inside.graph.entries in
     let after = parts c.execute-answer.new.log c.execute-answer.new.objects c.execute-answer.new.graph.entries in
-    subst (λ (e : EngineView). IfOk c.execute-answer.result (IsDone g.O.Oper.meaning e.parts after c.args.op)) c.self.view_is c.execute-answer.ensures.done
-
-pub returns-clause-undone : goal.returns-clause-undone
-returns-clause-undone g c =
-    let after = parts c.execute-answer.new.log c.execute-answer.new.objects c.execute-answer.new.graph.entries in
-    subst (λ (e : EngineView). IfErr c.execute-answer.result (IsUndone e.parts after)) c.self.view_is c.execute-answer.ensures.undone
-
-pub returns-clause-failure : goal.returns-clause-failure
-returns-clause-failure g c =
-    subst (λ (e : EngineView). IfErr c.execute-answer.result (IsExecFailure g.O.Oper.meaning (g.M.Machine.disk c.args.machine.now) (g.M.Machine.disk c.execute-answer.new.machine) e.parts c.args.op)) c.self.view_is c.execute-answer.ensures.failure
+    subst (λ (e : EngineView). IsOutcome meaning old new e.parts after c.args.op c.execute-answer.result) c.self.view_is
+    (outcome_of meaning old new before after c.args.op c.execute-answer.result c.execute-answer.ensures.done c.execute-answer.ensures.undone c.execute-answer.ensures.failure)

@@ -10,7 +10,7 @@ use Rattle.store_engine.specs.Engine.{EngineView, IsCached, params_of, view_of}
 use Rattle.store_engine.specs.Failures.{HasSlotFailed, IsFetchFailure, of_slots}
 use Rattle.store_engine.specs.Store.{state_of}
 use Rattle.store_engine.proofs.Calls.{parts_in_use}
-use Rattle.store_engine.proofs.Fetching.{attached_now, failed_slots, fetch_cause, fetched_usable, kept_now, ok_slots, shows_now, slots_failed, value_now}
+use Rattle.store_engine.proofs.Fetching.{failed_slots, fetch_call, fetch_cause, fetched_nothing, fetched_usable, kept_now, ok_slots, shows_now, slots_failed, value_now}
 use Rattle.store_engine.proofs.Ways.{unbroken_or}
 use Rattle.store_engine.proofs.engine.Engine.fetch.Goals as goal
 
@@ -24,11 +24,8 @@ invariant_of-self g c = λ fine.
     fetched_usable (g.M.Machine.disk c.args.machine.now) (g.M.Machine.disk c.fetch-answer.new.machine) c.args.self.now c.self.inside.log c.self.inside.objects c.fetch-answer.new.self c.self.inside.graph.entries c.self.inside.identities c.self.inside.broken c.is_disk_fault-failed.result c.self.view_is c.fetch-answer.ensures.kept c.fetch-answer.ensures.slots c.fetch-answer.ensures.fetched c.fetch-answer.ensures.cells
     (parts_in_use c.self.inside.log c.self.inside.objects c.self.inside.graph.entries c.self.inside.identities c.self.inside.broken c.args.self.now c.self.view_is c.self.invariant c.requires.unbroken)
 
-pub returns-clause-log : goal.returns-clause-log
-returns-clause-log g c = ap (λ (e : EngineView). e.parts.log) c.self.view_is
-
-pub returns-clause-identities : goal.returns-clause-identities
-returns-clause-identities g c = ap (λ (e : EngineView). e.identities) c.self.view_is
+pub returns-clause-params : goal.returns-clause-params
+returns-clause-params g c = ap (λ (s : SlotsView). s.params) c.fetch-answer.ensures.slots ∙ ap (λ (e : EngineView). params_of e) c.self.view_is
 
 pub returns-clause-shows : goal.returns-clause-shows
 returns-clause-shows g c = λ p w shows.
@@ -71,11 +68,13 @@ returns-clause-cause g c =
 pub returns-clause-known : goal.returns-clause-known
 returns-clause-known g c = subst (λ (e : EngineView). IsCached e c.args.object → c.fetch-answer.new.machine ≡ c.args.machine.now) c.self.view_is c.fetch-answer.ensures.known
 
-pub returns-clause-attached : goal.returns-clause-attached
-returns-clause-attached g c = attached_now (g.M.Machine.disk c.args.machine.now) (g.M.Machine.disk c.fetch-answer.new.machine) c.args.self.now c.self.inside.log c.self.inside.objects c.fetch-answer.new.self c.self.inside.graph.entries c.self.inside.identities c.self.inside.broken c.is_disk_fault-failed.result c.self.view_is c.fetch-answer.ensures.kept c.fetch-answer.ensures.slots c.fetch-answer.ensures.fetched c.fetch-answer.ensures.cells
+pub returns-clause-call : goal.returns-clause-call
+returns-clause-call g c =
+    fetch_call (g.M.Machine.disk c.args.machine.now) (g.M.Machine.disk c.fetch-answer.new.machine) c.args.self.now c.self.inside.log c.self.inside.objects c.fetch-answer.new.self c.self.inside.graph.entries c.self.inside.identities c.self.inside.broken c.is_disk_fault-failed.result c.self.view_is c.fetch-answer.ensures.kept c.fetch-answer.ensures.slots c.fetch-answer.ensures.fetched c.fetch-answer.ensures.cells
+    g.O.Oper.meaning _ (
+      λ is. c.told.ensures ∙ failed_slots c.fetch-answer.result (c.is_disk_fault-failed.ensures.0 is),
+      λ is. c.is_disk_fault-failed.ensures.1 (slots_failed c.fetch-answer.result (sym c.told.ensures ∙ is)),
+    )
 
-pub returns-clause-broken : goal.returns-clause-broken
-returns-clause-broken g c = (
-  λ is. c.told.ensures ∙ failed_slots c.fetch-answer.result (c.is_disk_fault-failed.ensures.0 is),
-  λ is. c.is_disk_fault-failed.ensures.1 (slots_failed c.fetch-answer.result (sym c.told.ensures ∙ is)),
-)
+pub returns-then-object-params-clause-call : goal.returns-then-object-params-clause-call
+returns-then-object-params-clause-call g c = fetched_nothing g.O.Oper.meaning (g.M.Machine.disk c.args.machine.now) c.args.self.now _ (g.met.M.Machine.lawful c.args.machine.now) c.requires.unbroken (λ is. cc)

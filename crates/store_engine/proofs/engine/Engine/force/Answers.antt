@@ -2,6 +2,7 @@ use Rattle.std.proofs.Common.{◌≡◌, ◌∙◌, ap, sym, subst, [], length, 
 use Rattle.log_records.specs.RecordLog.{RecordLogView}
 use Rattle.cache_manager.specs.Courses.{force_course}
 use Rattle.cache_manager.specs.Forced.{IsForced}
+use Rattle.cache_manager.specs.Logged.{log_limit}
 use Rattle.cache_manager.specs.Taking.{Ending}
 use Rattle.cache_manager.specs.Upkeep.{upkeep_force}
 use Rattle.store_engine.specs.Engine.{EngineView, IsCall, KeepsCommands, ending_of_force, view_of}
@@ -25,11 +26,11 @@ returns-clause-call g c =
     let old = g.M.Machine.disk c.args.machine.now in
     let new = g.M.Machine.disk c.force_all-answer.new.machine in
     let after = view_of c.force_all-answer.new.log c.self.inside.objects c.self.inside.graph.entries c.self.inside.identities c.has_failed-failed.result in
-    subst (λ (e : Ending). IsCall old new c.args.self.now after 0 e) (sym c.stable.ensures.ending)
+    subst (λ (e : Ending). IsCall g.O.Oper.meaning log_limit old new c.args.self.now after 0 e) (sym c.stable.ensures.ending)
     (call_of old new c.args.self.now c.self.inside.log c.force_all-answer.new.log c.self.inside.objects c.self.inside.objects c.self.inside.graph.entries c.self.inside.graph.entries c.self.inside.identities c.self.inside.identities c.self.inside.broken c.has_failed-failed.result
-    c.self.view_is (λ e. 0) (ending_of_force c.force_all-answer.result) (quiet_force old new c.self.inside.log.log.active c.force_all-answer.ensures.runs) refl
-    (inr (force_attached (g.M.Machine.disk c.args.machine.now) (g.M.Machine.disk c.force_all-answer.new.machine) c.self.inside.log c.force_all-answer.new.log c.self.inside.objects c.self.inside.graph.entries c.force_all-answer.result c.force_all-answer.ensures.forced c.force_all-answer.ensures.kept c.force_all-answer.ensures.runs)) (omega arith)
-    (force_never_stops c.force_all-answer.result c.force_all-answer.new.log) c.has_failed-failed.ensures (λ failed. c.force_all-answer.ensures.cause (force_failed c.force_all-answer.result failed)))
+    c.self.view_is (λ e. 0) (ending_of_force c.force_all-answer.result) g.O.Oper.meaning (λ e. log_limit) (quiet_force old new c.self.inside.log.log.active c.force_all-answer.ensures.runs) refl
+    (force_attached (g.M.Machine.disk c.args.machine.now) (g.M.Machine.disk c.force_all-answer.new.machine) c.self.inside.log c.force_all-answer.new.log c.self.inside.objects c.self.inside.graph.entries c.force_all-answer.result c.force_all-answer.ensures.forced c.force_all-answer.ensures.kept g.O.Oper.meaning c.force_all-answer.ensures.runs c.force_all-answer.ensures.keeps) (omega arith)
+    (force_never_stops c.force_all-answer.result log_limit c.force_all-answer.new.log) c.has_failed-failed.ensures (λ failed. c.force_all-answer.ensures.cause (force_failed c.force_all-answer.result failed)))
 
 pub returns-clause-takes : goal.returns-clause-takes
 returns-clause-takes g c =

@@ -1,6 +1,7 @@
 use Rattle.std.proofs.Common.{◌∙◌, subst, ◌+◌, ◌-◌, inl, inr, ⊎_elim, arith}
 use Rattle.std.specs.Prelude.{IfOk}
 use Rattle.cache_manager.specs.Courses.{install_course}
+use Rattle.cache_manager.specs.Logged.{log_limit}
 use Rattle.cache_manager.specs.Parts.{Shows, parts}
 use Rattle.cache_manager.specs.Taking.{ending_of}
 use Rattle.cache_manager.specs.Upkeep.{upkeep_install}
@@ -10,7 +11,7 @@ use Rattle.store_engine.specs.Store.{meaning_in}
 use Rattle.store_engine.proofs.Calls.{call_of, takes_of, usable_after, parts_in_use}
 use Rattle.store_engine.proofs.Keeping.{takes_keeps}
 use Rattle.store_engine.proofs.Steps.{are_plain}
-use Rattle.store_engine.proofs.Ways.{failed_install, install_failed, stops_install, unbroken_unless}
+use Rattle.store_engine.proofs.Ways.{failed_install, install_failed, stops_so, unbroken_unless}
 use Rattle.store_engine.proofs.engine.Engine.install_one.Goals as goal
 
 pub install_one-installed-requires : goal.install_one-installed-requires
@@ -33,10 +34,10 @@ pub returns-clause-call : goal.returns-clause-call
 returns-clause-call g c =
     let after = view_of c.install_one-installed.new.log c.install_one-installed.new.objects c.install_one-installed.new.graph.entries c.counted-total.result c.is_disk_fault-failed.result in
     call_of (g.M.Machine.disk c.args.machine.now) (g.M.Machine.disk c.install_one-installed.new.machine) c.args.self.now c.self.inside.log c.install_one-installed.new.log c.self.inside.objects c.install_one-installed.new.objects c.self.inside.graph.entries c.install_one-installed.new.graph.entries c.self.inside.identities c.counted-total.result c.self.inside.broken c.is_disk_fault-failed.result
-    c.self.view_is (λ e. logged_since e after) (ending_of c.install_one-installed.result) c.install_one-installed.ensures.quiet c.install_one-installed.ensures.numbered.params
+    c.self.view_is (λ e. logged_since e after) (ending_of c.install_one-installed.result) g.O.Oper.meaning (λ e. log_limit) c.install_one-installed.ensures.quiet c.install_one-installed.ensures.numbered.params
     (⊎_elim (λ failed. inl (failed_install c.install_one-installed.result failed)) (λ kept. inr kept.attached) c.install_one-installed.ensures.kept)
     (c.counted-total.ensures ∙ (λ i. c.self.inside.identities + (c.next-last.ensures i - c.next-first.ensures i)))
-    (stops_install c.install_one-installed.new.log (ending_of c.install_one-installed.result) c.install_one-installed.ensures.stops) c.is_disk_fault-failed.ensures (λ failed. c.install_one-installed.ensures.cause (install_failed c.install_one-installed.result failed))
+    (stops_so log_limit c.install_one-installed.new.log (ending_of c.install_one-installed.result) c.install_one-installed.ensures.stops) c.is_disk_fault-failed.ensures (λ failed. c.install_one-installed.ensures.cause (install_failed c.install_one-installed.result failed))
 
 pub returns-clause-takes : goal.returns-clause-takes
 returns-clause-takes g c =

@@ -19,7 +19,7 @@ built-requires g c = c.restart-answer.ensures.opening.in_use
 
 pub returns-clause-opening : goal.returns-clause-opening
 returns-clause-opening g c =
-    subst (λ (r : Result Parts RestartErr). IsOpening (g.M.Machine.disk c.args.machine.now) (g.M.Machine.disk c.restart-answer.new.machine) r) (sym c.built.ensures.same) c.restart-answer.ensures.opening
+    subst (λ (r : Result Parts RestartErr). IsOpening g.O.Oper.meaning (g.M.Machine.disk c.args.machine.now) (g.M.Machine.disk c.restart-answer.new.machine) r) (sym c.built.ensures.same) c.restart-answer.ensures.opening
 
 pub returns-clause-judged : goal.returns-clause-judged
 returns-clause-judged g c = λ told.
@@ -28,7 +28,7 @@ returns-clause-judged g c = λ told.
 pub returns-clause-ready : goal.returns-clause-ready
 returns-clause-ready g c =
     let new = g.M.Machine.disk c.restart-answer.new.machine in
-    ready_engine new c.built.result c.built.ensures.fresh (subst (λ (r : Result Parts RestartErr). IfOk r (IsAttached new)) (sym c.built.ensures.same) c.restart-answer.ensures.opening.attached)
+    ready_engine g.O.Oper.meaning new c.built.result c.built.ensures.fresh (subst (λ (r : Result Parts RestartErr). IfOk r (IsAttached g.O.Oper.meaning new)) (sym c.built.ensures.same) c.restart-answer.ensures.opening.attached)
 
 pub returns-clause-follows : goal.returns-clause-follows
 returns-clause-follows g c = λ p used w opens.

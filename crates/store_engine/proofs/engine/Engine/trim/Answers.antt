@@ -1,16 +1,17 @@
-use Rattle.std.proofs.Common.{◌≡◌, sym, subst, ◌+◌, inl, inr, ⊎_elim, refl, arith}
+use Rattle.std.proofs.Common.{◌≡◌, sym, subst, ◌+◌, [], inl, inr, ⊎_elim, refl, arith}
 use Rattle.std.specs.Prelude.{OnOk}
-use Rattle.cache_manager.specs.Parts.{Shows, parts}
+use Rattle.cache_manager.specs.Logged.{log_limit}
+use Rattle.cache_manager.specs.Kept.{IsAttached}
+use Rattle.cache_manager.specs.Parts.{parts}
 use Rattle.checkpointing.specs.Courses.{trim_course}
 use Rattle.checkpointing.specs.Left.{ending_of}
-use Rattle.store_engine.proofs.Checks.{undamaged_shown}
+use Rattle.store_engine.proofs.Checks.{undamaged_attached}
 use Rattle.store_engine.specs.Engine.{EngineView, view_of}
-use Rattle.store_engine.specs.Store.{meaning_in}
 use Rattle.store_engine.proofs.Calls.{call_of, takes_of, usable_after, parts_in_use}
 use Rattle.store_engine.proofs.Keeping.{takes_keeps}
 use Rattle.store_engine.proofs.PlainCourses.{upkeep_trim}
 use Rattle.store_engine.proofs.Steps.{are_plain}
-use Rattle.store_engine.proofs.Ways.{failed_trim, trim_failed, stops_install, unbroken_unless}
+use Rattle.store_engine.proofs.Ways.{damaged_by, failed_trim, trim_failed, stops_so, unbroken_unless}
 use Rattle.store_engine.proofs.engine.Engine.trim.Goals as goal
 
 pub trim-answer-requires : goal.trim-answer-requires
@@ -27,9 +28,9 @@ invariant_of-self g c =
 pub returns-clause-call : goal.returns-clause-call
 returns-clause-call g c =
     call_of (g.M.Machine.disk c.args.machine.now) (g.M.Machine.disk c.trim-answer.new.machine) c.args.self.now c.self.inside.log c.trim-answer.new.log c.self.inside.objects c.self.inside.objects c.self.inside.graph.entries c.self.inside.graph.entries c.self.inside.identities c.self.inside.identities c.self.inside.broken c.has_trim_failed-failed.result
-    c.self.view_is (λ e. 0) (ending_of c.trim-answer.result) c.trim-answer.ensures.quiet refl
+    c.self.view_is (λ e. 0) (ending_of c.trim-answer.result) g.O.Oper.meaning (λ e. log_limit) c.trim-answer.ensures.quiet refl
     (⊎_elim (λ failed. inl (failed_trim c.trim-answer.result failed)) (λ kept. inr kept.attached) c.trim-answer.ensures.kept) (omega arith)
-    (stops_install c.trim-answer.new.log (ending_of c.trim-answer.result) c.trim-answer.ensures.stops) c.has_trim_failed-failed.ensures (λ failed. c.trim-answer.ensures.cause (trim_failed c.trim-answer.result failed))
+    (stops_so log_limit c.trim-answer.new.log (ending_of c.trim-answer.result) c.trim-answer.ensures.stops) c.has_trim_failed-failed.ensures (λ failed. c.trim-answer.ensures.cause (trim_failed c.trim-answer.result failed))
 
 pub returns-clause-takes : goal.returns-clause-takes
 returns-clause-takes g c =
@@ -53,8 +54,17 @@ returns-clause-epoch g c =
     subst (λ (e : EngineView). OnOk c.trim-answer.result (c.trim-answer.new.log.log.header.epoch ≡ e.parts.log.log.header.epoch + 1)) c.self.view_is c.trim-answer.ensures.epoch
 
 pub returns-clause-undamaged : goal.returns-clause-undamaged
-returns-clause-undamaged g c = λ p w shows.
+returns-clause-undamaged g c = λ told attached.
     let d = g.M.Machine.disk c.args.machine.now in
     let inside = parts c.self.inside.log c.self.inside.objects c.self.inside.graph.entries in
-    let here = subst (λ (e : EngineView). Shows (meaning_in g.O.Oper.meaning p) p d e.parts w) (sym c.self.view_is) shows.shows in
-    undamaged_shown g.O.Oper.meaning p d inside w c.trim-answer.result here c.trim-answer.ensures.undamaged
+    undamaged_attached g.O.Oper.meaning d inside c.trim-answer.result told (subst (λ (e : EngineView). IsAttached g.O.Oper.meaning d e.parts) (sym c.self.view_is) attached) c.trim-answer.ensures.undamaged
+
+pub returns-clause-damage : goal.returns-clause-damage
+returns-clause-damage g c = λ file place is. damaged_by _ c.trim-answer.result file place c.trim-answer.ensures.damage is
+
+pub returns-clause-long : goal.returns-clause-long
+returns-clause-long g c = c.trim-answer.ensures.long
+
+pub returns-clause-emptied : goal.returns-clause-emptied
+returns-clause-emptied g c =
+    subst (λ (e : EngineView). e.parts.store.entries ≡ [] → OnOk c.trim-answer.result (c.trim-answer.new.log.log.header.base ≡ c.trim-answer.new.log.next)) c.self.view_is c.trim-answer.ensures.emptied
