@@ -1,0 +1,178 @@
+-- What calls add that are made behind others.
+use Rattle.std.proofs.Common.{◌≡◌, ◌∙◌, sym, subst, ap, ℕ, ◌+◌, ◌≤◌, List, [], ◌++◌, length, take, refl, inl, inr, ⊎_elim, arith, length-append, append_assoc}
+use Rattle.std.proofs.Math.Seq.{drop-append-add, take-append-add, take-length}
+use Rattle.std.proofs.lemmas.List.{append-nil, take-append-le}
+use Rattle.disk_model.specs.Disk.{Files, Disk, IsDisk, LeavesOnly, Passes, Stays}
+use Rattle.disk_model.specs.Moments.{goes_on, passes_twice, runs_on, weaker}
+use Rattle.oper_core.specs.Meaning.{Meaning}
+use Rattle.oper_core.specs.declared.bounds.Bounds.{Bounds}
+use Rattle.formats.specs.declared.params.Params.{Params}
+use Rattle.log_frames.specs.LogView.{used_of}
+use Rattle.log_records.specs.RecordLog.{RecordLogView}
+use Rattle.explain_core.specs.History.{commands_of}
+use Rattle.explain_core.specs.World.{World}
+use Rattle.standing.specs.Standing.{StandsFor}
+use Rattle.cache_manager.specs.Courses.{Stop}
+use Rattle.cache_manager.specs.Taking.{Ending}
+use Rattle.cache_manager.specs.Taking.Ending.{Done, Stopped, Short, Failed}
+use Rattle.store_engine.specs.Engine.{EngineView, Between, ShowsIn, forced_in, used_in}
+use Rattle.store_engine.specs.Store.{meaning_in}
+use Rattle.command_lists.specs.Lists.{AddsFront, HasReached, IsStoppedAt}
+use Rattle.command_lists.proofs.Courses.{ends_joined}
+
+module _ {O : Type 0} (meaning : Bounds → Meaning O) (p : Params) where
+  -- an image between some commands is one between more, since an earlier moment
+  pub between_more : (old mid : Disk) (forced before : ℕ) (commands more : List O) (files : Files) (said : List ℕ) → mid.said ≡ old.said → before ≤ forced
+      → Between meaning p mid forced commands files said → Between meaning p old before (commands ++ more) files said
+  between_more old mid forced before commands more files said quiet fewer is = record {
+    quiet = is.quiet ∙ quiet;
+    kept = is.kept;
+    enough = omega (arith, is.enough, fewer);
+    within = omega (arith, is.within, length-append commands more);
+    stands = subst (λ (l : List O). StandsFor meaning p files l) (sym (take-append-le is.kept commands more is.within)) is.stands;
+  }
+
+  -- so are all images of a call
+  pub leaves_more : (old mid new : Disk) (forced before : ℕ) (commands more all : List O) → mid.said ≡ old.said → before ≤ forced → commands ++ more ≡ all
+      → LeavesOnly mid new (Between meaning p mid forced commands) → LeavesOnly mid new (Between meaning p old before all)
+  leaves_more old mid new forced before commands more all quiet fewer is leaves =
+      weaker mid new (Between meaning p mid forced commands) (Between meaning p old before all) leaves
+      (λ files said between. subst (λ (l : List O). Between meaning p old before l files said) is (between_more old mid forced before commands more files said quiet fewer between))
+
+  -- images of a machine that reads alone are those that it had
+  pub leaves_still : (old mid new : Disk) (P : Files → List ℕ → Type 0) → IsDisk mid → Passes old mid → Stays mid new → old.tells_moments → LeavesOnly old mid P → LeavesOnly old new P
+  leaves_still old mid new P lawful time stays told leaves =
+      let told_mid = time.moments_told.0 told in
+      goes_on old mid new P told_mid leaves stays.time (λ c s left.
+      let from = stays.crash told_mid c s left in
+      let was : P from.0.0 mid.said = leaves.each from.0.0 mid.said (lawful.among old.clock mid.clock from.0.0 mid.said time.later (omega arith) from.0.1) in
+      subst (λ (f : Files). P f s) (sym from.0.2) (subst (λ (l : List ℕ). P from.0.0 l) (sym from.1) was))
+
+  module _ (old mid new : Disk) (before between after : EngineView) (w : World O) (commands front : List O) (lawful_mid : IsDisk mid) (lawful_new : IsDisk new)
+      (first : AddsFront meaning p old mid before between w commands front Done) where
+    abbrev m : Meaning O
+    m = meaning_in meaning p
+
+    -- all of it is added
+    abbrev count : first.done ≡ length front
+    count = first.all refl
+
+    abbrev taken : take first.done front ≡ front
+    taken = ap (λ (n : ℕ). take n front) count ∙ take-length front
+
+    abbrev reached : HasReached meaning p mid between w (used_in before) front (commands ++ take first.done front) Done
+    reached = ⊎_elim (λ failed. absurd failed) (λ has. has) first.kept
+
+    abbrev reached_are : commands_of reached.world.history ≡ commands ++ front
+    reached_are = reached.commands_are ∙ ap (λ (l : List O). commands ++ l) taken
+
+    risen : forced_in before ≤ forced_in between
+    risen = ⊎_elim (λ failed. absurd failed) (λ rising. rising) first.rising
+
+    -- nothing was said
+    quiet : old.tells_moments → mid.said ≡ old.said
+    quiet told =
+        let told_mid = first.time.moments_told.0 told in
+        ((first.images told).each mid.reads mid.said (lawful_mid.among old.clock mid.clock mid.reads mid.said first.time.later (omega arith) (lawful_mid.as_read told_mid))).quiet
+
+    module _ (ops : List O) (ending : Ending)
+        (adds : (v : World O) → ShowsIn meaning p mid between v → commands_of v.history ≡ commands ++ front → AddsFront meaning p mid new between after v (commands ++ front) ops ending) where
+      abbrev second : AddsFront meaning p mid new between after reached.world (commands ++ front) ops ending
+      second = adds reached.world reached.shows reached_are
+
+      abbrev n : ℕ
+      n = length front + second.done
+
+      all_added : (commands ++ front) ++ take second.done ops ≡ commands ++ take n (front ++ ops)
+      all_added = append_assoc commands front (take second.done ops) ∙ ap (λ (l : List O). commands ++ l) (sym (take-append-add front ops second.done))
+
+      first_added : (commands ++ take first.done front) ++ take second.done ops ≡ commands ++ take n (front ++ ops)
+      first_added = ap (λ (l : List O). (commands ++ l) ++ take second.done ops) taken ∙ all_added
+
+      further : HasReached meaning p new after reached.world (used_in between) ops ((commands ++ front) ++ take second.done ops) ending
+          → HasReached meaning p new after w (used_in before) (front ++ ops) (commands ++ take n (front ++ ops)) ending
+      further has = record {
+        world = has.world;
+        shows = has.shows;
+        commands_are = has.commands_are ∙ all_added;
+        ends = ends_joined m p.limit front ops w reached.world has.world (used_in before) (used_in between) (used_in after) ending reached.ends has.ends;
+      }
+
+      stopped_there : (stop : Stop) → ending ≡ Stopped stop → IsStoppedAt meaning p (front ++ ops) n stop
+      stopped_there stop is =
+          let at = second.stopped stop is in
+          record { op = at.op; rest = at.rest; here = drop-append-add front ops second.done ∙ at.here; need = at.need }
+
+      pub front_joined : AddsFront meaning p old new before after w commands (front ++ ops) ending
+      front_joined = record {
+        time = passes_twice old mid new lawful_new first.time second.time;
+        done = n;
+        front = omega (arith, second.front, length-append front ops);
+        all = λ is. omega (arith, second.all is, length-append front ops);
+        kept = ⊎_elim (λ failed. inl failed) (λ has. inr (further has)) second.kept;
+        rising = ⊎_elim (λ failed. inl failed) (λ rising. inr (omega (arith, rising, risen))) second.rising;
+        stopped = stopped_there;
+        identities = second.identities ∙ first.identities;
+        images = λ told.
+            runs_on old mid new (Between meaning p old (forced_in before) (commands ++ take n (front ++ ops)))
+            (leaves_more old old mid (forced_in before) (forced_in before) (commands ++ take first.done front) (take second.done ops) (commands ++ take n (front ++ ops)) refl (omega arith) first_added (first.images told))
+            (leaves_more old mid new (forced_in between) (forced_in before) ((commands ++ front) ++ take second.done ops) [] (commands ++ take n (front ++ ops)) (quiet told) risen (append-nil ((commands ++ front) ++ take second.done ops) ∙ all_added) (second.images (first.time.moments_told.0 told)));
+      }
+
+    -- a call that reads alone, and after which engine and files show what they showed
+    pub front_still : Stays mid new → after.parts.log ≡ between.parts.log → after.identities ≡ between.identities → ((v : World O) → ShowsIn meaning p mid between v → ShowsIn meaning p new after v)
+        → AddsFront meaning p old new before after w commands front Done
+    front_still stays log counted shows = record {
+      time = passes_twice old mid new lawful_new first.time stays.time;
+      done = first.done;
+      front = first.front;
+      all = first.all;
+      kept = inr (record {
+        world = reached.world;
+        shows = shows reached.world reached.shows;
+        commands_are = reached.commands_are;
+        ends = (reached.ends.0, record { world_is = reached.ends.1.world_is; used_is = ap (λ (l : RecordLogView). used_of l.log) log ∙ reached.ends.1.used_is });
+      });
+      rising = inr (omega (arith, risen, ap (λ (l : RecordLogView). l.forced) log));
+      stopped = first.stopped;
+      identities = counted ∙ first.identities;
+      images = λ told. leaves_still old mid new (Between meaning p old (forced_in before) (commands ++ take first.done front)) lawful_mid first.time stays told (first.images told);
+    }
+
+    still_front : (rest : List O) → take first.done (front ++ rest) ≡ take first.done front
+    still_front rest = take-append-le first.done front rest first.front
+
+    -- a call that reads alone, in which the disk fails
+    pub front_failed : Stays mid new → after.identities ≡ between.identities → (rest : List O) → AddsFront meaning p old new before after w commands (front ++ rest) Failed
+    front_failed stays counted rest = record {
+      time = passes_twice old mid new lawful_new first.time stays.time;
+      done = first.done;
+      front = omega (arith, first.front, length-append front rest);
+      all = λ e. cc;
+      kept = inl tt;
+      rising = inl tt;
+      stopped = λ stop e. cc;
+      identities = counted ∙ first.identities;
+      images = λ told.
+          subst (λ (l : List O). LeavesOnly old new (Between meaning p old (forced_in before) (commands ++ l))) (sym (still_front rest))
+          (leaves_still old mid new (Between meaning p old (forced_in before) (commands ++ take first.done front)) lawful_mid first.time stays told (first.images told));
+    }
+
+    -- memory runs out here, whatever would have come
+    pub front_short : (rest : List O) → AddsFront meaning p old mid before between w commands (front ++ rest) Short
+    front_short rest = record {
+      time = first.time;
+      done = first.done;
+      front = omega (arith, first.front, length-append front rest);
+      all = λ e. cc;
+      kept = inr (record {
+        world = reached.world;
+        shows = reached.shows;
+        commands_are = reached.commands_are ∙ ap (λ (l : List O). commands ++ l) (sym (still_front rest));
+        ends = tt;
+      });
+      rising = inr risen;
+      stopped = λ stop e. cc;
+      identities = first.identities;
+      images = λ told. subst (λ (l : List O). LeavesOnly old mid (Between meaning p old (forced_in before) (commands ++ l))) (sym (still_front rest)) (first.images told);
+    }

@@ -1,0 +1,6 @@
+pub mod Courses
+pub mod Fronts
+pub mod Start
+pub mod Runs
+pub mod Fetches
+pub mod Machines

@@ -1,0 +1,180 @@
+-- What one command adds, by what `exec` says of it.
+use Rattle.std.proofs.Common.{◌≡◌, ◌∙◌, sym, subst, ap, ℕ, ◌≤◌, false, List, [], ◌∷◌, ◌++◌, refl, inl, inr, ◌⊎◌, ⊎_elim, Option, None, Some, arith}
+use Rattle.std.specs.Prelude.{Result, Ok, Err}
+use Rattle.std.proofs.lemmas.List.{append-nil}
+use Rattle.disk_model.specs.Disk.{Disk, LeavesOnly}
+use Rattle.oper_core.specs.Meaning.{Meaning}
+use Rattle.oper_core.specs.declared.bounds.Bounds.{Bounds}
+use Rattle.oper_core.specs.declared.refusal.Refusal.{Refusal}
+use Rattle.formats.specs.declared.params.Params.{Params}
+use Rattle.explain_core.specs.History.{commands_of}
+use Rattle.explain_core.specs.World.{World, Step, run}
+use Rattle.cache_manager.specs.Courses.{Course, Stop, course, is_through}
+use Rattle.cache_manager.specs.Courses.Stop.{Through, Full, At_end}
+use Rattle.cache_manager.specs.Taking.{Ending, Follows, IsAfter}
+use Rattle.cache_manager.specs.Taking.Ending.{Done, Stopped, Short, Failed}
+use Rattle.execution.specs.Courses.{append_course, exec_course, refusal_in, unless_refused}
+use Rattle.execution.specs.declared.exec_err.ExecErr.{ExecErr}
+use Rattle.execution.specs.declared.exec_err.ExecErr.TheVariants.{Refused, LogFull, LsnEnd, DiskFault, Damaged, Memory}
+use Rattle.store_engine.specs.Engine.{EngineView, Between, Holds, IsFailed, Kept, ShowsIn, forced_in, params_of, used_in}
+use Rattle.store_engine.specs.Store.{meaning_in}
+use Rattle.command_lists.specs.Lists.{AddsFront, EndsBy, HasReached, IsNeed, IsCutOff, IsStoppedAt, IsUnfinished, ending_of}
+use Rattle.command_lists.specs.Steps.{HasRun}
+use Rattle.command_lists.proofs.Courses.{commands_stopped, commands_through, course_of_one, course_stopped}
+use Rattle.command_lists.proofs.Fronts.{leaves_more}
+
+-- what a call was stopped by
+abbrev stop_of : Ending → Stop
+stop_of (Stopped stop) = stop
+stop_of Done = Through
+stop_of Short = Through
+stop_of Failed = Through
+
+module _ {O : Type 0} (meaning : Bounds → Meaning O) (p : Params) (old new : Disk) (before after : EngineView) (w : World O) (shows : ShowsIn meaning p old before w) (commands : List O) (are : commands_of w.history ≡ commands) (op : O) where
+  abbrev m : Meaning O
+  m = meaning_in meaning p
+
+  abbrev used : ℕ
+  used = used_in before
+
+  abbrev one : Course O
+  one = append_course m p.limit op w used
+
+  holds : Holds meaning p old before commands
+  holds = record { world = w; shows = shows; commands_are = are }
+
+  params : params_of before ≡ p
+  params = shows.shows.store.params
+
+  -- the course is that of the command where nothing refuses it, and else none
+  accepted_course : refusal_in m w op ≡ None → exec_course m (params_of before).limit op w used ≡ one
+  accepted_course none =
+      ap (λ (q : Params). exec_course m q.limit op w used) params ∙ ap (λ (o : Option Refusal). unless_refused used one o) none
+
+  refused_course : (r : Refusal) → refusal_in m w op ≡ Some r → exec_course m (params_of before).limit op w used ≡ course [] used Through
+  refused_course r is =
+      ap (λ (q : Params). exec_course m q.limit op w used) params ∙ ap (λ (o : Option Refusal). unless_refused used one o) is
+
+  -- the first steps of it are an exec's images
+  module _ (r : Result ℕ ExecErr) (ran : HasRun meaning old new before after op r) where
+    images_of : (more all : List O) → commands ++ more ≡ all → old.tells_moments → LeavesOnly old new (Between meaning p old (forced_in before) all)
+    images_of more all is told = leaves_more meaning p old old new (forced_in before) (forced_in before) commands more all refl (omega arith) is (ran.images told p commands holds)
+
+    counted : after.identities ≡ before.identities
+    counted = omega (arith, ran.call.identities)
+
+  pub ran_done : (n : ℕ) → HasRun meaning old new before after op (Ok n) → AddsFront meaning p old new before after w commands (op ∷ []) Done
+  ran_done n ran =
+      let kept : Kept meaning p before new after (commands ++ op ∷ []) = ran.ok p commands holds in
+      let f = ran.takes.follows p w shows.shows in
+      let is = accepted_course (ran.answers p w shows).0 in
+      let through : one.stop ≡ Through = ap (λ (c : Course O). c.stop) (sym is) ∙ f.0 in
+      let there : IsAfter m p new after.parts w one = subst (λ (c : Course O). IsAfter m p new after.parts w c) is f.1 in
+      let alone = course_of_one m p.limit op w used through in
+      let here : EndsBy m w (course (one.steps ++ []) one.used Through) (run m w one.steps) (used_in after) Done =
+      (refl, record { world_is = ap (λ (l : List (Step O)). run m w l) (sym (append-nil one.steps)); used_is = there.used }) in
+      record {
+        time = ran.call.time;
+        done = 1;
+        front = omega arith;
+        all = λ e. refl;
+        kept = inr (record {
+          world = run m w one.steps;
+          shows = record { unbroken = kept.holds.shows.unbroken; shows = there.shows };
+          commands_are = commands_through m p.limit op w used through ∙ ap (λ (l : List O). l ++ op ∷ []) are;
+          ends = subst (λ (c : Course O). EndsBy m w c (run m w one.steps) (used_in after) Done) (sym alone) here;
+        });
+        rising = inr kept.rising;
+        stopped = λ stop e. cc;
+        identities = counted (Ok n) ran;
+        images = images_of (Ok n) ran (op ∷ []) (commands ++ op ∷ []) refl;
+      }
+
+  abbrev failed : ExecErr → Result ℕ ExecErr
+  failed e = Err e
+
+  kept_of : (e : ExecErr) → (failed e ≡ failed DiskFault → ⊥) → HasRun meaning old new before after op (Err e) → Kept meaning p before new after commands
+  kept_of e other ran = ⊎_elim (λ fault. absurd (other fault)) (λ kept. kept) (ran.err p commands holds)
+
+  pub ran_refused : (r : Refusal) → HasRun meaning old new before after op (Err (Refused r)) → AddsFront meaning p old new before after w commands [] Done
+  unfolding run
+  ran_refused r ran =
+      let kept = kept_of (Refused r) (λ e. cc) ran in
+      let f = ran.takes.follows p w shows.shows in
+      let is = refused_course r (ran.answers p w shows) in
+      let there : IsAfter m p new after.parts w (course [] used Through) = subst (λ (c : Course O). IsAfter m p new after.parts w c) is f.1 in
+      record {
+        time = ran.call.time;
+        done = 0;
+        front = omega arith;
+        all = λ e. refl;
+        kept = inr (record {
+          world = w;
+          shows = record { unbroken = kept.holds.shows.unbroken; shows = there.shows };
+          commands_are = are ∙ sym (append-nil commands);
+          ends = (refl, record { world_is = refl; used_is = there.used });
+        });
+        rising = inr kept.rising;
+        stopped = λ stop e. cc;
+        identities = counted (Err (Refused r)) ran;
+        images = images_of (Err (Refused r)) ran [] (commands ++ []) refl;
+      }
+
+  -- whatever was to come, none is added
+  adds_none : (e : ExecErr) → HasRun meaning old new before after op (Err e) → (ops : List O) (ending : Ending) → IsUnfinished ending → IsFailed ending ⊎ HasReached meaning p new after w used ops commands ending
+      → IsFailed ending ⊎ (forced_in before ≤ forced_in after) → ((stop : Stop) → ending ≡ Stopped stop → IsStoppedAt meaning p ops 0 stop) → AddsFront meaning p old new before after w commands ops ending
+  adds_none e ran ops ending unfinished kept rising stopped = record {
+    time = ran.call.time;
+    done = 0;
+    front = omega arith;
+    all = λ is. absurd (subst IsUnfinished is unfinished);
+    kept = subst (λ (l : List O). IsFailed ending ⊎ HasReached meaning p new after w used ops l ending) (sym (append-nil commands)) kept;
+    rising = rising;
+    stopped = stopped;
+    identities = counted (Err e) ran;
+    images = images_of (Err e) ran [] (commands ++ []) refl;
+  }
+
+  -- the log stops the command
+  stopped_here : (rest : List O) (stop : Stop) → is_through stop ≡ false → refusal_in m w op ≡ None → Follows m p new after.parts w (exec_course m (params_of before).limit op w used) (Stopped stop) → after.broken ≡ false
+      → HasReached meaning p new after w used (op ∷ rest) commands (Stopped stop)
+  stopped_here rest stop ended none f fine =
+      let is = accepted_course none in
+      let stops : one.stop ≡ stop = ap (λ (c : Course O). c.stop) (sym is) ∙ f.0 in
+      let no : is_through one.stop ≡ false = ap is_through stops ∙ ended in
+      let there : IsAfter m p new after.parts w one = subst (λ (c : Course O). IsAfter m p new after.parts w c) is f.1 in
+      let here : EndsBy m w one (run m w one.steps) (used_in after) (Stopped stop) = (stops, record { world_is = refl; used_is = there.used }) in
+      record {
+        world = run m w one.steps;
+        shows = record { unbroken = fine; shows = there.shows };
+        commands_are = commands_stopped m p.limit op w used shows.shows.running no ∙ are;
+        ends = subst (λ (c : Course O). EndsBy m w c (run m w one.steps) (used_in after) (Stopped stop)) (sym (course_stopped m p.limit op w used rest no)) here;
+      }
+
+  pub ran_stopped : (rest : List O) (e : ExecErr) (stop : Stop) → HasRun meaning old new before after op (Err e) → ending_of (Some e) ≡ Stopped stop → AddsFront meaning p old new before after w commands (op ∷ rest) (Stopped stop)
+  ran_stopped rest (Refused r) stop ran is = cc
+  ran_stopped rest (LogFull held need limit) stop ran is =
+      let kept = kept_of (LogFull held need limit) (λ e. cc) ran in
+      let cause = ran.answers p w shows in
+      subst (λ (s : Stop). AddsFront meaning p old new before after w commands (op ∷ rest) (Stopped s)) (ap stop_of is)
+      (adds_none (LogFull held need limit) ran (op ∷ rest) (Stopped (Full held need limit)) tt (inr (stopped_here rest (Full held need limit) refl cause.0 (ran.takes.follows p w shows.shows) kept.holds.shows.unbroken)) (inr kept.rising)
+      (λ s at. record { op = op; rest = rest; here = refl; need = subst (λ (t : Stop). IsNeed meaning p op t) (ap stop_of at) (cause.3, cause.4) }))
+  ran_stopped rest (LsnEnd number) stop ran is =
+      let kept = kept_of (LsnEnd number) (λ e. cc) ran in
+      let cause = ran.answers p w shows in
+      subst (λ (s : Stop). AddsFront meaning p old new before after w commands (op ∷ rest) (Stopped s)) (ap stop_of is)
+      (adds_none (LsnEnd number) ran (op ∷ rest) (Stopped (At_end number)) tt (inr (stopped_here rest (At_end number) refl cause.0 (ran.takes.follows p w shows.shows) kept.holds.shows.unbroken)) (inr kept.rising)
+      (λ s at. record { op = op; rest = rest; here = refl; need = subst (λ (t : Stop). IsNeed meaning p op t) (ap stop_of at) tt }))
+  ran_stopped rest DiskFault stop ran is = cc
+  ran_stopped rest (Damaged file place) stop ran is = cc
+  ran_stopped rest Memory stop ran is = cc
+
+  pub ran_failed : (ops : List O) (e : ExecErr) → HasRun meaning old new before after op (Err e) → IsCutOff (ending_of (Some e)) → AddsFront meaning p old new before after w commands ops (ending_of (Some e))
+  ran_failed ops (Refused r) ran off = absurd off
+  ran_failed ops (LogFull held need limit) ran off = absurd off
+  ran_failed ops (LsnEnd number) ran off = absurd off
+  ran_failed ops DiskFault ran off = adds_none DiskFault ran ops Failed tt (inl tt) (inl tt) (λ stop e. cc)
+  ran_failed ops (Damaged file place) ran off = absurd (ran.answers p w shows)
+  ran_failed ops Memory ran off =
+      let kept = kept_of Memory (λ e. cc) ran in
+      adds_none Memory ran ops Short tt (inr (record { world = kept.holds.world; shows = kept.holds.shows; commands_are = kept.holds.commands_are; ends = tt })) (inr kept.rising) (λ stop e. cc)

@@ -1,0 +1,114 @@
+-- Several commands, one after the other, on an engine that stands for commands.
+use Rattle.std.specs.Prelude.{◌≡◌, ◌⊎◌, ◌+◌, ◌≤◌, ⊤, ℕ, List, [], ◌∷◌, ◌++◌, length, take, drop, Option, None, Some}
+use Rattle.disk_model.specs.Disk.{Disk, LeavesOnly, Passes}
+use Rattle.oper_core.specs.Meaning.{Meaning}
+use Rattle.oper_core.specs.declared.bounds.Bounds.{Bounds}
+use Rattle.formats.specs.declared.params.Params.{Params}
+use Rattle.explain_core.specs.History.{commands_of}
+use Rattle.explain_core.specs.World.{World, run}
+use Rattle.cache_manager.specs.Courses.{Course, Stop, and_then, course}
+use Rattle.cache_manager.specs.Courses.Stop.{Through, Full, At_end, Worn}
+use Rattle.cache_manager.specs.Taking.{Ending}
+use Rattle.cache_manager.specs.Taking.Ending.{Done, Stopped, Short, Failed}
+use Rattle.execution.specs.Courses.{append_course}
+use Rattle.execution.specs.declared.exec_err.ExecErr.{ExecErr}
+use Rattle.execution.specs.declared.exec_err.ExecErr.TheVariants.{Refused, LogFull, LsnEnd, DiskFault, Damaged, Memory}
+use Rattle.store_engine.specs.Engine.{EngineView, Between, IsAttached, IsCall, IsFailed, ShowsIn, forced_in, params_of, used_in}
+use Rattle.store_engine.specs.Store.{meaning_in, record_length}
+
+-- how a call ends that answers this error, or none: one that is refused has done all that it does
+abbrev pub ending_of : Option ExecErr → Ending
+ending_of None = Done
+ending_of (Some (Refused refusal)) = Done
+ending_of (Some (LogFull used need limit)) = Stopped (Full used need limit)
+ending_of (Some (LsnEnd number)) = Stopped (At_end number)
+ending_of (Some DiskFault) = Failed
+ending_of (Some (Damaged file place)) = Short
+ending_of (Some Memory) = Short
+
+-- it ended before all was done
+abbrev pub IsUnfinished : Ending → Type 0
+IsUnfinished Done = ⊥
+IsUnfinished (Stopped stop) = ⊤
+IsUnfinished Short = ⊤
+IsUnfinished Failed = ⊤
+
+-- memory or the disk ended it
+abbrev pub IsCutOff : Ending → Type 0
+IsCutOff Done = ⊥
+IsCutOff (Stopped stop) = ⊥
+IsCutOff Short = ⊤
+IsCutOff Failed = ⊤
+
+-- it is not the answer that a file is damaged
+abbrev pub IsUndamaged : Option ExecErr → Type 0
+IsUndamaged None = ⊤
+IsUndamaged (Some (Refused refusal)) = ⊤
+IsUndamaged (Some (LogFull used need limit)) = ⊤
+IsUndamaged (Some (LsnEnd number)) = ⊤
+IsUndamaged (Some DiskFault) = ⊤
+IsUndamaged (Some (Damaged file place)) = ⊥
+IsUndamaged (Some Memory) = ⊤
+
+module _ {O : Type 0} (m : Meaning O) where
+  -- the course of commands that nothing refuses, one after the other, in a log with this limit: it ends where one of them
+  -- is stopped
+  abbrev pub commands_course : ℕ → List O → World O → ℕ → Course O
+  commands_course limit [] w used = course [] used Through
+  commands_course limit (op ∷ ops) w used = and_then m w (append_course m limit op w used) (λ v used. commands_course limit ops v used)
+
+  -- this is the world after the whole course, and this is how long the log is then
+  pub record IsBehind (w : World O) (c : Course O) (now : World O) (used : ℕ) : Type 0 where
+    pub world_is : now ≡ run m w c.steps
+    pub used_is : used ≡ c.used
+
+  -- done or stopped, a call that ends so has taken the whole course, and the course says so; else nothing is said
+  abbrev pub EndsBy : World O → Course O → World O → ℕ → Ending → Type 0
+  EndsBy w c now used Done = (c.stop ≡ Through) × IsBehind w c now used
+  EndsBy w c now used (Stopped stop) = (c.stop ≡ stop) × IsBehind w c now used
+  EndsBy w c now used Short = ⊤
+  EndsBy w c now used Failed = ⊤
+
+-- What holds on every machine of a call that runs commands and fetches objects, and answers this error or none: what holds
+-- of every call, and no identity write is logged; where the machine reports its files and the engine is attached to them,
+-- none is damaged.
+pub record AreCalls {O : Type 0} (meaning : Bounds → Meaning O) (old new : Disk) (before after : EngineView) (error : Option ExecErr) : Type 0 where
+  pub call : IsCall meaning (params_of before).limit old new before after 0 (ending_of error)
+  pub undamaged : old.tells_files → IsAttached meaning old before → IsUndamaged error
+
+module _ {O : Type 0} (meaning : Bounds → Meaning O) (p : Params) where
+  -- what is said of a command for which the log has no room: how many bytes it needs, and the limit
+  abbrev pub IsNeed : O → Stop → Type 0
+  IsNeed op Through = ⊥
+  IsNeed op (Full used need limit) = (need ≡ record_length meaning p op + 5) × (limit ≡ p.limit)
+  IsNeed op (At_end number) = ⊤
+  IsNeed op (Worn epoch) = ⊥
+
+  -- of these commands the one behind the first `done` was stopped so
+  pub record IsStoppedAt (ops : List O) (done : ℕ) (stop : Stop) : Type 0 where
+    pub op : O
+    pub rest : List O
+    pub here : drop done ops ≡ op ∷ rest
+    pub need : IsNeed op stop
+
+  -- engine and files show a world with these commands, and the course of the operations ended so, if it was followed
+  pub record HasReached (d : Disk) (engine : EngineView) (w : World O) (used : ℕ) (ops commands : List O) (ending : Ending) : Type 0 where
+    pub world : World O
+    pub shows : ShowsIn meaning p d engine world
+    pub commands_are : commands_of world.history ≡ commands
+    pub ends : EndsBy (meaning_in meaning p) w (commands_course (meaning_in meaning p) p.limit ops w used) world (used_in engine) ending
+
+  -- A call on an engine and files that show the world, which has these commands, was to add the operations to them, one
+  -- after the other, and has added the first `done`: all of them where it is done. Unless the disk failed, engine and files
+  -- then show a world that has these too, and no fewer commands are forced. A crash at any moment of it leaves a front of
+  -- them, with at least those that were forced.
+  pub record AddsFront (old new : Disk) (before after : EngineView) (w : World O) (commands ops : List O) (ending : Ending) : Type 0 where
+    pub time : Passes old new
+    pub done : ℕ
+    pub front : done ≤ length ops
+    pub all : ending ≡ Done → done ≡ length ops
+    pub kept : IsFailed ending ⊎ HasReached new after w (used_in before) ops (commands ++ take done ops) ending
+    pub rising : IsFailed ending ⊎ (forced_in before ≤ forced_in after)
+    pub stopped : (stop : Stop) → ending ≡ Stopped stop → IsStoppedAt ops done stop
+    pub identities : after.identities ≡ before.identities
+    pub images : old.tells_moments → LeavesOnly old new (Between meaning p old (forced_in before) (commands ++ take done ops))
