@@ -1,0 +1,9 @@
+pub mod JoinLemmas
+pub mod NodeLemmas
+pub mod WalkLemmas
+pub mod MakeLemmas
+pub mod PlanLemmas
+pub mod ReadLemmas
+pub mod TurnLemmas
+pub mod ScanLemmas
+pub mod InsertLemmas

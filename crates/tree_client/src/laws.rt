@@ -1,0 +1,32 @@
+// What calls make that come one behind the other.
+ghost use Rattle.op_codec.specs.AllOps.{all_meaning};
+ghost use Rattle.command_lists.specs.Laws.{CallsBehind};
+ghost use Rattle.tree_client.specs.Joining.{AddsOn, ReadsBehind, ReadsShort};
+
+use command_lists::{calls_go_on, fetch_goes_on, fronts_are_joined};
+use disk_model::Machine;
+use op_codec::AllOps;
+
+/// A call behind calls that only read makes what it makes alone.
+pub(crate) fn reads_go_on<M: Machine>()
+    ensures { ReadsBehind M.disk }
+{
+    calls_go_on::<AllOps, M>();
+    fronts_are_joined::<AllOps, M>();
+}
+
+/// A call behind calls that have added commands adds its own behind them.
+pub(crate) fn makes_go_on<M: Machine>()
+    ensures calls { CallsBehind all_meaning M.disk }
+    ensures front { AddsOn M.disk }
+{
+    calls_go_on::<AllOps, M>();
+    fronts_are_joined::<AllOps, M>();
+}
+
+/// Calls that only read may run out of memory behind it.
+pub(crate) fn reads_run_short<M: Machine>()
+    ensures { ReadsShort M.disk }
+{
+    fetch_goes_on::<AllOps, M>();
+}

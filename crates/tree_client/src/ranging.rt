@@ -1,0 +1,73 @@
+// The pairs of a range of keys of a tree.
+ghost use Rattle.std.specs.Prelude.{◌≡◌, [], List, false, Ok, Err, IfOk, IfErr};
+ghost use Rattle.formats.specs.Objects.{bounds_of};
+ghost use Rattle.formats.specs.declared.params.Params.{Params};
+ghost use Rattle.op_codec.specs.AllOps.{all_meaning};
+ghost use Rattle.cache_manager.specs.Taking.Ending.{Done};
+ghost use Rattle.command_lists.specs.Lists.{AddsFront, AreCalls, ending_of};
+ghost use Rattle.logical_btree.specs.Plan.{range_answer};
+ghost use Rattle.tree_client.specs.Answers.{cause_in, cause_of, told};
+ghost use Rattle.tree_client.specs.Store.{Command, Holds, state_of};
+
+use crate::laws::reads_go_on;
+use crate::part::Scan;
+use crate::scanning::{meet, meet_part};
+use crate::tree_err::TreeErr;
+use crate::walking::size;
+use btree_ops::Short;
+use command_lists::nothing_is_made;
+use disk_model::Machine;
+use logical_btree::Tree;
+use op_codec::AllOps;
+use std::alloc::Global;
+use store_engine::Engine;
+
+/// The pairs whose keys are not below `from` and are below `to`, rising. No command is added.
+///
+/// It answers `NoObject` exactly where the range ends past the last object, `BadTree` exactly where the scan meets a bad
+/// object, the one met first, `Exec` with what the engine answered to a fetch, and `Memory`.
+pub fn range<M: Machine>(
+    alloc: Global,
+    tree: &Tree,
+    engine: &mut Engine<AllOps>,
+    machine: &mut M,
+    from: &Short,
+    to: &Short,
+) -> Result<Vec<(Short, Short)>, TreeErr>
+    requires unbroken { engine.old.broken ≡ false }
+    ensures calls { AreCalls all_meaning (M.disk machine.old) (M.disk machine.new) engine.old engine.new (cause_in result) }
+    ensures adds { (p : Params) (commands : List Command) → (holds : Holds p (M.disk machine.old) engine.old commands) →
+        AddsFront all_meaning p (M.disk machine.old) (M.disk machine.new) engine.old engine.new holds.world commands [] (ending_of (cause_in result)) }
+    ensures pairs { (p : Params) (commands : List Command) → Holds p (M.disk machine.old) engine.old commands →
+        IfOk result (λ pairs. range_answer (bounds_of p) tree.now.lo tree.now.hi (state_of p commands) from.now to.now ≡ Ok pairs.items) }
+    ensures refused { (p : Params) (commands : List Command) → Holds p (M.disk machine.old) engine.old commands →
+        IfErr result (λ e. ending_of (cause_of e) ≡ Done → told (range_answer (bounds_of p) tree.now.lo tree.now.hi (state_of p commands) from.now to.now) ≡ Err e) }
+{
+    nothing_is_made(machine, engine);
+    reads_go_on::<M>();
+    let last = tree.last();
+    if last >= engine.params().objects {
+        return Err(TreeErr::NoObject);
+    }
+    let parts = Vec::new(alloc);
+    let pairs = Vec::new(alloc);
+    let mut scan = Scan { parts, pairs };
+    meet(
+        tree,
+        engine,
+        machine,
+        tree.root(),
+        size(tree),
+        *from,
+        *to,
+        &mut scan,
+    )?;
+    while let Some(part) = scan.parts.pop() {
+        meet_part(tree, engine, machine, part, &mut scan)?;
+    }
+    let Scan {
+        parts: _parts,
+        pairs,
+    } = scan;
+    Ok(pairs)
+}

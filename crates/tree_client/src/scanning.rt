@@ -1,0 +1,192 @@
+// The pairs of a range of keys.
+ghost use Rattle.std.specs.Prelude.{◌≡◌, ◌<◌, ◌+◌, ◌^◌, ◌++◌, ◌∷◌, [], List, ℕ, false, OnOk, IfErr};
+ghost use Rattle.std.specs.List.{filter};
+ghost use Rattle.formats.specs.declared.params.Params.{Params};
+ghost use Rattle.cache_manager.specs.Taking.Ending.{Done};
+ghost use Rattle.store_engine.specs.Engine.{params_of};
+ghost use Rattle.command_lists.specs.Lists.{ending_of};
+ghost use Rattle.logical_btree.specs.Walk as walks;
+ghost use Rattle.tree_client.specs.Answers.{cause_in, cause_of};
+ghost use Rattle.tree_client.specs.Making.{Reads};
+ghost use Rattle.tree_client.specs.Scanning.{AreWithin, GoesOn, IsBad, child_scan, part_scan, span, weight, weight_of};
+ghost use Rattle.tree_client.specs.Store.{Command, Holds, state_of};
+
+use crate::laws::reads_run_short;
+use crate::nodes::node_of;
+use crate::part::{Part, Scan, greater, is_below, lesser};
+use crate::tree_err::TreeErr;
+use btree_ops::{Node, Short};
+use command_lists::nothing_is_made;
+use disk_model::Machine;
+use logical_btree::Tree;
+use op_codec::AllOps;
+use store_engine::Engine;
+
+/// Whether a key is not below one, and below another.
+fn is_asked(key: Short, from: Short, to: Short) -> bool
+    ensures { result ≡ walks.is_within key (span from to) }
+{
+    !(key < from) && key < to
+}
+
+/// Adds a pair, if its key is asked for.
+fn push_asked(
+    pair: (Short, Short),
+    from: Short,
+    to: Short,
+    pairs: &mut Vec<(Short, Short)>,
+) -> Result<(), TreeErr>
+    ensures ok { OnOk result (pairs.new.items ≡ pairs.old.items ++ filter (λ e. walks.is_within e.0 (span from to)) (pair ∷ [])) }
+    ensures memory { IfErr result (λ e. e ≡ TreeErr.Memory) }
+{
+    if !is_asked(pair.0, from, to) {
+        return Ok(());
+    }
+    pairs.push(pair)?;
+    Ok(())
+}
+
+/// Adds the pairs of a leaf whose keys are asked for.
+fn push_pairs(
+    leaf: &[(Short, Short)],
+    from: Short,
+    to: Short,
+    pairs: &mut Vec<(Short, Short)>,
+) -> Result<(), TreeErr>
+    ensures ok { OnOk result (pairs.new.items ≡ pairs.old.items ++ filter (λ e. walks.is_within e.0 (span from to)) leaf.now) }
+    ensures memory { IfErr result (λ e. e ≡ TreeErr.Memory) }
+{
+    for i in 0..leaf.len() {
+        push_asked(leaf[i], from, to, pairs)?;
+    }
+    Ok(())
+}
+
+/// Puts a part on the others: it is met next.
+fn push_part(part: Part, parts: &mut Vec<Part>) -> Result<(), TreeErr>
+    ensures ok { OnOk result (parts.new.items ≡ parts.old.items ++ part ∷ []) }
+    ensures memory { IfErr result (λ e. e ≡ TreeErr.Memory) }
+{
+    parts.push(part)?;
+    Ok(())
+}
+
+/// Meets an object: the pairs of a leaf are added, and the children of an inner node are left to be met.
+pub(crate) fn meet<M: Machine>(
+    tree: &Tree,
+    engine: &mut Engine<AllOps>,
+    machine: &mut M,
+    object: u32,
+    depth: u64,
+    from: Short,
+    to: Short,
+    scan: &mut Scan,
+) -> Result<(), TreeErr>
+    requires unbroken { engine.old.broken ≡ false }
+    ensures reads { Reads (M.disk machine.old) (M.disk machine.new) engine.old engine.new (cause_in result) }
+    ensures ok { (p : Params) (commands : List Command) → Holds p (M.disk machine.old) engine.old commands → object < p.objects → AreWithin tree.now.lo tree.now.hi scan.old.parts.items →
+        OnOk result (GoesOn tree.now.lo tree.now.hi (state_of p commands) (walks.scan_from tree.now.lo tree.now.hi (state_of p commands) depth (span from to) object)
+        scan.old.parts.items scan.old.pairs.items scan.new.parts.items scan.new.pairs.items) }
+    ensures bad { (p : Params) (commands : List Command) → Holds p (M.disk machine.old) engine.old commands → object < p.objects →
+        IfErr result (λ e. ending_of (cause_of e) ≡ Done → IsBad (walks.scan_from tree.now.lo tree.now.hi (state_of p commands) depth (span from to) object) e) }
+    ensures lighter { OnOk result (weight scan.new.parts.items < weight scan.old.parts.items + 9 ^ depth) }
+{
+    nothing_is_made(machine, engine);
+    reads_run_short::<M>();
+    if depth == 0 {
+        return Err(TreeErr::BadTree { object });
+    }
+    match node_of(tree, engine, machine, object)? {
+        Node::Leaf(leaf) => push_pairs(leaf.as_slice(), from, to, &mut scan.pairs),
+        Node::Inner(child, branches) => {
+            let _few = branches.as_slice();
+            let part = Part {
+                child,
+                branches,
+                depth: depth - 1,
+                from,
+                to,
+            };
+            push_part(part, &mut scan.parts)
+        }
+    }
+}
+
+/// Meets a child, if its keys can be among those asked for.
+fn meet_child<M: Machine>(
+    tree: &Tree,
+    engine: &mut Engine<AllOps>,
+    machine: &mut M,
+    child: u32,
+    depth: u64,
+    from: Short,
+    to: Short,
+    scan: &mut Scan,
+) -> Result<(), TreeErr>
+    requires unbroken { engine.old.broken ≡ false }
+    ensures reads { Reads (M.disk machine.old) (M.disk machine.new) engine.old engine.new (cause_in result) }
+    ensures ok { (p : Params) (commands : List Command) → Holds p (M.disk machine.old) engine.old commands → child < p.objects → AreWithin tree.now.lo tree.now.hi scan.old.parts.items →
+        OnOk result (GoesOn tree.now.lo tree.now.hi (state_of p commands) (child_scan tree.now.lo tree.now.hi (state_of p commands) depth from to child)
+        scan.old.parts.items scan.old.pairs.items scan.new.parts.items scan.new.pairs.items) }
+    ensures bad { (p : Params) (commands : List Command) → Holds p (M.disk machine.old) engine.old commands → child < p.objects →
+        IfErr result (λ e. ending_of (cause_of e) ≡ Done → IsBad (child_scan tree.now.lo tree.now.hi (state_of p commands) depth from to child) e) }
+    ensures lighter { OnOk result (weight scan.new.parts.items < weight scan.old.parts.items + 9 ^ depth) }
+{
+    nothing_is_made(machine, engine);
+    if is_below(from, to) {
+        return meet(tree, engine, machine, child, depth, from, to, scan);
+    }
+    Ok(())
+}
+
+/// Meets the first child of a part, and leaves the others.
+pub(crate) fn meet_part<M: Machine>(
+    tree: &Tree,
+    engine: &mut Engine<AllOps>,
+    machine: &mut M,
+    part: Part,
+    scan: &mut Scan,
+) -> Result<(), TreeErr>
+    requires unbroken { engine.old.broken ≡ false }
+    requires there { tree.now.hi < (params_of engine.old).objects }
+    ensures reads { Reads (M.disk machine.old) (M.disk machine.new) engine.old engine.new (cause_in result) }
+    ensures ok { (p : Params) (commands : List Command) → Holds p (M.disk machine.old) engine.old commands → AreWithin tree.now.lo tree.now.hi (scan.old.parts.items ++ part ∷ []) →
+        OnOk result (GoesOn tree.now.lo tree.now.hi (state_of p commands) (part_scan tree.now.lo tree.now.hi (state_of p commands) part)
+        scan.old.parts.items scan.old.pairs.items scan.new.parts.items scan.new.pairs.items) }
+    ensures bad { (p : Params) (commands : List Command) → Holds p (M.disk machine.old) engine.old commands → AreWithin tree.now.lo tree.now.hi (scan.old.parts.items ++ part ∷ []) →
+        IfErr result (λ e. ending_of (cause_of e) ≡ Done → IsBad (part_scan tree.now.lo tree.now.hi (state_of p commands) part) e) }
+    ensures lighter { OnOk result (weight scan.new.parts.items < weight scan.old.parts.items + weight_of part) }
+{
+    nothing_is_made(machine, engine);
+    reads_run_short::<M>();
+    let Part {
+        child,
+        branches,
+        depth,
+        from,
+        to,
+    } = part;
+    if branches.is_empty() {
+        return meet_child(tree, engine, machine, child, depth, from, to, scan);
+    }
+    let mut others = branches;
+    let (key, next) = others.remove(0);
+    let rest = Part {
+        child: next,
+        branches: others,
+        depth,
+        from: greater(from, key),
+        to,
+    };
+    push_part(rest, &mut scan.parts)?;
+    meet_child(
+        tree,
+        engine,
+        machine,
+        child,
+        depth,
+        from,
+        lesser(key, to),
+        scan,
+    )
+}
