@@ -1,0 +1,94 @@
+-- How many steps are accepted, as they are counted one after the other.
+use Rattle.std.proofs.Common.{◌≡◌, ◌≢◌, ◌∙◌, sym, subst, ap, ℕ, zero, suc, ◌+◌, ◌-◌, ◌<◌, ◌≤◌, List, [], ◌∷◌, ◌++◌, replicate, refl, inl, inr, ◌⊎◌, ⊎_elim, Option, None, Some, arith, append_assoc}
+use Rattle.std.specs.Prelude.{is_some, if◌then◌else◌, Result, Ok, Err}
+use Rattle.std.specs.Result.{result_err}
+use Rattle.std.proofs.lemmas.Bool.{cond-true, cond-false}
+use Rattle.std.proofs.lemmas.List.{append-nil, replicate-append-replicate}
+use Rattle.disk_model.specs.Disk.{Disk}
+use Rattle.oper_core.specs.declared.refusal.Refusal.{Refusal}
+use Rattle.oper_core.specs.declared.refusal.Refusal.TheVariants.{NoInput}
+use Rattle.formats.specs.declared.params.Params.{Params}
+use Rattle.op_codec.specs.AllOps.{all_meaning}
+use Rattle.op_codec.specs.declared.all_ops.AllOps.{AllOps}
+use Rattle.explain_core.specs.World.{World}
+use Rattle.cache_manager.specs.Courses.{Stop}
+use Rattle.cache_manager.specs.Courses.Stop.{Full, At_end}
+use Rattle.cache_manager.specs.Taking.{Ending}
+use Rattle.cache_manager.specs.Taking.Ending.{Done, Stopped}
+use Rattle.execution.specs.declared.exec_err.ExecErr.{ExecErr}
+use Rattle.execution.specs.declared.exec_err.ExecErr.TheVariants.{Refused, LogFull, LsnEnd, DiskFault, Damaged, Memory}
+use Rattle.store_engine.specs.Engine.{EngineView, HasCause, Holds}
+use Rattle.store_engine.specs.Store.{refusal_after}
+use Rattle.command_lists.specs.Lists.{AddsFront, AreCalls, IsCutOff, ending_of}
+use Rattle.command_lists.specs.ListLaws.{all_hold, refused_calls}
+use Rattle.command_lists.specs.Steps.{HasRun}
+use Rattle.app_steps.specs.Steps.{EndsSo, HasAnswer, IsRefusedAtOnce, step_of, steps, steps_accepted}
+
+-- one step behind others
+pub one_behind : (k app : ℕ) → replicate k (step_of app) ++ step_of app ∷ [] ≡ replicate (k + 1) (step_of app)
+one_behind k app = replicate-append-replicate k 1 (step_of app)
+
+module _ (p : Params) (commands : List AllOps) (app : ℕ) where
+  abbrev op : AllOps
+  op = step_of app
+
+  -- a step that nothing refuses is one more, and then come those behind it
+  pub step_counts : (n : ℕ) → refusal_after all_meaning p commands op ≡ None → steps_accepted p commands app (suc n) ≡ suc (steps_accepted p (commands ++ op ∷ []) app n)
+  step_counts n none =
+      cond-false (is_some (refusal_after all_meaning p commands op)) 0 (suc (steps_accepted p (commands ++ op ∷ []) app n)) (ap (λ (o : Option Refusal). is_some o) none)
+
+  -- behind one that is refused there are none
+  pub none_count : (refusal : Refusal) → refusal_after all_meaning p commands op ≡ Some refusal → (n : ℕ) → steps_accepted p commands app n ≡ 0
+  none_count refusal is zero = refl
+  none_count refusal is (suc n) =
+      cond-true (is_some (refusal_after all_meaning p commands op)) 0 (suc (steps_accepted p (commands ++ op ∷ []) app n)) (ap (λ (o : Option Refusal). is_some o) is)
+
+-- so many steps of a run are done, and so many are accepted as there are behind these
+pub record IsUnderWay (p : Params) (commands : List AllOps) (app n done : ℕ) : Type 0 where
+  pub left : steps_accepted p commands app n ≡ done + steps_accepted p (commands ++ replicate done (step_of app)) app (n - done)
+
+module _ (p : Params) (commands : List AllOps) (app n : ℕ) where
+  -- the commands after so many steps
+  abbrev pub after : ℕ → List AllOps
+  after done = commands ++ replicate done (step_of app)
+
+  pub begins : IsUnderWay p commands app n 0
+  begins =
+      let whole : n ≡ n - 0 = omega arith in
+      let same = ap (λ (l : List AllOps). steps_accepted p l app n) (sym (append-nil commands)) in
+      let less = ap (λ (k : ℕ). steps_accepted p (commands ++ []) app k) whole in
+      record { left = omega (arith, same, less) }
+
+  -- one more is done
+  pub goes_on : (done : ℕ) → done < n → IsUnderWay p commands app n done → refusal_after all_meaning p (after done) (step_of app) ≡ None → IsUnderWay p commands app n (done + 1)
+  goes_on done more is none =
+      let k = n - (done + 1) in
+      let count : n - done ≡ suc k = omega (arith, more) in
+      let next : (after done) ++ step_of app ∷ [] ≡ after (done + 1) = append_assoc commands (replicate done (step_of app)) (step_of app ∷ []) ∙ ap (λ (l : List AllOps). commands ++ l) (one_behind done app) in
+      let one : steps_accepted p (after done) app (n - done) ≡ suc (steps_accepted p (after (done + 1)) app k) =
+      ap (λ (i : ℕ). steps_accepted p (after done) app i) count ∙ step_counts p (after done) app k none ∙ ap (λ (l : List AllOps). suc (steps_accepted p l app k)) next in
+      record { left = omega (arith, is.left, one) }
+
+  -- all that were asked for are done
+  pub all_done : IsUnderWay p commands app n n → steps_accepted p commands app n ≡ n
+  all_done is = omega (arith, is.left, ap (λ (i : ℕ). steps_accepted p (after n) app i) (nothing n))
+    where
+      nothing : (i : ℕ) → i - i ≡ 0
+      nothing i = omega arith
+
+  -- the next is refused
+  pub all_refused : (done : ℕ) (refusal : Refusal) → IsUnderWay p commands app n done → refusal_after all_meaning p (after done) (step_of app) ≡ Some refusal → steps_accepted p commands app n ≡ done
+  all_refused done refusal is refused = omega (arith, is.left, none_count p (after done) app refusal refused (n - done))
+
+  -- these steps are those that are done, and others
+  pub behind_done : (done : ℕ) → IsUnderWay p commands app n done → steps p commands app n ≡ replicate done (step_of app) ++ replicate (steps_accepted p (after done) app (n - done)) (step_of app)
+  behind_done done is = ap (λ (k : ℕ). replicate k (step_of app)) is.left ∙ sym (replicate-append-replicate done (steps_accepted p (after done) app (n - done)) (step_of app))
+
+  -- or, where nothing refuses the next, this one and others
+  pub behind_next : (done : ℕ) → done < n → IsUnderWay p commands app n done → refusal_after all_meaning p (after done) (step_of app) ≡ None
+      → steps p commands app n ≡ replicate done (step_of app) ++ step_of app ∷ replicate (steps_accepted p (after done ++ step_of app ∷ []) app (n - (done + 1))) (step_of app)
+  behind_next done more is none =
+      let k = n - (done + 1) in
+      let count : n - done ≡ suc k = omega (arith, more) in
+      behind_done done is
+      ∙ ap (λ (i : ℕ). replicate done (step_of app) ++ replicate i (step_of app)) (ap (λ (i : ℕ). steps_accepted p (after done) app i) count ∙ step_counts p (after done) app k none)

@@ -1,0 +1,123 @@
+ghost use Rattle.std.specs.Prelude.{◌≡◌, false, List};
+ghost use Rattle.std.specs.Result.{result_err};
+ghost use Rattle.formats.specs.declared.params.Params.{Params};
+ghost use Rattle.op_codec.specs.AllOps.{all_meaning};
+ghost use Rattle.op_codec.specs.declared.all_ops.AllOps.{AllOps as Command};
+ghost use Rattle.store_engine.specs.Engine.{Holds};
+ghost use Rattle.command_lists.specs.Lists.{AddsFront, AreCalls, ending_of};
+ghost use Rattle.command_lists.specs.Steps.{HasRun};
+ghost use Rattle.app_steps.specs.Steps.{EndsSo, HasAnswer, drain_of, feed_of, step_of, steps};
+
+use command_lists::{calls_go_on, exec_goes_on, nothing_is_made};
+use disk_model::Machine;
+use op_codec::AllOps;
+use op_meaning::{AppRead, AppWrite, Exec};
+use oper_core::Refusal;
+use store_engine::{Engine, ExecErr};
+
+/// An application: the object that holds its state.
+#[derive(Clone, Copy)]
+pub struct App {
+    pub app: u32,
+}
+
+// What a run answers that has done some steps, and whose next one is not done.
+fn ended(done: u64, e: ExecErr) -> Result<u64, ExecErr>
+    ensures { EndsSo done e result }
+{
+    match e {
+        ExecErr::Refused(Refusal::NoInput) => Ok(done),
+        ExecErr::Refused(_) if done != 0 => Ok(done),
+        e => Err(e),
+    }
+}
+
+impl App {
+    /// The application whose state is the value of this object.
+    pub fn new(app: u32) -> Self
+        ensures { result.app ≡ app }
+    {
+        App { app }
+    }
+
+    /// Adds the value of an object to the application's input. It answers as `Engine::exec` does.
+    pub fn feed<M: Machine>(
+        &self,
+        engine: &mut Engine<AllOps>,
+        machine: &mut M,
+        from: u32,
+    ) -> Result<u64, ExecErr>
+        requires unbroken { engine.old.broken ≡ false }
+        ensures run { HasRun all_meaning (M.disk machine.old) (M.disk machine.new) engine.old engine.new (feed_of self.now.app from) result }
+        ensures calls { AreCalls all_meaning (M.disk machine.old) (M.disk machine.new) engine.old engine.new (result_err result) }
+    {
+        command_lists::exec(
+            engine,
+            machine,
+            AllOps::AppRead(AppRead {
+                app: self.app,
+                from,
+            }),
+        )
+    }
+
+    /// Does one step: the application takes the first byte of its input. It answers as `Engine::exec` does.
+    pub fn step<M: Machine>(
+        &self,
+        engine: &mut Engine<AllOps>,
+        machine: &mut M,
+    ) -> Result<u64, ExecErr>
+        requires unbroken { engine.old.broken ≡ false }
+        ensures run { HasRun all_meaning (M.disk machine.old) (M.disk machine.new) engine.old engine.new (step_of self.now.app) result }
+        ensures calls { AreCalls all_meaning (M.disk machine.old) (M.disk machine.new) engine.old engine.new (result_err result) }
+    {
+        command_lists::exec(engine, machine, AllOps::Exec(Exec { app: self.app }))
+    }
+
+    /// Makes the application's output the value of an object. It answers as `Engine::exec` does.
+    pub fn drain_to<M: Machine>(
+        &self,
+        engine: &mut Engine<AllOps>,
+        machine: &mut M,
+        to: u32,
+    ) -> Result<u64, ExecErr>
+        requires unbroken { engine.old.broken ≡ false }
+        ensures run { HasRun all_meaning (M.disk machine.old) (M.disk machine.new) engine.old engine.new (drain_of self.now.app to) result }
+        ensures calls { AreCalls all_meaning (M.disk machine.old) (M.disk machine.new) engine.old engine.new (result_err result) }
+    {
+        command_lists::exec(
+            engine,
+            machine,
+            AllOps::AppWrite(AppWrite { app: self.app, to }),
+        )
+    }
+
+    /// Does steps until `most` are done or one is refused. It answers how many were done.
+    ///
+    /// Where the first is refused for another reason than `NoInput`, and `most` is not 0, it answers that: `Refused` with
+    /// `NoObject` or `NotApp`. Where a step is stopped or fails it answers as `Engine::exec` does, and the steps before it
+    /// stay.
+    pub fn run<M: Machine>(
+        &self,
+        engine: &mut Engine<AllOps>,
+        machine: &mut M,
+        most: u64,
+    ) -> Result<u64, ExecErr>
+        requires unbroken { engine.old.broken ≡ false }
+        ensures calls { AreCalls all_meaning (M.disk machine.old) (M.disk machine.new) engine.old engine.new (result_err result) }
+        ensures adds { (p : Params) (commands : List Command) → (holds : Holds all_meaning p (M.disk machine.old) engine.old commands) →
+            AddsFront all_meaning p (M.disk machine.old) (M.disk machine.new) engine.old engine.new holds.world commands (steps p commands self.now.app most) (ending_of (result_err result)) }
+        ensures answer { (p : Params) (commands : List Command) → Holds all_meaning p (M.disk machine.old) engine.old commands →
+            HasAnswer p commands self.now.app most result }
+    {
+        exec_goes_on::<AllOps, M>();
+        calls_go_on::<AllOps, M>();
+        nothing_is_made(machine, engine);
+        for done in 0..most {
+            if let Err(e) = self.step(engine, machine) {
+                return ended(done, e);
+            }
+        }
+        Ok(most)
+    }
+}
