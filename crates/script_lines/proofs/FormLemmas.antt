@@ -1,9 +1,9 @@
 -- The forms of a line.
-use Rattle.std.proofs.Common.{◌≡◌, ◌≢◌, ◌^◌, ◌<◌, ◌≤◌, List, ℕ, [], ◌∷◌, Option, Some, None, get_or, if◌then◌else◌, ◌==◌, refl, ap, arith, codes}
+use Rattle.std.proofs.Common.{◌≡◌, ◌≢◌, ◌^◌, ◌<◌, ◌≤◌, List, ℕ, [], ◌∷◌, Option, Some, None, get_or, if◌then◌else◌, ◌==◌, refl, ap, subst, arith, codes}
 use Rattle.std.specs.Option.{MatchOption, IsSomeAnd, IfNone}
 use Rattle.std.specs.Str.{bytes_eq}
 use Rattle.std.specs.Fmt.{decimal}
-use Rattle.script_lines.specs.Grammar.{IsHex, Request, put, copy, append, cut, sort, swap, exec, aread, awrite, get, force, install, drain, checkpoint, trim, stat, skip, number, hex, SayAll, AreOf}
+use Rattle.script_lines.specs.Grammar.{IsHex, Request, Field, put, copy, append, cut, sort, swap, exec, arun, aread, awrite, tinsert, tget, tdelete, trange, get, force, install, drain, checkpoint, trim, stat, skip, number, hex, short, SayAll, AreOf, IsChange, IsOfApp, IsOfKey, IsOfPair, IsOfStore}
 
 -- the forms distinguished by a number
 abbrev pub tag : Request → ℕ
@@ -24,6 +24,11 @@ tag checkpoint = 13
 tag trim = 14
 tag stat = 15
 tag skip = 16
+tag (arun app steps) = 17
+tag (tinsert low high key value) = 18
+tag (tget low high key) = 19
+tag (tdelete low high key) = 20
+tag (trange low high from to) = 21
 
 -- the form that a first field has
 abbrev pub tag_of : List ℕ → ℕ
@@ -44,8 +49,13 @@ tag_of word =
     else if bytes_eq word (codes "checkpoint") then 13
     else if bytes_eq word (codes "trim") then 14
     else if bytes_eq word (codes "stat") then 15
+    else if bytes_eq word (codes "arun") then 17
+    else if bytes_eq word (codes "tinsert") then 18
+    else if bytes_eq word (codes "tget") then 19
+    else if bytes_eq word (codes "tdelete") then 20
+    else if bytes_eq word (codes "trange") then 21
     else if get_or word 0 0 == 35 then 16
-    else 17
+    else 22
 
 -- the first field reports the form
 pub form_told : (a : Request) (word : List ℕ) (fields : List (List ℕ)) → AreOf a (word ∷ fields) → tag_of word ≡ tag a
@@ -66,6 +76,11 @@ form_told checkpoint word fields is = ap tag_of is.0
 form_told trim word fields is = ap tag_of is.0
 form_told stat word fields is = ap tag_of is.0
 form_told skip word fields is = ap tag_of is.1
+form_told (arun app steps) word fields is = ap tag_of is.0
+form_told (tinsert low high key value) word fields is = ap tag_of is.0
+form_told (tget low high key) word fields is = ap tag_of is.0
+form_told (tdelete low high key) word fields is = ap tag_of is.0
+form_told (trange low high from to) word fields is = ap tag_of is.0
 
 -- the fields behind the first one, of each kind
 pub one_is : (fields : List (List ℕ)) (n : ℕ) → SayAll (number n ∷ []) fields → (fields ≡ decimal n ∷ []) × (n < 2 ^ 32)
@@ -96,6 +111,15 @@ digits_are (a ∷ b ∷ c ∷ fields) n bytes say = absurd say.1.1
 pub none_are : (fields : List (List ℕ)) → SayAll [] fields → fields ≡ []
 none_are [] say = refl
 none_are (a ∷ fields) say = absurd say
+
+-- the fields behind the first one
+pub say_rest : (fields others : List (List ℕ)) (text : List ℕ) (first : Field) (form : List Field) → fields ≡ text ∷ others → SayAll (first ∷ form) fields → SayAll form others
+say_rest fields others text first form is say = (subst (λ (l : List (List ℕ)). SayAll (first ∷ form) l) is say).1
+
+-- a number, and others behind it
+pub say_number : (fields : List (List ℕ)) (n : ℕ) (form : List Field) → SayAll (number n ∷ form) fields → (others : List (List ℕ)) × (fields ≡ decimal n ∷ others) × (n < 2 ^ 32)
+say_number [] n form say = absurd say
+say_number (a ∷ fields) n form say = (fields, ap (λ (t : List ℕ). t ∷ fields) say.0.0, say.0.1)
 
 -- a word whose other fields are wrong asks nothing
 pub no_put : (word : List ℕ) (fields : List (List ℕ)) → word ≡ codes "put" → ((n : ℕ) (digits bytes : List ℕ) → n < 2 ^ 32 → IsHex digits bytes → fields ≢ decimal n ∷ digits ∷ [])
@@ -146,6 +170,31 @@ pub no_get : (word : List ℕ) (fields : List (List ℕ)) → word ≡ codes "ge
 no_get word fields is none (get x) asks = let d = one_is fields x asks.1 in none x d.1 d.0
 no_get word fields is none a asks = omega (arith, form_told a word fields asks, ap tag_of is)
 
+pub no_arun : (word : List ℕ) (fields : List (List ℕ)) → word ≡ codes "arun" → ((m n : ℕ) → m < 2 ^ 32 → n < 2 ^ 32 → fields ≢ decimal m ∷ decimal n ∷ [])
+    → (a : Request) → AreOf a (word ∷ fields) → ⊥
+no_arun word fields is none (arun app steps) asks = let d = two_are fields app steps asks.1 in none app steps d.1 d.2 d.0
+no_arun word fields is none a asks = omega (arith, form_told a word fields asks, ap tag_of is)
+
+pub no_tinsert : (word : List ℕ) (fields : List (List ℕ)) → word ≡ codes "tinsert"
+    → ((low high : ℕ) (key value : List ℕ) → SayAll (number low ∷ number high ∷ short key ∷ short value ∷ []) fields → ⊥) → (a : Request) → AreOf a (word ∷ fields) → ⊥
+no_tinsert word fields is none (tinsert low high key value) asks = none low high key value asks.1
+no_tinsert word fields is none a asks = omega (arith, form_told a word fields asks, ap tag_of is)
+
+pub no_tget : (word : List ℕ) (fields : List (List ℕ)) → word ≡ codes "tget" → ((low high : ℕ) (key : List ℕ) → SayAll (number low ∷ number high ∷ short key ∷ []) fields → ⊥)
+    → (a : Request) → AreOf a (word ∷ fields) → ⊥
+no_tget word fields is none (tget low high key) asks = none low high key asks.1
+no_tget word fields is none a asks = omega (arith, form_told a word fields asks, ap tag_of is)
+
+pub no_tdelete : (word : List ℕ) (fields : List (List ℕ)) → word ≡ codes "tdelete" → ((low high : ℕ) (key : List ℕ) → SayAll (number low ∷ number high ∷ short key ∷ []) fields → ⊥)
+    → (a : Request) → AreOf a (word ∷ fields) → ⊥
+no_tdelete word fields is none (tdelete low high key) asks = none low high key asks.1
+no_tdelete word fields is none a asks = omega (arith, form_told a word fields asks, ap tag_of is)
+
+pub no_trange : (word : List ℕ) (fields : List (List ℕ)) → word ≡ codes "trange"
+    → ((low high : ℕ) (from to : List ℕ) → SayAll (number low ∷ number high ∷ short from ∷ short to ∷ []) fields → ⊥) → (a : Request) → AreOf a (word ∷ fields) → ⊥
+no_trange word fields is none (trange low high from to) asks = none low high from to asks.1
+no_trange word fields is none a asks = omega (arith, form_told a word fields asks, ap tag_of is)
+
 -- nor does a word that stands alone, with a field behind it
 pub no_alone : (word : List ℕ) (fields : List (List ℕ)) → 10 ≤ tag_of word → tag_of word ≤ 15 → fields ≢ [] → (a : Request) → AreOf a (word ∷ fields) → ⊥
 no_alone word fields low high some force asks = some (none_are fields asks.1)
@@ -157,9 +206,36 @@ no_alone word fields low high some stat asks = some (none_are fields asks.1)
 no_alone word fields low high some a asks = omega (arith, form_told a word fields asks, low, high)
 
 -- what was found was handed on, so where nothing is given nothing was found
-pub nothing_found : {A B : Type 0} {N G : Type 0} (Q : A → B → Type 0) (found : Option A) (given : Option B) → MatchOption found (given ≡ None) (λ x. IsSomeAnd given (Q x))
-    → IfNone found N → (N → G) → IfNone given G
-nothing_found Q None None handed none on = on none
-nothing_found Q None (Some y) handed none on = tt
-nothing_found Q (Some x) None handed none on = absurd handed
-nothing_found Q (Some x) (Some y) handed none on = tt
+pub kind_found : {A B : Type 0} {N : Type 0} {R : Type 0} (K : R → Type 0) {F : R → Type 0} (Q : A → B → Type 0) (found : Option A) (given : Option B)
+    → MatchOption found (given ≡ None) (λ x. IsSomeAnd given (Q x)) → IfNone found N → (N → (a : R) → F a → ⊥) → IfNone given ((a : R) → K a → F a → ⊥)
+kind_found K Q None None handed none on = λ a kind. on none a
+kind_found K Q None (Some y) handed none on = tt
+kind_found K Q (Some x) None handed none on = absurd handed
+kind_found K Q (Some x) (Some y) handed none on = tt
+
+-- what asks nothing of each kind, and is no comment, asks nothing
+pub no_kind : (fields : List (List ℕ)) → (AreOf skip fields → ⊥) → ((a : Request) → IsChange a → AreOf a fields → ⊥) → ((a : Request) → IsOfApp a → AreOf a fields → ⊥)
+    → ((a : Request) → IsOfKey a → AreOf a fields → ⊥) → ((a : Request) → IsOfPair a → AreOf a fields → ⊥) → ((a : Request) → IsOfStore a → AreOf a fields → ⊥)
+    → (a : Request) → AreOf a fields → ⊥
+no_kind fields comment change app key pair store (put x bytes) asks = change (put x bytes) tt asks
+no_kind fields comment change app key pair store (copy x y) asks = change (copy x y) tt asks
+no_kind fields comment change app key pair store (append x y) asks = change (append x y) tt asks
+no_kind fields comment change app key pair store (cut x y place) asks = change (cut x y place) tt asks
+no_kind fields comment change app key pair store (sort x y width) asks = change (sort x y width) tt asks
+no_kind fields comment change app key pair store (swap x y) asks = change (swap x y) tt asks
+no_kind fields comment change app key pair store (exec a) asks = app (exec a) tt asks
+no_kind fields comment change app key pair store (arun a steps) asks = app (arun a steps) tt asks
+no_kind fields comment change app key pair store (aread a x) asks = app (aread a x) tt asks
+no_kind fields comment change app key pair store (awrite a x) asks = app (awrite a x) tt asks
+no_kind fields comment change app key pair store (tget low high k) asks = key (tget low high k) tt asks
+no_kind fields comment change app key pair store (tdelete low high k) asks = key (tdelete low high k) tt asks
+no_kind fields comment change app key pair store (tinsert low high k v) asks = pair (tinsert low high k v) tt asks
+no_kind fields comment change app key pair store (trange low high from to) asks = pair (trange low high from to) tt asks
+no_kind fields comment change app key pair store (get x) asks = store (get x) tt asks
+no_kind fields comment change app key pair store force asks = store force tt asks
+no_kind fields comment change app key pair store install asks = store install tt asks
+no_kind fields comment change app key pair store drain asks = store drain tt asks
+no_kind fields comment change app key pair store checkpoint asks = store checkpoint tt asks
+no_kind fields comment change app key pair store trim asks = store trim tt asks
+no_kind fields comment change app key pair store stat asks = store stat tt asks
+no_kind fields comment change app key pair store skip asks = comment asks

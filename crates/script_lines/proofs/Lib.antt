@@ -6,4 +6,5 @@ pub mod NumberLemmas
 pub mod OneLemmas
 pub mod PlaceLemmas
 pub mod ReplyLemmas
+pub mod ShortLemmas
 pub mod WordLemmas

@@ -1,7 +1,7 @@
 -- A line asks for one thing.
 use Rattle.std.proofs.Common.{◌≡◌, ◌+◌, ◌*◌, ◌<◌, List, ℕ, [], ◌∷◌, length, Some, refl, sym, ◌∙◌, ap, subst, arith, codes, ⊎_elim}
 use Rattle.std.proofs.lemmas.Fmt.{decimal_injective}
-use Rattle.script_lines.specs.Grammar.{IsHex, IsHexOf, none, byte, hex_digit, AsksFor, AreOf, Request, put, copy, append, cut, sort, swap, exec, aread, awrite, get, force, install, drain, checkpoint, trim, stat, skip, number, hex, Says, SayAll, fields_of, without_return}
+use Rattle.script_lines.specs.Grammar.{IsHex, IsHexOf, none, byte, hex_digit, AsksFor, AreOf, Request, put, copy, append, cut, sort, swap, exec, arun, aread, awrite, tinsert, tget, tdelete, trange, get, force, install, drain, checkpoint, trim, stat, skip, number, hex, short, Says, SayAll, fields_of, without_return}
 use Rattle.script_lines.proofs.HexLemmas.{one_left}
 use Rattle.script_lines.proofs.FormLemmas.{tag, form_told}
 
@@ -21,7 +21,7 @@ record Front (high low : ℕ) (text bytes : List ℕ) : Type 0 where
 front_of : {high low : ℕ} {text bytes : List ℕ} → IsHexOf (high ∷ low ∷ text) bytes → Front high low text bytes
 front_of (byte {a = a} {b = b} {bytes = more} h l rest) = record { a = a; b = b; more = more; high_is = h; low_is = l; rest = rest; all = refl }
 
-hex_of_one : (text x y : List ℕ) → IsHexOf text x → IsHexOf text y → x ≡ y
+pub hex_of_one : (text x y : List ℕ) → IsHexOf text x → IsHexOf text y → x ≡ y
 hex_of_one [] x y p q = no_bytes p ∙ sym (no_bytes q)
 hex_of_one (high ∷ []) x y p q = absurd (one_left p)
 hex_of_one (high ∷ low ∷ text) x y p q =
@@ -67,6 +67,23 @@ three_one (a ∷ b ∷ []) form p q = absurd p.1.1
 three_one {u} {v} {w} {x} {y} {z} (a ∷ b ∷ c ∷ fields) form p q =
     let r = number_one a u x p.0 q.0 in let s = number_one b v y p.1.0 q.1.0 in let t = number_one c w z p.1.1.0 q.1.1.0 in cc
 
+range_one : {w x y z : ℕ} {u v : List ℕ} (fields : List (List ℕ)) (form : ℕ → ℕ → List ℕ → Request) → SayAll (number w ∷ number x ∷ short u ∷ []) fields → SayAll (number y ∷ number z ∷ short v ∷ []) fields
+    → form w x u ≡ form y z v
+range_one [] form p q = absurd p
+range_one (a ∷ []) form p q = absurd p.1
+range_one (a ∷ b ∷ []) form p q = absurd p.1.1
+range_one {w} {x} {y} {z} {u} {v} (a ∷ b ∷ c ∷ fields) form p q =
+    let r = number_one a w y p.0 q.0 in let s = number_one b x z p.1.0 q.1.0 in let t = hex_one c u v p.1.1.0.0 q.1.1.0.0 in cc
+
+range_two : {w x y z : ℕ} {s t u v : List ℕ} (fields : List (List ℕ)) (form : ℕ → ℕ → List ℕ → List ℕ → Request) → SayAll (number w ∷ number x ∷ short s ∷ short t ∷ []) fields
+    → SayAll (number y ∷ number z ∷ short u ∷ short v ∷ []) fields → form w x s t ≡ form y z u v
+range_two [] form p q = absurd p
+range_two (a ∷ []) form p q = absurd p.1
+range_two (a ∷ b ∷ []) form p q = absurd p.1.1
+range_two (a ∷ b ∷ c ∷ []) form p q = absurd p.1.1.1
+range_two {w} {x} {y} {z} {s} {t} {u} {v} (a ∷ b ∷ c ∷ d ∷ fields) form p q =
+    let i = number_one a w y p.0 q.0 in let j = number_one b x z p.1.0 q.1.0 in let k = hex_one c s u p.1.1.0.0 q.1.1.0.0 in let l = hex_one d t v p.1.1.1.0.0 q.1.1.1.0.0 in cc
+
 -- no field asks for nothing
 none_skips : (a : Request) → AreOf a [] → a ≡ skip
 none_skips skip p = refl
@@ -81,8 +98,13 @@ same_one (cut u v w) (cut x y z) word fields same p q = three_one fields cut p.1
 same_one (sort u v w) (sort x y z) word fields same p q = three_one fields sort p.1 q.1
 same_one (swap w x) (swap y z) word fields same p q = two_one fields swap p.1 q.1
 same_one (exec x) (exec y) word fields same p q = one_one fields exec p.1 q.1
+same_one (arun w x) (arun y z) word fields same p q = two_one fields arun p.1 q.1
 same_one (aread w x) (aread y z) word fields same p q = two_one fields aread p.1 q.1
 same_one (awrite w x) (awrite y z) word fields same p q = two_one fields awrite p.1 q.1
+same_one (tinsert w x s t) (tinsert y z u v) word fields same p q = range_two fields tinsert p.1 q.1
+same_one (tget w x u) (tget y z v) word fields same p q = range_one fields tget p.1 q.1
+same_one (tdelete w x u) (tdelete y z v) word fields same p q = range_one fields tdelete p.1 q.1
+same_one (trange w x s t) (trange y z u v) word fields same p q = range_two fields trange p.1 q.1
 same_one (get x) (get y) word fields same p q = one_one fields get p.1 q.1
 same_one force force word fields same p q = refl
 same_one install install word fields same p q = refl

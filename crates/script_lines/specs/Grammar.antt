@@ -1,8 +1,9 @@
 -- The lines of a script, and what each may ask.
-use Rattle.std.specs.Prelude.{◌≡◌, ⊤, ℕ, ◌+◌, ◌*◌, ◌-◌, ◌^◌, ◌<◌, ◌≤◌, ◌⊎◌, ◌++◌, List, [], ◌∷◌, Option, Some, None, codes, if◌then◌else◌, ◌==◌, nat_le, nat_lt, length}
+use Rattle.std.specs.Prelude.{◌≡◌, ⊤, ℕ, ◌+◌, ◌*◌, ◌-◌, ◌^◌, ◌<◌, ◌≤◌, ◌⊎◌, ◌++◌, List, [], ◌∷◌, Option, Some, None, codes, if◌then◌else◌, ◌==◌, nat_le, nat_lt, length, IsTrue}
 use Rattle.std.specs.Fmt.{decimal}
+use Rattle.btree_ops.specs.Short.{is_short}
 use Rattle.script_lines.specs.declared.line.Line.{Line}
-use Rattle.script_lines.specs.declared.line.Line.TheVariants.{Put, Copy, Append, Cut, Sort, Swap, Exec, AppRead, AppWrite, Get, Force, Install, Drain, Checkpoint, Trim, Stat, Skip}
+use Rattle.script_lines.specs.declared.line.Line.TheVariants.{Put, Copy, Append, Cut, Sort, Swap, Exec, AppRun, AppRead, AppWrite, TreeInsert, TreeGet, TreeDelete, TreeRange, Get, Force, Install, Drain, Checkpoint, Trim, Stat, Skip}
 
 -- one byte more in front of the first text
 abbrev pub before_first : ℕ → List (List ℕ) → List (List ℕ)
@@ -72,10 +73,20 @@ pub data Request : Type 0 where
   swap : ℕ → ℕ → Request
   -- the application takes one step
   exec : ℕ → Request
+  -- the application takes so many steps, the second number, or as many as its input has
+  arun : ℕ → ℕ → Request
   -- the object's value, the second number, is added to the application's input
   aread : ℕ → ℕ → Request
   -- the object, the second number, gets the application's output
   awrite : ℕ → ℕ → Request
+  -- the key gets this value, in the tree of the objects from the first number to the second
+  tinsert : ℕ → ℕ → List ℕ → List ℕ → Request
+  -- the value of the key is reported
+  tget : ℕ → ℕ → List ℕ → Request
+  -- the key leaves the tree, with its value
+  tdelete : ℕ → ℕ → List ℕ → Request
+  -- the keys from the first up to the second, which is left out, are reported, with their values
+  trange : ℕ → ℕ → List ℕ → List ℕ → Request
   -- the value of the object is reported
   get : ℕ → Request
   -- all commands are made stable
@@ -93,11 +104,54 @@ pub data Request : Type 0 where
   -- nothing, and there is no answer
   skip : Request
 
+-- it makes new values from old ones
+abbrev pub IsChange : Request → Type 0
+IsChange (put x bytes) = ⊤
+IsChange (copy x y) = ⊤
+IsChange (append x y) = ⊤
+IsChange (cut x y place) = ⊤
+IsChange (sort x y width) = ⊤
+IsChange (swap x y) = ⊤
+IsChange request = ⊥
+
+-- it is asked of an application
+abbrev pub IsOfApp : Request → Type 0
+IsOfApp (exec app) = ⊤
+IsOfApp (arun app steps) = ⊤
+IsOfApp (aread app x) = ⊤
+IsOfApp (awrite app x) = ⊤
+IsOfApp request = ⊥
+
+-- it names one key of a tree
+abbrev pub IsOfKey : Request → Type 0
+IsOfKey (tget low high key) = ⊤
+IsOfKey (tdelete low high key) = ⊤
+IsOfKey request = ⊥
+
+-- it names a key of a tree and its value, or two keys
+abbrev pub IsOfPair : Request → Type 0
+IsOfPair (tinsert low high key value) = ⊤
+IsOfPair (trange low high from to) = ⊤
+IsOfPair request = ⊥
+
+-- it is asked of the store
+abbrev pub IsOfStore : Request → Type 0
+IsOfStore (get x) = ⊤
+IsOfStore force = ⊤
+IsOfStore install = ⊤
+IsOfStore drain = ⊤
+IsOfStore checkpoint = ⊤
+IsOfStore trim = ⊤
+IsOfStore stat = ⊤
+IsOfStore request = ⊥
+
 -- what a field may say
 pub data Field : Type 0 where
   word : List ℕ → Field
   number : ℕ → Field
   hex : List ℕ → Field
+  -- a key, or the value of one
+  short : List ℕ → Field
 
 -- the fields of a line that asks this
 abbrev pub form_of : Request → List Field
@@ -108,8 +162,13 @@ form_of (cut x y place) = word (codes "cut") ∷ number x ∷ number y ∷ numbe
 form_of (sort x y width) = word (codes "sort") ∷ number x ∷ number y ∷ number width ∷ []
 form_of (swap x y) = word (codes "swap") ∷ number x ∷ number y ∷ []
 form_of (exec app) = word (codes "exec") ∷ number app ∷ []
+form_of (arun app steps) = word (codes "arun") ∷ number app ∷ number steps ∷ []
 form_of (aread app x) = word (codes "aread") ∷ number app ∷ number x ∷ []
 form_of (awrite app x) = word (codes "awrite") ∷ number app ∷ number x ∷ []
+form_of (tinsert low high key value) = word (codes "tinsert") ∷ number low ∷ number high ∷ short key ∷ short value ∷ []
+form_of (tget low high key) = word (codes "tget") ∷ number low ∷ number high ∷ short key ∷ []
+form_of (tdelete low high key) = word (codes "tdelete") ∷ number low ∷ number high ∷ short key ∷ []
+form_of (trange low high from to) = word (codes "trange") ∷ number low ∷ number high ∷ short from ∷ short to ∷ []
 form_of (get x) = word (codes "get") ∷ number x ∷ []
 form_of force = word (codes "force") ∷ []
 form_of install = word (codes "install") ∷ []
@@ -124,6 +183,7 @@ abbrev pub Says : Field → List ℕ → Type 0
 Says (word w) text = text ≡ w
 Says (number n) text = (text ≡ decimal n) × (n < 2 ^ 32)
 Says (hex bytes) text = IsHex text bytes
+Says (short bytes) text = IsHex text bytes × IsTrue (is_short bytes)
 
 -- the texts say the fields, one each
 abbrev pub SayAll : List Field → List (List ℕ) → Type 0
@@ -164,8 +224,13 @@ IsAsked fields (Cut from to place) = AreOf (cut from to place) fields
 IsAsked fields (Sort from to width) = AreOf (sort from to width) fields
 IsAsked fields (Swap first second) = AreOf (swap first second) fields
 IsAsked fields (Exec app) = AreOf (exec app) fields
+IsAsked fields (AppRun app steps) = AreOf (arun app steps) fields
 IsAsked fields (AppRead app from) = AreOf (aread app from) fields
 IsAsked fields (AppWrite app to) = AreOf (awrite app to) fields
+IsAsked fields (TreeInsert low high key value) = AreOf (tinsert low high key value) fields
+IsAsked fields (TreeGet low high key) = AreOf (tget low high key) fields
+IsAsked fields (TreeDelete low high key) = AreOf (tdelete low high key) fields
+IsAsked fields (TreeRange low high from to) = AreOf (trange low high from to) fields
 IsAsked fields (Get object) = AreOf (get object) fields
 IsAsked fields Force = AreOf force fields
 IsAsked fields Install = AreOf install fields
@@ -184,8 +249,13 @@ IsParsed line (Cut from to place) = AsksFor line (cut from to place)
 IsParsed line (Sort from to width) = AsksFor line (sort from to width)
 IsParsed line (Swap first second) = AsksFor line (swap first second)
 IsParsed line (Exec app) = AsksFor line (exec app)
+IsParsed line (AppRun app steps) = AsksFor line (arun app steps)
 IsParsed line (AppRead app from) = AsksFor line (aread app from)
 IsParsed line (AppWrite app to) = AsksFor line (awrite app to)
+IsParsed line (TreeInsert low high key value) = AsksFor line (tinsert low high key value)
+IsParsed line (TreeGet low high key) = AsksFor line (tget low high key)
+IsParsed line (TreeDelete low high key) = AsksFor line (tdelete low high key)
+IsParsed line (TreeRange low high from to) = AsksFor line (trange low high from to)
 IsParsed line (Get object) = AsksFor line (get object)
 IsParsed line Force = AsksFor line force
 IsParsed line Install = AsksFor line install

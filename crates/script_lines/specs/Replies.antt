@@ -6,7 +6,12 @@ use Rattle.oper_core.specs.declared.refusal.Refusal.{Refusal}
 use Rattle.oper_core.specs.declared.refusal.Refusal.TheVariants.{NoObject, Same, BadPlace, BadWidth, NotApp, NoInput, NotNode, NoKey, NodeFull, TooLarge}
 use Rattle.script_lines.specs.declared.answer.Answer.{Answer}
 use Rattle.script_lines.specs.declared.answer.Counts.{Counts}
-use Rattle.script_lines.specs.declared.answer.Answer.TheVariants.{Done, Value, Forced, Bad, Refused, Full, End, Object, Commands, Stat}
+use Rattle.script_lines.specs.declared.answer.Totals.{Totals}
+use Rattle.script_lines.specs.declared.answer.Answer.TheVariants.{Done, Value, Forced, Bad, Refused, Full, End, Object, Commands, Stat, Ran, Pairs, BadTree, TreeFull, Summary}
+
+-- a key and its value
+abbrev pub Pair : Type 0
+Pair = List ℕ × List ℕ
 
 -- what a line may be reported, and the lines of a dump
 pub data Reply : Type 0 where
@@ -25,8 +30,23 @@ pub data Reply : Type 0 where
   command_count : ℕ → Reply
   -- the counts of the store
   stat : Counts → Reply
+  -- so many steps of an application were done
+  ran : ℕ → Reply
+  -- a first pair of a tree, and the others
+  pairs : Pair → List Pair → Reply
+  -- the range of objects is no tree
+  bad_tree : Reply
+  -- the tree has too few free objects
+  tree_full : Reply
+  -- what a generated script did
+  summary : Totals → Reply
   -- nothing: the line is skipped
   silence : Reply
+
+-- the pairs of a tree: where there are none, the reply is that of an empty value
+abbrev pub pairs_reply : List Pair → Reply
+pairs_reply [] = value []
+pairs_reply (pair ∷ others) = pairs pair others
 
 -- the reply that an answer of the program is
 abbrev pub reply_of : Answer → Reply
@@ -40,6 +60,11 @@ reply_of (End number) = end number
 reply_of (Object object bytes) = object_value object bytes.now
 reply_of (Commands n) = command_count n
 reply_of (Stat counts) = stat counts
+reply_of (Ran n) = ran n
+reply_of (Pairs found) = pairs_reply found.now
+reply_of BadTree = bad_tree
+reply_of TreeFull = tree_full
+reply_of (Summary totals) = summary totals
 
 -- a lower-case hexadecimal digit
 abbrev pub hex_glyph : ℕ → ℕ
@@ -75,6 +100,14 @@ spaced n = 32 ∷ decimal n
 abbrev pub numbers_of : Counts → List ℕ
 numbers_of c = c.nodes ∷ c.dirty ∷ c.uninstalled ∷ c.forced ∷ c.accepted ∷ c.used ∷ c.identities ∷ []
 
+-- a key and its value in hexadecimal
+abbrev pub pair_text : Pair → List ℕ
+pair_text pair = flat_map hex_pair pair.0 ++ 58 ∷ flat_map hex_pair pair.1
+
+-- a pair behind a space
+abbrev pub spaced_pair : Pair → List ℕ
+spaced_pair pair = 32 ∷ pair_text pair
+
 -- the text of a reply
 unfoldable pub text_of : Reply → List ℕ
 text_of ok = codes "ok"
@@ -87,6 +120,12 @@ text_of (end number) = codes "end " ++ decimal number
 text_of (object_value object bytes) = decimal object ++ 32 ∷ hex_text bytes
 text_of (command_count n) = codes "commands " ++ decimal n
 text_of (stat counts) = codes "stat" ++ flat_map spaced (numbers_of counts)
+text_of (ran n) = codes "ran " ++ decimal n
+text_of (pairs pair others) = pair_text pair ++ flat_map spaced_pair others
+text_of bad_tree = codes "refused BadTree"
+text_of tree_full = codes "refused TreeFull"
+text_of (summary totals) = codes "demo seed " ++ decimal totals.seed ++ codes " steps " ++ decimal totals.steps ++ codes " lines " ++ decimal totals.lines
+    ++ codes " bytes " ++ decimal totals.bytes ++ codes " accepted " ++ decimal totals.accepted ++ codes " refused " ++ decimal totals.refused ++ codes " sum " ++ decimal totals.sum
 text_of silence = []
 
 -- each number has at most 64 bits
@@ -102,6 +141,8 @@ HasSmallNumbers (end number) = number < 2 ^ 64
 HasSmallNumbers (object_value object bytes) = object < 2 ^ 64
 HasSmallNumbers (command_count n) = n < 2 ^ 64
 HasSmallNumbers (stat counts) = AreSmall (numbers_of counts)
+HasSmallNumbers (ran n) = n < 2 ^ 64
+HasSmallNumbers (summary t) = AreSmall (t.seed ∷ t.steps ∷ t.lines ∷ t.bytes ∷ t.accepted ∷ t.refused ∷ t.sum ∷ [])
 HasSmallNumbers reply = ⊤
 
 -- a reply's text and a newline, or nothing

@@ -1,9 +1,10 @@
 ghost use Rattle.std.specs.Prelude.{◌≡◌, ◌++◌, ◌∷◌, codes, OnOk, IfOk};
 ghost use Rattle.std.specs.Fmt.{decimal};
 ghost use Rattle.std.specs.List.{flat_map};
-ghost use Rattle.script_lines.specs.Replies.{reply_of, text_of, said_line, name_of, hex_text, spaced, numbers_of};
+ghost use Rattle.script_lines.specs.Replies.{reply_of, pairs_reply, summary, text_of, said_line, name_of, hex_text, spaced, numbers_of, pair_text, spaced_pair};
 
 use crate::hex::push_hex;
+use btree_ops::Short;
 use oper_core::{Memory, Refusal};
 use std::alloc::Global;
 
@@ -26,8 +27,27 @@ pub struct Counts {
     pub identities: u64,
 }
 
-/// What a line is answered, and what a dump says line by line.
-#[derive(Clone, Copy, Debug, Drop)]
+/// What a generated script did.
+#[derive(Clone, Copy, Debug, Drop, PartialEq, Eq)]
+pub struct Totals {
+    /// The number that the script was made from.
+    pub seed: u64,
+    /// The steps that were made.
+    pub steps: u32,
+    /// The lines that were answered.
+    pub lines: u64,
+    /// The bytes that were said, newlines included.
+    pub bytes: u64,
+    /// The commands that were accepted.
+    pub accepted: u64,
+    /// The answers that are `bad`, `refused`, `full` or `end`.
+    pub refused: u64,
+    /// The sum, modulo 2^64, of each byte that was said times its place, counted from 1.
+    pub sum: u64,
+}
+
+/// What a line is answered, and what a dump or a generated script says.
+#[derive(Clone, Copy, Drop)]
 pub enum Answer<'a> {
     /// A command was done: `ok`.
     Done,
@@ -49,6 +69,16 @@ pub enum Answer<'a> {
     Commands(u64),
     /// The counts of the store: `stat` and seven numbers.
     Stat(Counts),
+    /// An application took so many steps: `ran k`.
+    Ran(u64),
+    /// The keys of a range and their values: `key:value` each, in lower-case hexadecimal, or `-` where there are none.
+    Pairs(&'a [(Short, Short)]),
+    /// The range of objects is no tree: `refused BadTree`.
+    BadTree,
+    /// The tree has too few free objects for an insert: `refused TreeFull`.
+    TreeFull,
+    /// What a generated script did: `demo`, and seven numbers, each behind its name.
+    Summary(Totals),
 }
 
 /// The name of a refusal.
@@ -139,6 +169,54 @@ fn push_counts(alloc: Global, text: &mut Vec<u8>, counts: &Counts) -> Result<(),
     )
 }
 
+/// Adds a key and its value in hexadecimal.
+fn push_pair(text: &mut Vec<u8>, pair: &(Short, Short)) -> Result<(), Memory>
+    ensures { OnOk result (text.new.items ≡ text.old.items ++ pair_text pair.now) }
+{
+    push_hex(text, pair.0.as_slice())?;
+    text.push(b':')?;
+    push_hex(text, pair.1.as_slice())
+}
+
+/// Adds each pair behind a space.
+fn push_spaced_pairs(text: &mut Vec<u8>, pairs: &[(Short, Short)]) -> Result<(), Memory>
+    ensures { OnOk result (text.new.items ≡ text.old.items ++ flat_map spaced_pair pairs.now) }
+{
+    for pair in pairs {
+        text.push(b' ')?;
+        push_pair(text, pair)?;
+    }
+    Ok(())
+}
+
+/// Adds the pairs with a space between two, or `-` where there are none.
+fn push_pairs(text: &mut Vec<u8>, pairs: &[(Short, Short)]) -> Result<(), Memory>
+    ensures { OnOk result (text.new.items ≡ text.old.items ++ text_of (pairs_reply pairs.now)) }
+{
+    match pairs {
+        [] => text.push(b'-')?,
+        [first, others @ ..] => {
+            push_pair(text, first)?;
+            push_spaced_pairs(text, others)?;
+        }
+    }
+    Ok(())
+}
+
+/// Adds `demo` and the totals, each behind its name.
+fn push_totals(alloc: Global, text: &mut Vec<u8>, totals: &Totals) -> Result<(), Memory>
+    ensures { OnOk result (text.new.items ≡ text.old.items ++ text_of (summary totals.now)) }
+{
+    push_counted(alloc, text, b"demo seed", totals.seed)?;
+    push_counted(alloc, text, b" steps", u64::from(totals.steps))?;
+    push_counted(alloc, text, b" lines", totals.lines)?;
+    push_counted(alloc, text, b" bytes", totals.bytes)?;
+    push_counted(alloc, text, b" accepted", totals.accepted)?;
+    push_counted(alloc, text, b" refused", totals.refused)?;
+    push_counted(alloc, text, b" sum", totals.sum)?;
+    Ok(())
+}
+
 /// The text of an answer, without a newline.
 #[tactic(auto, unfolding(crate::specs::Replies::text_of))]
 pub fn answer_text(alloc: Global, answer: &Answer<'_>) -> Result<Vec<u8>, Memory>
@@ -169,6 +247,11 @@ pub fn answer_text(alloc: Global, answer: &Answer<'_>) -> Result<Vec<u8>, Memory
         }
         Answer::Commands(count) => push_counted(alloc, &mut text, b"commands", *count)?,
         Answer::Stat(counts) => push_counts(alloc, &mut text, counts)?,
+        Answer::Ran(count) => push_counted(alloc, &mut text, b"ran", *count)?,
+        Answer::Pairs(pairs) => push_pairs(&mut text, pairs)?,
+        Answer::BadTree => text.extend_from_slice(b"refused BadTree")?,
+        Answer::TreeFull => text.extend_from_slice(b"refused TreeFull")?,
+        Answer::Summary(totals) => push_totals(alloc, &mut text, totals)?,
     }
     Ok(text)
 }

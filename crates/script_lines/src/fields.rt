@@ -1,10 +1,11 @@
 // The fields of a line, taken off one by one.
 ghost use Rattle.std.specs.Prelude.{position, not, ◌==◌, ◌≡◌, ◌≢◌, ◌∷◌, [], ◌<◌, ◌^◌, List, ℕ, IfSome, IfNone};
 ghost use Rattle.std.specs.Fmt.{decimal};
-ghost use Rattle.script_lines.specs.Grammar.{fields_of, IsHex};
+ghost use Rattle.script_lines.specs.Grammar.{fields_of, IsHex, Says, SayAll, number, short};
 
-use crate::hex::is_hex;
+use crate::hex::{is_hex, short_of};
 use crate::number::read_number;
+use btree_ops::Short;
 
 /// The place of the first byte that is no space.
 fn field_in(text: &[u8]) -> Option<usize>
@@ -96,4 +97,48 @@ pub fn object_and_hex(text: &[u8]) -> Option<(u32, &[u8])>
     } else {
         None
     }
+}
+
+/// The key or value that is the only field.
+fn one_short(text: &[u8]) -> Option<Short>
+    ensures some { IfSome result (λ key. SayAll (short key ∷ []) (fields_of text.now)) }
+    ensures none { IfNone result ((key : List ℕ) → SayAll (short key ∷ []) (fields_of text.now) → ⊥) }
+{
+    let (field, rest) = next_field(text)?;
+    no_field(rest)?;
+    short_of(field)
+}
+
+/// The two keys or values that are all fields.
+fn two_shorts(text: &[u8]) -> Option<(Short, Short)>
+    ensures some { IfSome result (λ found. SayAll (short found.0 ∷ short found.1 ∷ []) (fields_of text.now)) }
+    ensures none { IfNone result ((first second : List ℕ) → SayAll (short first ∷ short second ∷ []) (fields_of text.now) → ⊥) }
+{
+    let (field, rest) = next_field(text)?;
+    let first = short_of(field)?;
+    let second = one_short(rest)?;
+    Some((first, second))
+}
+
+/// The two numbers of a range of objects and the key that are all fields.
+pub fn range_and_one(text: &[u8]) -> Option<(u32, u32, Short)>
+    ensures some { IfSome result (λ found. SayAll (number found.0 ∷ number found.1 ∷ short found.2 ∷ []) (fields_of text.now)) }
+    ensures none { IfNone result ((low high : ℕ) (key : List ℕ) → SayAll (number low ∷ number high ∷ short key ∷ []) (fields_of text.now) → ⊥) }
+{
+    let (low, rest) = next_number(text)?;
+    let (high, rest) = next_number(rest)?;
+    let key = one_short(rest)?;
+    Some((low, high, key))
+}
+
+/// The two numbers of a range of objects and the two keys or values that are all fields.
+pub fn range_and_two(text: &[u8]) -> Option<(u32, u32, Short, Short)>
+    ensures some { IfSome result (λ found. SayAll (number found.0 ∷ number found.1 ∷ short found.2 ∷ short found.3 ∷ []) (fields_of text.now)) }
+    ensures none { IfNone result ((low high : ℕ) (first second : List ℕ) →
+        SayAll (number low ∷ number high ∷ short first ∷ short second ∷ []) (fields_of text.now) → ⊥) }
+{
+    let (low, rest) = next_number(text)?;
+    let (high, rest) = next_number(rest)?;
+    let (first, second) = two_shorts(rest)?;
+    Some((low, high, first, second))
 }

@@ -1,8 +1,10 @@
-ghost use Rattle.std.specs.Prelude.{◌≡◌, ◌<◌, ◌++◌, List, ℕ, IsTrue, false, IfOk, OnOk, IfSome};
+ghost use Rattle.std.specs.Prelude.{◌≡◌, ◌<◌, ◌++◌, List, ℕ, IsTrue, false, IfOk, OnOk, IfSome, IfNone};
 ghost use Rattle.std.specs.List.{flat_map};
-ghost use Rattle.script_lines.specs.Grammar.{IsHex, IsHexOf, hex_digit};
+ghost use Rattle.script_lines.specs.Grammar.{IsHex, IsHexOf, Says, short, hex_digit};
 ghost use Rattle.script_lines.specs.Replies.{hex_glyph, hex_pair};
 
+use arrayvec::ArrayVec;
+use btree_ops::Short;
 use oper_core::Memory;
 use std::alloc::Global;
 
@@ -68,6 +70,28 @@ pub fn hex_bytes(alloc: Global, hex: &[u8]) -> Result<Vec<u8>, Memory>
         rest = tail;
     }
     Ok(bytes)
+}
+
+/// The key or value, of 1 to 32 bytes, that hexadecimal digits stand for. `None` exactly where they stand for none.
+pub fn short_of(hex: &[u8]) -> Option<Short>
+    ensures some { IfSome result (λ bytes. Says (short bytes) hex.now) }
+    ensures none { IfNone result ((bytes : List ℕ) → Says (short bytes) hex.now → ⊥) }
+{
+    if hex.len() > 64 {
+        return None;
+    }
+    if !is_hex_digits(hex) {
+        return None;
+    }
+    let mut bytes: ArrayVec<u8, 32> = ArrayVec::new();
+    let mut rest = hex;
+    while let [high, low, tail @ ..] = rest {
+        let high = digit_of(*high).unwrap_or(0);
+        let low = digit_of(*low).unwrap_or(0);
+        bytes.push(16 * high + low);
+        rest = tail;
+    }
+    Short::new(bytes.as_slice())
 }
 
 /// The lower-case digit of a value below 16.
