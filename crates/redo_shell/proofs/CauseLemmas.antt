@@ -1,184 +1,105 @@
 -- Which answer a line gets, by what it asks.
-use Rattle.std.proofs.Common.{◌≡◌, ◌≢◌, ◌⊎◌, inl, inr, ⊎_elim, ◌↔◌, ◌<◌, ◌≤◌, List, ℕ, [], length, None, Some, refl, ap, sym, ◌∙◌, subst, arith, ◌∷◌}
-use Rattle.formats.specs.declared.params.Params.{Params}
-use Rattle.oper_core.specs.declared.refusal.Refusal.{Refusal}
-use Rattle.oper_core.specs.declared.refusal.Refusal.TheVariants.{NoObject}
-use Rattle.op_codec.specs.declared.all_ops.AllOps.TheVariants.{Put, Copy, Append, Cut, Sort, Swap, Exec, AppRead, AppWrite, Node}
-use Rattle.std.specs.Prelude.{true, ◌+◌, ◌^◌, ◌&&◌, nat_lt, nat_le}
+use Rattle.std.proofs.Common.{◌≡◌, ◌⊎◌, inl, inr, ⊎_elim, ◌↔◌, ◌<◌, ◌≤◌, ◌∷◌, List, ℕ, [], length, Option, None, Some, refl, ap, sym, ◌∙◌, subst, arith}
+use Rattle.std.specs.Prelude.{true, ◌+◌, ◌^◌, ◌&&◌, nat_lt, nat_le, ◌++◌}
 use Rattle.std.proofs.lemmas.Bool.{cond_both}
 use Rattle.std.proofs.lemmas.Bool.Decides.{nat_tests}
-use Rattle.script_lines.specs.declared.answer.Counts.{Counts}
-use Rattle.script_lines.specs.Grammar.{Request, put, copy, append, cut, sort, swap, exec, aread, awrite, get, force, install, drain, checkpoint, trim, stat as asks_stat, skip, AsksFor, IsBad}
-use Rattle.script_lines.specs.Replies.{Reply, ok, value, forced, bad, refused, full, end, object_value, command_count, stat, silence}
-use Rattle.explain_core.specs.World.{World, end_of}
-use Rattle.cache_manager.specs.Courses.{Course, Stop, grown}
-use Rattle.cache_manager.specs.Courses.Stop.{Through, Full, At_end, Worn}
-use Rattle.execution.specs.Courses.{append_course, command_length}
 use Rattle.oper_core.specs.Meaning.{Meaning}
+use Rattle.oper_core.specs.State.{State}
+use Rattle.oper_core.specs.declared.refusal.Refusal.{Refusal}
+use Rattle.oper_core.specs.declared.refusal.Refusal.TheVariants.{NoObject}
+use Rattle.formats.specs.declared.params.Params.{Params}
+use Rattle.explain_core.specs.History.{commands_of}
+use Rattle.explain_core.specs.World.{World, end_of}
+use Rattle.cache_manager.specs.Courses.{Course, Stop, course, grown}
+use Rattle.cache_manager.specs.Courses.Stop.{Through, Full, At_end, Worn}
+use Rattle.command_lists.specs.Lists.{commands_course}
+use Rattle.execution.specs.Courses.{append_course, command_length}
+use Rattle.script_lines.specs.declared.answer.Counts.{Counts}
+use Rattle.script_lines.specs.Grammar.{Request, put, copy, append, cut, sort, swap, exec, aread, awrite, arun, tinsert, tget, tdelete, trange, get, force, install, drain, checkpoint, trim, stat as asks_stat, skip, AsksFor, IsBad}
+use Rattle.script_lines.specs.Replies.{Reply, ok, ran, value, pairs, forced, bad, refused, bad_tree, tree_full, full, end, object_value, command_count, stat, summary, silence}
+use Rattle.redo_shell.specs.Made.{Made, AsksMade, AsksBehind, AsksTree, made, made_by, one_made, one_unless, tree_answer}
+use Rattle.redo_shell.specs.Replies.{AsksCommand, Replies, IsFull, IsNumbered, IsOver, IsUpkeep}
+use Rattle.redo_shell.specs.Stages.{Stage, Ends, GoesBy, IsQuestion, upkeep_course}
 use Rattle.redo_shell.specs.Store.{Command, meaning_in, refusal_after, state_of, record_length}
-use Rattle.redo_shell.specs.Replies.{AsksCommand, Replies, IsFull, IsUpkeep, IsNumbered}
-use Rattle.redo_shell.specs.Stages.{Stage, Ends, GoesBy, upkeep_course}
+use Rattle.redo_shell.proofs.MadeLemmas.{command_made, one_course}
 
--- the kinds of request distinguished by a number, and what they ask
-abbrev kind : Request → ℕ
-kind (put x bytes) = 0
-kind (copy x y) = 1
-kind (append x y) = 2
-kind (cut x y place) = 3
-kind (sort x y width) = 4
-kind (swap x y) = 5
-kind (exec app) = 6
-kind (aread app x) = 7
-kind (awrite app x) = 8
-kind (get x) = 9
-kind force = 10
-kind install = 11
-kind drain = 12
-kind checkpoint = 13
-kind trim = 14
-kind asks_stat = 15
-kind skip = 16
+-- the classes of requests: for commands, for upkeep, for a value, for pairs of a tree, and three by themselves
+abbrev class : Request → ℕ
+class install = 1
+class drain = 1
+class checkpoint = 1
+class trim = 1
+class (get x) = 2
+class (tget lo hi key) = 3
+class (trange lo hi from to) = 3
+class force = 4
+class asks_stat = 5
+class skip = 6
+class request = 0
 
-abbrev first_of : Request → ℕ
-first_of (put x bytes) = x
-first_of (copy x y) = x
-first_of (append x y) = x
-first_of (cut x y place) = x
-first_of (sort x y width) = x
-first_of (swap x y) = x
-first_of (exec app) = app
-first_of (aread app x) = app
-first_of (awrite app x) = app
-first_of (get x) = x
-first_of force = 0
-first_of install = 0
-first_of drain = 0
-first_of checkpoint = 0
-first_of trim = 0
-first_of asks_stat = 0
-first_of skip = 0
+-- which of them an answer may answer
+abbrev Allows : Reply → ℕ → Type 0
+Allows ok n = n ≤ 1
+Allows (ran k) n = n ≤ 0
+Allows (value bytes) n = (2 ≤ n) × (n ≤ 3)
+Allows (pairs pair others) n = (3 ≤ n) × (n ≤ 3)
+Allows (forced k) n = (4 ≤ n) × (n ≤ 4)
+Allows bad n = ⊥
+Allows (refused why) n = n ≤ 3
+Allows bad_tree n = n ≤ 3
+Allows tree_full n = n ≤ 0
+Allows (full used need limit) n = n ≤ 1
+Allows (end number) n = n ≤ 1
+Allows (stat counts) n = (5 ≤ n) × (n ≤ 5)
+Allows silence n = (6 ≤ n) × (n ≤ 6)
+Allows (object_value x bytes) n = ⊥
+Allows (command_count k) n = ⊥
+Allows (summary totals) n = ⊥
 
-abbrev second_of : Request → ℕ
-second_of (put x bytes) = 0
-second_of (copy x y) = y
-second_of (append x y) = y
-second_of (cut x y place) = y
-second_of (sort x y width) = y
-second_of (swap x y) = y
-second_of (exec app) = 0
-second_of (aread app x) = x
-second_of (awrite app x) = x
-second_of (get x) = 0
-second_of force = 0
-second_of install = 0
-second_of drain = 0
-second_of checkpoint = 0
-second_of trim = 0
-second_of asks_stat = 0
-second_of skip = 0
+made_class : (p : Params) (commands : List Command) (it : Made) (request : Request) → made_by p commands request ≡ Some it → class request ≡ 0
+made_class p commands it (put x bytes) is = refl
+made_class p commands it (copy x y) is = refl
+made_class p commands it (append x y) is = refl
+made_class p commands it (cut x y place) is = refl
+made_class p commands it (sort x y width) is = refl
+made_class p commands it (swap x y) is = refl
+made_class p commands it (exec app) is = refl
+made_class p commands it (aread app x) is = refl
+made_class p commands it (awrite app x) is = refl
+made_class p commands it (arun app n) is = refl
+made_class p commands it (tinsert lo hi key bytes) is = refl
+made_class p commands it (tdelete lo hi key) is = refl
+made_class p commands it request is = cc
 
-abbrev third_of : Request → ℕ
-third_of (put x bytes) = 0
-third_of (copy x y) = 0
-third_of (append x y) = 0
-third_of (cut x y place) = place
-third_of (sort x y width) = width
-third_of (swap x y) = 0
-third_of (exec app) = 0
-third_of (aread app x) = 0
-third_of (awrite app x) = 0
-third_of (get x) = 0
-third_of force = 0
-third_of install = 0
-third_of drain = 0
-third_of checkpoint = 0
-third_of trim = 0
-third_of asks_stat = 0
-third_of skip = 0
+upkeep_class : (request : Request) → IsUpkeep request → class request ≡ 1
+upkeep_class install is = refl
+upkeep_class drain is = refl
+upkeep_class checkpoint is = refl
+upkeep_class trim is = refl
+upkeep_class request is = absurd is
 
-abbrev bytes_of : Request → List ℕ
-bytes_of (put x bytes) = bytes
-bytes_of (copy x y) = []
-bytes_of (append x y) = []
-bytes_of (cut x y place) = []
-bytes_of (sort x y width) = []
-bytes_of (swap x y) = []
-bytes_of (exec app) = []
-bytes_of (aread app x) = []
-bytes_of (awrite app x) = []
-bytes_of (get x) = []
-bytes_of force = []
-bytes_of install = []
-bytes_of drain = []
-bytes_of checkpoint = []
-bytes_of trim = []
-bytes_of asks_stat = []
-bytes_of skip = []
+numbered_class : (request : Request) → IsNumbered request → class request ≡ 1
+numbered_class install is = refl
+numbered_class drain is = refl
+numbered_class trim is = refl
+numbered_class request is = absurd is
 
--- the request for a command; one that no line asks for has none of its own
-abbrev request_for : Command → Request
-request_for (Put op) = put op.object op.value
-request_for (Copy op) = copy op.from op.to
-request_for (Append op) = append op.from op.to
-request_for (Cut op) = cut op.from op.to op.place
-request_for (Sort op) = sort op.from op.to op.width
-request_for (Swap op) = swap op.first op.second
-request_for (Exec op) = exec op.app
-request_for (AppRead op) = aread op.app op.from
-request_for (AppWrite op) = awrite op.app op.to
-request_for op = skip
+tree_class : (p : Params) (s : State) (reply : Reply) (request : Request) → tree_answer p s request ≡ Some reply → class request ≡ 3
+tree_class p s reply (tget lo hi key) is = refl
+tree_class p s reply (trange lo hi from to) is = refl
+tree_class p s reply request is = cc
 
-asked : (line : List ℕ) (op : Command) → AsksCommand line op → AsksFor line (request_for op)
-asked line (Put op) asks = asks
-asked line (Copy op) asks = asks
-asked line (Append op) asks = asks
-asked line (Cut op) asks = asks
-asked line (Sort op) asks = asks
-asked line (Swap op) asks = asks
-asked line (Exec op) asks = asks
-asked line (AppRead op) asks = asks
-asked line (AppWrite op) asks = asks
-asked line op asks = absurd asks
+question_class : (request : Request) → IsQuestion request → (2 ≤ class request) × (class request ≤ 3)
+question_class (get x) is = (omega arith, omega arith)
+question_class (tget lo hi key) is = (omega arith, omega arith)
+question_class (trange lo hi from to) is = (omega arith, omega arith)
+question_class request is = absurd is
 
-command_kind : (line : List ℕ) (op : Command) → AsksCommand line op → kind (request_for op) < 9
-command_kind line (Put op) asks = omega arith
-command_kind line (Copy op) asks = omega arith
-command_kind line (Append op) asks = omega arith
-command_kind line (Cut op) asks = omega arith
-command_kind line (Sort op) asks = omega arith
-command_kind line (Swap op) asks = omega arith
-command_kind line (Exec op) asks = omega arith
-command_kind line (AppRead op) asks = omega arith
-command_kind line (AppWrite op) asks = omega arith
-command_kind line op asks = absurd asks
-
--- a request is for one command
-same_command : (line : List ℕ) (a b : Command) → AsksCommand line a → AsksCommand line b → request_for a ≡ request_for b → a ≡ b
-same_command line (Put a) (Put b) x y same = λ i. Put (record { object = first_of (same i); value = bytes_of (same i) })
-same_command line (Copy a) (Copy b) x y same = λ i. Copy (record { from = first_of (same i); to = second_of (same i) })
-same_command line (Append a) (Append b) x y same = λ i. Append (record { from = first_of (same i); to = second_of (same i) })
-same_command line (Cut a) (Cut b) x y same = λ i. Cut (record { from = first_of (same i); to = second_of (same i); place = third_of (same i) })
-same_command line (Sort a) (Sort b) x y same = λ i. Sort (record { from = first_of (same i); to = second_of (same i); width = third_of (same i) })
-same_command line (Swap a) (Swap b) x y same = λ i. Swap (record { first = first_of (same i); second = second_of (same i) })
-same_command line (Exec a) (Exec b) x y same = λ i. Exec (record { app = first_of (same i) })
-same_command line (AppRead a) (AppRead b) x y same = λ i. AppRead (record { app = first_of (same i); from = second_of (same i) })
-same_command line (AppWrite a) (AppWrite b) x y same = λ i. AppWrite (record { app = first_of (same i); to = second_of (same i) })
-same_command line (Node a) b x y same = absurd x
-same_command line a b x y same = let like = ap kind same in absurd (omega (arith, like))
-
--- requests that add no command are of their own kinds
-upkeep_kind : (request : Request) → IsUpkeep request → (10 < kind request) × (kind request < 15)
-upkeep_kind install is = (omega arith, omega arith)
-upkeep_kind drain is = (omega arith, omega arith)
-upkeep_kind checkpoint is = (omega arith, omega arith)
-upkeep_kind trim is = (omega arith, omega arith)
-upkeep_kind request is = absurd is
-
-numbered_upkeep : (request : Request) → IsNumbered request → IsUpkeep request
-numbered_upkeep install is = tt
-numbered_upkeep drain is = tt
-numbered_upkeep trim is = tt
-numbered_upkeep request is = absurd is
+-- how a command is answered
+by_refusal : (op : Command) {added : List Command} {reply : Reply} (refusal : Option Refusal) → made added reply ≡ one_unless op refusal
+    → ((refusal ≡ None) × (reply ≡ ok)) ⊎ ((why : Refusal) × (refusal ≡ Some why) × (reply ≡ refused why))
+by_refusal op None is = inl (refl, ap (λ (m : Made). m.reply) is)
+by_refusal op (Some why) is = inr (why, refl, ap (λ (m : Made). m.reply) is)
 
 -- how the course of a command's record is stopped
 module _ (m : Meaning Command) (limit : ℕ) (op : Command) (w : World Command) (used : ℕ) where
@@ -197,277 +118,342 @@ module _ (m : Meaning Command) (limit : ℕ) (op : Command) (w : World Command) 
       (λ fits. λ e more. absurd (let low : grown m w used n ≤ limit = grind (arith, nat_tests, fits) in omega (arith, low, more))) is
 
 module _ (p : Params) (commands : List Command) (line : List ℕ) where
-  -- the line asks for a command that gets this refusal, or for an object that there is not
-  abbrev IsRefused : Refusal → Type 0
-  IsRefused why = ((op : Command) × AsksCommand line op × (refusal_after p commands op ≡ Some why)) ⊎ ((object : ℕ) × AsksFor line (get object) × (p.objects ≤ object) × (why ≡ NoObject))
+  -- the line asks for what the answer may answer
+  abbrev AsksWithin : Reply → Type 0
+  AsksWithin reply = (request : Request) × AsksFor line request × Allows reply (class request)
 
-  -- it asks for a command that nothing refuses
-  abbrev IsAccepted : Type 0
-  IsAccepted = (op : Command) × AsksCommand line op × (refusal_after p commands op ≡ None)
+  of_made : {it : Made} (reply : Reply) → ((n : ℕ) → n ≡ 0 → Allows reply n) → AsksMade p commands line it → AsksWithin reply
+  of_made {it} reply may a = (a.request, a.asks, may (class a.request) (made_class p commands it a.request a.makes))
 
-  -- or for what adds no command
-  abbrev AsksUpkeep : Type 0
-  AsksUpkeep = (request : Request) × IsUpkeep request × AsksFor line request
+  of_tree : {answer : Reply} (reply : Reply) → ((n : ℕ) → n ≡ 3 → Allows reply n) → AsksTree p commands line answer → AsksWithin reply
+  of_tree {answer} reply may a = (a.request, a.asks, may (class a.request) (tree_class p (state_of p commands) answer a.request a.answers))
 
-  abbrev Works : Type 0
-  Works = IsAccepted ⊎ AsksUpkeep
+  of_upkeep : (reply : Reply) → ((n : ℕ) → n ≡ 1 → Allows reply n) → (request : Request) → IsUpkeep request → AsksFor line request → AsksWithin reply
+  of_upkeep reply may request is asks = (request, asks, may (class request) (upkeep_class request is))
 
-  of_ok : (added : List Command) → Replies p commands line ok added → Works
-  of_ok added is = ⊎_elim
-      (λ (c : (op : Command) × AsksCommand line op × (refusal_after p commands op ≡ None) × (length commands + 1 < 2 ^ 62) × (added ≡ op ∷ [])). inl (c.0, c.1, c.2))
-      (λ (u : (request : Request) × IsUpkeep request × AsksFor line request × (added ≡ [])). inr (u.0, u.1, u.2))
+  -- what an answer but `bad` was asked by
+  asked : (reply : Reply) (added : List Command) → Replies p commands line reply added → (reply ≡ bad → ⊥) → AsksWithin reply
+  asked ok added is other = ⊎_elim
+      (λ (m : AsksMade p commands line (made added ok) × (length (commands ++ added) < 2 ^ 62)). of_made ok (λ n e. omega (arith, e)) m.0)
+      (λ (u : (request : Request) × IsUpkeep request × AsksFor line request × (added ≡ [])). of_upkeep ok (λ n e. omega (arith, e)) u.0 u.1 u.2)
       is
-
-  of_full : (used need limit : ℕ) (added : List Command) → Replies p commands line (full used need limit) added → Works
-  of_full used need limit added is = ⊎_elim
-      (λ (c : (op : Command) × AsksCommand line op × (refusal_after p commands op ≡ None) × (need ≡ record_length p op + 5) × (limit ≡ p.limit)). inl (c.0, c.1, c.2))
-      (λ (u : (request : Request) × IsUpkeep request × AsksFor line request × (limit ≡ 2 ^ 48)). inr (u.0, u.1, u.2))
+  asked (ran k) added is other = of_made (ran k) (λ n e. omega (arith, e)) is
+  asked (value bytes) added is other = ⊎_elim
+      (λ (g : (object : ℕ) × AsksFor line (get object) × (object < p.objects) × (bytes ≡ state_of p commands object)). (get g.0, g.1, (omega arith, omega arith)))
+      (λ (t : AsksTree p commands line (value bytes)). of_tree (value bytes) (λ n e. (omega (arith, e), omega (arith, e))) t)
       is.0
-
-  of_end : (number : ℕ) (added : List Command) → Replies p commands line (end number) added → Works
-  of_end number added is = ⊎_elim
-      (λ (c : IsAccepted). inl c)
-      (λ (u : (request : Request) × IsNumbered request × AsksFor line request). inr (u.0, numbered_upkeep u.0 u.1, u.2))
-      is.0
-
-  asks_some : (why : Refusal) → IsRefused why → IsBad line → ⊥
-  asks_some why is none = ⊎_elim
-      (λ (c : (op : Command) × AsksCommand line op × (refusal_after p commands op ≡ Some why)). none (request_for c.0) (asked line c.0 c.1))
-      (λ (g : (object : ℕ) × AsksFor line (get object) × (p.objects ≤ object) × (why ≡ NoObject)). none (get g.0) g.1)
+  asked (pairs pair others) added is other = of_tree (pairs pair others) (λ n e. (omega (arith, e), omega (arith, e))) is.0
+  asked (forced n) added is other = (force, is.0, (omega arith, omega arith))
+  asked bad added is other = absurd (other refl)
+  asked (refused why) added is other = ⊎_elim
+      (λ (m : AsksMade p commands line (made added (refused why))). of_made (refused why) (λ n e. omega (arith, e)) m)
+      (λ (q : (((object : ℕ) × AsksFor line (get object) × (p.objects ≤ object) × (why ≡ NoObject)) ⊎ AsksTree p commands line (refused why)) × (added ≡ [])). ⊎_elim
+      (λ (g : (object : ℕ) × AsksFor line (get object) × (p.objects ≤ object) × (why ≡ NoObject)). (get g.0, g.1, omega arith))
+      (λ (t : AsksTree p commands line (refused why)). of_tree (refused why) (λ n e. omega (arith, e)) t)
+      q.0)
       is
-
-  works_some : Works → IsBad line → ⊥
-  works_some works none = ⊎_elim (λ (c : IsAccepted). none (request_for c.0) (asked line c.0 c.1)) (λ (u : AsksUpkeep). none u.0 u.2) works
+  asked bad_tree added is other = ⊎_elim
+      (λ (m : AsksMade p commands line (made added bad_tree)). of_made bad_tree (λ n e. omega (arith, e)) m)
+      (λ (t : AsksTree p commands line bad_tree × (added ≡ [])). of_tree bad_tree (λ n e. omega (arith, e)) t.0)
+      is
+  asked tree_full added is other = of_made tree_full (λ n e. omega (arith, e)) is
+  asked (full used need limit) added is other = ⊎_elim
+      (λ (b : (op : Command) × AsksBehind p commands line added op × (need ≡ record_length p op + 5) × (limit ≡ p.limit) × (limit < used + need)). of_made (full used need limit) (λ n e. omega (arith, e)) b.1.asks)
+      (λ (u : (request : Request) × IsUpkeep request × AsksFor line request × (limit ≡ 2 ^ 48) × IsOver request used need limit × (added ≡ [])). of_upkeep (full used need limit) (λ n e. omega (arith, e)) u.0 u.1 u.2)
+      is
+  asked (end number) added is other = ⊎_elim
+      (λ (b : (op : Command) × AsksBehind p commands line added op). of_made (end number) (λ n e. omega (arith, e)) b.1.asks)
+      (λ (u : (request : Request) × IsNumbered request × AsksFor line request × (added ≡ [])). (u.0, u.2, let same = numbered_class u.0 u.1 in omega (arith, same)))
+      is.0
+  asked (stat counts) added is other = (asks_stat, is.0, (omega arith, omega arith))
+  asked silence added is other = (skip, is.0, (omega arith, omega arith))
+  asked (object_value x bytes) added is other = absurd is
+  asked (command_count n) added is other = absurd is
+  asked (summary totals) added is other = absurd is
 
   pub bad_exactly : (reply : Reply) (added : List Command) → Replies p commands line reply added → (reply ≡ bad) ↔ IsBad line
-  bad_exactly ok added is = (λ e. cc, λ none. absurd (works_some (of_ok added is) none))
-  bad_exactly (value bytes) added is = (λ e. cc, λ none. absurd (none (get is.0) is.1))
-  bad_exactly (forced n) added is = (λ e. cc, λ none. absurd (none force is.0))
   bad_exactly bad added is = (λ e. is.0, λ none. refl)
-  bad_exactly (refused why) added is = (λ e. cc, λ none. absurd (asks_some why is.0 none))
-  bad_exactly (full used need limit) added is = (λ e. cc, λ none. absurd (works_some (of_full used need limit added is) none))
-  bad_exactly (end number) added is = (λ e. cc, λ none. absurd (works_some (of_end number added is) none))
-  bad_exactly (stat counts) added is = (λ e. cc, λ none. absurd (none asks_stat is.0))
-  bad_exactly silence added is = (λ e. cc, λ none. absurd (none skip is.0))
-  bad_exactly (object_value object bytes) added is = absurd is
+  bad_exactly ok added is = (λ e. cc, λ none. let a = asked ok added is (λ e. cc) in absurd (none a.0 a.1))
+  bad_exactly (ran k) added is = (λ e. cc, λ none. let a = asked (ran k) added is (λ e. cc) in absurd (none a.0 a.1))
+  bad_exactly (value bytes) added is = (λ e. cc, λ none. let a = asked (value bytes) added is (λ e. cc) in absurd (none a.0 a.1))
+  bad_exactly (pairs pair others) added is = (λ e. cc, λ none. let a = asked (pairs pair others) added is (λ e. cc) in absurd (none a.0 a.1))
+  bad_exactly (forced n) added is = (λ e. cc, λ none. let a = asked (forced n) added is (λ e. cc) in absurd (none a.0 a.1))
+  bad_exactly (refused why) added is = (λ e. cc, λ none. let a = asked (refused why) added is (λ e. cc) in absurd (none a.0 a.1))
+  bad_exactly bad_tree added is = (λ e. cc, λ none. let a = asked bad_tree added is (λ e. cc) in absurd (none a.0 a.1))
+  bad_exactly tree_full added is = (λ e. cc, λ none. let a = asked tree_full added is (λ e. cc) in absurd (none a.0 a.1))
+  bad_exactly (full used need limit) added is = (λ e. cc, λ none. let a = asked (full used need limit) added is (λ e. cc) in absurd (none a.0 a.1))
+  bad_exactly (end number) added is = (λ e. cc, λ none. let a = asked (end number) added is (λ e. cc) in absurd (none a.0 a.1))
+  bad_exactly (stat counts) added is = (λ e. cc, λ none. let a = asked (stat counts) added is (λ e. cc) in absurd (none a.0 a.1))
+  bad_exactly silence added is = (λ e. cc, λ none. let a = asked silence added is (λ e. cc) in absurd (none a.0 a.1))
+  bad_exactly (object_value x bytes) added is = absurd is
   bad_exactly (command_count n) added is = absurd is
+  bad_exactly (summary totals) added is = absurd is
 
   module _ (one : (a b : Request) → AsksFor line a → AsksFor line b → a ≡ b) where
-    -- requests of two kinds are not both asked
-    clash : (a b : Request) → AsksFor line a → AsksFor line b → kind a ≢ kind b → ⊥
-    clash a b x y other = other (ap kind (one a b x y))
+    -- an answer to a line that asks for this may answer it
+    fits : (r : Request) → AsksFor line r → (reply : Reply) (added : List Command) → Replies p commands line reply added → (reply ≡ bad → ⊥) → Allows reply (class r)
+    fits r asks reply added is other = let a = asked reply added is other in subst (λ (x : Request). Allows reply (class x)) (one a.0 r a.1 asks) a.2
 
-    not_get : (op : Command) (object : ℕ) → AsksCommand line op → AsksFor line (get object) → ⊥
-    not_get op object asks get_asked = clash (request_for op) (get object) (asked line op asks) get_asked (λ e. let low = command_kind line op asks in omega (arith, e, low))
+    made_clash : {it : Made} (r : Request) → AsksFor line r → (class r ≡ 0 → ⊥) → AsksMade p commands line it → ⊥
+    made_clash {it} r asks other a = other (ap class (one r a.request asks a.asks) ∙ made_class p commands it a.request a.makes)
 
-    not_force : (op : Command) → AsksCommand line op → AsksFor line force → ⊥
-    not_force op asks force_asked = clash (request_for op) force (asked line op asks) force_asked (λ e. let low = command_kind line op asks in omega (arith, e, low))
+    tree_clash : {answer : Reply} (r : Request) → AsksFor line r → (class r ≡ 3 → ⊥) → AsksTree p commands line answer → ⊥
+    tree_clash {answer} r asks other a = other (ap class (one r a.request asks a.asks) ∙ tree_class p (state_of p commands) answer a.request a.answers)
 
-    not_skip : (op : Command) → AsksCommand line op → AsksFor line skip → ⊥
-    not_skip op asks skip_asked = clash (request_for op) skip (asked line op asks) skip_asked (λ e. let low = command_kind line op asks in omega (arith, e, low))
+    -- what a command's line asks for
+    made_is : {commands : List Command} {it : Made} (op : Command) → AsksCommand line op → AsksMade p commands line it → it ≡ one_made p commands op
+    made_is {commands} {it} op asks a =
+        let mine = command_made p commands line op asks in
+        let same : Some it ≡ Some (one_made p commands op) = sym a.makes ∙ ap (made_by p commands) (one a.request mine.request a.asks mine.asks) ∙ mine.makes in
+        cc same
 
-    not_stat : (op : Command) → AsksCommand line op → AsksFor line asks_stat → ⊥
-    not_stat op asks stat_asked = clash (request_for op) asks_stat (asked line op asks) stat_asked (λ e. let low = command_kind line op asks in omega (arith, e, low))
+    command_class : (op : Command) → AsksCommand line op → (reply : Reply) (added : List Command) → Replies p commands line reply added → (reply ≡ bad → ⊥) → Allows reply 0
+    command_class op asks reply added is other =
+        let mine = command_made p commands line op asks in
+        subst (λ (n : ℕ). Allows reply n) (made_class p commands (one_made p commands op) mine.request mine.makes) (fits mine.request mine.asks reply added is other)
 
-    not_upkeep : (op : Command) → AsksCommand line op → AsksUpkeep → ⊥
-    not_upkeep op asks (request, is, upkeep_asked) = clash (request_for op) request (asked line op asks) upkeep_asked
-        (λ e. let low = command_kind line op asks in let high = upkeep_kind request is in omega (arith, e, low, high.0))
+    answer_of : (op : Command) (reply : Reply) (added : List Command) → AsksCommand line op → AsksMade p commands line (made added reply)
+        → ((refusal_after p commands op ≡ None) × (reply ≡ ok)) ⊎ ((why : Refusal) × (refusal_after p commands op ≡ Some why) × (reply ≡ refused why))
+    answer_of op reply added asks a = by_refusal op (refusal_after p commands op) (made_is op asks a)
 
-    get_force : (object : ℕ) → AsksFor line (get object) → AsksFor line force → ⊥
-    get_force object asked other = clash (get object) force asked other (λ e. omega (arith, e))
-
-    get_skip : (object : ℕ) → AsksFor line (get object) → AsksFor line skip → ⊥
-    get_skip object asked other = clash (get object) skip asked other (λ e. omega (arith, e))
-
-    get_stat : (object : ℕ) → AsksFor line (get object) → AsksFor line asks_stat → ⊥
-    get_stat object asked other = clash (get object) asks_stat asked other (λ e. omega (arith, e))
-
-    force_skip : AsksFor line force → AsksFor line skip → ⊥
-    force_skip asked other = clash force skip asked other (λ e. omega (arith, e))
-
-    force_stat : AsksFor line force → AsksFor line asks_stat → ⊥
-    force_stat asked other = clash force asks_stat asked other (λ e. omega (arith, e))
-
-    skip_stat : AsksFor line skip → AsksFor line asks_stat → ⊥
-    skip_stat asked other = clash skip asks_stat asked other (λ e. omega (arith, e))
-
-    works_get : Works → (object : ℕ) → AsksFor line (get object) → ⊥
-    works_get works object asks = ⊎_elim (λ (c : IsAccepted). not_get c.0 object c.1 asks)
-        (λ (u : AsksUpkeep). clash u.0 (get object) u.2 asks (λ e. let high = upkeep_kind u.0 u.1 in omega (arith, e, high.0))) works
-
-    works_force : Works → AsksFor line force → ⊥
-    works_force works asks = ⊎_elim (λ (c : IsAccepted). not_force c.0 c.1 asks)
-        (λ (u : AsksUpkeep). clash u.0 force u.2 asks (λ e. let high = upkeep_kind u.0 u.1 in omega (arith, e, high.0))) works
-
-    works_skip : Works → AsksFor line skip → ⊥
-    works_skip works asks = ⊎_elim (λ (c : IsAccepted). not_skip c.0 c.1 asks)
-        (λ (u : AsksUpkeep). clash u.0 skip u.2 asks (λ e. let high = upkeep_kind u.0 u.1 in omega (arith, e, high.1))) works
-
-    works_stat : Works → AsksFor line asks_stat → ⊥
-    works_stat works asks = ⊎_elim (λ (c : IsAccepted). not_stat c.0 c.1 asks)
-        (λ (u : AsksUpkeep). clash u.0 asks_stat u.2 asks (λ e. let high = upkeep_kind u.0 u.1 in omega (arith, e, high.1))) works
-
-    refused_stat : (why : Refusal) → IsRefused why → AsksFor line asks_stat → ⊥
-    refused_stat why is asks = ⊎_elim
-        (λ (c : (a : Command) × AsksCommand line a × (refusal_after p commands a ≡ Some why)). not_stat c.0 c.1 asks)
-        (λ (g : (x : ℕ) × AsksFor line (get x) × (p.objects ≤ x) × (why ≡ NoObject)). get_stat g.0 g.1 asks)
-        is
-
-    same_object : (a b : ℕ) → AsksFor line (get a) → AsksFor line (get b) → a ≡ b
-    same_object a b x y = ap first_of (one (get a) (get b) x y)
-
-    one_command : (a b : Command) → AsksCommand line a → AsksCommand line b → a ≡ b
-    one_command a b x y = same_command line a b x y (one (request_for a) (request_for b) (asked line a x) (asked line b y))
-
-    not_refused : (a b : Command) (why : Refusal) → AsksCommand line a → AsksCommand line b → refusal_after p commands a ≡ None → refusal_after p commands b ≡ Some why → ⊥
-    not_refused a b why x y none some =
-        let same = subst (λ (op : Command). refusal_after p commands op ≡ None) (one_command a b x y) none in
-        cc (same, some)
-
-    works_refused : Works → (op : Command) (why : Refusal) → AsksCommand line op → refusal_after p commands op ≡ Some why → ⊥
-    works_refused works op why asks some = ⊎_elim (λ (c : IsAccepted). not_refused c.0 op why c.1 asks c.2 some) (λ (u : AsksUpkeep). not_upkeep op asks u) works
-
-    same_refusal : (op : Command) (other : Refusal) → AsksCommand line op → IsRefused other → refusal_after p commands op ≡ Some other
-    same_refusal op other asks is = ⊎_elim
-        (λ (c : (a : Command) × AsksCommand line a × (refusal_after p commands a ≡ Some other)). subst (λ (x : Command). refusal_after p commands x ≡ Some other) (one_command c.0 op c.1 asks) c.2)
-        (λ (g : (object : ℕ) × AsksFor line (get object) × (p.objects ≤ object) × (other ≡ NoObject)). absurd (not_get op g.0 asks g.1))
-        is
+    -- one that comes behind others, or is the first, is refused by nothing
+    nothing_refuses : (op first : Command) (front : List Command) → AsksCommand line op → AsksBehind p commands line front first → refusal_after p commands op ≡ None
+    nothing_refuses op first front asks b = some_left (refusal_after p commands op) refl
+      where
+        some_left : (refusal : Option Refusal) → refusal_after p commands op ≡ refusal → refusal_after p commands op ≡ None
+        some_left None is = is
+        some_left (Some why) is =
+            let none : b.it.ops ≡ [] = ap (λ (m : Made). m.ops) (made_is op asks b.asks) ∙ ap (λ (r : Option Refusal). (one_unless op r).ops) is in
+            absurd (no_front front first b.rest (sym b.next ∙ none))
+          where
+            no_front : (front : List Command) (first : Command) (rest : List Command) → front ++ first ∷ rest ≡ [] → ⊥
+            no_front [] first rest e = cc
+            no_front (x ∷ front) first rest e = cc
 
     pub refused_exactly : (reply : Reply) (added : List Command) (op : Command) (why : Refusal) → Replies p commands line reply added → AsksCommand line op → (reply ≡ refused why) ↔ (refusal_after p commands op ≡ Some why)
-    refused_exactly ok added op why is asks = (λ e. cc, λ some. absurd (works_refused (of_ok added is) op why asks some))
-    refused_exactly (value bytes) added op why is asks = absurd (not_get op is.0 asks is.1)
-    refused_exactly (forced n) added op why is asks = absurd (not_force op asks is.0)
-    refused_exactly bad added op why is asks = absurd (is.0 (request_for op) (asked line op asks))
-    refused_exactly (refused other) added op why is asks =
-        let mine = same_refusal op other asks is.0 in
-        (λ e. cc (e, mine), λ some. cc (some, mine))
-    refused_exactly (full used need limit) added op why is asks = (λ e. cc, λ some. absurd (works_refused (of_full used need limit added is) op why asks some))
-    refused_exactly (end number) added op why is asks = (λ e. cc, λ some. absurd (works_refused (of_end number added is) op why asks some))
-    refused_exactly (stat counts) added op why is asks = absurd (not_stat op asks is.0)
-    refused_exactly silence added op why is asks = absurd (not_skip op asks is.0)
+    refused_exactly ok added op why is asks = ⊎_elim
+        (λ (m : AsksMade p commands line (made added ok) × (length (commands ++ added) < 2 ^ 62)).
+        ⊎_elim (λ (none : (refusal_after p commands op ≡ None) × (ok ≡ ok)). (λ e. cc, λ some. cc (some, none.0)))
+        (λ (other : (why : Refusal) × (refusal_after p commands op ≡ Some why) × (ok ≡ refused why)). absurd (let e = other.2 in cc e))
+        (answer_of op ok added asks m.0))
+        (λ (u : (request : Request) × IsUpkeep request × AsksFor line request × (added ≡ [])). absurd (made_clash u.0 u.2 (λ e. let same = upkeep_class u.0 u.1 in omega (arith, e, same)) (command_made p commands line op asks)))
+        is
+    refused_exactly (ran k) added op why is asks =
+        ⊎_elim (λ (none : (refusal_after p commands op ≡ None) × (ran k ≡ ok)). absurd (let e = none.1 in cc e))
+        (λ (other : (why : Refusal) × (refusal_after p commands op ≡ Some why) × (ran k ≡ refused why)). absurd (let e = other.2 in cc e))
+        (answer_of op (ran k) added asks is)
+    refused_exactly (value bytes) added op why is asks = absurd (let a = command_class op asks (value bytes) added is (λ e. cc) in omega (arith, a.0))
+    refused_exactly (pairs pair others) added op why is asks = absurd (let a = command_class op asks (pairs pair others) added is (λ e. cc) in omega (arith, a.0))
+    refused_exactly (forced n) added op why is asks = absurd (let a = command_class op asks (forced n) added is (λ e. cc) in omega (arith, a.0))
+    refused_exactly bad added op why is asks = absurd (let mine = command_made p commands line op asks in is.0 mine.request mine.asks)
+    refused_exactly (refused other) added op why is asks = ⊎_elim
+        (λ (m : AsksMade p commands line (made added (refused other))).
+        ⊎_elim (λ (none : (refusal_after p commands op ≡ None) × (refused other ≡ ok)). absurd (let e = none.1 in cc e))
+        (λ (some : (x : Refusal) × (refusal_after p commands op ≡ Some x) × (refused other ≡ refused x)). let mine = some.1 in let same = some.2 in (λ e. cc (e, mine, same), λ here. cc (here, mine, same)))
+        (answer_of op (refused other) added asks m))
+        (λ (q : (((object : ℕ) × AsksFor line (get object) × (p.objects ≤ object) × (other ≡ NoObject)) ⊎ AsksTree p commands line (refused other)) × (added ≡ [])). absurd (⊎_elim
+        (λ (g : (object : ℕ) × AsksFor line (get object) × (p.objects ≤ object) × (other ≡ NoObject)). made_clash (get g.0) g.1 (λ e. omega (arith, e)) (command_made p commands line op asks))
+        (λ (t : AsksTree p commands line (refused other)). let mine = command_made p commands line op asks in
+        tree_clash mine.request mine.asks (λ e. let same = made_class p commands (one_made p commands op) mine.request mine.makes in omega (arith, e, same)) t)
+        q.0))
+        is
+    refused_exactly bad_tree added op why is asks = ⊎_elim
+        (λ (m : AsksMade p commands line (made added bad_tree)).
+        ⊎_elim (λ (none : (refusal_after p commands op ≡ None) × (bad_tree ≡ ok)). absurd (let e = none.1 in cc e))
+        (λ (other : (why : Refusal) × (refusal_after p commands op ≡ Some why) × (bad_tree ≡ refused why)). absurd (let e = other.2 in cc e))
+        (answer_of op bad_tree added asks m))
+        (λ (t : AsksTree p commands line bad_tree × (added ≡ [])). let mine = command_made p commands line op asks in
+        absurd (tree_clash mine.request mine.asks (λ e. let same = made_class p commands (one_made p commands op) mine.request mine.makes in omega (arith, e, same)) t.0))
+        is
+    refused_exactly tree_full added op why is asks =
+        ⊎_elim (λ (none : (refusal_after p commands op ≡ None) × (tree_full ≡ ok)). absurd (let e = none.1 in cc e))
+        (λ (other : (why : Refusal) × (refusal_after p commands op ≡ Some why) × (tree_full ≡ refused why)). absurd (let e = other.2 in cc e))
+        (answer_of op tree_full added asks is)
+    refused_exactly (full used need limit) added op why is asks = ⊎_elim
+        (λ (b : (first : Command) × AsksBehind p commands line added first × (need ≡ record_length p first + 5) × (limit ≡ p.limit) × (limit < used + need)).
+        let none = nothing_refuses op b.0 added asks b.1 in (λ e. cc, λ some. cc (some, none)))
+        (λ (u : (request : Request) × IsUpkeep request × AsksFor line request × (limit ≡ 2 ^ 48) × IsOver request used need limit × (added ≡ [])).
+        absurd (made_clash u.0 u.2 (λ e. let same = upkeep_class u.0 u.1 in omega (arith, e, same)) (command_made p commands line op asks)))
+        is
+    refused_exactly (end number) added op why is asks = ⊎_elim
+        (λ (b : (first : Command) × AsksBehind p commands line added first). let none = nothing_refuses op b.0 added asks b.1 in (λ e. cc, λ some. cc (some, none)))
+        (λ (u : (request : Request) × IsNumbered request × AsksFor line request × (added ≡ [])). absurd (made_clash u.0 u.2 (λ e. let same = numbered_class u.0 u.1 in omega (arith, e, same)) (command_made p commands line op asks)))
+        is.0
+    refused_exactly (stat counts) added op why is asks = absurd (let a = command_class op asks (stat counts) added is (λ e. cc) in omega (arith, a.0))
+    refused_exactly silence added op why is asks = absurd (let a = command_class op asks silence added is (λ e. cc) in omega (arith, a.0))
     refused_exactly (object_value object bytes) added op why is asks = absurd is
     refused_exactly (command_count n) added op why is asks = absurd is
+    refused_exactly (summary totals) added op why is asks = absurd is
 
-    no_such : (object : ℕ) (why : Refusal) → AsksFor line (get object) → IsRefused why → (p.objects ≤ object) × (why ≡ NoObject)
-    no_such object why asks is = ⊎_elim
-        (λ (c : (a : Command) × AsksCommand line a × (refusal_after p commands a ≡ Some why)). absurd (not_get c.0 object c.1 asks))
+    same_object : (a b : ℕ) → AsksFor line (get a) → AsksFor line (get b) → a ≡ b
+    same_object a b x y = let same = one (get a) (get b) x y in cc same
+
+    none_there : (why : Refusal) (added : List Command) (object : ℕ) → Replies p commands line (refused why) added → AsksFor line (get object) → (p.objects ≤ object) × (why ≡ NoObject)
+    none_there why added object is asks = ⊎_elim
+        (λ (m : AsksMade p commands line (made added (refused why))). absurd (made_clash (get object) asks (λ e. omega (arith, e)) m))
+        (λ (q : (((x : ℕ) × AsksFor line (get x) × (p.objects ≤ x) × (why ≡ NoObject)) ⊎ AsksTree p commands line (refused why)) × (added ≡ [])). ⊎_elim
         (λ (g : (x : ℕ) × AsksFor line (get x) × (p.objects ≤ x) × (why ≡ NoObject)). (subst (λ (x : ℕ). p.objects ≤ x) (same_object g.0 object g.1 asks) g.2, g.3))
+        (λ (t : AsksTree p commands line (refused why)). absurd (tree_clash (get object) asks (λ e. omega (arith, e)) t))
+        q.0)
         is
 
     pub no_object_exactly : (reply : Reply) (added : List Command) (object : ℕ) → Replies p commands line reply added → AsksFor line (get object) → (reply ≡ refused NoObject) ↔ (p.objects ≤ object)
-    no_object_exactly ok added object is asks = absurd (works_get (of_ok added is) object asks)
-    no_object_exactly (value bytes) added object is asks = (λ e. cc, λ high. absurd (omega (arith, high, is.2, same_object is.0 object is.1 asks)))
-    no_object_exactly (forced n) added object is asks = absurd (get_force object asks is.0)
+    no_object_exactly ok added object is asks = absurd (let a = fits (get object) asks ok added is (λ e. cc) in omega (arith, a))
+    no_object_exactly (ran k) added object is asks = absurd (let a = fits (get object) asks (ran k) added is (λ e. cc) in omega (arith, a))
+    no_object_exactly (value bytes) added object is asks = ⊎_elim
+        (λ (g : (x : ℕ) × AsksFor line (get x) × (x < p.objects) × (bytes ≡ state_of p commands x)). (λ e. cc, λ high. absurd (omega (arith, high, g.2, same_object g.0 object g.1 asks))))
+        (λ (t : AsksTree p commands line (value bytes)). absurd (tree_clash (get object) asks (λ e. omega (arith, e)) t))
+        is.0
+    no_object_exactly (pairs pair others) added object is asks = absurd (let a = fits (get object) asks (pairs pair others) added is (λ e. cc) in omega (arith, a.0))
+    no_object_exactly (forced n) added object is asks = absurd (let a = fits (get object) asks (forced n) added is (λ e. cc) in omega (arith, a.0))
     no_object_exactly bad added object is asks = absurd (is.0 (get object) asks)
-    no_object_exactly (refused why) added object is asks = let here = no_such object why asks is.0 in (λ e. here.0, λ high. ap (λ (w : Refusal). refused w) here.1)
-    no_object_exactly (full used need limit) added object is asks = absurd (works_get (of_full used need limit added is) object asks)
-    no_object_exactly (end number) added object is asks = absurd (works_get (of_end number added is) object asks)
-    no_object_exactly (stat counts) added object is asks = absurd (get_stat object asks is.0)
-    no_object_exactly silence added object is asks = absurd (get_skip object asks is.0)
+    no_object_exactly (refused why) added object is asks = let here = none_there why added object is asks in (λ e. here.0, λ high. ap (λ (w : Refusal). refused w) here.1)
+    no_object_exactly bad_tree added object is asks = absurd (⊎_elim
+        (λ (m : AsksMade p commands line (made added bad_tree)). made_clash (get object) asks (λ e. omega (arith, e)) m)
+        (λ (t : AsksTree p commands line bad_tree × (added ≡ [])). tree_clash (get object) asks (λ e. omega (arith, e)) t.0)
+        is)
+    no_object_exactly tree_full added object is asks = absurd (let a = fits (get object) asks tree_full added is (λ e. cc) in omega (arith, a))
+    no_object_exactly (full used need limit) added object is asks = absurd (let a = fits (get object) asks (full used need limit) added is (λ e. cc) in omega (arith, a))
+    no_object_exactly (end number) added object is asks = absurd (let a = fits (get object) asks (end number) added is (λ e. cc) in omega (arith, a))
+    no_object_exactly (stat counts) added object is asks = absurd (let a = fits (get object) asks (stat counts) added is (λ e. cc) in omega (arith, a.0))
+    no_object_exactly silence added object is asks = absurd (let a = fits (get object) asks silence added is (λ e. cc) in omega (arith, a.0))
     no_object_exactly (object_value x bytes) added object is asks = absurd is
     no_object_exactly (command_count n) added object is asks = absurd is
+    no_object_exactly (summary totals) added object is asks = absurd is
 
     pub value_exactly : (reply : Reply) (added : List Command) (object : ℕ) → Replies p commands line reply added → AsksFor line (get object) → object < p.objects → reply ≡ value (state_of p commands object)
-    value_exactly ok added object is asks low = absurd (works_get (of_ok added is) object asks)
-    value_exactly (value bytes) added object is asks low = ap (λ (v : List ℕ). value v) (is.3 ∙ ap (λ (x : ℕ). state_of p commands x) (same_object is.0 object is.1 asks))
-    value_exactly (forced n) added object is asks low = absurd (get_force object asks is.0)
+    value_exactly ok added object is asks low = absurd (let a = fits (get object) asks ok added is (λ e. cc) in omega (arith, a))
+    value_exactly (ran k) added object is asks low = absurd (let a = fits (get object) asks (ran k) added is (λ e. cc) in omega (arith, a))
+    value_exactly (value bytes) added object is asks low = ⊎_elim
+        (λ (g : (x : ℕ) × AsksFor line (get x) × (x < p.objects) × (bytes ≡ state_of p commands x)). ap (λ (v : List ℕ). value v) (g.3 ∙ ap (λ (x : ℕ). state_of p commands x) (same_object g.0 object g.1 asks)))
+        (λ (t : AsksTree p commands line (value bytes)). absurd (tree_clash (get object) asks (λ e. omega (arith, e)) t))
+        is.0
+    value_exactly (pairs pair others) added object is asks low = absurd (let a = fits (get object) asks (pairs pair others) added is (λ e. cc) in omega (arith, a.0))
+    value_exactly (forced n) added object is asks low = absurd (let a = fits (get object) asks (forced n) added is (λ e. cc) in omega (arith, a.0))
     value_exactly bad added object is asks low = absurd (is.0 (get object) asks)
-    value_exactly (refused why) added object is asks low = let here = no_such object why asks is.0 in absurd (omega (arith, low, here.0))
-    value_exactly (full used need limit) added object is asks low = absurd (works_get (of_full used need limit added is) object asks)
-    value_exactly (end number) added object is asks low = absurd (works_get (of_end number added is) object asks)
-    value_exactly (stat counts) added object is asks low = absurd (get_stat object asks is.0)
-    value_exactly silence added object is asks low = absurd (get_skip object asks is.0)
+    value_exactly (refused why) added object is asks low = let here = none_there why added object is asks in absurd (omega (arith, low, here.0))
+    value_exactly bad_tree added object is asks low = absurd (⊎_elim
+        (λ (m : AsksMade p commands line (made added bad_tree)). made_clash (get object) asks (λ e. omega (arith, e)) m)
+        (λ (t : AsksTree p commands line bad_tree × (added ≡ [])). tree_clash (get object) asks (λ e. omega (arith, e)) t.0)
+        is)
+    value_exactly tree_full added object is asks low = absurd (let a = fits (get object) asks tree_full added is (λ e. cc) in omega (arith, a))
+    value_exactly (full used need limit) added object is asks low = absurd (let a = fits (get object) asks (full used need limit) added is (λ e. cc) in omega (arith, a))
+    value_exactly (end number) added object is asks low = absurd (let a = fits (get object) asks (end number) added is (λ e. cc) in omega (arith, a))
+    value_exactly (stat counts) added object is asks low = absurd (let a = fits (get object) asks (stat counts) added is (λ e. cc) in omega (arith, a.0))
+    value_exactly silence added object is asks low = absurd (let a = fits (get object) asks silence added is (λ e. cc) in omega (arith, a.0))
     value_exactly (object_value x bytes) added object is asks low = absurd is
     value_exactly (command_count n) added object is asks low = absurd is
-
-    not_forced : (why : Refusal) → AsksFor line force → IsRefused why → ⊥
-    not_forced why asks is = ⊎_elim
-        (λ (c : (a : Command) × AsksCommand line a × (refusal_after p commands a ≡ Some why)). not_force c.0 c.1 asks)
-        (λ (g : (x : ℕ) × AsksFor line (get x) × (p.objects ≤ x) × (why ≡ NoObject)). get_force g.0 g.1 asks)
-        is
+    value_exactly (summary totals) added object is asks low = absurd is
 
     pub forced_exactly : (reply : Reply) (added : List Command) → Replies p commands line reply added → AsksFor line force → reply ≡ forced (length commands)
-    forced_exactly ok added is asks = absurd (works_force (of_ok added is) asks)
-    forced_exactly (value bytes) added is asks = absurd (get_force is.0 is.1 asks)
+    forced_exactly ok added is asks = absurd (let a = fits force asks ok added is (λ e. cc) in omega (arith, a))
+    forced_exactly (ran k) added is asks = absurd (let a = fits force asks (ran k) added is (λ e. cc) in omega (arith, a))
+    forced_exactly (value bytes) added is asks = absurd (let a = fits force asks (value bytes) added is (λ e. cc) in omega (arith, a.1))
+    forced_exactly (pairs pair others) added is asks = absurd (let a = fits force asks (pairs pair others) added is (λ e. cc) in omega (arith, a.1))
     forced_exactly (forced n) added is asks = ap (λ (k : ℕ). forced k) is.1
     forced_exactly bad added is asks = absurd (is.0 force asks)
-    forced_exactly (refused why) added is asks = absurd (not_forced why asks is.0)
-    forced_exactly (full used need limit) added is asks = absurd (works_force (of_full used need limit added is) asks)
-    forced_exactly (end number) added is asks = absurd (works_force (of_end number added is) asks)
-    forced_exactly (stat counts) added is asks = absurd (force_stat asks is.0)
-    forced_exactly silence added is asks = absurd (force_skip asks is.0)
+    forced_exactly (refused why) added is asks = absurd (let a = fits force asks (refused why) added is (λ e. cc) in omega (arith, a))
+    forced_exactly bad_tree added is asks = absurd (let a = fits force asks bad_tree added is (λ e. cc) in omega (arith, a))
+    forced_exactly tree_full added is asks = absurd (let a = fits force asks tree_full added is (λ e. cc) in omega (arith, a))
+    forced_exactly (full used need limit) added is asks = absurd (let a = fits force asks (full used need limit) added is (λ e. cc) in omega (arith, a))
+    forced_exactly (end number) added is asks = absurd (let a = fits force asks (end number) added is (λ e. cc) in omega (arith, a))
+    forced_exactly (stat counts) added is asks = absurd (let a = fits force asks (stat counts) added is (λ e. cc) in omega (arith, a.0))
+    forced_exactly silence added is asks = absurd (let a = fits force asks silence added is (λ e. cc) in omega (arith, a.0))
     forced_exactly (object_value object bytes) added is asks = absurd is
     forced_exactly (command_count n) added is asks = absurd is
-
-    not_skipped : (why : Refusal) → AsksFor line skip → IsRefused why → ⊥
-    not_skipped why asks is = ⊎_elim
-        (λ (c : (a : Command) × AsksCommand line a × (refusal_after p commands a ≡ Some why)). not_skip c.0 c.1 asks)
-        (λ (g : (x : ℕ) × AsksFor line (get x) × (p.objects ≤ x) × (why ≡ NoObject)). get_skip g.0 g.1 asks)
-        is
+    forced_exactly (summary totals) added is asks = absurd is
 
     pub silence_exactly : (reply : Reply) (added : List Command) → Replies p commands line reply added → AsksFor line skip → reply ≡ silence
-    silence_exactly ok added is asks = absurd (works_skip (of_ok added is) asks)
-    silence_exactly (value bytes) added is asks = absurd (get_skip is.0 is.1 asks)
-    silence_exactly (forced n) added is asks = absurd (force_skip is.0 asks)
+    silence_exactly ok added is asks = absurd (let a = fits skip asks ok added is (λ e. cc) in omega (arith, a))
+    silence_exactly (ran k) added is asks = absurd (let a = fits skip asks (ran k) added is (λ e. cc) in omega (arith, a))
+    silence_exactly (value bytes) added is asks = absurd (let a = fits skip asks (value bytes) added is (λ e. cc) in omega (arith, a.1))
+    silence_exactly (pairs pair others) added is asks = absurd (let a = fits skip asks (pairs pair others) added is (λ e. cc) in omega (arith, a.1))
+    silence_exactly (forced n) added is asks = absurd (let a = fits skip asks (forced n) added is (λ e. cc) in omega (arith, a.1))
     silence_exactly bad added is asks = absurd (is.0 skip asks)
-    silence_exactly (refused why) added is asks = absurd (not_skipped why asks is.0)
-    silence_exactly (full used need limit) added is asks = absurd (works_skip (of_full used need limit added is) asks)
-    silence_exactly (end number) added is asks = absurd (works_skip (of_end number added is) asks)
-    silence_exactly (stat counts) added is asks = absurd (skip_stat asks is.0)
+    silence_exactly (refused why) added is asks = absurd (let a = fits skip asks (refused why) added is (λ e. cc) in omega (arith, a))
+    silence_exactly bad_tree added is asks = absurd (let a = fits skip asks bad_tree added is (λ e. cc) in omega (arith, a))
+    silence_exactly tree_full added is asks = absurd (let a = fits skip asks tree_full added is (λ e. cc) in omega (arith, a))
+    silence_exactly (full used need limit) added is asks = absurd (let a = fits skip asks (full used need limit) added is (λ e. cc) in omega (arith, a))
+    silence_exactly (end number) added is asks = absurd (let a = fits skip asks (end number) added is (λ e. cc) in omega (arith, a))
+    silence_exactly (stat counts) added is asks = absurd (let a = fits skip asks (stat counts) added is (λ e. cc) in omega (arith, a.1))
     silence_exactly silence added is asks = refl
     silence_exactly (object_value object bytes) added is asks = absurd is
     silence_exactly (command_count n) added is asks = absurd is
-
-    accepted_not : (why : Refusal) (op : Command) → AsksCommand line op → refusal_after p commands op ≡ None → IsRefused why → ⊥
-    accepted_not why op asks none is = ⊎_elim
-        (λ (c : (o : Command) × AsksCommand line o × (refusal_after p commands o ≡ Some why)).
-        let same = one_command c.0 op c.1 asks in
-        let here : refusal_after p commands op ≡ Some why = subst (λ (o : Command). refusal_after p commands o ≡ Some why) same c.2 in
-        cc (here, none))
-        (λ (g : (object : ℕ) × AsksFor line (get object) × (p.objects ≤ object) × (why ≡ NoObject)). not_get op g.0 asks g.1)
-        is
-
-    -- the course that a command's line has is that of its record
-    own_course : (op : Command) (before after : Stage) (stop : Stop) → AsksCommand line op → Ends p before line stop after → (append_course (meaning_in p) p.limit op before.world before.used).stop ≡ stop
-    own_course op before after stop asks (c, has, is, goes) = ⊎_elim
-        (λ (mine : (o : Command) × AsksCommand line o × (c ≡ append_course (meaning_in p) p.limit o before.world before.used)).
-        ap (λ (o : Command). (append_course (meaning_in p) p.limit o before.world before.used).stop) (sym (one_command mine.0 op mine.1 asks)) ∙ sym (ap (λ (x : Course Command). x.stop) mine.2) ∙ is)
-        (λ (other : (request : Request) × (epoch : ℕ) × IsUpkeep request × AsksFor line request × (c ≡ upkeep_course epoch request (meaning_in p) before.world before.used)).
-        absurd (not_upkeep op asks (other.0, other.2, other.3)))
-        has
-
-    pub full_exactly : (reply : Reply) (added : List Command) (op : Command) (before after : Stage) → Replies p commands line reply added → GoesBy p before line reply after → AsksCommand line op → refusal_after p commands op ≡ None
-        → IsFull reply ↔ (p.limit < grown (meaning_in p) before.world before.used (record_length p op))
-    full_exactly ok added op before after is goes asks none =
-        (λ f. absurd f, λ over. absurd (fits_else (meaning_in p) p.limit op before.world before.used Through (λ a b c e. cc) (own_course op before after Through asks goes) over))
-    full_exactly (value bytes) added op before after is goes asks none = absurd (not_get op is.0 asks is.1)
-    full_exactly (forced n) added op before after is goes asks none = absurd (not_force op asks is.0)
-    full_exactly bad added op before after is goes asks none = absurd (is.0 (request_for op) (asked line op asks))
-    full_exactly (refused why) added op before after is goes asks none = absurd (accepted_not why op asks none is.0)
-    full_exactly (full used need limit) added op before after is goes asks none =
-        (λ f. full_over (meaning_in p) p.limit op before.world before.used used need limit (own_course op before after (Full used need limit) asks goes), λ over. tt)
-    full_exactly (end number) added op before after is goes asks none = (
-      λ f. absurd f,
-      λ over. ⊎_elim
-          (λ (last : Ends p before line (At_end number) after). absurd (fits_else (meaning_in p) p.limit op before.world before.used (At_end number) (λ a b c e. cc) (own_course op before after (At_end number) asks last) over))
-          (λ (worn : Ends p before line (Worn number) after). absurd (fits_else (meaning_in p) p.limit op before.world before.used (Worn number) (λ a b c e. cc) (own_course op before after (Worn number) asks worn) over))
-          goes,
-    )
-    full_exactly (stat counts) added op before after is goes asks none = absurd (not_stat op asks is.0)
-    full_exactly silence added op before after is goes asks none = absurd (not_skip op asks is.0)
-    full_exactly (object_value object bytes) added op before after is goes asks none = absurd is
-    full_exactly (command_count n) added op before after is goes asks none = absurd is
+    silence_exactly (summary totals) added is asks = absurd is
 
     -- the counts are told exactly of a line that asks for them
     pub stat_exactly : (reply : Reply) (added : List Command) → Replies p commands line reply added → AsksFor line asks_stat → (counts : Counts) × (reply ≡ stat counts)
-    stat_exactly ok added is asks = absurd (works_stat (of_ok added is) asks)
-    stat_exactly (value bytes) added is asks = absurd (get_stat is.0 is.1 asks)
-    stat_exactly (forced n) added is asks = absurd (force_stat is.0 asks)
+    stat_exactly ok added is asks = absurd (let a = fits asks_stat asks ok added is (λ e. cc) in omega (arith, a))
+    stat_exactly (ran k) added is asks = absurd (let a = fits asks_stat asks (ran k) added is (λ e. cc) in omega (arith, a))
+    stat_exactly (value bytes) added is asks = absurd (let a = fits asks_stat asks (value bytes) added is (λ e. cc) in omega (arith, a.1))
+    stat_exactly (pairs pair others) added is asks = absurd (let a = fits asks_stat asks (pairs pair others) added is (λ e. cc) in omega (arith, a.1))
+    stat_exactly (forced n) added is asks = absurd (let a = fits asks_stat asks (forced n) added is (λ e. cc) in omega (arith, a.1))
     stat_exactly bad added is asks = absurd (is.0 asks_stat asks)
-    stat_exactly (refused why) added is asks = absurd (refused_stat why is.0 asks)
-    stat_exactly (full used need limit) added is asks = absurd (works_stat (of_full used need limit added is) asks)
-    stat_exactly (end number) added is asks = absurd (works_stat (of_end number added is) asks)
+    stat_exactly (refused why) added is asks = absurd (let a = fits asks_stat asks (refused why) added is (λ e. cc) in omega (arith, a))
+    stat_exactly bad_tree added is asks = absurd (let a = fits asks_stat asks bad_tree added is (λ e. cc) in omega (arith, a))
+    stat_exactly tree_full added is asks = absurd (let a = fits asks_stat asks tree_full added is (λ e. cc) in omega (arith, a))
+    stat_exactly (full used need limit) added is asks = absurd (let a = fits asks_stat asks (full used need limit) added is (λ e. cc) in omega (arith, a))
+    stat_exactly (end number) added is asks = absurd (let a = fits asks_stat asks (end number) added is (λ e. cc) in omega (arith, a))
     stat_exactly (stat counts) added is asks = (counts, refl)
-    stat_exactly silence added is asks = absurd (skip_stat is.0 asks)
+    stat_exactly silence added is asks = absurd (let a = fits asks_stat asks silence added is (λ e. cc) in omega (arith, a.0))
     stat_exactly (object_value object bytes) added is asks = absurd is
     stat_exactly (command_count n) added is asks = absurd is
+    stat_exactly (summary totals) added is asks = absurd is
+
+    -- the course that the line of an accepted command has is that of its record
+    own_course : (op : Command) (before after : Stage) (stop : Stop) → commands_of before.world.history ≡ commands → refusal_after p commands op ≡ None → AsksCommand line op → Ends p before line stop after
+        → (append_course (meaning_in p) p.limit op before.world before.used).stop ≡ stop
+    own_course op before after stop same none asks (c, has, is, goes) = ⊎_elim
+        (λ (mine : (it : Made) × AsksMade p (commands_of before.world.history) line it × (c ≡ commands_course (meaning_in p) p.limit it.ops before.world before.used)).
+        let refusal : refusal_after p (commands_of before.world.history) op ≡ None = subst (λ (l : List Command). refusal_after p l op ≡ None) (sym same) none in
+        let it : mine.0 ≡ made (op ∷ []) ok = made_is op asks mine.1 ∙ ap (λ (r : Option Refusal). one_unless op r) refusal in
+        ap (λ (x : Course Command). x.stop) (sym (one_course (meaning_in p) p.limit op before.world before.used))
+        ∙ ap (λ (x : Made). (commands_course (meaning_in p) p.limit x.ops before.world before.used).stop) (sym it) ∙ sym (ap (λ (x : Course Command). x.stop) mine.2) ∙ is)
+        (λ (rest : ((request : Request) × (epoch : ℕ) × IsUpkeep request × AsksFor line request × (c ≡ upkeep_course epoch request (meaning_in p) before.world before.used))
+        ⊎ ((request : Request) × IsQuestion request × AsksFor line request × (c ≡ course [] before.used Through))). absurd (⊎_elim
+        (λ (u : (request : Request) × (epoch : ℕ) × IsUpkeep request × AsksFor line request × (c ≡ upkeep_course epoch request (meaning_in p) before.world before.used)).
+        made_clash u.0 u.3 (λ e. let same = upkeep_class u.0 u.2 in omega (arith, e, same)) (command_made p commands line op asks))
+        (λ (q : (request : Request) × IsQuestion request × AsksFor line request × (c ≡ course [] before.used Through)).
+        made_clash q.0 q.2 (λ e. let low = question_class q.0 q.1 in omega (arith, e, low.0)) (command_made p commands line op asks))
+        rest))
+        has
+
+    pub full_exactly : (reply : Reply) (added : List Command) (op : Command) (before after : Stage) → Replies p commands line reply added → GoesBy p before line reply after → commands_of before.world.history ≡ commands → AsksCommand line op
+        → refusal_after p commands op ≡ None → IsFull reply ↔ (p.limit < grown (meaning_in p) before.world before.used (record_length p op))
+    full_exactly ok added op before after is goes same asks none =
+        (λ f. absurd f, λ over. absurd (fits_else (meaning_in p) p.limit op before.world before.used Through (λ a b c e. cc) (own_course op before after Through same none asks goes) over))
+    full_exactly (ran k) added op before after is goes same asks none = absurd (⊎_elim
+        (λ (none : (refusal_after p commands op ≡ None) × (ran k ≡ ok)). let e = none.1 in cc e)
+        (λ (other : (why : Refusal) × (refusal_after p commands op ≡ Some why) × (ran k ≡ refused why)). let e = other.2 in cc e)
+        (answer_of op (ran k) added asks is))
+    full_exactly (value bytes) added op before after is goes same asks none = absurd (let a = command_class op asks (value bytes) added is (λ e. cc) in omega (arith, a.0))
+    full_exactly (pairs pair others) added op before after is goes same asks none = absurd (let a = command_class op asks (pairs pair others) added is (λ e. cc) in omega (arith, a.0))
+    full_exactly (forced n) added op before after is goes same asks none = absurd (let a = command_class op asks (forced n) added is (λ e. cc) in omega (arith, a.0))
+    full_exactly bad added op before after is goes same asks none = absurd (let mine = command_made p commands line op asks in is.0 mine.request mine.asks)
+    full_exactly (refused why) added op before after is goes same asks none = absurd (let some = (refused_exactly (refused why) added op why is asks).0 refl in cc (some, none))
+    full_exactly bad_tree added op before after is goes same asks none = absurd (⊎_elim
+        (λ (m : AsksMade p commands line (made added bad_tree)). ⊎_elim
+        (λ (none : (refusal_after p commands op ≡ None) × (bad_tree ≡ ok)). let e = none.1 in cc e)
+        (λ (other : (why : Refusal) × (refusal_after p commands op ≡ Some why) × (bad_tree ≡ refused why)). let e = other.2 in cc e)
+        (answer_of op bad_tree added asks m))
+        (λ (t : AsksTree p commands line bad_tree × (added ≡ [])). let mine = command_made p commands line op asks in
+        tree_clash mine.request mine.asks (λ e. let same = made_class p commands (one_made p commands op) mine.request mine.makes in omega (arith, e, same)) t.0)
+        is)
+    full_exactly tree_full added op before after is goes same asks none = absurd (⊎_elim
+        (λ (none : (refusal_after p commands op ≡ None) × (tree_full ≡ ok)). let e = none.1 in cc e)
+        (λ (other : (why : Refusal) × (refusal_after p commands op ≡ Some why) × (tree_full ≡ refused why)). let e = other.2 in cc e)
+        (answer_of op tree_full added asks is))
+    full_exactly (full used need limit) added op before after is goes same asks none =
+        (λ f. full_over (meaning_in p) p.limit op before.world before.used used need limit (own_course op before after (Full used need limit) same none asks goes), λ over. tt)
+    full_exactly (end number) added op before after is goes same asks none = (
+      λ f. absurd f,
+      λ over. ⊎_elim
+          (λ (last : Ends p before line (At_end number) after). absurd (fits_else (meaning_in p) p.limit op before.world before.used (At_end number) (λ a b c e. cc) (own_course op before after (At_end number) same none asks last) over))
+          (λ (worn : Ends p before line (Worn number) after). absurd (fits_else (meaning_in p) p.limit op before.world before.used (Worn number) (λ a b c e. cc) (own_course op before after (Worn number) same none asks worn) over))
+          goes,
+    )
+    full_exactly (stat counts) added op before after is goes same asks none = absurd (let a = command_class op asks (stat counts) added is (λ e. cc) in omega (arith, a.0))
+    full_exactly silence added op before after is goes same asks none = absurd (let a = command_class op asks silence added is (λ e. cc) in omega (arith, a.0))
+    full_exactly (object_value object bytes) added op before after is goes same asks none = absurd is
+    full_exactly (command_count n) added op before after is goes same asks none = absurd is
+    full_exactly (summary totals) added op before after is goes same asks none = absurd is

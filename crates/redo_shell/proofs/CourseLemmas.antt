@@ -1,7 +1,8 @@
 -- The courses of installs, drains, checkpoints and trims: what may stop them, what they log, and that they add no command.
-use Rattle.std.proofs.Common.{◌≡◌, ◌∙◌, ap, sym, subst, refl, ℕ, zero, suc, ◌+◌, Bool, true, false, List, [], ◌∷◌, ◌++◌, length}
+use Rattle.std.proofs.Common.{◌≡◌, ◌∙◌, ap, sym, subst, refl, ℕ, zero, suc, ◌+◌, ◌<◌, arith, Bool, true, false, List, [], ◌∷◌, ◌++◌, length}
 use Rattle.std.specs.Prelude.{⊤, ◌^◌, ◌&&◌, nat_lt, nat_le, if◌then◌else◌}
 use Rattle.std.proofs.lemmas.Bool.{cond_both}
+use Rattle.std.proofs.lemmas.Bool.Decides.{nat_tests}
 use Rattle.oper_core.specs.Meaning.{Meaning}
 use Rattle.explain_core.specs.Turns.{count_below, dirty_in}
 use Rattle.explain_core.specs.World.{World, Step, run, end_of}
@@ -14,7 +15,7 @@ use Rattle.cache_manager.specs.Upkeep.{upkeep_append, upkeep_either, upkeep_then
 use Rattle.checkpointing.specs.Courses.{check_course, check_length, check_steps, checkpoint_course, logged_course, last_epoch, new_base, rewrite_course, trim_course, trimmed, trimmed_file}
 use Rattle.script_lines.specs.Grammar.{Request, install, drain, checkpoint, trim}
 use Rattle.redo_shell.specs.Store.{Command}
-use Rattle.redo_shell.specs.Replies.{IsUpkeep}
+use Rattle.redo_shell.specs.Replies.{IsOver, IsUpkeep}
 use Rattle.redo_shell.specs.Found.{MayStop}
 use Rattle.redo_shell.specs.Stages.{upkeep_course}
 
@@ -33,11 +34,11 @@ module _ (m : Meaning Command) where
       behind_both (λ (c : Course Command). MayStop r c.stop) first second first.stop (λ on. b (run m w first.steps) first.used) (λ ends. a)
 
   -- of a request that takes numbers
-  module _ (r : Request) (takes : (number : ℕ) → MayStop r (At_end number)) where
+  module _ (r : Request) (takes : (number : ℕ) → MayStop r (At_end number)) (over : (used need limit : ℕ) → limit < used + need → IsOver r used need limit) where
     stop_placed : (w : World Command) (used n : ℕ) (steps : List (Step Command)) → MayStop r (placed m w used (2 ^ 48) n true steps).stop
     stop_placed w used n steps =
         stop_either r (nat_lt (2 ^ 48) (grown m w used n)) (course (force_steps m w) used (Full used (n + 5) (2 ^ 48)))
-        (if true && nat_le (2 ^ 62) (end_of w) then course (force_steps m w) used (At_end (end_of w)) else course steps (grown m w used n) Through) refl
+        (if true && nat_le (2 ^ 62) (end_of w) then course (force_steps m w) used (At_end (end_of w)) else course steps (grown m w used n) Through) (refl, over used (n + 5) (2 ^ 48))
         (stop_either r (true && nat_le (2 ^ 62) (end_of w)) (course (force_steps m w) used (At_end (end_of w))) (course steps (grown m w used n) Through) (takes (end_of w)) tt)
 
     stop_identity : (x : ℕ) (w : World Command) (used : ℕ) → MayStop r (identity_course m x w used).stop
@@ -70,7 +71,7 @@ module _ (m : Meaning Command) where
       stop_then checkpoint w (course (room_steps m w n) used Through) (logged_course m) tt
       (λ v used.
       let k = check_length m v in
-      stop_either checkpoint (nat_lt (2 ^ 48) (grown m v used k)) (course [] used (Full used (k + 5) (2 ^ 48))) (course check_steps (grown m v used k) Through) refl tt)
+      stop_either checkpoint (nat_lt (2 ^ 48) (grown m v used k)) (course [] used (Full used (k + 5) (2 ^ 48))) (course check_steps (grown m v used k) Through) (refl, λ over. over) tt)
 
   stop_checkpoint : (w : World Command) (used : ℕ) → MayStop checkpoint (checkpoint_course m w used).stop
   stop_checkpoint w used =
@@ -81,12 +82,13 @@ module _ (m : Meaning Command) where
   stop_trim epoch w used =
       cond_both (nat_le last_epoch epoch) _ _ (λ (c : Course Command). MayStop trim c.stop) (λ worn. tt)
       (λ left. stop_then trim w (force_course m w used) (rewrite_course m) tt
-      (λ v used. stop_either trim (nat_lt (2 ^ 48) (trimmed_file m v)) (course [] used (Full used (trimmed_file m v) (2 ^ 48))) (course (Header_gate (new_base m v) ∷ []) (trimmed m v) Through) refl tt))
+      (λ v used. cond_both (nat_lt (2 ^ 48) (trimmed_file m v)) _ _ (λ (c : Course Command). MayStop trim c.stop)
+      (λ over. let high : 2 ^ 48 < trimmed_file m v = grind (arith, nat_tests, over) in (refl, λ more. high)) (λ fits. tt)))
 
   -- what may stop a request's course
   pub may_stop : (epoch : ℕ) (r : Request) → IsUpkeep r → (w : World Command) (used : ℕ) → MayStop r (upkeep_course epoch r m w used).stop
-  may_stop epoch install is w used = stop_install install (λ n. tt) w used
-  may_stop epoch drain is w used = stop_drains drain (λ n. tt) (count_below (end_of w) w.graph + dirty_in m w) w used
+  may_stop epoch install is w used = stop_install install (λ n. tt) (λ a b c more. more) w used
+  may_stop epoch drain is w used = stop_drains drain (λ n. tt) (λ a b c more. more) (count_below (end_of w) w.graph + dirty_in m w) w used
   may_stop epoch checkpoint is w used = stop_checkpoint w used
   may_stop epoch trim is w used = stop_trim epoch w used
   may_stop epoch r is w used = absurd is

@@ -1,5 +1,5 @@
 -- What a line asks for is done, and what the images of the moment then say.
-use Rattle.std.proofs.Common.{◌≡◌, ◌∙◌, ap, sym, subst, refl, ◌⊎◌, inl, inr, ⊎_elim, ◌≤◌, ◌<◌, ◌+◌, ◌-◌, ◌^◌, ◌++◌, ℕ, Bool, List, [], ◌∷◌, length, take, arith, Result, Ok, Err, IfOk, Some, None, false}
+use Rattle.std.proofs.Common.{◌≡◌, ◌∙◌, ap, sym, subst, refl, ◌⊎◌, inl, inr, ⊎_elim, ◌≤◌, ◌<◌, ◌+◌, ◌-◌, ◌^◌, ◌++◌, ℕ, Bool, List, [], ◌∷◌, length, length-append, take, arith, Result, Ok, Err, IfOk, Some, None, false}
 use Rattle.std.specs.Result.{IsErrOf}
 use Rattle.std.specs.Prelude.{⊤, ◌&&◌, true, nat_lt, nat_le, if◌then◌else◌}
 use Rattle.std.proofs.lemmas.Bool.{cond_both, false_from_ne_true}
@@ -19,6 +19,7 @@ use Rattle.explain_core.specs.World.Step.{Append}
 use Rattle.cache_manager.specs.Appended.{next_number}
 use Rattle.cache_manager.specs.Courses.{Course, Stop, course, placed, grown, force_steps, force_course, logged_in}
 use Rattle.cache_manager.specs.Courses.Stop.{Through, Full, At_end, Worn}
+use Rattle.cache_manager.specs.Logged.{log_limit}
 use Rattle.cache_manager.specs.Parts.{Shows}
 use Rattle.cache_manager.specs.Running.{AreUpkeep, run_upkept}
 use Rattle.cache_manager.specs.Taking.{Ending, Follows, IsAfter}
@@ -30,18 +31,22 @@ use Rattle.execution.specs.Courses.{append_course, exec_course, command_length, 
 use Rattle.execution.specs.declared.exec_err.ExecErr.{ExecErr}
 use Rattle.execution.specs.declared.exec_err.ExecErr.TheVariants.{Refused, LogFull, LsnEnd, DiskFault, Damaged}
 use Rattle.execution.specs.Failures.{IsExecFailure}
-use Rattle.script_lines.specs.Grammar.{Request, AsksFor, force}
-use Rattle.script_lines.specs.Replies.{Reply, ok, value, forced, bad, refused, full, end, object_value, command_count, stat, silence, reply_of}
+use Rattle.script_lines.specs.Grammar.{Request, AsksFor, force, trim}
+use Rattle.script_lines.specs.Replies.{Reply, ok, ran, value, pairs, forced, bad, refused, bad_tree, tree_full, full, end, object_value, command_count, stat, summary, silence, reply_of}
 use Rattle.script_lines.specs.declared.answer.Answer.{Answer}
 use Rattle.script_lines.specs.declared.answer.Answer.TheVariants as answers
-use Rattle.store_engine.specs.Engine.{EngineView, InEachImage, IsAttached, IsCall, KeepsCommands, IsFailed, StopsAt, SaysStop, EpochIs, params_of, used_in, forced_in, logged_since}
+use Rattle.store_engine.specs.Engine.{EngineView, InEachImage, KeepsCommands, IsFailed, SaysStop, EpochIs, params_of, used_in, forced_in, logged_since}
+use Rattle.redo_shell.specs.Store.{IsAttached, IsCall}
 use Rattle.store_engine.specs.Engine as of_engine
-use Rattle.redo_shell.specs.Found.{IsOfEngine, IsDone, IsAnswerOf, IsShort, MayStop, IsUpkept}
-use Rattle.redo_shell.specs.Replies.{AsksCommand, Replies, IsUpkeep, IsTrueIn}
+use Rattle.redo_shell.specs.Found.{EndsAtLast, IsStopped, IsOfEngine, IsDone, IsAnswerOf, IsShort, MayStop, IsUpkept}
+use Rattle.redo_shell.specs.Replies.{AsksCommand, Replies, IsUpkeep, IsLast, IsTrueIn}
+use Rattle.redo_shell.specs.Made.{Made, made, AsksMade, AsksBehind}
 use Rattle.redo_shell.specs.Run.{IsFound}
 use Rattle.redo_shell.specs.Stages.{Stage, HasCourse, Ends, GoesBy, stage_of, stage_after, upkeep_course}
 use Rattle.redo_shell.specs.Store.{Command, meaning_in, record_length, refusal_after, HasCause, Stands, ShowsIn, Says, Holds, Kept}
 use Rattle.redo_shell.specs.declared.stop.Stop.{Stop as Early}
+use Rattle.redo_shell.proofs.RunLemmas.{leads_on}
+use Rattle.redo_shell.proofs.MadeLemmas.{made_unless, made_ends, number_ends, worn_ends, is_numbered, worn_numbered, one_course}
 use Rattle.redo_shell.proofs.CourseLemmas.{may_stop, are_upkeep, logged_force, logged_placed}
 
 -- what follows from what is true of each image is true of each
@@ -50,26 +55,35 @@ map_each d P Q so here = (so d.reads here.0, λ told f s left. so f (here.1 told
 
 -- why a call was stopped is what each image says
 abbrev pub SaysStops : Params → Disk → EngineView → Type 0
-SaysStops p d engine = (stop : Stop) → StopsAt engine.parts.log stop → InEachImage d (λ f. SaysStop all_meaning p f stop)
+SaysStops p d engine = (stop : Stop) → IsStopped engine stop → InEachImage d (λ f. SaysStop all_meaning p f stop)
 
--- what an answer says of the engine is true of each image
-pub tied_by : {p : Params} {d : Disk} {engine : EngineView} {commands : List Command} (reply : Reply) → IsOfEngine engine reply → Says p d engine commands → SaysStops p d engine → InEachImage d (λ f. IsTrueIn p f reply)
-tied_by ok is says stops = (tt, λ told f s left. tt)
-tied_by (value bytes) is says stops = (tt, λ told f s left. tt)
-tied_by (forced n) is says stops = (tt, λ told f s left. tt)
-tied_by bad is says stops = (tt, λ told f s left. tt)
-tied_by (refused why) is says stops = (tt, λ told f s left. tt)
-tied_by (full used need limit) is says stops = stops (Full used need limit) is
-tied_by {p} {d} {engine} (end number) is says stops = ⊎_elim
-    (λ (last : StopsAt engine.parts.log (At_end number)). map_each d (λ f. SaysStop all_meaning p f (At_end number)) (λ f. IsTrueIn p f (end number)) (λ f here. inl here) (stops (At_end number) last))
-    (λ (worn : StopsAt engine.parts.log (Worn number)). map_each d (λ f. SaysStop all_meaning p f (Worn number)) (λ f. IsTrueIn p f (end number)) (λ f here. inr here) (stops (Worn number) worn))
-    is
-tied_by {p} {d} {engine} {commands} (stat counts) is says stops =
-    map_each d (λ f. Stands p f (take (forced_in engine) commands)) (λ f. IsTrueIn p f (stat counts))
+-- what an answer to a line says of the engine is true of each image
+pub tied_by : {p : Params} {d : Disk} {engine : EngineView} {commands : List Command} (line : List ℕ) (reply : Reply) → IsOfEngine engine line reply → Says p d engine commands → SaysStops p d engine → InEachImage d (λ f. IsTrueIn p f line reply)
+tied_by line ok is says stops = (tt, λ told f s left. tt)
+tied_by line (ran k) is says stops = (tt, λ told f s left. tt)
+tied_by line (value bytes) is says stops = (tt, λ told f s left. tt)
+tied_by line (pairs pair others) is says stops = (tt, λ told f s left. tt)
+tied_by line (forced n) is says stops = (tt, λ told f s left. tt)
+tied_by line bad is says stops = (tt, λ told f s left. tt)
+tied_by line (refused why) is says stops = (tt, λ told f s left. tt)
+tied_by line bad_tree is says stops = (tt, λ told f s left. tt)
+tied_by line tree_full is says stops = (tt, λ told f s left. tt)
+tied_by line (full used need limit) is says stops = stops (Full used need limit) is
+tied_by {p} {d} {engine} line (end number) is says stops = end_tied is.0 is.1 is.2
+  where
+    of_number : (request : Request) → AsksFor line request → ((f : Files) → NextIs (meaning_in p) f number → IsLast p f request number) → IsStopped engine (At_end number) → InEachImage d (λ f. IsTrueIn p f line (end number))
+    of_number request asks so last = map_each d (λ f. SaysStop all_meaning p f (At_end number)) (λ f. IsTrueIn p f line (end number)) (λ f here. (request, asks, so f here)) (stops (At_end number) last)
+
+    end_tied : (request : Request) → AsksFor line request → EndsAtLast engine request number → InEachImage d (λ f. IsTrueIn p f line (end number))
+    end_tied trim asks worn = map_each d (λ f. SaysStop all_meaning p f (Worn number)) (λ f. IsTrueIn p f line (end number)) (λ f here. (trim, asks, here)) (stops (Worn number) worn)
+    end_tied request asks last = of_number request asks (λ f here. here) last
+tied_by {p} {d} {engine} {commands} line (stat counts) is says stops =
+    map_each d (λ f. Stands p f (take (forced_in engine) commands)) (λ f. IsTrueIn p f line (stat counts))
     (λ f here. (take (forced_in engine) commands, here, length-take-le (forced_in engine) commands says.forced ∙ sym is)) says.images
-tied_by (object_value object bytes) is says stops = (tt, λ told f s left. tt)
-tied_by (command_count n) is says stops = (tt, λ told f s left. tt)
-tied_by silence is says stops = (tt, λ told f s left. tt)
+tied_by line (object_value object bytes) is says stops = (tt, λ told f s left. tt)
+tied_by line (command_count n) is says stops = (tt, λ told f s left. tt)
+tied_by line (summary totals) is says stops = (tt, λ told f s left. tt)
+tied_by line silence is says stops = (tt, λ told f s left. tt)
 
 -- as the engine holds it
 abbrev pub done_holds : {p : Params} {old now : Disk} {before after : EngineView} {w : World Command} {commands : List Command} {line : List ℕ} {reply : Reply}
@@ -77,16 +91,16 @@ abbrev pub done_holds : {p : Params} {old now : Disk} {before after : EngineView
 done_holds d = record { world = d.world; shows = d.shows; commands_are = d.commands_are }
 
 -- the answer is found
-abbrev pub found_of : {p : Params} {old now : Disk} {before after : EngineView} {w : World Command} {commands : List Command} {line : List ℕ} {reply : Reply}
-    → (d : IsDone p old now before after w commands line reply) → Says p now after (commands ++ d.added) → SaysStops p now after → IsFound p old now before after w commands line reply
-found_of {p} {old} {now} {before} {after} {w} {commands} {line} {reply} d says stops = record {
+abbrev pub found_of : {p : Params} {old now : Disk} {before after : EngineView} {commands : List Command} {line : List ℕ} {reply : Reply} → (holds : Holds p old before commands)
+    → (d : IsDone p old now before after holds.world commands line reply) → Says p now after (commands ++ d.added) → SaysStops p now after → IsFound p old now before after holds.world commands line reply
+found_of {p} {old} {now} {before} {after} {commands} {line} {reply} holds d says stops = record {
   added = d.added;
   replies = d.replies;
   quiet = d.quiet;
   kept = record { holds = record { world = d.world; shows = d.shows; commands_are = d.commands_are; says = says }; rising = d.rising };
-  tied = tied_by reply d.is_of says stops;
-  goes = d.goes;
-  acked = λ n is. let here : IsOfEngine after (forced n) = subst (λ (r : Reply). IsOfEngine after r) is d.is_of in omega (arith, here);
+  tied = tied_by line reply d.is_of says stops;
+  leads = leads_on commands d.added reply holds.commands_are d.commands_are d.replies d.goes;
+  acked = λ n is. let here : IsOfEngine after line (forced n) = subst (λ (r : Reply). IsOfEngine after line r) is d.is_of in omega (arith, here);
 }
 
 -- a course leads from stage to stage
@@ -107,7 +121,7 @@ shows_after {after = after} working shows = record { unbroken = false_from_ne_tr
 
 -- What a call on an engine says of a command.
 pub record IsExec (p : Params) (old now : Disk) (before after : EngineView) (w : World Command) (commands : List Command) (op : Command) (result : Result ℕ ExecErr) : Type 0 where
-  pub call : IsCall old now before after 0 (ending_of_exec result)
+  pub call : IsCall (params_of before).limit old now before after 0 (ending_of_exec result)
   pub follows : Follows (meaning_in p) p now after.parts w (exec_course (meaning_in p) (params_of before).limit op w (used_in before)) (ending_of_exec result)
   pub answers : of_world.HasCause (meaning_in p) p.limit w (used_in before) op result
   pub exactly : HasCause p commands op result
@@ -149,6 +163,10 @@ refused_course p engine w op why params some =
     ap (λ (q : Params). exec_course (meaning_in p) q.limit op w (used_in engine)) params
     ∙ ap (λ r. unless_refused (used_in engine) (append_course (meaning_in p) p.limit op w (used_in engine)) r) some
 
+-- what a line asks for after the commands of a world that is shown
+pub asks_in : {p : Params} {d : Disk} {engine : EngineView} {commands : List Command} {line : List ℕ} {it : Made} → (holds : Holds p d engine commands) → AsksMade p commands line it → AsksMade p (commands_of holds.world.history) line it
+asks_in {p} {line = line} {it = it} holds asks = subst (λ (l : List Command). AsksMade p l line it) (sym holds.commands_are) asks
+
 module _ (p : Params) (old now : Disk) (before after : EngineView) (commands : List Command) (line : List ℕ) (op : Command) (holds : Holds p old before commands) (asks : AsksCommand line op) where
   abbrev w : World Command
   w = holds.world
@@ -167,10 +185,19 @@ module _ (p : Params) (old now : Disk) (before after : EngineView) (commands : L
   none_logged same =
       same ∙ ap (λ (l : List ℕ). before.identities + length l) (sym (logged_placed m w (used_in before) p.limit (command_length m op) true (Append (Logged_command op) ∷ []) refl))
 
+  -- what the line asks for
+  one : refusal_after p commands op ≡ None → AsksMade p commands line (made (op ∷ []) ok)
+  one none = made_unless p commands line op None none asks
+
   -- so it ends
-  ends_so : (stop : Stop) → its.stop ≡ stop → IsAfter m p now after.parts w its → after.identities ≡ before.identities + 0
+  ends_so : (stop : Stop) → refusal_after p commands op ≡ None → its.stop ≡ stop → IsAfter m p now after.parts w its → after.identities ≡ before.identities + 0
       → Ends p (stage_of before w) line stop (stage_of after (run m w its.steps))
-  ends_so stop is there same = (its, inl (op, asks, refl), is, stage_on p now before after w its there (none_logged same))
+  ends_so stop none is there same =
+      (its, inl (made (op ∷ []) ok, asks_in holds (one none), sym (one_course m p.limit op w (used_in before))), is, stage_on p now before after w its there (none_logged same))
+
+  -- nothing is behind it
+  last_one : refusal_after p commands op ≡ None → AsksBehind p commands line [] op
+  last_one none = record { it = made (op ∷ []) ok; asks = one none; rest = []; next = refl }
 
   pub exec_done : (n : ℕ) → IsExec p old now before after w commands op (Ok n) → IsDone p old now before after w commands line ok
   exec_done n e =
@@ -178,13 +205,13 @@ module _ (p : Params) (old now : Disk) (before after : EngineView) (commands : L
       let there = subst (λ (c : Course Command). (c.stop ≡ Through) × IsAfter m p now after.parts w c) same e.follows in
       record {
         added = op ∷ [];
-        replies = inl (op, asks, e.exactly.0, e.exactly.1, refl);
+        replies = inl (one e.exactly.0, omega (arith, e.exactly.1, length-append commands (op ∷ [])));
         quiet = e.call.quiet holds.shows.shows.told;
         world = run m w its.steps;
         shows = shows_after e.call.broken.0 there.1.shows;
         commands_are = goes_through m op w (used_in before) p.limit (command_length m op) there.0 ∙ ap (λ (l : List Command). l ++ op ∷ []) holds.commands_are;
         rising = ⊎_elim (λ none. cc none) (λ rises. rises) e.rising;
-        goes = ends_so Through there.0 there.1 e.call.identities;
+        goes = ends_so Through e.exactly.0 there.0 there.1 e.call.identities;
         is_of = tt;
       }
 
@@ -193,15 +220,21 @@ module _ (p : Params) (old now : Disk) (before after : EngineView) (commands : L
       let same = refused_course p before w op why params e.answers in
       let there = subst (λ (c : Course Command). (c.stop ≡ Through) × IsAfter m p now after.parts w c) same e.follows in
       let here : run m w [] ≡ w = run_nothing m w in
+      let refused_one = made_unless p commands line op (Some why) e.exactly asks in
       record {
         added = [];
-        replies = (inl (op, asks, e.exactly), refl);
+        replies = inl refused_one;
         quiet = e.call.quiet holds.shows.shows.told;
         world = w;
         shows = shows_after e.call.broken.0 (subst (λ (v : World Command). Shows m p now after.parts v) here there.1.shows);
         commands_are = holds.commands_are ∙ sym (append-nil commands);
         rising = ⊎_elim (λ none. cc none) (λ rises. rises) e.rising;
-        goes = λ i. record { world = w; used = there.1.used i; identities = more_none before.identities e.call.identities i };
+        goes = (
+          course [] (used_in before) Through,
+          inl (made [] (refused why), asks_in holds refused_one, refl),
+          refl,
+          λ i. record { world = sym here i; used = there.1.used i; identities = e.call.identities i },
+        );
         is_of = tt;
       }
 
@@ -223,14 +256,14 @@ module _ (p : Params) (old now : Disk) (before after : EngineView) (commands : L
       let numbers = e.call.stopped (Full used need limit) refl in
       record {
         added = [];
-        replies = (inl (op, asks, e.exactly.0, e.exactly.1, e.exactly.2), numbers.2, refl);
+        replies = inl (op, last_one e.exactly.0, e.exactly.1, e.exactly.2, numbers.2);
         quiet = e.call.quiet holds.shows.shows.told;
         world = run m w its.steps;
         shows = shows_after e.call.broken.0 there.1.shows;
         commands_are = there.2;
         rising = ⊎_elim (λ none. cc none) (λ rises. rises) e.rising;
-        goes = ends_so (Full used need limit) there.0 there.1 e.call.identities;
-        is_of = numbers;
+        goes = ends_so (Full used need limit) e.exactly.0 there.0 there.1 e.call.identities;
+        is_of = (_, numbers);
       }
 
   pub exec_end : (number : ℕ) → IsExec p old now before after w commands op (Err (LsnEnd number)) → IsDone p old now before after w commands line (end number)
@@ -239,19 +272,19 @@ module _ (p : Params) (old now : Disk) (before after : EngineView) (commands : L
       let numbers = e.call.stopped (At_end number) refl in
       record {
         added = [];
-        replies = (inl (op, asks, e.exactly), numbers.2, refl);
+        replies = (inl (op, last_one e.exactly), numbers.2);
         quiet = e.call.quiet holds.shows.shows.told;
         world = run m w its.steps;
         shows = shows_after e.call.broken.0 there.1.shows;
         commands_are = there.2;
         rising = ⊎_elim (λ none. cc none) (λ rises. rises) e.rising;
-        goes = inl (ends_so (At_end number) there.0 there.1 e.call.identities);
-        is_of = inl numbers;
+        goes = inl (ends_so (At_end number) e.exactly there.0 there.1 e.call.identities);
+        is_of = let asked = one e.exactly in (asked.request, asked.asks, made_ends p commands (made (op ∷ []) ok) after number asked.request asked.makes ((params_of before).limit, numbers));
       }
 
 -- a force that is done
 pub force_done : {p : Params} {old now : Disk} {before after : EngineView} {commands : List Command} {line : List ℕ} (n : ℕ) → (holds : Holds p old before commands) → AsksFor line force
-    → IsCall old now before after 0 Done → Follows (meaning_in p) p now after.parts holds.world (force_course (meaning_in p) holds.world (used_in before)) Done
+    → IsCall log_limit old now before after 0 Done → Follows (meaning_in p) p now after.parts holds.world (force_course (meaning_in p) holds.world (used_in before)) Done
     → of_engine.Kept all_meaning p before now after commands → n ≡ length commands → n ≡ forced_in after → IsDone p old now before after holds.world commands line (forced n)
 force_done {p} {old} {now} {before} {after} {commands} {line} n holds asks call there kept all is =
     let m = meaning_in p in
@@ -298,14 +331,14 @@ module _ (p : Params) (old now : Disk) (before after : EngineView) (commands : L
 
   ends_as : (stop : Stop) → way.stop ≡ stop → IsAfter mean p now after.parts start way → Ends p (stage_of before start) line stop (stage_of after (run mean start way.steps))
   ends_as stop is there =
-      (way, inr (request, u.epoch, of_kind, asks, refl), is, stage_on p now before after start way there (u.call.identities ∙ ap (λ (n : ℕ). before.identities + n) (count_is there)))
+      (way, inr (inl (request, u.epoch, of_kind, asks, refl)), is, stage_on p now before after start way there (u.call.identities ∙ ap (λ (n : ℕ). before.identities + n) (count_is there)))
 
   rises : (ending : Ending) → (IsFailed ending → ⊥) → KeepsCommands all_meaning old now before after ending → forced_in before ≤ forced_in after
   rises ending working keeps = ⊎_elim (λ failed. absurd (working failed)) (λ kept. kept.rising) (keeps.holds p commands (record { world = holds.world; shows = holds.shows; commands_are = holds.commands_are }))
 
   -- a reply to it that adds nothing
-  replies_so : (reply : Reply) (ending : Ending) → (IsFailed ending → ⊥) → IsCall old now before after u.logged ending → KeepsCommands all_meaning old now before after ending → IsAfter mean p now after.parts start way
-      → Replies p commands line reply [] → GoesBy p (stage_of before start) line reply (stage_of after (run mean start way.steps)) → IsOfEngine after reply → IsDone p old now before after start commands line reply
+  replies_so : (reply : Reply) (ending : Ending) → (IsFailed ending → ⊥) → IsCall log_limit old now before after u.logged ending → KeepsCommands all_meaning old now before after ending → IsAfter mean p now after.parts start way
+      → Replies p commands line reply [] → GoesBy p (stage_of before start) line reply (stage_of after (run mean start way.steps)) → IsOfEngine after line reply → IsDone p old now before after start commands line reply
   replies_so reply ending working call keeps there replies goes is_of = record {
     added = [];
     replies = replies;
@@ -325,22 +358,24 @@ module _ (p : Params) (old now : Disk) (before after : EngineView) (commands : L
   abbrev Answered : Result Answer Early → Type 0
   Answered r = IfOk r (λ answer. IsDone p old now before after start commands line (reply_of answer))
 
-  by_ending : (ending : Ending) (r : Result Answer Early) → IsAnswerOf ending r → IsCall old now before after u.logged ending → Follows mean p now after.parts start way ending → KeepsCommands all_meaning old now before after ending → Answered r
+  by_ending : (ending : Ending) (r : Result Answer Early) → IsAnswerOf ending r → IsCall log_limit old now before after u.logged ending → Follows mean p now after.parts start way ending → KeepsCommands all_meaning old now before after ending → Answered r
   by_ending Done r is call there keeps =
       subst (λ (x : Result Answer Early). Answered x) (sym is) (replies_so ok Done (λ f. f) call keeps there.1 (inr (request, of_kind, asks, refl)) (ends_as Through there.0 there.1) tt)
   by_ending (Stopped Through) r is call there keeps = absurd is
   by_ending (Stopped (Full used need limit)) r is call there keeps =
       let numbers = call.stopped (Full used need limit) refl in
       subst (λ (x : Result Answer Early). Answered x) (sym is)
-      (replies_so (full used need limit) (Stopped (Full used need limit)) (λ f. f) call keeps there.1 (inr (request, of_kind, asks, may (Full used need limit) there.0), numbers.2, refl) (ends_as (Full used need limit) there.0 there.1) numbers)
+      (replies_so (full used need limit) (Stopped (Full used need limit)) (λ f. f) call keeps there.1 (let bound = may (Full used need limit) there.0 in inr (request, of_kind, asks, bound.0, bound.1 numbers.2, refl)) (ends_as (Full used need limit) there.0 there.1) (_, numbers))
   by_ending (Stopped (At_end number)) r is call there keeps =
       let numbers = call.stopped (At_end number) refl in
       subst (λ (x : Result Answer Early). Answered x) (sym is)
-      (replies_so (end number) (Stopped (At_end number)) (λ f. f) call keeps there.1 (inr (request, may (At_end number) there.0, asks), numbers.2, refl) (inl (ends_as (At_end number) there.0 there.1)) (inl numbers))
+      (replies_so (end number) (Stopped (At_end number)) (λ f. f) call keeps there.1 (inr (request, is_numbered number request (may (At_end number) there.0), asks, refl), numbers.2) (inl (ends_as (At_end number) there.0 there.1))
+      (request, asks, number_ends after number request (may (At_end number) there.0) (log_limit, numbers)))
   by_ending (Stopped (Worn number)) r is call there keeps =
       let numbers = call.stopped (Worn number) refl in
       subst (λ (x : Result Answer Early). Answered x) (sym is)
-      (replies_so (end number) (Stopped (Worn number)) (λ f. f) call keeps there.1 (inr (request, may (Worn number) there.0, asks), numbers.1, refl) (inr (ends_as (Worn number) there.0 there.1)) (inr numbers))
+      (replies_so (end number) (Stopped (Worn number)) (λ f. f) call keeps there.1 (inr (request, worn_numbered number request (may (Worn number) there.0), asks, refl), numbers.1) (inr (ends_as (Worn number) there.0 there.1))
+      (request, asks, worn_ends after number request (may (Worn number) there.0) (log_limit, numbers)))
   by_ending Short r is call there keeps = subst (λ (x : Result Answer Early). Answered x) (sym is.2) tt
   by_ending Failed r is call there keeps = subst (λ (x : Result Answer Early). Answered x) (sym is) tt
 
@@ -348,10 +383,10 @@ module _ (p : Params) (old now : Disk) (before after : EngineView) (commands : L
   upkeep_done = by_ending u.ending result u.answered u.call (u.takes.follows p holds.world holds.shows.shows) u.commands
 
 -- what holds of a call that did not fail with the disk
-pub still_attached : {old new : Disk} {before after : EngineView} {n : ℕ} {ending : Ending} → IsCall old new before after n ending → (IsFailed ending → ⊥) → IsAttached old before → IsAttached new after
+pub still_attached : {old new : Disk} {before after : EngineView} {most n : ℕ} {ending : Ending} → IsCall most old new before after n ending → (IsFailed ending → ⊥) → IsAttached old before → IsAttached new after
 still_attached call working attached = ⊎_elim (λ failed. absurd (working failed)) (λ keeps. keeps attached) call.attached
 
-pub still_whole : {old new : Disk} {before after : EngineView} {n : ℕ} {ending : Ending} → IsCall old new before after n ending → (IsFailed ending → ⊥) → after.broken ≡ false
+pub still_whole : {old new : Disk} {before after : EngineView} {most n : ℕ} {ending : Ending} → IsCall most old new before after n ending → (IsFailed ending → ⊥) → after.broken ≡ false
 still_whole {after = after} call working = false_from_ne_true after.broken (λ e. working (call.broken.0 e))
 
 -- an error of a command that is no fault

@@ -14,12 +14,14 @@ use Rattle.redo_shell.specs.Store.{Command, Stands, Opens, state_of, Holds, Betw
 use Rattle.redo_shell.specs.Calls.{IsDumpOn}
 use Rattle.redo_shell.specs.Dump.{row_of, rows_below, dump_of, DumpMoment}
 use Rattle.redo_shell.specs.Keeps.{KeepsFiles}
-use Rattle.redo_shell.specs.Status.{IsOfUnopened}
+use Rattle.redo_shell.specs.Status.{IsOfUnopened, status_of}
 use Rattle.redo_shell.specs.declared.status.Status.{Status}
 use Rattle.redo_shell.specs.declared.status.Status.TheVariants.{Done, NotAStore, Damaged, SayFault}
 use Rattle.redo_shell.proofs.HoldLemmas.{holds_stays, stays_between, told_by}
 use Rattle.redo_shell.proofs.OpenLemmas.{OpensSo, opening_failed}
 use Rattle.redo_shell.proofs.KeepLemmas.{settled_each}
+use Rattle.redo_shell.specs.declared.stop.Stop.{Stop}
+use Rattle.redo_shell.specs.declared.stop.Stop.TheVariants.{DiskFault, Damaged, ReadFault, SayFault, Memory, TooLong}
 
 -- an object that is empty has no row, and any other one
 pub no_row : (x : ℕ) (value text : List ℕ) → length value ≡ 0 → text ≡ text ++ flat_map said_line (row_of x value)
@@ -149,3 +151,12 @@ dump_unopened p old mid commands status lawful opens opening quiet of store outp
       settled = λ disk memory. absurd (opening_failed status of store output disk memory);
       stands = λ disk memory. absurd (opening_failed status of store output disk memory);
     }
+
+-- what ends a call early is not reported as done
+pub never_done : (stop : Stop) → status_of stop ≡ Done → ⊥
+never_done DiskFault is = cc is
+never_done (Damaged file place) is = cc is
+never_done ReadFault is = cc is
+never_done SayFault is = cc is
+never_done Memory is = cc is
+never_done TooLong is = cc is

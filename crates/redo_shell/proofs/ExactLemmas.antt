@@ -1,11 +1,41 @@
 -- Statuses from their causes, both ways.
-use Rattle.std.proofs.Common.{◌≡◌, ◌≢◌, ◌⊎◌, inl, inr, ◌↔◌, ℕ, refl}
-use Rattle.std.specs.Prelude.{⊤}
+use Rattle.std.proofs.Common.{◌≡◌, ◌≢◌, ◌⊎◌, inl, inr, ⊎_elim, ◌↔◌, ℕ, refl, sym, subst}
+use Rattle.std.specs.Prelude.{⊤, ◌^◌, List}
 use Rattle.disk_model.specs.Disk.{Disk, Rises}
+use Rattle.formats.specs.declared.params.Params.{Params}
+use Rattle.op_codec.specs.AllOps.{all_meaning}
+use Rattle.restart.specs.WellFormed.{opens_gate}
+use Rattle.script_lines.specs.Reading.{Takes}
+use Rattle.redo_shell.specs.Calls.{IsRunCall, IsMaking}
+use Rattle.redo_shell.specs.Causes.{CountsFaults, JudgesFiles}
+use Rattle.redo_shell.specs.Store.{Command, IsWellFormed, Opens}
 use Rattle.redo_shell.specs.declared.status.Status.{Status}
 use Rattle.redo_shell.specs.declared.status.Status.TheVariants.{Done, DoneWithRefusals, Usage, NotAStore, AlreadyStore, Damaged, DiskFault, ReadFault, SayFault, Memory, TooLong}
-use Rattle.redo_shell.specs.Exactly.{IsFaultless, IsUndisturbed}
-use Rattle.redo_shell.specs.Status.{IsOfRun, IsOfInit, IsOfDump, IsOfStore}
+use Rattle.redo_shell.specs.Exactly.{IsFaultless, OpensExactly, MakesExactly, RunsExactly}
+use Rattle.redo_shell.proofs.DamageLemmas.{first_said}
+use Rattle.redo_shell.proofs.ScriptLemmas.{enough_taken, not_so_few}
+use Rattle.redo_shell.specs.Status.{IsOfRun, IsOfInit, IsOfDump, IsOfStore, IsOfUnopened}
+
+-- where no store was opened the script is not read, and a run or a dump may end so
+pub unopened_reads_none : (status : Status) → IsOfUnopened status → IsOfStore status → ⊥
+unopened_reads_none Done of is = of
+unopened_reads_none DoneWithRefusals of is = of
+unopened_reads_none ReadFault of is = of
+unopened_reads_none TooLong of is = of
+unopened_reads_none status of is = is
+
+pub unopened_run : (status : Status) → IsOfUnopened status → IsOfRun status
+unopened_run Usage of = of
+unopened_run AlreadyStore of = of
+unopened_run status of = tt
+
+pub unopened_dump : (status : Status) → IsOfUnopened status → IsOfDump status
+unopened_dump NotAStore of = tt
+unopened_dump Damaged of = tt
+unopened_dump DiskFault of = tt
+unopened_dump SayFault of = tt
+unopened_dump Memory of = tt
+unopened_dump status of = absurd of
 
 -- a run in which no count of faults rises ends with one of these
 abbrev IsCalm : Status → Type 0
@@ -17,19 +47,18 @@ IsCalm Memory = ⊤
 IsCalm TooLong = ⊤
 IsCalm status = ⊥
 
-pub calm_run : {old new : Disk} {before now : ℕ} (status : Status) → IsFaultless old new before now → IsOfRun status → (status ≡ DiskFault → Rises old.disk_faults new.disk_faults)
-    → (status ≡ ReadFault → Rises before now) → (status ≡ SayFault → Rises old.say_faults new.say_faults) → IsCalm status
-calm_run Done calm of disk input output = tt
-calm_run DoneWithRefusals calm of disk input output = tt
-calm_run Usage calm of disk input output = absurd of
-calm_run NotAStore calm of disk input output = tt
-calm_run AlreadyStore calm of disk input output = absurd of
-calm_run Damaged calm of disk input output = tt
-calm_run DiskFault calm of disk input output = absurd (calm.disk (disk refl))
-calm_run ReadFault calm of disk input output = absurd (calm.input (input refl))
-calm_run SayFault calm of disk input output = absurd (calm.output (output refl))
-calm_run Memory calm of disk input output = tt
-calm_run TooLong calm of disk input output = tt
+pub calm_run : {old new : Disk} {before now : ℕ} (status : Status) → IsFaultless old new before now → IsOfRun status → CountsFaults old new status → (status ≡ ReadFault → Rises before now) → IsCalm status
+calm_run Done calm of faults input = tt
+calm_run DoneWithRefusals calm of faults input = tt
+calm_run Usage calm of faults input = absurd of
+calm_run NotAStore calm of faults input = tt
+calm_run AlreadyStore calm of faults input = absurd of
+calm_run Damaged calm of faults input = tt
+calm_run DiskFault calm of faults input = absurd (calm.disk (faults.disk refl))
+calm_run ReadFault calm of faults input = absurd (calm.input (input refl))
+calm_run SayFault calm of faults input = absurd (calm.output (faults.output refl))
+calm_run Memory calm of faults input = tt
+calm_run TooLong calm of faults input = tt
 
 pub no_store_exactly : {gate image : Type 0} (status : Status) → IsCalm status → (status ≡ NotAStore → gate → ⊥) → (status ≡ Damaged → gate) → (status ≡ Memory → gate) → (IsOfStore status → image) → (image → gate)
     → (status ≡ NotAStore) ↔ (gate → ⊥)
@@ -74,46 +103,87 @@ whole_run SayFault calm memory store = absurd calm
 whole_run Memory calm memory store = absurd (memory refl)
 
 -- so does a dump
-pub calm_told : {old new : Disk} {before now : ℕ} (status : Status) → IsFaultless old new before now → IsOfDump status → (status ≡ DiskFault → Rises old.disk_faults new.disk_faults)
-    → (status ≡ SayFault → Rises old.say_faults new.say_faults) → IsCalm status
-calm_told Done calm of disk output = tt
-calm_told NotAStore calm of disk output = tt
-calm_told Damaged calm of disk output = tt
-calm_told DiskFault calm of disk output = absurd (calm.disk (disk refl))
-calm_told SayFault calm of disk output = absurd (calm.output (output refl))
-calm_told Memory calm of disk output = tt
-calm_told DoneWithRefusals calm of disk output = absurd of
-calm_told Usage calm of disk output = absurd of
-calm_told AlreadyStore calm of disk output = absurd of
-calm_told ReadFault calm of disk output = absurd of
-calm_told TooLong calm of disk output = absurd of
+pub calm_told : {old new : Disk} {before now : ℕ} (status : Status) → IsFaultless old new before now → IsOfDump status → CountsFaults old new status → IsCalm status
+calm_told Done calm of faults = tt
+calm_told NotAStore calm of faults = tt
+calm_told Damaged calm of faults = tt
+calm_told DiskFault calm of faults = absurd (calm.disk (faults.disk refl))
+calm_told SayFault calm of faults = absurd (calm.output (faults.output refl))
+calm_told Memory calm of faults = tt
+calm_told DoneWithRefusals calm of faults = absurd of
+calm_told Usage calm of faults = absurd of
+calm_told AlreadyStore calm of faults = absurd of
+calm_told ReadFault calm of faults = absurd of
+calm_told TooLong calm of faults = absurd of
 
 -- a dump of a store that is whole, which nothing disturbs
-pub calm_dump : {old new : Disk} {before now : ℕ} (status : Status) → IsUndisturbed old new before now status → IsOfDump status → (status ≡ DiskFault → Rises old.disk_faults new.disk_faults)
-    → (status ≡ SayFault → Rises old.say_faults new.say_faults) → (status ≢ NotAStore) × (status ≢ Damaged) → status ≡ Done
-calm_dump Done calm of disk output store = refl
-calm_dump NotAStore calm of disk output store = absurd (store.0 refl)
-calm_dump Damaged calm of disk output store = absurd (store.1 refl)
-calm_dump DiskFault calm of disk output store = absurd (calm.faultless.disk (disk refl))
-calm_dump SayFault calm of disk output store = absurd (calm.faultless.output (output refl))
-calm_dump Memory calm of disk output store = absurd (calm.memory refl)
-calm_dump DoneWithRefusals calm of disk output store = absurd of
-calm_dump Usage calm of disk output store = absurd of
-calm_dump AlreadyStore calm of disk output store = absurd of
-calm_dump ReadFault calm of disk output store = absurd of
-calm_dump TooLong calm of disk output store = absurd of
+pub calm_dump : {old new : Disk} {before now : ℕ} (status : Status) → IsFaultless old new before now → status ≢ Memory → IsOfDump status → CountsFaults old new status → (status ≢ NotAStore) × (status ≢ Damaged) → status ≡ Done
+calm_dump Done calm memory of faults store = refl
+calm_dump NotAStore calm memory of faults store = absurd (store.0 refl)
+calm_dump Damaged calm memory of faults store = absurd (store.1 refl)
+calm_dump DiskFault calm memory of faults store = absurd (calm.disk (faults.disk refl))
+calm_dump SayFault calm memory of faults store = absurd (calm.output (faults.output refl))
+calm_dump Memory calm memory of faults store = absurd (memory refl)
+calm_dump DoneWithRefusals calm memory of faults store = absurd of
+calm_dump Usage calm memory of faults store = absurd of
+calm_dump AlreadyStore calm memory of faults store = absurd of
+calm_dump ReadFault calm memory of faults store = absurd of
+calm_dump TooLong calm memory of faults store = absurd of
 
 -- the making of a store in which no count of faults rises
-pub calm_init : {old new : Disk} {before now : ℕ} (status : Status) → IsFaultless old new before now → IsOfInit status → (status ≡ DiskFault → Rises old.disk_faults new.disk_faults)
-    → (status ≡ SayFault → Rises old.say_faults new.say_faults) → (status ≡ Done) ⊎ (status ≡ AlreadyStore)
-calm_init Done calm of disk output = inl refl
-calm_init AlreadyStore calm of disk output = inr refl
-calm_init DiskFault calm of disk output = absurd (calm.disk (disk refl))
-calm_init SayFault calm of disk output = absurd (calm.output (output refl))
-calm_init DoneWithRefusals calm of disk output = absurd of
-calm_init Usage calm of disk output = absurd of
-calm_init NotAStore calm of disk output = absurd of
-calm_init Damaged calm of disk output = absurd of
-calm_init ReadFault calm of disk output = absurd of
-calm_init Memory calm of disk output = absurd of
-calm_init TooLong calm of disk output = absurd of
+pub calm_init : {old new : Disk} {before now : ℕ} (status : Status) → IsFaultless old new before now → IsOfInit status → CountsFaults old new status → (status ≡ Done) ⊎ (status ≡ AlreadyStore)
+calm_init Done calm of faults = inl refl
+calm_init AlreadyStore calm of faults = inr refl
+calm_init DiskFault calm of faults = absurd (calm.disk (faults.disk refl))
+calm_init SayFault calm of faults = absurd (calm.output (faults.output refl))
+calm_init DoneWithRefusals calm of faults = absurd of
+calm_init Usage calm of faults = absurd of
+calm_init NotAStore calm of faults = absurd of
+calm_init Damaged calm of faults = absurd of
+calm_init ReadFault calm of faults = absurd of
+calm_init Memory calm of faults = absurd of
+calm_init TooLong calm of faults = absurd of
+
+-- where a store is there already, or the output fails to say so
+pub in_made : (status : Status) → (status ≡ AlreadyStore) ⊎ (status ≡ SayFault) → IsOfInit status
+in_made status ends = ⊎_elim (λ (is : status ≡ AlreadyStore). subst IsOfInit (sym is) tt) (λ (is : status ≡ SayFault). subst IsOfInit (sym is) tt) ends
+
+pub not_made : (status : Status) → (status ≡ AlreadyStore) ⊎ (status ≡ SayFault) → status ≡ Done → ⊥
+not_made status ends done = ⊎_elim (λ (is : status ≡ AlreadyStore). cc (is, done)) (λ (is : status ≡ SayFault). cc (is, done)) ends
+
+-- what a call that opens the store says of the files, both ways
+pub opens_exactly : {old new : Disk} (status : Status) → IsCalm status → JudgesFiles old new status → OpensExactly old new status
+opens_exactly {old} {new} status calm judged =
+    let broken = λ (memory : status ≢ Memory). damaged_exactly status calm memory (λ is. (judged.no_store is).0) (λ is. (judged.damaged is).2.gate) judged.opened (λ image. (judged.store image).1) in
+    record {
+      no_store = no_store_exactly status calm (λ is. (judged.no_store is).0) (λ is. (judged.damaged is).2.gate) judged.memory judged.opened (opens_gate all_meaning);
+      damaged = broken;
+      said = λ memory. first_said old new status (broken memory) judged.damaged;
+    }
+
+pub runs_exactly : {told : Type 0} {left rest : List ℕ} {old new : Disk} (status : Status) → IsCalm status → status ≢ Memory → IsRunCall told left rest old new status → (told → status ≡ TooLong → Takes left rest 0 (2 ^ 40))
+    → ((p : Params) (commands : List Command) → Opens p old commands → IsWellFormed old.reads) → RunsExactly told left old status
+runs_exactly status calm memory call taken image = record {
+  succeeds = λ p commands opens told few. ⊎_elim (λ e. absurd (not_so_few few (enough_taken (taken told e)))) (λ e. e) (whole_run status calm memory ((call.judged opens.told).store (image p commands opens)));
+  too_long = λ files whole told. (
+    λ is. enough_taken (taken told is),
+    λ enough. ⊎_elim (λ e. e) (λ e. absurd (not_so_few (call.input told e).1 enough)) (whole_run status calm memory ((call.judged files).store whole)),
+  );
+}
+
+pub makes_exactly : {p : Params} {old new : Disk} {before now : ℕ} (status : Status) → IsFaultless old new before now → IsMaking p old new status → CountsFaults old new status → old.tells_files → MakesExactly old status
+makes_exactly status calm making faults told =
+    let ends = calm_init status calm making.ends faults in
+    record {
+      already = (λ is. (making.already told is).begins, λ begins. ⊎_elim (λ e. absurd (making.fresh told e begins)) (λ e. e) ends);
+      made = λ none. ⊎_elim (λ e. e) (λ e. absurd (none (making.already told e).begins)) ends;
+    }
+
+-- where the words ask nothing the call ends with one of these
+abbrev pub IsOfUsage : Status → Type 0
+IsOfUsage Usage = ⊤
+IsOfUsage SayFault = ⊤
+IsOfUsage status = ⊥
+
+pub usage_ends : (status : Status) → (status ≡ Usage) ⊎ (status ≡ SayFault) → IsOfUsage status
+usage_ends status ends = ⊎_elim (λ (is : status ≡ Usage). subst IsOfUsage (sym is) tt) (λ (is : status ≡ SayFault). subst IsOfUsage (sym is) tt) ends

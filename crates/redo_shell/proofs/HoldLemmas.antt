@@ -8,9 +8,11 @@ use Rattle.formats.specs.declared.params.Params.{Params}
 use Rattle.log_records.specs.RecordLaws.{keeps_stay}
 use Rattle.op_codec.specs.AllOps.{all_meaning}
 use Rattle.explain_core.specs.World.{World}
+use Rattle.cache_manager.specs.KeptLaws.{shown_attached, stays_log}
 use Rattle.cache_manager.specs.Laid.{IsLaidOn, values_in}
 use Rattle.cache_manager.specs.Parts.{ShowsStore}
-use Rattle.store_engine.specs.Engine.{EngineView, InEachImage, IsAttached, forced_in, used_in}
+use Rattle.store_engine.specs.Engine.{EngineView, InEachImage, forced_in, used_in}
+use Rattle.redo_shell.specs.Store.{IsAttached}
 use Rattle.store_engine.specs.Engine as of_engine
 use Rattle.redo_shell.specs.Store.{Command, meaning_in, state_of, Stands, ShowsIn, Says, Holds, Between}
 
@@ -51,7 +53,7 @@ pub attached_said : {says : List ℕ → List ℕ → Type 0} (old new : Disk) (
 attached_said old new engine runs attached told_new =
     let told = runs.time.files_told.1 told_new in
     let is = attached told in
-    (subst (λ (f : Files). IsLaidOn engine.parts.store.objects (f Objects)) (sym (runs.reads told)) is.0, is.1)
+    (subst (λ (f : Files). IsLaidOn engine.parts.store.objects (f Objects)) (sym (runs.reads told)) is.0, stays_log (all_meaning engine.parts.log.bounds) old new engine.parts.log told runs is.1)
 
 -- a settled machine stays so
 pub still_settled : {d new : Disk} {says : List ℕ → List ℕ → Type 0} → Runs Same says d new → d.tells_files → IsSettled d → IsSettled new
@@ -143,4 +145,4 @@ always (Err e) here = tt
 
 -- an engine that stands for commands is on its files
 pub attached_of : {p : Params} {d : Disk} {engine : EngineView} {commands : List Command} → Holds p d engine commands → IsAttached d engine
-attached_of holds told = (holds.shows.shows.store.laid, holds.shows.shows.log.keeps.in_force.a_log)
+attached_of {p} {d} {engine} holds = shown_attached all_meaning p d engine.parts holds.world holds.shows.shows

@@ -15,6 +15,10 @@ pub mod PrintedLemmas
 pub mod FuseLemmas
 pub mod DamageLemmas
 pub mod CourseLemmas
+pub mod MadeLemmas
+pub mod ListLemmas
+pub mod AskLemmas
+pub mod MakingLemmas
 pub mod DoneLemmas
 pub mod UpkeepLemmas
 pub mod FetchLemmas

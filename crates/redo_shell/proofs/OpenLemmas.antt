@@ -7,19 +7,23 @@ use Rattle.disk_model.specs.Disk.{Files, Disk, IsDisk, Passes, LeavesOnly}
 use Rattle.disk_model.specs.Moments.{first_call, runs_on, weaker}
 use Rattle.formats.specs.declared.params.Params.{Params}
 use Rattle.script_lines.specs.Replies.{Reply, said_line}
+use Rattle.op_codec.specs.AllOps.{all_meaning}
 use Rattle.restart.specs.Starts.{OrAtStart, or_weaker, from_settled}
-use Rattle.store_engine.specs.Engine.{InEachImage}
-use Rattle.redo_shell.specs.Store.{Command, Stands, Opens, Between}
-use Rattle.redo_shell.specs.Stages.{Stage, IsFirst, AllGoBy}
+use Rattle.restart.specs.WellFormed.{opens_gate}
+use Rattle.store_engine.specs.Engine.{EngineView, InEachImage}
+use Rattle.redo_shell.specs.Store.{Command, IsWellFormed, Stands, Opens, Holds, Between}
+use Rattle.redo_shell.specs.Stages.{Stage, IsFirst, AllGoBy, stage_of}
 use Rattle.redo_shell.specs.Answers.{Moment, TrueWithin, with_begun, with_line, SaysTruly}
 use Rattle.redo_shell.specs.Calls.{IsRunOn}
+use Rattle.redo_shell.specs.Causes.{JudgesFiles}
+use Rattle.redo_shell.specs.Open.{OpensFiles, IsOpen, IsUnopened}
 use Rattle.redo_shell.specs.Status.{status_of, status_after, IsOfUnopened}
 use Rattle.redo_shell.specs.declared.status.Status.{Status}
 use Rattle.redo_shell.specs.declared.status.Status.TheVariants.{Done, DoneWithRefusals, NotAStore, Damaged, DiskFault as DiskFailed, SayFault as OutputFailed, Memory as OutOfMemory}
 use Rattle.redo_shell.specs.declared.stop.Stop.{Stop}
 use Rattle.redo_shell.specs.declared.stop.Stop.TheVariants.{DiskFault, Damaged as SlotDamaged, ReadFault, SayFault, Memory, TooLong}
 use Rattle.redo_shell.specs.Run.{IsRun, IsComplete}
-use Rattle.redo_shell.proofs.StoryLemmas.{story_start, told_whole, told_goes}
+use Rattle.redo_shell.proofs.StoryLemmas.{story_start, told_whole, told_goes, told_truly, goes_even}
 use Rattle.redo_shell.proofs.TrueLemmas.{none_begun}
 use Rattle.redo_shell.proofs.RunLemmas.{AreFew, first_moment}
 
@@ -53,12 +57,12 @@ start_moment few {p} start {commands} script stands =
 
 pub says_nothing : {p : Params} {first : Stage} {commands : List Command} (script : List (List ℕ)) {old new : Disk} → Passes old new → new.said ≡ old.said → SaysTruly p first commands script old new
 says_nothing {p} {first} {commands} script {old} {new} time quiet =
-    let none = told_whole (λ reply. ⊤) (story_start p commands script) in
+    let none = told_whole (λ line reply. ⊤) (story_start p commands script) in
     record {
       last = first;
       goes = told_goes first first none refl;
       says = record { bytes = []; since = quiet ∙ sym (append-nil old.said); story = none.story };
-      truly = λ told. subst (λ (l : List Reply). LeavesOnly old new (TrueWithin p old.said l)) (sym none.with_last) (first_call old new (TrueWithin p old.said []) told time (λ files said left. tt));
+      truly = λ told. told_truly old new old.said none (first_call old new (TrueWithin p old.said [] []) told time (λ files said left. tt));
     }
 
 -- then the script is answered
@@ -75,12 +79,13 @@ run_says {p} {first} {start} {mid} {new} {commands} {script} lawful opening time
     let truth = run.says in
     let story = truth.says.story in
     let replies = with_begun story.replies story.work in
+    let lines = with_line story.lines story.work in
     record {
       says = record { bytes = truth.says.bytes; since = truth.says.since ∙ ap (λ (l : List ℕ). l ++ truth.says.bytes) quiet; story = story };
-      truly = λ told. runs_on start mid new (TrueWithin p start.said replies)
-          (weaker start mid (OrAtStart start (Between p start (length commands) commands)) (TrueWithin p start.said replies) (opening told)
-          (λ f s here. none_begun p start.said replies f s (omega (arith, ap length (opening_says p start commands lawful told f s here)))))
-          (subst (λ (s : List ℕ). LeavesOnly mid new (TrueWithin p s replies)) quiet (truth.truly (time.moments_told.0 told)));
+      truly = λ told. runs_on start mid new (TrueWithin p start.said lines replies)
+          (weaker start mid (OrAtStart start (Between p start (length commands) commands)) (TrueWithin p start.said lines replies) (opening told)
+          (λ f s here. none_begun p start.said lines replies f s (goes_even p first truth.last lines replies truth.goes) (omega (arith, ap length (opening_says p start commands lawful told f s here)))))
+          (subst (λ (s : List ℕ). LeavesOnly mid new (TrueWithin p s lines replies)) quiet (truth.truly (time.moments_told.0 told)));
       last = truth.last;
       goes = truth.goes;
     }
@@ -126,20 +131,30 @@ ends_behind {p} {first} old mid new {commands} script lawful before time quiet r
     subst (λ (l : List ℕ). Moment p commands script l files new.said) quiet (subst (λ (l : List ℕ). Moment p commands script mid.said files l) same here) in
     (image new.reads new.said (lawful.as_read (time.moments_told.0 told_mid)), λ told_new. image)
 
+-- what a run on an open store says, from this stage
+abbrev pub RunsFrom : Params → List Command → List (List ℕ) → Disk → Disk → Status → Stage → Type 0
+RunsFrom p commands script mid new status first = IsRun p first mid new commands script × ((status ≡ Done) ⊎ (status ≡ DoneWithRefusals) → IsComplete p first mid new commands script status)
+
+-- so from each stage that the opening has
+pub runs_from_each : {p : Params} {commands : List Command} {old mid : Disk} {engine : EngineView} (script : List (List ℕ)) (new : Disk) (status : Status) → IsOpen p commands old mid engine
+    → ((holds : Holds p mid engine commands) → RunsFrom p commands script mid new status (stage_of engine holds.world)) → (first : Stage) → IsFirst p commands old first → RunsFrom p commands script mid new status first
+runs_from_each {p} {commands} {old} {mid} script new status opened runs first is =
+    let shown = opened.shows first is in
+    subst (λ (s : Stage). RunsFrom p commands script mid new status s) (sym shown.1) (runs shown.0)
+
 -- a run on files that stand for commands, from before they were opened
-pub run_on : AreFew → {p : Params} {first : Stage} (old mid new : Disk) {commands : List Command} (script : List (List ℕ)) (status : Status) → IsDisk old → IsDisk new → Opens p old commands → OpensSo p old mid commands → Passes old mid → mid.said ≡ old.said
-    → IsFirst p commands old first → Passes mid new → IsRun p first mid new commands script
-    → ((status ≡ Done) ⊎ (status ≡ DoneWithRefusals) → IsComplete p first mid new commands script status) → (status ≢ NotAStore) × (status ≢ Damaged) → IsRunOn p commands script old new status
-run_on few {p} {first} old mid new {commands} script status lawful ends opens opening before quiet begins time run complete store =
-    let moments : old.tells_moments → LeavesOnly old new (OrAtStart old (Moment p commands script old.said)) = run_moments few script opening before quiet run in
+pub run_on : AreFew → {p : Params} (old mid new : Disk) {commands : List Command} (script : List (List ℕ)) (status : Status) → IsDisk old → IsDisk new → Opens p old commands → OpensFiles p commands old mid → Passes old mid → Passes mid new
+    → ((first : Stage) → IsFirst p commands old first → RunsFrom p commands script mid new status first) → (status ≢ NotAStore) × (status ≢ Damaged) → IsRunOn p commands script old new status
+run_on few {p} old mid new {commands} script status lawful ends opens files before time runs store =
+    let begun : IsRun p files.first.0 mid new commands script = (runs files.first.0 files.first.1).0 in
+    let moments : old.tells_moments → LeavesOnly old new (OrAtStart old (Moment p commands script old.said)) = run_moments few script files.images before files.quiet begun in
     record {
       moments = moments;
       from_settled = λ told settled. from_settled old new (Moment p commands script old.said) lawful told settled (start_moment few old script opens.stands) (moments told);
-      opened = λ told disk memory. ends_behind old mid new script ends before time quiet run told;
-      first = first;
-      begins = begins;
-      answers = run_says lawful opening before quiet run;
-      complete = λ done. complete_from quiet (complete done);
+      opened = λ told disk memory. ends_behind old mid new script ends before time files.quiet begun told;
+      first = files.first;
+      answers = λ first is. run_says lawful files.images before files.quiet (runs first is).0;
+      complete = λ first is done. complete_from files.quiet ((runs first is).1 done);
       store = store;
     }
 
@@ -153,23 +168,34 @@ opening_failed OutOfMemory of store output disk memory = memory refl
 opening_failed status of store output disk memory = of
 
 -- a run that ended where no store was opened
-not_done : (status : Status) → IsOfUnopened status → (status ≡ Done) ⊎ (status ≡ DoneWithRefusals) → ⊥
+pub not_done : (status : Status) → IsOfUnopened status → (status ≡ Done) ⊎ (status ≡ DoneWithRefusals) → ⊥
 not_done status of done = ⊎_elim
     (λ (is : status ≡ Done). subst (λ (s : Status). IsOfUnopened s) is of)
     (λ (is : status ≡ DoneWithRefusals). subst (λ (s : Status). IsOfUnopened s) is of)
     done
 
-pub run_unopened : AreFew → {p : Params} {first : Stage} (old mid : Disk) {commands : List Command} (script : List (List ℕ)) (status : Status) → IsDisk old → Opens p old commands → OpensSo p old mid commands → Passes old mid → mid.said ≡ old.said
-    → IsFirst p commands old first → IsOfUnopened status → (status ≢ NotAStore) × (status ≢ Damaged) → status ≢ OutputFailed → IsRunOn p commands script old mid status
-run_unopened few {p} {first} old mid {commands} script status lawful opens opening before quiet begins of store output =
-    let moments : old.tells_moments → LeavesOnly old mid (OrAtStart old (Moment p commands script old.said)) = opening_moments few script opening in
+pub run_unopened : AreFew → {p : Params} (old mid : Disk) {commands : List Command} (script : List (List ℕ)) (status : Status) → IsDisk old → Opens p old commands → OpensFiles p commands old mid → Passes old mid
+    → IsWellFormed old.reads → IsUnopened old mid status → IsRunOn p commands script old mid status
+run_unopened few {p} old mid {commands} script status lawful opens files before image unopened =
+    let moments : old.tells_moments → LeavesOnly old mid (OrAtStart old (Moment p commands script old.said)) = opening_moments few script files.images in
+    let store : (status ≢ NotAStore) × (status ≢ Damaged) = (unopened.judged opens.told).store image in
     record {
       moments = moments;
       from_settled = λ told settled. from_settled old mid (Moment p commands script old.said) lawful told settled (start_moment few old script opens.stands) (moments told);
-      opened = λ told disk memory. absurd (opening_failed status of store output disk memory);
-      first = first;
-      begins = begins;
-      answers = says_nothing script before quiet;
-      complete = λ done. absurd (not_done status of done);
+      opened = λ told disk memory. absurd (opening_failed status unopened.ends store (unopened.quiet opens.told image) disk memory);
+      first = files.first;
+      answers = λ first is. says_nothing script before files.quiet;
+      complete = λ first is done. absurd (not_done status unopened.ends done);
       store = store;
     }
+
+-- a call on a store that was opened judges its files so
+pub judged_open : {old new : Disk} (status : Status) → IsWellFormed old.reads → (status ≢ NotAStore) × (status ≢ Damaged) → JudgesFiles old new status
+judged_open status image store = record {
+  no_store = λ is. absurd (store.0 is);
+  damaged = λ is. absurd (store.1 is);
+  store = λ image. store;
+  opened = λ of. image;
+  keeps = λ broken. absurd (broken image);
+  memory = λ is. opens_gate all_meaning image;
+}

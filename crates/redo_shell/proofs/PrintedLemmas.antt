@@ -9,7 +9,7 @@ use Rattle.oper_core.specs.declared.refusal.Refusal.{Refusal}
 use Rattle.oper_core.specs.declared.refusal.Refusal.TheVariants.{NoObject, Same, BadPlace, BadWidth, NotApp, NoInput, NotNode, NoKey, NodeFull, TooLarge}
 use Rattle.formats.specs.declared.params.Params.{Params}
 use Rattle.script_lines.specs.Reading.{IsPlain}
-use Rattle.script_lines.specs.Replies.{Reply, ok, value, forced, bad, refused, full, end, object_value, command_count, stat, silence, spaced, numbers_of, hex_glyph, hex_pair, hex_text, name_of, text_of, said_line}
+use Rattle.script_lines.specs.Replies.{Pair, Reply, ok, ran, value, pairs, forced, bad, refused, bad_tree, tree_full, full, end, object_value, command_count, stat, summary, silence, pair_text, spaced_pair, spaced, numbers_of, hex_glyph, hex_pair, hex_text, name_of, text_of, said_line}
 use Rattle.redo_shell.specs.Store.{Command}
 use Rattle.redo_shell.specs.Answers.{Said, Begun}
 use Rattle.redo_shell.specs.Printed.{before_line, whole_lines, texts_of, SaysForced}
@@ -92,6 +92,20 @@ plain_numbers : (numbers : List ℕ) → IsPlain (flat_map spaced numbers)
 plain_numbers [] = tt
 plain_numbers (n ∷ numbers) = plain_on (32 ∷ decimal n) (flat_map spaced numbers) (space_on (decimal n) (plain_decimal n)) (plain_numbers numbers)
 
+plain_pair : (pair : Pair) → IsPlain (pair_text pair)
+plain_pair pair = plain_on (flat_map hex_pair pair.0) (58 ∷ flat_map hex_pair pair.1) (plain_pairs pair.0) ((λ e. omega arith), plain_pairs pair.1)
+
+plain_others : (others : List Pair) → IsPlain (flat_map spaced_pair others)
+plain_others [] = tt
+plain_others (pair ∷ others) = plain_on (spaced_pair pair) (flat_map spaced_pair others) (space_on (pair_text pair) (plain_pair pair)) (plain_others others)
+
+-- a number behind a word
+plain_count : (name : List ℕ) (n : ℕ) → IsPlain name → IsPlain (name ++ decimal n)
+plain_count name n plain = plain_on name (decimal n) plain (plain_decimal n)
+
+plain_named : (front name : List ℕ) (n : ℕ) → IsPlain front → IsPlain name → IsPlain (front ++ name ++ decimal n)
+plain_named front name n before plain = plain_on (front ++ name) (decimal n) (plain_on front name before plain) (plain_decimal n)
+
 -- no answer's text has one
 pub plain_text : (reply : Reply) → IsPlain (text_of reply)
 unfolding text_of
@@ -108,6 +122,29 @@ plain_text (end number) = plain_on (codes "end ") (decimal number) (plain_when (
 plain_text (object_value object bytes) = plain_on (decimal object) (32 ∷ hex_text bytes) (plain_decimal object) (space_on (hex_text bytes) (plain_hex bytes))
 plain_text (command_count n) = plain_on (codes "commands ") (decimal n) (plain_when (codes "commands ") refl) (plain_decimal n)
 plain_text (stat counts) = plain_on (codes "stat") (flat_map spaced (numbers_of counts)) (plain_when (codes "stat") refl) (plain_numbers (numbers_of counts))
+plain_text (ran n) = plain_count (codes "ran ") n (plain_when (codes "ran ") refl)
+plain_text (pairs pair others) = plain_on (pair_text pair) (flat_map spaced_pair others) (plain_pair pair) (plain_others others)
+plain_text bad_tree = plain_when (codes "refused BadTree") refl
+plain_text tree_full = plain_when (codes "refused TreeFull") refl
+plain_text (summary t) =
+    let seed = codes "demo" ++ codes " seed " ++ decimal t.seed in
+    let steps = seed ++ codes " steps " ++ decimal t.steps in
+    let lines = steps ++ codes " lines " ++ decimal t.lines in
+    let bytes = lines ++ codes " bytes " ++ decimal t.bytes in
+    let accepted = bytes ++ codes " accepted " ++ decimal t.accepted in
+    let refusals = accepted ++ codes " refused " ++ decimal t.refused in
+    plain_named refusals (codes " sum ") t.sum
+    (plain_named accepted (codes " refused ") t.refused
+    (plain_named bytes (codes " accepted ") t.accepted
+    (plain_named lines (codes " bytes ") t.bytes
+    (plain_named steps (codes " lines ") t.lines
+    (plain_named seed (codes " steps ") t.steps
+    (plain_count (codes "demo" ++ codes " seed ") t.seed (plain_when (codes "demo seed ") refl)) (plain_when (codes " steps ") refl))
+    (plain_when (codes " lines ") refl))
+    (plain_when (codes " bytes ") refl))
+    (plain_when (codes " accepted ") refl))
+    (plain_when (codes " refused ") refl))
+    (plain_when (codes " sum ") refl)
 plain_text silence = tt
 
 -- the whole lines of bytes
@@ -142,6 +179,11 @@ line_more (end number) replies bytes rest = whole_line (end number) replies byte
 line_more (object_value object v) replies bytes rest = whole_line (object_value object v) replies bytes rest
 line_more (command_count n) replies bytes rest = whole_line (command_count n) replies bytes rest
 line_more (stat counts) replies bytes rest = whole_line (stat counts) replies bytes rest
+line_more (ran n) replies bytes rest = whole_line (ran n) replies bytes rest
+line_more (pairs pair others) replies bytes rest = whole_line (pairs pair others) replies bytes rest
+line_more bad_tree replies bytes rest = whole_line bad_tree replies bytes rest
+line_more tree_full replies bytes rest = whole_line tree_full replies bytes rest
+line_more (summary totals) replies bytes rest = whole_line (summary totals) replies bytes rest
 line_more silence replies bytes rest = rest
 
 -- the whole lines of what is said are the texts of the answers
@@ -163,6 +205,11 @@ low_hex : (bytes : List ℕ) → get_or (hex_text bytes) 1 0 ≤ 102
 low_hex [] = omega arith
 low_hex (byte ∷ bytes) = let small : byte % 16 < 16 = omega arith in low_glyph (byte % 16) small
 
+-- no pair begins as `forced` does
+low_pair : (key v others : List ℕ) (n : ℕ) → (flat_map hex_pair key ++ 58 ∷ flat_map hex_pair v) ++ others ≡ codes "forced " ++ decimal n → ⊥
+low_pair [] v others n same = omega (arith, ap (λ (l : List ℕ). get_or l 0 0) same)
+low_pair (byte ∷ key) v others n same = let small : byte % 16 < 16 = omega arith in omega (arith, low_glyph (byte % 16) small, ap (λ (l : List ℕ). get_or l 1 0) same)
+
 -- the text says so many, and the reply is one that does
 pub record Forces (reply : Reply) (n : ℕ) : Type 0 where
   pub count : ℕ
@@ -181,6 +228,11 @@ forced_text (end number) n same = absurd (omega (arith, ap (λ (l : List ℕ). g
 forced_text (object_value object bytes) n same = absurd (omega (arith, low_decimal object (hex_text bytes), ap (λ (l : List ℕ). get_or l 0 0) same))
 forced_text (command_count m) n same = absurd (omega (arith, ap (λ (l : List ℕ). get_or l 0 0) same))
 forced_text (stat counts) n same = absurd (omega (arith, ap (λ (l : List ℕ). get_or l 0 0) same))
+forced_text (ran m) n same = absurd (omega (arith, ap (λ (l : List ℕ). get_or l 0 0) same))
+forced_text (pairs pair others) n same = absurd (low_pair pair.0 pair.1 (flat_map spaced_pair others) n same)
+forced_text bad_tree n same = absurd (omega (arith, ap (λ (l : List ℕ). get_or l 1 0) same))
+forced_text tree_full n same = absurd (omega (arith, ap (λ (l : List ℕ). get_or l 1 0) same))
+forced_text (summary totals) n same = absurd (omega (arith, ap (λ (l : List ℕ). get_or l 0 0) same))
 forced_text silence n same = absurd (omega (arith, ap (λ (l : List ℕ). get_or l 1 0) same))
 
 -- one of the replies says so many
@@ -209,14 +261,14 @@ text_forces (silence ∷ replies) n has = later_forces silence replies n (text_f
 text_forces (reply ∷ replies) n has = ⊎_elim (λ is. first_forces reply replies n is) (λ behind. later_forces reply replies n (text_forces replies n behind)) (texts_cases (text_of reply) (text_of (forced n)) (texts_of replies) has)
 
 -- the beginning of the next answer is no whole line
-plain_part : {p : Params} {tie : Reply → Type 0} {commands : List Command} {script : List (List ℕ)} {said : List ℕ} → (s : Said p tie commands script said) → IsPlain s.part
+plain_part : {p : Params} {tie : List ℕ → Reply → Type 0} {commands : List Command} {script : List (List ℕ)} {said : List ℕ} → (s : Said p tie commands script said) → IsPlain s.part
 plain_part {p} {tie} {commands} s = ⊎_elim
     (λ none. subst (λ (l : List ℕ). IsPlain l) (sym none.0) tt)
     (λ (b : Begun p tie (commands ++ s.acc) s.todo s.part s.added). subst (λ (l : List ℕ). IsPlain l) (sym b.begun) (plain_front b.count (text_of b.reply) (plain_text b.reply)))
     s.work
 
 -- What was printed says no more to be forced than the answers do.
-pub printed_acked : {p : Params} {tie : Reply → Type 0} {commands : List Command} {script : List (List ℕ)} {said : List ℕ} (kept : ℕ) → (s : Said p tie commands script said) → kept < 2 ^ 64
+pub printed_acked : {p : Params} {tie : List ℕ → Reply → Type 0} {commands : List Command} {script : List (List ℕ)} {said : List ℕ} (kept : ℕ) → (s : Said p tie commands script said) → kept < 2 ^ 64
     → ((n : ℕ) → Contains s.replies (forced n) → n ≤ kept) → (n : ℕ) → SaysForced said n → n ≤ kept
 printed_acked {p} {tie} {commands} {script} {said} kept s small acked n says =
     let texts = ap (λ (l : List ℕ). whole_lines l) s.said_is ∙ lines_said s.replies s.part (plain_part s) in

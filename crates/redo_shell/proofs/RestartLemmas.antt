@@ -1,5 +1,6 @@
 -- What the opening of a store says of the files.
-use Rattle.std.proofs.Common.{◌≡◌, ◌≢◌, ◌⊎◌, ⊎_elim, ◌≤◌, ◌∙◌, List, ℕ, refl, ap, subst, arith, length, false}
+use Rattle.std.proofs.Common.{◌≡◌, ◌≢◌, ◌⊎◌, ⊎_elim, ◌≤◌, ◌∙◌, ◌++◌, List, [], ◌∷◌, ℕ, refl, ap, sym, subst, arith, length, take, drop, false}
+use Rattle.std.proofs.lemmas.List.{append-nil, length-append, take-append-drop}
 use Rattle.disk_model.specs.Disk.{Files, Disk, Stays}
 use Rattle.disk_model.specs.declared.machine.FileNo.TheVariants.{Objects}
 use Rattle.stable_objects.specs.Laws.{begins_store}
@@ -7,48 +8,68 @@ use Rattle.disk_model.specs.declared.machine.FileNo.{FileNo}
 use Rattle.formats.specs.Image.{BeginsStore, EndsAt}
 use Rattle.formats.specs.declared.params.Params.{Params}
 use Rattle.op_codec.specs.AllOps.{all_meaning}
-use Rattle.explain_core.specs.History.{commands_of}
+use Rattle.explain_core.specs.History.{Member, commands_of}
+use Rattle.explain_core.specs.StableLaws.{commands_of-append}
 use Rattle.explain_core.specs.World.{World, run}
 use Rattle.cache_manager.specs.Taking.{IsAfter}
 use Rattle.restart.specs.Causes.{IsNoDamage}
 use Rattle.restart.specs.Courses.{restart_course}
 use Rattle.restart.specs.Opening.{OpensOn}
+use Rattle.restart.specs.Reopened.{IsReopened}
 use Rattle.restart.specs.declared.restart_err.RestartErr.{RestartErr}
 use Rattle.restart.specs.declared.restart_err.RestartErr.TheVariants.{NotAStore, Damaged}
 use Rattle.standing.specs.Standing.{IsFound}
-use Rattle.store_engine.specs.Engine.{EngineView, forced_in}
+use Rattle.store_engine.specs.Engine.{EngineView}
 use Rattle.store_engine.specs.Engine as of_engine
-use Rattle.redo_shell.specs.Open.{IsOpen}
-use Rattle.redo_shell.specs.Stages.{Stage, IsFirst, redo_dirty}
-use Rattle.redo_shell.specs.Store.{Command, meaning_in, IsWellFormed, Opens, Says}
+use Rattle.redo_shell.specs.Stages.{Stage, IsFirst, redo_dirty, stage_of}
+use Rattle.redo_shell.specs.Store.{Command, meaning_in, IsWellFormed, Opens, Holds, Says}
 use Rattle.redo_shell.proofs.HoldLemmas.{holds_of}
 
 -- a world that the files show, with these commands, and the length of their log
 abbrev pub Starts : Params → Disk → List Command → Type 0
 Starts p old commands = (used : ℕ) × (w : World Command) × IsFound (meaning_in p) p old.reads commands w × EndsAt old.reads used
 
--- on such a world the files open
-pub opens_at : {p : Params} {old : Disk} {commands : List Command} → Opens p old commands → (starts : Starts p old commands) → OpensOn (meaning_in p) p old starts.0 starts.1
-opens_at opens starts = record { told = opens.told; sound = starts.2.sound; shows = starts.2.shows; ends = starts.3 }
-
 -- the stage that a restart makes of it
 pub first_of : {p : Params} {old : Disk} {commands : List Command} → Opens p old commands → Starts p old commands → (first : Stage) × IsFirst p commands old first
 first_of {p} {old} {commands} opens starts =
-    let course = restart_course (meaning_in p) redo_dirty starts.1 starts.0 in (
+    let course = restart_course (meaning_in p) redo_dirty starts.1 starts.0 in
+    let found : OpensOn (meaning_in p) p old starts.0 starts.1 = record { told = opens.told; sound = starts.2.sound; shows = starts.2.shows; ends = starts.3 } in (
       record { world = run (meaning_in p) starts.1 course.steps; used = course.used; identities = 0 },
-      record { used = starts.0; world = starts.1; found = opens_at opens starts; commands_are = starts.2.commands_are; world_is = refl; used_is = refl; none_logged = refl },
+      record { used = starts.0; world = starts.1; found = found; commands_are = starts.2.commands_are; world_is = refl; used_is = refl; none_logged = refl },
     )
 
--- the engine that is opened on it
-pub open_on : {p : Params} {old new : Disk} {engine : EngineView} {commands : List Command} → Opens p old commands → (starts : Starts p old commands) → engine.broken ≡ false → engine.identities ≡ 0
-    → IsAfter (meaning_in p) p new engine.parts starts.1 (restart_course (meaning_in p) redo_dirty starts.1 starts.0)
-    → commands_of (run (meaning_in p) starts.1 (restart_course (meaning_in p) redo_dirty starts.1 starts.0).steps).history ≡ commands
-    → forced_in engine ≡ length commands → (of_engine.Holds all_meaning p new engine commands → Says p new engine commands) → IsOpen p commands old new engine
-open_on {p} {old} {new} {engine} {commands} opens starts unbroken none after keeps all says = record {
-  holds = holds_of (record { world = run (meaning_in p) starts.1 (restart_course (meaning_in p) redo_dirty starts.1 starts.0).steps; shows = record { unbroken = unbroken; shows = after.shows }; commands_are = keeps }) says;
-  all = all;
-  first = record { used = starts.0; world = starts.1; found = opens_at opens starts; commands_are = starts.2.commands_are; world_is = refl; used_is = after.used; none_logged = none };
-}
+-- a front that is as long as the whole is the whole
+whole_front : (a b whole : List Command) → a ++ b ≡ whole → length a ≡ length whole → a ≡ whole
+whole_front a [] whole is same = sym (append-nil a) ∙ is
+whole_front a (x ∷ b) whole is same =
+    let both = length-append a (x ∷ b) in
+    let long = ap length is in
+    absurd (omega (arith, both, long, same))
+
+-- so the commands of a front of a history are all of them, where they are as many
+all_in_front : (n : ℕ) (h : List (Member Command)) (commands : List Command) → commands_of h ≡ commands → length (commands_of (take n h)) ≡ length commands → commands_of (take n h) ≡ commands
+all_in_front n h commands is same =
+    let split : commands_of (take n h) ++ commands_of (drop n h) ≡ commands_of h = sym (commands_of-append (take n h) (drop n h)) ∙ ap (λ (l : List (Member Command)). commands_of l) (take-append-drop n h) in
+    whole_front (commands_of (take n h)) (commands_of (drop n h)) commands (split ∙ is) same
+
+-- the world that a restart makes of files that stand for commands
+abbrev pub restarted : {p : Params} {commands : List Command} {old : Disk} {first : Stage} → IsFirst p commands old first → World Command
+restarted {p} is = run (meaning_in p) is.world (restart_course (meaning_in p) redo_dirty is.world is.used).steps
+
+-- The engine that was opened shows each first stage: of the commands of that world no fewer are stable than the engine has
+-- accepted, so all of them are.
+pub shows_first : {p : Params} {old new : Disk} {engine : EngineView} {commands : List Command} (first : Stage) (is : IsFirst p commands old first) → engine.broken ≡ false → engine.identities ≡ 0
+    → IsAfter (meaning_in p) p new engine.parts is.world (restart_course (meaning_in p) redo_dirty is.world is.used)
+    → IsReopened (meaning_in p) is.world (restarted is) → of_engine.Holds all_meaning p new engine commands
+    → ((others : List Command) → of_engine.Holds all_meaning p new engine others → Says p new engine others)
+    → (holds : Holds p new engine commands) × (first ≡ stage_of engine holds.world)
+shows_first {p} {old} {new} {engine} {commands} first is unbroken none after reopened holds says =
+    let mine : of_engine.Holds all_meaning p new engine (commands_of (restarted is).history) = record { world = restarted is; shows = record { unbroken = unbroken; shows = after.shows }; commands_are = refl } in
+    let many : length (commands_of (restarted is).history) ≡ length commands = sym (says (commands_of (restarted is).history) mine).accepted ∙ (says commands holds).accepted in
+    let front = all_in_front is.world.forced is.world.history commands is.commands_are (ap length (sym reopened.commands) ∙ many) in (
+      holds_of (record { world = restarted is; shows = record { unbroken = unbroken; shows = after.shows }; commands_are = reopened.commands ∙ front }) (says commands),
+      λ i. record { world = is.world_is i; used = (is.used_is ∙ sym after.used) i; identities = (is.none_logged ∙ sym none) i },
+    )
 
 -- files that do not meet their format are left as they are
 pub stays_unless : {P : Type 0} {old new : Disk} → P ⊎ Stays old new → (P → ⊥) → Stays old new

@@ -1,5 +1,5 @@
 -- How a run's moments go on from line to line.
-use Rattle.std.proofs.Common.{◌≡◌, ◌≢◌, ◌⊎◌, inl, inr, ⊎_elim, ◌≤◌, ◌<◌, ◌^◌, ◌++◌, ◌||◌, ◌↔◌, List, ℕ, [], ◌∷◌, length, take, length-append, append_assoc, refl, ap, ◌∙◌, sym, subst, arith, Bool, true, false, Contains, Result, Ok, Err, IfOk, OnOk, OnErr, IsErr}
+use Rattle.std.proofs.Common.{◌≡◌, ◌≢◌, ◌⊎◌, inl, inr, ⊎_elim, ◌≤◌, ◌<◌, ◌^◌, ◌++◌, ◌+◌, ◌||◌, ◌↔◌, List, ℕ, [], ◌∷◌, length, take, length-append, append_assoc, refl, ap, ◌∙◌, sym, subst, arith, Bool, true, false, Contains, Result, Ok, Err, IfOk, OnOk, OnErr, IsErr}
 use Rattle.std.specs.Prelude.{⊤}
 use Rattle.std.proofs.lemmas.List.{append-nil, take_all, length-take-le}
 use Rattle.std.proofs.lemmas.List.Folds.{list_any-append}
@@ -8,27 +8,31 @@ use Rattle.disk_model.specs.Disk.{Files, Disk, IsDisk, Passes, Runs, Same, SaysF
 use Rattle.disk_model.specs.Moments.{passes_none, first_call, runs_on, weaker}
 use Rattle.formats.specs.Image.{EndsAt}
 use Rattle.formats.specs.declared.params.Params.{Params}
+use Rattle.explain_core.specs.History.{commands_of}
 use Rattle.explain_core.specs.World.{World, run}
-use Rattle.cache_manager.specs.Courses.{force_steps, force_course}
+use Rattle.cache_manager.specs.Courses.{course, force_steps, force_course}
+use Rattle.cache_manager.specs.Courses.Stop.{Through}
 use Rattle.cache_manager.specs.Forced.{files_shown}
 use Rattle.cache_manager.specs.Taking.{IsAfter}
 use Rattle.oper_core.specs.declared.refusal.Refusal.TheVariants.{NoObject}
-use Rattle.script_lines.specs.Grammar.{AsksFor, get, skip}
+use Rattle.oper_core.specs.Meaning.{Meaning}
+use Rattle.script_lines.specs.Grammar.{Request, AsksFor, get, skip}
 use Rattle.script_lines.specs.Replies.{Reply, value, forced, refused, silence, said_line}
 use Rattle.store_engine.specs.Engine.{EngineView, InEachImage, accepted_in, forced_in, used_in}
 use Rattle.redo_shell.specs.Store.{Command, meaning_in, state_of, Stands, Holds, Kept, Between}
+use Rattle.redo_shell.specs.Made.{IsFront}
 use Rattle.redo_shell.specs.Replies.{Replies, IsTrueIn, is_refusing}
 use Rattle.redo_shell.specs.Found.{IsDone}
-use Rattle.redo_shell.specs.Stages.{Stage, GoesBy, AllGoBy, stage_of}
-use Rattle.redo_shell.specs.Answers.{Moment, TrueWithin, SaysTruly}
+use Rattle.redo_shell.specs.Stages.{Stage, IsQuestion, Ends, GoesBy, Leads, AllGoBy, stage_of}
+use Rattle.redo_shell.specs.Answers.{IsSilent, Moment, TrueWithin, SaysTruly}
 use Rattle.redo_shell.specs.Status.{status_after}
 use Rattle.redo_shell.specs.declared.status.Status.TheVariants.{DoneWithRefusals}
 use Rattle.redo_shell.specs.declared.stop.Stop.{Stop}
-use Rattle.redo_shell.specs.Run.{IsTrueSaying, IsTrueSoFar, IsAnswered, IsPartly, During, LineMoment, Going, IsComplete, IsFound, Answering, IsRun}
+use Rattle.redo_shell.specs.Run.{IsTrueSaying, IsTrueSoFar, IsAnswered, IsPartly, Working, During, LineMoment, Going, IsComplete, IsFound, Answering, IsRun}
 use Rattle.redo_shell.proofs.HoldLemmas.{holds_as, holds_stays, holds_between, told_by}
 use Rattle.redo_shell.proofs.TrueLemmas.{truly_on, truly_quiet, line_behind, found_truly}
 use Rattle.redo_shell.proofs.PrintedLemmas.{printed_acked}
-use Rattle.redo_shell.proofs.StoryLemmas.{goes_by_more, told_goes, said_longer, Story, Told, story_start, story_more, story_end, said_more, spoken_more, told_whole, told_partly}
+use Rattle.redo_shell.proofs.StoryLemmas.{goes_by_more, goes_even, told_goes, told_truly, said_longer, Story, Told, story_start, story_more, story_end, said_more, spoken_more, told_whole, told_silent, told_partly}
 
 -- files stand for fewer commands than there are numbers
 abbrev pub AreFew : Type 0
@@ -57,7 +61,18 @@ moment_of few {p} {commands} {script} {lines} {replies} {acc} before bytes f s k
       acked = printed_acked kept told.story small (λ n has. acked n (told.spoken n has));
     }
 
--- while the engine works, the story is that of the lines before
+-- while the engine works, the story is that of the lines before, with some first commands of the next
+working_moment : AreFew → {p : Params} {first : Stage} {start now : Disk} {engine : EngineView} {commands : List Command} {script todo : List (List ℕ)} {refusing : Bool} (line : List ℕ)
+    (g : Going p first start now engine commands script (line ∷ todo) refusing) → (f : Files) (s : List ℕ) → Working p now (forced_in engine) (commands ++ g.acc) line f s → Moment p commands script start.said f s
+working_moment few {p} {first} {start} {now} {engine} {commands} {script} {todo} line g f s w =
+    let b = w.between in
+    let same : commands ++ g.acc ++ w.added ≡ commands ++ (g.acc ++ w.added) = append_assoc commands g.acc w.added in
+    let silent : IsSilent p (commands ++ g.acc) (line ∷ todo) w.added = ⊎_elim (λ (none : w.added ≡ []). inl none) (λ (front : IsFront p (commands ++ g.acc) line w.added). inr (line, todo, refl, front)) w.front in
+    moment_of few start.said (flat_map said_line g.replies) f s b.kept (told_silent (IsTrueIn p f) w.added (story_of g) silent) (b.quiet ∙ g.said_is) (omega (arith, g.all_before, b.enough))
+    (omega (arith, b.within, ap length same)) (subst (λ (l : List Command). Stands p f (take b.kept l)) same b.stands)
+    (λ n has. omega (arith, g.acked n has, b.enough))
+
+-- between two lines
 between_moment : AreFew → {p : Params} {first : Stage} {start now : Disk} {engine : EngineView} {commands : List Command} {script todo : List (List ℕ)} {refusing : Bool}
     (g : Going p first start now engine commands script todo refusing) → (f : Files) (s : List ℕ) → Between p now (forced_in engine) (commands ++ g.acc) f s → Moment p commands script start.said f s
 between_moment few {p} {first} {start} {now} {engine} {commands} {script} g f s b =
@@ -79,7 +94,7 @@ during_moment few {p} {first} {start} {now} {engine} {commands} {script} line g 
 
 line_moment : AreFew → {p : Params} {first : Stage} {start now : Disk} {engine : EngineView} {commands : List Command} {script todo : List (List ℕ)} {refusing : Bool} (line : List ℕ)
     (g : Going p first start now engine commands script (line ∷ todo) refusing) → (f : Files) (s : List ℕ) → LineMoment p now (forced_in engine) (commands ++ g.acc) line f s → Moment p commands script start.said f s
-line_moment few line g f s here = ⊎_elim (between_moment few g f s) (during_moment few line g f s) here
+line_moment few line g f s here = ⊎_elim (working_moment few line g f s) (during_moment few line g f s) here
 
 -- the moments of a run, one line further
 moments_more : AreFew → {p : Params} {first : Stage} {start now new : Disk} {engine after : EngineView} {commands : List Command} {script todo : List (List ℕ)} {refusing : Bool} {result : Result Bool Stop} (line : List ℕ)
@@ -96,6 +111,11 @@ acked_more replies reply least kept before le here n has =
 
 kind_more : (refusing kind : Bool) (replies : List Reply) (reply : Reply) → refusing ≡ list_any is_refusing replies → kind ≡ is_refusing reply → (refusing || kind) ≡ list_any is_refusing (replies ++ reply ∷ [])
 kind_more refusing kind replies reply before here = grind (arith, before, here, list_any-append is_refusing replies (reply ∷ []))
+
+-- there are as many answers as lines
+even_of : {p : Params} {first : Stage} {start now : Disk} {engine : EngineView} {commands : List Command} {script todo : List (List ℕ)} {refusing : Bool}
+    (g : Going p first start now engine commands script todo refusing) → length g.lines ≡ length g.replies
+even_of {p} {first} {engine = engine} g = goes_even p first (stage_of engine g.holds.world) g.lines g.replies g.goes
 
 -- a line was answered: the run is one line further
 pub goes_on : AreFew → {p : Params} {first : Stage} {start now new : Disk} {engine after : EngineView} {commands : List Command} {script todo : List (List ℕ)} {refusing kind : Bool} {result : Result Bool Stop} (line : List ℕ)
@@ -117,9 +137,9 @@ goes_on few {p} {first} {start} {now} {new} {engine} {after} {commands} {script}
       acked = acked_more g.replies whole.reply (forced_in engine) (forced_in after) g.acked whole.kept.rising whole.acked;
       kind = kind_more refusing kind g.replies whole.reply g.kind whole.kind;
       moments = moments_more few line g time a;
-      truly = λ told. subst (λ (l : List ℕ). LeavesOnly start new (IsTrueSoFar p start.said (g.replies ++ whole.reply ∷ []) l)) (sym whole.said)
-          (truly_on whole.reply (g.truly told) g.said_is (whole.truly (time.moments_told.0 told)));
-      goes = goes_by_more p first (stage_of engine g.holds.world) (stage_of after whole.kept.holds.world) g.lines g.replies line whole.reply g.goes whole.goes;
+      truly = λ told. subst (λ (l : List ℕ). LeavesOnly start new (IsTrueSoFar p start.said story.lines (g.replies ++ whole.reply ∷ []) l)) (sym whole.said)
+          (truly_on line whole.reply (even_of g) (g.truly told) g.said_is (whole.truly (time.moments_told.0 told)));
+      goes = goes_by_more p first (stage_of engine g.holds.world) (stage_of after whole.kept.holds.world) g.lines g.replies line whole.reply g.goes whole.leads;
     }
 
 -- the start of a run, of which nothing is said yet
@@ -146,7 +166,7 @@ opened few {p} {start} {engine} {commands} script lawful holds all = record {
   kind = refl;
   moments = λ told. weaker start start (Between p start (forced_in engine) commands) (Moment p commands script start.said) (holds_between lawful holds told)
       (λ f s b. first_moment few script f s (subst (λ (n : ℕ). Between p start n commands f s) all b));
-  truly = λ told. weaker start start (Between p start (forced_in engine) commands) (IsTrueSoFar p start.said [] start.said) (holds_between lawful holds told)
+  truly = λ told. weaker start start (Between p start (forced_in engine) commands) (IsTrueSoFar p start.said [] [] start.said) (holds_between lawful holds told)
       (λ f s b. record { true_within = tt; no_longer = omega (arith, ap length b.quiet) });
   goes = refl;
 }
@@ -154,10 +174,10 @@ opened few {p} {start} {engine} {commands} script lawful holds all = record {
 -- a run that ends between two lines
 pub ends_here : {p : Params} {first : Stage} {start now : Disk} {engine : EngineView} {commands : List Command} {script todo : List (List ℕ)} {refusing : Bool}
     → Going p first start now engine commands script todo refusing → IsRun p first start now commands script
-ends_here {p} {first} {start} {now} {engine} g = let all = told_whole (λ reply. ⊤) (story_of g) in record {
+ends_here {p} {first} {start} {now} {engine} g = let all = told_whole (λ line reply. ⊤) (story_of g) in record {
   says = record {
     says = record { bytes = flat_map said_line g.replies; since = g.said_is; story = all.story };
-    truly = λ told. subst (λ (l : List Reply). LeavesOnly start now (TrueWithin p start.said l)) (sym all.with_last) (weaker start now (IsTrueSoFar p start.said g.replies now.said) (TrueWithin p start.said g.replies) (g.truly told) (λ files said t. t.true_within));
+    truly = λ told. told_truly start now start.said all (weaker start now (IsTrueSoFar p start.said g.lines g.replies now.said) (TrueWithin p start.said g.lines g.replies) (g.truly told) (λ files said t. t.true_within));
     last = stage_of engine g.holds.world;
     goes = told_goes first (stage_of engine g.holds.world) all g.goes;
   };
@@ -167,11 +187,11 @@ ends_here {p} {first} {start} {now} {engine} g = let all = told_whole (λ reply.
 -- a run that ends while a line is answered
 pub ends_in_line : AreFew → {p : Params} {first : Stage} {start now new : Disk} {engine after : EngineView} {commands : List Command} {script todo : List (List ℕ)} {refusing : Bool} {result : Result Bool Stop} {stop : Stop} (line : List ℕ)
     (g : Going p first start now engine commands script (line ∷ todo) refusing) → Passes start now → result ≡ Err stop → Answering p now new engine after g.holds.world (commands ++ g.acc) line result → IsRun p first start new commands script
-ends_in_line few {p} {first} {start} {now} {new} {engine} {after} {commands} {script} {todo} {refusing} {result} {stop} line g time is a = let all = told_whole (λ reply. ⊤) (story_of g) in record {
+ends_in_line few {p} {first} {start} {now} {new} {engine} {after} {commands} {script} {todo} {refusing} {result} {stop} line g time is a = let all = told_whole (λ line reply. ⊤) (story_of g) in record {
   says = ⊎_elim
       (λ (quiet : new.said ≡ now.said). record {
         says = record { bytes = flat_map said_line g.replies; since = quiet ∙ g.said_is; story = all.story };
-        truly = λ told. subst (λ (l : List Reply). LeavesOnly start new (TrueWithin p start.said l)) (sym all.with_last) (truly_quiet (g.truly told) g.said_is (a.moments (time.moments_told.0 told)) line_behind);
+        truly = λ told. told_truly start new start.said all (truly_quiet (even_of g) (g.truly told) g.said_is (a.moments (time.moments_told.0 told)) line_behind);
         last = stage_of engine g.holds.world;
         goes = told_goes first (stage_of engine g.holds.world) all g.goes;
       })
@@ -182,29 +202,29 @@ ends_in_line few {p} {first} {start} {now} {new} {engine} {after} {commands} {sc
   where
     begun : IsPartly p now new (stage_of engine g.holds.world) (commands ++ g.acc) line → SaysTruly p first commands script start new
     begun part =
-        let told_part = told_partly (λ reply. ⊤) line part.reply part.added part.count (story_of g) part.replies tt in
+        let told_part = told_partly (λ line reply. ⊤) line part.reply part.added part.count (story_of g) part.replies tt in
         record {
           says = record {
             bytes = flat_map said_line g.replies ++ take part.count (said_line part.reply);
             since = part.said_is ∙ ap (λ (l : List ℕ). l ++ take part.count (said_line part.reply)) g.said_is ∙ append_assoc start.said (flat_map said_line g.replies) _;
             story = told_part.story;
           };
-          truly = λ told. subst (λ (l : List Reply). LeavesOnly start new (TrueWithin p start.said l)) (sym told_part.with_last)
-              (weaker start new (IsTrueSoFar p start.said (g.replies ++ part.reply ∷ []) (now.said ++ said_line part.reply)) (TrueWithin p start.said (g.replies ++ part.reply ∷ []))
-              (truly_on part.reply (g.truly told) g.said_is (part.truly (time.moments_told.0 told))) (λ files said t. t.true_within));
+          truly = λ told. told_truly start new start.said told_part
+              (weaker start new (IsTrueSoFar p start.said (g.lines ++ line ∷ []) (g.replies ++ part.reply ∷ []) (now.said ++ said_line part.reply)) (TrueWithin p start.said (g.lines ++ line ∷ []) (g.replies ++ part.reply ∷ []))
+              (truly_on line part.reply (even_of g) (g.truly told) g.said_is (part.truly (time.moments_told.0 told))) (λ files said t. t.true_within));
           last = part.after;
-          goes = told_goes first part.after told_part (goes_by_more p first (stage_of engine g.holds.world) part.after g.lines g.replies line part.reply g.goes part.goes);
+          goes = told_goes first part.after told_part (goes_by_more p first (stage_of engine g.holds.world) part.after g.lines g.replies line part.reply g.goes part.leads);
         }
 
 -- a run that ends in the last force
 pub ends_in_force : AreFew → {p : Params} {first : Stage} {start now new : Disk} {engine : EngineView} {commands : List Command} {script todo : List (List ℕ)} {refusing : Bool}
     (g : Going p first start now engine commands script todo refusing) → Passes start now → new.said ≡ now.said
     → (now.tells_moments → LeavesOnly now new (Between p now (forced_in engine) (commands ++ g.acc))) → IsRun p first start new commands script
-ends_in_force few {p} {first} {start} {now} {new} {engine} {commands} {script} g time quiet moments = let all = told_whole (λ reply. ⊤) (story_of g) in record {
+ends_in_force few {p} {first} {start} {now} {new} {engine} {commands} {script} g time quiet moments = let all = told_whole (λ line reply. ⊤) (story_of g) in record {
   says = record {
     says = record { bytes = flat_map said_line g.replies; since = quiet ∙ g.said_is; story = all.story };
-    truly = λ told. subst (λ (l : List Reply). LeavesOnly start new (TrueWithin p start.said l)) (sym all.with_last)
-        (truly_quiet (g.truly told) g.said_is (moments (time.moments_told.0 told)) (λ files said b. omega (arith, ap length b.quiet)));
+    truly = λ told. told_truly start new start.said all
+        (truly_quiet (even_of g) (g.truly told) g.said_is (moments (time.moments_told.0 told)) (λ files said b. omega (arith, ap length b.quiet)));
     last = stage_of engine g.holds.world;
     goes = told_goes first (stage_of engine g.holds.world) all g.goes;
   };
@@ -245,13 +265,20 @@ pub goes_to : {p : Params} {first : Stage} {start now : Disk} {engine : EngineVi
     → Going p first start now engine commands script todo refusing → todo ≡ line ∷ rest → Going p first start now engine commands script (line ∷ rest) refusing
 goes_to {p} {first} {start} {now} {engine} {commands} {script} {todo} {refusing} line rest g is = subst (λ (l : List (List ℕ)). Going p first start now engine commands script l refusing) is g
 
+-- a moment at which no command was added
+abbrev pub works_quietly : {p : Params} {old : Disk} {least : ℕ} {commands : List Command} {line : List ℕ} {f : Files} {s : List ℕ} → Between p old least commands f s → Working p old least commands line f s
+works_quietly {p} {old} {least} {commands} {line} {f} {s} b = record { added = []; front = inl refl; between = subst (λ (l : List Command). Between p old least l f s) (sym (append-nil commands)) b }
+
+pub works_none : {p : Params} {old mid : Disk} {least : ℕ} {commands : List Command} {line : List ℕ} → (old.tells_moments → LeavesOnly old mid (Between p old least commands)) → old.tells_moments → LeavesOnly old mid (Working p old least commands line)
+works_none {p} {old} {mid} {least} {commands} {line} moments told = weaker old mid (Between p old least commands) (Working p old least commands line) (moments told) (λ f s b. works_quietly b)
+
 -- the moments while the answer is found and said
 found_moments : {p : Params} {old mid new : Disk} {before after : EngineView} {w : World Command} {commands : List Command} {line : List ℕ} {reply : Reply}
-    → (old.tells_moments → LeavesOnly old mid (Between p old (forced_in before) commands)) → Passes old mid → IsFound p old mid before after w commands line reply
+    → (old.tells_moments → LeavesOnly old mid (Working p old (forced_in before) commands line)) → Passes old mid → IsFound p old mid before after w commands line reply
     → Runs Same (SaysFront (said_line reply)) mid new → old.tells_moments → LeavesOnly old new (LineMoment p old (forced_in before) commands line)
 found_moments {p} {old} {mid} {new} {before} {after} {w} {commands} {line} {reply} moments time found say told =
     runs_on old mid new (LineMoment p old (forced_in before) commands line)
-    (weaker old mid (Between p old (forced_in before) commands) (LineMoment p old (forced_in before) commands line) (moments told) (λ f s b. inl b))
+    (weaker old mid (Working p old (forced_in before) commands line) (LineMoment p old (forced_in before) commands line) (moments told) (λ f s b. inl b))
     (first_call mid new (LineMoment p old (forced_in before) commands line) told_now say.time during)
   where
     told_now : mid.tells_moments
@@ -264,7 +291,7 @@ found_moments {p} {old} {mid} {new} {before} {after} {w} {commands} {line} {repl
           reply = reply;
           added = found.added;
           replies = found.replies;
-          tied = subst (λ (x : Files). IsTrueIn p x reply) (sym from.0.2) (found.tied.1 told_now from.0.0 mid.said from.0.1);
+          tied = subst (λ (x : Files). IsTrueIn p x line reply) (sym from.0.2) (found.tied.1 told_now from.0.0 mid.said from.0.1);
           count = from.1.0;
           said_is = from.1.2 ∙ ap (λ (l : List ℕ). l ++ take from.1.0 (said_line reply)) found.quiet;
           kept = (forced_in after);
@@ -276,7 +303,7 @@ found_moments {p} {old} {mid} {new} {before} {after} {w} {commands} {line} {repl
 
 -- the answer that was found has been said, or a beginning of it
 pub found_said : {p : Params} {old mid new : Disk} {before after : EngineView} {w : World Command} {commands : List Command} {line : List ℕ} {reply : Reply} (result : Result Bool Stop)
-    → (old.tells_moments → LeavesOnly old mid (Between p old (forced_in before) commands)) → Passes old mid → IsFound p old mid before after w commands line reply
+    → (old.tells_moments → LeavesOnly old mid (Working p old (forced_in before) commands line)) → Passes old mid → IsFound p old mid before after w commands line reply
     → Runs Same (SaysFront (said_line reply)) mid new → (mid.tells_files → OnOk result (new.said ≡ mid.said ++ said_line reply)) → IfOk result (λ kind. kind ≡ is_refusing reply)
     → Answering p old new before after w commands line result
 found_said {reply = reply} (Ok kind) moments time found say all is = record {
@@ -289,7 +316,7 @@ found_said {reply = reply} (Ok kind) moments time found say all is = record {
     acked = found.acked;
     kind = is;
     truly = found_truly moments time found say;
-    goes = found.goes;
+    leads = found.leads;
   };
   partly = tt;
   moments = found_moments moments time found say;
@@ -305,27 +332,37 @@ found_said {after = after} {reply = reply} (Err stop) moments time found say all
         said_is = front.2 ∙ ap (λ (l : List ℕ). l ++ take front.0 (said_line reply)) found.quiet;
         truly = found_truly moments time found say;
         after = stage_of after found.kept.holds.world;
-        goes = found.goes;
+        leads = found.leads;
       });
   moments = found_moments moments time found say;
 }
 
 -- nothing was said of the answer
 pub stops_before : {p : Params} {old new : Disk} {before after : EngineView} {w : World Command} {commands : List Command} {line : List ℕ} (result : Result Bool Stop) → IsErr result
-    → (old.tells_moments → LeavesOnly old new (Between p old (forced_in before) commands)) → new.said ≡ old.said → Answering p old new before after w commands line result
+    → (old.tells_moments → LeavesOnly old new (Working p old (forced_in before) commands line)) → new.said ≡ old.said → Answering p old new before after w commands line result
 stops_before (Ok kind) is moments quiet = absurd (cc is)
 stops_before {p} {old} {new} {before} {after} {w} {commands} {line} (Err stop) is moments quiet = record {
   whole = tt;
   partly = inl quiet;
-  moments = λ told. weaker old new (Between p old (forced_in before) commands) (LineMoment p old (forced_in before) commands line) (moments told) (λ f s b. inl b);
+  moments = λ told. weaker old new (Working p old (forced_in before) commands line) (LineMoment p old (forced_in before) commands line) (moments told) (λ f s b. inl b);
 }
 
 abbrev pub kept_nil : {p : Params} {d : Disk} {before engine : EngineView} {commands : List Command} → Kept p before d engine commands → Kept p before d engine (commands ++ [])
 kept_nil {commands = commands} kept = record { holds = holds_as (sym (append-nil commands)) kept.holds; rising = kept.rising }
 
+-- a line leads to a stage with the commands that it adds
+pub leads_on : {p : Params} {old new : Stage} {line : List ℕ} (commands added : List Command) (reply : Reply) → commands_of old.world.history ≡ commands → commands_of new.world.history ≡ commands ++ added
+    → Replies p commands line reply added → GoesBy p old line reply new → Leads p old line reply new
+leads_on {p} {old} {new} {line} commands added reply was now replies goes = record {
+  added = added;
+  replies = subst (λ (l : List Command). Replies p l line reply added) (sym was) replies;
+  commands_are = subst (λ (l : List Command). commands_of new.world.history ≡ l ++ added) (sym was) now;
+  goes = goes;
+}
+
 -- what is answered without a call
 pub found_at_once : {p : Params} {d : Disk} {engine : EngineView} {commands : List Command} {line : List ℕ} (reply : Reply) → (holds : Holds p d engine commands)
-    → Replies p commands line reply [] → ((f : Files) → IsTrueIn p f reply) → ((n : ℕ) → reply ≢ forced n) → ((s : Stage) → GoesBy p s line reply s) → IsFound p d d engine engine holds.world commands line reply
+    → Replies p commands line reply [] → ((f : Files) → IsTrueIn p f line reply) → ((n : ℕ) → reply ≢ forced n) → ((s : Stage) → GoesBy p s line reply s) → IsFound p d d engine engine holds.world commands line reply
 found_at_once {p} {d} {engine} {commands} reply holds replies tied other goes = record {
   added = [];
   replies = replies;
@@ -333,41 +370,55 @@ found_at_once {p} {d} {engine} {commands} reply holds replies tied other goes = 
   kept = kept_nil (record { holds = holds; rising = omega arith });
   tied = (tied d.reads, λ told f s left. tied f);
   acked = λ n is. absurd (other n is);
-  goes = goes (stage_of engine holds.world);
+  leads = leads_on commands [] reply holds.commands_are (holds.commands_are ∙ sym (append-nil commands)) replies (goes (stage_of engine holds.world));
 }
+
+-- what is answered where objects were read at most
+pub found_read : {p : Params} {old mid : Disk} {before after : EngineView} {w : World Command} {commands : List Command} {line : List ℕ} (reply : Reply) → Replies p commands line reply [] → ((f : Files) → IsTrueIn p f line reply)
+    → ((n : ℕ) → reply ≢ forced n) → ((s : Stage) → GoesBy p s line reply s) → commands_of w.history ≡ commands → mid.said ≡ old.said → (kept : Kept p before mid after commands) → stage_of after kept.holds.world ≡ stage_of before w
+    → IsFound p old mid before after w commands line reply
+found_read {p} {old} {mid} {before} {after} {w} {commands} {line} reply replies tied other goes was quiet kept same = record {
+  added = [];
+  replies = replies;
+  quiet = quiet;
+  kept = kept_nil kept;
+  tied = (tied mid.reads, λ told f s left. tied f);
+  acked = λ n is. absurd (other n is);
+  leads = leads_on commands [] reply was (kept.holds.commands_are ∙ sym (append-nil commands)) replies (subst (λ (s : Stage). GoesBy p (stage_of before w) line reply s) (sym same) (goes (stage_of before w)));
+}
+
+pub run_nothing : (m : Meaning Command) (w : World Command) → run m w [] ≡ w
+unfolding run
+run_nothing m w = refl
+
+pub none_more : (n : ℕ) → n ≡ n + 0
+none_more n = omega arith
+
+-- a line that asks for values changes nothing
+pub asks_values : (p : Params) (s : Stage) (line : List ℕ) (request : Request) → IsQuestion request → AsksFor line request → Ends p s line Through s
+asks_values p s line request question asks = (
+  course [] s.used Through,
+  inr (inr (request, question, asks, refl)),
+  refl,
+  λ i. record { world = sym (run_nothing (meaning_in p) s.world) i; used = s.used; identities = none_more s.identities i },
+)
 
 -- the value that was fetched
 pub found_value : {p : Params} {old mid : Disk} {before after : EngineView} {w : World Command} {commands : List Command} {line : List ℕ} (object : ℕ) (bytes : List ℕ) → AsksFor line (get object) → object < p.objects
-    → bytes ≡ state_of p commands object → mid.said ≡ old.said → (kept : Kept p before mid after commands) → stage_of after kept.holds.world ≡ stage_of before w → IsFound p old mid before after w commands line (value bytes)
-found_value object bytes asks there is quiet kept same = record {
-  added = [];
-  replies = (object, asks, there, is, refl);
-  quiet = quiet;
-  kept = kept_nil kept;
-  tied = (tt, λ told f s left. tt);
-  acked = λ n is. cc;
-  goes = same;
-}
+    → bytes ≡ state_of p commands object → commands_of w.history ≡ commands → mid.said ≡ old.said → (kept : Kept p before mid after commands) → stage_of after kept.holds.world ≡ stage_of before w → IsFound p old mid before after w commands line (value bytes)
+found_value object bytes asks there is was quiet kept same = found_read (value bytes) (inl (object, asks, there, is), refl) (λ f. tt) (λ n e. cc) (λ s. refl) was quiet kept same
 
 -- or there is no such object
 pub found_none : {p : Params} {old mid : Disk} {before after : EngineView} {w : World Command} {commands : List Command} {line : List ℕ} (object : ℕ) → AsksFor line (get object) → p.objects ≤ object
-    → mid.said ≡ old.said → (kept : Kept p before mid after commands) → stage_of after kept.holds.world ≡ stage_of before w → IsFound p old mid before after w commands line (refused NoObject)
-found_none object asks past quiet kept same = record {
-  added = [];
-  replies = (inr (object, asks, past, refl), refl);
-  quiet = quiet;
-  kept = kept_nil kept;
-  tied = (tt, λ told f s left. tt);
-  acked = λ n is. cc;
-  goes = same;
-}
+    → commands_of w.history ≡ commands → mid.said ≡ old.said → (kept : Kept p before mid after commands) → stage_of after kept.holds.world ≡ stage_of before w → IsFound p old mid before after w commands line (refused NoObject)
+found_none {p} {line = line} object asks past was quiet kept same = found_read (refused NoObject) (inr (inl (object, asks, past, refl), refl)) (λ f. tt) (λ n e. cc) (λ s. asks_values p s line (get object) tt asks) was quiet kept same
 
 -- it is said where it is found
 pub said_at_once : {p : Params} {d new : Disk} {engine : EngineView} {commands : List Command} {line : List ℕ} {reply : Reply} (result : Result Bool Stop)
     → IsDisk d → (holds : Holds p d engine commands) → IsFound p d d engine engine holds.world commands line reply
     → Runs Same (SaysFront (said_line reply)) d new → (d.tells_files → OnOk result (new.said ≡ d.said ++ said_line reply)) → IfOk result (λ kind. kind ≡ is_refusing reply)
     → Answering p d new engine engine holds.world commands line result
-said_at_once {d = d} result lawful holds found say all is = found_said result (holds_between lawful holds) (passes_none d) found say all is
+said_at_once {d = d} result lawful holds found say all is = found_said result (works_none (holds_between lawful holds)) (passes_none d) found say all is
 
 -- a line that is skipped
 pub skipped : {p : Params} {d : Disk} {engine : EngineView} {commands : List Command} {line : List ℕ} → IsDisk d → (holds : Holds p d engine commands) → AsksFor line skip
@@ -381,15 +432,15 @@ skipped {p} {d} {engine} {commands} {line} lawful holds asks = record {
     kept = kept_nil (record { holds = holds; rising = omega arith });
     acked = λ n is. cc;
     kind = refl;
-    goes = refl;
-    truly = λ told. weaker d d (Between p d (forced_in engine) commands) (IsTrueSaying p d.said silence) (holds_between lawful holds told) (λ files said b. record {
+    leads = leads_on commands [] silence holds.commands_are (holds.commands_are ∙ sym (append-nil commands)) (asks, refl) refl;
+    truly = λ told. weaker d d (Between p d (forced_in engine) commands) (IsTrueSaying p d.said line silence) (holds_between lawful holds told) (λ files said b. record {
       true_in = λ e. tt;
       no_shorter = omega (arith, ap length b.quiet);
       no_longer = omega (arith, ap length b.quiet, length-append d.said []);
     });
   };
   partly = tt;
-  moments = λ told. weaker d d (Between p d (forced_in engine) commands) (LineMoment p d (forced_in engine) commands line) (holds_between lawful holds told) (λ f s b. inl b);
+  moments = λ told. weaker d d (Between p d (forced_in engine) commands) (LineMoment p d (forced_in engine) commands line) (holds_between lawful holds told) (λ f s b. inl (works_quietly b));
 }
 
 pub moment_longer : {p : Params} {commands : List Command} {script : List (List ℕ)} {before : List ℕ} (more : List (List ℕ)) (f : Files) (s : List ℕ) → Moment p commands script before f s → Moment p commands (script ++ more) before f s

@@ -15,7 +15,7 @@ use Rattle.redo_shell.proofs.PrintedLemmas.{nothing_printed}
 use Rattle.redo_shell.proofs.StoryLemmas.{story_start, told_whole}
 
 -- a story whose begun answer is true is a story
-abbrev untied : {p : Params} {tie : Reply → Type 0} {commands : List Command} {script : List (List ℕ)} {said : List ℕ} → Said p tie commands script said → Said p (λ reply. ⊤) commands script said
+abbrev untied : {p : Params} {tie : List ℕ → Reply → Type 0} {commands : List Command} {script : List (List ℕ)} {said : List ℕ} → Said p tie commands script said → Said p (λ line reply. ⊤) commands script said
 untied {p} {tie} {commands} s = record {
   lines = s.lines;
   todo = s.todo;
@@ -35,7 +35,7 @@ untied {p} {tie} {commands} s = record {
 adds_none : (p : Params) (commands : List Command) (ran : Ran) → ran.bytes ≡ [] → Adds p commands ran commands
 adds_none p commands ran silent =
     subst (λ (l : List ℕ). Adds p commands (record { script = ran.script; bytes = l }) commands) (sym silent)
-    (let said = told_whole (λ reply. ⊤) (story_start p commands ran.script) in
+    (let said = told_whole (λ line reply. ⊤) (story_start p commands ran.script) in
     let same : commands ++ said.story.acc ++ said.story.added ≡ commands = said.all ∙ append-nil commands in
     record {
       story = said.story;

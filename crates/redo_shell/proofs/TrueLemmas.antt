@@ -5,13 +5,13 @@ use Rattle.std.specs.List.{flat_map}
 use Rattle.disk_model.specs.Disk.{Files, Disk, Passes, Runs, Same, SaysFront, LeavesOnly}
 use Rattle.disk_model.specs.Moments.{first_call, runs_on, weaker}
 use Rattle.formats.specs.declared.params.Params.{Params}
-use Rattle.script_lines.specs.Replies.{Reply, ok, value, forced, bad, refused, full, end, object_value, command_count, stat, silence, text_of, said_line}
+use Rattle.script_lines.specs.Replies.{Reply, ok, ran, pairs, bad_tree, tree_full, value, forced, bad, refused, full, end, object_value, command_count, stat, summary, silence, text_of, said_line}
 use Rattle.explain_core.specs.World.{World}
 use Rattle.store_engine.specs.Engine.{EngineView, forced_in}
-use Rattle.redo_shell.specs.Store.{Command, Between}
+use Rattle.redo_shell.specs.Store.{Command}
 use Rattle.redo_shell.specs.Replies.{IsTrueIn}
 use Rattle.redo_shell.specs.Answers.{EndsInside, TrueWithin}
-use Rattle.redo_shell.specs.Run.{IsTrueSaying, IsTrueSoFar, IsFound, During, LineMoment}
+use Rattle.redo_shell.specs.Run.{IsTrueSaying, IsTrueSoFar, IsFound, Working, During, LineMoment}
 
 newline_behind : (text : List ℕ) (count : ℕ) → count ≤ length text → count < length (text ++ 10 ∷ [])
 newline_behind text count within = omega (arith, within, length-append text (10 ∷ []))
@@ -32,6 +32,11 @@ within_line (end number) count some within = newline_behind (text_of (end number
 within_line (object_value object bytes) count some within = newline_behind (text_of (object_value object bytes)) count within
 within_line (command_count n) count some within = newline_behind (text_of (command_count n)) count within
 within_line (stat counts) count some within = newline_behind (text_of (stat counts)) count within
+within_line (ran k) count some within = newline_behind (text_of (ran k)) count within
+within_line (pairs pair others) count some within = newline_behind (text_of (pairs pair others)) count within
+within_line bad_tree count some within = newline_behind (text_of bad_tree) count within
+within_line tree_full count some within = newline_behind (text_of tree_full) count within
+within_line (summary totals) count some within = newline_behind (text_of (summary totals)) count within
 within_line silence count some within = absurd (omega (arith, some, within, none_of_silence))
 
 -- how many bytes are said where they end inside an answer
@@ -47,88 +52,95 @@ ends_before {before} {reply} {said} e =
     omega (arith, ap length e.said_is, length-append before (take e.count (text_of reply)), length-take e.count (text_of reply), length-append before (said_line reply), within)
 
 -- no answer has begun
-pub none_begun : (p : Params) (before : List ℕ) (replies : List Reply) (files : Files) (said : List ℕ) → length said ≤ length before → TrueWithin p before replies files said
-none_begun p before [] files said short = tt
-none_begun p before (reply ∷ replies) files said short = (
+pub none_begun : (p : Params) (before : List ℕ) (lines : List (List ℕ)) (replies : List Reply) (files : Files) (said : List ℕ) → length lines ≡ length replies → length said ≤ length before → TrueWithin p before lines replies files said
+none_begun p before [] [] files said even short = tt
+none_begun p before (line ∷ lines) (reply ∷ replies) files said even short = (
   λ e. absurd (omega (arith, ends_behind e, short)),
-  none_begun p (before ++ said_line reply) replies files said (omega (arith, short, length-append before (said_line reply))),
+  none_begun p (before ++ said_line reply) lines replies files said (omega (arith, even)) (omega (arith, short, length-append before (said_line reply))),
 )
+none_begun p before [] (reply ∷ replies) files said even short = absurd (omega (arith, even))
+none_begun p before (line ∷ lines) [] files said even short = absurd (omega (arith, even))
 
 -- all of them were said
-pub all_said : (p : Params) (before : List ℕ) (replies : List Reply) (files : Files) (said : List ℕ) → length (before ++ flat_map said_line replies) ≤ length said → TrueWithin p before replies files said
-all_said p before [] files said long = tt
-all_said p before (reply ∷ replies) files said long =
+pub all_said : (p : Params) (before : List ℕ) (lines : List (List ℕ)) (replies : List Reply) (files : Files) (said : List ℕ) → length lines ≡ length replies → length (before ++ flat_map said_line replies) ≤ length said
+    → TrueWithin p before lines replies files said
+all_said p before [] [] files said even long = tt
+all_said p before (line ∷ lines) (reply ∷ replies) files said even long =
     let same : length ((before ++ said_line reply) ++ flat_map said_line replies) ≡ length (before ++ (said_line reply ++ flat_map said_line replies)) = ap length (append_assoc before (said_line reply) (flat_map said_line replies)) in
     let more : length ((before ++ said_line reply) ++ flat_map said_line replies) ≤ length said = omega (arith, long, same) in (
       λ e. absurd (omega (arith, ends_before e, more, length-append (before ++ said_line reply) (flat_map said_line replies))),
-      all_said p (before ++ said_line reply) replies files said more,
+      all_said p (before ++ said_line reply) lines replies files said (omega (arith, even)) more,
     )
+all_said p before [] (reply ∷ replies) files said even long = absurd (omega (arith, even))
+all_said p before (line ∷ lines) [] files said even long = absurd (omega (arith, even))
 
 -- one answer more
-true_more : (p : Params) (before : List ℕ) (replies : List Reply) (reply : Reply) (files : Files) (said : List ℕ) → TrueWithin p before replies files said
-    → (EndsInside (before ++ flat_map said_line replies) reply said → IsTrueIn p files reply) → TrueWithin p before (replies ++ reply ∷ []) files said
-true_more p before [] reply files said within here = (λ e. here (subst (λ (l : List ℕ). EndsInside l reply said) (sym (append-nil before)) e), tt)
-true_more p before (r ∷ replies) reply files said within here = (
+true_more : (p : Params) (before : List ℕ) (lines : List (List ℕ)) (replies : List Reply) (line : List ℕ) (reply : Reply) (files : Files) (said : List ℕ) → TrueWithin p before lines replies files said
+    → (EndsInside (before ++ flat_map said_line replies) reply said → IsTrueIn p files line reply) → TrueWithin p before (lines ++ line ∷ []) (replies ++ reply ∷ []) files said
+true_more p before [] [] line reply files said within here = (λ e. here (subst (λ (l : List ℕ). EndsInside l reply said) (sym (append-nil before)) e), tt)
+true_more p before (l ∷ lines) (r ∷ replies) line reply files said within here = (
   within.0,
-  true_more p (before ++ said_line r) replies reply files said within.1 (λ e. here (subst (λ (l : List ℕ). EndsInside l reply said) (append_assoc before (said_line r) (flat_map said_line replies)) e)),
+  true_more p (before ++ said_line r) lines replies line reply files said within.1 (λ e. here (subst (λ (l : List ℕ). EndsInside l reply said) (append_assoc before (said_line r) (flat_map said_line replies)) e)),
 )
+true_more p before [] (r ∷ replies) line reply files said within here = absurd within
+true_more p before (l ∷ lines) [] line reply files said within here = absurd within
 
 -- the run goes on by an answer
-pub truly_on : {p : Params} {start now new : Disk} {replies : List Reply} (reply : Reply) → LeavesOnly start now (IsTrueSoFar p start.said replies now.said) → now.said ≡ start.said ++ flat_map said_line replies
-    → LeavesOnly now new (IsTrueSaying p now.said reply) → LeavesOnly start new (IsTrueSoFar p start.said (replies ++ reply ∷ []) (now.said ++ said_line reply))
-truly_on {p} {start} {now} {new} {replies} reply so_far said_is saying =
-    runs_on start now new (IsTrueSoFar p start.said (replies ++ reply ∷ []) (now.said ++ said_line reply))
-    (weaker start now (IsTrueSoFar p start.said replies now.said) (IsTrueSoFar p start.said (replies ++ reply ∷ []) (now.said ++ said_line reply)) so_far (λ files said t.
+pub truly_on : {p : Params} {start now new : Disk} {lines : List (List ℕ)} {replies : List Reply} (line : List ℕ) (reply : Reply) → length lines ≡ length replies → LeavesOnly start now (IsTrueSoFar p start.said lines replies now.said) → now.said ≡ start.said ++ flat_map said_line replies
+    → LeavesOnly now new (IsTrueSaying p now.said line reply) → LeavesOnly start new (IsTrueSoFar p start.said (lines ++ line ∷ []) (replies ++ reply ∷ []) (now.said ++ said_line reply))
+truly_on {p} {start} {now} {new} {lines} {replies} line reply even so_far said_is saying =
+    runs_on start now new (IsTrueSoFar p start.said (lines ++ line ∷ []) (replies ++ reply ∷ []) (now.said ++ said_line reply))
+    (weaker start now (IsTrueSoFar p start.said lines replies now.said) (IsTrueSoFar p start.said (lines ++ line ∷ []) (replies ++ reply ∷ []) (now.said ++ said_line reply)) so_far (λ files said t.
     let short = t.no_longer in
     record {
-      true_within = true_more p start.said replies reply files said t.true_within (λ e. absurd (omega (arith, ends_behind e, short, ap length said_is)));
+      true_within = true_more p start.said lines replies line reply files said t.true_within (λ e. absurd (omega (arith, ends_behind e, short, ap length said_is)));
       no_longer = omega (arith, short, length-append now.said (said_line reply));
     }))
-    (weaker now new (IsTrueSaying p now.said reply) (IsTrueSoFar p start.said (replies ++ reply ∷ []) (now.said ++ said_line reply)) saying (λ files said s.
+    (weaker now new (IsTrueSaying p now.said line reply) (IsTrueSoFar p start.said (lines ++ line ∷ []) (replies ++ reply ∷ []) (now.said ++ said_line reply)) saying (λ files said s.
     let long = s.no_shorter in
     record {
-      true_within = true_more p start.said replies reply files said (all_said p start.said replies files said (omega (arith, long, ap length said_is)))
+      true_within = true_more p start.said lines replies line reply files said (all_said p start.said lines replies files said even (omega (arith, long, ap length said_is)))
           (λ e. s.true_in (subst (λ (l : List ℕ). EndsInside l reply said) (sym said_is) e));
       no_longer = s.no_longer;
     }))
 
 -- or says nothing more
-pub truly_quiet : {p : Params} {start now new : Disk} {replies : List Reply} → LeavesOnly start now (IsTrueSoFar p start.said replies now.said) → now.said ≡ start.said ++ flat_map said_line replies
-    → {P : Files → List ℕ → Type 0} → LeavesOnly now new P → ((files : Files) (said : List ℕ) → P files said → length now.said ≤ length said) → LeavesOnly start new (TrueWithin p start.said replies)
-truly_quiet {p} {start} {now} {new} {replies} so_far said_is {P} leaves long =
-    runs_on start now new (TrueWithin p start.said replies)
-    (weaker start now (IsTrueSoFar p start.said replies now.said) (TrueWithin p start.said replies) so_far (λ files said t. t.true_within))
-    (weaker now new P (TrueWithin p start.said replies) leaves (λ files said here. all_said p start.said replies files said (omega (arith, long files said here, ap length said_is))))
+pub truly_quiet : {p : Params} {start now new : Disk} {lines : List (List ℕ)} {replies : List Reply} → length lines ≡ length replies → LeavesOnly start now (IsTrueSoFar p start.said lines replies now.said) → now.said ≡ start.said ++ flat_map said_line replies
+    → {P : Files → List ℕ → Type 0} → LeavesOnly now new P → ((files : Files) (said : List ℕ) → P files said → length now.said ≤ length said) → LeavesOnly start new (TrueWithin p start.said lines replies)
+truly_quiet {p} {start} {now} {new} {lines} {replies} even so_far said_is {P} leaves long =
+    runs_on start now new (TrueWithin p start.said lines replies)
+    (weaker start now (IsTrueSoFar p start.said lines replies now.said) (TrueWithin p start.said lines replies) so_far (λ files said t. t.true_within))
+    (weaker now new P (TrueWithin p start.said lines replies) leaves (λ files said here. all_said p start.said lines replies files said even (omega (arith, long files said here, ap length said_is))))
 
 -- a moment of a line comes after those of the lines before
 pub line_behind : {p : Params} {d : Disk} {least : ℕ} {commands : List Command} {line : List ℕ} (files : Files) (said : List ℕ) → LineMoment p d least commands line files said → length d.said ≤ length said
 line_behind {p} {d} {least} {commands} {line} files said m = ⊎_elim
-    (λ (b : Between p d least commands files said). omega (arith, ap length b.quiet))
+    (λ (w : Working p d least commands line files said). omega (arith, ap length w.between.quiet))
     (λ (e : During p d least commands line files said). omega (arith, ap length e.said_is, length-append d.said (take e.count (said_line e.reply))))
     m
 
 -- the moments while an answer is found and said
 pub found_truly : {p : Params} {old mid new : Disk} {before after : EngineView} {w : World Command} {commands : List Command} {line : List ℕ} {reply : Reply}
-    → (old.tells_moments → LeavesOnly old mid (Between p old (forced_in before) commands)) → Passes old mid → IsFound p old mid before after w commands line reply
-    → Runs Same (SaysFront (said_line reply)) mid new → old.tells_moments → LeavesOnly old new (IsTrueSaying p old.said reply)
+    → (old.tells_moments → LeavesOnly old mid (Working p old (forced_in before) commands line)) → Passes old mid → IsFound p old mid before after w commands line reply
+    → Runs Same (SaysFront (said_line reply)) mid new → old.tells_moments → LeavesOnly old new (IsTrueSaying p old.said line reply)
 found_truly {p} {old} {mid} {new} {before} {after} {w} {commands} {line} {reply} moments time found say told =
-    runs_on old mid new (IsTrueSaying p old.said reply)
-    (weaker old mid (Between p old (forced_in before) commands) (IsTrueSaying p old.said reply) (moments told) (λ files said b. record {
-      true_in = λ e. absurd (omega (arith, ends_behind e, ap length b.quiet));
-      no_shorter = omega (arith, ap length b.quiet);
-      no_longer = omega (arith, ap length b.quiet, length-append old.said (said_line reply));
+    runs_on old mid new (IsTrueSaying p old.said line reply)
+    (weaker old mid (Working p old (forced_in before) commands line) (IsTrueSaying p old.said line reply) (moments told) (λ files said b. record {
+      true_in = λ e. absurd (omega (arith, ends_behind e, ap length b.between.quiet));
+      no_shorter = omega (arith, ap length b.between.quiet);
+      no_longer = omega (arith, ap length b.between.quiet, length-append old.said (said_line reply));
     }))
-    (first_call mid new (IsTrueSaying p old.said reply) told_now say.time during)
+    (first_call mid new (IsTrueSaying p old.said line reply) told_now say.time during)
   where
     told_now : mid.tells_moments
     told_now = time.moments_told.0 told
 
-    during : (files : Files) (said : List ℕ) → new.left_since mid.clock files said → IsTrueSaying p old.said reply files said
+    during : (files : Files) (said : List ℕ) → new.left_since mid.clock files said → IsTrueSaying p old.said line reply files said
     during files said left =
         let from = say.crash told_now files said left in
         let long = length-append mid.said (take from.1.0 (said_line reply)) in
         record {
-          true_in = λ e. subst (λ (x : Files). IsTrueIn p x reply) (sym from.0.2) (found.tied.1 told_now from.0.0 mid.said from.0.1);
+          true_in = λ e. subst (λ (x : Files). IsTrueIn p x line reply) (sym from.0.2) (found.tied.1 told_now from.0.0 mid.said from.0.1);
           no_shorter = omega (arith, ap length from.1.2, long, ap length found.quiet);
           no_longer = omega (arith, ap length from.1.2, long, ap length found.quiet, length-append old.said (said_line reply), length-take from.1.0 (said_line reply));
         }

@@ -13,7 +13,8 @@ use Rattle.checkpointing.specs.Left as of_trim
 use Rattle.checkpointing.specs.declared.trim_err.TrimErr.{TrimErr}
 use Rattle.script_lines.specs.Grammar.{Request}
 use Rattle.script_lines.specs.declared.answer.Answer.{Answer}
-use Rattle.store_engine.specs.Engine.{EngineView, IsAttached, IsCall, IsFailed}
+use Rattle.store_engine.specs.Engine.{EngineView, IsFailed}
+use Rattle.redo_shell.specs.Store.{IsAttached, IsCall}
 use Rattle.redo_shell.specs.Found.{IsAnswerOf, IsShort, IsUpkept, ending_of_error}
 use Rattle.redo_shell.specs.Run.{IsCaused, IsUndamaged}
 use Rattle.redo_shell.specs.declared.stop.Stop.{Stop}

@@ -5,7 +5,8 @@ use Rattle.std.specs.Fmt.{decimal}
 use Rattle.formats.specs.declared.params.Params.{Params}
 use Rattle.script_lines.specs.Words.{Asks}
 use Rattle.script_lines.specs.declared.words.Asked.{Asked}
-use Rattle.script_lines.specs.declared.words.Asked.TheVariants.{Init, Run, Dump}
+use Rattle.script_lines.specs.declared.words.Asked.TheVariants.{Init, Run, Dump, Demo}
+use Rattle.redo_shell.specs.Causes.{IsOffered, AsksNothing}
 
 same_params : (words : List (List ℕ)) (p q : Params) → Asks words (Init p) → Asks words (Init q) → p ≡ q
 same_params words p q one two =
@@ -31,3 +32,8 @@ run_not_init words p one two = omega (arith, ap (λ (l : List (List ℕ)). lengt
 
 pub dump_not_init : (words : List (List ℕ)) (p : Params) → Asks words Dump → Asks words (Init p) → ⊥
 dump_not_init words p one two = omega (arith, ap (λ (l : List (List ℕ)). length l) (sym one.text ∙ two.text))
+
+-- words that ask for a demo ask for nothing that the program does
+pub demo_is_nothing : ((words : List (List ℕ)) (a b : Asked) → Asks words a → Asks words b → a ≡ b)
+    → (words : List (List ℕ)) (read : Asked) {seed steps : ℕ} → read ≡ Demo seed steps → Asks words read → AsksNothing words
+demo_is_nothing one words read is some asked offered asks = subst IsOffered (one words asked read asks some ∙ is) offered

@@ -6,6 +6,7 @@ use Rattle.disk_model.specs.Disk.{Files, Disk, LeavesOnly}
 use Rattle.formats.specs.declared.params.Params.{Params}
 use Rattle.script_lines.specs.Replies.{Reply, text_of, said_line}
 use Rattle.redo_shell.specs.Store.{Command, Stands}
+use Rattle.redo_shell.specs.Made.{IsFront}
 use Rattle.redo_shell.specs.Replies.{Replies, IsTrueIn}
 use Rattle.redo_shell.specs.Printed.{SaysForced}
 use Rattle.redo_shell.specs.Stages.{Stage, AllGoBy}
@@ -19,8 +20,13 @@ Answers p commands (line ∷ lines) (reply ∷ replies) acc =
 Answers p commands [] (reply ∷ replies) acc = ⊥
 Answers p commands (line ∷ lines) [] acc = ⊥
 
+-- of an answer to the first of these lines nothing is said yet: nothing was done for it, or some first commands of those that it
+-- asks for
+abbrev pub IsSilent : Params → List Command → List (List ℕ) → List Command → Type 0
+IsSilent p commands lines added = (added ≡ []) ⊎ ((line : List ℕ) × (rest : List (List ℕ)) × (lines ≡ line ∷ rest) × IsFront p commands line added)
+
 -- an answer to the first of these lines has begun, and adds these commands
-pub record Begun (p : Params) (tie : Reply → Type 0) (commands : List Command) (lines : List (List ℕ)) (part : List ℕ) (added : List Command) : Type 0 where
+pub record Begun (p : Params) (tie : List ℕ → Reply → Type 0) (commands : List Command) (lines : List (List ℕ)) (part : List ℕ) (added : List Command) : Type 0 where
   pub line : List ℕ
   pub rest : List (List ℕ)
   pub reply : Reply
@@ -28,10 +34,11 @@ pub record Begun (p : Params) (tie : Reply → Type 0) (commands : List Command)
   pub next : lines ≡ line ∷ rest
   pub replies : Replies p commands line reply added
   pub begun : part ≡ take count (text_of reply)
-  pub tied : tie reply
+  pub tied : tie line reply
 
--- Bytes said in answer to a script: the whole answers to its first lines, and perhaps the beginning of the next.
-pub record Said (p : Params) (tie : Reply → Type 0) (commands : List Command) (script : List (List ℕ)) (said : List ℕ) : Type 0 where
+-- Bytes said in answer to a script: the whole answers to its first lines, and perhaps the beginning of the next, for which
+-- some commands may be done before its first byte is said.
+pub record Said (p : Params) (tie : List ℕ → Reply → Type 0) (commands : List Command) (script : List (List ℕ)) (said : List ℕ) : Type 0 where
   pub lines : List (List ℕ)
   pub todo : List (List ℕ)
   pub replies : List Reply
@@ -41,7 +48,7 @@ pub record Said (p : Params) (tie : Reply → Type 0) (commands : List Command) 
   pub script_is : script ≡ lines ++ todo
   pub said_is : said ≡ flat_map said_line replies ++ part
   pub answers : Answers p commands lines replies acc
-  pub work : ((part ≡ []) × (added ≡ [])) ⊎ Begun p tie (commands ++ acc) todo part added
+  pub work : ((part ≡ []) × IsSilent p (commands ++ acc) todo added) ⊎ Begun p tie (commands ++ acc) todo part added
 
 -- What a crash may leave beside these bytes: files that stand for the commands and for a beginning of those that
 -- the script has added, no shorter than any `forced` that the bytes say.
@@ -59,7 +66,7 @@ pub record Moment (p : Params) (commands : List Command) (script : List (List �
 pub record SaysAnswers (p : Params) (commands : List Command) (script : List (List ℕ)) (before after : List ℕ) : Type 0 where
   pub bytes : List ℕ
   pub since : after ≡ before ++ bytes
-  pub story : Said p (λ reply. ⊤) commands script bytes
+  pub story : Said p (λ line reply. ⊤) commands script bytes
 
 -- the bytes said end inside an answer that stands behind these bytes: they have its first byte, and not its newline
 pub record EndsInside (before : List ℕ) (reply : Reply) (said : List ℕ) : Type 0 where
@@ -68,18 +75,20 @@ pub record EndsInside (before : List ℕ) (reply : Reply) (said : List ℕ) : Ty
   pub within : count ≤ length (text_of reply)
   pub said_is : said ≡ before ++ take count (text_of reply)
 
--- each of these answers, said behind these bytes, is true of the files if the bytes said end inside it
-abbrev pub TrueWithin : Params → List ℕ → List Reply → Files → List ℕ → Type 0
-TrueWithin p before [] files said = ⊤
-TrueWithin p before (reply ∷ replies) files said = (EndsInside before reply said → IsTrueIn p files reply) × TrueWithin p (before ++ said_line reply) replies files said
+-- each of these answers, one to each line, said behind these bytes, is true of the files if the bytes said end inside it
+abbrev pub TrueWithin : Params → List ℕ → List (List ℕ) → List Reply → Files → List ℕ → Type 0
+TrueWithin p before [] [] files said = ⊤
+TrueWithin p before [] (reply ∷ replies) files said = ⊥
+TrueWithin p before (line ∷ lines) [] files said = ⊥
+TrueWithin p before (line ∷ lines) (reply ∷ replies) files said = (EndsInside before reply said → IsTrueIn p files line reply) × TrueWithin p (before ++ said_line reply) lines replies files said
 
 -- these answers, and the one that was begun
-abbrev pub with_begun : {none : Type 0} {p : Params} {tie : Reply → Type 0} {commands added : List Command} {lines : List (List ℕ)} {part : List ℕ} → List Reply → none ⊎ Begun p tie commands lines part added → List Reply
+abbrev pub with_begun : {none : Type 0} {p : Params} {tie : List ℕ → Reply → Type 0} {commands added : List Command} {lines : List (List ℕ)} {part : List ℕ} → List Reply → none ⊎ Begun p tie commands lines part added → List Reply
 with_begun replies (inl whole) = replies
 with_begun replies (inr begun) = replies ++ begun.reply ∷ []
 
 -- these lines, and the one whose answer was begun
-abbrev pub with_line : {none : Type 0} {p : Params} {tie : Reply → Type 0} {commands added : List Command} {lines : List (List ℕ)} {part : List ℕ} → List (List ℕ) → none ⊎ Begun p tie commands lines part added → List (List ℕ)
+abbrev pub with_line : {none : Type 0} {p : Params} {tie : List ℕ → Reply → Type 0} {commands added : List Command} {lines : List (List ℕ)} {part : List ℕ} → List (List ℕ) → none ⊎ Begun p tie commands lines part added → List (List ℕ)
 with_line answered (inl whole) = answered
 with_line answered (inr begun) = answered ++ begun.line ∷ []
 
@@ -88,6 +97,6 @@ with_line answered (inr begun) = answered ++ begun.line ∷ []
 -- exactly where what is asked for does not fit, however the run ends.
 pub record SaysTruly (p : Params) (first : Stage) (commands : List Command) (script : List (List ℕ)) (old new : Disk) : Type 0 where
   pub says : SaysAnswers p commands script old.said new.said
-  pub truly : old.tells_moments → LeavesOnly old new (TrueWithin p old.said (with_begun says.story.replies says.story.work))
+  pub truly : old.tells_moments → LeavesOnly old new (TrueWithin p old.said (with_line says.story.lines says.story.work) (with_begun says.story.replies says.story.work))
   pub last : Stage
   pub goes : AllGoBy p first (with_line says.story.lines says.story.work) (with_begun says.story.replies says.story.work) last

@@ -1,26 +1,23 @@
 -- What the calls that a command line may ask for make of the files, as a whole.
-use Rattle.std.specs.Prelude.{◌≡◌, ◌≢◌, ◌⊎◌, ◌↔◌, ◌++◌, ℕ, List, [], ◌∷◌, take}
+use Rattle.std.specs.Prelude.{◌≡◌, ◌≢◌, ◌⊎◌, ◌<◌, ◌^◌, ◌++◌, ℕ, List, [], ◌∷◌, length, take}
 use Rattle.disk_model.specs.Disk.{Disk, LeavesOnly, IsSettled}
-use Rattle.disk_model.specs.declared.machine.FileNo.{FileNo}
 use Rattle.disk_model.specs.declared.machine.FileNo.TheVariants.{Objects}
-use Rattle.op_codec.specs.AllOps.{all_meaning}
-use Rattle.formats.specs.Bytes.{IsOpenAt, IsClosedAt}
-use Rattle.formats.specs.FirstFault.{IsDamaged}
 use Rattle.formats.specs.Image.{BeginsStore}
 use Rattle.formats.specs.declared.params.Params.{Params}
+use Rattle.script_lines.specs.Grammar.{lines_of}
 use Rattle.script_lines.specs.Words.{Asks}
 use Rattle.script_lines.specs.declared.words.Asked.TheVariants.{Init, Run, Dump}
 use Rattle.store_engine.specs.Engine.{InEachImage}
 use Rattle.restart.specs.Starts.{OrAtStart}
-use Rattle.redo_shell.specs.Store.{Command, IsWellFormed, Stands, IsNew}
+use Rattle.redo_shell.specs.Store.{Command, Stands, Opens, IsNew}
 use Rattle.redo_shell.specs.Answers.{Moment, SaysTruly}
+use Rattle.redo_shell.specs.Causes.{JudgesFiles, SaysStore}
 use Rattle.redo_shell.specs.Dump.{dump_of, DumpMoment}
 use Rattle.redo_shell.specs.Keeps.{KeepsFiles}
-use Rattle.redo_shell.specs.Notices as notices
 use Rattle.redo_shell.specs.Run.{IsComplete}
 use Rattle.redo_shell.specs.Stages.{Stage, IsFirst}
 use Rattle.redo_shell.specs.Sessions.{Ran, Follows, Sessions}
-use Rattle.redo_shell.specs.Status.{IsOfInit}
+use Rattle.redo_shell.specs.Status.{IsOfRun, IsOfDump, IsOfInit}
 use Rattle.redo_shell.specs.declared.status.Status.{Status}
 use Rattle.redo_shell.specs.declared.status.Status.TheVariants.{Done, DoneWithRefusals, NotAStore, AlreadyStore, Damaged, DiskFault, Memory}
 
@@ -36,14 +33,25 @@ pub record IsRunOn (p : Params) (commands : List Command) (script : List (List �
   -- but where the disk or memory may have failed the opening, the syncs at its start are done: what a crash then leaves
   -- stands for these commands and a beginning of those that the script has added, with all that was said
   pub opened : old.tells_moments → status ≢ DiskFault → status ≢ Memory → InEachImage new (λ files. Moment p commands script old.said files new.said)
-  -- what was said is the answers to the script's lines, whatever the status, from the stage that a restart makes of the files
-  pub first : Stage
-  pub begins : IsFirst p commands old first
-  pub answers : SaysTruly p first commands script old new
+  -- from each stage that a restart may make of the files, of which there is one, what was said is the answers to the
+  -- script's lines, whatever the status
+  pub first : (first : Stage) × IsFirst p commands old first
+  pub answers : (first : Stage) → IsFirst p commands old first → SaysTruly p first commands script old new
   -- with status 0 or 1 the whole script is answered, and the files stand for all of it
-  pub complete : (status ≡ Done) ⊎ (status ≡ DoneWithRefusals) → IsComplete p first old new commands script status
+  pub complete : (first : Stage) → IsFirst p commands old first → (status ≡ Done) ⊎ (status ≡ DoneWithRefusals) → IsComplete p first old new commands script status
   -- such files are never taken for no store or for damaged
   pub store : (status ≢ NotAStore) × (status ≢ Damaged)
+
+-- A run of the script that a source gives. The input had `left` at its start and has `rest` at its end, where the source
+-- reports that (`told`).
+pub record IsRunCall (told : Type 0) (left rest : List ℕ) (old new : Disk) (status : Status) : Type 0 where
+  pub script : (p : Params) (commands : List Command) → Opens p old commands → told → IsRunOn p commands (lines_of left) old new status
+  -- of a source that reports nothing the same holds with some script
+  pub untold : (script : List (List ℕ)) × ((p : Params) (commands : List Command) → Opens p old commands → IsRunOn p commands script old new status)
+  -- with status 0 or 1 the input is read to its end, and has fewer bytes than it may have
+  pub input : told → (status ≡ Done) ⊎ (status ≡ DoneWithRefusals) → (rest ≡ []) × (length left < 2 ^ 40)
+  pub ends : IsOfRun status
+  pub judged : old.tells_files → JudgesFiles old new status
 
 -- A dump of files that stand for commands as they are read.
 pub record IsDumpOn (p : Params) (commands : List Command) (old new : Disk) (status : Status) : Type 0 where
@@ -59,30 +67,28 @@ pub record IsDumpOn (p : Params) (commands : List Command) (old new : Disk) (sta
   pub settled : status ≢ DiskFault → status ≢ Memory → IsSettled new
   pub stands : status ≢ DiskFault → status ≢ Memory → InEachImage new (λ files. Stands p files commands)
 
+-- A dump of any files.
+pub record IsDumpCall (old new : Disk) (status : Status) : Type 0 where
+  pub table : (p : Params) (commands : List Command) → Opens p old commands → IsDumpOn p commands old new status
+  pub settled : status ≡ Done → IsSettled new
+  pub ends : IsOfDump status
+  pub judged : old.tells_files → JudgesFiles old new status
+
 -- The making of a store with these numbers.
 pub record IsMaking (p : Params) (old new : Disk) (status : Status) : Type 0 where
   pub ends : IsOfInit status
-  -- the files stand for no commands
+  -- the files stand for no commands, and nothing is said
   pub done : old.tells_files → status ≡ Done → InEachImage new (λ files. Stands p files [])
+  pub quiet : old.tells_files → status ≡ Done → new.said ≡ old.said
   -- at each moment there is what a crash at the start could leave, no store, or one without commands; nothing is said
   pub moments : old.tells_moments → (BeginsStore (old.reads Objects) → ⊥) → LeavesOnly old new (OrAtStart old (λ files said. IsNew p files × (said ≡ old.said)))
   pub from_settled : old.tells_moments → IsSettled old → (BeginsStore (old.reads Objects) → ⊥) → LeavesOnly old new (λ files said. IsNew p files × (said ≡ old.said))
   -- but where the disk fails, the machine is settled then
   pub settled : old.tells_files → status ≢ DiskFault → IsSettled new
-  -- a store that is there is kept
+  -- a store that is there is kept, and none is made there
   pub keeps : old.tells_files → BeginsStore (old.reads Objects) → KeepsFiles old new
-
--- the files are refused exactly where they are no store, whether there is memory or not, or break their format, and then
--- it is the first check that fails that is said
-pub record OpensExactly (old new : Disk) (status : Status) : Type 0 where
-  pub no_store : (status ≡ NotAStore) ↔ IsClosedAt 0 (old.reads Objects)
-  pub damaged : status ≢ Memory → (status ≡ Damaged) ↔ (IsOpenAt 0 (old.reads Objects) × (IsWellFormed old.reads → ⊥))
-  pub said : status ≢ Memory → (file : FileNo) (place : ℕ) → IsDamaged all_meaning old.reads file place → (status ≡ Damaged) × (new.said ≡ old.said ++ notices.damaged file place)
-
--- a store is made exactly where none begins
-pub record MakesExactly (old : Disk) (status : Status) : Type 0 where
-  pub already : (status ≡ AlreadyStore) ↔ BeginsStore (old.reads Objects)
-  pub made : (BeginsStore (old.reads Objects) → ⊥) → status ≡ Done
+  pub fresh : old.tells_files → status ≡ Done → BeginsStore (old.reads Objects) → ⊥
+  pub already : old.tells_files → status ≡ AlreadyStore → SaysStore old new
 
 -- A call with these words, and this script where its source reports it, or some script where it does not, goes on any calls
 -- before it, whatever follows it: nothing, a kill at one of its moments, or a crash.

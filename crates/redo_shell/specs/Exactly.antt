@@ -1,8 +1,20 @@
 -- When each status comes exactly where its cause holds.
-use Rattle.std.specs.Prelude.{◌≢◌, ℕ}
+use Rattle.std.specs.Prelude.{◌≡◌, ◌≢◌, ◌⊎◌, ◌↔◌, ◌<◌, ◌≤◌, ◌^◌, ◌++◌, ℕ, List, length}
 use Rattle.disk_model.specs.Disk.{Disk, Rises}
+use Rattle.disk_model.specs.declared.machine.FileNo.{FileNo}
+use Rattle.disk_model.specs.declared.machine.FileNo.TheVariants.{Objects}
+use Rattle.formats.specs.Bytes.{IsOpenAt, IsClosedAt}
+use Rattle.formats.specs.FirstFault.{IsDamaged}
+use Rattle.formats.specs.Image.{BeginsStore}
+use Rattle.formats.specs.declared.params.Params.{Params}
+use Rattle.op_codec.specs.AllOps.{all_meaning}
+use Rattle.script_lines.specs.Words.{Asks}
+use Rattle.script_lines.specs.declared.words.Asked.TheVariants.{Init, Run, Dump}
+use Rattle.redo_shell.specs.Causes.{AsksNothing}
+use Rattle.redo_shell.specs.Notices as notices
+use Rattle.redo_shell.specs.Store.{Command, IsWellFormed, Opens}
 use Rattle.redo_shell.specs.declared.status.Status.{Status}
-use Rattle.redo_shell.specs.declared.status.Status.TheVariants.{Memory as OutOfMemory}
+use Rattle.redo_shell.specs.declared.status.Status.TheVariants.{Done, DoneWithRefusals, Usage, NotAStore, AlreadyStore, Damaged, Memory, TooLong}
 
 -- no count of faults rose, that of the disk, of the output or of the input
 pub record IsFaultless (old new : Disk) (reads_before reads_now : ℕ) : Type 0 where
@@ -10,7 +22,29 @@ pub record IsFaultless (old new : Disk) (reads_before reads_now : ℕ) : Type 0 
   pub output : Rises old.say_faults new.say_faults → ⊥
   pub input : Rises reads_before reads_now → ⊥
 
--- nor did the call run out of memory
-pub record IsUndisturbed (old new : Disk) (reads_before reads_now : ℕ) (status : Status) : Type 0 where
-  pub faultless : IsFaultless old new reads_before reads_now
-  pub memory : status ≢ OutOfMemory
+-- the files are refused exactly where they are no store, whether there is memory or not, or break their format, and then
+-- it is the first check that fails that is said
+pub record OpensExactly (old new : Disk) (status : Status) : Type 0 where
+  pub no_store : (status ≡ NotAStore) ↔ IsClosedAt 0 (old.reads Objects)
+  pub damaged : status ≢ Memory → (status ≡ Damaged) ↔ (IsOpenAt 0 (old.reads Objects) × (IsWellFormed old.reads → ⊥))
+  pub said : status ≢ Memory → (file : FileNo) (place : ℕ) → IsDamaged all_meaning old.reads file place → (status ≡ Damaged) × (new.said ≡ old.said ++ notices.damaged file place)
+
+-- a store is made exactly where none begins
+pub record MakesExactly (old : Disk) (status : Status) : Type 0 where
+  pub already : (status ≡ AlreadyStore) ↔ BeginsStore (old.reads Objects)
+  pub made : (BeginsStore (old.reads Objects) → ⊥) → status ≡ Done
+
+-- A run that finds memory too succeeds on files that stand for commands, and the input is too long exactly where it has 2^40
+-- bytes or more. It had `left`, where the source reports that (`told`).
+pub record RunsExactly (told : Type 0) (left : List ℕ) (old : Disk) (status : Status) : Type 0 where
+  pub succeeds : (p : Params) (commands : List Command) → Opens p old commands → told → length left < 2 ^ 40 → (status ≡ Done) ⊎ (status ≡ DoneWithRefusals)
+  pub too_long : old.tells_files → IsWellFormed old.reads → told → (status ≡ TooLong) ↔ (2 ^ 40 ≤ length left)
+
+-- Where no count of faults rises, each status comes exactly where its cause holds.
+pub record ComesExactly (words : List (List ℕ)) (told : Type 0) (left : List ℕ) (old new : Disk) (status : Status) : Type 0 where
+  pub usage : (status ≡ Usage) ↔ AsksNothing words
+  pub run : Asks words Run → old.tells_files → OpensExactly old new status
+  pub runs : Asks words Run → status ≢ Memory → RunsExactly told left old status
+  pub dump : Asks words Dump → old.tells_files → OpensExactly old new status
+  pub dumps : Asks words Dump → status ≢ Memory → (p : Params) (commands : List Command) → Opens p old commands → status ≡ Done
+  pub init : (p : Params) → Asks words (Init p) → old.tells_files → MakesExactly old status

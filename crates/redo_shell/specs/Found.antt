@@ -1,5 +1,5 @@
 -- How the answer to a line is found, before it is said.
-use Rattle.std.specs.Prelude.{◌≡◌, ◌≤◌, ◌⊎◌, ◌^◌, ◌++◌, ⊤, ℕ, List, [], Result, Ok, Err}
+use Rattle.std.specs.Prelude.{◌≡◌, ◌<◌, ◌≤◌, ◌⊎◌, ◌+◌, ◌^◌, ◌++◌, ⊤, ℕ, List, [], Option, None, Some, Result, Ok, Err, IfOk}
 use Rattle.disk_model.specs.Disk.{Disk}
 use Rattle.disk_model.specs.declared.machine.FileNo.{FileNo}
 use Rattle.oper_core.specs.Meaning.{Meaning}
@@ -8,28 +8,49 @@ use Rattle.explain_core.specs.History.{commands_of}
 use Rattle.explain_core.specs.World.{World}
 use Rattle.cache_manager.specs.Courses.{Stop as CourseStop, logged_in}
 use Rattle.cache_manager.specs.Courses.Stop.{Through, Full, At_end, Worn}
+use Rattle.cache_manager.specs.Kept.{StopsAt}
+use Rattle.cache_manager.specs.Logged.{log_limit}
 use Rattle.cache_manager.specs.Taking.{Ending, Takes, ending_of}
 use Rattle.cache_manager.specs.declared.install_err.InstallErr.{InstallErr}
 use Rattle.cache_manager.specs.Taking.Ending.{Done, Stopped, Short, Failed}
+use Rattle.oper_core.specs.declared.refusal.Refusal.TheVariants as refusals
+use Rattle.tree_client.specs.declared.tree_err.TreeErr.{TreeErr}
+use Rattle.tree_client.specs.declared.tree_err.TreeErr.TheVariants as tree_errors
 use Rattle.op_codec.specs.AllOps.{all_meaning}
-use Rattle.script_lines.specs.Grammar.{Request}
-use Rattle.script_lines.specs.Replies.{Reply, ok, forced, full, end, stat}
+use Rattle.script_lines.specs.Grammar.{Request, trim, AsksFor}
+use Rattle.command_lists.specs.Lists.{AddsFront, AreCalls, ending_of as ending_of_calls}
+use Rattle.execution.specs.declared.exec_err.ExecErr.{ExecErr}
+use Rattle.execution.specs.declared.exec_err.ExecErr.TheVariants as exec_errors
+use Rattle.script_lines.specs.Replies.{Reply, forced, full, end, pairs_reply, refused, stat, value, reply_of}
 use Rattle.script_lines.specs.declared.answer.Answer.{Answer}
 use Rattle.script_lines.specs.declared.answer.Answer.TheVariants as answers
-use Rattle.store_engine.specs.Engine.{EngineView, IsAttached, IsCall, KeepsCommands, StopsAt, forced_in, logged_since}
-use Rattle.redo_shell.specs.Store.{Command, ShowsIn, meaning_in}
-use Rattle.redo_shell.specs.Replies.{Replies, IsNumbered}
+use Rattle.store_engine.specs.Engine.{EngineView, KeepsCommands, forced_in, logged_since}
+use Rattle.redo_shell.specs.Store.{IsAttached, IsCall}
+use Rattle.redo_shell.specs.Made.{Made, made_by, tree_answer}
+use Rattle.redo_shell.specs.Store.{Command, Holds, ShowsIn, meaning_in, state_of}
+use Rattle.redo_shell.specs.Replies.{Replies, IsNumbered, IsOver}
 use Rattle.redo_shell.specs.Stages.{GoesBy, stage_of, upkeep_course}
+use Rattle.redo_shell.specs.declared.asking.Found.{Found}
+use Rattle.redo_shell.specs.declared.asking.Found.TheVariants as founds
 use Rattle.redo_shell.specs.declared.stop.Stop.{Stop}
 use Rattle.redo_shell.specs.declared.stop.Stop.TheVariants.{DiskFault, Damaged, Memory}
 
--- what an answer says of the engine that it leaves: why it was stopped, and how many commands are forced
-abbrev pub IsOfEngine : EngineView → Reply → Type 0
-IsOfEngine engine (full used need limit) = StopsAt engine.parts.log (Full used need limit)
-IsOfEngine engine (end number) = StopsAt engine.parts.log (At_end number) ⊎ StopsAt engine.parts.log (Worn number)
-IsOfEngine engine (forced n) = n ≡ forced_in engine
-IsOfEngine engine (stat counts) = counts.forced ≡ forced_in engine
-IsOfEngine engine reply = ⊤
+-- a call left this engine that was stopped so, by the bytes that its log may have
+abbrev pub IsStopped : EngineView → CourseStop → Type 0
+IsStopped engine stop = (most : ℕ) × StopsAt most engine.parts.log stop
+
+-- why no number is left: behind a trim no epoch is, else no number for a record
+abbrev pub EndsAtLast : EngineView → Request → ℕ → Type 0
+EndsAtLast engine trim number = IsStopped engine (Worn number)
+EndsAtLast engine request number = IsStopped engine (At_end number)
+
+-- what an answer to a line says of the engine that it leaves: why it was stopped, and how many commands are forced
+abbrev pub IsOfEngine : EngineView → List ℕ → Reply → Type 0
+IsOfEngine engine line (full used need limit) = IsStopped engine (Full used need limit)
+IsOfEngine engine line (end number) = (request : Request) × AsksFor line request × EndsAtLast engine request number
+IsOfEngine engine line (forced n) = n ≡ forced_in engine
+IsOfEngine engine line (stat counts) = counts.forced ≡ forced_in engine
+IsOfEngine engine line reply = ⊤
 
 -- What a line asks for is done, and nothing is said of it yet: engine and files show the world that the answer leads to.
 pub record IsDone (p : Params) (old now : Disk) (before after : EngineView) (w : World Command) (commands : List Command) (line : List ℕ) (reply : Reply) : Type 0 where
@@ -41,7 +62,7 @@ pub record IsDone (p : Params) (old now : Disk) (before after : EngineView) (w :
   pub commands_are : commands_of world.history ≡ commands ++ added
   pub rising : forced_in before ≤ forced_in after
   pub goes : GoesBy p (stage_of before w) line reply (stage_of after world)
-  pub is_of : IsOfEngine after reply
+  pub is_of : IsOfEngine after line reply
 
 -- what ends a call that took only some first steps
 abbrev pub IsShort : Stop → Type 0
@@ -66,9 +87,11 @@ IsAnswerOf Failed result = result ≡ Err DiskFault
 -- only some calls may be stopped for want of a number, and by their own bounds
 abbrev pub MayStop : Request → CourseStop → Type 0
 MayStop request Through = ⊤
-MayStop request (Full used need limit) = limit ≡ 2 ^ 48
+MayStop request (Full used need limit) = (limit ≡ 2 ^ 48) × (limit < used + need → IsOver request used need limit)
+MayStop trim (At_end number) = ⊥
 MayStop request (At_end number) = IsNumbered request
-MayStop request (Worn epoch) = IsNumbered request
+MayStop trim (Worn epoch) = ⊤
+MayStop request (Worn epoch) = ⊥
 
 -- A call for a request that adds no command took its course, so far as its answer says. So many identity writes are logged:
 -- as many as numbers were taken, or none in a course without any.
@@ -76,7 +99,7 @@ pub record IsUpkept (old now : Disk) (before after : EngineView) (request : Requ
   pub epoch : ℕ
   pub logged : ℕ
   pub ending : Ending
-  pub call : IsCall old now before after logged ending
+  pub call : IsCall log_limit old now before after logged ending
   pub takes : Takes all_meaning old now before.parts after.parts (upkeep_course epoch request) ending
   pub commands : KeepsCommands all_meaning old now before after ending
   pub counted : (logged ≡ logged_since before after)
@@ -84,3 +107,63 @@ pub record IsUpkept (old now : Disk) (before after : EngineView) (request : Requ
   pub answered : IsAnswerOf ending result
   -- no file that was opened is damaged
   pub undamaged : old.tells_files → IsAttached old before → (file : FileNo) (place : ℕ) → result ≡ Err (Damaged file place) → ⊥
+
+-- how the error of a command is answered
+abbrev pub answer_of_error : ExecErr → Result Answer Stop
+answer_of_error (exec_errors.Refused why) = Ok (answers.Refused why)
+answer_of_error (exec_errors.LogFull used need limit) = Ok (answers.Full used need limit)
+answer_of_error (exec_errors.LsnEnd number) = Ok (answers.End number)
+answer_of_error (exec_errors.Damaged file place) = Err (Damaged file place)
+answer_of_error exec_errors.DiskFault = Err DiskFault
+answer_of_error exec_errors.Memory = Err Memory
+
+-- how the error of a call on a tree is answered
+abbrev pub answer_of_tree_error : TreeErr → Result Answer Stop
+answer_of_tree_error tree_errors.NoObject = Ok (answers.Refused refusals.NoObject)
+answer_of_tree_error (tree_errors.BadTree object) = Ok answers.BadTree
+answer_of_tree_error (tree_errors.TreeFull need free) = Ok answers.TreeFull
+answer_of_tree_error tree_errors.NoKey = Ok (answers.Refused refusals.NoKey)
+answer_of_tree_error (tree_errors.Exec error) = answer_of_error error
+answer_of_tree_error tree_errors.Memory = Err Memory
+
+-- how a call ends that answers this error, or none: a fault, a damaged slot or want of memory ends it early
+abbrev pub IsEndedBy : {T : Type 0} → Option ExecErr → Result T Stop → Type 0
+IsEndedBy (Some exec_errors.DiskFault) result = result ≡ Err DiskFault
+IsEndedBy (Some (exec_errors.Damaged file place)) result = result ≡ Err (Damaged file place)
+IsEndedBy (Some exec_errors.Memory) result = result ≡ Err Memory
+IsEndedBy {T} error result = (value : T) × (result ≡ Ok value)
+
+-- how several commands are answered, by the error of one of them, if there is one, and by what the plain map replies
+abbrev pub IsAnswerTo : Reply → Option ExecErr → Result Answer Stop → Type 0
+IsAnswerTo reply None result = (answer : Answer) × (result ≡ Ok answer) × (reply ≡ reply_of answer)
+IsAnswerTo reply (Some (exec_errors.Refused why)) result = (result ≡ answer_of_error (exec_errors.Refused why)) × (reply ≡ refused why)
+IsAnswerTo reply (Some error) result = result ≡ answer_of_error error
+
+-- A call for a request that may add several commands: it has added the first of those that the plain map makes, all of them
+-- where it is done, and the answer is that of the map, or says what stopped the call.
+pub record IsMade (old now : Disk) (before after : EngineView) (request : Request) (result : Result Answer Stop) : Type 0 where
+  pub error : Option ExecErr
+  pub calls : AreCalls all_meaning old now before after error
+  pub ended : IsEndedBy error result
+  pub adds : (p : Params) (commands : List Command) → (holds : Holds p old before commands) → (it : Made) × (made_by p commands request ≡ Some it)
+      × AddsFront all_meaning p old now before after holds.world commands it.ops (ending_of_calls error) × IsAnswerTo it.reply error result
+
+-- what is replied where this was found in a tree
+abbrev pub reply_in : Found → Reply
+reply_in (founds.Value bytes) = value bytes
+reply_in founds.Absent = value []
+reply_in (founds.Pairs found) = pairs_reply found.items
+reply_in (founds.Refused answer) = reply_of answer
+
+-- what is found where a call on a tree is not done
+abbrev pub refused_as : Result Answer Stop → Result Found Stop
+refused_as (Ok answer) = Ok (founds.Refused answer)
+refused_as (Err stop) = Err stop
+
+-- A call for a request for pairs of a tree: it adds nothing, and finds what the plain map tells.
+pub record IsAsked (old now : Disk) (before after : EngineView) (request : Request) (result : Result Found Stop) : Type 0 where
+  pub error : Option ExecErr
+  pub calls : AreCalls all_meaning old now before after error
+  pub ended : IsEndedBy error result
+  pub adds : (p : Params) (commands : List Command) → (holds : Holds p old before commands) → AddsFront all_meaning p old now before after holds.world commands [] (ending_of_calls error)
+  pub tells : (p : Params) (commands : List Command) → Holds p old before commands → IfOk result (λ found. tree_answer p (state_of p commands) request ≡ Some (reply_in found))

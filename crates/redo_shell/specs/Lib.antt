@@ -1,4 +1,5 @@
 pub mod Store
+pub mod Made
 pub mod Replies
 pub mod Work
 pub mod Printed
@@ -9,6 +10,7 @@ pub mod Found
 pub mod Status
 pub mod Notices
 pub mod Run
+pub mod Causes
 pub mod Exactly
 pub mod Dump
 pub mod Keeps

@@ -1,13 +1,32 @@
--- A store that was opened.
-use Rattle.std.specs.Prelude.{◌≡◌, List, length}
-use Rattle.disk_model.specs.Disk.{Disk}
+-- A store that was opened, or not.
+use Rattle.std.specs.Prelude.{◌≡◌, ◌≢◌, List, length}
+use Rattle.disk_model.specs.Disk.{Disk, LeavesOnly}
 use Rattle.formats.specs.declared.params.Params.{Params}
+use Rattle.restart.specs.Starts.{OrAtStart}
 use Rattle.store_engine.specs.Engine.{EngineView, forced_in}
-use Rattle.redo_shell.specs.Stages.{IsFirst, stage_of}
-use Rattle.redo_shell.specs.Store.{Command, Holds}
+use Rattle.redo_shell.specs.Causes.{CountsFaults, JudgesFiles}
+use Rattle.redo_shell.specs.Stages.{Stage, IsFirst, stage_of}
+use Rattle.redo_shell.specs.Status.{IsOfUnopened}
+use Rattle.redo_shell.specs.Store.{Command, IsWellFormed, Holds, Between}
+use Rattle.redo_shell.specs.declared.status.Status.{Status}
+use Rattle.redo_shell.specs.declared.status.Status.TheVariants.{SayFault}
 
--- An engine on files that stand for commands, all of them forced, in the stage that a restart makes of them.
+-- What the opening of files that stand for commands leaves: nothing is said, and at each moment there is what a crash at the
+-- start could leave, or files that stand for the commands. There is a stage that a restart makes of the files.
+pub record OpensFiles (p : Params) (commands : List Command) (old new : Disk) : Type 0 where
+  pub quiet : new.said ≡ old.said
+  pub images : old.tells_moments → LeavesOnly old new (OrAtStart old (Between p old (length commands) commands))
+  pub first : (first : Stage) × IsFirst p commands old first
+
+-- An engine on files that stand for commands, all of them forced. Each stage that a restart may make of the files is the
+-- engine's, by a world that it shows.
 pub record IsOpen (p : Params) (commands : List Command) (old new : Disk) (engine : EngineView) : Type 0 where
-  pub holds : Holds p new engine commands
   pub all : forced_in engine ≡ length commands
-  pub first : IsFirst p commands old (stage_of engine holds.world)
+  pub shows : (first : Stage) → IsFirst p commands old first → (holds : Holds p new engine commands) × (first ≡ stage_of engine holds.world)
+
+-- Why the store was not opened, by the status that the program ends with. On files that meet their format it says nothing.
+pub record IsUnopened (old new : Disk) (status : Status) : Type 0 where
+  pub ends : IsOfUnopened status
+  pub judged : old.tells_files → JudgesFiles old new status
+  pub quiet : old.tells_files → IsWellFormed old.reads → status ≢ SayFault
+  pub faults : CountsFaults old new status

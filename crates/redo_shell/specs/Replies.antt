@@ -1,5 +1,5 @@
 -- When a line gets an answer, as a plain map would answer it.
-use Rattle.std.specs.Prelude.{◌≡◌, ℕ, ◌+◌, ◌^◌, ◌<◌, ◌≤◌, ◌⊎◌, ⊤, Bool, true, false, List, [], ◌∷◌, length, None, Some}
+use Rattle.std.specs.Prelude.{◌≡◌, ℕ, ◌+◌, ◌^◌, ◌<◌, ◌≤◌, ◌++◌, ◌⊎◌, ⊤, Bool, true, false, List, [], length}
 use Rattle.oper_core.specs.declared.refusal.Refusal.TheVariants.{NoObject}
 use Rattle.disk_model.specs.Disk.{Files}
 use Rattle.formats.specs.Image.{EndsAt, NextIs}
@@ -7,10 +7,11 @@ use Rattle.store_engine.specs.Engine.{EpochIs}
 use Rattle.formats.specs.declared.params.Params.{Params}
 use Rattle.op_codec.specs.declared.all_ops.AllOps.TheVariants.{Put, Copy, Append, Cut, Sort, Swap, Exec, AppRead, AppWrite}
 use Rattle.script_lines.specs.Grammar.{put, copy, append, cut, sort, swap, exec, aread, awrite, get, force, install, drain, checkpoint, trim, stat as asks_stat, skip, Request, AsksFor, IsBad}
-use Rattle.script_lines.specs.Replies.{Reply, ok, value, forced, bad, refused, full, end, object_value, command_count, stat, silence}
-use Rattle.redo_shell.specs.Store.{Command, meaning_in, state_of, refusal_after, record_length, Stands}
+use Rattle.script_lines.specs.Replies.{Reply, ok, ran, value, pairs, forced, bad, refused, bad_tree, tree_full, full, end, object_value, command_count, stat, summary, silence}
+use Rattle.redo_shell.specs.Store.{Command, meaning_in, state_of, record_length, Stands}
+use Rattle.redo_shell.specs.Made.{made, AsksMade, AsksBehind, AsksTree}
 
--- The line asks for this command. No line asks for an operation on a node yet.
+-- The line asks for this one command. No line asks for one on a node.
 abbrev pub AsksCommand : List ℕ → Command → Type 0
 AsksCommand line (Put op) = AsksFor line (put op.object op.value)
 AsksCommand line (Copy op) = AsksFor line (copy op.from op.to)
@@ -38,43 +39,64 @@ IsNumbered drain = ⊤
 IsNumbered trim = ⊤
 IsNumbered request = ⊥
 
+-- the log has no room for a command, or for what a request adds that adds no command: a log that is rewritten is longer than
+-- it may be, any other record does not fit behind those that are there
+abbrev pub IsOver : Request → ℕ → ℕ → ℕ → Type 0
+IsOver trim used need limit = limit < need
+IsOver request used need limit = limit < used + need
+
 -- the line gets this answer after the commands, and adds these
 abbrev pub Replies : Params → List Command → List ℕ → Reply → List Command → Type 0
 Replies p commands line ok added =
-    ((op : Command) × AsksCommand line op × (refusal_after p commands op ≡ None) × (length commands + 1 < 2 ^ 62) × (added ≡ op ∷ []))
+    (AsksMade p commands line (made added ok) × (length (commands ++ added) < 2 ^ 62))
     ⊎ ((request : Request) × IsUpkeep request × AsksFor line request × (added ≡ []))
-Replies p commands line (value bytes) added = (object : ℕ) × AsksFor line (get object) × (object < p.objects) × (bytes ≡ state_of p commands object) × (added ≡ [])
+Replies p commands line (ran k) added = AsksMade p commands line (made added (ran k))
+Replies p commands line (value bytes) added =
+    (((object : ℕ) × AsksFor line (get object) × (object < p.objects) × (bytes ≡ state_of p commands object))
+    ⊎ AsksTree p commands line (value bytes)) × (added ≡ [])
+Replies p commands line (pairs pair others) added = AsksTree p commands line (pairs pair others) × (added ≡ [])
 Replies p commands line (forced n) added = AsksFor line force × (n ≡ length commands) × (added ≡ [])
 Replies p commands line bad added = IsBad line × (added ≡ [])
 Replies p commands line (refused why) added =
-    (((op : Command) × AsksCommand line op × (refusal_after p commands op ≡ Some why))
-    ⊎ ((object : ℕ) × AsksFor line (get object) × (p.objects ≤ object) × (why ≡ NoObject))) × (added ≡ [])
+    AsksMade p commands line (made added (refused why))
+    ⊎ ((((object : ℕ) × AsksFor line (get object) × (p.objects ≤ object) × (why ≡ NoObject)) ⊎ AsksTree p commands line (refused why)) × (added ≡ []))
+Replies p commands line bad_tree added = AsksMade p commands line (made added bad_tree) ⊎ (AsksTree p commands line bad_tree × (added ≡ []))
+Replies p commands line tree_full added = AsksMade p commands line (made added tree_full)
 Replies p commands line (full used need limit) added =
-    (((op : Command) × AsksCommand line op × (refusal_after p commands op ≡ None) × (need ≡ record_length p op + 5) × (limit ≡ p.limit))
-    ⊎ ((request : Request) × IsUpkeep request × AsksFor line request × (limit ≡ 2 ^ 48))) × (limit < used + need) × (added ≡ [])
+    ((op : Command) × AsksBehind p commands line added op × (need ≡ record_length p op + 5) × (limit ≡ p.limit) × (limit < used + need))
+    ⊎ ((request : Request) × IsUpkeep request × AsksFor line request × (limit ≡ 2 ^ 48) × IsOver request used need limit × (added ≡ []))
 Replies p commands line (end number) added =
-    (((op : Command) × AsksCommand line op × (refusal_after p commands op ≡ None))
-    ⊎ ((request : Request) × IsNumbered request × AsksFor line request)) × (number ≡ 2 ^ 62) × (added ≡ [])
+    (((op : Command) × AsksBehind p commands line added op)
+    ⊎ ((request : Request) × IsNumbered request × AsksFor line request × (added ≡ []))) × (number ≡ 2 ^ 62)
 Replies p commands line (stat counts) added =
     AsksFor line asks_stat × (counts.accepted ≡ length commands) × (counts.forced ≤ length commands) × (added ≡ [])
 Replies p commands line silence added = AsksFor line skip × (added ≡ [])
 Replies p commands line (object_value object bytes) added = ⊥
 Replies p commands line (command_count n) added = ⊥
+Replies p commands line (summary totals) added = ⊥
 
--- what an answer says of each image of its moment
-abbrev pub IsTrueIn : Params → Files → Reply → Type 0
-IsTrueIn p files (full used need limit) = EndsAt files used
-IsTrueIn p files (end number) = NextIs (meaning_in p) files number ⊎ EpochIs files number
-IsTrueIn p files (stat counts) = (commands : List Command) × Stands p files commands × (length commands ≡ counts.forced)
-IsTrueIn p files reply = ⊤
+-- what the number of an `end` is: behind a trim the epoch of the log in force, else the number that comes next
+abbrev pub IsLast : Params → Files → Request → ℕ → Type 0
+IsLast p files trim number = EpochIs files number
+IsLast p files request number = NextIs (meaning_in p) files number
+
+-- what an answer to the line says of each image of its moment
+abbrev pub IsTrueIn : Params → Files → List ℕ → Reply → Type 0
+IsTrueIn p files line (full used need limit) = EndsAt files used
+IsTrueIn p files line (end number) = (request : Request) × AsksFor line request × IsLast p files request number
+IsTrueIn p files line (stat counts) = (commands : List Command) × Stands p files commands × (length commands ≡ counts.forced)
+IsTrueIn p files line reply = ⊤
 
 -- an answer that the status reports
 abbrev pub is_refusing : Reply → Bool
 is_refusing ok = false
+is_refusing (ran k) = false
+is_refusing (pairs pair others) = false
 is_refusing (value bytes) = false
 is_refusing (forced n) = false
 is_refusing (object_value object bytes) = false
 is_refusing (command_count n) = false
+is_refusing (summary totals) = false
 is_refusing (stat counts) = false
 is_refusing silence = false
 is_refusing reply = true

@@ -1,5 +1,5 @@
 -- One line's answer, and a whole run.
-use Rattle.std.specs.Prelude.{◌≡◌, ℕ, ◌≤◌, ◌⊎◌, ◌↔◌, ⊤, ◌++◌, List, length, take, Contains, Bool, true, Result, IfOk, OnErr}
+use Rattle.std.specs.Prelude.{◌≡◌, ℕ, ◌≤◌, ◌⊎◌, ◌↔◌, ⊤, ◌++◌, List, [], length, take, Contains, Bool, true, Result, IfOk, OnErr}
 use Rattle.std.specs.List.{flat_map, list_any}
 use Rattle.disk_model.specs.Disk.{Files, Disk, LeavesOnly, Rises, IsSettled}
 use Rattle.formats.specs.Image.{EndsAt}
@@ -10,23 +10,24 @@ use Rattle.standing.specs.Standing.{FilesShow}
 use Rattle.cache_manager.specs.Courses.{force_steps}
 use Rattle.store_engine.specs.Engine.{EngineView, InEachImage, forced_in}
 use Rattle.redo_shell.specs.Store.{Command, meaning_in, Stands, Holds, Kept, Between}
+use Rattle.redo_shell.specs.Made.{IsFront}
 use Rattle.redo_shell.specs.Replies.{Replies, IsTrueIn, is_refusing}
 use Rattle.redo_shell.specs.Answers.{Answers, Moment, EndsInside, TrueWithin, SaysTruly}
-use Rattle.redo_shell.specs.Stages.{Stage, GoesBy, AllGoBy, stage_of}
+use Rattle.redo_shell.specs.Stages.{Stage, Leads, AllGoBy, stage_of}
 use Rattle.redo_shell.specs.declared.status.Status.{Status}
 use Rattle.redo_shell.specs.declared.status.Status.TheVariants.{DoneWithRefusals}
 use Rattle.redo_shell.specs.declared.stop.Stop.{Stop}
 use Rattle.redo_shell.specs.declared.stop.Stop.TheVariants.{DiskFault, Damaged, ReadFault, SayFault, Memory, TooLong}
 
--- a moment while this answer is found and said behind these bytes: it is true where the bytes said end inside it
-pub record IsTrueSaying (p : Params) (before : List ℕ) (reply : Reply) (files : Files) (said : List ℕ) : Type 0 where
-  pub true_in : EndsInside before reply said → IsTrueIn p files reply
+-- a moment while this answer to a line is found and said behind these bytes: it is true where the bytes said end inside it
+pub record IsTrueSaying (p : Params) (before line : List ℕ) (reply : Reply) (files : Files) (said : List ℕ) : Type 0 where
+  pub true_in : EndsInside before reply said → IsTrueIn p files line reply
   pub no_shorter : length before ≤ length said
   pub no_longer : length said ≤ length (before ++ said_line reply)
 
--- a moment of a run that has said these answers behind these bytes, and no more than these
-pub record IsTrueSoFar (p : Params) (before : List ℕ) (replies : List Reply) (now : List ℕ) (files : Files) (said : List ℕ) : Type 0 where
-  pub true_within : TrueWithin p before replies files said
+-- a moment of a run that has said these answers to these lines behind these bytes, and no more than these
+pub record IsTrueSoFar (p : Params) (before : List ℕ) (lines : List (List ℕ)) (replies : List Reply) (now : List ℕ) (files : Files) (said : List ℕ) : Type 0 where
+  pub true_within : TrueWithin p before lines replies files said
   pub no_longer : length said ≤ length now
 
 -- a line was answered, where engine and files showed the world
@@ -38,8 +39,8 @@ pub record IsAnswered (p : Params) (old new : Disk) (before after : EngineView) 
   pub kept : Kept p before new after (commands ++ added)
   pub acked : (n : ℕ) → reply ≡ forced n → n ≤ forced_in after
   pub kind : refusing ≡ is_refusing reply
-  pub truly : old.tells_moments → LeavesOnly old new (IsTrueSaying p old.said reply)
-  pub goes : GoesBy p (stage_of before w) line reply (stage_of after kept.holds.world)
+  pub truly : old.tells_moments → LeavesOnly old new (IsTrueSaying p old.said line reply)
+  pub leads : Leads p (stage_of before w) line reply (stage_of after kept.holds.world)
 
 -- the bytes said while a line is answered, from this stage: a beginning of its answer
 pub record IsPartly (p : Params) (old new : Disk) (stage : Stage) (commands : List Command) (line : List ℕ) : Type 0 where
@@ -48,16 +49,22 @@ pub record IsPartly (p : Params) (old new : Disk) (stage : Stage) (commands : Li
   pub replies : Replies p commands line reply added
   pub count : ℕ
   pub said_is : new.said ≡ old.said ++ take count (said_line reply)
-  pub truly : old.tells_moments → LeavesOnly old new (IsTrueSaying p old.said reply)
+  pub truly : old.tells_moments → LeavesOnly old new (IsTrueSaying p old.said line reply)
   pub after : Stage
-  pub goes : GoesBy p stage line reply after
+  pub leads : Leads p stage line reply after
+
+-- a moment while a line is worked on and nothing is said of it: some first commands that it asks for may be done
+pub record Working (p : Params) (old : Disk) (least : ℕ) (commands : List Command) (line : List ℕ) (files : Files) (said : List ℕ) : Type 0 where
+  pub added : List Command
+  pub front : (added ≡ []) ⊎ IsFront p commands line added
+  pub between : Between p old least (commands ++ added) files said
 
 -- a moment while an answer is said
 pub record During (p : Params) (old : Disk) (least : ℕ) (commands : List Command) (line : List ℕ) (files : Files) (said : List ℕ) : Type 0 where
   pub reply : Reply
   pub added : List Command
   pub replies : Replies p commands line reply added
-  pub tied : IsTrueIn p files reply
+  pub tied : IsTrueIn p files line reply
   pub count : ℕ
   pub said_is : said ≡ old.said ++ take count (said_line reply)
   pub kept : ℕ
@@ -69,7 +76,7 @@ pub record During (p : Params) (old : Disk) (least : ℕ) (commands : List Comma
 -- a moment while a line is answered
 abbrev pub LineMoment : Params → Disk → ℕ → List Command → List ℕ → Files → List ℕ → Type 0
 LineMoment p old least commands line files said =
-    Between p old least commands files said ⊎ During p old least commands line files said
+    Working p old least commands line files said ⊎ During p old least commands line files said
 
 -- a run so far, from a start with these commands and this stage: the answers to the lines that were taken
 pub record Going (p : Params) (first : Stage) (start now : Disk) (engine : EngineView) (commands : List Command) (script todo : List (List ℕ)) (refusing : Bool) : Type 0 where
@@ -84,7 +91,7 @@ pub record Going (p : Params) (first : Stage) (start now : Disk) (engine : Engin
   pub acked : (n : ℕ) → Contains replies (forced n) → n ≤ forced_in engine
   pub kind : refusing ≡ list_any is_refusing replies
   pub moments : start.tells_moments → LeavesOnly start now (Moment p commands script start.said)
-  pub truly : start.tells_moments → LeavesOnly start now (IsTrueSoFar p start.said replies now.said)
+  pub truly : start.tells_moments → LeavesOnly start now (IsTrueSoFar p start.said lines replies now.said)
   pub goes : AllGoBy p first lines replies (stage_of engine holds.world)
 
 -- A whole run: each line is answered, the files stand for all that was added, and the status reports refusals. The
@@ -109,8 +116,8 @@ pub record IsFound (p : Params) (old now : Disk) (before after : EngineView) (w 
   pub replies : Replies p commands line reply added
   pub quiet : now.said ≡ old.said
   pub kept : Kept p before now after (commands ++ added)
-  pub tied : InEachImage now (λ files. IsTrueIn p files reply)
-  pub goes : GoesBy p (stage_of before w) line reply (stage_of after kept.holds.world)
+  pub tied : InEachImage now (λ files. IsTrueIn p files line reply)
+  pub leads : Leads p (stage_of before w) line reply (stage_of after kept.holds.world)
   pub acked : (n : ℕ) → reply ≡ forced n → n ≤ forced_in after
 
 -- no slot that was read broke its format

@@ -19,7 +19,7 @@ pub record Ran : Type 0 where
 -- What a run makes of a store with these commands: what it said is answers to its script, and behind the commands stands
 -- a beginning of those that it adds, no shorter than any number that its bytes say to be forced.
 pub record Adds (p : Params) (commands : List Command) (ran : Ran) (now : List Command) : Type 0 where
-  pub story : Said p (λ reply. ⊤) commands ran.script ran.bytes
+  pub story : Said p (λ line reply. ⊤) commands ran.script ran.bytes
   pub kept : ℕ
   pub all_before : length commands ≤ kept
   pub no_more : kept ≤ length (commands ++ story.acc ++ story.added)
@@ -57,7 +57,7 @@ pub record Follows (old new next : Disk) (said : List ℕ) : Type 0 where
 -- of the stores that were made, and the runs, the latest first.
 pub data Sessions {T : Type 0} (disk : T → Disk) (first : T) : List Params → List Ran → T → Type 0 where
   start : Sessions disk first [] [] first
-  -- a run on a store, by `run`, its part `moments`
+  -- a run on a store, by `moments`, or of a source that reports nothing by `run`, its `untold`
   run : {inits : List Params} {runs : List Ran} → (old new next : T) (ran : Ran) → Sessions disk first inits runs old → BeginsStore ((disk old).reads Objects)
       → ((p : Params) (commands : List Command) → Opens p (disk old) commands → (disk old).tells_moments → LeavesOnly (disk old) (disk new) (OrAtStart (disk old) (Moment p commands ran.script (disk old).said)))
       → Follows (disk old) (disk new) (disk next) ((disk old).said ++ ran.bytes) → Sessions disk first inits (ran ∷ runs) next
@@ -65,11 +65,11 @@ pub data Sessions {T : Type 0} (disk : T → Disk) (first : T) : List Params →
   init : {inits : List Params} {runs : List Ran} → (old new next : T) (p : Params) (said : List ℕ) → Sessions disk first inits runs old → (BeginsStore ((disk old).reads Objects) → ⊥)
       → ((disk old).tells_moments → LeavesOnly (disk old) (disk new) (OrAtStart (disk old) (λ files bytes. IsNew p files × (bytes ≡ (disk old).said))))
       → Follows (disk old) (disk new) (disk next) said → Sessions disk first (p ∷ inits) runs next
-  -- a dump, by `dump`, its part `moments`, and by `unopened_keeps` where there is no store
+  -- a dump, by `dump`: of a store by `moments` of its `table`, where there is none by `keeps` of its `judged`
   dump : {inits : List Params} {runs : List Ran} → (old new next : T) (said : List ℕ) → Sessions disk first inits runs old → ((BeginsStore ((disk old).reads Objects) → ⊥) → (disk old).tells_moments → KeepsFiles (disk old) (disk new))
       → ((p : Params) (commands : List Command) → Opens p (disk old) commands → (disk old).tells_moments → LeavesOnly (disk old) (disk new) (OrAtStart (disk old) (DumpMoment p commands (disk old).said)))
       → Follows (disk old) (disk new) (disk next) said → Sessions disk first inits runs next
-  -- any other call, by `unopened_keeps`, `usage_keeps`, or `init`, its part `keeps`
+  -- any other call, by `keeps`, a part of `usage`, of `init`, and of `judged` in `run`
   other : {inits : List Params} {runs : List Ran} → (old new next : T) (said : List ℕ) → Sessions disk first inits runs old → KeepsFiles (disk old) (disk new)
       → Follows (disk old) (disk new) (disk next) said → Sessions disk first inits runs next
 

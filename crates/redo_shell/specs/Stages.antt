@@ -1,5 +1,5 @@
 -- What the answers of a run go by: the world that engine and files show, and the length of the log.
-use Rattle.std.specs.Prelude.{◌≡◌, ◌⊎◌, ◌+◌, ℕ, List, [], ◌∷◌, length}
+use Rattle.std.specs.Prelude.{◌≡◌, ◌⊎◌, ◌+◌, ◌++◌, ⊤, ℕ, List, [], ◌∷◌, length}
 use Rattle.disk_model.specs.Disk.{Disk}
 use Rattle.oper_core.specs.Meaning.{Meaning}
 use Rattle.formats.specs.declared.params.Params.{Params}
@@ -9,16 +9,17 @@ use Rattle.explain_core.specs.World.{World, run, end_of}
 use Rattle.cache_manager.specs.Courses.{Course, Stop, course, logged_in, force_course, install_course, drain_course}
 use Rattle.cache_manager.specs.Courses.Stop.{Through, Full, At_end, Worn}
 use Rattle.op_codec.specs.AllOps.{all_meaning}
-use Rattle.script_lines.specs.Grammar.{Request, install, drain, checkpoint, trim, AsksFor}
-use Rattle.script_lines.specs.Replies.{Reply, ok, forced, full, end, stat}
+use Rattle.script_lines.specs.Grammar.{Request, get, tget, trange, install, drain, checkpoint, trim, AsksFor}
+use Rattle.script_lines.specs.Replies.{Reply, ok, ran, forced, refused, bad_tree, tree_full, full, end, stat}
 use Rattle.script_lines.specs.declared.answer.Counts.{Counts}
-use Rattle.execution.specs.Courses.{append_course}
 use Rattle.checkpointing.specs.Courses.{checkpoint_course, trim_course}
 use Rattle.restart.specs.Courses.{restart_course}
 use Rattle.restart.specs.Opening.{OpensOn}
 use Rattle.store_engine.specs.Engine.{EngineView, is_name, used_in}
 use Rattle.redo_shell.specs.Store.{Command, meaning_in}
-use Rattle.redo_shell.specs.Replies.{AsksCommand, IsUpkeep}
+use Rattle.command_lists.specs.Lists.{commands_course}
+use Rattle.redo_shell.specs.Made.{Made, AsksMade}
+use Rattle.redo_shell.specs.Replies.{Replies, IsUpkeep}
 
 -- a world that engine and files show, the length of the log, what waits for a force counted, and how many identity writes
 -- were logged since the restart
@@ -43,11 +44,19 @@ upkeep_course epoch checkpoint m w used = checkpoint_course m w used
 upkeep_course epoch trim m w used = trim_course m epoch w used
 upkeep_course epoch request m w used = course [] used Through
 
--- The line has the engine take this course: that of a command which nothing refuses, or that of an install, a drain, a
--- checkpoint or a trim.
+-- a request for values changes nothing
+abbrev pub IsQuestion : Request → Type 0
+IsQuestion (get object) = ⊤
+IsQuestion (tget lo hi key) = ⊤
+IsQuestion (trange lo hi from to) = ⊤
+IsQuestion request = ⊥
+
+-- The line has the engine take this course: that of the commands that it asks for, one after the other, that of an install, a
+-- drain, a checkpoint or a trim, or none, where it asks for values.
 abbrev pub HasCourse : Params → Stage → List ℕ → Course Command → Type 0
-HasCourse p s line c = ((op : Command) × AsksCommand line op × (c ≡ append_course (meaning_in p) p.limit op s.world s.used))
-    ⊎ ((request : Request) × (epoch : ℕ) × IsUpkeep request × AsksFor line request × (c ≡ upkeep_course epoch request (meaning_in p) s.world s.used))
+HasCourse p s line c = ((it : Made) × AsksMade p (commands_of s.world.history) line it × (c ≡ commands_course (meaning_in p) p.limit it.ops s.world s.used))
+    ⊎ (((request : Request) × (epoch : ℕ) × IsUpkeep request × AsksFor line request × (c ≡ upkeep_course epoch request (meaning_in p) s.world s.used))
+    ⊎ ((request : Request) × IsQuestion request × AsksFor line request × (c ≡ course [] s.used Through)))
 
 -- the course ends so, and leads from the old stage to the new one
 abbrev pub Ends : Params → Stage → List ℕ → Stop → Stage → Type 0
@@ -61,27 +70,38 @@ pub record IsCounted (p : Params) (s : Stage) (counts : Counts) : Type 0 where
   pub used : counts.used ≡ s.used
   pub identities : counts.identities ≡ s.identities
 
--- What an answer says of the old stage, and the new one: `ok` comes where nothing stops the course, `full` where its next
--- record or log has no room, with these numbers, and `end` where no number is left for a record, or no epoch for a log;
--- `forced` comes after a force; `stat` counts. No other answer changes anything.
+-- What an answer says of the old stage, and the new one: where nothing stops the course it is `ok`, `ran` or a refusal, `full`
+-- comes where its next record or log has no room, with these numbers, and `end` where no number is left for a record, or no
+-- epoch for a log; `forced` comes after a force; `stat` counts. No other answer changes anything.
 abbrev pub GoesBy : Params → Stage → List ℕ → Reply → Stage → Type 0
 GoesBy p old line ok new = Ends p old line Through new
+GoesBy p old line (ran k) new = Ends p old line Through new
+GoesBy p old line (refused why) new = Ends p old line Through new
+GoesBy p old line bad_tree new = Ends p old line Through new
+GoesBy p old line tree_full new = Ends p old line Through new
 GoesBy p old line (full used need limit) new = Ends p old line (Full used need limit) new
 GoesBy p old line (end number) new = Ends p old line (At_end number) new ⊎ Ends p old line (Worn number) new
 GoesBy p old line (forced n) new = new ≡ stage_after p old (force_course (meaning_in p) old.world old.used)
 GoesBy p old line (stat counts) new = IsCounted p old counts × (new ≡ old)
 GoesBy p old line reply new = new ≡ old
 
+-- A line asked in the old stage gets this answer, goes by it to the new stage, and adds commands to those of the world.
+pub record Leads (p : Params) (old : Stage) (line : List ℕ) (reply : Reply) (new : Stage) : Type 0 where
+  pub added : List Command
+  pub replies : Replies p (commands_of old.world.history) line reply added
+  pub commands_are : commands_of new.world.history ≡ commands_of old.world.history ++ added
+  pub goes : GoesBy p old line reply new
+
 -- the answers to all these lines, one after the other, from the first stage to the last
 abbrev pub AllGoBy : Params → Stage → List (List ℕ) → List Reply → Stage → Type 0
 AllGoBy p first [] [] last = last ≡ first
-AllGoBy p first (line ∷ lines) (reply ∷ replies) last = (mid : Stage) × GoesBy p first line reply mid × AllGoBy p mid lines replies last
+AllGoBy p first (line ∷ lines) (reply ∷ replies) last = (mid : Stage) × Leads p first line reply mid × AllGoBy p mid lines replies last
 AllGoBy p first [] (reply ∷ replies) last = ⊥
 AllGoBy p first (line ∷ lines) [] last = ⊥
 
--- how many objects may be dirty in a redo before it installs
+-- how many objects may be dirty in a redo before it installs: as many as a store can have, so that it installs nothing
 abbrev pub redo_dirty : ℕ
-redo_dirty = 64
+redo_dirty = 4096
 
 -- The first stage of a run: that of a restart, from a world that the files show, with these commands.
 pub record IsFirst (p : Params) (commands : List Command) (old : Disk) (first : Stage) : Type 0 where

@@ -9,6 +9,7 @@ use Rattle.op_codec.specs.declared.all_ops.AllOps.{AllOps}
 use Rattle.op_codec.specs.AllOps.{all_meaning}
 use Rattle.explain_core.specs.History.{commands_of}
 use Rattle.explain_core.specs.World.{World}
+use Rattle.cache_manager.specs.Taking.{Ending}
 use Rattle.store_engine.specs.Store as of_store
 use Rattle.store_engine.specs.Engine as of_engine
 use Rattle.store_engine.specs.Engine.{EngineView, forced_in}
@@ -53,6 +54,14 @@ Opens p d commands = of_engine.Opens all_meaning p d commands
 -- engine and files show the world
 abbrev pub ShowsIn : Params → Disk → EngineView → World Command → Type 0
 ShowsIn p d engine w = of_engine.ShowsIn all_meaning p d engine w
+
+-- where the machine reports its files, the engine is on them: the objects are laid on their file, and the log keeps some records
+abbrev pub IsAttached : Disk → EngineView → Type 0
+IsAttached d engine = of_engine.IsAttached all_meaning d engine
+
+-- what holds on every machine of a call whose log may have so many bytes
+abbrev pub IsCall : ℕ → Disk → Disk → EngineView → EngineView → ℕ → Ending → Type 0
+IsCall most old new before after logged ending = of_engine.IsCall all_meaning most old new before after logged ending
 
 -- each image stands for the commands that are forced, and the map has the values after all
 abbrev pub Says : Params → Disk → EngineView → List Command → Type 0

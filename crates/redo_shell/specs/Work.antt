@@ -1,11 +1,15 @@
 -- What a line has the program do.
 use Rattle.std.specs.Prelude.{ℕ, List}
-use Rattle.script_lines.specs.Grammar.{Request, get, force, install, drain, checkpoint, trim, stat, skip, AsksFor, IsBad}
+use Rattle.script_lines.specs.Grammar.{Request, arun, tinsert, tget, tdelete, trange, get, force, install, drain, checkpoint, trim, stat, skip, AsksFor, IsBad}
 use Rattle.redo_shell.specs.Replies.{AsksCommand}
 use Rattle.redo_shell.specs.declared.work.Upkeep.{Upkeep}
 use Rattle.redo_shell.specs.declared.work.Upkeep.TheVariants.{Install, Drain, Checkpoint, Trim}
+use Rattle.redo_shell.specs.declared.work.Making.{Making}
+use Rattle.redo_shell.specs.declared.work.Making.TheVariants.{Steps, Insert, Delete}
+use Rattle.redo_shell.specs.declared.work.Question.{Question}
+use Rattle.redo_shell.specs.declared.work.Question.TheVariants.{Find, Range}
 use Rattle.redo_shell.specs.declared.work.Work.{Work}
-use Rattle.redo_shell.specs.declared.work.Work.TheVariants.{Run, Tell, Force, Keep, Count, Nothing, Bad}
+use Rattle.redo_shell.specs.declared.work.Work.TheVariants.{Run, Make, Ask, Tell, Force, Keep, Count, Nothing, Bad}
 
 -- what a line asks for that has the program do this
 abbrev pub request_for : Upkeep → Request
@@ -14,9 +18,22 @@ request_for Drain = drain
 request_for Checkpoint = checkpoint
 request_for Trim = trim
 
+-- what a line asks for that may add several commands
+abbrev pub made_request : Making → Request
+made_request (Steps app most) = arun app most
+made_request (Insert low high key value) = tinsert low high key value
+made_request (Delete low high key) = tdelete low high key
+
+-- what a line asks of a tree
+abbrev pub tree_request : Question → Request
+tree_request (Find low high key) = tget low high key
+tree_request (Range low high from to) = trange low high from to
+
 -- the line asks for this
 abbrev pub AsksWork : List ℕ → Work → Type 0
 AsksWork line (Run op) = AsksCommand line op
+AsksWork line (Make making) = AsksFor line (made_request making)
+AsksWork line (Ask question) = AsksFor line (tree_request question)
 AsksWork line (Tell object) = AsksFor line (get object)
 AsksWork line Force = AsksFor line force
 AsksWork line (Keep upkeep) = AsksFor line (request_for upkeep)

@@ -1,22 +1,18 @@
 // A store is reported: its objects that are not empty, and how many commands it was given.
 ghost use Rattle.std.specs.Prelude.{◌≡◌, ◌≢◌, ◌<◌, ◌++◌, false, List, ℕ, length, take, OnOk, IfOk, IfErr};
 ghost use Rattle.std.specs.List.{flat_map};
-ghost use Rattle.disk_model.specs.Disk.{Rises, Passes, Stays, LeavesOnly, IsSettled};
-ghost use Rattle.disk_model.specs.declared.machine.FileNo.{FileNo};
-ghost use Rattle.disk_model.specs.declared.machine.FileNo.TheVariants.{Objects};
-ghost use Rattle.formats.specs.Bytes.{IsOpenAt, IsClosedAt};
-ghost use Rattle.formats.specs.FirstFault.{IsDamaged};
+ghost use Rattle.disk_model.specs.Disk.{Rises, Passes, Stays, LeavesOnly};
 ghost use Rattle.formats.specs.declared.params.Params.{Params};
-ghost use Rattle.op_codec.specs.AllOps.{all_meaning};
 ghost use Rattle.script_lines.specs.Replies.{command_count, said_line};
-ghost use Rattle.store_engine.specs.Engine.{IsAttached, forced_in};
-ghost use Rattle.redo_shell.specs.Store.{Command, IsWellFormed, Opens, Holds, state_of};
-ghost use Rattle.redo_shell.specs.Calls.{IsDumpOn};
+ghost use Rattle.store_engine.specs.Engine.{forced_in};
+ghost use Rattle.redo_shell.specs.Store.{IsAttached};
+ghost use Rattle.redo_shell.specs.Store.{Command, Holds, state_of};
+ghost use Rattle.redo_shell.specs.Calls.{IsDumpCall};
+ghost use Rattle.redo_shell.specs.Causes.{CountsFaults};
 ghost use Rattle.redo_shell.specs.Dump.{row_of, dump_of, DumpMoment};
 ghost use Rattle.redo_shell.specs.Keeps.{KeepsFiles};
-ghost use Rattle.redo_shell.specs.Notices.{not_a_store, damaged};
 ghost use Rattle.redo_shell.specs.Run.{IsCaused, IsUndamaged};
-ghost use Rattle.redo_shell.specs.Status.{IsOfDump, IsOfStore};
+ghost use Rattle.redo_shell.specs.Status.{IsOfDump};
 
 use crate::damage::end_damaged;
 use crate::fetching::fetched;
@@ -125,20 +121,8 @@ fn dump_open<M: Machine>(alloc: Global, engine: &mut Engine<AllOps>, machine: &m
 /// Opens the store and says its table. Where there is no store to open it says a line.
 pub fn dump<M: Machine>(alloc: Global, machine: &mut M) -> Status
     ensures time { Passes (M.disk machine.old) (M.disk machine.new) }
-    ensures dump { (p : Params) (commands : List Command) → Opens p (M.disk machine.old) commands → IsDumpOn p commands (M.disk machine.old) (M.disk machine.new) result }
-    ensures settled { result ≡ Status.Done → IsSettled (M.disk machine.new) }
-    ensures unopened { (M.disk machine.old).tells_files → (IsWellFormed (M.disk machine.old).reads → ⊥) → KeepsFiles (M.disk machine.old) (M.disk machine.new) }
-    ensures opened { (M.disk machine.old).tells_files → IsOfStore result → IsWellFormed (M.disk machine.old).reads }
-    ensures store { (M.disk machine.old).tells_files → IsWellFormed (M.disk machine.old).reads → (result ≢ Status.NotAStore) × (result ≢ Status.Damaged) }
-    ensures no_store { (M.disk machine.old).tells_files → result ≡ Status.NotAStore → IsClosedAt 0 ((M.disk machine.old).reads Objects)
-        × ((M.disk machine.new).reads ≡ (M.disk machine.old).reads) × ((M.disk machine.new).said ≡ (M.disk machine.old).said ++ not_a_store) }
-    ensures damaged { (M.disk machine.old).tells_files → result ≡ Status.Damaged → (file : FileNo) × (place : ℕ)
-        × IsDamaged all_meaning (M.disk machine.old).reads file place × ((M.disk machine.new).reads ≡ (M.disk machine.old).reads) × ((M.disk machine.new).said ≡ (M.disk machine.old).said ++ damaged file place) }
-    ensures status { IsOfDump result }
-    ensures disk_fault { result ≡ Status.DiskFault → Rises (M.disk machine.old).disk_faults (M.disk machine.new).disk_faults }
-    ensures say_fault { result ≡ Status.SayFault → Rises (M.disk machine.old).say_faults (M.disk machine.new).say_faults }
-    // No memory is taken before the objects gate is looked at.
-    ensures memory { (M.disk machine.old).tells_files → result ≡ Status.Memory → IsOpenAt 0 ((M.disk machine.old).reads Objects) }
+    ensures call { IsDumpCall (M.disk machine.old) (M.disk machine.new) result }
+    ensures faults { CountsFaults (M.disk machine.old) (M.disk machine.new) result }
 {
     standing_files_meet_their_format::<AllOps>();
     match open_store(alloc, machine) {

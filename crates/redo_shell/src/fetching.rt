@@ -2,7 +2,8 @@
 ghost use Rattle.std.specs.Prelude.{◌≡◌, ◌≤◌, ◌<◌, List, ℕ, true, false, OnOk, IfOk, IfErr};
 ghost use Rattle.disk_model.specs.Disk.{Stays};
 ghost use Rattle.formats.specs.declared.params.Params.{Params};
-ghost use Rattle.store_engine.specs.Engine.{IsAttached, IsCached};
+ghost use Rattle.store_engine.specs.Engine.{IsCached};
+ghost use Rattle.redo_shell.specs.Store.{IsAttached};
 ghost use Rattle.cache_manager.specs.Laid.{values_in};
 ghost use Rattle.redo_shell.specs.Stages.{stage_of};
 ghost use Rattle.redo_shell.specs.Store.{Command, Holds, Kept, state_of};

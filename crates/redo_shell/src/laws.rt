@@ -11,6 +11,7 @@ ghost use Rattle.disk_model.specs.Disk.{Passes, IsSettled};
 ghost use Rattle.disk_model.specs.Fuse.{disk_through};
 ghost use Rattle.disk_model.specs.declared.fuse.Fuse.{Fuse};
 ghost use Rattle.cache_manager.specs.Courses.{grown};
+ghost use Rattle.explain_core.specs.History.{commands_of};
 ghost use Rattle.store_engine.specs.Engine.{InEachImage};
 ghost use Rattle.redo_shell.specs.Store.{Command, Stands, IsNew, meaning_in, refusal_after, state_of, record_length};
 ghost use Rattle.redo_shell.specs.Printed.{whole_lines, texts_of};
@@ -37,7 +38,7 @@ pub fn a_line_gets_the_answer_of_its_cause()
         AsksFor line force → reply ≡ forced (length commands) }
     // The answers of each run go by its stages, however it ends (`SaysTruly`, its `goes`).
     ensures full { (p : Params) (commands : List Command) (line : List ℕ) (reply : Reply) (added : List Command) (op : Command) (before after : Stage) → Replies p commands line reply added →
-        GoesBy p before line reply after → AsksCommand line op → refusal_after p commands op ≡ None → IsFull reply ↔ (p.limit < grown (meaning_in p) before.world before.used (record_length p op)) }
+        GoesBy p before line reply after → commands_of before.world.history ≡ commands → AsksCommand line op → refusal_after p commands op ≡ None → IsFull reply ↔ (p.limit < grown (meaning_in p) before.world before.used (record_length p op)) }
     ensures counts { (p : Params) (commands : List Command) (line : List ℕ) (reply : Reply) (added : List Command) → Replies p commands line reply added →
         AsksFor line asks_stat → (counts : Counts) × (reply ≡ stat counts) }
     ensures silence { (p : Params) (commands : List Command) (line : List ℕ) (reply : Reply) (added : List Command) → Replies p commands line reply added →

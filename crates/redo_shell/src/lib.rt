@@ -5,19 +5,23 @@
 //! stands for that list and a beginning of the commands that the script has added, no shorter than any number that was
 //! printed to be forced. Its answers go by the stages of the store, from the world that a restart finds in the files: `full`,
 //! `end` and the counts follow from the course that each line takes. A law says the same of any number of calls, kills and
-//! crashes in a row. The crate depends on store_engine for the store, on script_lines for lines, answers and words, on
-//! op_codec and op_meaning for the operation that a line asks for, on explain_core, cache_manager, execution, checkpointing
-//! and restart for worlds and the courses of calls, on formats and standing for what files stand for, on log_records,
-//! log_frames and stable_objects for the log and the slots of an engine, and on the machine and the source of disk_model.
+//! crashes in a row. A line may make several commands, a beginning of which stays where the log, memory or the disk ends
+//! them. The crate depends on store_engine for the store, on command_lists, app_steps and tree_client for lines that make
+//! several commands, on logical_btree and btree_ops for trees, on script_lines for lines, answers and words, on op_codec and
+//! op_meaning for the operation that a line asks for, on explain_core, cache_manager, execution, checkpointing and restart
+//! for worlds and the courses of calls, on formats and standing for what files stand for, on log_records, log_frames and
+//! stable_objects for the log and the slots of an engine, and on the machine and the source of disk_model.
 #![tactic(auto)]
 
 mod answers;
+mod asking;
 mod damage;
 mod dump;
 mod fetching;
 mod init;
 mod laws;
 mod line;
+mod making;
 mod opening;
 mod program;
 mod run;

@@ -4,18 +4,21 @@ ghost use Rattle.disk_model.specs.Disk.{Passes};
 ghost use Rattle.formats.specs.declared.params.Params.{Params};
 ghost use Rattle.script_lines.specs.Grammar.{AsksFor, force, get, stat};
 ghost use Rattle.script_lines.specs.Reading.{IsLine};
-ghost use Rattle.store_engine.specs.Engine.{IsAttached};
+ghost use Rattle.redo_shell.specs.Store.{IsAttached};
 ghost use Rattle.redo_shell.specs.Store.{Command, Holds};
 ghost use Rattle.redo_shell.specs.Replies.{AsksCommand};
 ghost use Rattle.redo_shell.specs.Run.{Answering, IsCaused, IsUndamaged};
-ghost use Rattle.redo_shell.specs.Work.{request_for};
+ghost use Rattle.redo_shell.specs.Work.{made_request, request_for};
 
 use crate::answers::{command_answer, force_answer};
+use crate::asking::say_found;
 use crate::fetching::fetched;
+use crate::making::made_answer;
 use crate::say::say_answer;
 use crate::stop::Stop;
 use crate::upkeep::{counts_answer, upkeep_answer};
-use crate::work::{Upkeep, Work};
+use crate::work::{Making, Upkeep, Work};
+use command_lists::commands_log_no_identity;
 use disk_model::Machine;
 use op_codec::AllOps;
 use oper_core::Refusal;
@@ -61,6 +64,29 @@ fn run_force<M: Machine>(
     ensures unbroken { OnOk result (engine.new.broken ≡ false) }
 {
     let answer = force_answer(engine, machine)?;
+    engine_stands(machine, engine);
+    stop_is_said(machine, engine);
+    say_answer(alloc, machine, &answer)
+}
+
+/// Runs the commands that a line asks for, and says the answer to them. It reports whether the answer is a refusal.
+fn run_list<M: Machine>(
+    alloc: Global,
+    engine: &mut Engine<AllOps>,
+    machine: &mut M,
+    making: Making,
+) -> Result<bool, Stop>
+    requires { engine.old.broken ≡ false }
+    ensures time { Passes (M.disk machine.old) (M.disk machine.new) }
+    ensures answers { (p : Params) (commands : List Command) (line : List ℕ) → (holds : Holds p (M.disk machine.old) engine.old commands) → AsksFor line (made_request making) →
+        Answering p (M.disk machine.old) (M.disk machine.new) engine.old engine.new holds.world commands line result }
+    ensures cause { IfErr result (λ stop. IsCaused stop (M.disk machine.old) (M.disk machine.new)) }
+    ensures undamaged { (M.disk machine.old).tells_files → IsAttached (M.disk machine.old) engine.old → IfErr result IsUndamaged }
+    ensures attached { IsAttached (M.disk machine.old) engine.old → OnOk result (IsAttached (M.disk machine.new) engine.new) }
+    ensures unbroken { OnOk result (engine.new.broken ≡ false) }
+{
+    commands_log_no_identity::<AllOps>();
+    let answer = made_answer(engine, machine, making)?;
     engine_stands(machine, engine);
     stop_is_said(machine, engine);
     say_answer(alloc, machine, &answer)
@@ -152,6 +178,8 @@ fn answer_line<M: Machine>(
     let work = Work::of_line(alloc, line)?;
     match work {
         Work::Run(op) => run_command(alloc, engine, machine, op),
+        Work::Make(making) => run_list(alloc, engine, machine, making),
+        Work::Ask(question) => say_found(alloc, engine, machine, question),
         Work::Tell { object } => say_value(alloc, engine, machine, object),
         Work::Force => run_force(alloc, engine, machine),
         Work::Keep(upkeep) => run_upkeep(alloc, engine, machine, upkeep),

@@ -1,18 +1,12 @@
 // How a store is opened, and what is said where it is not.
-ghost use Rattle.std.specs.Prelude.{◌≡◌, ◌≢◌, ◌⊎◌, ◌++◌, false, List, ℕ, length, OnOk, IfOk, IfErr, IsErrOf};
-ghost use Rattle.disk_model.specs.Disk.{Rises, Passes, LeavesOnly, IsSettled};
+ghost use Rattle.std.specs.Prelude.{◌≡◌, ◌≢◌, ◌⊎◌, ◌++◌, false, List, ℕ, OnOk, IfOk, IfErr};
+ghost use Rattle.disk_model.specs.Disk.{Rises, Passes, IsSettled};
 ghost use Rattle.disk_model.specs.declared.machine.FileNo.{FileNo};
-ghost use Rattle.disk_model.specs.declared.machine.FileNo.TheVariants.{Objects};
-ghost use Rattle.formats.specs.Bytes.{IsOpenAt, IsClosedAt};
-ghost use Rattle.formats.specs.FirstFault.{IsDamaged};
 ghost use Rattle.formats.specs.declared.params.Params.{Params};
-ghost use Rattle.op_codec.specs.AllOps.{all_meaning};
 ghost use Rattle.restart.specs.Causes.{IsNoDamage};
-ghost use Rattle.restart.specs.Starts.{OrAtStart};
-ghost use Rattle.store_engine.specs.Engine.{IsAttached};
-ghost use Rattle.redo_shell.specs.Open.{IsOpen};
-ghost use Rattle.redo_shell.specs.Stages.{Stage, IsFirst};
-ghost use Rattle.redo_shell.specs.Store.{Command, IsWellFormed, Opens, Between};
+ghost use Rattle.redo_shell.specs.Store.{IsAttached};
+ghost use Rattle.redo_shell.specs.Open.{OpensFiles, IsOpen, IsUnopened};
+ghost use Rattle.redo_shell.specs.Store.{Command, IsWellFormed, Opens};
 ghost use Rattle.redo_shell.specs.Keeps.{KeepsFiles};
 ghost use Rattle.redo_shell.specs.Notices.{not_a_store, damaged};
 ghost use Rattle.redo_shell.specs.Status.{IsOfUnopened};
@@ -22,15 +16,18 @@ use crate::say::end_with;
 use crate::status::Status;
 use disk_model::Machine;
 use op_codec::AllOps;
+use restart::a_restart_may_be_made;
 use std::alloc::Global;
 use store_engine::{
     Engine, RestartErr, Tuning, engine_stands, opens_on_a_world, standing_files_meet_their_format,
 };
 
-// How much of a store the program keeps in memory.
+// How much of a store the program keeps in memory. A redo installs while more objects than `redo_dirty` are dirty, and each
+// install waits for three syncs. A store has at most 4,096 objects of at most 16,384 bytes, 64 MiB in all, which a restart
+// may hold: so its redo installs nothing.
 const TUNING: Tuning = Tuning {
     clean: 64,
-    redo_dirty: 64,
+    redo_dirty: 4_096,
 };
 
 /// Says why a store was not opened, where there is a line for that, and ends with the status that reports it, or by want
@@ -60,30 +57,16 @@ fn end_unopened<M: Machine>(alloc: Global, machine: &mut M, cause: RestartErr) -
 /// Opens the store. Where there is none to open it says a line, and answers the status that the program ends with.
 pub fn open_store<M: Machine>(alloc: Global, machine: &mut M) -> Result<Engine<AllOps>, Status>
     ensures time { Passes (M.disk machine.old) (M.disk machine.new) }
-    // Files that do not meet their format are kept.
-    ensures keeps { (M.disk machine.old).tells_files → (IsWellFormed (M.disk machine.old).reads → ⊥) → KeepsFiles (M.disk machine.old) (M.disk machine.new) }
+    ensures opens { (p : Params) (commands : List Command) → Opens p (M.disk machine.old) commands → OpensFiles p commands (M.disk machine.old) (M.disk machine.new) }
     ensures ok { (p : Params) (commands : List Command) → Opens p (M.disk machine.old) commands → IfOk result (IsOpen p commands (M.disk machine.old) (M.disk machine.new)) }
-    ensures first { (p : Params) (commands : List Command) → Opens p (M.disk machine.old) commands → (first : Stage) × IsFirst p commands (M.disk machine.old) first }
-    ensures images { (M.disk machine.old).tells_moments → (p : Params) (commands : List Command) → Opens p (M.disk machine.old) commands →
-        LeavesOnly (M.disk machine.old) (M.disk machine.new) (OrAtStart (M.disk machine.old) (Between p (M.disk machine.old) (length commands) commands)) }
+    ensures ready { IfOk result (λ engine. (engine.broken ≡ false) × IsAttached (M.disk machine.new) engine) }
     ensures settled { OnOk result (IsSettled (M.disk machine.new)) }
-    ensures calm { (p : Params) (commands : List Command) → Opens p (M.disk machine.old) commands → IfErr result (λ status. status ≢ Status.SayFault) }
-    ensures quiet { (p : Params) (commands : List Command) → Opens p (M.disk machine.old) commands → (M.disk machine.new).said ≡ (M.disk machine.old).said }
-    ensures attached { IfOk result (IsAttached (M.disk machine.new)) }
-    ensures unbroken { IfOk result (λ engine. engine.broken ≡ false) }
-    ensures opened { (M.disk machine.old).tells_files → OnOk result (IsWellFormed (M.disk machine.old).reads) }
-    ensures store { (M.disk machine.old).tells_files → IsWellFormed (M.disk machine.old).reads → IfErr result (λ status. (status ≢ Status.NotAStore) × (status ≢ Status.Damaged)) }
-    ensures no_store { (M.disk machine.old).tells_files → IsErrOf result Status.NotAStore → IsClosedAt 0 ((M.disk machine.old).reads Objects)
-        × ((M.disk machine.new).reads ≡ (M.disk machine.old).reads) × ((M.disk machine.new).said ≡ (M.disk machine.old).said ++ not_a_store) }
-    ensures damaged { (M.disk machine.old).tells_files → IsErrOf result Status.Damaged → (file : FileNo) × (place : ℕ)
-        × IsDamaged all_meaning (M.disk machine.old).reads file place × ((M.disk machine.new).reads ≡ (M.disk machine.old).reads) × ((M.disk machine.new).said ≡ (M.disk machine.old).said ++ damaged file place) }
-    ensures status { IfErr result IsOfUnopened }
-    ensures disk_fault { IsErrOf result Status.DiskFault → Rises (M.disk machine.old).disk_faults (M.disk machine.new).disk_faults }
-    ensures say_fault { IsErrOf result Status.SayFault → Rises (M.disk machine.old).say_faults (M.disk machine.new).say_faults }
-    ensures memory { (M.disk machine.old).tells_files → IsErrOf result Status.Memory → IsOpenAt 0 ((M.disk machine.old).reads Objects) }
+    ensures read { (M.disk machine.old).tells_files → OnOk result (IsWellFormed (M.disk machine.old).reads) }
+    ensures unopened { IfErr result (IsUnopened (M.disk machine.old) (M.disk machine.new)) }
 {
     standing_files_meet_their_format::<AllOps>();
     opens_on_a_world::<AllOps>();
+    a_restart_may_be_made::<AllOps>();
     match Engine::restart(alloc, machine, TUNING) {
         Ok(engine) => {
             engine_stands(machine, &engine);

@@ -1,22 +1,17 @@
 // A script is run on a store.
-ghost use Rattle.std.specs.Prelude.{◌≡◌, ◌≢◌, ◌^◌, ◌⊎◌, ◌++◌, ◌<◌, [], false, List, ℕ, length};
+ghost use Rattle.std.specs.Prelude.{◌≡◌, ◌≢◌, ◌^◌, ◌⊎◌, ◌<◌, [], false, List, ℕ, length};
 ghost use Rattle.disk_model.specs.Disk.{Rises, Passes};
-ghost use Rattle.disk_model.specs.declared.machine.FileNo.{FileNo};
-ghost use Rattle.disk_model.specs.declared.machine.FileNo.TheVariants.{Objects};
-ghost use Rattle.formats.specs.Bytes.{IsOpenAt, IsClosedAt};
-ghost use Rattle.formats.specs.FirstFault.{IsDamaged};
 ghost use Rattle.formats.specs.declared.params.Params.{Params};
-ghost use Rattle.op_codec.specs.AllOps.{all_meaning};
 ghost use Rattle.script_lines.specs.Grammar.{lines_of};
 ghost use Rattle.script_lines.specs.Reading.{Takes};
-ghost use Rattle.store_engine.specs.Engine.{IsAttached, forced_in};
+ghost use Rattle.store_engine.specs.Engine.{forced_in};
+ghost use Rattle.redo_shell.specs.Store.{IsAttached};
 ghost use Rattle.redo_shell.specs.Stages.{stage_of};
-ghost use Rattle.redo_shell.specs.Store.{Command, IsWellFormed, Opens, Holds};
-ghost use Rattle.redo_shell.specs.Keeps.{KeepsFiles};
-ghost use Rattle.redo_shell.specs.Notices.{not_a_store, damaged};
-ghost use Rattle.redo_shell.specs.Calls.{IsRunOn};
+ghost use Rattle.redo_shell.specs.Store.{Command, Holds};
+ghost use Rattle.redo_shell.specs.Calls.{IsRunCall};
+ghost use Rattle.redo_shell.specs.Causes.{CountsFaults};
 ghost use Rattle.redo_shell.specs.Run.{IsRun, IsComplete};
-ghost use Rattle.redo_shell.specs.Status.{IsOfRun, IsOfStore};
+ghost use Rattle.redo_shell.specs.Status.{IsOfRun};
 
 use crate::damage::end_damaged;
 use crate::opening::open_store;
@@ -67,26 +62,10 @@ fn run_open<M: Machine, S: Source>(
 /// says a line.
 pub fn run<M: Machine, S: Source>(alloc: Global, machine: &mut M, input: &mut S) -> Status
     ensures time { Passes (M.disk machine.old) (M.disk machine.new) }
-    // Of a source that reports nothing the same holds with some script.
-    ensures run { (p : Params) (commands : List Command) → Opens p (M.disk machine.old) commands → S.tells input.old →
-        IsRunOn p commands (lines_of (S.left input.old)) (M.disk machine.old) (M.disk machine.new) result }
-    ensures untold { (script : List (List ℕ)) × ((p : Params) (commands : List Command) → Opens p (M.disk machine.old) commands →
-        IsRunOn p commands script (M.disk machine.old) (M.disk machine.new) result) }
-    ensures input { S.tells input.old → (result ≡ Status.Done) ⊎ (result ≡ Status.DoneWithRefusals) → (S.left input.new ≡ []) × (length (S.left input.old) < 2 ^ 40) }
-    ensures opened { (M.disk machine.old).tells_files → IsOfStore result → IsWellFormed (M.disk machine.old).reads }
-    ensures store { (M.disk machine.old).tells_files → IsWellFormed (M.disk machine.old).reads → (result ≢ Status.NotAStore) × (result ≢ Status.Damaged) }
-    ensures unopened { (M.disk machine.old).tells_files → (IsWellFormed (M.disk machine.old).reads → ⊥) → KeepsFiles (M.disk machine.old) (M.disk machine.new) }
-    ensures no_store { (M.disk machine.old).tells_files → result ≡ Status.NotAStore → IsClosedAt 0 ((M.disk machine.old).reads Objects)
-        × ((M.disk machine.new).reads ≡ (M.disk machine.old).reads) × ((M.disk machine.new).said ≡ (M.disk machine.old).said ++ not_a_store) }
-    ensures damaged { (M.disk machine.old).tells_files → result ≡ Status.Damaged → (file : FileNo) × (place : ℕ)
-        × IsDamaged all_meaning (M.disk machine.old).reads file place × ((M.disk machine.new).reads ≡ (M.disk machine.old).reads) × ((M.disk machine.new).said ≡ (M.disk machine.old).said ++ damaged file place) }
-    ensures status { IsOfRun result }
-    ensures disk_fault { result ≡ Status.DiskFault → Rises (M.disk machine.old).disk_faults (M.disk machine.new).disk_faults }
+    ensures call { IsRunCall (S.tells input.old) (S.left input.old) (S.left input.new) (M.disk machine.old) (M.disk machine.new) result }
+    ensures faults { CountsFaults (M.disk machine.old) (M.disk machine.new) result }
     ensures read_fault { result ≡ Status.ReadFault → Rises (S.faults input.old) (S.faults input.new) }
-    ensures say_fault { result ≡ Status.SayFault → Rises (M.disk machine.old).say_faults (M.disk machine.new).say_faults }
     ensures too_long { S.tells input.old → result ≡ Status.TooLong → Takes (S.left input.old) (S.left input.new) 0 (2 ^ 40) }
-    // No memory is taken before the objects gate is looked at.
-    ensures memory { (M.disk machine.old).tells_files → result ≡ Status.Memory → IsOpenAt 0 ((M.disk machine.old).reads Objects) }
 {
     standing_files_meet_their_format::<AllOps>();
     match open_store(alloc, machine) {

@@ -17,7 +17,12 @@ fn refuses(answer: &Answer<'_>) -> bool
 {
     matches!(
         answer,
-        Answer::Bad | Answer::Refused(_) | Answer::Full { .. } | Answer::End { .. }
+        Answer::Bad
+            | Answer::Refused(_)
+            | Answer::BadTree
+            | Answer::TreeFull
+            | Answer::Full { .. }
+            | Answer::End { .. }
     )
 }
 

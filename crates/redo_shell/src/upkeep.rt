@@ -82,8 +82,7 @@ fn trimmed<M: Machine>(
         Ok(()) => Ok(Answer::Done),
         Err(TrimErr::LogFull { used, need, limit }) => Ok(Answer::Full { used, need, limit }),
         Err(TrimErr::Exhausted { epoch }) => Ok(Answer::End { number: epoch }),
-        // A trim reads the log that was opened, and finds no damage in it.
-        Err(TrimErr::Damaged { .. }) => Err(Stop::Memory),
+        Err(TrimErr::Damaged { file, place }) => Err(Stop::Damaged { file, place }),
         Err(TrimErr::DiskFault) => Err(Stop::DiskFault),
         Err(TrimErr::Memory) => Err(Stop::Memory),
     }

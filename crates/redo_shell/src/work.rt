@@ -1,6 +1,7 @@
 ghost use Rattle.std.specs.Prelude.{IfOk};
 ghost use Rattle.redo_shell.specs.Work.{AsksWork};
 
+use btree_ops::Short;
 use op_codec::AllOps;
 use op_meaning::{AppRead, AppWrite, Append, Copy, Cut, Exec, Put, Sort, Swap};
 use oper_core::{ByteList, Memory};
@@ -20,11 +21,56 @@ pub enum Upkeep {
     Trim,
 }
 
+/// What may add several commands.
+#[derive(Clone, Copy)]
+pub enum Making {
+    /// Take so many steps of an application, or as many as its input has.
+    Steps {
+        app: u32,
+        most: u32,
+    },
+    /// The key gets the value, in the tree of these objects.
+    Insert {
+        low: u32,
+        high: u32,
+        key: Short,
+        value: Short,
+    },
+    /// The key leaves the tree of these objects, with its value.
+    Delete {
+        low: u32,
+        high: u32,
+        key: Short,
+    },
+}
+
+/// What is asked of the tree of some objects.
+#[derive(Clone, Copy)]
+pub enum Question {
+    /// The value of the key.
+    Find {
+        low: u32,
+        high: u32,
+        key: Short,
+    },
+    /// The keys from one up to another, which is left out, with their values.
+    Range {
+        low: u32,
+        high: u32,
+        from: Short,
+        to: Short,
+    },
+}
+
 /// What a line has the program do.
 #[derive(Drop)]
 pub enum Work {
     /// Run this command.
     Run(AllOps),
+    /// Run the commands that this makes.
+    Make(Making),
+    /// Tell what this asks.
+    Ask(Question),
     /// Tell the value of the object.
     Tell { object: u32 },
     /// Force the log.
@@ -58,8 +104,39 @@ impl Work {
             Line::Sort { from, to, width } => Ok(Work::Run(AllOps::Sort(Sort { from, to, width }))),
             Line::Swap { first, second } => Ok(Work::Run(AllOps::Swap(Swap { first, second }))),
             Line::Exec { app } => Ok(Work::Run(AllOps::Exec(Exec { app }))),
+            Line::AppRun { app, steps } => Ok(Work::Make(Making::Steps { app, most: steps })),
             Line::AppRead { app, from } => Ok(Work::Run(AllOps::AppRead(AppRead { app, from }))),
             Line::AppWrite { app, to } => Ok(Work::Run(AllOps::AppWrite(AppWrite { app, to }))),
+            Line::TreeInsert {
+                low,
+                high,
+                key,
+                value,
+            } => {
+                Ok(Work::Make(Making::Insert {
+                    low,
+                    high,
+                    key,
+                    value,
+                }))
+            }
+            Line::TreeDelete { low, high, key } => {
+                Ok(Work::Make(Making::Delete { low, high, key }))
+            }
+            Line::TreeGet { low, high, key } => Ok(Work::Ask(Question::Find { low, high, key })),
+            Line::TreeRange {
+                low,
+                high,
+                from,
+                to,
+            } => {
+                Ok(Work::Ask(Question::Range {
+                    low,
+                    high,
+                    from,
+                    to,
+                }))
+            }
             Line::Get { object } => Ok(Work::Tell { object }),
             Line::Force => Ok(Work::Force),
             Line::Install => Ok(Work::Keep(Upkeep::Install)),

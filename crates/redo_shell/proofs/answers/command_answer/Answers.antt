@@ -95,7 +95,7 @@ pub returns-in-Err-LsnEnd-clause-unbroken : goal.returns-in-Err-LsnEnd-clause-un
 returns-in-Err-LsnEnd-clause-unbroken g c = still_whole c.in-Err-LsnEnd.ensures.call (works_on (LsnEnd c.in-Err-LsnEnd.number) c.in-Err-LsnEnd.field-0-is (λ f. f))
 
 pub returns-in-Err-Damaged-clause-undamaged : goal.returns-in-Err-Damaged-clause-undamaged
-returns-in-Err-Damaged-clause-undamaged g c = λ told attached. none_damaged (g.M.Machine.disk c.args.machine.now) (g.M.Machine.disk c.exec.new.machine) c.args.engine.now c.args.op c.in-Err-Damaged.file c.in-Err-Damaged.place c.in-Err-Damaged.ensures.failure c.in-Err-Damaged.field-0-is told attached
+returns-in-Err-Damaged-clause-undamaged g c = λ told attached. none_damaged (g.M.Machine.disk c.args.machine.now) (g.M.Machine.disk c.exec.new.machine) c.args.engine.now c.args.op c.in-Err-Damaged.file c.in-Err-Damaged.place c.in-Err-Damaged.ensures.outcome.1 c.in-Err-Damaged.field-0-is told attached
 
 pub returns-in-Err-DiskFault-clause-cause : goal.returns-in-Err-DiskFault-clause-cause
 returns-in-Err-DiskFault-clause-cause g c = c.in-Err-DiskFault.ensures.call.fault (fails_so c.in-Err-DiskFault.field-0-is)

@@ -1,7 +1,7 @@
-use Rattle.std.proofs.Common.{◌++◌, List, ℕ, ap, subst, ◌∙◌}
+use Rattle.std.proofs.Common.{◌++◌, List, ℕ, ap, subst, sym, ◌∙◌}
 use Rattle.redo_shell.specs.Run.{IsUndamaged}
 use Rattle.redo_shell.proofs.HoldLemmas.{told_by, attached_of}
-use Rattle.redo_shell.proofs.DumpLemmas.{dump_reads, dump_says, dump_begun, dump_quiet}
+use Rattle.redo_shell.proofs.DumpLemmas.{dump_reads, dump_says, dump_begun, dump_quiet, never_done}
 use Rattle.redo_shell.proofs.KeepLemmas.{keeps_once, keeps_behind}
 use Rattle.redo_shell.proofs.dump.dump_open.Goals as goal
 
@@ -38,3 +38,14 @@ returns-in-Err-clause-keeps g c = keeps_once (g.M.Machine.disk c.args.machine.no
 pub returns-in-Err-Damaged-clause-moments : goal.returns-in-Err-Damaged-clause-moments
 returns-in-Err-Damaged-clause-moments g c = λ p commands holds all telling.
     absurd (subst IsUndamaged c.in-Err-Damaged.field-0-is (c.in-Err-Damaged.ensures.undamaged (told_by holds) (attached_of holds)))
+
+pub returns-in-Err-Damaged-clause-said : goal.returns-in-Err-Damaged-clause-said
+returns-in-Err-Damaged-clause-said g c = λ p commands holds.
+    absurd (subst IsUndamaged c.in-Err-Damaged.field-0-is (c.in-Err-Damaged.ensures.undamaged (told_by holds) (attached_of holds)))
+
+pub returns-in-Err-Damaged-clause-all : goal.returns-in-Err-Damaged-clause-all
+returns-in-Err-Damaged-clause-all g c = λ p commands holds done.
+    absurd (subst IsUndamaged c.in-Err-Damaged.field-0-is (c.in-Err-Damaged.ensures.undamaged (told_by holds) (attached_of holds)))
+
+pub returns-in-Err-clause-all : goal.returns-in-Err-clause-all
+returns-in-Err-clause-all g c = λ p commands holds done. absurd (never_done c.in-Err.stop (sym c.status.ensures ∙ done))

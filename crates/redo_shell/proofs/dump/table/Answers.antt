@@ -3,6 +3,7 @@ use Rattle.disk_model.specs.Moments.{stays_twice}
 use Rattle.formats.specs.declared.params.Params.{Params}
 use Rattle.redo_shell.specs.Store.{state_of}
 use Rattle.redo_shell.proofs.DumpLemmas.{rows_more, whole_table}
+use Rattle.redo_shell.proofs.UpkeepLemmas.{passed_whole}
 use Rattle.redo_shell.proofs.dump.table.Goals as goal
 
 pub loop-object-preserved : goal.loop-object-preserved
@@ -25,3 +26,8 @@ returns-clause-rows g c = λ p commands holds.
     let all = ap (λ (q : Params). q.objects) (c.params-object-end.ensures.value ∙ holds.shows.shows.store.params) in
     let whole : c.loop-object.object ≡ p.objects = omega (arith, c.loop-object-test.false, c.loop-object.auto.object-end, all) in
     whole_table p commands c.loop-object.object c.accepted.result c.loop-object.table.items _ c.push_count.new.table.items whole (c.accepted.ensures ∙ here.says.accepted) (inv.rows p commands holds) refl c.in_ok-push_count.ensures
+
+pub returns-in_err-push_object-clause-undamaged : goal.returns-in_err-push_object-clause-undamaged
+returns-in_err-push_object-clause-undamaged g c = λ told attached.
+    let inv = c.loop-object.invariant in
+    passed_whole c.from_residual.result c.push_object.result _ c.from_residual.ensures.1 c.in_err-push_object.was (c.push_object.ensures.undamaged (inv.kept.time.files_told.0 told) (inv.attached attached))

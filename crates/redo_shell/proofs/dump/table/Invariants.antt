@@ -3,7 +3,7 @@ use Rattle.std.specs.List.{flat_map}
 use Rattle.disk_model.specs.Disk.{Stays}
 use Rattle.formats.specs.declared.params.Params.{Params}
 use Rattle.script_lines.specs.Replies.{said_line}
-use Rattle.store_engine.specs.Engine.{IsAttached}
+use Rattle.redo_shell.specs.Store.{IsAttached}
 use Rattle.redo_shell.specs.Store.{Command, Holds, state_of}
 use Rattle.redo_shell.specs.Dump.{rows_below}
 use Rattle.redo_shell.proofs.dump.table.Given as goal

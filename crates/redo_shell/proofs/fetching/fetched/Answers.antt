@@ -8,7 +8,7 @@ use Rattle.redo_shell.proofs.fetching.fetched.Goals as goal
 
 pub returns-in-Ok-clause-holds : goal.returns-in-Ok-clause-holds
 returns-in-Ok-clause-holds g c = λ p commands holds.
-    fetched_kept holds (⊎_elim (λ fault. cc fault) (λ shows. shows) (c.in-Ok.ensures.shows p holds.world holds.shows)) c.in-Ok.ensures.log c.in-Ok.ensures.identities (c.engine_stands.ensures p commands)
+    fetched_kept holds (⊎_elim (λ fault. cc fault) (λ shows. shows) (c.in-Ok.ensures.shows p holds.world holds.shows)) c.in-Ok.ensures.call.log c.in-Ok.ensures.call.identities (c.engine_stands.ensures p commands)
 
 pub returns-in-Ok-clause-value : goal.returns-in-Ok-clause-value
 returns-in-Ok-clause-value g c = λ p commands holds there.
@@ -17,11 +17,23 @@ returns-in-Ok-clause-value g c = λ p commands holds there.
 
 pub returns-in-Err-Refused-clause-holds : goal.returns-in-Err-Refused-clause-holds
 returns-in-Err-Refused-clause-holds g c = λ p commands holds.
-    fetched_kept holds (⊎_elim (λ fault. cc (c.in-Err-Refused.field-0-is, fault)) (λ shows. shows) (c.in-Err-Refused.ensures.shows p holds.world holds.shows)) c.in-Err-Refused.ensures.log
-    c.in-Err-Refused.ensures.identities (c.engine_stands-in-Err-Refused.ensures p commands)
+    fetched_kept holds (⊎_elim (λ fault. cc (c.in-Err-Refused.field-0-is, fault)) (λ shows. shows) (c.in-Err-Refused.ensures.shows p holds.world holds.shows)) c.in-Err-Refused.ensures.call.log
+    c.in-Err-Refused.ensures.call.identities (c.engine_stands-in-Err-Refused.ensures p commands)
 
 pub returns-in-Ok-clause-unbroken : goal.returns-in-Ok-clause-unbroken
-returns-in-Ok-clause-unbroken g c = not_a_fault c.fetch.new.self.broken (λ e. cc (c.in-Ok.ensures.broken.0 e))
+returns-in-Ok-clause-unbroken g c = not_a_fault c.fetch.new.self.broken (λ e. cc (c.in-Ok.ensures.call.broken.0 e))
 
 pub returns-in-Err-Refused-clause-unbroken : goal.returns-in-Err-Refused-clause-unbroken
-returns-in-Err-Refused-clause-unbroken g c = not_a_fault c.fetch.new.self.broken (λ e. cc (c.in-Err-Refused.field-0-is, c.in-Err-Refused.ensures.broken.0 e))
+returns-in-Err-Refused-clause-unbroken g c = not_a_fault c.fetch.new.self.broken (λ e. cc (c.in-Err-Refused.field-0-is, c.in-Err-Refused.ensures.call.broken.0 e))
+
+pub returns-in-Ok-clause-kept : goal.returns-in-Ok-clause-kept
+returns-in-Ok-clause-kept g c = c.fetch.ensures.call.kept
+
+pub returns-in-Err-Refused-clause-kept : goal.returns-in-Err-Refused-clause-kept
+returns-in-Err-Refused-clause-kept g c = c.fetch.ensures.call.kept
+
+pub returns-in-Ok-clause-attached : goal.returns-in-Ok-clause-attached
+returns-in-Ok-clause-attached g c = c.fetch.ensures.call.attached
+
+pub returns-in-Err-Refused-clause-attached : goal.returns-in-Err-Refused-clause-attached
+returns-in-Err-Refused-clause-attached g c = c.fetch.ensures.call.attached

@@ -1,41 +1,73 @@
-use Rattle.std.proofs.Common.{◌++◌, ◌∙◌, List, ℕ, ap, sym, subst}
-use Rattle.disk_model.specs.Disk.{Files}
+use Rattle.std.proofs.Common.{◌≡◌, ◌++◌, ◌∙◌, inl, List, ℕ, ap, refl, sym, subst}
+use Rattle.disk_model.specs.Disk.{Files, IsSettled}
 use Rattle.disk_model.specs.declared.machine.FileNo.TheVariants.{Objects}
 use Rattle.formats.specs.Image.{BeginsStore}
+use Rattle.restart.specs.Starts.{from_settled}
 use Rattle.redo_shell.specs.Notices.{already_a_store}
+use Rattle.redo_shell.specs.Store.{IsNew}
+use Rattle.redo_shell.proofs.ExactLemmas.{in_made, not_made}
 use Rattle.redo_shell.proofs.KeepLemmas.{keeps_once, keeps_behind, settled_each}
 use Rattle.redo_shell.proofs.HoldLemmas.{still_settled}
 use Rattle.redo_shell.proofs.init.init.Goals as goal
 
-pub returns-in-Ok-clause-keeps : goal.returns-in-Ok-clause-keeps
-returns-in-Ok-clause-keeps g c = λ told begins. absurd (c.in-Ok.ensures.fresh told begins)
+pub returns-in-Ok-clause-making : goal.returns-in-Ok-clause-making
+returns-in-Ok-clause-making g c =
+    let old = g.M.Machine.disk c.args.machine.now in
+    let new = g.M.Machine.disk c.init.new.machine in
+    record {
+      ends = tt;
+      done = λ told is. c.in-Ok.ensures.ok told;
+      quiet = λ told is. c.init.ensures.quiet told;
+      moments = c.init.ensures.moments;
+      from_settled = λ telling settled none.
+          from_settled old new (λ files said. IsNew c.args.params files × (said ≡ old.said)) (g.met.M.Machine.lawful c.args.machine.now) telling settled (inl none, refl) (c.init.ensures.moments telling none);
+      settled = λ told fault. c.in-Ok.ensures.settled;
+      keeps = λ told begins. absurd (c.in-Ok.ensures.fresh told begins);
+      fresh = λ told is. c.in-Ok.ensures.fresh told;
+      already = λ told is. cc is;
+    }
 
-pub returns-in-Err-AlreadyStore-clause-keeps : goal.returns-in-Err-AlreadyStore-clause-keeps
-returns-in-Err-AlreadyStore-clause-keeps g c = λ told begins.
-    keeps_behind (g.M.Machine.disk c.args.machine.now) (g.M.Machine.disk c.init.new.machine) (g.M.Machine.disk c.end_with.new.machine) (c.in-Err-AlreadyStore.ensures.kept told begins)
-    (keeps_once (g.M.Machine.disk c.init.new.machine) (g.M.Machine.disk c.end_with.new.machine) c.end_with.ensures.runs)
+pub returns-in-Err-DiskFault-clause-making : goal.returns-in-Err-DiskFault-clause-making
+returns-in-Err-DiskFault-clause-making g c =
+    let old = g.M.Machine.disk c.args.machine.now in
+    let new = g.M.Machine.disk c.init.new.machine in
+    record {
+      ends = tt;
+      done = λ told is. cc is;
+      quiet = λ told is. cc is;
+      moments = c.init.ensures.moments;
+      from_settled = λ telling settled none.
+          from_settled old new (λ files said. IsNew c.args.params files × (said ≡ old.said)) (g.met.M.Machine.lawful c.args.machine.now) telling settled (inl none, refl) (c.init.ensures.moments telling none);
+      settled = λ told fault. absurd (fault refl);
+      keeps = λ told begins. keeps_once old new (c.init.ensures.kept told begins);
+      fresh = λ told is. cc is;
+      already = λ told is. cc is;
+    }
 
-pub returns-in-Err-DiskFault-clause-keeps : goal.returns-in-Err-DiskFault-clause-keeps
-returns-in-Err-DiskFault-clause-keeps g c = λ told begins. keeps_once (g.M.Machine.disk c.args.machine.now) (g.M.Machine.disk c.init.new.machine) (c.init.ensures.kept told begins)
-
-pub returns-in-Err-AlreadyStore-clause-already : goal.returns-in-Err-AlreadyStore-clause-already
-returns-in-Err-AlreadyStore-clause-already g c = λ told is.
-    let begins = c.in-Err-AlreadyStore.ensures.already told (cc (c.in-Err-AlreadyStore.field-0-is)) in
-    let kept = c.in-Err-AlreadyStore.ensures.kept told begins in
-    let told_now = c.init.ensures.time.files_told.0 told in (
-      begins,
-      c.end_with.ensures.runs.reads told_now ∙ kept.reads told,
-      c.end_with.ensures.all told_now (λ e. cc (is, e)) ∙ ap (λ (l : List ℕ). l ++ already_a_store) (c.init.ensures.quiet told),
-    )
-
-pub returns-in-Err-AlreadyStore-clause-already_each : goal.returns-in-Err-AlreadyStore-clause-already_each
-returns-in-Err-AlreadyStore-clause-already_each g c = λ told is.
-    let begins = c.in-Err-AlreadyStore.ensures.already told (cc (c.in-Err-AlreadyStore.field-0-is)) in
-    let kept = c.in-Err-AlreadyStore.ensures.kept told begins in
-    let told_now = c.init.ensures.time.files_told.0 told in
-    let settled = c.in-Err-AlreadyStore.ensures.already_settled (cc (c.in-Err-AlreadyStore.field-0-is)) in
-    settled_each (g.M.Machine.disk c.end_with.new.machine) (λ (files : Files). BeginsStore (files Objects)) (still_settled c.end_with.ensures.runs told_now settled)
-    (subst (λ (files : Files). BeginsStore (files Objects)) (sym (c.end_with.ensures.runs.reads told_now ∙ kept.reads told)) begins)
-
-pub returns-in-Ok-clause-done : goal.returns-in-Ok-clause-done
-returns-in-Ok-clause-done g c = λ told is. c.in-Ok.ensures.ok told
+pub returns-in-Err-AlreadyStore-clause-making : goal.returns-in-Err-AlreadyStore-clause-making
+returns-in-Err-AlreadyStore-clause-making g c =
+    let old = g.M.Machine.disk c.args.machine.now in
+    let mid = g.M.Machine.disk c.init.new.machine in
+    let new = g.M.Machine.disk c.end_with.new.machine in
+    let begins : old.tells_files → BeginsStore (old.reads Objects) = λ told. c.in-Err-AlreadyStore.ensures.already told (cc (c.in-Err-AlreadyStore.field-0-is)) in
+    let settled : old.tells_files → IsSettled new = λ told. still_settled c.end_with.ensures.runs (c.init.ensures.time.files_told.0 told) (c.in-Err-AlreadyStore.ensures.already_settled (cc (c.in-Err-AlreadyStore.field-0-is))) in
+    record {
+      ends = in_made c.end_with.result c.end_with.ensures.status;
+      done = λ told is. absurd (not_made c.end_with.result c.end_with.ensures.status is);
+      quiet = λ told is. absurd (not_made c.end_with.result c.end_with.ensures.status is);
+      moments = λ telling none. absurd (none (begins ((g.met.M.Machine.lawful c.args.machine.now).telling telling)));
+      from_settled = λ telling settled none. absurd (none (begins ((g.met.M.Machine.lawful c.args.machine.now).telling telling)));
+      settled = λ told fault. settled told;
+      keeps = λ told there. keeps_behind old mid new (c.init.ensures.kept told there) (keeps_once mid new c.end_with.ensures.runs);
+      fresh = λ told is. absurd (not_made c.end_with.result c.end_with.ensures.status is);
+      already = λ told is.
+          let kept = c.init.ensures.kept told (begins told) in
+          let told_now = c.init.ensures.time.files_told.0 told in
+          let reads : new.reads ≡ old.reads = c.end_with.ensures.runs.reads told_now ∙ kept.reads told in
+          record {
+            begins = begins told;
+            reads = reads;
+            said = c.end_with.ensures.all told_now (λ e. cc (is, e)) ∙ ap (λ (l : List ℕ). l ++ already_a_store) (c.init.ensures.quiet told);
+            each = settled_each new (λ (files : Files). BeginsStore (files Objects)) (settled told) (subst (λ (files : Files). BeginsStore (files Objects)) (sym reads) (begins told));
+          };
+    }

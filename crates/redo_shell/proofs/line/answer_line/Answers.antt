@@ -1,18 +1,26 @@
 use Rattle.std.proofs.Common.{refl}
 use Rattle.script_lines.specs.Replies.{bad}
-use Rattle.redo_shell.specs.declared.work.Work.TheVariants.{Run, Tell, Force, Keep, Count, Nothing, Bad}
+use Rattle.redo_shell.specs.declared.work.Work.TheVariants.{Run, Make, Ask, Tell, Force, Keep, Count, Nothing, Bad}
 use Rattle.redo_shell.proofs.HoldLemmas.{holds_between}
 use Rattle.redo_shell.proofs.LineLemmas.{as_work}
-use Rattle.redo_shell.proofs.RunLemmas.{found_at_once, said_at_once, stops_before, skipped}
+use Rattle.redo_shell.proofs.RunLemmas.{works_none, found_at_once, said_at_once, stops_before, skipped}
 use Rattle.redo_shell.proofs.line.answer_line.Goals as goal
 
 pub returns-in_err-work-clause-answers : goal.returns-in_err-work-clause-answers
 returns-in_err-work-clause-answers g c = λ p commands holds.
-    stops_before c.from_residual.result c.from_residual.ensures.0 (holds_between (g.met.M.Machine.lawful c.args.machine.now) holds) refl
+    stops_before c.from_residual.result c.from_residual.ensures.0 (works_none (holds_between (g.met.M.Machine.lawful c.args.machine.now) holds)) refl
 
 pub returns-in-Run-clause-answers : goal.returns-in-Run-clause-answers
 returns-in-Run-clause-answers g c = λ p commands holds.
     c.run_command.ensures.answers p commands c.args.line.now holds (as_work c.args.line.now (Run c.in-Run.op) c.in_ok-work.ensures c.in-Run.is)
+
+pub returns-in-Make-clause-answers : goal.returns-in-Make-clause-answers
+returns-in-Make-clause-answers g c = λ p commands holds.
+    c.run_list.ensures.answers p commands c.args.line.now holds (as_work c.args.line.now (Make c.in-Make.making) c.in_ok-work.ensures c.in-Make.is)
+
+pub returns-in-Ask-clause-answers : goal.returns-in-Ask-clause-answers
+returns-in-Ask-clause-answers g c = λ p commands holds.
+    c.say_found.ensures.answers p commands c.args.line.now holds (as_work c.args.line.now (Ask c.in-Ask.question) c.in_ok-work.ensures c.in-Ask.is)
 
 pub returns-in-Tell-clause-answers : goal.returns-in-Tell-clause-answers
 returns-in-Tell-clause-answers g c = λ p commands holds.

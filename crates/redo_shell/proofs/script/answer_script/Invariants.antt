@@ -3,7 +3,8 @@ use Rattle.disk_model.specs.Disk.{Passes}
 use Rattle.formats.specs.declared.params.Params.{Params}
 use Rattle.script_lines.specs.Grammar.{lines_of}
 use Rattle.script_lines.specs.Reading.{Takes, still_to_give}
-use Rattle.store_engine.specs.Engine.{IsAttached, forced_in}
+use Rattle.store_engine.specs.Engine.{forced_in}
+use Rattle.redo_shell.specs.Store.{IsAttached}
 use Rattle.redo_shell.specs.Stages.{stage_of}
 use Rattle.redo_shell.specs.Store.{Command, Holds}
 use Rattle.redo_shell.specs.Run.{Going}

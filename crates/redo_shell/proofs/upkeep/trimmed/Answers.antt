@@ -82,6 +82,6 @@ returns-in-Err-Damaged g c = record {
   takes = c.in-Err-Damaged.ensures.takes;
   commands = c.in-Err-Damaged.ensures.commands;
   counted = inr (refl, λ m w used. logged_trim m c.args.engine.now.parts.log.log.header.epoch w used);
-  answered = ends_like _ c.in-Err-Damaged.field-0-is (Memory, tt, refl);
-  undamaged = λ told attached file place is. cc;
+  answered = ends_like _ c.in-Err-Damaged.field-0-is (Damaged c.in-Err-Damaged.file c.in-Err-Damaged.place, tt, refl);
+  undamaged = λ told attached file place is. c.in-Err-Damaged.ensures.undamaged told attached c.in-Err-Damaged.file c.in-Err-Damaged.place (cc c.in-Err-Damaged.field-0-is);
 }

@@ -1,5 +1,5 @@
 use Rattle.std.proofs.Common.{◌∙◌}
-use Rattle.script_lines.specs.declared.line.Line.TheVariants.{Copy, Append, Cut, Sort, Swap, Exec, AppRead, AppWrite, Get, Force, Install, Drain, Checkpoint, Trim, Stat, Skip}
+use Rattle.script_lines.specs.declared.line.Line.TheVariants.{AppRun, TreeInsert, TreeGet, TreeDelete, TreeRange, Copy, Append, Cut, Sort, Swap, Exec, AppRead, AppWrite, Get, Force, Install, Drain, Checkpoint, Trim, Stat, Skip}
 use Rattle.redo_shell.proofs.LineLemmas.{as_form, put_parsed}
 use Rattle.redo_shell.proofs.work.Work.of_line.Goals as goal
 
@@ -55,3 +55,18 @@ returns-in-Install c = as_form c.args.line.now Install c.in-Ok.ensures.ok c.in-I
 
 pub returns-in-Skip : goal.returns-in-Skip
 returns-in-Skip c = as_form c.args.line.now Skip c.in-Ok.ensures.ok c.in-Skip.is
+
+pub returns-in-AppRun : goal.returns-in-AppRun
+returns-in-AppRun c = as_form c.args.line.now (AppRun c.in-AppRun.app c.in-AppRun.steps) c.in-Ok.ensures.ok c.in-AppRun.is
+
+pub returns-in-TreeInsert : goal.returns-in-TreeInsert
+returns-in-TreeInsert c = as_form c.args.line.now (TreeInsert c.in-TreeInsert.low c.in-TreeInsert.high c.in-TreeInsert.key c.in-TreeInsert.value) c.in-Ok.ensures.ok c.in-TreeInsert.is
+
+pub returns-in-TreeGet : goal.returns-in-TreeGet
+returns-in-TreeGet c = as_form c.args.line.now (TreeGet c.in-TreeGet.low c.in-TreeGet.high c.in-TreeGet.key) c.in-Ok.ensures.ok c.in-TreeGet.is
+
+pub returns-in-TreeDelete : goal.returns-in-TreeDelete
+returns-in-TreeDelete c = as_form c.args.line.now (TreeDelete c.in-TreeDelete.low c.in-TreeDelete.high c.in-TreeDelete.key) c.in-Ok.ensures.ok c.in-TreeDelete.is
+
+pub returns-in-TreeRange : goal.returns-in-TreeRange
+returns-in-TreeRange c = as_form c.args.line.now (TreeRange c.in-TreeRange.low c.in-TreeRange.high c.in-TreeRange.from c.in-TreeRange.to) c.in-Ok.ensures.ok c.in-TreeRange.is

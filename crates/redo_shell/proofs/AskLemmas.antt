@@ -1,0 +1,152 @@
+-- What a question to a tree is answered.
+use Rattle.std.proofs.Common.{◌≡◌, ◌≢◌, ◌∙◌, ap, sym, subst, refl, ◌⊎◌, inl, inr, ⊎_elim, ◌≤◌, ◌+◌, ◌++◌, ℕ, zero, suc, Bool, true, false, List, [], ◌∷◌, length, take, drop, arith, Option, Some, None, Result, Ok, Err, IfOk}
+use Rattle.std.specs.Prelude.{⊤, if◌then◌else◌}
+use Rattle.std.proofs.Math.Seq.{take-nil}
+use Rattle.std.proofs.lemmas.List.{append-nil}
+use Rattle.disk_model.specs.Disk.{Files, Disk, LeavesOnly}
+use Rattle.disk_model.specs.Moments.{weaker}
+use Rattle.formats.specs.Objects.{bounds_of}
+use Rattle.formats.specs.declared.params.Params.{Params}
+use Rattle.oper_core.specs.State.{State}
+use Rattle.op_codec.specs.AllOps.{all_meaning}
+use Rattle.explain_core.specs.World.{World, run}
+use Rattle.cache_manager.specs.Taking.{Ending}
+use Rattle.cache_manager.specs.Taking.Ending.{Done, Stopped, Short, Failed}
+use Rattle.command_lists.specs.Lists.{AddsFront, ending_of}
+use Rattle.logical_btree.specs.Plan.{get_answer, get_on, is_there, range_answer, range_on}
+use Rattle.std.specs.FinMap.Entries.{find}
+use Rattle.btree_ops.specs.Entries.{byte_order}
+use Rattle.logical_btree.specs.Walk.{Pair, Way, scan, walk}
+use Rattle.logical_btree.specs.declared.refusal.TreeRefusal.{TreeRefusal}
+use Rattle.logical_btree.specs.declared.refusal.TreeRefusal.TheVariants.{NoObject, BadTree}
+use Rattle.execution.specs.declared.exec_err.ExecErr.{ExecErr}
+use Rattle.script_lines.specs.Grammar.{Request, tget, trange, AsksFor}
+use Rattle.script_lines.specs.Replies.{Reply, value, pairs, forced, refused, bad_tree, pairs_reply}
+use Rattle.store_engine.specs.Engine.{EngineView, IsFailed, forced_in}
+use Rattle.store_engine.specs.Engine as of_engine
+use Rattle.redo_shell.specs.Found.{IsAsked, IsEndedBy, reply_in}
+use Rattle.redo_shell.specs.Made.{AsksTree, found_reply, range_reply, tree_answer}
+use Rattle.redo_shell.specs.Replies.{IsTrueIn, Replies}
+use Rattle.redo_shell.specs.Run.{IsFound, Working}
+use Rattle.redo_shell.specs.Stages.{GoesBy, IsQuestion, Stage, stage_of}
+use Rattle.redo_shell.specs.Store.{Between, Command, Holds, Kept, Says, meaning_in, state_of}
+use Rattle.redo_shell.specs.declared.asking.Found.{Found}
+use Rattle.redo_shell.specs.declared.stop.Stop.{Stop as Early}
+use Rattle.redo_shell.proofs.ListLemmas.{not_early}
+use Rattle.redo_shell.proofs.RunLemmas.{asks_values, found_read, none_more, run_nothing}
+use Rattle.redo_shell.proofs.UpkeepLemmas.{IsOk}
+
+-- the answer to a question to a tree
+abbrev IsTold : Reply → Type 0
+IsTold (value bytes) = ⊤
+IsTold (pairs pair others) = ⊤
+IsTold (refused why) = ⊤
+IsTold bad_tree = ⊤
+IsTold reply = ⊥
+
+told_value : (found : Option (List ℕ)) → IsTold (found_reply (Ok found))
+told_value None = tt
+told_value (Some bytes) = tt
+
+told_get : (there : Bool) (key : List ℕ) (way : Result Way ℕ) → IsTold (found_reply (if there then get_on key way else Err NoObject))
+told_get false key way = tt
+told_get true key (Err bad) = tt
+told_get true key (Ok way) = told_value (find byte_order key way.pairs)
+
+told_pairs : (found : List Pair) → IsTold (pairs_reply found)
+told_pairs [] = tt
+told_pairs (pair ∷ others) = tt
+
+told_range : (there : Bool) (found : Result (List Pair) ℕ) → IsTold (range_reply (if there then range_on found else Err NoObject))
+told_range false found = tt
+told_range true (Err bad) = tt
+told_range true (Ok found) = told_pairs found
+
+is_told : (p : Params) (s : State) (reply : Reply) (request : Request) → tree_answer p s request ≡ Some reply → IsTold reply
+is_told p s reply (tget lo hi key) is =
+    subst IsTold (let e : found_reply (get_answer (bounds_of p) lo hi s key) ≡ reply = cc is in e) (told_get (is_there (bounds_of p) lo hi) key (walk lo hi s key))
+is_told p s reply (trange lo hi from to) is =
+    subst IsTold (let e : range_reply (range_answer (bounds_of p) lo hi s from to) ≡ reply = cc is in e)
+    (told_range (is_there (bounds_of p) lo hi) (scan lo hi s (record { from = from; to = Some to })))
+is_told p s reply request is = cc
+
+is_question : (p : Params) (s : State) (reply : Reply) (request : Request) → tree_answer p s request ≡ Some reply → IsQuestion request
+is_question p s reply (tget lo hi key) is = tt
+is_question p s reply (trange lo hi from to) is = tt
+is_question p s reply request is = cc
+
+module _ (p : Params) (commands : List Command) (line : List ℕ) where
+  told_replies : (reply : Reply) → IsTold reply → AsksTree p commands line reply → Replies p commands line reply []
+  told_replies (value bytes) told a = (inr a, refl)
+  told_replies (pairs pair others) told a = (a, refl)
+  told_replies (refused why) told a = inr (inr a, refl)
+  told_replies bad_tree told a = inr (a, refl)
+  told_replies reply told a = absurd told
+
+  told_goes : (reply : Reply) → IsTold reply → AsksTree p commands line reply → (s : Stage) → GoesBy p s line reply s
+  told_goes (value bytes) told a s = refl
+  told_goes (pairs pair others) told a s = refl
+  told_goes (refused why) told a s = asks_values p s line a.request (is_question p (state_of p commands) (refused why) a.request a.answers) a.asks
+  told_goes bad_tree told a s = asks_values p s line a.request (is_question p (state_of p commands) bad_tree a.request a.answers) a.asks
+  told_goes reply told a s = absurd told
+
+  told_tied : (reply : Reply) → IsTold reply → (f : Files) → IsTrueIn p f line reply
+  told_tied (value bytes) told f = tt
+  told_tied (pairs pair others) told f = tt
+  told_tied (refused why) told f = tt
+  told_tied bad_tree told f = tt
+  told_tied reply told f = absurd told
+
+told_other : (reply : Reply) → IsTold reply → (n : ℕ) → reply ≢ forced n
+told_other (value bytes) told n is = cc is
+told_other (pairs pair others) told n is = cc is
+told_other (refused why) told n is = cc is
+told_other bad_tree told n is = cc is
+told_other reply told n is = absurd told
+
+-- nothing is there to be stopped at
+pub no_first : (n : ℕ) (op : Command) (rest : List Command) → drop n [] ≡ op ∷ rest → ⊥
+no_first zero op rest is = cc is
+no_first (suc n) op rest is = cc is
+
+module _ {p : Params} {old now : Disk} {before after : EngineView} {commands : List Command} {line : List ℕ} {request : Request} {result : Result Found Early}
+    (holds : Holds p old before commands) (asks : AsksFor line request) (u : IsAsked old now before after request result) where
+  abbrev Adds : Ending → Type 0
+  Adds ending = AddsFront all_meaning p old now before after holds.world commands [] ending
+
+  done_only : (ending : Ending) → Adds ending → (ending ≡ Short → ⊥) → (ending ≡ Failed → ⊥) → Adds Done
+  done_only Done a short failed = a
+  done_only (Stopped stop) a short failed = let at = a.stopped stop refl in absurd (no_first a.done at.op at.rest at.here)
+  done_only Short a short failed = absurd (short refl)
+  done_only Failed a short failed = absurd (failed refl)
+
+  read_kept : Adds Done → (of_engine.Holds all_meaning p now after commands → Says p now after commands)
+      → (kept : Kept p before now after commands) × (stage_of after kept.holds.world ≡ stage_of before holds.world)
+  read_kept a says =
+      let here = ⊎_elim (λ failed. absurd failed) (λ reached. reached) a.kept in
+      let same = here.commands_are ∙ ap (λ (l : List Command). commands ++ l) (take-nil a.done) ∙ append-nil commands in (
+        record {
+          holds = record { world = here.world; shows = here.shows; commands_are = same; says = says (record { world = here.world; shows = here.shows; commands_are = same }) };
+          rising = ⊎_elim (λ failed. absurd failed) (λ rises. rises) a.rising;
+        },
+        λ i. record { world = (here.ends.1.world_is ∙ run_nothing (meaning_in p) holds.world) i; used = here.ends.1.used_is i; identities = a.identities i },
+      )
+
+  -- what was found is answered
+  pub asked_found : (found : Found) → result ≡ Ok found → (of_engine.Holds all_meaning p now after commands → Says p now after commands) → IsFound p old now before after holds.world commands line (reply_in found)
+  asked_found found is says =
+      let fine = subst IsOk (sym is) tt in
+      let early = not_early u.error result u.ended fine in
+      let kept = read_kept (done_only (ending_of u.error) (u.adds p commands holds) early.0 early.1) says in
+      let tells = subst (λ (r : Result Found Early). IfOk r (λ f. tree_answer p (state_of p commands) request ≡ Some (reply_in f))) is (u.tells p commands holds) in
+      let reply = reply_in found in
+      let told = is_told p (state_of p commands) reply request tells in
+      let a : AsksTree p commands line reply = record { request = request; asks = asks; answers = tells } in
+      found_read reply (told_replies p commands line reply told a) (told_tied p commands line reply told) (told_other reply told) (told_goes p commands line reply told a) holds.commands_are
+      (u.calls.call.quiet holds.shows.shows.told) kept.0 kept.1
+
+  pub asked_moments : old.tells_moments → LeavesOnly old now (Working p old (forced_in before) commands line)
+  asked_moments told =
+      let a = u.adds p commands holds in
+      weaker old now (Between p old (forced_in before) (commands ++ take a.done [])) (Working p old (forced_in before) commands line) (a.images told)
+      (λ f s b. record { added = take a.done []; front = inl (take-nil a.done); between = b })

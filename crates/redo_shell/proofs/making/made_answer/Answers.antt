@@ -1,0 +1,20 @@
+use Rattle.std.proofs.Common.{sym, subst}
+use Rattle.redo_shell.specs.Found.{IsMade}
+use Rattle.redo_shell.specs.Work.{made_request}
+use Rattle.redo_shell.specs.declared.work.Making.{Making}
+use Rattle.redo_shell.proofs.making.made_answer.Goals as goal
+
+pub returns-in-Steps : goal.returns-in-Steps
+returns-in-Steps g c =
+    subst (λ (m : Making). IsMade (g.M.Machine.disk c.args.machine.now) (g.M.Machine.disk c.run_steps.new.machine) c.args.engine.now c.run_steps.new.engine (made_request m) c.run_steps.result)
+    (sym c.in-Steps.is) c.run_steps.ensures
+
+pub returns-in-Insert : goal.returns-in-Insert
+returns-in-Insert g c =
+    subst (λ (m : Making). IsMade (g.M.Machine.disk c.args.machine.now) (g.M.Machine.disk c.insert.new.machine) c.args.engine.now c.insert.new.engine (made_request m) c.insert.result)
+    (sym c.in-Insert.is) c.insert.ensures
+
+pub returns-in-Delete : goal.returns-in-Delete
+returns-in-Delete g c =
+    subst (λ (m : Making). IsMade (g.M.Machine.disk c.args.machine.now) (g.M.Machine.disk c.delete.new.machine) c.args.engine.now c.delete.new.engine (made_request m) c.delete.result)
+    (sym c.in-Delete.is) c.delete.ensures

@@ -1,0 +1,81 @@
+-- Why a call of the program ends with its status, and what it leaves and says then.
+use Rattle.std.specs.Prelude.{⊤, ◌≡◌, ◌≢◌, ◌⊎◌, ◌++◌, ◌^◌, ℕ, List}
+use Rattle.disk_model.specs.Disk.{Files, Disk, Rises}
+use Rattle.disk_model.specs.declared.machine.FileNo.{FileNo}
+use Rattle.disk_model.specs.declared.machine.FileNo.TheVariants.{Objects}
+use Rattle.formats.specs.Bytes.{IsOpenAt, IsClosedAt}
+use Rattle.formats.specs.FirstFault.{IsDamaged}
+use Rattle.formats.specs.Image.{BeginsStore}
+use Rattle.op_codec.specs.AllOps.{all_meaning}
+use Rattle.script_lines.specs.Reading.{Takes}
+use Rattle.script_lines.specs.Words.{Asks}
+use Rattle.script_lines.specs.declared.words.Asked.{Asked}
+use Rattle.script_lines.specs.declared.words.Asked.TheVariants.{Init, Run, Dump, Demo}
+use Rattle.store_engine.specs.Engine.{InEachImage}
+use Rattle.redo_shell.specs.Keeps.{KeepsFiles}
+use Rattle.redo_shell.specs.Notices as notices
+use Rattle.redo_shell.specs.Status.{IsOfStore}
+use Rattle.redo_shell.specs.Store.{IsWellFormed}
+use Rattle.redo_shell.specs.declared.status.Status.{Status}
+use Rattle.redo_shell.specs.declared.status.Status.TheVariants.{Usage, NotAStore, AlreadyStore, Damaged, DiskFault, ReadFault, SayFault, Memory, TooLong}
+
+-- what the program does for the words of a command line: all but a demo, which it does not have yet
+abbrev pub IsOffered : Asked → Type 0
+IsOffered Run = ⊤
+IsOffered Dump = ⊤
+IsOffered (Init params) = ⊤
+IsOffered (Demo seed steps) = ⊥
+
+-- the words ask for nothing that the program does
+abbrev pub AsksNothing : List (List ℕ) → Type 0
+AsksNothing words = (asked : Asked) → IsOffered asked → Asks words asked → ⊥
+
+-- no store is there: the objects gate is not open; the files read as before, and that is said
+abbrev pub SaysNoStore : Disk → Disk → Type 0
+SaysNoStore old new = IsClosedAt 0 (old.reads Objects) × (new.reads ≡ old.reads) × (new.said ≡ old.said ++ notices.not_a_store)
+
+-- a store is there that breaks its format: the first check that fails is said, and the files read as before
+abbrev pub SaysDamage : Disk → Disk → Type 0
+SaysDamage old new = (file : FileNo) × (place : ℕ) × IsDamaged all_meaning old.reads file place × (new.reads ≡ old.reads) × (new.said ≡ old.said ++ notices.damaged file place)
+
+-- a store is there already, also after each crash: the files read as before, and that is said
+pub record SaysStore (old new : Disk) : Type 0 where
+  pub begins : BeginsStore (old.reads Objects)
+  pub reads : new.reads ≡ old.reads
+  pub said : new.said ≡ old.said ++ notices.already_a_store
+  pub each : InEachImage new (λ (files : Files). BeginsStore (files Objects))
+
+-- The call reports a fault of the disk or of the output only where that was counted.
+pub record CountsFaults (old new : Disk) (status : Status) : Type 0 where
+  pub disk : status ≡ DiskFault → Rises old.disk_faults new.disk_faults
+  pub output : status ≡ SayFault → Rises old.say_faults new.say_faults
+
+-- What a call that opens the store says of the files that it finds, where the machine reports them.
+pub record JudgesFiles (old new : Disk) (status : Status) : Type 0 where
+  pub no_store : status ≡ NotAStore → SaysNoStore old new
+  pub damaged : status ≡ Damaged → SaysDamage old new
+  -- files that meet their format are never taken for no store or for damaged
+  pub store : IsWellFormed old.reads → (status ≢ NotAStore) × (status ≢ Damaged)
+  -- no others are opened, and they are kept
+  pub opened : IsOfStore status → IsWellFormed old.reads
+  pub keeps : (IsWellFormed old.reads → ⊥) → KeepsFiles old new
+  -- no memory is taken before the objects gate is looked at
+  pub memory : status ≡ Memory → IsOpenAt 0 (old.reads Objects)
+
+-- The words ask nothing: the files are kept, and the usage line is said unless the output fails.
+pub record IsUsage (old new : Disk) (status : Status) : Type 0 where
+  pub keeps : KeepsFiles old new
+  pub ends : (status ≡ Usage) ⊎ (status ≡ SayFault)
+
+-- Each status of trouble comes only with its cause, whatever the words ask. The input had `left` at the call's start and has
+-- `rest` at its end, where the source reports that (`told`), and so many of its reads have failed before and now.
+pub record ComesByCause (words : List (List ℕ)) (told : Type 0) (left rest : List ℕ) (reads_before reads_now : ℕ) (old new : Disk) (status : Status) : Type 0 where
+  pub usage : status ≡ Usage → AsksNothing words
+  pub usage_said : old.tells_files → status ≡ Usage → new.said ≡ old.said ++ notices.usage
+  pub no_store : old.tells_files → status ≡ NotAStore → SaysNoStore old new
+  pub damaged : old.tells_files → status ≡ Damaged → SaysDamage old new
+  pub already : old.tells_files → status ≡ AlreadyStore → SaysStore old new
+  pub faults : CountsFaults old new status
+  pub read_fault : status ≡ ReadFault → Rises reads_before reads_now
+  -- so many bytes were taken, and the end was not yet read
+  pub too_long : told → status ≡ TooLong → Takes left rest 0 (2 ^ 40)

@@ -1,0 +1,123 @@
+-- What the plain map makes of a line that asks for commands, or for pairs of a tree.
+use Rattle.std.specs.Prelude.{◌≡◌, ◌++◌, ℕ, zero, suc, nat_le, if◌then◌else◌, List, [], ◌∷◌, take, Option, None, Some, Result, Ok, Err}
+use Rattle.oper_core.specs.State.{State}
+use Rattle.oper_core.specs.declared.refusal.Refusal.{Refusal}
+use Rattle.oper_core.specs.declared.refusal.Refusal.TheVariants as refusals
+use Rattle.formats.specs.Objects.{bounds_of}
+use Rattle.formats.specs.declared.params.Params.{Params}
+use Rattle.app_steps.specs.Steps.{step_of, steps, steps_accepted}
+use Rattle.btree_ops.specs.declared.node_op.NodeOp.{NodeOp}
+use Rattle.op_codec.specs.declared.all_ops.AllOps.TheVariants.{Put, Copy, Append, Cut, Sort, Swap, Exec, AppRead, AppWrite}
+use Rattle.logical_btree.specs.Walk.{Pair}
+use Rattle.logical_btree.specs.Plan.{Plan, insert_plan, delete_plan, get_answer, range_answer}
+use Rattle.tree_client.specs.Answers.{made_of}
+use Rattle.logical_btree.specs.declared.refusal.TreeRefusal.{TreeRefusal}
+use Rattle.logical_btree.specs.declared.refusal.TreeRefusal.TheVariants.{NoObject, BadTree, TreeFull, NoKey}
+use Rattle.script_lines.specs.Grammar.{Request, put, copy, append, cut, sort, swap, exec, aread, awrite, arun, tinsert, tdelete, tget, trange, AsksFor}
+use Rattle.script_lines.specs.Replies.{Reply, ok, value, ran, pairs_reply, refused, bad_tree, tree_full}
+use Rattle.redo_shell.specs.Store.{Command, refusal_after, state_of}
+
+-- commands, one after the other, and the answer where the log takes all of them
+pub record Made : Type 0 where
+  pub ops : List Command
+  pub reply : Reply
+
+abbrev pub made : List Command → Reply → Made
+made ops reply = record { ops = ops; reply = reply }
+
+-- a command, unless it is refused
+abbrev pub one_unless : Command → Option Refusal → Made
+one_unless op None = made (op ∷ []) ok
+one_unless op (Some why) = made [] (refused why)
+
+abbrev pub one_made : Params → List Command → Command → Made
+one_made p commands op = one_unless op (refusal_after p commands op)
+
+-- so many of at most n steps were done, where the first is not refused, or only for want of input
+abbrev pub run_reply : ℕ → ℕ → Option Refusal → Reply
+run_reply zero k refusal = ran k
+run_reply (suc n) k None = ran k
+run_reply (suc n) k (Some refusals.NoInput) = ran k
+run_reply (suc n) k (Some why) = refused why
+
+-- as many steps of an application as are accepted one after the other, at most n
+abbrev pub run_made : Params → List Command → ℕ → ℕ → Made
+run_made p commands app n = made (steps p commands app n) (run_reply n (steps_accepted p commands app n) (refusal_after p commands (step_of app)))
+
+-- why a call on a tree is refused
+abbrev pub tree_reply : TreeRefusal → Reply
+tree_reply NoObject = refused refusals.NoObject
+tree_reply (BadTree object) = bad_tree
+tree_reply (TreeFull need free) = tree_full
+tree_reply NoKey = refused refusals.NoKey
+
+abbrev pub end_reply : Option TreeRefusal → Reply
+end_reply None = ok
+end_reply (Some why) = tree_reply why
+
+-- a plan's own answer, or, where it has commands and a value has no room for a node, that none of them is accepted
+abbrev pub plan_reply : ℕ → List NodeOp → Reply → Reply
+plan_reply cap [] planned = planned
+plan_reply cap (op ∷ ops) planned = if nat_le 1024 cap then planned else refused refusals.TooLarge
+
+-- the commands of a call on a tree, and its own refusal at their end, if it is refused
+abbrev pub plan_made : Params → Plan → Made
+plan_made p plan = made (made_of p.cap plan.commands) (plan_reply p.cap plan.commands (end_reply plan.refusal))
+
+-- what a request for commands makes after these
+abbrev pub made_by : Params → List Command → Request → Option Made
+made_by p commands (put x bytes) = Some (one_made p commands (Put (record { object = x; value = bytes })))
+made_by p commands (copy x y) = Some (one_made p commands (Copy (record { from = x; to = y })))
+made_by p commands (append x y) = Some (one_made p commands (Append (record { from = x; to = y })))
+made_by p commands (cut x y place) = Some (one_made p commands (Cut (record { from = x; to = y; place = place })))
+made_by p commands (sort x y width) = Some (one_made p commands (Sort (record { from = x; to = y; width = width })))
+made_by p commands (swap x y) = Some (one_made p commands (Swap (record { first = x; second = y })))
+made_by p commands (exec app) = Some (one_made p commands (Exec (record { app = app })))
+made_by p commands (aread app x) = Some (one_made p commands (AppRead (record { app = app; from = x })))
+made_by p commands (awrite app x) = Some (one_made p commands (AppWrite (record { app = app; to = x })))
+made_by p commands (arun app n) = Some (run_made p commands app n)
+made_by p commands (tinsert lo hi key bytes) = Some (plan_made p (insert_plan (bounds_of p) lo hi (state_of p commands) key bytes))
+made_by p commands (tdelete lo hi key) = Some (plan_made p (delete_plan (bounds_of p) lo hi (state_of p commands) key))
+made_by p commands request = None
+
+-- After the commands the line asks for these commands, and has this answer where the log takes all of them.
+pub record AsksMade (p : Params) (commands : List Command) (line : List ℕ) (it : Made) : Type 0 where
+  pub request : Request
+  pub asks : AsksFor line request
+  pub makes : made_by p commands request ≡ Some it
+
+-- these are some first commands of those that the line asks for
+pub record IsFront (p : Params) (commands : List Command) (line : List ℕ) (front : List Command) : Type 0 where
+  pub it : Made
+  pub asks : AsksMade p commands line it
+  pub count : ℕ
+  pub first : front ≡ take count it.ops
+
+-- behind these commands the line asks for one more
+pub record AsksBehind (p : Params) (commands : List Command) (line : List ℕ) (front : List Command) (op : Command) : Type 0 where
+  pub it : Made
+  pub asks : AsksMade p commands line it
+  pub rest : List Command
+  pub next : it.ops ≡ front ++ op ∷ rest
+
+-- the value of a key, or no bytes where it is not there
+abbrev pub found_reply : Result (Option (List ℕ)) TreeRefusal → Reply
+found_reply (Ok None) = value []
+found_reply (Ok (Some bytes)) = value bytes
+found_reply (Err why) = tree_reply why
+
+abbrev pub range_reply : Result (List Pair) TreeRefusal → Reply
+range_reply (Ok found) = pairs_reply found
+range_reply (Err why) = tree_reply why
+
+-- the answer to a request for pairs of a tree
+abbrev pub tree_answer : Params → State → Request → Option Reply
+tree_answer p s (tget lo hi key) = Some (found_reply (get_answer (bounds_of p) lo hi s key))
+tree_answer p s (trange lo hi from to) = Some (range_reply (range_answer (bounds_of p) lo hi s from to))
+tree_answer p s request = None
+
+-- After the commands the line asks for pairs of a tree, and this is the answer.
+pub record AsksTree (p : Params) (commands : List Command) (line : List ℕ) (reply : Reply) : Type 0 where
+  pub request : Request
+  pub asks : AsksFor line request
+  pub answers : tree_answer p (state_of p commands) request ≡ Some reply

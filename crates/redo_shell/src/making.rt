@@ -1,0 +1,127 @@
+// Several commands, and the answer to them.
+ghost use Rattle.std.specs.Prelude.{◌≡◌, false};
+ghost use Rattle.redo_shell.specs.Found.{IsMade, answer_of_error, answer_of_tree_error};
+ghost use Rattle.redo_shell.specs.Work.{made_request};
+ghost use Rattle.script_lines.specs.Grammar.{arun, tdelete, tinsert};
+
+use crate::stop::Stop;
+use crate::work::Making;
+use app_steps::App;
+use btree_ops::Short;
+use command_lists::nothing_is_made;
+use disk_model::Machine;
+use logical_btree::Tree;
+use op_codec::AllOps;
+use oper_core::Refusal;
+use script_lines::Answer;
+use store_engine::{Engine, ExecErr};
+use tree_client::TreeErr;
+
+/// What is answered where a command is not done.
+fn error_answer(error: ExecErr) -> Result<Answer<'static>, Stop>
+    ensures { result ≡ answer_of_error error }
+{
+    match error {
+        ExecErr::Refused(refusal) => Ok(Answer::Refused(refusal)),
+        ExecErr::LogFull { used, need, limit } => Ok(Answer::Full { used, need, limit }),
+        ExecErr::LsnEnd { number } => Ok(Answer::End { number }),
+        ExecErr::Damaged { file, place } => Err(Stop::Damaged { file, place }),
+        ExecErr::DiskFault => Err(Stop::DiskFault),
+        ExecErr::Memory => Err(Stop::Memory),
+    }
+}
+
+/// What is answered where a call on a tree is not done.
+pub fn tree_answer(error: TreeErr) -> Result<Answer<'static>, Stop>
+    ensures { result ≡ answer_of_tree_error error }
+{
+    match error {
+        TreeErr::NoObject => Ok(Answer::Refused(Refusal::NoObject)),
+        TreeErr::BadTree { .. } => Ok(Answer::BadTree),
+        TreeErr::TreeFull { .. } => Ok(Answer::TreeFull),
+        TreeErr::NoKey => Ok(Answer::Refused(Refusal::NoKey)),
+        TreeErr::Exec(error) => error_answer(error),
+        TreeErr::Memory => Err(Stop::Memory),
+    }
+}
+
+/// Takes steps of an application, and finds the answer to that.
+fn run_steps<M: Machine>(
+    engine: &mut Engine<AllOps>,
+    machine: &mut M,
+    app: u32,
+    most: u32,
+) -> Result<Answer<'static>, Stop>
+    requires { engine.old.broken ≡ false }
+    ensures { IsMade (M.disk machine.old) (M.disk machine.new) engine.old engine.new (arun app most) result }
+{
+    let app = App { app };
+    match app.run(engine, machine, most as u64) {
+        Ok(count) => Ok(Answer::Ran(count)),
+        Err(error) => error_answer(error),
+    }
+}
+
+/// Inserts a pair into the tree of some objects, and finds the answer to that.
+fn insert<M: Machine>(
+    engine: &mut Engine<AllOps>,
+    machine: &mut M,
+    low: u32,
+    high: u32,
+    key: Short,
+    value: Short,
+) -> Result<Answer<'static>, Stop>
+    requires { engine.old.broken ≡ false }
+    ensures { IsMade (M.disk machine.old) (M.disk machine.new) engine.old engine.new (tinsert low high key value) result }
+{
+    let Some(tree) = Tree::new(low, high) else {
+        nothing_is_made(machine, engine);
+        return Ok(Answer::Refused(Refusal::NoObject));
+    };
+    match tree_client::insert(&tree, engine, machine, &key, &value) {
+        Ok(()) => Ok(Answer::Done),
+        Err(error) => tree_answer(error),
+    }
+}
+
+/// Deletes a key of the tree of some objects, and finds the answer to that.
+fn delete<M: Machine>(
+    engine: &mut Engine<AllOps>,
+    machine: &mut M,
+    low: u32,
+    high: u32,
+    key: Short,
+) -> Result<Answer<'static>, Stop>
+    requires { engine.old.broken ≡ false }
+    ensures { IsMade (M.disk machine.old) (M.disk machine.new) engine.old engine.new (tdelete low high key) result }
+{
+    let Some(tree) = Tree::new(low, high) else {
+        nothing_is_made(machine, engine);
+        return Ok(Answer::Refused(Refusal::NoObject));
+    };
+    match tree_client::delete(&tree, engine, machine, &key) {
+        Ok(()) => Ok(Answer::Done),
+        Err(error) => tree_answer(error),
+    }
+}
+
+/// Runs the commands that this makes, and finds the answer to them.
+pub fn made_answer<M: Machine>(
+    engine: &mut Engine<AllOps>,
+    machine: &mut M,
+    making: Making,
+) -> Result<Answer<'static>, Stop>
+    requires { engine.old.broken ≡ false }
+    ensures { IsMade (M.disk machine.old) (M.disk machine.new) engine.old engine.new (made_request making) result }
+{
+    match making {
+        Making::Steps { app, most } => run_steps(engine, machine, app, most),
+        Making::Insert {
+            low,
+            high,
+            key,
+            value,
+        } => insert(engine, machine, low, high, key, value),
+        Making::Delete { low, high, key } => delete(engine, machine, low, high, key),
+    }
+}
