@@ -1,13 +1,12 @@
 //! A test crate: the tests of redo_shell and script_lines. The library is empty.
 //!
 //! They stand apart so that the proofs of those crates are made once, and not a second time with their tests. Whole scripts
-//! with their answers are rows of constant tables; the examples hold more of them, which the built program runs.
+//! with their answers are rows of constant tables; the examples hold more of them, which the built program runs. Stops and
+//! calls that fail are tested in stops_tests.
 #![tactic(auto)]
 
 #[cfg(test)]
 mod damage;
-#[cfg(test)]
-mod faults;
 #[cfg(test)]
 mod files;
 #[cfg(test)]
@@ -16,5 +15,3 @@ mod lines;
 mod rows;
 #[cfg(test)]
 mod running;
-#[cfg(test)]
-mod stops;

@@ -1,25 +1,16 @@
 // The program in a folder in memory.
-use disk_model::{Crash, Fuse, Machine, MemMachine, MemSource};
+use disk_model::{Crash, Machine, MemMachine, MemSource};
 use redo_shell::{Status, top};
 use std::alloc::{AllocError, Global};
 
 pub const INIT: &str = "redo init 8 64 65536";
-
-pub const CRASHES: [Crash; 6] = [
-    Crash::Old,
-    Crash::New,
-    Crash::Fill(0),
-    Crash::Fill(1),
-    Crash::Fill(7),
-    Crash::Fill(255),
-];
 
 pub fn empty_folder(alloc: Global) -> Result<MemMachine, AllocError> {
     MemMachine::new(alloc, [8192, 65536, 65536], 1000, 65536, Vec::new(alloc))
 }
 
 // The words of a line.
-pub fn words(alloc: Global, line: &str) -> Result<Vec<String>, AllocError> {
+fn words(alloc: Global, line: &str) -> Result<Vec<String>, AllocError> {
     let mut words = Vec::new(alloc);
     for word in line.split(' ') {
         words.push(word.to_string(alloc)?)?;
@@ -47,24 +38,4 @@ pub fn new_store(alloc: Global) -> Result<MemMachine, AllocError> {
     let mut machine = empty_folder(alloc)?;
     run(alloc, &mut machine, INIT, b"");
     Ok(machine.crash(Crash::Old))
-}
-
-// The machine after a run that was stopped after so many calls.
-pub fn stopped(
-    alloc: Global,
-    machine: MemMachine,
-    calls: u64,
-    line: &str,
-    input: &[u8],
-) -> MemMachine {
-    let mut fuse = Fuse::new(machine, calls);
-    run(alloc, &mut fuse, line, input);
-    fuse.into_inner()
-}
-
-// How many calls a run takes.
-pub fn calls_of(alloc: Global, mut machine: MemMachine, line: &str, input: &[u8]) -> u64 {
-    let before = machine.calls();
-    run(alloc, &mut machine, line, input);
-    machine.calls().saturating_sub(before)
 }

@@ -1,0 +1,112 @@
+// A script of which one call fails: the status, the count that rises, what is said, and what is found behind it.
+use crate::found::{stands, within};
+use crate::running::{after, crash_by, end_by, run, run_failing, stopped};
+use crate::scripts::{SCRIPTS, Script, new_store, store_failing};
+use disk_model::{Crash, MemMachine};
+use redo_shell::Status;
+use std::alloc::{AllocError, Global};
+use std::test::Fail;
+
+// A machine on which this call of a script fails, and the status and how many reads failed.
+fn failing(
+    alloc: Global,
+    script: &Script,
+    call: u64,
+) -> Result<(MemMachine, (Status, u64)), AllocError> {
+    let made = store_failing(alloc, script, 0)?.calls();
+    let mut machine = store_failing(alloc, script, made.saturating_add(call))?;
+    let ended = run(alloc, &mut machine, "redo run", script.input);
+    Ok((machine, ended))
+}
+
+// Whether the status is that of the one call that failed, and no read failed.
+fn is_of_the_fault(machine: &MemMachine, ended: (Status, u64)) -> bool {
+    match (machine.disk_faults(), machine.say_faults()) {
+        (1, 0) => ended == (Status::DiskFault, 0),
+        (0, 1) => ended == (Status::SayFault, 0),
+        _ => false,
+    }
+}
+
+// Whether a script that is stopped at this call says the same: nothing was said from the failing call on.
+fn says_the_same(
+    alloc: Global,
+    script: &Script,
+    call: u64,
+    said: &[u8],
+) -> Result<bool, AllocError> {
+    let store = new_store(alloc, script)?;
+    let calls = call.saturating_sub(1);
+    let once = stopped(alloc, store, calls, "redo run", script.input);
+    Ok(once.said() == said)
+}
+
+// Whether the failing call is answered so.
+fn is_told(alloc: Global, script: &Script, call: u64) -> Result<bool, AllocError> {
+    let (left, ended) = failing(alloc, script, call)?;
+    let same = says_the_same(alloc, script, call, left.said())?;
+    Ok(is_of_the_fault(&left, ended) & same)
+}
+
+// Whether what was forced is found behind it.
+fn keeps(
+    alloc: Global,
+    script: &Script,
+    call: u64,
+    ends: (Option<Crash>, Crash),
+) -> Result<bool, AllocError> {
+    let (left, _) = failing(alloc, script, call)?;
+    let bounds = within(script, left.said());
+    Ok(stands(alloc, after(left, ends.0), script, bounds, ends.1))
+}
+
+// Whether that is so, however it ends.
+fn keeps_at_each_end(alloc: Global, script: &Script, call: u64) -> Result<bool, AllocError> {
+    let mut all = true;
+    for end in 0..6u64 {
+        all &= keeps(alloc, script, call, (end_by(end), crash_by(call)))?;
+    }
+    Ok(all)
+}
+
+// How many calls a script takes, 0 where it does not say all that it has to.
+fn calls_of_whole(alloc: Global, script: &Script) -> Result<u64, AllocError> {
+    let mut machine = new_store(alloc, script)?;
+    let ended = run(alloc, &mut machine, "redo run", script.input);
+    if (ended == (Status::Done, 0)) & (machine.said() == script.said) {
+        Ok(machine.calls())
+    } else {
+        Ok(0)
+    }
+}
+
+#[test]
+fn each_call_is_refused(rt: HostRuntime) -> Result<(), Fail> {
+    for (row, script) in SCRIPTS.iter().enumerate() {
+        let calls = calls_of_whole(rt.alloc(), script)?;
+        assert!(rt; calls > 0, "script {row}");
+        for call in 1..=calls {
+            let kept = keeps_at_each_end(rt.alloc(), script, call)?;
+            assert!(rt;
+                is_told(rt.alloc(), script, call)? & kept,
+                "script {row}, call {call}"
+            );
+        }
+    }
+    Ok(())
+}
+
+// The status and the counts of failed reads, disk calls and writes of the output where this read of the input fails, and
+// whether nothing is said.
+fn reads_once(alloc: Global, read: u64) -> Result<((Status, u64), [u64; 2], bool), AllocError> {
+    let mut machine = new_store(alloc, &SCRIPTS[0])?;
+    let ended = run_failing(alloc, &mut machine, "redo run", SCRIPTS[0].input, read);
+    let counts = [machine.disk_faults(), machine.say_faults()];
+    Ok((ended, counts, machine.said().is_empty()))
+}
+
+#[test]
+fn a_read_is_refused(rt: HostRuntime) -> Result<(), Fail> {
+    assert!(rt; reads_once(rt.alloc(), 1)? == ((Status::ReadFault, 1), [0, 0], true));
+    Ok(())
+}

@@ -1,0 +1,89 @@
+// `init` that is stopped, and run again.
+use crate::running::{after, calls_of, crash_by, end_by, run, stopped};
+use disk_model::{Crash, FileNo, MemMachine};
+use redo_shell::Status;
+use std::alloc::{AllocError, Global};
+use std::test::Fail;
+
+const INIT: &str = "redo init 8 64 65536";
+
+fn empty_folder(alloc: Global) -> Result<MemMachine, AllocError> {
+    MemMachine::new(alloc, [1264, 4096, 4096], 400, 4096, Vec::new(alloc))
+}
+
+// A folder with a store.
+fn made(alloc: Global) -> Result<MemMachine, AllocError> {
+    let mut machine = empty_folder(alloc)?;
+    run(alloc, &mut machine, INIT, b"");
+    Ok(machine.crash(Crash::Old))
+}
+
+fn made_or_found(begins: bool) -> Status {
+    if begins {
+        Status::AlreadyStore
+    } else {
+        Status::Done
+    }
+}
+
+// Whether `init` makes a store, or finds one if the gate in front of the magic is open, and a run after a crash finds the
+// store new.
+fn is_made(alloc: Global, mut left: MemMachine, how: Crash) -> bool {
+    let begins = left.bytes(FileNo::Objects).starts_with(b"\x01RDOOBJ01");
+    let (status, _) = run(alloc, &mut left, INIT, b"");
+    let mut next = left.crash(how);
+    let (done, _) = run(alloc, &mut next, "redo run", b"force\nget 7\n");
+    let made = status == made_or_found(begins);
+    made & (done == Status::Done) & (next.said() == b"forced 0\n-\n".as_slice())
+}
+
+// Whether that is so behind two that were stopped after so many calls.
+fn is_made_behind(
+    alloc: Global,
+    calls: [u64; 2],
+    ends: (Option<Crash>, Option<Crash>),
+    how: Crash,
+) -> Result<bool, AllocError> {
+    let once = stopped(alloc, empty_folder(alloc)?, calls[0], INIT, b"");
+    let twice = stopped(alloc, after(once, ends.0), calls[1], INIT, b"");
+    Ok(is_made(alloc, after(twice, ends.1), how))
+}
+
+// Whether that is so for a second stop at each of so many calls, with each end in turn.
+fn is_made_twice(alloc: Global, first: u64, more: u64) -> Result<bool, AllocError> {
+    let mut all = true;
+    for second in 0..more {
+        let turn = first.saturating_add(second);
+        let ends = (end_by(turn), end_by(second));
+        all &= is_made_behind(alloc, [first, second], ends, crash_by(turn))?;
+    }
+    Ok(all)
+}
+
+#[test]
+fn a_stopped_init_is_run_again(rt: HostRuntime) -> Result<(), Fail> {
+    let calls = calls_of(rt.alloc(), &mut empty_folder(rt.alloc())?, INIT, b"");
+    for first in 0..calls {
+        assert!(rt; is_made_twice(rt.alloc(), first, calls)?, "after {first}");
+    }
+    Ok(())
+}
+
+// Whether `init` says that there is a store, and leaves the files of it.
+fn is_kept(alloc: Global) -> Result<bool, AllocError> {
+    let store = made(alloc)?;
+    let mut again = made(alloc)?;
+    let (status, _) = run(alloc, &mut again, INIT, b"");
+    let said = again.said() == b"already a store\n".as_slice();
+    let mut same = true;
+    for file in [FileNo::Objects, FileNo::LogA, FileNo::LogB] {
+        same &= store.bytes(file) == again.bytes(file);
+    }
+    Ok(said & same & (status == Status::AlreadyStore))
+}
+
+#[test]
+fn a_store_is_kept(rt: HostRuntime) -> Result<(), Fail> {
+    assert!(rt; is_kept(rt.alloc())?);
+    Ok(())
+}
