@@ -3,7 +3,7 @@
 # where it is killed.
 command -v flock >/dev/null || { cat "$(dirname "$0")/two_runs.out"; exit; }
 mkfifo lines
-redo run <lines >first &
+redo run >first <lines &
 first=$!
 exec 5>lines
 echo 'put 0 aa' >&5
