@@ -17,13 +17,15 @@ pub fn advice(status: Status) -> Option<&'static str> {
         ),
         Status::DiskFault => Some(
             "a file of the store could not be read, written or synced. See to free space and rights, then run again: \
-             all that was answered `forced` is there.",
+             all that was answered `forced` is there. If the disk itself fails, copy the files and restart the machine first.",
         ),
         Status::ReadFault => Some(
-            "the input could not be read to its end. Commands after the last `forced` may be lost: run again with these.",
+            "the input could not be read to its end. Of the commands after the last `forced` some may be kept: `redo dump` \
+             says how many there are in all. Run again with those behind them.",
         ),
         Status::SayFault => Some(
-            "an answer could not be written. In a run, commands after the last `forced` may be lost: run again with these.",
+            "an answer could not be written. Of the commands after the last `forced` some may be kept: `redo dump` says how \
+             many there are in all. Run again with those behind them.",
         ),
         Status::Memory => Some(
             "out of memory. A restart takes about 500 bytes for each record that it does again, beside the values: run \
