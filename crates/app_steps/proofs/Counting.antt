@@ -19,7 +19,7 @@ use Rattle.execution.specs.declared.exec_err.ExecErr.{ExecErr}
 use Rattle.execution.specs.declared.exec_err.ExecErr.TheVariants.{Refused, LogFull, LsnEnd, DiskFault, Damaged, Memory}
 use Rattle.store_engine.specs.Engine.{EngineView, HasCause, Holds}
 use Rattle.store_engine.specs.Store.{refusal_after}
-use Rattle.command_lists.specs.Lists.{AddsFront, AreCalls, IsCutOff, ending_of}
+use Rattle.command_lists.specs.Lists.{AddsFront, AreCalls, ComesNext, IsCutOff, ending_of}
 use Rattle.command_lists.specs.ListLaws.{all_hold, refused_calls}
 use Rattle.command_lists.specs.Steps.{HasRun}
 use Rattle.app_steps.specs.Steps.{EndsSo, HasAnswer, IsRefusedAtOnce, step_of, steps, steps_accepted}
@@ -84,11 +84,22 @@ module _ (p : Params) (commands : List AllOps) (app n : ℕ) where
   pub behind_done : (done : ℕ) → IsUnderWay p commands app n done → steps p commands app n ≡ replicate done (step_of app) ++ replicate (steps_accepted p (after done) app (n - done)) (step_of app)
   behind_done done is = ap (λ (k : ℕ). replicate k (step_of app)) is.left ∙ sym (replicate-append-replicate done (steps_accepted p (after done) app (n - done)) (step_of app))
 
+  -- where nothing refuses the next, it is the first of those that are left
+  left_next : (done : ℕ) → done < n → refusal_after all_meaning p (after done) (step_of app) ≡ None
+      → replicate (steps_accepted p (after done) app (n - done)) (step_of app) ≡ step_of app ∷ replicate (steps_accepted p (after done ++ step_of app ∷ []) app (n - (done + 1))) (step_of app)
+  left_next done more none =
+      let k = n - (done + 1) in
+      let count : n - done ≡ suc k = omega (arith, more) in
+      ap (λ (i : ℕ). replicate i (step_of app)) (ap (λ (i : ℕ). steps_accepted p (after done) app i) count ∙ step_counts p (after done) app k none)
+
+  pub comes_next : (done : ℕ) → done < n → ComesNext all_meaning p (after done) (step_of app) (replicate (steps_accepted p (after done) app (n - done)) (step_of app))
+  comes_next done more = by_refusal (refusal_after all_meaning p (after done) (step_of app)) refl
+    where
+      by_refusal : (o : Option Refusal) → refusal_after all_meaning p (after done) (step_of app) ≡ o → ComesNext all_meaning p (after done) (step_of app) (replicate (steps_accepted p (after done) app (n - done)) (step_of app))
+      by_refusal None none = inr (replicate (steps_accepted p (after done ++ step_of app ∷ []) app (n - (done + 1))) (step_of app), left_next done more none)
+      by_refusal (Some refusal) is = inl (refusal, is)
+
   -- or, where nothing refuses the next, this one and others
   pub behind_next : (done : ℕ) → done < n → IsUnderWay p commands app n done → refusal_after all_meaning p (after done) (step_of app) ≡ None
       → steps p commands app n ≡ replicate done (step_of app) ++ step_of app ∷ replicate (steps_accepted p (after done ++ step_of app ∷ []) app (n - (done + 1))) (step_of app)
-  behind_next done more is none =
-      let k = n - (done + 1) in
-      let count : n - done ≡ suc k = omega (arith, more) in
-      behind_done done is
-      ∙ ap (λ (i : ℕ). replicate done (step_of app) ++ replicate i (step_of app)) (ap (λ (i : ℕ). steps_accepted p (after done) app i) count ∙ step_counts p (after done) app k none)
+  behind_next done more is none = behind_done done is ∙ ap (λ (l : List AllOps). replicate done (step_of app) ++ l) (left_next done more none)

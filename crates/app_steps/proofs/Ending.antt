@@ -22,7 +22,7 @@ use Rattle.command_lists.specs.Lists.{AddsFront, AreCalls, IsCutOff, ending_of}
 use Rattle.command_lists.specs.ListLaws.{all_hold, refused_calls}
 use Rattle.command_lists.specs.Steps.{HasRun}
 use Rattle.app_steps.specs.Steps.{EndsSo, HasAnswer, IsRefusedAtOnce, step_of, steps, steps_accepted}
-use Rattle.app_steps.proofs.Counting.{IsUnderWay, after, all_done, all_refused, behind_done, behind_next, goes_on, none_count, one_behind}
+use Rattle.app_steps.proofs.Counting.{IsUnderWay, after, all_done, all_refused, behind_done, behind_next, comes_next, goes_on, none_count, one_behind}
 
 -- what is made so far: so many steps, and they are among those that are accepted
 pub record IsMade (p : Params) (old now : Disk) (before between : EngineView) (commands : List AllOps) (holds : Holds all_meaning p old before commands) (app n done : ℕ) : Type 0 where
@@ -66,20 +66,20 @@ module _ {T : Type 0} (disk : T → Disk) (old mid new : T) (before between now 
         subst (λ (l : List AllOps). AddsFront all_meaning p (disk old) (disk new) before now holds.world commands l (Stopped stop)) (sym (behind_next p commands app n done more made.counts none))
         (goes old mid new before between now p holds.world commands (replicate done op) op (replicate (steps_accepted p (after p commands app n done ++ op ∷ []) app (n - (done + 1))) op) e stop made.front ran is)
 
-    failed_front : ExecFailed all_meaning disk → (e : ExecErr) → IsCutOff (ending_of (Some e)) → HasRun all_meaning (disk mid) (disk new) between now op (Err e)
+    failed_front : ExecFailed all_meaning disk → done < n → (e : ExecErr) → IsCutOff (ending_of (Some e)) → HasRun all_meaning (disk mid) (disk new) between now op (Err e)
         → AddsFront all_meaning p (disk old) (disk new) before now holds.world commands (steps p commands app n) (ending_of (Some e))
-    failed_front goes e off ran =
+    failed_front goes more e off ran =
         subst (λ (l : List AllOps). AddsFront all_meaning p (disk old) (disk new) before now holds.world commands l (ending_of (Some e))) (sym (behind_done p commands app n done made.counts))
-        (goes old mid new before between now p holds.world commands (replicate done op) op (replicate (steps_accepted p (after p commands app n done) app (n - done)) op) e made.front ran off)
+        (goes old mid new before between now p holds.world commands (replicate done op) op (replicate (steps_accepted p (after p commands app n done) app (n - done)) op) e made.front ran (comes_next p commands app n done more) off)
 
     ends_by : ExecRefused all_meaning disk → ExecStopped all_meaning disk → ExecFailed all_meaning disk → done < n → (e : ExecErr) → HasRun all_meaning (disk mid) (disk new) between now op (Err e)
         → AddsFront all_meaning p (disk old) (disk new) before now holds.world commands (steps p commands app n) (ending_of (Some e))
     ends_by refuses stops fails more (Refused refusal) ran = refused_front refuses refusal ran
     ends_by refuses stops fails more (LogFull used need limit) ran = stopped_front stops more (LogFull used need limit) (Full used need limit) refl (cause (Err (LogFull used need limit)) ran).0 ran
     ends_by refuses stops fails more (LsnEnd number) ran = stopped_front stops more (LsnEnd number) (At_end number) refl (cause (Err (LsnEnd number)) ran) ran
-    ends_by refuses stops fails more DiskFault ran = failed_front fails DiskFault tt ran
-    ends_by refuses stops fails more (Damaged file place) ran = failed_front fails (Damaged file place) tt ran
-    ends_by refuses stops fails more Memory ran = failed_front fails Memory tt ran
+    ends_by refuses stops fails more DiskFault ran = failed_front fails more DiskFault tt ran
+    ends_by refuses stops fails more (Damaged file place) ran = failed_front fails more (Damaged file place) tt ran
+    ends_by refuses stops fails more Memory ran = failed_front fails more Memory tt ran
 
     pub ends_front : ExecRefused all_meaning disk → ExecStopped all_meaning disk → ExecFailed all_meaning disk → done < n → (e : ExecErr) → HasRun all_meaning (disk mid) (disk new) between now op (Err e)
         → (r : Result ℕ ExecErr) → EndsSo done e r → AddsFront all_meaning p (disk old) (disk new) before now holds.world commands (steps p commands app n) (ending_of (result_err r))

@@ -1,14 +1,15 @@
 -- Courses of commands: one of them, two lists, and the objects that they log.
-use Rattle.std.proofs.Common.{◌≡◌, ◌∙◌, sym, subst, ap, ℕ, ◌+◌, true, List, [], ◌∷◌, ◌++◌, refl, append_assoc}
+use Rattle.std.proofs.Common.{◌≡◌, ◌∙◌, sym, subst, ap, ℕ, ◌+◌, ◌⊎◌, inl, inr, true, List, [], ◌∷◌, ◌++◌, length, length-append, take, refl, append_assoc, arith}
 use Rattle.std.specs.Prelude.{◌^◌, ◌&&◌, nat_le, nat_lt, IsTrue, IsFalse}
 use Rattle.std.proofs.lemmas.Bool.{both_ways, cond_both}
 use Rattle.oper_core.specs.Meaning.{Meaning}
 use Rattle.explain_core.specs.History.{commands_of}
 use Rattle.explain_core.specs.History.Member.{Command}
-use Rattle.explain_core.specs.RunLaws.{run-append}
+use Rattle.explain_core.specs.RunLaws.{Begins, run-append}
 use Rattle.explain_core.specs.StableLaws.{commands_of-append}
+use Rattle.explain_core.specs.Taken.{IsAfterSome, after_all, after_behind, after_longer}
 use Rattle.explain_core.specs.World.{World, Step, run, step, end_of}
-use Rattle.explain_core.specs.World.Step.{Append}
+use Rattle.explain_core.specs.World.Step.{Append, Block_gate}
 use Rattle.cache_manager.specs.CourseLaws.{behind_both, behind_stopped, behind_through, joined}
 use Rattle.cache_manager.specs.Courses.{Course, behind, course, force_steps, grown, is_through, logged_by, logged_in, waits}
 use Rattle.cache_manager.specs.Courses.Stop.{Through, Full, At_end}
@@ -22,6 +23,16 @@ use Rattle.command_lists.specs.Lists.{EndsBy, IsBehind, commands_course}
 logged-append : {O : Type 0} (xs ys : List (Step O)) → logged_in (xs ++ ys) ≡ logged_in xs ++ logged_in ys
 logged-append [] ys = refl
 logged-append (s ∷ xs) ys = ap (λ (l : List ℕ). logged_by s ++ l) (logged-append xs ys) ∙ sym (append_assoc (logged_by s) (logged_in xs) (logged_in ys))
+
+-- some first steps of a list without one, and of a list of one
+none_begins : {O : Type 0} (taken : List (Step O)) → Begins [] taken → taken ≡ []
+none_begins [] begins = refl
+none_begins {O} (s ∷ taken) begins = absurd (omega (arith, ap (λ (l : List (Step O)). length l) begins.split))
+
+one_begins : {O : Type 0} (s : Step O) (taken : List (Step O)) → Begins (s ∷ []) taken → (taken ≡ []) ⊎ (taken ≡ s ∷ [])
+one_begins s [] begins = inl refl
+one_begins {O} s (t ∷ []) begins = inr (sym (ap (λ (l : List (Step O)). take 1 l) begins.split))
+one_begins {O} s (t ∷ u ∷ rest) begins = absurd (omega (arith, ap (λ (l : List (Step O)). length l) begins.split))
 
 module _ {O : Type 0} (m : Meaning O) (limit : ℕ) (op : O) (w : World O) (used : ℕ) where
   abbrev one : Course O
@@ -53,6 +64,34 @@ module _ {O : Type 0} (m : Meaning O) (limit : ℕ) (op : O) (w : World O) (used
   commands_stopped running stopped =
       ap (λ (l : List (Step O)). commands_of (run m w l).history) (steps_stopped stopped)
       ∙ (run_upkept m w (force_steps m w) (upkeep_force m w) running.live running.alone).commands
+
+  -- some first steps of these after which there are as many commands as before: there are the same ones
+  abbrev pub IsSameWhereAsMany : List (Step O) → Type 0
+  IsSameWhereAsMany steps = (taken : List (Step O)) → Begins steps taken → length (commands_of (run m w taken).history) ≡ length (commands_of w.history) → commands_of (run m w taken).history ≡ commands_of w.history
+
+  pub same_none : IsSameWhereAsMany []
+  unfolding run
+  same_none taken begins as_many = ap (λ (l : List (Step O)). commands_of (run m w l).history) (none_begins taken begins)
+
+  same_gate : IsSameWhereAsMany (Block_gate ∷ [])
+  unfolding run step
+  same_gate taken begins as_many = elim (one_begins Block_gate taken begins) [
+    | inl none ↦ ap (λ (l : List (Step O)). commands_of (run m w l).history) none
+    | inr all ↦ ap (λ (l : List (Step O)). commands_of (run m w l).history) all
+  ]
+
+  same_force : IsSameWhereAsMany (force_steps m w)
+  same_force = cond_both (waits m w) _ _ (λ (l : List (Step O)). IsSameWhereAsMany l) (λ some. same_gate) (λ none. same_none)
+
+  same_append : IsSameWhereAsMany (Append (Command op) ∷ [])
+  unfolding run
+  same_append taken begins as_many = elim (one_begins (Append (Command op)) taken begins) [
+    | inl none ↦ ap (λ (l : List (Step O)). commands_of (run m w l).history) none
+    | inr all ↦ absurd (omega (arith, as_many, ap (λ (l : List (Step O)). length (commands_of (run m w l).history)) all, ap (λ (l : List O). length l) command_added, length-append (commands_of w.history) (op ∷ [])))
+  ]
+
+  pub same_commands : IsSameWhereAsMany one.steps
+  same_commands = by_placed (λ (c : Course O). IsSameWhereAsMany c.steps) (λ need. same_force) (λ number. same_force) (λ longer. same_append)
 
   -- it logs no object
   none_forced : logged_in (force_steps m w) ≡ []
@@ -115,6 +154,19 @@ module _ {O : Type 0} (m : Meaning O) (limit : ℕ) where
     used_is = is.used_is;
   }
 
+  -- the course of two lists, where the first is done
+  pub course_behind : (xs ys : List O) (w mid : World O) (used mid_used : ℕ) → EndsBy m w (whole xs w used) mid mid_used Done → whole (xs ++ ys) w used ≡ joined (whole xs w used) (whole ys mid mid_used)
+  course_behind xs ys w mid used mid_used first =
+      course_joined xs ys w used first.0 ∙ (λ i. joined (whole xs w used) (whole ys (sym first.1.world_is i) (sym first.1.used_is i)))
+
+  -- memory runs out behind the first list, whatever was to come
+  pub ends_short : (xs ys : List O) (w mid : World O) (used mid_used : ℕ) → EndsBy m w (whole xs w used) mid mid_used Done → EndsBy m w (whole (xs ++ ys) w used) mid mid_used Short
+  ends_short xs ys w mid used mid_used first =
+      let one = whole xs w used in
+      let two = whole ys mid mid_used in
+      subst (λ (c : Course O). IsAfterSome m (λ (v : World O). mid ≡ v) w c.steps) (sym (course_behind xs ys w mid used mid_used first))
+      (after_longer m (λ (v : World O). mid ≡ v) w one.steps two.steps (after_all m (λ (v : World O). mid ≡ v) w one.steps first.1.world_is))
+
   -- where the first list ends by its course, and the second, behind it, by its own, both end by theirs
   pub ends_joined : (xs ys : List O) (w mid now : World O) (used mid_used now_used : ℕ) (ending : Ending) → EndsBy m w (whole xs w used) mid mid_used Done
       → EndsBy m mid (whole ys mid mid_used) now now_used ending → EndsBy m w (whole (xs ++ ys) w used) now now_used ending
@@ -127,7 +179,7 @@ module _ {O : Type 0} (m : Meaning O) (limit : ℕ) where
       two = whole ys mid mid_used
 
       both : whole (xs ++ ys) w used ≡ joined one two
-      both = course_joined xs ys w used first.0 ∙ (λ i. joined one (whole ys (sym first.1.world_is i) (sym first.1.used_is i)))
+      both = course_behind xs ys w mid used mid_used first
 
       after : IsBehind m mid two now now_used → IsBehind m w (whole (xs ++ ys) w used) now now_used
       after is = subst (λ (c : Course O). IsBehind m w c now now_used) (sym both) (behind_joined one two w mid now now_used first.1.world_is is)
@@ -135,5 +187,7 @@ module _ {O : Type 0} (m : Meaning O) (limit : ℕ) where
       by_ending : (e : Ending) → EndsBy m mid two now now_used e → EndsBy m w (whole (xs ++ ys) w used) now now_used e
       by_ending Done second = (ap (λ (c : Course O). c.stop) both ∙ second.0, after second.1)
       by_ending (Stopped stop) second = (ap (λ (c : Course O). c.stop) both ∙ second.0, after second.1)
-      by_ending Short second = tt
+      by_ending Short second =
+          subst (λ (c : Course O). IsAfterSome m (λ (v : World O). now ≡ v) w c.steps) (sym both)
+          (after_behind m (λ (v : World O). now ≡ v) w one.steps two.steps (subst (λ (u : World O). IsAfterSome m (λ (v : World O). now ≡ v) u two.steps) first.1.world_is second))
       by_ending Failed second = tt

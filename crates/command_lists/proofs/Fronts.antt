@@ -4,6 +4,7 @@ use Rattle.std.proofs.Math.Seq.{drop-append-add, take-append-add, take-length}
 use Rattle.std.proofs.lemmas.List.{append-nil, take-append-le}
 use Rattle.disk_model.specs.Disk.{Files, Disk, IsDisk, LeavesOnly, Passes, Stays}
 use Rattle.disk_model.specs.Moments.{goes_on, passes_twice, runs_on, weaker}
+use Rattle.disk_model.specs.Silent.{IsSilent}
 use Rattle.oper_core.specs.Meaning.{Meaning}
 use Rattle.oper_core.specs.declared.bounds.Bounds.{Bounds}
 use Rattle.formats.specs.declared.params.Params.{Params}
@@ -11,14 +12,16 @@ use Rattle.log_frames.specs.LogView.{used_of}
 use Rattle.log_records.specs.RecordLog.{RecordLogView}
 use Rattle.explain_core.specs.History.{commands_of}
 use Rattle.explain_core.specs.World.{World}
+use Rattle.standing.specs.Moments.{ShowsSome, TakesSome, moments_longer, moments_twice}
 use Rattle.standing.specs.Standing.{StandsFor}
-use Rattle.cache_manager.specs.Courses.{Stop}
+use Rattle.cache_manager.specs.CourseLaws.{joined}
+use Rattle.cache_manager.specs.Courses.{Course, Stop}
 use Rattle.cache_manager.specs.Taking.{Ending}
 use Rattle.cache_manager.specs.Taking.Ending.{Done, Stopped, Short, Failed}
 use Rattle.store_engine.specs.Engine.{EngineView, Between, ShowsIn, forced_in, used_in}
 use Rattle.store_engine.specs.Store.{meaning_in}
-use Rattle.command_lists.specs.Lists.{AddsFront, HasReached, IsStoppedAt}
-use Rattle.command_lists.proofs.Courses.{ends_joined}
+use Rattle.command_lists.specs.Lists.{AddsFront, HasReached, IsStoppedAt, commands_course}
+use Rattle.command_lists.proofs.Courses.{course_behind, ends_joined, ends_short}
 
 module _ {O : Type 0} (meaning : Bounds → Meaning O) (p : Params) where
   -- an image between some commands is one between more, since an earlier moment
@@ -65,6 +68,27 @@ module _ {O : Type 0} (meaning : Bounds → Meaning O) (p : Params) where
 
     abbrev reached_are : commands_of reached.world.history ≡ commands ++ front
     reached_are = reached.commands_are ∙ ap (λ (l : List O). commands ++ l) taken
+
+    -- its course, and what stands behind it
+    abbrev one : Course O
+    one = commands_course m p.limit front w (used_in before)
+
+    abbrev all_of : List O → Course O
+    all_of rest = commands_course m p.limit (front ++ rest) w (used_in before)
+
+    abbrev next : List O → Course O
+    next rest = commands_course m p.limit rest reached.world (used_in between)
+
+    behind_one : (rest : List O) → all_of rest ≡ joined one (next rest)
+    behind_one rest = course_behind m p.limit front rest w reached.world (used_in before) (used_in between) reached.ends
+
+    -- some first steps of it are some of a longer one
+    longer : (now : Disk) (rest : List O) → TakesSome m p old now w one.steps → TakesSome m p old now w (all_of rest).steps
+    longer now rest takes = subst (λ (c : Course O). TakesSome m p old now w c.steps) (sym (behind_one rest)) (moments_longer m p old now w one.steps (next rest).steps takes)
+
+    -- a machine that reads alone
+    still_takes : Stays mid new → old.tells_moments → TakesSome m p old new w one.steps
+    still_takes stays told = leaves_still old mid new (IsSilent (ShowsSome m p w one.steps) old.said) lawful_mid first.time stays told (first.takes told)
 
     risen : forced_in before ≤ forced_in between
     risen = ⊎_elim (λ failed. absurd failed) (λ rising. rising) first.rising
@@ -117,6 +141,10 @@ module _ {O : Type 0} (meaning : Bounds → Meaning O) (p : Params) where
             runs_on old mid new (Between meaning p old (forced_in before) (commands ++ take n (front ++ ops)))
             (leaves_more old old mid (forced_in before) (forced_in before) (commands ++ take first.done front) (take second.done ops) (commands ++ take n (front ++ ops)) refl (omega arith) first_added (first.images told))
             (leaves_more old mid new (forced_in between) (forced_in before) ((commands ++ front) ++ take second.done ops) [] (commands ++ take n (front ++ ops)) (quiet told) risen (append-nil ((commands ++ front) ++ take second.done ops) ∙ all_added) (second.images (first.time.moments_told.0 told)));
+        takes = λ told.
+            subst (λ (c : Course O). TakesSome m p old new w c.steps) (sym (behind_one ops))
+            (moments_twice m p old mid new w one.steps (next ops).steps (quiet told) (first.takes told)
+            (subst (λ (u : World O). TakesSome m p mid new u (next ops).steps) reached.ends.1.world_is (second.takes (first.time.moments_told.0 told))));
       }
 
     -- a call that reads alone, and after which engine and files show what they showed
@@ -137,6 +165,7 @@ module _ {O : Type 0} (meaning : Bounds → Meaning O) (p : Params) where
       stopped = first.stopped;
       identities = counted ∙ first.identities;
       images = λ told. leaves_still old mid new (Between meaning p old (forced_in before) (commands ++ take first.done front)) lawful_mid first.time stays told (first.images told);
+      takes = still_takes stays;
     }
 
     still_front : (rest : List O) → take first.done (front ++ rest) ≡ take first.done front
@@ -156,6 +185,7 @@ module _ {O : Type 0} (meaning : Bounds → Meaning O) (p : Params) where
       images = λ told.
           subst (λ (l : List O). LeavesOnly old new (Between meaning p old (forced_in before) (commands ++ l))) (sym (still_front rest))
           (leaves_still old mid new (Between meaning p old (forced_in before) (commands ++ take first.done front)) lawful_mid first.time stays told (first.images told));
+      takes = λ told. longer new rest (still_takes stays told);
     }
 
     -- memory runs out here, whatever would have come
@@ -169,10 +199,11 @@ module _ {O : Type 0} (meaning : Bounds → Meaning O) (p : Params) where
         world = reached.world;
         shows = reached.shows;
         commands_are = reached.commands_are ∙ ap (λ (l : List O). commands ++ l) (sym (still_front rest));
-        ends = tt;
+        ends = ends_short m p.limit front rest w reached.world (used_in before) (used_in between) reached.ends;
       });
       rising = inr risen;
       stopped = λ stop e. cc;
       identities = first.identities;
       images = λ told. subst (λ (l : List O). LeavesOnly old mid (Between meaning p old (forced_in before) (commands ++ l))) (sym (still_front rest)) (first.images told);
+      takes = λ told. longer mid rest (first.takes told);
     }

@@ -1,26 +1,34 @@
 -- What one command adds, by what `exec` says of it.
-use Rattle.std.proofs.Common.{◌≡◌, ◌∙◌, sym, subst, ap, ℕ, ◌≤◌, false, List, [], ◌∷◌, ◌++◌, refl, inl, inr, ◌⊎◌, ⊎_elim, Option, None, Some, arith}
+use Rattle.std.proofs.Common.{◌≡◌, ◌∙◌, sym, subst, ap, ℕ, ◌≤◌, false, List, [], ◌∷◌, ◌++◌, length, refl, inl, inr, ◌⊎◌, ⊎_elim, Option, None, Some, arith}
 use Rattle.std.specs.Prelude.{Result, Ok, Err}
 use Rattle.std.proofs.lemmas.List.{append-nil}
+use Rattle.std.proofs.Math.Path.{fun_ext}
 use Rattle.disk_model.specs.Disk.{Disk, LeavesOnly}
-use Rattle.oper_core.specs.Meaning.{Meaning}
+use Rattle.oper_core.specs.Meaning.{Meaning, refusal_of, state_after}
+use Rattle.oper_core.specs.State.{State}
 use Rattle.oper_core.specs.declared.bounds.Bounds.{Bounds}
 use Rattle.oper_core.specs.declared.refusal.Refusal.{Refusal}
 use Rattle.formats.specs.declared.params.Params.{Params}
 use Rattle.explain_core.specs.History.{commands_of}
-use Rattle.explain_core.specs.World.{World, Step, run}
+use Rattle.explain_core.specs.Sound.{IsSound}
+use Rattle.explain_core.specs.Taken.{IsAfterSome, after_longer}
+use Rattle.explain_core.specs.World.{World, IsLive, Step, run}
+use Rattle.standing.specs.Moments.{TakesSome, moments_longer}
+use Rattle.cache_manager.specs.CourseLaws.{behind_both}
 use Rattle.cache_manager.specs.Courses.{Course, Stop, course, is_through}
 use Rattle.cache_manager.specs.Courses.Stop.{Through, Full, At_end}
 use Rattle.cache_manager.specs.Taking.{Ending, Follows, IsAfter}
+use Rattle.cache_manager.specs.Parts.{Shows}
 use Rattle.cache_manager.specs.Taking.Ending.{Done, Stopped, Short, Failed}
+use Rattle.execution.specs.Counted.{accepted_shown}
 use Rattle.execution.specs.Courses.{append_course, exec_course, refusal_in, unless_refused}
 use Rattle.execution.specs.declared.exec_err.ExecErr.{ExecErr}
 use Rattle.execution.specs.declared.exec_err.ExecErr.TheVariants.{Refused, LogFull, LsnEnd, DiskFault, Damaged, Memory}
 use Rattle.store_engine.specs.Engine.{EngineView, Between, Holds, IsFailed, Kept, ShowsIn, forced_in, params_of, used_in}
-use Rattle.store_engine.specs.Store.{meaning_in}
-use Rattle.command_lists.specs.Lists.{AddsFront, EndsBy, HasReached, IsNeed, IsCutOff, IsStoppedAt, IsUnfinished, ending_of}
+use Rattle.store_engine.specs.Store.{meaning_in, refusal_after}
+use Rattle.command_lists.specs.Lists.{AddsFront, ComesNext, EndsBy, HasReached, IsNeed, IsCutOff, IsStoppedAt, IsUnfinished, commands_course, ending_of}
 use Rattle.command_lists.specs.Steps.{HasRun}
-use Rattle.command_lists.proofs.Courses.{commands_stopped, commands_through, course_of_one, course_stopped}
+use Rattle.command_lists.proofs.Courses.{IsSameWhereAsMany, commands_stopped, commands_through, course_of_one, course_stopped, same_commands, same_none}
 use Rattle.command_lists.proofs.Fronts.{leaves_more}
 
 -- what a call was stopped by
@@ -29,6 +37,10 @@ stop_of (Stopped stop) = stop
 stop_of Done = Through
 stop_of Short = Through
 stop_of Failed = Through
+
+-- in a sound live world the cache is the state after its commands
+abbrev pub IsLiveMap : {O : Type 0} → Meaning O → Type 0
+IsLiveMap {O} m = (w : World O) (x : ℕ) → IsSound m w → IsLive w → (w.cache x).value ≡ state_after m (commands_of w.history) x
 
 module _ {O : Type 0} (meaning : Bounds → Meaning O) (p : Params) (old new : Disk) (before after : EngineView) (w : World O) (shows : ShowsIn meaning p old before w) (commands : List O) (are : commands_of w.history ≡ commands) (op : O) where
   abbrev m : Meaning O
@@ -60,6 +72,10 @@ module _ {O : Type 0} (meaning : Bounds → Meaning O) (p : Params) (old new : D
     images_of : (more all : List O) → commands ++ more ≡ all → old.tells_moments → LeavesOnly old new (Between meaning p old (forced_in before) all)
     images_of more all is told = leaves_more meaning p old old new (forced_in before) (forced_in before) commands more all refl (omega arith) is (ran.images told p commands holds)
 
+    -- and show some first steps of its course
+    takes_of : (c : Course O) → exec_course m (params_of before).limit op w used ≡ c → old.tells_moments → TakesSome m p old new w c.steps
+    takes_of c is told = subst (λ (d : Course O). TakesSome m p old new w d.steps) is (ran.takes.moments told p w shows.shows)
+
     counted : after.identities ≡ before.identities
     counted = omega (arith, ran.call.identities)
 
@@ -88,6 +104,9 @@ module _ {O : Type 0} (meaning : Bounds → Meaning O) (p : Params) (old new : D
         stopped = λ stop e. cc;
         identities = counted (Ok n) ran;
         images = images_of (Ok n) ran (op ∷ []) (commands ++ op ∷ []) refl;
+        takes = λ told.
+            subst (λ (c : Course O). TakesSome m p old new w c.steps) (sym alone)
+            (subst (λ (l : List (Step O)). TakesSome m p old new w l) (sym (append-nil one.steps)) (takes_of (Ok n) ran one is told));
       }
 
   abbrev failed : ExecErr → Result ℕ ExecErr
@@ -118,12 +137,14 @@ module _ {O : Type 0} (meaning : Bounds → Meaning O) (p : Params) (old new : D
         stopped = λ stop e. cc;
         identities = counted (Err (Refused r)) ran;
         images = images_of (Err (Refused r)) ran [] (commands ++ []) refl;
+        takes = takes_of (Err (Refused r)) ran (course [] used Through) is;
       }
 
   -- whatever was to come, none is added
   adds_none : (e : ExecErr) → HasRun meaning old new before after op (Err e) → (ops : List O) (ending : Ending) → IsUnfinished ending → IsFailed ending ⊎ HasReached meaning p new after w used ops commands ending
-      → IsFailed ending ⊎ (forced_in before ≤ forced_in after) → ((stop : Stop) → ending ≡ Stopped stop → IsStoppedAt meaning p ops 0 stop) → AddsFront meaning p old new before after w commands ops ending
-  adds_none e ran ops ending unfinished kept rising stopped = record {
+      → IsFailed ending ⊎ (forced_in before ≤ forced_in after) → ((stop : Stop) → ending ≡ Stopped stop → IsStoppedAt meaning p ops 0 stop)
+      → (old.tells_moments → TakesSome m p old new w (commands_course m p.limit ops w used).steps) → AddsFront meaning p old new before after w commands ops ending
+  adds_none e ran ops ending unfinished kept rising stopped takes = record {
     time = ran.call.time;
     done = 0;
     front = omega arith;
@@ -133,6 +154,7 @@ module _ {O : Type 0} (meaning : Bounds → Meaning O) (p : Params) (old new : D
     stopped = stopped;
     identities = counted (Err e) ran;
     images = images_of (Err e) ran [] (commands ++ []) refl;
+    takes = takes;
   }
 
   -- the log stops the command
@@ -151,6 +173,14 @@ module _ {O : Type 0} (meaning : Bounds → Meaning O) (p : Params) (old new : D
         ends = subst (λ (c : Course O). EndsBy m w c (run m w one.steps) (used_in after) (Stopped stop)) (sym (course_stopped m p.limit op w used rest no)) here;
       }
 
+  -- whatever would have come behind it
+  stopped_course : (rest : List O) (stop : Stop) → is_through stop ≡ false → refusal_in m w op ≡ None → Follows m p new after.parts w (exec_course m (params_of before).limit op w used) (Stopped stop)
+      → exec_course m (params_of before).limit op w used ≡ commands_course m p.limit (op ∷ rest) w used
+  stopped_course rest stop ended none f =
+      let is = accepted_course none in
+      let no : is_through one.stop ≡ false = ap is_through (ap (λ (c : Course O). c.stop) (sym is) ∙ f.0) ∙ ended in
+      is ∙ sym (course_stopped m p.limit op w used rest no)
+
   pub ran_stopped : (rest : List O) (e : ExecErr) (stop : Stop) → HasRun meaning old new before after op (Err e) → ending_of (Some e) ≡ Stopped stop → AddsFront meaning p old new before after w commands (op ∷ rest) (Stopped stop)
   ran_stopped rest (Refused r) stop ran is = cc
   ran_stopped rest (LogFull held need limit) stop ran is =
@@ -158,23 +188,78 @@ module _ {O : Type 0} (meaning : Bounds → Meaning O) (p : Params) (old new : D
       let cause = ran.answers p w shows in
       subst (λ (s : Stop). AddsFront meaning p old new before after w commands (op ∷ rest) (Stopped s)) (ap stop_of is)
       (adds_none (LogFull held need limit) ran (op ∷ rest) (Stopped (Full held need limit)) tt (inr (stopped_here rest (Full held need limit) refl cause.0 (ran.takes.follows p w shows.shows) kept.holds.shows.unbroken)) (inr kept.rising)
-      (λ s at. record { op = op; rest = rest; here = refl; need = subst (λ (t : Stop). IsNeed meaning p op t) (ap stop_of at) (cause.3, cause.4) }))
+      (λ s at. record { op = op; rest = rest; here = refl; need = subst (λ (t : Stop). IsNeed meaning p op t) (ap stop_of at) (cause.3, cause.4) })
+      (takes_of (Err (LogFull held need limit)) ran (commands_course m p.limit (op ∷ rest) w used) (stopped_course rest (Full held need limit) refl cause.0 (ran.takes.follows p w shows.shows))))
   ran_stopped rest (LsnEnd number) stop ran is =
       let kept = kept_of (LsnEnd number) (λ e. cc) ran in
       let cause = ran.answers p w shows in
       subst (λ (s : Stop). AddsFront meaning p old new before after w commands (op ∷ rest) (Stopped s)) (ap stop_of is)
       (adds_none (LsnEnd number) ran (op ∷ rest) (Stopped (At_end number)) tt (inr (stopped_here rest (At_end number) refl cause.0 (ran.takes.follows p w shows.shows) kept.holds.shows.unbroken)) (inr kept.rising)
-      (λ s at. record { op = op; rest = rest; here = refl; need = subst (λ (t : Stop). IsNeed meaning p op t) (ap stop_of at) tt }))
+      (λ s at. record { op = op; rest = rest; here = refl; need = subst (λ (t : Stop). IsNeed meaning p op t) (ap stop_of at) tt })
+      (takes_of (Err (LsnEnd number)) ran (commands_course m p.limit (op ∷ rest) w used) (stopped_course rest (At_end number) refl cause.0 (ran.takes.follows p w shows.shows))))
   ran_stopped rest DiskFault stop ran is = cc
   ran_stopped rest (Damaged file place) stop ran is = cc
   ran_stopped rest Memory stop ran is = cc
 
-  pub ran_failed : (ops : List O) (e : ExecErr) → HasRun meaning old new before after op (Err e) → IsCutOff (ending_of (Some e)) → AddsFront meaning p old new before after w commands ops (ending_of (Some e))
-  ran_failed ops (Refused r) ran off = absurd off
-  ran_failed ops (LogFull held need limit) ran off = absurd off
-  ran_failed ops (LsnEnd number) ran off = absurd off
-  ran_failed ops DiskFault ran off = adds_none DiskFault ran ops Failed tt (inl tt) (inl tt) (λ stop e. cc)
-  ran_failed ops (Damaged file place) ran off = absurd (ran.answers p w shows)
-  ran_failed ops Memory ran off =
-      let kept = kept_of Memory (λ e. cc) ran in
-      adds_none Memory ran ops Short tt (inr (record { world = kept.holds.world; shows = kept.holds.shows; commands_are = kept.holds.commands_are; ends = tt })) (inr kept.rising) (λ stop e. cc)
+  -- what holds of the steps of its course, and of each longer list, holds of those of the commands that it comes first of
+  module _ (P : List (Step O) → Type 0) (longer : (xs ys : List (Step O)) → P xs → P (xs ++ ys)) (has : P (exec_course m (params_of before).limit op w used).steps) where
+    by_course : (c : Course O) → exec_course m (params_of before).limit op w used ≡ c → P c.steps
+    by_course c is = subst (λ (d : Course O). P d.steps) is has
+
+    of_any : (ops : List O) (r : Refusal) → refusal_in m w op ≡ Some r → P (commands_course m p.limit ops w used).steps
+    of_any ops r is = longer [] (commands_course m p.limit ops w used).steps (by_course (course [] used Through) (refused_course r is))
+
+    of_first : (more : List O) → P (commands_course m p.limit (op ∷ more) w used).steps
+    of_first more = by_refusal (refusal_in m w op) refl
+      where
+        rest : Course O
+        rest = commands_course m p.limit more (run m w one.steps) one.used
+
+        by_refusal : (o : Option Refusal) → refusal_in m w op ≡ o → P (commands_course m p.limit (op ∷ more) w used).steps
+        by_refusal None is = behind_both (λ (c : Course O). P c.steps) one rest one.stop (λ yes_through. longer one.steps rest.steps (by_course one (accepted_course is))) (λ not_through. by_course one (accepted_course is))
+        by_refusal (Some r) is = of_any (op ∷ more) r is
+
+  module _ (map : IsLiveMap m) where
+    -- what the map refuses the world refuses
+    refused_there : (r : Refusal) → refusal_after meaning p commands op ≡ Some r → refusal_in m w op ≡ Some r
+    refused_there r is =
+        ap (λ (s : State). refusal_of m s op) (fun_ext (λ (x : ℕ). map w x shows.shows.running.sound shows.shows.running.live))
+        ∙ ap (λ (l : List O). refusal_after meaning p l op) are ∙ is
+
+    -- so it is where it comes next, or is refused
+    of_next : (P : List (Step O) → Type 0) → ((xs ys : List (Step O)) → P xs → P (xs ++ ys)) → P (exec_course m (params_of before).limit op w used).steps
+        → (ops : List O) → ComesNext meaning p commands op ops → P (commands_course m p.limit ops w used).steps
+    of_next P longer has ops (inl refused) = of_any P longer has ops refused.0 (refused_there refused.0 refused.1)
+    of_next P longer has ops (inr next) = subst (λ (l : List O). P (commands_course m p.limit l w used).steps) (sym next.1) (of_first P longer has next.0)
+
+    takes_next : (r : Result ℕ ExecErr) → HasRun meaning old new before after op r → (ops : List O) → ComesNext meaning p commands op ops → old.tells_moments → TakesSome m p old new w (commands_course m p.limit ops w used).steps
+    takes_next r ran ops next told = of_next (λ (l : List (Step O)). TakesSome m p old new w l) (λ xs ys takes. moments_longer m p old new w xs ys takes) (ran.takes.moments told p w shows.shows) ops next
+
+    -- short of memory, it has taken some first steps, which add no command
+    short_here : (ops : List O) → ComesNext meaning p commands op ops → Kept meaning p before new after commands → IsAfterSome m (λ (v : World O). Shows m p new after.parts v) w (exec_course m (params_of before).limit op w used).steps
+        → HasReached meaning p new after w used ops commands Short
+    short_here ops next kept f = record {
+      world = run m w f.taken;
+      shows = record { unbroken = kept.holds.shows.unbroken; shows = f.holds };
+      commands_are = by_refusal (refusal_in m w op) refl ∙ are;
+      ends = of_next (λ (l : List (Step O)). IsAfterSome m (λ (v : World O). run m w f.taken ≡ v) w l) (λ xs ys is. after_longer m (λ (v : World O). run m w f.taken ≡ v) w xs ys is) (record { taken = f.taken; begins = f.begins; holds = refl }) ops next;
+    }
+      where
+        as_many : length (commands_of (run m w f.taken).history) ≡ length (commands_of w.history)
+        as_many =
+            let h = kept.holds in
+            omega (arith, accepted_shown m p new after.parts (run m w f.taken) f.holds, accepted_shown m p new after.parts h.world h.shows.shows, ap (λ (l : List O). length l) h.commands_are, ap (λ (l : List O). length l) are)
+
+        by_refusal : (o : Option Refusal) → refusal_in m w op ≡ o → commands_of (run m w f.taken).history ≡ commands_of w.history
+        by_refusal None is = subst (λ (c : Course O). IsSameWhereAsMany m p.limit op w used c.steps) (sym (accepted_course is)) (same_commands m p.limit op w used) f.taken f.begins as_many
+        by_refusal (Some r) is = subst (λ (c : Course O). IsSameWhereAsMany m p.limit op w used c.steps) (sym (refused_course r is)) (same_none m p.limit op w used) f.taken f.begins as_many
+
+    pub ran_failed : (ops : List O) (e : ExecErr) → HasRun meaning old new before after op (Err e) → ComesNext meaning p commands op ops → IsCutOff (ending_of (Some e)) → AddsFront meaning p old new before after w commands ops (ending_of (Some e))
+    ran_failed ops (Refused r) ran next off = absurd off
+    ran_failed ops (LogFull held need limit) ran next off = absurd off
+    ran_failed ops (LsnEnd number) ran next off = absurd off
+    ran_failed ops DiskFault ran next off = adds_none DiskFault ran ops Failed tt (inl tt) (inl tt) (λ stop e. cc) (takes_next (Err DiskFault) ran ops next)
+    ran_failed ops (Damaged file place) ran next off = absurd (ran.answers p w shows)
+    ran_failed ops Memory ran next off =
+        let kept = kept_of Memory (λ e. cc) ran in
+        adds_none Memory ran ops Short tt (inr (short_here ops next kept (ran.takes.follows p w shows.shows))) (inr kept.rising) (λ stop e. cc) (takes_next (Err Memory) ran ops next)

@@ -1,14 +1,22 @@
 -- Before the first call nothing is added.
 use Rattle.std.proofs.Common.{◌∙◌, sym, subst, ℕ, List, [], ◌++◌, refl, inr, arith}
 use Rattle.std.proofs.lemmas.List.{append-nil}
+use Rattle.std.proofs.Math.Path.{fun_ext}
 use Rattle.disk_model.specs.Disk.{Files, Disk, IsDisk}
 use Rattle.disk_model.specs.Moments.{passes_none, started}
+use Rattle.disk_model.specs.Silent.{IsSilent}
+use Rattle.disk_model.specs.declared.machine.FileNo.{FileNo}
 use Rattle.oper_core.specs.Meaning.{Meaning}
 use Rattle.oper_core.specs.declared.bounds.Bounds.{Bounds}
 use Rattle.formats.specs.declared.params.Params.{Params}
+use Rattle.explain_core.specs.Taken.{after_none}
 use Rattle.explain_core.specs.World.{run}
+use Rattle.standing.specs.Moments.{ShowsSome}
+use Rattle.standing.specs.Standing.{FilesShow}
+use Rattle.cache_manager.specs.Forced.{files_shown}
 use Rattle.cache_manager.specs.Taking.Ending.{Done}
 use Rattle.store_engine.specs.Engine.{EngineView, Between, Holds, Says, forced_in}
+use Rattle.store_engine.specs.Store.{meaning_in}
 use Rattle.command_lists.specs.Lists.{AddsFront}
 
 module _ {O : Type 0} (meaning : Bounds → Meaning O) (p : Params) (d : Disk) (engine : EngineView) (commands : List O) (holds : Holds meaning p d engine commands) (lawful : IsDisk d) (says : Says meaning p d engine commands) where
@@ -21,6 +29,16 @@ module _ {O : Type 0} (meaning : Bounds → Meaning O) (p : Params) (d : Disk) (
     within = says.forced;
     stands = says.images.1 told files said left;
   }
+
+  -- and it shows the world
+  shows_now : d.tells_moments → (files : Files) (said : List ℕ) → d.left_since d.clock files said → IsSilent (ShowsSome (meaning_in meaning p) p holds.world []) d.said files said
+  shows_now told files said left =
+      let shown = holds.shows.shows in
+      let m = meaning_in meaning p in
+      record {
+        silent = lawful.said_now told files said left;
+        holds = after_none m (FilesShow m p files) holds.world [] (subst (λ (f : Files). FilesShow m p f holds.world) (fun_ext (λ (n : FileNo). sym (shown.log.keeps.settled n told files said left))) (files_shown m p d engine.parts holds.world shown));
+      }
 
   pub front_none : AddsFront meaning p d d engine engine holds.world commands [] Done
   unfolding run
@@ -39,4 +57,5 @@ module _ {O : Type 0} (meaning : Bounds → Meaning O) (p : Params) (d : Disk) (
     stopped = λ stop e. cc;
     identities = refl;
     images = λ told. started d (Between meaning p d (forced_in engine) (commands ++ [])) (subst (λ (l : List O). (files : Files) (said : List ℕ) → d.left_since d.clock files said → Between meaning p d (forced_in engine) l files said) (sym (append-nil commands)) (between_now told));
+    takes = λ told. started d (IsSilent (ShowsSome (meaning_in meaning p) p holds.world []) d.said) (shows_now told);
   }

@@ -13,7 +13,7 @@ use Rattle.cache_manager.specs.Taking.Ending.{Done, Stopped, Short}
 use Rattle.execution.specs.declared.exec_err.ExecErr.{ExecErr}
 use Rattle.execution.specs.declared.exec_err.ExecErr.TheVariants.{Refused}
 use Rattle.store_engine.specs.Engine.{EngineView, ShowsIn}
-use Rattle.command_lists.specs.Lists.{AddsFront, AreCalls, IsCutOff, ending_of}
+use Rattle.command_lists.specs.Lists.{AddsFront, AreCalls, ComesNext, IsCutOff, ending_of}
 use Rattle.command_lists.specs.Steps.{HasRun, HasFetched}
 
 module _ {O T : Type 0} (meaning : Bounds → Meaning O) (disk : T → Disk) where
@@ -40,11 +40,12 @@ module _ {O T : Type 0} (meaning : Bounds → Meaning O) (disk : T → Disk) whe
       → AddsFront meaning p (disk old) (disk mid) before between w commands front Done → HasRun meaning (disk mid) (disk new) between after op (Err e)
       → ending_of (Some e) ≡ Stopped stop → AddsFront meaning p (disk old) (disk new) before after w commands (front ++ op ∷ rest) (Stopped stop)
 
-  -- memory or the disk ends it at a command, whatever was to come, this one or none
+  -- memory or the disk ends it at a command, which comes next of those that were to come, or is refused
   abbrev pub ExecFailed : Type 0
   ExecFailed = (old mid new : T) (before between after : EngineView) (p : Params) (w : World O) (commands front : List O) (op : O) (rest : List O) (e : ExecErr)
       → AddsFront meaning p (disk old) (disk mid) before between w commands front Done → HasRun meaning (disk mid) (disk new) between after op (Err e)
-      → IsCutOff (ending_of (Some e)) → AddsFront meaning p (disk old) (disk new) before after w commands (front ++ rest) (ending_of (Some e))
+      → ComesNext meaning p (commands ++ front) op rest → IsCutOff (ending_of (Some e))
+      → AddsFront meaning p (disk old) (disk new) before after w commands (front ++ rest) (ending_of (Some e))
 
   -- an object is fetched, or there is none
   abbrev pub FetchDone : Type 0

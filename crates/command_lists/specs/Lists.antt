@@ -3,9 +3,12 @@ use Rattle.std.specs.Prelude.{◌≡◌, ◌⊎◌, ◌+◌, ◌≤◌, ⊤, ℕ
 use Rattle.disk_model.specs.Disk.{Disk, LeavesOnly, Passes}
 use Rattle.oper_core.specs.Meaning.{Meaning}
 use Rattle.oper_core.specs.declared.bounds.Bounds.{Bounds}
+use Rattle.oper_core.specs.declared.refusal.Refusal.{Refusal}
 use Rattle.formats.specs.declared.params.Params.{Params}
 use Rattle.explain_core.specs.History.{commands_of}
+use Rattle.explain_core.specs.Taken.{IsAfterSome}
 use Rattle.explain_core.specs.World.{World, run}
+use Rattle.standing.specs.Moments.{TakesSome}
 use Rattle.cache_manager.specs.Courses.{Course, Stop, and_then, course}
 use Rattle.cache_manager.specs.Courses.Stop.{Through, Full, At_end, Worn}
 use Rattle.cache_manager.specs.Taking.{Ending}
@@ -14,7 +17,7 @@ use Rattle.execution.specs.Courses.{append_course}
 use Rattle.execution.specs.declared.exec_err.ExecErr.{ExecErr}
 use Rattle.execution.specs.declared.exec_err.ExecErr.TheVariants.{Refused, LogFull, LsnEnd, DiskFault, Damaged, Memory}
 use Rattle.store_engine.specs.Engine.{EngineView, Between, IsAttached, IsCall, IsFailed, ShowsIn, forced_in, params_of, used_in}
-use Rattle.store_engine.specs.Store.{meaning_in, record_length}
+use Rattle.store_engine.specs.Store.{meaning_in, record_length, refusal_after}
 
 -- how a call ends that answers this error, or none: one that is refused has done all that it does
 abbrev pub ending_of : Option ExecErr → Ending
@@ -62,11 +65,12 @@ module _ {O : Type 0} (m : Meaning O) where
     pub world_is : now ≡ run m w c.steps
     pub used_is : used ≡ c.used
 
-  -- done or stopped, a call that ends so has taken the whole course, and the course says so; else nothing is said
+  -- Done or stopped, a call that ends so has taken the whole course, and the course says so; short of memory, it has taken
+  -- some first steps of it; after a fault nothing is said.
   abbrev pub EndsBy : World O → Course O → World O → ℕ → Ending → Type 0
   EndsBy w c now used Done = (c.stop ≡ Through) × IsBehind w c now used
   EndsBy w c now used (Stopped stop) = (c.stop ≡ stop) × IsBehind w c now used
-  EndsBy w c now used Short = ⊤
+  EndsBy w c now used Short = IsAfterSome m (λ v. now ≡ v) w c.steps
   EndsBy w c now used Failed = ⊤
 
 -- What holds on every machine of a call that runs commands and fetches objects, and answers this error or none: what holds
@@ -91,7 +95,11 @@ module _ {O : Type 0} (meaning : Bounds → Meaning O) (p : Params) where
     pub here : drop done ops ≡ op ∷ rest
     pub need : IsNeed op stop
 
-  -- engine and files show a world with these commands, and the course of the operations ended so, if it was followed
+  -- After the commands this command comes next of those that are to come, unless it is refused there.
+  abbrev pub ComesNext : List O → O → List O → Type 0
+  ComesNext commands op ops = ((refusal : Refusal) × (refusal_after meaning p commands op ≡ Some refusal)) ⊎ ((more : List O) × (ops ≡ op ∷ more))
+
+  -- engine and files show a world with these commands, so far along the course of the operations as the call's end says
   pub record HasReached (d : Disk) (engine : EngineView) (w : World O) (used : ℕ) (ops commands : List O) (ending : Ending) : Type 0 where
     pub world : World O
     pub shows : ShowsIn meaning p d engine world
@@ -101,7 +109,7 @@ module _ {O : Type 0} (meaning : Bounds → Meaning O) (p : Params) where
   -- A call on an engine and files that show the world, which has these commands, was to add the operations to them, one
   -- after the other, and has added the first `done`: all of them where it is done. Unless the disk failed, engine and files
   -- then show a world that has these too, and no fewer commands are forced. A crash at any moment of it leaves a front of
-  -- them, with at least those that were forced.
+  -- them, with at least those that were forced, and the world after some first steps of their course.
   pub record AddsFront (old new : Disk) (before after : EngineView) (w : World O) (commands ops : List O) (ending : Ending) : Type 0 where
     pub time : Passes old new
     pub done : ℕ
@@ -112,3 +120,4 @@ module _ {O : Type 0} (meaning : Bounds → Meaning O) (p : Params) where
     pub stopped : (stop : Stop) → ending ≡ Stopped stop → IsStoppedAt ops done stop
     pub identities : after.identities ≡ before.identities
     pub images : old.tells_moments → LeavesOnly old new (Between meaning p old (forced_in before) (commands ++ take done ops))
+    pub takes : old.tells_moments → TakesSome (meaning_in meaning p) p old new w (commands_course (meaning_in meaning p) p.limit ops w (used_in before)).steps

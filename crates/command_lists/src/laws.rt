@@ -23,13 +23,15 @@ pub fn nothing_is_made<O: Oper, M: Machine>(machine: &M, engine: &Engine<O>)
 }
 
 /// A command behind others: one more is done, or it is refused and nothing is added, or the log stops it, whatever would have
-/// come behind it, or memory or the disk ends it there, whatever was to come.
+/// come behind it, or memory or the disk ends it there, where it comes next or is refused.
 pub fn exec_goes_on<O: Oper, M: Machine>()
     ensures done { ExecDone O.meaning M.disk }
     ensures refused { ExecRefused O.meaning M.disk }
     ensures stopped { ExecStopped O.meaning M.disk }
     ensures failed { ExecFailed O.meaning M.disk }
-{}
+{
+    explain_core::live_cache_is_the_map::<O>();
+}
 
 /// An object is fetched behind commands, or there is none, and nothing is added; or the fetch fails, or memory runs out in
 /// between, whatever was to come.

@@ -2,6 +2,7 @@
 use Rattle.std.proofs.Common.{◌≡◌, ◌≤◌, ◌<◌, refl, sym, ap, ◌∙◌, subst, inl, inr, ℕ, Option, None, Some, Result, Ok, Err, List, [], ◌∷◌, ◌++◌, map}
 use Rattle.std.specs.Prelude.{nat_le}
 use Rattle.std.proofs.lemmas.Bool.{cases_lt, cond-true, cond-false, le-leb, lt-leb}
+use Rattle.std.proofs.lemmas.List.{append-nil}
 use Rattle.disk_model.specs.Disk.{Disk}
 use Rattle.oper_core.specs.declared.refusal.Refusal.{Refusal}
 use Rattle.oper_core.specs.declared.refusal.Refusal.TheVariants.{TooLarge}
@@ -19,7 +20,8 @@ use Rattle.cache_manager.specs.Taking.Ending.{Done, Stopped}
 use Rattle.execution.specs.declared.exec_err.ExecErr.{ExecErr}
 use Rattle.execution.specs.declared.exec_err.ExecErr.TheVariants.{Refused, LogFull, LsnEnd, DiskFault, Damaged, Memory}
 use Rattle.store_engine.specs.Engine.{EngineView}
-use Rattle.command_lists.specs.Lists.{AddsFront, IsCutOff, ending_of}
+use Rattle.store_engine.specs.Store.{refusal_after}
+use Rattle.command_lists.specs.Lists.{AddsFront, ComesNext, IsCutOff, ending_of}
 use Rattle.command_lists.specs.Laws.{ExecDone, ExecRefused, ExecStopped, ExecFailed}
 use Rattle.command_lists.specs.Steps.{HasRun}
 use Rattle.tree_client.specs.Answers.{made_of, refused_of}
@@ -95,8 +97,15 @@ module _ {T : Type 0} (disk : T → Disk) (old new : T) (before after : EngineVi
           (stopped old old new before before after p w c [] (Node op) rest e stop start ran is)
     ]
 
+    -- in wide values it is the first that is to come, in narrow ones it is refused
+    comes_next : (rest : List Command) → ComesNext all_meaning p (c ++ []) (Node op) (made_of p.cap (op ∷ []) ++ rest)
+    comes_next rest = elim (cases_lt p.cap 1024) [
+      | inl narrow ↦ inl (TooLarge, ap (λ (l : List Command). refusal_after all_meaning p l (Node op)) (append-nil c) ∙ due.narrow narrow)
+      | inr wide ↦ inr (rest, ap (λ (l : List Command). l ++ rest) (made_wide p.cap (op ∷ []) wide))
+    ]
+
     adds_cut : (e : ExecErr) → Ran (Err e) → IsCutOff (ending_of (Some e)) → (rest : List Command) → Front (made_of p.cap (op ∷ []) ++ rest) (ending_of (Some e))
-    adds_cut e ran is rest = failed old old new before before after p w c [] (Node op) (made_of p.cap (op ∷ []) ++ rest) e start ran is
+    adds_cut e ran is rest = failed old old new before before after p w c [] (Node op) (made_of p.cap (op ∷ []) ++ rest) e start ran (comes_next rest) is
 
     pub adds_err : (e : ExecErr) → Ran (Err e) → Adds (disk old) (disk new) before after p w (made_of p.cap (op ∷ [])) (Some e)
     adds_err (Refused r) ran rest ended = adds_refused r ran rest (ended refl)

@@ -1,5 +1,6 @@
 use Rattle.std.proofs.Common.{[], ◌∷◌, ◌++◌, List, subst}
 use Rattle.std.proofs.lemmas.List.{append-nil}
+use Rattle.formats.specs.Objects.{bounds_of}
 use Rattle.cache_manager.specs.Taking.Ending.{Done, Stopped}
 use Rattle.std.specs.Prelude.{Some}
 use Rattle.command_lists.specs.Lists.{AddsFront, ending_of}
@@ -19,7 +20,8 @@ returns g c = record {
   stopped = λ old mid new before between after p w commands front op rest e stop first ran is.
       front_joined g.O.Oper.meaning p (g.M.Machine.disk old) (g.M.Machine.disk mid) (g.M.Machine.disk new) before between after w commands front (g.met.M.Machine.lawful mid) (g.met.M.Machine.lawful new) first (op ∷ rest) (Stopped stop)
       (λ v shows are. ran_stopped g.O.Oper.meaning p (g.M.Machine.disk mid) (g.M.Machine.disk new) between after v shows (commands ++ front) are op rest e stop ran is);
-  failed = λ old mid new before between after p w commands front op rest e first ran off.
+  failed = λ old mid new before between after p w commands front op rest e first ran next off.
       front_joined g.O.Oper.meaning p (g.M.Machine.disk old) (g.M.Machine.disk mid) (g.M.Machine.disk new) before between after w commands front (g.met.M.Machine.lawful mid) (g.met.M.Machine.lawful new) first rest (ending_of (Some e))
-      (λ v shows are. ran_failed g.O.Oper.meaning p (g.M.Machine.disk mid) (g.M.Machine.disk new) between after v shows (commands ++ front) are op rest e ran off);
+      (λ v shows are.
+      ran_failed g.O.Oper.meaning p (g.M.Machine.disk mid) (g.M.Machine.disk new) between after v shows (commands ++ front) are op (λ w x. c.live_cache_is_the_map.ensures (bounds_of p) w x) rest e ran next off);
 }
