@@ -15,7 +15,7 @@ use Rattle.formats.specs.declared.params.Params.{Params}
 use Rattle.log_frames.specs.Creating.{LogsAlone, IsNewLog}
 use Rattle.log_frames.specs.Laws.{log_stays}
 use Rattle.stable_objects.specs.Making.{IsClosedFile, IsNewFile, IsClosedOrWhole}
-use Rattle.store_engine.specs.Engine.{InEachImage, IsNew}
+use Rattle.store_engine.specs.Engine.{InEachImage, IsNew, IsNewStore}
 use Rattle.restart.specs.Starts.{OrAtStart, then_leaves}
 use Rattle.store_engine.specs.Store.{Stands}
 
@@ -133,8 +133,9 @@ module _ {O : Type 0} (meaning : Bounds → Meaning O) (p : Params) (stands_new 
 
   -- a store that is laid out is there after each crash
   pub laid_out : (third fourth : Disk) → third.tells_files → IsSettled fourth → Runs (In Objects Any) Same third fourth → IsNewFile p (fourth.reads Objects)
-      → IsNewLog third.reads → InEachImage fourth (λ files. Stands meaning p files [])
+      → IsNewLog third.reads → InEachImage fourth (IsNewStore meaning p)
   laid_out third fourth told_third settled run objects log =
-      let here = stands_new fourth.reads objects (log_stays _ new_header [] Any third.reads fourth.reads (run.reads told_third) log) in
+      let new_log = log_stays _ new_header [] Any third.reads fourth.reads (run.reads told_third) log in
+      let here : IsNewStore meaning p fourth.reads = record { objects = objects; log = new_log; stands = stands_new fourth.reads objects new_log } in
       let image_is : fourth.tells_moments → (files : Files) (said : List ℕ) → fourth.left_since fourth.clock files said → files ≡ fourth.reads = λ told files said left i file. settled file told files said left i in
-      (here, λ told files said left. subst (λ (f : Files). Stands meaning p f []) (sym (image_is told files said left)) here)
+      (here, λ told files said left. subst (λ (f : Files). IsNewStore meaning p f) (sym (image_is told files said left)) here)

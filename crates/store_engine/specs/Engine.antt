@@ -9,8 +9,10 @@ use Rattle.formats.specs.Image.{BeginsStore, EndsAt, NextIs}
 use Rattle.formats.specs.InForce.{HasHeader, IsInForce}
 use Rattle.formats.specs.Log.{Header}
 use Rattle.formats.specs.declared.params.Params.{Params}
+use Rattle.log_frames.specs.Creating.{IsNewLog}
 use Rattle.log_frames.specs.LogView.{used_of}
 use Rattle.log_records.specs.RecordLog.{RecordLogView}
+use Rattle.stable_objects.specs.Making.{IsNewFile}
 use Rattle.dirty_cache.specs.Contents.{held}
 use Rattle.install_order.specs.Computed.{least_below}
 use Rattle.install_order.specs.declared.entry.Entry.{Entry}
@@ -216,6 +218,13 @@ module _ {O : Type 0} (meaning : Bounds → Meaning O) where
   pub record Opens (p : Params) (d : Disk) (commands : List O) : Type 0 where
     pub told : d.tells_files
     pub stands : Stands meaning p d.reads commands
+
+  -- The files are those of a new store, byte by byte but for what is free: no object has been written, and the log, in log A
+  -- and of the first epoch, has no block. So they stand for no commands.
+  pub record IsNewStore (p : Params) (files : Files) : Type 0 where
+    pub objects : IsNewFile p (files Objects)
+    pub log : IsNewLog files
+    pub stands : Stands meaning p files []
 
   -- no store is there, or one without commands
   abbrev pub IsNew : Params → Files → Type 0

@@ -1,12 +1,11 @@
 // A new store is laid out.
-ghost use Rattle.std.specs.Prelude.{◌≡◌, [], OnOk, IsErrOf};
+ghost use Rattle.std.specs.Prelude.{◌≡◌, OnOk, IsErrOf};
 ghost use Rattle.disk_model.specs.Disk.{Rises, Passes, Stays, LeavesOnly, IsSettled};
 ghost use Rattle.disk_model.specs.declared.machine.FileNo.TheVariants.{Objects};
 ghost use Rattle.formats.specs.Objects.{IsInRange};
 ghost use Rattle.formats.specs.Image.{BeginsStore};
-ghost use Rattle.store_engine.specs.Engine.{InEachImage, IsNew};
+ghost use Rattle.store_engine.specs.Engine.{InEachImage, IsNew, IsNewStore};
 ghost use Rattle.restart.specs.Starts.{OrAtStart};
-ghost use Rattle.store_engine.specs.Store.{Stands};
 
 use crate::Engine;
 use crate::init_err::InitErr;
@@ -23,7 +22,7 @@ impl<O: Oper> Engine<O> {
         requires { IsInRange params }
         ensures time { Passes (M.disk machine.old) (M.disk machine.new) }
         ensures quiet { (M.disk machine.old).tells_files → (M.disk machine.new).said ≡ (M.disk machine.old).said }
-        ensures ok { (M.disk machine.old).tells_files → OnOk result (InEachImage (M.disk machine.new) (λ files. Stands O.meaning params files [])) }
+        ensures ok { (M.disk machine.old).tells_files → OnOk result (InEachImage (M.disk machine.new) (IsNewStore O.meaning params)) }
         ensures settled { OnOk result (IsSettled (M.disk machine.new)) }
         ensures already { (M.disk machine.old).tells_files → IsErrOf result InitErr.AlreadyStore → BeginsStore ((M.disk machine.old).reads Objects) }
         // Each image then begins a store.
