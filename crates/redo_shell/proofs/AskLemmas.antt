@@ -10,6 +10,8 @@ use Rattle.formats.specs.declared.params.Params.{Params}
 use Rattle.oper_core.specs.State.{State}
 use Rattle.op_codec.specs.AllOps.{all_meaning}
 use Rattle.explain_core.specs.World.{World, run}
+use Rattle.cache_manager.specs.Courses.{course}
+use Rattle.cache_manager.specs.Courses.Stop.{Through}
 use Rattle.cache_manager.specs.Taking.{Ending}
 use Rattle.cache_manager.specs.Taking.Ending.{Done, Stopped, Short, Failed}
 use Rattle.command_lists.specs.Lists.{AddsFront, ending_of}
@@ -22,7 +24,7 @@ use Rattle.logical_btree.specs.declared.refusal.TreeRefusal.TheVariants.{NoObjec
 use Rattle.execution.specs.declared.exec_err.ExecErr.{ExecErr}
 use Rattle.script_lines.specs.Grammar.{Request, tget, trange, AsksFor}
 use Rattle.script_lines.specs.Replies.{Reply, value, pairs, forced, refused, bad_tree, pairs_reply}
-use Rattle.store_engine.specs.Engine.{EngineView, IsFailed, forced_in}
+use Rattle.store_engine.specs.Engine.{EngineView, IsFailed, forced_in, used_in}
 use Rattle.store_engine.specs.Engine as of_engine
 use Rattle.redo_shell.specs.Found.{IsAsked, IsEndedBy, reply_in}
 use Rattle.redo_shell.specs.Made.{AsksTree, found_reply, range_reply, tree_answer}
@@ -33,6 +35,7 @@ use Rattle.redo_shell.specs.Store.{Between, Command, Holds, Kept, Says, meaning_
 use Rattle.redo_shell.specs.declared.asking.Found.{Found}
 use Rattle.redo_shell.specs.declared.stop.Stop.{Stop as Early}
 use Rattle.redo_shell.proofs.ListLemmas.{not_early}
+use Rattle.redo_shell.proofs.MomentLemmas.{Works, works_by}
 use Rattle.redo_shell.proofs.RunLemmas.{asks_values, found_read, none_more, run_nothing}
 use Rattle.redo_shell.proofs.UpkeepLemmas.{IsOk}
 
@@ -150,3 +153,7 @@ module _ {p : Params} {old now : Disk} {before after : EngineView} {commands : L
       let a = u.adds p commands holds in
       weaker old now (Between p old (forced_in before) (commands ++ take a.done [])) (Working p old (forced_in before) commands line) (a.images told)
       (λ f s b. record { added = take a.done []; front = inl (take-nil a.done); between = b })
+
+  -- no step is taken
+  pub asked_works : Works p old now (stage_of before holds.world) line
+  asked_works = works_by p old now (stage_of before holds.world) line (course [] (used_in before) Through) (inr (inr refl)) (u.adds p commands holds).takes

@@ -1,21 +1,25 @@
 -- What a line asks for is done, and what the images of the moment then say.
-use Rattle.std.proofs.Common.{◌≡◌, ◌∙◌, ap, sym, subst, refl, ◌⊎◌, inl, inr, ⊎_elim, ◌≤◌, ◌<◌, ◌+◌, ◌-◌, ◌^◌, ◌++◌, ℕ, Bool, List, [], ◌∷◌, length, length-append, take, arith, Result, Ok, Err, IfOk, Some, None, false}
+use Rattle.std.proofs.Common.{◌≡◌, ◌∙◌, ap, sym, subst, refl, ◌⊎◌, inl, inr, ⊎_elim, ◌≤◌, ◌<◌, ◌+◌, ◌-◌, ◌^◌, ◌++◌, ℕ, Bool, List, [], ◌∷◌, length, length-append, take, arith, Result, Ok, Err, IfOk, Option, Some, None, false}
 use Rattle.std.specs.Result.{IsErrOf}
 use Rattle.std.specs.Prelude.{⊤, ◌&&◌, true, nat_lt, nat_le, if◌then◌else◌}
 use Rattle.std.proofs.lemmas.Bool.{cond_both, false_from_ne_true}
 use Rattle.std.proofs.lemmas.List.{append-nil, length-take-le}
+use Rattle.std.proofs.Math.Path.{fun_ext}
 use Rattle.disk_model.specs.Disk.{Files, Disk}
 use Rattle.disk_model.specs.declared.machine.FileNo.{FileNo}
-use Rattle.oper_core.specs.Meaning.{Meaning}
+use Rattle.oper_core.specs.Meaning.{Meaning, refusal_of, state_after}
+use Rattle.oper_core.specs.State.{State}
 use Rattle.oper_core.specs.declared.refusal.Refusal.{Refusal}
 use Rattle.formats.specs.Image.{NextIs}
 use Rattle.formats.specs.declared.params.Params.{Params}
 use Rattle.op_codec.specs.AllOps.{all_meaning}
 use Rattle.explain_core.specs.History.{commands_of}
 use Rattle.explain_core.specs.History.Member.{Command as Logged_command}
+use Rattle.explain_core.specs.Sound.{IsSound}
 use Rattle.explain_core.specs.StableLaws.{commands_of-append}
 use Rattle.explain_core.specs.World.{World, Step, step, run, end_of, IsLive, NoGroup}
 use Rattle.explain_core.specs.World.Step.{Append}
+use Rattle.standing.specs.Moments.{TakesSome}
 use Rattle.cache_manager.specs.Appended.{next_number}
 use Rattle.cache_manager.specs.Courses.{Course, Stop, course, placed, grown, force_steps, force_course, logged_in}
 use Rattle.cache_manager.specs.Courses.Stop.{Through, Full, At_end, Worn}
@@ -42,9 +46,11 @@ use Rattle.redo_shell.specs.Found.{EndsAtLast, IsStopped, IsOfEngine, IsDone, Is
 use Rattle.redo_shell.specs.Replies.{AsksCommand, Replies, IsUpkeep, IsLast, IsTrueIn}
 use Rattle.redo_shell.specs.Made.{Made, made, AsksMade, AsksBehind}
 use Rattle.redo_shell.specs.Run.{IsFound}
+use Rattle.redo_shell.specs.Courses.{IsDue}
 use Rattle.redo_shell.specs.Stages.{Stage, HasCourse, Ends, GoesBy, stage_of, stage_after, upkeep_course}
 use Rattle.redo_shell.specs.Store.{Command, meaning_in, record_length, refusal_after, HasCause, Stands, ShowsIn, Says, Holds, Kept}
 use Rattle.redo_shell.specs.declared.stop.Stop.{Stop as Early}
+use Rattle.redo_shell.proofs.MomentLemmas.{Works, works_by}
 use Rattle.redo_shell.proofs.RunLemmas.{leads_on}
 use Rattle.redo_shell.proofs.MadeLemmas.{made_unless, made_ends, number_ends, worn_ends, is_numbered, worn_numbered, one_course}
 use Rattle.redo_shell.proofs.CourseLemmas.{may_stop, are_upkeep, logged_force, logged_placed}
@@ -118,6 +124,10 @@ more_none b is = omega (arith, is)
 -- engine and files show the world after the course
 shows_after : {p : Params} {now : Disk} {after : EngineView} {v : World Command} → (after.broken ≡ true → ⊥) → Shows (meaning_in p) p now after.parts v → ShowsIn p now after v
 shows_after {after = after} working shows = record { unbroken = false_from_ne_true after.broken working; shows = shows }
+
+-- in a sound live world the cache is the state after its commands
+abbrev pub IsLiveMap : Meaning Command → Type 0
+IsLiveMap m = (w : World Command) (x : ℕ) → IsSound m w → IsLive w → (w.cache x).value ≡ state_after m (commands_of w.history) x
 
 -- What a call on an engine says of a command.
 pub record IsExec (p : Params) (old now : Disk) (before after : EngineView) (w : World Command) (commands : List Command) (op : Command) (result : Result ℕ ExecErr) : Type 0 where
@@ -282,6 +292,27 @@ module _ (p : Params) (old now : Disk) (before after : EngineView) (commands : L
         is_of = let asked = one e.exactly in (asked.request, asked.asks, made_ends p commands (made (op ∷ []) ok) after number asked.request asked.makes ((params_of before).limit, numbers));
       }
 
+  -- what is done while the command is run is of the course that the line has
+  pub exec_works : IsLiveMap m → (old.tells_moments → TakesSome m p old now w (exec_course m (params_of before).limit op w (used_in before)).steps) → Works p old now (stage_of before w) line
+  exec_works map takes = by_refusal (refusal_in m w op) refl
+    where
+      same : refusal_in m w op ≡ refusal_after p commands op
+      same =
+          ap (λ (s : State). refusal_of m s op) (fun_ext (λ (x : ℕ). map w x holds.shows.shows.running.sound holds.shows.shows.running.live))
+          ∙ ap (λ (l : List Command). refusal_after p l op) holds.commands_are
+
+      by_course : (c : Course Command) → IsDue p (stage_of before w) (line ∷ []) c → exec_course m (params_of before).limit op w (used_in before) ≡ c → Works p old now (stage_of before w) line
+      by_course c due is = works_by p old now (stage_of before w) line c due (λ told. subst (λ (d : Course Command). TakesSome m p old now w d.steps) is (takes told))
+
+      by_refusal : (o : Option Refusal) → refusal_in m w op ≡ o → Works p old now (stage_of before w) line
+      by_refusal None none = by_course its (inl (inl (made (op ∷ []) ok, asks_in holds (one (sym same ∙ none)), sym (one_course m p.limit op w (used_in before))))) (accepted_course p before w op params none)
+      by_refusal (Some why) is = by_course (course [] (used_in before) Through) (inr (inr refl)) (refused_course p before w op why params is)
+
+pub force_works : {p : Params} {old now : Disk} {before : EngineView} {commands : List Command} {line : List ℕ} → (holds : Holds p old before commands) → AsksFor line force
+    → (old.tells_moments → TakesSome (meaning_in p) p old now holds.world (force_course (meaning_in p) holds.world (used_in before)).steps) → Works p old now (stage_of before holds.world) line
+force_works {p} {old} {now} {before} {commands} {line} holds asks takes =
+    works_by p old now (stage_of before holds.world) line (force_course (meaning_in p) holds.world (used_in before)) (inr (inl (asks, refl))) takes
+
 -- a force that is done
 pub force_done : {p : Params} {old now : Disk} {before after : EngineView} {commands : List Command} {line : List ℕ} (n : ℕ) → (holds : Holds p old before commands) → AsksFor line force
     → IsCall log_limit old now before after 0 Done → Follows (meaning_in p) p now after.parts holds.world (force_course (meaning_in p) holds.world (used_in before)) Done
@@ -381,6 +412,9 @@ module _ (p : Params) (old now : Disk) (before after : EngineView) (commands : L
 
   pub upkeep_done : IfOk result (λ answer. IsDone p old now before after holds.world commands line (reply_of answer))
   upkeep_done = by_ending u.ending result u.answered u.call (u.takes.follows p holds.world holds.shows.shows) u.commands
+
+  pub upkeep_works : Works p old now (stage_of before start) line
+  upkeep_works = works_by p old now (stage_of before start) line way (inl (inr (inl (request, u.epoch, of_kind, asks, refl)))) (λ told. u.takes.moments told p start holds.shows.shows)
 
 -- what holds of a call that did not fail with the disk
 pub still_attached : {old new : Disk} {before after : EngineView} {most n : ℕ} {ending : Ending} → IsCall most old new before after n ending → (IsFailed ending → ⊥) → IsAttached old before → IsAttached new after

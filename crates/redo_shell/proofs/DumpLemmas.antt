@@ -1,6 +1,8 @@
 -- What a dump says, row by row, and what its moments leave.
-use Rattle.std.proofs.Common.{inr, ◌≡◌, ◌≢◌, ◌<◌, ◌+◌, ◌++◌, List, ℕ, suc, [], ◌∷◌, length, take, sym, ap, ◌∙◌, subst, arith}
+use Rattle.std.proofs.Common.{inl, inr, ◌≡◌, ◌≢◌, ◌<◌, ◌+◌, ◌++◌, List, ℕ, suc, [], ◌∷◌, length, take, sym, ap, ◌∙◌, subst, arith}
 use Rattle.std.proofs.lemmas.List.{append-nil, take_all}
+use Rattle.std.proofs.Math.Path.{fun_ext}
+use Rattle.disk_model.specs.declared.machine.FileNo.{FileNo}
 use Rattle.std.proofs.lemmas.List.Concat.{flat_map-append}
 use Rattle.std.specs.List.{flat_map}
 use Rattle.disk_model.specs.Disk.{Files, Disk, IsDisk, IsSettled, Runs, Stays, Same, SaysFront, LeavesOnly}
@@ -8,9 +10,14 @@ use Rattle.disk_model.specs.Moments.{first_call, runs_on, weaker}
 use Rattle.formats.specs.declared.params.Params.{Params}
 use Rattle.oper_core.specs.State.{State}
 use Rattle.script_lines.specs.Replies.{object_value, command_count, said_line}
+use Rattle.standing.specs.Standing.{FilesShow}
+use Rattle.cache_manager.specs.Forced.{files_shown}
 use Rattle.restart.specs.Starts.{OrAtStart, or_weaker, from_settled}
 use Rattle.store_engine.specs.Engine.{EngineView, InEachImage, forced_in}
-use Rattle.redo_shell.specs.Store.{Command, Stands, Opens, state_of, Holds, Between}
+use Rattle.redo_shell.specs.Store.{Command, meaning_in, Stands, Opens, state_of, Holds, Between}
+use Rattle.redo_shell.specs.Courses.{OpeningMoment, TableMoment}
+use Rattle.redo_shell.specs.Open.{IsOpen, OpensFiles}
+use Rattle.redo_shell.specs.Stages.{Stage, IsFirst, stage_of}
 use Rattle.redo_shell.specs.Calls.{IsDumpOn}
 use Rattle.redo_shell.specs.Dump.{row_of, rows_below, dump_of, DumpMoment}
 use Rattle.redo_shell.specs.Keeps.{KeepsFiles}
@@ -121,12 +128,33 @@ dump_stands p mid new engine commands h all keeps settled =
     let here : Stands p mid.reads commands = subst (λ (l : List Command). Stands p mid.reads l) (take_all (forced_in engine) commands (omega (arith, all))) h.says.images.0 in
     settled_each new (λ files. Stands p files commands) settled (subst (λ (f : Files). Stands p f commands) (sym (keeps.reads (told_by h))) here)
 
+-- What is done at each moment: the restart's course, and nothing behind it.
+module _ (p : Params) (old mid new : Disk) (commands : List Command) (engine : EngineView) (opened : IsOpen p commands old mid engine) (files : OpensFiles p commands old mid) (keeps : KeepsFiles mid new) (first : Stage) (is : IsFirst p commands old first) where
+  opened_shows : FilesShow (meaning_in p) p mid.reads first.world
+  opened_shows =
+      let shown = opened.shows first is in
+      subst (λ (s : Stage). FilesShow (meaning_in p) p mid.reads s.world) (sym shown.1) (files_shown (meaning_in p) p mid engine.parts shown.0.world shown.0.shows.shows)
+
+  pub dump_shows : mid.tells_files → FilesShow (meaning_in p) p new.reads first.world
+  dump_shows told = subst (λ (f : Files). FilesShow (meaning_in p) p f first.world) (sym (keeps.reads told)) opened_shows
+
+  pub dump_courses : IsSettled mid → (old.tells_moments → mid.tells_moments) → old.tells_moments → LeavesOnly old new (OrAtStart old (TableMoment p commands old first is))
+  dump_courses settled telling told =
+      runs_on old mid new (OrAtStart old (TableMoment p commands old first is))
+      (or_weaker old mid (OpeningMoment p commands old first is) (TableMoment p commands old first is) (files.courses told first is) (λ f s here. inl here))
+      (weaker mid new (λ f s. mid.left_since mid.clock f mid.said) (OrAtStart old (TableMoment p commands old first is)) (keeps.images (telling told))
+      (λ f s left. inr (inr (subst (λ (x : Files). FilesShow (meaning_in p) p x first.world) (fun_ext (λ (n : FileNo). sym (settled n (telling told) f mid.said left))) opened_shows))))
+
+-- what the courses say of a dump
+abbrev pub GoesBy : Params → List Command → Disk → Disk → Status → Type 0
+GoesBy p commands old new status = (first : Stage) → (is : IsFirst p commands old first) → (old.tells_moments → LeavesOnly old new (OrAtStart old (TableMoment p commands old first is))) × (status ≡ Done → FilesShow (meaning_in p) p new.reads first.world)
+
 -- a dump of files that stand for commands, from before they were opened
-pub dump_on : (p : Params) (old mid new : Disk) (commands : List Command) (status : Status) → IsDisk old → Opens p old commands → OpensSo p old mid commands → (old.tells_moments → mid.tells_moments) → mid.said ≡ old.said
+pub dump_on : (p : Params) (old mid new : Disk) (commands : List Command) (status : Status) → GoesBy p commands old new status → IsDisk old → Opens p old commands → OpensSo p old mid commands → (old.tells_moments → mid.tells_moments) → mid.said ≡ old.said
     → (mid.tells_moments → LeavesOnly mid new (DumpMoment p commands mid.said))
     → (count : ℕ) × (new.said ≡ mid.said ++ take count (dump_of p commands)) → (status ≡ Done → new.said ≡ mid.said ++ dump_of p commands) → (status ≢ NotAStore) × (status ≢ Damaged) → IsSettled new
     → InEachImage new (λ files. Stands p files commands) → IsDumpOn p commands old new status
-dump_on p old mid new commands status lawful opens opening telling quiet dumping said all store settled stands =
+dump_on p old mid new commands status goes lawful opens opening telling quiet dumping said all store settled stands =
     let moments : old.tells_moments → LeavesOnly old new (OrAtStart old (DumpMoment p commands old.said)) = dump_from p old mid new commands opening telling quiet dumping in
     record {
       moments = moments;
@@ -136,12 +164,14 @@ dump_on p old mid new commands status lawful opens opening telling quiet dumping
       store = store;
       settled = λ disk memory. settled;
       stands = λ disk memory. stands;
+      courses = λ told first is. (goes first is).0 told;
+      shows = λ first is done. (goes first is).1 done;
     }
 
-pub dump_unopened : (p : Params) (old mid : Disk) (commands : List Command) (status : Status) → IsDisk old → Opens p old commands → OpensSo p old mid commands → mid.said ≡ old.said → IsOfUnopened status
+pub dump_unopened : (p : Params) (old mid : Disk) (commands : List Command) (status : Status) → IsDisk old → Opens p old commands → OpensFiles p commands old mid → mid.said ≡ old.said → IsOfUnopened status
     → (status ≢ NotAStore) × (status ≢ Damaged) → status ≢ SayFault → IsDumpOn p commands old mid status
-dump_unopened p old mid commands status lawful opens opening quiet of store output =
-    let moments : old.tells_moments → LeavesOnly old mid (OrAtStart old (DumpMoment p commands old.said)) = dump_opening p old mid commands opening in
+dump_unopened p old mid commands status lawful opens files quiet of store output =
+    let moments : old.tells_moments → LeavesOnly old mid (OrAtStart old (DumpMoment p commands old.said)) = dump_opening p old mid commands files.images in
     record {
       moments = moments;
       from_settled = λ told settled. from_settled old mid (DumpMoment p commands old.said) lawful told settled (start_dump p old commands opens.stands) (moments told);
@@ -150,6 +180,8 @@ dump_unopened p old mid commands status lawful opens opening quiet of store outp
       store = store;
       settled = λ disk memory. absurd (opening_failed status of store output disk memory);
       stands = λ disk memory. absurd (opening_failed status of store output disk memory);
+      courses = λ told first is. or_weaker old mid (OpeningMoment p commands old first is) (TableMoment p commands old first is) (files.courses told first is) (λ f s here. inl here);
+      shows = λ first is done. absurd (subst (λ (s : Status). IsOfUnopened s) done of);
     }
 
 -- what ends a call early is not reported as done

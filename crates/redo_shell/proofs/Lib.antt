@@ -1,6 +1,7 @@
 pub mod HoldLemmas
 pub mod StoryLemmas
 pub mod TrueLemmas
+pub mod MomentLemmas
 pub mod RunLemmas
 pub mod LineLemmas
 pub mod ScriptLemmas

@@ -54,6 +54,7 @@ use Rattle.redo_shell.specs.Stages.{Ends, GoesBy, Stage, stage_of, stage_after}
 use Rattle.redo_shell.specs.Store.{Between, Command, Holds, ShowsIn, meaning_in, record_length, refusal_after, state_of}
 use Rattle.redo_shell.specs.declared.stop.Stop.{Stop as Early}
 use Rattle.redo_shell.specs.declared.stop.Stop.TheVariants.{DiskFault, Damaged, Memory}
+use Rattle.redo_shell.proofs.MomentLemmas.{Works, works_by}
 use Rattle.redo_shell.proofs.DoneLemmas.{asks_in, still_attached, still_whole}
 use Rattle.redo_shell.proofs.MadeLemmas.{made_ends}
 use Rattle.redo_shell.proofs.RunLemmas.{none_more, run_nothing}
@@ -366,6 +367,9 @@ module _ (p : Params) (old now : Disk) (before after : EngineView) (commands : L
   made_moments ending a told = weaker old now (Between p old (forced_in before) (commands ++ take a.done it.ops)) (Working p old (forced_in before) commands line) (a.images told)
       (λ f s b. record { added = take a.done it.ops; front = inr (record { it = it; asks = asks; count = a.done; first = refl }); between = b })
 
+  pub made_works : (ending : Ending) → Adds ending → Works p old now (stage_of before w) line
+  made_works ending a = works_by p old now (stage_of before w) line way (inl (inl (it, asks_in holds asks, refl))) a.takes
+
 -- the log of an engine that stands for commands may have as many bytes as the store says
 abbrev limit_is : {p : Params} {old now : Disk} {before after : EngineView} {commands : List Command} {ending : Ending} → Holds p old before commands → IsCall (params_of before).limit old now before after 0 ending → IsCall p.limit old now before after 0 ending
 limit_is {old = old} {now = now} {before = before} {after = after} {ending = ending} holds call = subst (λ (q : Params). IsCall q.limit old now before after 0 ending) holds.shows.shows.store.params call
@@ -382,6 +386,11 @@ module _ {p : Params} {old now : Disk} {before after : EngineView} {commands : L
   list_moments =
       let (it, makes, adds, answers) = u.adds p commands holds in
       made_moments p old now before after commands line it holds (record { request = request; asks = asks; makes = makes }) none (ending_of u.error) adds
+
+  pub list_works : Works p old now (stage_of before holds.world) line
+  list_works =
+      let (it, makes, adds, answers) = u.adds p commands holds in
+      made_works p old now before after commands line it holds (record { request = request; asks = asks; makes = makes }) none (ending_of u.error) adds
 
 -- How calls end.
 module _ {T : Type 0} where

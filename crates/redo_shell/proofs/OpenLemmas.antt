@@ -15,6 +15,7 @@ use Rattle.redo_shell.specs.Store.{Command, IsWellFormed, Stands, Opens, Holds, 
 use Rattle.redo_shell.specs.Stages.{Stage, IsFirst, AllGoBy, stage_of}
 use Rattle.redo_shell.specs.Answers.{Moment, TrueWithin, with_begun, with_line, SaysTruly}
 use Rattle.redo_shell.specs.Calls.{IsRunOn}
+use Rattle.redo_shell.specs.Courses.{OpeningMoment, RunMoment, StageMoment}
 use Rattle.redo_shell.specs.Causes.{JudgesFiles}
 use Rattle.redo_shell.specs.Open.{OpensFiles, IsOpen, IsUnopened}
 use Rattle.redo_shell.specs.Status.{status_of, status_after, IsOfUnopened}
@@ -131,6 +132,15 @@ ends_behind {p} {first} old mid new {commands} script lawful before time quiet r
     subst (λ (l : List ℕ). Moment p commands script l files new.said) quiet (subst (λ (l : List ℕ). Moment p commands script mid.said files l) same here) in
     (image new.reads new.said (lawful.as_read (time.moments_told.0 told_mid)), λ told_new. image)
 
+-- what is done at each moment, behind the opening by the courses of the lines
+run_courses : {p : Params} {first : Stage} {old mid new : Disk} {commands : List Command} (script : List (List ℕ)) → OpensFiles p commands old mid → Passes old mid → IsRun p first mid new commands script
+    → old.tells_moments → (is : IsFirst p commands old first) → LeavesOnly old new (OrAtStart old (RunMoment p commands old first is script))
+run_courses {p} {first} {old} {mid} {new} {commands} script files before run told is =
+    runs_on old mid new (OrAtStart old (RunMoment p commands old first is script))
+    (or_weaker old mid (OpeningMoment p commands old first is) (RunMoment p commands old first is script) (files.courses told first is) (λ f s here. inl here))
+    (weaker mid new (StageMoment p first script old.said) (OrAtStart old (RunMoment p commands old first is script))
+    (subst (λ (s : List ℕ). LeavesOnly mid new (StageMoment p first script s)) files.quiet (run.courses (before.moments_told.0 told))) (λ f s m. inr (inr m)))
+
 -- what a run on an open store says, from this stage
 abbrev pub RunsFrom : Params → List Command → List (List ℕ) → Disk → Disk → Status → Stage → Type 0
 RunsFrom p commands script mid new status first = IsRun p first mid new commands script × ((status ≡ Done) ⊎ (status ≡ DoneWithRefusals) → IsComplete p first mid new commands script status)
@@ -154,6 +164,7 @@ run_on few {p} old mid new {commands} script status lawful ends opens files befo
       opened = λ told disk memory. ends_behind old mid new script ends before time files.quiet begun told;
       first = files.first;
       answers = λ first is. run_says lawful files.images before files.quiet (runs first is).0;
+      courses = λ told first is. run_courses script files before (runs first is).0 told is;
       complete = λ first is done. complete_from files.quiet ((runs first is).1 done);
       store = store;
     }
@@ -185,6 +196,7 @@ run_unopened few {p} old mid {commands} script status lawful opens files before 
       opened = λ told disk memory. absurd (opening_failed status unopened.ends store (unopened.quiet opens.told image) disk memory);
       first = files.first;
       answers = λ first is. says_nothing script before files.quiet;
+      courses = λ told first is. or_weaker old mid (OpeningMoment p commands old first is) (RunMoment p commands old first is script) (files.courses told first is) (λ f s here. inl here);
       complete = λ first is done. absurd (not_done status unopened.ends done);
       store = store;
     }
@@ -198,4 +210,5 @@ judged_open status image store = record {
   opened = λ of. image;
   keeps = λ broken. absurd (broken image);
   memory = λ is. opens_gate all_meaning image;
+  silent = λ broken is. absurd (broken image);
 }

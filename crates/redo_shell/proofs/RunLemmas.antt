@@ -5,11 +5,14 @@ use Rattle.std.proofs.lemmas.List.{append-nil, take_all, length-take-le}
 use Rattle.std.proofs.lemmas.List.Folds.{list_any-append}
 use Rattle.std.specs.List.{flat_map, list_any}
 use Rattle.disk_model.specs.Disk.{Files, Disk, IsDisk, Passes, Runs, Same, SaysFront, LeavesOnly}
-use Rattle.disk_model.specs.Moments.{passes_none, first_call, runs_on, weaker}
+use Rattle.disk_model.specs.Moments.{passes_none, first_call, runs_on, started, weaker}
+use Rattle.disk_model.specs.Silent.{IsSilent as IsQuiet}
 use Rattle.formats.specs.Image.{EndsAt}
 use Rattle.formats.specs.declared.params.Params.{Params}
 use Rattle.explain_core.specs.History.{commands_of}
 use Rattle.explain_core.specs.World.{World, run}
+use Rattle.standing.specs.Moments.{ShowsSome, TakesSome}
+use Rattle.standing.specs.Standing.{FilesShow}
 use Rattle.cache_manager.specs.Courses.{course, force_steps, force_course}
 use Rattle.cache_manager.specs.Courses.Stop.{Through}
 use Rattle.cache_manager.specs.Forced.{files_shown}
@@ -25,11 +28,13 @@ use Rattle.redo_shell.specs.Replies.{Replies, IsTrueIn, is_refusing}
 use Rattle.redo_shell.specs.Found.{IsDone}
 use Rattle.redo_shell.specs.Stages.{Stage, IsQuestion, Ends, GoesBy, Leads, AllGoBy, stage_of}
 use Rattle.redo_shell.specs.Answers.{IsSilent, Moment, TrueWithin, SaysTruly}
+use Rattle.redo_shell.specs.Courses.{IsAtWork, StageMoment}
 use Rattle.redo_shell.specs.Status.{status_after}
 use Rattle.redo_shell.specs.declared.status.Status.TheVariants.{DoneWithRefusals}
 use Rattle.redo_shell.specs.declared.stop.Stop.{Stop}
-use Rattle.redo_shell.specs.Run.{IsTrueSaying, IsTrueSoFar, IsAnswered, IsPartly, Working, During, LineMoment, Going, IsComplete, IsFound, Answering, IsRun}
+use Rattle.redo_shell.specs.Run.{IsTrueSaying, IsTrueSoFar, IsAnswered, IsPartly, Working, During, LineMoment, LineStage, StageSoFar, Going, IsComplete, IsFound, Answering, IsRun}
 use Rattle.redo_shell.proofs.HoldLemmas.{holds_as, holds_stays, holds_between, told_by}
+use Rattle.redo_shell.proofs.MomentLemmas.{Works, found_courses, images_show, worked_none, works_at_once, works_line}
 use Rattle.redo_shell.proofs.TrueLemmas.{truly_on, truly_quiet, line_behind, found_truly}
 use Rattle.redo_shell.proofs.PrintedLemmas.{printed_acked}
 use Rattle.redo_shell.proofs.StoryLemmas.{goes_by_more, goes_even, told_goes, told_truly, said_longer, Story, Told, story_start, story_more, story_end, said_more, spoken_more, told_whole, told_silent, told_partly}
@@ -96,6 +101,109 @@ line_moment : AreFew → {p : Params} {first : Stage} {start now : Disk} {engine
     (g : Going p first start now engine commands script (line ∷ todo) refusing) → (f : Files) (s : List ℕ) → LineMoment p now (forced_in engine) (commands ++ g.acc) line f s → Moment p commands script start.said f s
 line_moment few line g f s here = ⊎_elim (working_moment few line g f s) (during_moment few line g f s) here
 
+some_left : (line : List ℕ) (todo : List (List ℕ)) → line ∷ todo ≡ [] → ⊥
+some_left line todo none = cc
+
+-- what is done while a line is answered is a moment of the stages
+stage_line : {p : Params} {first : Stage} {start now : Disk} {engine : EngineView} {commands : List Command} {script todo : List (List ℕ)} {refusing : Bool} (line : List ℕ)
+    (g : Going p first start now engine commands script (line ∷ todo) refusing) → (f : Files) (s : List ℕ) → LineStage p (stage_of engine g.holds.world) now.said line f s → StageSoFar p first script start.said f s
+stage_line {p} {first} {start} {now} {engine} {commands} {script} {todo} line g f s (inl b) = record {
+  is = record {
+    lines = g.lines;
+    todo = line ∷ todo;
+    replies = g.replies;
+    part = [];
+    stage = stage_of engine g.holds.world;
+    script_is = g.script_is;
+    said_is = b.silent ∙ g.said_is ∙ sym (append-nil (start.said ++ flat_map said_line g.replies));
+    goes = g.goes;
+    work = inl (refl, record { its = b.holds.its; due = b.holds.due; shows = b.holds.shows });
+  };
+  waiting = λ none. absurd (some_left line todo none);
+}
+stage_line {p} {first} {start} {now} {engine} {commands} {script} {todo} line g f s (inr b) = record {
+  is = record {
+    lines = g.lines;
+    todo = line ∷ todo;
+    replies = g.replies;
+    part = b.0;
+    stage = stage_of engine g.holds.world;
+    script_is = g.script_is;
+    said_is = b.1 ∙ ap (λ (l : List ℕ). l ++ b.0) g.said_is;
+    goes = g.goes;
+    work = inr (line, todo, refl, b.2);
+  };
+  waiting = λ none. absurd (some_left line todo none);
+}
+
+courses_more : {p : Params} {first : Stage} {start now new : Disk} {engine after : EngineView} {commands : List Command} {script todo : List (List ℕ)} {refusing : Bool} {result : Result Bool Stop} (line : List ℕ)
+    (g : Going p first start now engine commands script (line ∷ todo) refusing) → Passes start now → Answering p now new engine after g.holds.world (commands ++ g.acc) line result
+    → start.tells_moments → LeavesOnly start new (StageSoFar p first script start.said)
+courses_more {p} {first} {start} {now} {new} {engine} {after} {commands} {script} {todo} {refusing} {result} line g time a told =
+    runs_on start now new (StageSoFar p first script start.said) (g.courses told)
+    (weaker now new (LineStage p (stage_of engine g.holds.world) now.said line) (StageSoFar p first script start.said) (a.courses (time.moments_told.0 told)) (stage_line line g))
+
+-- so far is a moment
+told_so_far : {p : Params} {first : Stage} {start now : Disk} {script : List (List ℕ)} → LeavesOnly start now (StageSoFar p first script start.said) → LeavesOnly start now (StageMoment p first script start.said)
+told_so_far {p} {first} {start} {now} {script} leaves = weaker start now (StageSoFar p first script start.said) (StageMoment p first script start.said) leaves (λ f s m. m.is)
+
+-- the force behind the last line
+stage_force : {p : Params} {first : Stage} {start now : Disk} {engine : EngineView} {commands : List Command} {script todo : List (List ℕ)} {refusing : Bool} (g : Going p first start now engine commands script todo refusing) → todo ≡ []
+    → (f : Files) (s : List ℕ) → IsQuiet (ShowsSome (meaning_in p) p g.holds.world (force_steps (meaning_in p) g.holds.world)) now.said f s → StageMoment p first script start.said f s
+stage_force {p} {first} {start} {now} {engine} {commands} {script} {todo} g over f s b = record {
+  lines = g.lines;
+  todo = [];
+  replies = g.replies;
+  part = [];
+  stage = stage_of engine g.holds.world;
+  script_is = g.script_is ∙ ap (λ (l : List (List ℕ)). g.lines ++ l) over;
+  said_is = b.silent ∙ g.said_is ∙ sym (append-nil (start.said ++ flat_map said_line g.replies));
+  goes = g.goes;
+  work = inl (refl, record { its = force_course (meaning_in p) g.holds.world (used_in engine); due = refl; shows = b.holds });
+}
+
+-- at the start nothing is done
+stage_start : {p : Params} {start : Disk} {engine : EngineView} {commands : List Command} (script : List (List ℕ)) → IsDisk start → (holds : Holds p start engine commands) → start.tells_moments → (f : Files) (s : List ℕ) → start.left_since start.clock f s
+    → StageSoFar p (stage_of engine holds.world) script start.said f s
+stage_start {p} {start} {engine} {commands} script lawful holds told f s left =
+    let shows : FilesShow (meaning_in p) p f holds.world = images_show holds.shows told f s left in
+    record {
+      is = record {
+        lines = [];
+        todo = script;
+        replies = [];
+        part = [];
+        stage = stage_of engine holds.world;
+        script_is = refl;
+        said_is = lawful.said_now told f s left ∙ sym (append-nil start.said) ∙ sym (append-nil (start.said ++ []));
+        goes = refl;
+        work = inl (refl, worked_none p (stage_of engine holds.world) script f shows);
+      };
+      waiting = λ none. (refl, shows);
+    }
+
+-- one line more is to come
+work_longer : (p : Params) (stage : Stage) (line part : List ℕ) (f : Files) (todo : List (List ℕ)) → (todo ≡ [] → (part ≡ []) × FilesShow (meaning_in p) p f stage.world) → IsAtWork p stage todo part f → IsAtWork p stage (todo ++ line ∷ []) part f
+work_longer p stage line part f [] waits work = inl ((waits refl).0, worked_none p stage (line ∷ []) f (waits refl).1)
+work_longer p stage line part f (next ∷ rest) waits (inl work) = inl (work.0, record { its = work.1.its; due = work.1.due; shows = work.1.shows })
+work_longer p stage line part f (next ∷ rest) waits (inr work) = inr (work.0, work.1 ++ line ∷ [], ap (λ (l : List (List ℕ)). l ++ line ∷ []) work.2, work.3)
+
+pub stage_longer : {p : Params} {first : Stage} {script : List (List ℕ)} {before : List ℕ} (line : List ℕ) (f : Files) (s : List ℕ) → StageSoFar p first script before f s → StageSoFar p first (script ++ line ∷ []) before f s
+stage_longer {p} line f s m = record {
+  is = record {
+    lines = m.is.lines;
+    todo = m.is.todo ++ line ∷ [];
+    replies = m.is.replies;
+    part = m.is.part;
+    stage = m.is.stage;
+    script_is = ap (λ (l : List (List ℕ)). l ++ line ∷ []) m.is.script_is ∙ append_assoc m.is.lines m.is.todo (line ∷ []);
+    said_is = m.is.said_is;
+    goes = m.is.goes;
+    work = work_longer p m.is.stage line m.is.part f m.is.todo m.waiting m.is.work;
+  };
+  waiting = λ none. absurd (omega (arith, ap (λ (l : List (List ℕ)). length l) none, length-append m.is.todo (line ∷ [])));
+}
+
 -- the moments of a run, one line further
 moments_more : AreFew → {p : Params} {first : Stage} {start now new : Disk} {engine after : EngineView} {commands : List Command} {script todo : List (List ℕ)} {refusing : Bool} {result : Result Bool Stop} (line : List ℕ)
     (g : Going p first start now engine commands script (line ∷ todo) refusing) → Passes start now → Answering p now new engine after g.holds.world (commands ++ g.acc) line result
@@ -140,6 +248,7 @@ goes_on few {p} {first} {start} {now} {new} {engine} {after} {commands} {script}
       truly = λ told. subst (λ (l : List ℕ). LeavesOnly start new (IsTrueSoFar p start.said story.lines (g.replies ++ whole.reply ∷ []) l)) (sym whole.said)
           (truly_on line whole.reply (even_of g) (g.truly told) g.said_is (whole.truly (time.moments_told.0 told)));
       goes = goes_by_more p first (stage_of engine g.holds.world) (stage_of after whole.kept.holds.world) g.lines g.replies line whole.reply g.goes whole.leads;
+      courses = courses_more line g time a;
     }
 
 -- the start of a run, of which nothing is said yet
@@ -169,6 +278,7 @@ opened few {p} {start} {engine} {commands} script lawful holds all = record {
   truly = λ told. weaker start start (Between p start (forced_in engine) commands) (IsTrueSoFar p start.said [] [] start.said) (holds_between lawful holds told)
       (λ f s b. record { true_within = tt; no_longer = omega (arith, ap length b.quiet) });
   goes = refl;
+  courses = λ told. started start (StageSoFar p (stage_of engine holds.world) script start.said) (stage_start script lawful holds told);
 }
 
 -- a run that ends between two lines
@@ -182,6 +292,7 @@ ends_here {p} {first} {start} {now} {engine} g = let all = told_whole (λ line r
     goes = told_goes first (stage_of engine g.holds.world) all g.goes;
   };
   moments = g.moments;
+  courses = λ told. told_so_far (g.courses told);
 }
 
 -- a run that ends while a line is answered
@@ -198,6 +309,7 @@ ends_in_line few {p} {first} {start} {now} {new} {engine} {after} {commands} {sc
       (λ (part : IsPartly p now new (stage_of engine g.holds.world) (commands ++ g.acc) line). begun part)
       (subst (λ (r : Result Bool Stop). OnErr r ((new.said ≡ now.said) ⊎ IsPartly p now new (stage_of engine g.holds.world) (commands ++ g.acc) line)) is a.partly);
   moments = moments_more few line g time a;
+  courses = λ told. told_so_far (courses_more line g time a told);
 }
   where
     begun : IsPartly p now new (stage_of engine g.holds.world) (commands ++ g.acc) line → SaysTruly p first commands script start new
@@ -219,8 +331,9 @@ ends_in_line few {p} {first} {start} {now} {new} {engine} {after} {commands} {sc
 -- a run that ends in the last force
 pub ends_in_force : AreFew → {p : Params} {first : Stage} {start now new : Disk} {engine : EngineView} {commands : List Command} {script todo : List (List ℕ)} {refusing : Bool}
     (g : Going p first start now engine commands script todo refusing) → Passes start now → new.said ≡ now.said
-    → (now.tells_moments → LeavesOnly now new (Between p now (forced_in engine) (commands ++ g.acc))) → IsRun p first start new commands script
-ends_in_force few {p} {first} {start} {now} {new} {engine} {commands} {script} g time quiet moments = let all = told_whole (λ line reply. ⊤) (story_of g) in record {
+    → (now.tells_moments → LeavesOnly now new (Between p now (forced_in engine) (commands ++ g.acc))) → todo ≡ []
+    → (now.tells_moments → TakesSome (meaning_in p) p now new g.holds.world (force_steps (meaning_in p) g.holds.world)) → IsRun p first start new commands script
+ends_in_force few {p} {first} {start} {now} {new} {engine} {commands} {script} g time quiet moments over takes = let all = told_whole (λ line reply. ⊤) (story_of g) in record {
   says = record {
     says = record { bytes = flat_map said_line g.replies; since = quiet ∙ g.said_is; story = all.story };
     truly = λ told. told_truly start new start.said all
@@ -230,6 +343,8 @@ ends_in_force few {p} {first} {start} {now} {new} {engine} {commands} {script} g
   };
   moments = λ told. runs_on start now new (Moment p commands script start.said) (g.moments told)
       (weaker now new (Between p now (forced_in engine) (commands ++ g.acc)) (Moment p commands script start.said) (moments (time.moments_told.0 told)) (between_moment few g));
+  courses = λ told. runs_on start now new (StageMoment p first script start.said) (told_so_far (g.courses told))
+      (weaker now new (IsQuiet (ShowsSome (meaning_in p) p g.holds.world (force_steps (meaning_in p) g.holds.world)) now.said) (StageMoment p first script start.said) (takes (time.moments_told.0 told)) (stage_force g over));
 }
 
 tells : (refusing any : Bool) → refusing ≡ any → (status_after (Ok refusing) ≡ DoneWithRefusals) ↔ (any ≡ true)
@@ -303,10 +418,10 @@ found_moments {p} {old} {mid} {new} {before} {after} {w} {commands} {line} {repl
 
 -- the answer that was found has been said, or a beginning of it
 pub found_said : {p : Params} {old mid new : Disk} {before after : EngineView} {w : World Command} {commands : List Command} {line : List ℕ} {reply : Reply} (result : Result Bool Stop)
-    → (old.tells_moments → LeavesOnly old mid (Working p old (forced_in before) commands line)) → Passes old mid → IsFound p old mid before after w commands line reply
+    → (old.tells_moments → LeavesOnly old mid (Working p old (forced_in before) commands line)) → Works p old mid (stage_of before w) line → Passes old mid → IsFound p old mid before after w commands line reply
     → Runs Same (SaysFront (said_line reply)) mid new → (mid.tells_files → OnOk result (new.said ≡ mid.said ++ said_line reply)) → IfOk result (λ kind. kind ≡ is_refusing reply)
     → Answering p old new before after w commands line result
-found_said {reply = reply} (Ok kind) moments time found say all is = record {
+found_said {reply = reply} (Ok kind) moments works time found say all is = record {
   whole = record {
     reply = reply;
     added = found.added;
@@ -320,8 +435,9 @@ found_said {reply = reply} (Ok kind) moments time found say all is = record {
   };
   partly = tt;
   moments = found_moments moments time found say;
+  courses = found_courses works time found say;
 }
-found_said {after = after} {reply = reply} (Err stop) moments time found say all is = record {
+found_said {after = after} {reply = reply} (Err stop) moments works time found say all is = record {
   whole = tt;
   partly = let front = say.said (told_by found.kept.holds) in
       inr (record {
@@ -335,16 +451,18 @@ found_said {after = after} {reply = reply} (Err stop) moments time found say all
         leads = found.leads;
       });
   moments = found_moments moments time found say;
+  courses = found_courses works time found say;
 }
 
 -- nothing was said of the answer
 pub stops_before : {p : Params} {old new : Disk} {before after : EngineView} {w : World Command} {commands : List Command} {line : List ℕ} (result : Result Bool Stop) → IsErr result
-    → (old.tells_moments → LeavesOnly old new (Working p old (forced_in before) commands line)) → new.said ≡ old.said → Answering p old new before after w commands line result
-stops_before (Ok kind) is moments quiet = absurd (cc is)
-stops_before {p} {old} {new} {before} {after} {w} {commands} {line} (Err stop) is moments quiet = record {
+    → (old.tells_moments → LeavesOnly old new (Working p old (forced_in before) commands line)) → Works p old new (stage_of before w) line → new.said ≡ old.said → Answering p old new before after w commands line result
+stops_before (Ok kind) is moments works quiet = absurd (cc is)
+stops_before {p} {old} {new} {before} {after} {w} {commands} {line} (Err stop) is moments works quiet = record {
   whole = tt;
   partly = inl quiet;
   moments = λ told. weaker old new (Working p old (forced_in before) commands line) (LineMoment p old (forced_in before) commands line) (moments told) (λ f s b. inl b);
+  courses = works_line works;
 }
 
 abbrev pub kept_nil : {p : Params} {d : Disk} {before engine : EngineView} {commands : List Command} → Kept p before d engine commands → Kept p before d engine (commands ++ [])
@@ -418,7 +536,7 @@ pub said_at_once : {p : Params} {d new : Disk} {engine : EngineView} {commands :
     → IsDisk d → (holds : Holds p d engine commands) → IsFound p d d engine engine holds.world commands line reply
     → Runs Same (SaysFront (said_line reply)) d new → (d.tells_files → OnOk result (new.said ≡ d.said ++ said_line reply)) → IfOk result (λ kind. kind ≡ is_refusing reply)
     → Answering p d new engine engine holds.world commands line result
-said_at_once {d = d} result lawful holds found say all is = found_said result (works_none (holds_between lawful holds)) (passes_none d) found say all is
+said_at_once {d = d} {line = line} result lawful holds found say all is = found_said result (works_none (holds_between lawful holds)) (works_at_once line lawful holds) (passes_none d) found say all is
 
 -- a line that is skipped
 pub skipped : {p : Params} {d : Disk} {engine : EngineView} {commands : List Command} {line : List ℕ} → IsDisk d → (holds : Holds p d engine commands) → AsksFor line skip
@@ -441,6 +559,7 @@ skipped {p} {d} {engine} {commands} {line} lawful holds asks = record {
   };
   partly = tt;
   moments = λ told. weaker d d (Between p d (forced_in engine) commands) (LineMoment p d (forced_in engine) commands line) (holds_between lawful holds told) (λ f s b. inl (works_quietly b));
+  courses = works_line (works_at_once line lawful holds);
 }
 
 pub moment_longer : {p : Params} {commands : List Command} {script : List (List ℕ)} {before : List ℕ} (more : List (List ℕ)) (f : Files) (s : List ℕ) → Moment p commands script before f s → Moment p commands (script ++ more) before f s
@@ -472,4 +591,5 @@ with_next {p} {first} {start} {now} {engine} {commands} {script} line g = record
   moments = λ told. weaker start now (Moment p commands script start.said) (Moment p commands (script ++ line ∷ []) start.said) (g.moments told) (moment_longer (line ∷ []));
   truly = g.truly;
   goes = g.goes;
+  courses = λ told. weaker start now (StageSoFar p first script start.said) (StageSoFar p first (script ++ line ∷ []) start.said) (g.courses told) (stage_longer line);
 }

@@ -4,18 +4,20 @@ use Rattle.disk_model.specs.Disk.{Disk, LeavesOnly, IsSettled}
 use Rattle.disk_model.specs.declared.machine.FileNo.TheVariants.{Objects}
 use Rattle.formats.specs.Image.{BeginsStore}
 use Rattle.formats.specs.declared.params.Params.{Params}
+use Rattle.standing.specs.Standing.{FilesShow}
 use Rattle.script_lines.specs.Grammar.{lines_of}
 use Rattle.script_lines.specs.Words.{Asks}
 use Rattle.script_lines.specs.declared.words.Asked.TheVariants.{Init, Run, Dump}
 use Rattle.store_engine.specs.Engine.{InEachImage}
 use Rattle.restart.specs.Starts.{OrAtStart}
-use Rattle.redo_shell.specs.Store.{Command, Stands, Opens, IsNew}
+use Rattle.redo_shell.specs.Store.{Command, meaning_in, Stands, Opens, IsNew, IsNewStore}
 use Rattle.redo_shell.specs.Answers.{Moment, SaysTruly}
 use Rattle.redo_shell.specs.Causes.{JudgesFiles, SaysStore}
 use Rattle.redo_shell.specs.Dump.{dump_of, DumpMoment}
 use Rattle.redo_shell.specs.Keeps.{KeepsFiles}
 use Rattle.redo_shell.specs.Run.{IsComplete}
 use Rattle.redo_shell.specs.Stages.{Stage, IsFirst}
+use Rattle.redo_shell.specs.Courses.{RunMoment, TableMoment}
 use Rattle.redo_shell.specs.Sessions.{Ran, Follows, Sessions}
 use Rattle.redo_shell.specs.Status.{IsOfRun, IsOfDump, IsOfInit}
 use Rattle.redo_shell.specs.declared.status.Status.{Status}
@@ -37,6 +39,10 @@ pub record IsRunOn (p : Params) (commands : List Command) (script : List (List �
   -- script's lines, whatever the status
   pub first : (first : Stage) × IsFirst p commands old first
   pub answers : (first : Stage) → IsFirst p commands old first → SaysTruly p first commands script old new
+  -- from each of them, what a crash at any moment leaves is what one at the start could leave, or it is made by the courses
+  -- of the restart and of the lines: at each moment some first steps of the course that is due then are done, and all of it
+  -- before anything is said of the answer
+  pub courses : old.tells_moments → (first : Stage) → (is : IsFirst p commands old first) → LeavesOnly old new (OrAtStart old (RunMoment p commands old first is script))
   -- with status 0 or 1 the whole script is answered, and the files stand for all of it
   pub complete : (first : Stage) → IsFirst p commands old first → (status ≡ Done) ⊎ (status ≡ DoneWithRefusals) → IsComplete p first old new commands script status
   -- such files are never taken for no store or for damaged
@@ -66,6 +72,10 @@ pub record IsDumpOn (p : Params) (commands : List Command) (old new : Disk) (sta
   -- commands
   pub settled : status ≢ DiskFault → status ≢ Memory → IsSettled new
   pub stands : status ≢ DiskFault → status ≢ Memory → InEachImage new (λ files. Stands p files commands)
+  -- the restart takes its course, and nothing else is done: a crash at any moment leaves what one at the start could leave,
+  -- or the world after some first steps of it, and with status 0 the files show the world after all of it
+  pub courses : old.tells_moments → (first : Stage) → (is : IsFirst p commands old first) → LeavesOnly old new (OrAtStart old (TableMoment p commands old first is))
+  pub shows : (first : Stage) → IsFirst p commands old first → status ≡ Done → FilesShow (meaning_in p) p new.reads first.world
 
 -- A dump of any files.
 pub record IsDumpCall (old new : Disk) (status : Status) : Type 0 where
@@ -77,8 +87,8 @@ pub record IsDumpCall (old new : Disk) (status : Status) : Type 0 where
 -- The making of a store with these numbers.
 pub record IsMaking (p : Params) (old new : Disk) (status : Status) : Type 0 where
   pub ends : IsOfInit status
-  -- the files stand for no commands, and nothing is said
-  pub done : old.tells_files → status ≡ Done → InEachImage new (λ files. Stands p files [])
+  -- the files are those of a new store, which stand for no commands, and nothing is said
+  pub done : old.tells_files → status ≡ Done → InEachImage new (IsNewStore p)
   pub quiet : old.tells_files → status ≡ Done → new.said ≡ old.said
   -- at each moment there is what a crash at the start could leave, no store, or one without commands; nothing is said
   pub moments : old.tells_moments → (BeginsStore (old.reads Objects) → ⊥) → LeavesOnly old new (OrAtStart old (λ files said. IsNew p files × (said ≡ old.said)))

@@ -61,6 +61,8 @@ pub record JudgesFiles (old new : Disk) (status : Status) : Type 0 where
   pub keeps : (IsWellFormed old.reads → ⊥) → KeepsFiles old new
   -- no memory is taken before the objects gate is looked at
   pub memory : status ≡ Memory → IsOpenAt 0 (old.reads Objects)
+  -- of files that do not meet their format nothing is said where the disk fails or memory runs out
+  pub silent : (IsWellFormed old.reads → ⊥) → (status ≡ DiskFault) ⊎ (status ≡ Memory) → new.said ≡ old.said
 
 -- The words ask nothing: the files are kept, and the usage line is said unless the output fails.
 pub record IsUsage (old new : Disk) (status : Status) : Type 0 where

@@ -4,6 +4,7 @@ pub mod Replies
 pub mod Work
 pub mod Printed
 pub mod Stages
+pub mod Courses
 pub mod Open
 pub mod Answers
 pub mod Found

@@ -6,6 +6,7 @@ use Rattle.restart.specs.Starts.{OrAtStart}
 use Rattle.store_engine.specs.Engine.{EngineView, forced_in}
 use Rattle.redo_shell.specs.Causes.{CountsFaults, JudgesFiles}
 use Rattle.redo_shell.specs.Stages.{Stage, IsFirst, stage_of}
+use Rattle.redo_shell.specs.Courses.{OpeningMoment}
 use Rattle.redo_shell.specs.Status.{IsOfUnopened}
 use Rattle.redo_shell.specs.Store.{Command, IsWellFormed, Holds, Between}
 use Rattle.redo_shell.specs.declared.status.Status.{Status}
@@ -17,6 +18,7 @@ pub record OpensFiles (p : Params) (commands : List Command) (old new : Disk) : 
   pub quiet : new.said ≡ old.said
   pub images : old.tells_moments → LeavesOnly old new (OrAtStart old (Between p old (length commands) commands))
   pub first : (first : Stage) × IsFirst p commands old first
+  pub courses : old.tells_moments → (first : Stage) → (is : IsFirst p commands old first) → LeavesOnly old new (OrAtStart old (OpeningMoment p commands old first is))
 
 -- An engine on files that stand for commands, all of them forced. Each stage that a restart may make of the files is the
 -- engine's, by a world that it shows.

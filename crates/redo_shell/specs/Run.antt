@@ -1,7 +1,8 @@
 -- One line's answer, and a whole run.
-use Rattle.std.specs.Prelude.{◌≡◌, ℕ, ◌≤◌, ◌⊎◌, ◌↔◌, ⊤, ◌++◌, List, [], length, take, Contains, Bool, true, Result, IfOk, OnErr}
+use Rattle.std.specs.Prelude.{◌≡◌, ℕ, ◌≤◌, ◌⊎◌, ◌↔◌, ⊤, ◌++◌, List, [], ◌∷◌, length, take, Contains, Bool, true, Result, IfOk, OnErr}
 use Rattle.std.specs.List.{flat_map, list_any}
 use Rattle.disk_model.specs.Disk.{Files, Disk, LeavesOnly, Rises, IsSettled}
+use Rattle.disk_model.specs.Silent.{IsSilent}
 use Rattle.formats.specs.Image.{EndsAt}
 use Rattle.formats.specs.declared.params.Params.{Params}
 use Rattle.script_lines.specs.Replies.{Reply, forced, said_line}
@@ -14,6 +15,7 @@ use Rattle.redo_shell.specs.Made.{IsFront}
 use Rattle.redo_shell.specs.Replies.{Replies, IsTrueIn, is_refusing}
 use Rattle.redo_shell.specs.Answers.{Answers, Moment, EndsInside, TrueWithin, SaysTruly}
 use Rattle.redo_shell.specs.Stages.{Stage, Leads, AllGoBy, stage_of}
+use Rattle.redo_shell.specs.Courses.{IsWorkedOn, IsBeingSaid, StageMoment}
 use Rattle.redo_shell.specs.declared.status.Status.{Status}
 use Rattle.redo_shell.specs.declared.status.Status.TheVariants.{DoneWithRefusals}
 use Rattle.redo_shell.specs.declared.stop.Stop.{Stop}
@@ -78,6 +80,16 @@ abbrev pub LineMoment : Params → Disk → ℕ → List Command → List ℕ �
 LineMoment p old least commands line files said =
     Working p old least commands line files said ⊎ During p old least commands line files said
 
+-- a moment while a line is answered in this stage: nothing is said behind these bytes, or a part of its answer
+abbrev pub LineStage : Params → Stage → List ℕ → List ℕ → Files → List ℕ → Type 0
+LineStage p s before line files said =
+    IsSilent (IsWorkedOn p s (line ∷ [])) before files said ⊎ ((part : List ℕ) × (said ≡ before ++ part) × IsBeingSaid p s line part files)
+
+-- a moment of a run so far: behind the lines that it was given nothing is done
+pub record StageSoFar (p : Params) (first : Stage) (script : List (List ℕ)) (before : List ℕ) (files : Files) (said : List ℕ) : Type 0 where
+  pub is : StageMoment p first script before files said
+  pub waiting : is.todo ≡ [] → (is.part ≡ []) × FilesShow (meaning_in p) p files is.stage.world
+
 -- a run so far, from a start with these commands and this stage: the answers to the lines that were taken
 pub record Going (p : Params) (first : Stage) (start now : Disk) (engine : EngineView) (commands : List Command) (script todo : List (List ℕ)) (refusing : Bool) : Type 0 where
   pub lines : List (List ℕ)
@@ -93,6 +105,7 @@ pub record Going (p : Params) (first : Stage) (start now : Disk) (engine : Engin
   pub moments : start.tells_moments → LeavesOnly start now (Moment p commands script start.said)
   pub truly : start.tells_moments → LeavesOnly start now (IsTrueSoFar p start.said lines replies now.said)
   pub goes : AllGoBy p first lines replies (stage_of engine holds.world)
+  pub courses : start.tells_moments → LeavesOnly start now (StageSoFar p first script start.said)
 
 -- A whole run: each line is answered, the files stand for all that was added, and the status reports refusals. The
 -- stages go from the first on, with each answer; the files show the world of the last behind a force, and the log in them
@@ -148,8 +161,10 @@ pub record Answering (p : Params) (old new : Disk) (before after : EngineView) (
   pub whole : IfOk result (IsAnswered p old new before after w commands line)
   pub partly : OnErr result ((new.said ≡ old.said) ⊎ IsPartly p old new (stage_of before w) commands line)
   pub moments : old.tells_moments → LeavesOnly old new (LineMoment p old (forced_in before) commands line)
+  pub courses : old.tells_moments → LeavesOnly old new (LineStage p (stage_of before w) old.said line)
 
 -- a script was answered, or a beginning of it
 pub record IsRun (p : Params) (first : Stage) (start now : Disk) (commands : List Command) (script : List (List ℕ)) : Type 0 where
   pub says : SaysTruly p first commands script start now
   pub moments : start.tells_moments → LeavesOnly start now (Moment p commands script start.said)
+  pub courses : start.tells_moments → LeavesOnly start now (StageMoment p first script start.said)

@@ -1,5 +1,5 @@
 -- What the answers of a run go by: the world that engine and files show, and the length of the log.
-use Rattle.std.specs.Prelude.{◌≡◌, ◌⊎◌, ◌+◌, ◌++◌, ⊤, ℕ, List, [], ◌∷◌, length}
+use Rattle.std.specs.Prelude.{◌≡◌, ◌⊎◌, ◌+◌, ◌++◌, ⊤, ℕ, List, [], ◌∷◌, length, take}
 use Rattle.disk_model.specs.Disk.{Disk}
 use Rattle.oper_core.specs.Meaning.{Meaning}
 use Rattle.formats.specs.declared.params.Params.{Params}
@@ -62,11 +62,13 @@ HasCourse p s line c = ((it : Made) × AsksMade p (commands_of s.world.history) 
 abbrev pub Ends : Params → Stage → List ℕ → Stop → Stage → Type 0
 Ends p old line stop new = (c : Course Command) × HasCourse p old line c × (c.stop ≡ stop) × (new ≡ stage_after p old c)
 
--- the counts that are told of a stage, beside the numbers of commands
+-- the counts that are told of a stage: of its graph, its cache and its log, and of the commands that are forced and accepted
 pub record IsCounted (p : Params) (s : Stage) (counts : Counts) : Type 0 where
   pub nodes : counts.nodes ≡ count_below (end_of s.world) (is_name all_meaning p s.world)
   pub dirty : counts.dirty ≡ dirty_in (meaning_in p) s.world
   pub uninstalled : counts.uninstalled ≡ count_below (end_of s.world) s.world.graph
+  pub forced : counts.forced ≡ length (commands_of (take s.world.forced s.world.history))
+  pub accepted : counts.accepted ≡ length (commands_of s.world.history)
   pub used : counts.used ≡ s.used
   pub identities : counts.identities ≡ s.identities
 

@@ -43,6 +43,10 @@ IsWellFormed files = of_store.IsWellFormed all_meaning files
 abbrev pub Stands : Params → Files → List Command → Type 0
 Stands p files commands = of_store.Stands all_meaning p files commands
 
+-- the files are those of a new store
+abbrev pub IsNewStore : Params → Files → Type 0
+IsNewStore p files = of_engine.IsNewStore all_meaning p files
+
 -- no store is there, or one without commands
 abbrev pub IsNew : Params → Files → Type 0
 IsNew p files = of_engine.IsNew all_meaning p files

@@ -4,9 +4,13 @@ ghost use Rattle.disk_model.specs.Disk.{Passes, LeavesOnly};
 ghost use Rattle.formats.specs.declared.params.Params.{Params};
 ghost use Rattle.script_lines.specs.Grammar.{AsksFor, force};
 ghost use Rattle.script_lines.specs.Replies.{reply_of};
-ghost use Rattle.store_engine.specs.Engine.{forced_in};
+ghost use Rattle.explain_core.specs.World.{World};
+ghost use Rattle.standing.specs.Moments.{TakesSome};
+ghost use Rattle.cache_manager.specs.Courses.{force_course};
+ghost use Rattle.execution.specs.Courses.{exec_course};
+ghost use Rattle.store_engine.specs.Engine.{forced_in, params_of, used_in};
 ghost use Rattle.redo_shell.specs.Store.{IsAttached};
-ghost use Rattle.redo_shell.specs.Store.{Command, Holds, Between};
+ghost use Rattle.redo_shell.specs.Store.{Command, Holds, ShowsIn, Between, meaning_in};
 ghost use Rattle.redo_shell.specs.Found.{IsDone};
 ghost use Rattle.redo_shell.specs.Replies.{AsksCommand};
 ghost use Rattle.redo_shell.specs.Run.{IsCaused, IsUndamaged};
@@ -30,6 +34,8 @@ pub fn command_answer<M: Machine>(
         IfOk result (λ answer. IsDone p (M.disk machine.old) (M.disk machine.new) engine.old engine.new holds.world commands line (reply_of answer)) }
     ensures moments { (p : Params) (commands : List Command) → Holds p (M.disk machine.old) engine.old commands → (M.disk machine.old).tells_moments →
         LeavesOnly (M.disk machine.old) (M.disk machine.new) (Between p (M.disk machine.old) (forced_in engine.old) commands) }
+    ensures steps { (M.disk machine.old).tells_moments → (p : Params) (w : World Command) → ShowsIn p (M.disk machine.old) engine.old w →
+        TakesSome (meaning_in p) p (M.disk machine.old) (M.disk machine.new) w (exec_course (meaning_in p) (params_of engine.old).limit op w (used_in engine.old)).steps }
     ensures cause { IfErr result (λ stop. IsCaused stop (M.disk machine.old) (M.disk machine.new)) }
     ensures undamaged { (M.disk machine.old).tells_files → IsAttached (M.disk machine.old) engine.old → IfErr result IsUndamaged }
     ensures attached { IsAttached (M.disk machine.old) engine.old → OnOk result (IsAttached (M.disk machine.new) engine.new) }
@@ -58,6 +64,8 @@ pub fn force_answer<M: Machine>(
         IfOk result (λ answer. IsDone p (M.disk machine.old) (M.disk machine.new) engine.old engine.new holds.world commands line (reply_of answer)) }
     ensures moments { (p : Params) (commands : List Command) → Holds p (M.disk machine.old) engine.old commands → (M.disk machine.old).tells_moments →
         LeavesOnly (M.disk machine.old) (M.disk machine.new) (Between p (M.disk machine.old) (forced_in engine.old) commands) }
+    ensures steps { (M.disk machine.old).tells_moments → (p : Params) (w : World Command) → ShowsIn p (M.disk machine.old) engine.old w →
+        TakesSome (meaning_in p) p (M.disk machine.old) (M.disk machine.new) w (force_course (meaning_in p) w (used_in engine.old)).steps }
     ensures cause { IfErr result (λ stop. IsCaused stop (M.disk machine.old) (M.disk machine.new)) }
     ensures undamaged { (M.disk machine.old).tells_files → IsAttached (M.disk machine.old) engine.old → IfErr result IsUndamaged }
     ensures attached { IsAttached (M.disk machine.old) engine.old → OnOk result (IsAttached (M.disk machine.new) engine.new) }

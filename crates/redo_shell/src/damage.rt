@@ -43,6 +43,7 @@ pub fn end_damaged<M: Machine>(alloc: Global, machine: &mut M, file: FileNo, pla
     ensures all { (M.disk machine.old).tells_files → result ≡ Status.Damaged → (M.disk machine.new).said ≡ (M.disk machine.old).said ++ damaged file place }
     ensures status { (result ≡ Status.Damaged) ⊎ ((result ≡ Status.Memory) ⊎ (result ≡ Status.SayFault)) }
     ensures cause { result ≡ Status.SayFault → Rises (M.disk machine.old).say_faults (M.disk machine.new).say_faults }
+    ensures silent { result ≡ Status.Memory → machine.new ≡ machine.old }
 {
     match damage_line(alloc, file, place) {
         Ok(line) => end_with(machine, line.as_slice(), Status::Damaged),

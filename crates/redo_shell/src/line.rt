@@ -42,6 +42,7 @@ fn run_command<M: Machine>(
     ensures attached { IsAttached (M.disk machine.old) engine.old → OnOk result (IsAttached (M.disk machine.new) engine.new) }
     ensures unbroken { OnOk result (engine.new.broken ≡ false) }
 {
+    explain_core::live_cache_is_the_map::<AllOps>();
     let answer = command_answer(engine, machine, op)?;
     engine_stands(machine, engine);
     stop_is_said(machine, engine);

@@ -41,6 +41,7 @@ fn end_unopened<M: Machine>(alloc: Global, machine: &mut M, cause: RestartErr) -
         × ((M.disk machine.new).said ≡ (M.disk machine.old).said ++ damaged file place) }
     // A fault of the disk and out of memory are reported by the status alone.
     ensures quiet { cause ≢ RestartErr.NotAStore → IsNoDamage cause → (machine.new ≡ machine.old) × (result ≢ Status.NotAStore) × (result ≢ Status.Damaged) × (result ≢ Status.SayFault) }
+    ensures silent { (result ≡ Status.DiskFault) ⊎ (result ≡ Status.Memory) → machine.new ≡ machine.old }
     ensures status { IsOfUnopened result }
     ensures disk_fault { result ≡ Status.DiskFault → cause ≡ RestartErr.DiskFault }
     ensures say_fault { result ≡ Status.SayFault → Rises (M.disk machine.old).say_faults (M.disk machine.new).say_faults }

@@ -110,6 +110,8 @@ pub fn counts_answer<M: Machine>(engine: &Engine<AllOps>, machine: &M) -> Answer
     ensures { (p : Params) (commands : List Command) (line : List ℕ) → (holds : Holds p (M.disk machine.now) engine.now commands) → AsksFor line stat →
         IsDone p (M.disk machine.now) (M.disk machine.now) engine.now engine.now holds.world commands line (reply_of result) }
 {
+    standing::image_stands::<AllOps>();
+    standing::files_stand_for_one_state::<AllOps>();
     let _ = machine;
     let stat = engine.stat();
     Answer::Stat(Counts {

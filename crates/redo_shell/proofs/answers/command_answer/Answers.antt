@@ -99,3 +99,24 @@ returns-in-Err-Damaged-clause-undamaged g c = λ told attached. none_damaged (g.
 
 pub returns-in-Err-DiskFault-clause-cause : goal.returns-in-Err-DiskFault-clause-cause
 returns-in-Err-DiskFault-clause-cause g c = c.in-Err-DiskFault.ensures.call.fault (fails_so c.in-Err-DiskFault.field-0-is)
+
+pub returns-in-Ok-clause-steps : goal.returns-in-Ok-clause-steps
+returns-in-Ok-clause-steps g c = λ told p w shows. c.exec.ensures.takes.moments told p w shows.shows
+
+pub returns-in-Err-Refused-clause-steps : goal.returns-in-Err-Refused-clause-steps
+returns-in-Err-Refused-clause-steps g c = λ told p w shows. c.exec.ensures.takes.moments told p w shows.shows
+
+pub returns-in-Err-LogFull-clause-steps : goal.returns-in-Err-LogFull-clause-steps
+returns-in-Err-LogFull-clause-steps g c = λ told p w shows. c.exec.ensures.takes.moments told p w shows.shows
+
+pub returns-in-Err-LsnEnd-clause-steps : goal.returns-in-Err-LsnEnd-clause-steps
+returns-in-Err-LsnEnd-clause-steps g c = λ told p w shows. c.exec.ensures.takes.moments told p w shows.shows
+
+pub returns-in-Err-Damaged-clause-steps : goal.returns-in-Err-Damaged-clause-steps
+returns-in-Err-Damaged-clause-steps g c = λ told p w shows. c.exec.ensures.takes.moments told p w shows.shows
+
+pub returns-in-Err-DiskFault-clause-steps : goal.returns-in-Err-DiskFault-clause-steps
+returns-in-Err-DiskFault-clause-steps g c = λ told p w shows. c.exec.ensures.takes.moments told p w shows.shows
+
+pub returns-in-Err-Memory-clause-steps : goal.returns-in-Err-Memory-clause-steps
+returns-in-Err-Memory-clause-steps g c = λ told p w shows. c.exec.ensures.takes.moments told p w shows.shows

@@ -20,3 +20,9 @@ returns-clause-attached g c = λ attached. still_attached c.in_ok-count.ensures.
 
 pub returns-clause-unbroken : goal.returns-clause-unbroken
 returns-clause-unbroken g c = still_whole c.in_ok-count.ensures.call (λ f. f)
+
+pub returns-clause-steps : goal.returns-clause-steps
+returns-clause-steps g c = λ told p w shows. c.force.ensures.takes.moments told p w shows.shows
+
+pub returns-in_err-count-clause-steps : goal.returns-in_err-count-clause-steps
+returns-in_err-count-clause-steps g c = λ told p w shows. c.force.ensures.takes.moments told p w shows.shows

@@ -1,7 +1,7 @@
 use Rattle.std.proofs.Common.{arith, subst}
 use Rattle.disk_model.specs.Moments.{passes_twice}
 use Rattle.redo_shell.specs.Status.{IsOfUnopened}
-use Rattle.redo_shell.proofs.DumpLemmas.{dump_on, dump_stands, dump_unopened}
+use Rattle.redo_shell.proofs.DumpLemmas.{dump_courses, dump_on, dump_shows, dump_stands, dump_unopened}
 use Rattle.redo_shell.proofs.ExactLemmas.{unopened_dump}
 use Rattle.redo_shell.proofs.HoldLemmas.{rises_within}
 use Rattle.redo_shell.proofs.KeepLemmas.{keeps_settled}
@@ -25,7 +25,9 @@ returns-in-Ok-clause-call g c =
           let opened = c.in-Ok.ensures.ok p commands opens in
           let files = c.open_store.ensures.opens p commands opens in
           let holds = (opened.shows files.first.0 files.first.1).0 in
-          dump_on p old mid new commands c.dump_open.result (g.met.M.Machine.lawful c.args.machine.now) opens files.images (λ telling. c.open_store.ensures.time.moments_told.0 telling) files.quiet
+          dump_on p old mid new commands c.dump_open.result
+          (λ first is. (dump_courses p old mid new commands _ opened files c.dump_open.ensures.keeps first is c.in-Ok.ensures.settled (λ telling. c.open_store.ensures.time.moments_told.0 telling), λ done. dump_shows p old mid new commands _ opened files c.dump_open.ensures.keeps first is (c.open_store.ensures.time.files_told.0 opens.told)))
+          (g.met.M.Machine.lawful c.args.machine.now) opens files.images (λ telling. c.open_store.ensures.time.moments_told.0 telling) files.quiet
           (c.dump_open.ensures.moments p commands holds opened.all) (c.dump_open.ensures.said p commands holds) (c.dump_open.ensures.all p commands holds)
           (c.dump_open.ensures.store (c.open_store.ensures.time.files_told.0 opens.told) attached) settled
           (dump_stands p mid new _ commands holds opened.all c.dump_open.ensures.keeps settled);
@@ -49,7 +51,7 @@ returns-in-Err-clause-call g c =
       table = λ p commands opens.
           let files = c.open_store.ensures.opens p commands opens in
           let image = c.standing_files_meet_their_format.ensures.format p _ commands opens.stands in
-          dump_unopened p old mid commands c.in-Err.status (g.met.M.Machine.lawful c.args.machine.now) opens files.images files.quiet unopened.ends ((unopened.judged opens.told).store image) (unopened.quiet opens.told image);
+          dump_unopened p old mid commands c.in-Err.status (g.met.M.Machine.lawful c.args.machine.now) opens files files.quiet unopened.ends ((unopened.judged opens.told).store image) (unopened.quiet opens.told image);
       settled = λ done. absurd (subst IsOfUnopened done unopened.ends);
       ends = unopened_dump c.in-Err.status unopened.ends;
       judged = unopened.judged;

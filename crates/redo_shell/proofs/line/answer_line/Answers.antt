@@ -3,12 +3,13 @@ use Rattle.script_lines.specs.Replies.{bad}
 use Rattle.redo_shell.specs.declared.work.Work.TheVariants.{Run, Make, Ask, Tell, Force, Keep, Count, Nothing, Bad}
 use Rattle.redo_shell.proofs.HoldLemmas.{holds_between}
 use Rattle.redo_shell.proofs.LineLemmas.{as_work}
+use Rattle.redo_shell.proofs.MomentLemmas.{works_at_once}
 use Rattle.redo_shell.proofs.RunLemmas.{works_none, found_at_once, said_at_once, stops_before, skipped}
 use Rattle.redo_shell.proofs.line.answer_line.Goals as goal
 
 pub returns-in_err-work-clause-answers : goal.returns-in_err-work-clause-answers
 returns-in_err-work-clause-answers g c = λ p commands holds.
-    stops_before c.from_residual.result c.from_residual.ensures.0 (works_none (holds_between (g.met.M.Machine.lawful c.args.machine.now) holds)) refl
+    stops_before c.from_residual.result c.from_residual.ensures.0 (works_none (holds_between (g.met.M.Machine.lawful c.args.machine.now) holds)) (works_at_once c.args.line.now (g.met.M.Machine.lawful c.args.machine.now) holds) refl
 
 pub returns-in-Run-clause-answers : goal.returns-in-Run-clause-answers
 returns-in-Run-clause-answers g c = λ p commands holds.

@@ -5,6 +5,7 @@ use Rattle.disk_model.specs.declared.machine.FileNo.TheVariants.{Objects}
 use Rattle.formats.specs.Objects.{bounds_of}
 use Rattle.restart.specs.Starts.{OrAtStart}
 use Rattle.standing.specs.OneStable.{small_store}
+use Rattle.redo_shell.specs.Courses.{OpeningMoment}
 use Rattle.redo_shell.specs.Notices.{damaged, not_a_store}
 use Rattle.redo_shell.specs.Stages.{redo_dirty}
 use Rattle.redo_shell.specs.Store.{Between}
@@ -25,6 +26,7 @@ returns-in-Ok-clause-opens g c = λ p commands opens. record {
   quiet = c.restart.ensures.opening.quiet opens.told;
   images = λ telling. c.restart.ensures.images telling p commands opens;
   first = first_of opens (c.opens_on_a_world.ensures.world p (g.M.Machine.disk c.args.machine.now).reads commands opens.stands);
+  courses = λ telling first is. c.restart.ensures.moments telling p is.used is.world is.found;
 }
 
 pub returns-in-Err-clause-opens : goal.returns-in-Err-clause-opens
@@ -35,6 +37,9 @@ returns-in-Err-clause-opens g c = λ p commands opens.
       quiet = ap (λ (d : Disk). d.said) same ∙ c.restart.ensures.opening.quiet opens.told;
       images = λ telling. subst (λ (d : Disk). LeavesOnly (g.M.Machine.disk c.args.machine.now) d (OrAtStart (g.M.Machine.disk c.args.machine.now) (Between p (g.M.Machine.disk c.args.machine.now) (length commands) commands))) (sym same) (c.restart.ensures.images telling p commands opens);
       first = first_of opens (c.opens_on_a_world.ensures.world p (g.M.Machine.disk c.args.machine.now).reads commands opens.stands);
+      courses = λ telling first is.
+          subst (λ (d : Disk). LeavesOnly (g.M.Machine.disk c.args.machine.now) d (OrAtStart (g.M.Machine.disk c.args.machine.now) (OpeningMoment p commands (g.M.Machine.disk c.args.machine.now) first is))) (sym same)
+          (c.restart.ensures.moments telling p is.used is.world is.found);
     }
 
 pub returns-in-Ok-clause-ok : goal.returns-in-Ok-clause-ok
@@ -89,6 +94,7 @@ returns-in-Err-clause-unopened g c =
             opened = λ of. absurd (unopened_reads_none c.end_unopened.result c.end_unopened.ensures.status of);
             keeps = λ broken. keeps_behind old mid new (stays_unless judged.kept broken) c.end_unopened.ensures.keeps;
             memory = λ is. ⊎_elim (λ e. judged.memory (cc e)) (λ broken. (judged.damaged broken.0 broken.1 (cc (broken.2))).gate) (c.end_unopened.ensures.memory is);
+            silent = λ broken is. ap (λ (d : Disk). d.said) (ap g.M.Machine.disk (c.end_unopened.ensures.silent is)) ∙ c.restart.ensures.opening.quiet told;
           };
       quiet = λ told image.
           let whole = (c.in-Err.ensures.judged told).whole image in

@@ -103,6 +103,7 @@ pub returns-in_err-force-clause-answers : goal.returns-in_err-force-clause-answe
 returns-in_err-force-clause-answers g c = λ p commands holds all told.
     let so_far = c.loop-lines.invariant.going p commands holds all told in
     ends_in_force c.standing_files_meet_their_format.ensures.few so_far c.loop-lines.invariant.time (c.force.ensures.call.quiet so_far.holds.shows.shows.told) (λ telling. c.force.ensures.commands.images telling p (commands ++ so_far.acc) (in_engine so_far.holds))
+    (ended c.in_ok-next.next _ _ _ (c.in_ok-next.ensures.next (c.loop-lines.invariant.told told)) c.in-End.is) (λ telling. c.force.ensures.takes.moments telling p so_far.holds.world so_far.holds.shows.shows)
 
 pub returns-in_err-force-clause-some : goal.returns-in_err-force-clause-some
 returns-in_err-force-clause-some g c =
@@ -110,7 +111,8 @@ returns-in_err-force-clause-some g c =
       script,
       λ p commands holds all.
           let here = so_far p commands holds all in (
-            ends_in_force c.standing_files_meet_their_format.ensures.few here c.loop-lines.invariant.time (c.force.ensures.call.quiet here.holds.shows.shows.told) (λ telling. c.force.ensures.commands.images telling p (commands ++ here.acc) (in_engine here.holds)),
+            ends_in_force c.standing_files_meet_their_format.ensures.few here c.loop-lines.invariant.time (c.force.ensures.call.quiet here.holds.shows.shows.told) (λ telling. c.force.ensures.commands.images telling p (commands ++ here.acc) (in_engine here.holds))
+                refl (λ telling. c.force.ensures.takes.moments telling p here.holds.world here.holds.shows.shows),
             IfOk-from_err c.from_residual-in_err-force.result _ c.from_residual-in_err-force.ensures.0,
           ),
     )
@@ -123,7 +125,8 @@ returns-clause-some g c =
           let here = so_far p commands holds all in
           let forced = c.in_ok-force.ensures.forced p (commands ++ here.acc) (in_engine here.holds) in
           let after = holds_after (c.in_ok-force.ensures.commands.holds p (commands ++ here.acc) (in_engine here.holds)) (c.engine_stands.ensures p (commands ++ here.acc)) in (
-            ends_in_force c.standing_files_meet_their_format.ensures.few here c.loop-lines.invariant.time (c.force.ensures.call.quiet here.holds.shows.shows.told) (λ telling. c.force.ensures.commands.images telling p (commands ++ here.acc) (in_engine here.holds)),
+            ends_in_force c.standing_files_meet_their_format.ensures.few here c.loop-lines.invariant.time (c.force.ensures.call.quiet here.holds.shows.shows.told) (λ telling. c.force.ensures.commands.images telling p (commands ++ here.acc) (in_engine here.holds))
+                refl (λ telling. c.force.ensures.takes.moments telling p here.holds.world here.holds.shows.shows),
             completes here refl (c.force.ensures.call.quiet here.holds.shows.shows.told) forced.1 after c.in_ok-force.ensures.empty (c.in_ok-force.ensures.takes.follows p here.holds.world here.holds.shows.shows).1,
           ),
     )
@@ -132,6 +135,7 @@ pub returns-clause-answers : goal.returns-clause-answers
 returns-clause-answers g c = λ p commands holds all told.
     let so_far = c.loop-lines.invariant.going p commands holds all told in
     ends_in_force c.standing_files_meet_their_format.ensures.few so_far c.loop-lines.invariant.time (c.force.ensures.call.quiet so_far.holds.shows.shows.told) (λ telling. c.force.ensures.commands.images telling p (commands ++ so_far.acc) (in_engine so_far.holds))
+    (ended c.in_ok-next.next _ _ _ (c.in_ok-next.ensures.next (c.loop-lines.invariant.told told)) c.in-End.is) (λ telling. c.force.ensures.takes.moments telling p so_far.holds.world so_far.holds.shows.shows)
 
 pub returns-clause-complete : goal.returns-clause-complete
 returns-clause-complete g c = λ p commands holds all told.

@@ -1,0 +1,67 @@
+-- What is done at each moment of a call, by the courses of the restart and of the lines.
+use Rattle.std.specs.Prelude.{◌≡◌, ◌⊎◌, ◌++◌, ℕ, List, [], ◌∷◌, take}
+use Rattle.std.specs.List.{flat_map}
+use Rattle.disk_model.specs.Disk.{Files, Disk}
+use Rattle.disk_model.specs.Silent.{IsSilent}
+use Rattle.formats.specs.declared.params.Params.{Params}
+use Rattle.standing.specs.Moments.{ShowsSome}
+use Rattle.standing.specs.Standing.{FilesShow}
+use Rattle.cache_manager.specs.Courses.{Course, course, force_course}
+use Rattle.cache_manager.specs.Courses.Stop.{Through}
+use Rattle.restart.specs.Courses.{restart_course}
+use Rattle.script_lines.specs.Grammar.{force, AsksFor}
+use Rattle.script_lines.specs.Replies.{Reply, said_line}
+use Rattle.redo_shell.specs.Store.{Command, meaning_in}
+use Rattle.redo_shell.specs.Stages.{Stage, HasCourse, Leads, AllGoBy, IsFirst, redo_dirty}
+
+-- What may be done for the next of these lines before anything is said of it: the course that the line has the engine take,
+-- a force for `force` and behind the last line; nothing may be done for any line.
+abbrev pub IsDue : Params → Stage → List (List ℕ) → Course Command → Type 0
+IsDue p s [] c = c ≡ force_course (meaning_in p) s.world s.used
+IsDue p s (line ∷ lines) c = HasCourse p s line c ⊎ ((AsksFor line force × (c ≡ force_course (meaning_in p) s.world s.used)) ⊎ (c ≡ course [] s.used Through))
+
+-- the image shows the world after some first steps of what is due, none or all among them
+pub record IsWorkedOn (p : Params) (s : Stage) (todo : List (List ℕ)) (files : Files) : Type 0 where
+  pub its : Course Command
+  pub due : IsDue p s todo its
+  pub shows : ShowsSome (meaning_in p) p s.world its.steps files
+
+-- an answer to the line is being said, and the image shows the world that it leads to
+pub record IsBeingSaid (p : Params) (s : Stage) (line part : List ℕ) (files : Files) : Type 0 where
+  pub reply : Reply
+  pub after : Stage
+  pub leads : Leads p s line reply after
+  pub count : ℕ
+  pub begun : part ≡ take count (said_line reply)
+  pub shows : FilesShow (meaning_in p) p files after.world
+
+-- nothing is said of the next line, or an answer to it is being said
+abbrev pub IsAtWork : Params → Stage → List (List ℕ) → List ℕ → Files → Type 0
+IsAtWork p s todo part files = ((part ≡ []) × IsWorkedOn p s todo files) ⊎ ((line : List ℕ) × (rest : List (List ℕ)) × (todo ≡ line ∷ rest) × IsBeingSaid p s line part files)
+
+-- The bytes said behind `before` are whole answers to the first lines of the script, by which the stages go from the first
+-- on, and perhaps a part of the next answer. Before its first byte the image shows the world after some first steps of what
+-- is due for the next line, from then on the world that the answer leads to.
+pub record StageMoment (p : Params) (first : Stage) (script : List (List ℕ)) (before : List ℕ) (files : Files) (said : List ℕ) : Type 0 where
+  pub lines : List (List ℕ)
+  pub todo : List (List ℕ)
+  pub replies : List Reply
+  pub part : List ℕ
+  pub stage : Stage
+  pub script_is : script ≡ lines ++ todo
+  pub said_is : said ≡ before ++ flat_map said_line replies ++ part
+  pub goes : AllGoBy p first lines replies stage
+  pub work : IsAtWork p stage todo part files
+
+module _ (p : Params) (commands : List Command) (old : Disk) (first : Stage) (is : IsFirst p commands old first) where
+  -- while the store is opened nothing is said, and the image shows the world after some first steps of the restart's course
+  abbrev pub OpeningMoment : Files → List ℕ → Type 0
+  OpeningMoment files said = IsSilent (ShowsSome (meaning_in p) p is.world (restart_course (meaning_in p) redo_dirty is.world is.used).steps) old.said files said
+
+  -- a moment of a run of a script
+  abbrev pub RunMoment : List (List ℕ) → Files → List ℕ → Type 0
+  RunMoment script files said = OpeningMoment files said ⊎ StageMoment p first script old.said files said
+
+  -- a moment of a dump: behind the opening the image shows the world that the restart has made, whatever is said
+  abbrev pub TableMoment : Files → List ℕ → Type 0
+  TableMoment files said = OpeningMoment files said ⊎ FilesShow (meaning_in p) p files first.world
