@@ -17,7 +17,7 @@ use Rattle.store_engine.specs.Engine.{EngineView, InEachImage, forced_in}
 use Rattle.redo_shell.specs.Store.{Command, meaning_in, Stands, Opens, state_of, Holds, Between}
 use Rattle.redo_shell.specs.Courses.{OpeningMoment, TableMoment}
 use Rattle.redo_shell.specs.Open.{IsOpen, OpensFiles}
-use Rattle.redo_shell.specs.Stages.{Stage, IsFirst, stage_of}
+use Rattle.redo_shell.specs.Stages.{Stage, IsFirst}
 use Rattle.redo_shell.specs.Calls.{IsDumpOn}
 use Rattle.redo_shell.specs.Dump.{row_of, rows_below, dump_of, DumpMoment}
 use Rattle.redo_shell.specs.Keeps.{KeepsFiles}

@@ -6,7 +6,7 @@ pub mod RunLemmas
 pub mod LineLemmas
 pub mod ScriptLemmas
 pub mod OpenLemmas
-pub mod WordLemmas
+pub mod CallLemmas
 pub mod ExactLemmas
 pub mod DumpLemmas
 pub mod KeepLemmas
@@ -24,3 +24,6 @@ pub mod DoneLemmas
 pub mod UpkeepLemmas
 pub mod FetchLemmas
 pub mod RestartLemmas
+pub mod SumLemmas
+pub mod DemoLemmas
+pub mod DemoPlayed

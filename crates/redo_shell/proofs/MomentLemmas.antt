@@ -1,5 +1,5 @@
 -- What is done at each moment while a line is answered.
-use Rattle.std.proofs.Common.{◌≡◌, ◌∙◌, ap, sym, subst, refl, ◌⊎◌, inl, inr, ◌++◌, ℕ, List, [], ◌∷◌, take}
+use Rattle.std.proofs.Common.{◌∙◌, ap, sym, subst, refl, inl, inr, ◌++◌, ℕ, List, [], ◌∷◌, take}
 use Rattle.std.proofs.Math.Path.{fun_ext}
 use Rattle.disk_model.specs.Disk.{Files, Disk, IsDisk, LeavesOnly, Passes, Runs, Same, SaysFront, Stays}
 use Rattle.disk_model.specs.Moments.{first_call, runs_on, started, weaker}

@@ -7,12 +7,14 @@ use Rattle.formats.specs.declared.params.Params.{Params}
 use Rattle.standing.specs.Standing.{FilesShow}
 use Rattle.script_lines.specs.Grammar.{lines_of}
 use Rattle.script_lines.specs.Words.{Asks}
-use Rattle.script_lines.specs.declared.words.Asked.TheVariants.{Init, Run, Dump}
+use Rattle.script_lines.specs.declared.words.Asked.{Asked}
+use Rattle.script_lines.specs.declared.words.Asked.TheVariants.{Init, Run, Dump, Demo}
 use Rattle.store_engine.specs.Engine.{InEachImage}
 use Rattle.restart.specs.Starts.{OrAtStart}
 use Rattle.redo_shell.specs.Store.{Command, meaning_in, Stands, Opens, IsNew, IsNewStore}
 use Rattle.redo_shell.specs.Answers.{Moment, SaysTruly}
 use Rattle.redo_shell.specs.Causes.{JudgesFiles, SaysStore}
+use Rattle.redo_shell.specs.Demo.{IsDemo}
 use Rattle.redo_shell.specs.Dump.{dump_of, DumpMoment}
 use Rattle.redo_shell.specs.Keeps.{KeepsFiles}
 use Rattle.redo_shell.specs.Run.{IsComplete}
@@ -99,6 +101,13 @@ pub record IsMaking (p : Params) (old new : Disk) (status : Status) : Type 0 whe
   pub keeps : old.tells_files → BeginsStore (old.reads Objects) → KeepsFiles old new
   pub fresh : old.tells_files → status ≡ Done → BeginsStore (old.reads Objects) → ⊥
   pub already : old.tells_files → status ≡ AlreadyStore → SaysStore old new
+
+-- what a call makes of the files and says, by what it was asked
+abbrev pub IsCallFor : Asked → Type 0 → List ℕ → List ℕ → Disk → Disk → Status → Type 0
+IsCallFor Run told left rest old new status = IsRunCall told left rest old new status
+IsCallFor Dump told left rest old new status = IsDumpCall old new status
+IsCallFor (Init p) told left rest old new status = IsMaking p old new status
+IsCallFor (Demo seed steps) told left rest old new status = IsDemo seed steps old new status
 
 -- A call with these words, and this script where its source reports it, or some script where it does not, goes on any calls
 -- before it, whatever follows it: nothing, a kill at one of its moments, or a crash.

@@ -1,5 +1,5 @@
 -- Why a call of the program ends with its status, and what it leaves and says then.
-use Rattle.std.specs.Prelude.{⊤, ◌≡◌, ◌≢◌, ◌⊎◌, ◌++◌, ◌^◌, ℕ, List}
+use Rattle.std.specs.Prelude.{◌≡◌, ◌≢◌, ◌⊎◌, ◌++◌, ◌^◌, ℕ, List}
 use Rattle.disk_model.specs.Disk.{Files, Disk, Rises}
 use Rattle.disk_model.specs.declared.machine.FileNo.{FileNo}
 use Rattle.disk_model.specs.declared.machine.FileNo.TheVariants.{Objects}
@@ -10,7 +10,6 @@ use Rattle.op_codec.specs.AllOps.{all_meaning}
 use Rattle.script_lines.specs.Reading.{Takes}
 use Rattle.script_lines.specs.Words.{Asks}
 use Rattle.script_lines.specs.declared.words.Asked.{Asked}
-use Rattle.script_lines.specs.declared.words.Asked.TheVariants.{Init, Run, Dump, Demo}
 use Rattle.store_engine.specs.Engine.{InEachImage}
 use Rattle.redo_shell.specs.Keeps.{KeepsFiles}
 use Rattle.redo_shell.specs.Notices as notices
@@ -19,16 +18,9 @@ use Rattle.redo_shell.specs.Store.{IsWellFormed}
 use Rattle.redo_shell.specs.declared.status.Status.{Status}
 use Rattle.redo_shell.specs.declared.status.Status.TheVariants.{Usage, NotAStore, AlreadyStore, Damaged, DiskFault, ReadFault, SayFault, Memory, TooLong}
 
--- what the program does for the words of a command line: all but a demo, which it does not have yet
-abbrev pub IsOffered : Asked → Type 0
-IsOffered Run = ⊤
-IsOffered Dump = ⊤
-IsOffered (Init params) = ⊤
-IsOffered (Demo seed steps) = ⊥
-
 -- the words ask for nothing that the program does
 abbrev pub AsksNothing : List (List ℕ) → Type 0
-AsksNothing words = (asked : Asked) → IsOffered asked → Asks words asked → ⊥
+AsksNothing words = (asked : Asked) → Asks words asked → ⊥
 
 -- no store is there: the objects gate is not open; the files read as before, and that is said
 abbrev pub SaysNoStore : Disk → Disk → Type 0

@@ -9,7 +9,7 @@ use Rattle.formats.specs.Image.{BeginsStore}
 use Rattle.formats.specs.declared.params.Params.{Params}
 use Rattle.op_codec.specs.AllOps.{all_meaning}
 use Rattle.script_lines.specs.Words.{Asks}
-use Rattle.script_lines.specs.declared.words.Asked.TheVariants.{Init, Run, Dump}
+use Rattle.script_lines.specs.declared.words.Asked.TheVariants.{Init, Run, Dump, Demo}
 use Rattle.redo_shell.specs.Causes.{AsksNothing}
 use Rattle.redo_shell.specs.Notices as notices
 use Rattle.redo_shell.specs.Store.{Command, IsWellFormed, Opens}
@@ -48,3 +48,5 @@ pub record ComesExactly (words : List (List ℕ)) (told : Type 0) (left : List �
   pub dump : Asks words Dump → old.tells_files → OpensExactly old new status
   pub dumps : Asks words Dump → status ≢ Memory → (p : Params) (commands : List Command) → Opens p old commands → status ≡ Done
   pub init : (p : Params) → Asks words (Init p) → old.tells_files → MakesExactly old status
+  -- a demo that finds memory succeeds
+  pub demos : (seed steps : ℕ) → Asks words (Demo seed steps) → status ≢ Memory → status ≡ Done

@@ -16,4 +16,5 @@ pub mod Exactly
 pub mod Dump
 pub mod Keeps
 pub mod Sessions
+pub mod Demo
 pub mod Calls

@@ -69,7 +69,7 @@ pub data Sessions {T : Type 0} (disk : T → Disk) (first : T) : List Params →
   dump : {inits : List Params} {runs : List Ran} → (old new next : T) (said : List ℕ) → Sessions disk first inits runs old → ((BeginsStore ((disk old).reads Objects) → ⊥) → (disk old).tells_moments → KeepsFiles (disk old) (disk new))
       → ((p : Params) (commands : List Command) → Opens p (disk old) commands → (disk old).tells_moments → LeavesOnly (disk old) (disk new) (OrAtStart (disk old) (DumpMoment p commands (disk old).said)))
       → Follows (disk old) (disk new) (disk next) said → Sessions disk first inits runs next
-  -- any other call, by `keeps`, a part of `usage`, of `init`, and of `judged` in `run`
+  -- any other call, by `keeps`, a part of `usage`, of `demo`, of `init`, and of `judged` in `run`
   other : {inits : List Params} {runs : List Ran} → (old new next : T) (said : List ℕ) → Sessions disk first inits runs old → KeepsFiles (disk old) (disk new)
       → Follows (disk old) (disk new) (disk next) said → Sessions disk first inits runs next
 

@@ -6,16 +6,20 @@
 //! printed to be forced. Its answers go by the stages of the store, from the world that a restart finds in the files: `full`,
 //! `end` and the counts follow from the course that each line takes. A law says the same of any number of calls, kills and
 //! crashes in a row. A line may make several commands, a beginning of which stays where the log, memory or the disk ends
-//! them. The crate depends on store_engine for the store, on command_lists, app_steps and tree_client for lines that make
-//! several commands, on logical_btree and btree_ops for trees, on script_lines for lines, answers and words, on op_codec and
-//! op_meaning for the operation that a line asks for, on explain_core, cache_manager, execution, checkpointing and restart
-//! for worlds and the courses of calls, on formats and standing for what files stand for, on log_records, log_frames and
-//! stable_objects for the log and the slots of an engine, and on the machine and the source of disk_model.
+//! them. A demo answers a generated script on a store in memory, and says what the plain map's answers to it count to.
+//!
+//! The crate depends on store_engine for the store, on command_lists, app_steps and tree_client for lines that make several
+//! commands, on logical_btree and btree_ops for trees, on script_lines for lines, answers and words, on demo_script for the
+//! script of a demo, on op_codec and op_meaning for the operation that a line asks for, on explain_core, cache_manager,
+//! execution, checkpointing and restart for worlds and the courses of calls, on formats and standing for what files stand
+//! for, on log_records, log_frames and stable_objects for the log and the slots of an engine, and on the machines and the
+//! sources of disk_model.
 #![tactic(auto)]
 
 mod answers;
 mod asking;
 mod damage;
+mod demo;
 mod dump;
 mod fetching;
 mod init;
@@ -29,6 +33,7 @@ mod say;
 mod script;
 mod status;
 mod stop;
+mod tally;
 mod upkeep;
 mod work;
 

@@ -1,17 +1,20 @@
 // The program.
-ghost use Rattle.std.specs.Prelude.{List, ℕ, map, string_bytes};
-ghost use Rattle.disk_model.specs.Disk.{LeavesOnly, Passes};
+ghost use Rattle.std.specs.Prelude.{◌≡◌, ◌^◌, List, ℕ, map, string_bytes};
+ghost use Rattle.disk_model.specs.Disk.{LeavesOnly, Passes, Rises};
 ghost use Rattle.formats.specs.declared.params.Params.{Params};
 ghost use Rattle.restart.specs.Starts.{OrAtStart};
 ghost use Rattle.script_lines.specs.Grammar.{lines_of};
-ghost use Rattle.script_lines.specs.Words.{Asks};
-ghost use Rattle.script_lines.specs.declared.words.Asked.TheVariants.{Init, Run, Dump};
+ghost use Rattle.script_lines.specs.Reading.{Takes};
+ghost use Rattle.script_lines.specs.Words.{Asks, IsAllowed};
+ghost use Rattle.script_lines.specs.declared.words.Asked.TheVariants.{Init, Run, Dump, Demo};
 ghost use Rattle.redo_shell.specs.Answers.{Moment};
-ghost use Rattle.redo_shell.specs.Calls.{IsRunCall, IsDumpCall, IsMaking, GoesOn};
-ghost use Rattle.redo_shell.specs.Causes.{AsksNothing, IsUsage, ComesByCause};
+ghost use Rattle.redo_shell.specs.Calls.{IsRunCall, IsDumpCall, IsMaking, IsCallFor, GoesOn};
+ghost use Rattle.redo_shell.specs.Causes.{AsksNothing, CountsFaults, IsUsage, ComesByCause};
+ghost use Rattle.redo_shell.specs.Demo.{IsDemo};
 ghost use Rattle.redo_shell.specs.Exactly.{IsFaultless, ComesExactly};
 ghost use Rattle.redo_shell.specs.Store.{Command, Opens};
 
+use crate::demo::demo;
 use crate::dump::dump;
 use crate::init::init;
 use crate::run::run;
@@ -25,6 +28,28 @@ use store_engine::standing_files_meet_their_format;
 
 /// What is said where the words ask nothing.
 const USAGE: &[u8] = b"usage: redo init N CAP LIMIT | run | dump | demo --seed S --steps T\n";
+
+/// Does what was asked, with the files of the machine, its output, and the script that the source gives.
+fn serve<M: Machine, S: Source>(
+    alloc: Global,
+    asked: Asked,
+    machine: &mut M,
+    input: &mut S,
+) -> Status
+    requires { IsAllowed asked }
+    ensures time { Passes (M.disk machine.old) (M.disk machine.new) }
+    ensures call { IsCallFor asked (S.tells input.old) (S.left input.old) (S.left input.new) (M.disk machine.old) (M.disk machine.new) result }
+    ensures faults { CountsFaults (M.disk machine.old) (M.disk machine.new) result }
+    ensures read_fault { result ≡ Status.ReadFault → Rises (S.faults input.old) (S.faults input.new) }
+    ensures too_long { S.tells input.old → result ≡ Status.TooLong → Takes (S.left input.old) (S.left input.new) 0 (2 ^ 40) }
+{
+    match asked {
+        Asked::Run => run(alloc, machine, input),
+        Asked::Dump => dump(alloc, machine),
+        Asked::Init(params) => init(machine, params),
+        Asked::Demo { seed, steps } => demo(alloc, machine, seed, steps),
+    }
+}
 
 /// The program: does what the words ask, the program's name first, with the files of the machine, its output, and the
 /// script that the source gives.
@@ -44,6 +69,8 @@ pub fn top<M: Machine, S: Source>(
         IsRunCall (S.tells input.old) (S.left input.old) (S.left input.new) (M.disk machine.old) (M.disk machine.new) result }
     ensures dump { Asks (map string_bytes words.now) Dump → IsDumpCall (M.disk machine.old) (M.disk machine.new) result }
     ensures init { (p : Params) → Asks (map string_bytes words.now) (Init p) → IsMaking p (M.disk machine.old) (M.disk machine.new) result }
+    // A demo leaves the files alone, and says what the plain map's answers to the generated script count to.
+    ensures demo { (seed steps : ℕ) → Asks (map string_bytes words.now) (Demo seed steps) → IsDemo seed steps (M.disk machine.old) (M.disk machine.new) result }
     ensures usage { AsksNothing (map string_bytes words.now) → IsUsage (M.disk machine.old) (M.disk machine.new) result }
     // Each status of trouble comes only with its cause, and, where no count of faults rises, exactly there.
     ensures cause { ComesByCause (map string_bytes words.now) (S.tells input.old) (S.left input.old) (S.left input.new) (S.faults input.old) (S.faults input.new) (M.disk machine.old) (M.disk machine.new) result }
@@ -55,11 +82,7 @@ pub fn top<M: Machine, S: Source>(
     standing_files_meet_their_format::<AllOps>();
     words_ask_one_thing();
     match read_words(words) {
-        Some(Asked::Run) => run(alloc, machine, input),
-        Some(Asked::Dump) => dump(alloc, machine),
-        Some(Asked::Init(params)) => init(machine, params),
-        // A demo is yet to come.
-        Some(Asked::Demo { .. }) => end_with(machine, USAGE, Status::Usage),
+        Some(asked) => serve(alloc, asked, machine, input),
         None => end_with(machine, USAGE, Status::Usage),
     }
 }

@@ -14,7 +14,7 @@ const NO_STORE: Run = ("redo run", b"get 0\n", Status::NotAStore, b"not a store\
 const USAGE: &[u8] = b"usage: redo init N CAP LIMIT | run | dump | demo --seed S --steps T\n";
 
 // Runs in one folder, empty at first, with a crash between them that loses what was not synced.
-const ROWS: [&[Run]; 29] = [
+const ROWS: [&[Run]; 30] = [
     &[
         NEW,
         (
@@ -187,7 +187,7 @@ const ROWS: [&[Run]; 29] = [
         NO_STORE,
         ("redo dump", b"", Status::NotAStore, b"not a store\n"),
     ],
-    // Other words make no file.
+    // Other words make no file, and a demo makes none.
     &[
         ("redo init 8 64 4223", b"", Status::Usage, USAGE),
         NO_STORE,
@@ -196,6 +196,16 @@ const ROWS: [&[Run]; 29] = [
     &[("redo fly", b"", Status::Usage, USAGE), NO_STORE, NEW],
     &[("redo", b"", Status::Usage, USAGE), NO_STORE, NEW],
     &[("redo --help", b"", Status::Usage, USAGE), NO_STORE, NEW],
+    &[
+        (
+            "redo demo --seed 0 --steps 1",
+            b"",
+            Status::Done,
+            b"demo seed 0 steps 1 lines 19 bytes 47 accepted 0 refused 0 sum 35902\n",
+        ),
+        NO_STORE,
+        NEW,
+    ],
     &[
         NEW,
         (

@@ -1,0 +1,116 @@
+-- What holds of a call for any words, from what holds of one that was asked one thing.
+use Rattle.std.proofs.Common.{◌≡◌, ◌≢◌, ◌^◌, List, ℕ, refl, subst}
+use Rattle.disk_model.specs.Disk.{Disk, IsDisk, Rises}
+use Rattle.formats.specs.declared.params.Params.{Params}
+use Rattle.script_lines.specs.Grammar.{lines_of}
+use Rattle.script_lines.specs.Reading.{Takes}
+use Rattle.script_lines.specs.Words.{Asks}
+use Rattle.script_lines.specs.declared.words.Asked.{Asked}
+use Rattle.script_lines.specs.declared.words.Asked.TheVariants.{Init, Run, Dump, Demo}
+use Rattle.redo_shell.specs.Calls.{IsCallFor, GoesOn}
+use Rattle.redo_shell.specs.Causes.{CountsFaults, SaysNoStore, SaysDamage, SaysStore, ComesByCause}
+use Rattle.redo_shell.specs.Demo.{IsOfDemo}
+use Rattle.redo_shell.specs.Exactly.{IsFaultless, ComesExactly}
+use Rattle.redo_shell.specs.Sessions.{run, init, dump}
+use Rattle.redo_shell.specs.Status.{IsOfRun, IsOfDump, IsOfInit}
+use Rattle.redo_shell.specs.Store.{Command, IsWellFormed, Opens}
+use Rattle.redo_shell.specs.declared.status.Status.{Status}
+use Rattle.redo_shell.specs.declared.status.Status.TheVariants.{Done, DoneWithRefusals, Usage, NotAStore, AlreadyStore, Damaged, DiskFault, ReadFault, SayFault, Memory, TooLong}
+use Rattle.redo_shell.proofs.ExactLemmas.{calm_run, calm_told, calm_dump, opens_exactly, runs_exactly, makes_exactly}
+use Rattle.redo_shell.proofs.RestartLemmas.{image_begins}
+
+module _ (told : Type 0) (left rest : List ℕ) (old new : Disk) (status : Status) where
+  -- what was asked is this
+  pub call_for : {asked other : Asked} → asked ≡ other → IsCallFor asked told left rest old new status → IsCallFor other told left rest old new status
+  call_for is call = subst (λ (a : Asked). IsCallFor a told left rest old new status) is call
+
+  not_usage : (asked : Asked) → IsCallFor asked told left rest old new status → status ≡ Usage → ⊥
+  not_usage Run call is = subst IsOfRun is call.ends
+  not_usage Dump call is = subst IsOfDump is call.ends
+  not_usage (Init p) call is = subst IsOfInit is call.ends
+  not_usage (Demo seed steps) call is = subst IsOfDemo is call.ends
+
+  no_store_said : (asked : Asked) → IsCallFor asked told left rest old new status → old.tells_files → status ≡ NotAStore → SaysNoStore old new
+  no_store_said Run call files is = (call.judged files).no_store is
+  no_store_said Dump call files is = (call.judged files).no_store is
+  no_store_said (Init p) call files is = absurd (subst IsOfInit is call.ends)
+  no_store_said (Demo seed steps) call files is = absurd (subst IsOfDemo is call.ends)
+
+  damage_said : (asked : Asked) → IsCallFor asked told left rest old new status → old.tells_files → status ≡ Damaged → SaysDamage old new
+  damage_said Run call files is = (call.judged files).damaged is
+  damage_said Dump call files is = (call.judged files).damaged is
+  damage_said (Init p) call files is = absurd (subst IsOfInit is call.ends)
+  damage_said (Demo seed steps) call files is = absurd (subst IsOfDemo is call.ends)
+
+  store_said : (asked : Asked) → IsCallFor asked told left rest old new status → old.tells_files → status ≡ AlreadyStore → SaysStore old new
+  store_said Run call files is = absurd (subst IsOfRun is call.ends)
+  store_said Dump call files is = absurd (subst IsOfDump is call.ends)
+  store_said (Init p) call files is = call.already files is
+  store_said (Demo seed steps) call files is = absurd (subst IsOfDemo is call.ends)
+
+-- a demo that finds memory, in which no count of faults rises
+calm_demo : {old new : Disk} {before now : ℕ} (status : Status) → IsFaultless old new before now → status ≢ Memory → IsOfDemo status → CountsFaults old new status → status ≡ Done
+calm_demo Done calm memory of faults = refl
+calm_demo SayFault calm memory of faults = absurd (calm.output (faults.output refl))
+calm_demo Memory calm memory of faults = absurd (memory refl)
+calm_demo DoneWithRefusals calm memory of faults = absurd of
+calm_demo Usage calm memory of faults = absurd of
+calm_demo NotAStore calm memory of faults = absurd of
+calm_demo AlreadyStore calm memory of faults = absurd of
+calm_demo Damaged calm memory of faults = absurd of
+calm_demo DiskFault calm memory of faults = absurd of
+calm_demo ReadFault calm memory of faults = absurd of
+calm_demo TooLong calm memory of faults = absurd of
+
+module _ {words : List (List ℕ)} {told : Type 0} {left rest : List ℕ} {before now : ℕ} {old new : Disk} {status : Status} (asked : Asked) (call : IsCallFor asked told left rest old new status)
+    (faults : CountsFaults old new status) (read_fault : status ≡ ReadFault → Rises before now) (too_long : told → status ≡ TooLong → Takes left rest 0 (2 ^ 40)) where
+  -- each status of trouble comes only with its cause
+  pub call_caused : ComesByCause words told left rest before now old new status
+  call_caused = record {
+    usage = λ is. absurd (not_usage told left rest old new status asked call is);
+    usage_said = λ files is. absurd (not_usage told left rest old new status asked call is);
+    no_store = no_store_said told left rest old new status asked call;
+    damaged = damage_said told left rest old new status asked call;
+    already = store_said told left rest old new status asked call;
+    faults = faults;
+    read_fault = read_fault;
+    too_long = too_long;
+  }
+
+  -- and where no count of faults rises, exactly there
+  pub call_exactly : Asks words asked → ((other : Asked) → Asks words other → asked ≡ other) → ((p : Params) (commands : List Command) → Opens p old commands → IsWellFormed old.reads) → IsFaultless old new before now
+      → ComesExactly words told left old new status
+  call_exactly asks one format faultless = record {
+    usage = (λ is. absurd (not_usage told left rest old new status asked call is), λ none. absurd (none asked asks));
+    run = λ is files.
+        let it = call_for told left rest old new status (one Run is) call in
+        opens_exactly status (calm_run status faultless it.ends faults read_fault) (it.judged files);
+    runs = λ is memory.
+        let it = call_for told left rest old new status (one Run is) call in
+        runs_exactly status (calm_run status faultless it.ends faults read_fault) memory it too_long format;
+    dump = λ is files.
+        let it = call_for told left rest old new status (one Dump is) call in
+        opens_exactly status (calm_told status faultless it.ends faults) (it.judged files);
+    dumps = λ is memory p commands opens.
+        let it = call_for told left rest old new status (one Dump is) call in
+        calm_dump status faultless memory it.ends faults ((it.judged opens.told).store (format p commands opens));
+    init = λ p is. makes_exactly status faultless (call_for told left rest old new status (one (Init p) is) call) faults;
+    demos = λ seed steps is memory. calm_demo status faultless memory (call_for told left rest old new status (one (Demo seed steps) is) call).ends faults;
+  }
+
+-- what it does goes on any calls before it
+pub call_goes_on : {T : Type 0} (disk : T → Disk) {words : List (List ℕ)} {told : Type 0} {left rest : List ℕ} {status : Status} (old new : T) → IsDisk (disk old)
+    → ((other : Asked) → Asks words other → IsCallFor other told left rest (disk old) (disk new) status) → GoesOn disk words told (lines_of left) old new
+call_goes_on disk {words} {told} {left} old new lawful call = record {
+  run = λ first next inits runs bytes asks told begins before follows.
+      run old new next (record { script = lines_of left; bytes = bytes }) before begins (λ p commands opens. ((call Run asks).script p commands opens told).moments) follows;
+  run_untold = λ asks.
+      let (script, each) = (call Run asks).untold in (
+        script,
+        λ first next inits runs bytes begins before follows. run old new next (record { script = script; bytes = bytes }) before begins (λ p commands opens. (each p commands opens).moments) follows,
+      );
+  init = λ p first next inits runs said asks none before follows. init old new next p said before none (λ telling. (call (Init p) asks).moments telling none) follows;
+  dump = λ first next inits runs said asks before follows.
+      dump old new next said before (λ none telling. ((call Dump asks).judged (lawful.telling telling)).keeps (λ image. none (image_begins image)))
+      (λ p commands opens. ((call Dump asks).table p commands opens).moments) follows;
+}

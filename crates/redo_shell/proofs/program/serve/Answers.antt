@@ -1,0 +1,39 @@
+use Rattle.std.proofs.Common.{sym, subst}
+use Rattle.script_lines.specs.Words.{IsAllowed}
+use Rattle.redo_shell.specs.Demo.{IsOfDemo}
+use Rattle.redo_shell.specs.Status.{IsOfDump, IsOfInit}
+use Rattle.redo_shell.proofs.CallLemmas.{call_for}
+use Rattle.redo_shell.proofs.program.serve.Goals as goal
+
+pub init-requires : goal.init-requires
+init-requires g c = subst IsAllowed c.in-Init.is c.requires
+
+pub returns-in-Run-clause-call : goal.returns-in-Run-clause-call
+returns-in-Run-clause-call g c = call_for _ _ _ _ _ _ (sym c.in-Run.is) c.run.ensures.call
+
+pub returns-in-Dump-clause-call : goal.returns-in-Dump-clause-call
+returns-in-Dump-clause-call g c = call_for _ _ _ _ _ _ (sym c.in-Dump.is) c.dump.ensures.call
+
+pub returns-in-Dump-clause-read_fault : goal.returns-in-Dump-clause-read_fault
+returns-in-Dump-clause-read_fault g c = λ is. absurd (subst IsOfDump is c.dump.ensures.call.ends)
+
+pub returns-in-Dump-clause-too_long : goal.returns-in-Dump-clause-too_long
+returns-in-Dump-clause-too_long g c = λ told is. absurd (subst IsOfDump is c.dump.ensures.call.ends)
+
+pub returns-in-Init-clause-call : goal.returns-in-Init-clause-call
+returns-in-Init-clause-call g c = call_for _ _ _ _ _ _ (sym c.in-Init.is) c.init.ensures.making
+
+pub returns-in-Init-clause-read_fault : goal.returns-in-Init-clause-read_fault
+returns-in-Init-clause-read_fault g c = λ is. absurd (subst IsOfInit is c.init.ensures.making.ends)
+
+pub returns-in-Init-clause-too_long : goal.returns-in-Init-clause-too_long
+returns-in-Init-clause-too_long g c = λ told is. absurd (subst IsOfInit is c.init.ensures.making.ends)
+
+pub returns-in-Demo-clause-call : goal.returns-in-Demo-clause-call
+returns-in-Demo-clause-call g c = call_for _ _ _ _ _ _ (sym c.in-Demo.is) c.demo.ensures.demo
+
+pub returns-in-Demo-clause-read_fault : goal.returns-in-Demo-clause-read_fault
+returns-in-Demo-clause-read_fault g c = λ is. absurd (subst IsOfDemo is c.demo.ensures.demo.ends)
+
+pub returns-in-Demo-clause-too_long : goal.returns-in-Demo-clause-too_long
+returns-in-Demo-clause-too_long g c = λ told is. absurd (subst IsOfDemo is c.demo.ensures.demo.ends)
