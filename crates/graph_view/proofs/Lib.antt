@@ -1,0 +1,4 @@
+pub mod EdgeLemmas
+pub mod NodeLemmas
+pub mod LineLemmas
+pub mod DotLemmas

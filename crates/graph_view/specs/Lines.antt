@@ -1,0 +1,81 @@
+-- The entries of the commands that the lines of a script ask for, all of them taken as accepted.
+use Rattle.std.specs.Prelude.{◌≡◌, ⊤, ℕ, ◌+◌, false, List, [], ◌∷◌, ◌++◌, length, Option, Some, None}
+use Rattle.install_order.specs.declared.entry.Entry.{Entry}
+use Rattle.op_meaning.specs.Rows.{Row}
+use Rattle.op_meaning.specs.Table.{copy_row, append_row, cut_row, sort_row, swap_row, exec_row, app_read_row, app_write_row}
+use Rattle.script_lines.specs.Grammar.{put, copy, append, cut, sort, swap, exec, arun, aread, awrite, tinsert, tdelete, Request, AsksFor, IsBad, lines_of}
+use Rattle.graph_view.specs.declared.accesses.Accesses.{Accesses}
+use Rattle.graph_view.specs.declared.asked.Asked.{Asked}
+use Rattle.graph_view.specs.declared.asked.Asked.TheVariants.{Command, Nothing, Several, Bad}
+use Rattle.graph_view.specs.declared.draw_error.DrawError.{DrawError}
+use Rattle.graph_view.specs.declared.draw_error.DrawError.TheVariants as errors
+use Rattle.graph_view.specs.Dot.{IsGraph}
+
+-- a command that is this operation of the table
+abbrev pub by_row : {O : Type 0} → Row O → O → Asked
+by_row row op = Command (record { reads = row.reads op; writes = row.writes op })
+
+-- what a request is to the write graph: a put reads nothing, and writes its object; how many commands a run of an
+-- application or a change of a tree makes depends on the values; all others but the operations make none
+abbrev pub asked_by : Request → Asked
+asked_by (put x bytes) = Command (record { reads = []; writes = x ∷ [] })
+asked_by (copy x y) = by_row copy_row (record { from = x; to = y })
+asked_by (append x y) = by_row append_row (record { from = x; to = y })
+asked_by (cut x y place) = by_row cut_row (record { from = x; to = y; place = place })
+asked_by (sort x y width) = by_row sort_row (record { from = x; to = y; width = width })
+asked_by (swap x y) = by_row swap_row (record { first = x; second = y })
+asked_by (exec app) = by_row exec_row (record { app = app })
+asked_by (aread app x) = by_row app_read_row (record { app = app; from = x })
+asked_by (awrite app x) = by_row app_write_row (record { app = app; to = x })
+asked_by (arun app steps) = Several
+asked_by (tinsert low high key value) = Several
+asked_by (tdelete low high key) = Several
+asked_by request = Nothing
+
+-- what a line is to the write graph
+abbrev pub IsAsked : List ℕ → Asked → Type 0
+IsAsked line Bad = IsBad line
+IsAsked line asked = (request : Request) × AsksFor line request × (asked_by request ≡ asked)
+
+-- the entry of a command
+abbrev pub entry_of : ℕ → Accesses → Entry
+entry_of n accesses = record { number = n; reads = accesses.reads; writes = accesses.writes; identity = false }
+
+-- the lines ask for these commands, numbered from n on, and for nothing that is refused
+pub data AreEntries : ℕ → List (List ℕ) → List Entry → Type 0 where
+  no_line : {n : ℕ} → AreEntries n [] []
+  command : {n : ℕ} {line : List ℕ} {lines : List (List ℕ)} {entries : List Entry} (accesses : Accesses)
+      → IsAsked line (Command accesses) → AreEntries (n + 1) lines entries → AreEntries n (line ∷ lines) (entry_of n accesses ∷ entries)
+  nothing : {n : ℕ} {line : List ℕ} {lines : List (List ℕ)} {entries : List Entry}
+      → IsAsked line Nothing → AreEntries n lines entries → AreEntries n (line ∷ lines) entries
+
+-- the text draws the write graph of all commands of the lines, numbered from 1 on
+abbrev pub IsGraphOf : List (List ℕ) → List ℕ → Type 0
+IsGraphOf lines text = (entries : List Entry) × AreEntries 1 lines entries × IsGraph entries text
+
+-- the line of this number, from 1 on, is this to the write graph
+abbrev pub IsAskedAt : List (List ℕ) → ℕ → Asked → Type 0
+IsAskedAt lines n asked = (before after : List (List ℕ)) × (line : List ℕ) × (lines ≡ before ++ line ∷ after) × (n ≡ length before + 1) × IsAsked line asked
+
+-- why the lines are not drawn
+abbrev pub IsCause : List (List ℕ) → DrawError → Type 0
+IsCause lines (errors.Bad n) = IsAskedAt lines n Bad
+IsCause lines (errors.Several n) = IsAskedAt lines n Several
+IsCause lines error = ⊤
+
+-- what one line asks was added to the entries before it
+abbrev pub IsAdded : List Entry → Asked → List Entry → Type 0
+IsAdded before (Command accesses) after = after ≡ before ++ entry_of (length before + 1) accesses ∷ []
+IsAdded before Nothing after = after ≡ before
+IsAdded before asked after = ⊥
+
+-- why what the line of the number asks was not added
+abbrev pub IsRefused : Asked → ℕ → DrawError → Type 0
+IsRefused asked n (errors.Bad line) = (line ≡ n) × (asked ≡ Bad)
+IsRefused asked n (errors.Several line) = (line ≡ n) × (asked ≡ Several)
+IsRefused asked n error = ⊤
+
+-- old is what was left, new what is left after a line was taken, if there was one
+abbrev pub IsNextAsked : Option Asked → List ℕ → List ℕ → Type 0
+IsNextAsked None old new = lines_of old ≡ []
+IsNextAsked (Some asked) old new = (line : List ℕ) × IsAsked line asked × (lines_of old ≡ line ∷ lines_of new)
