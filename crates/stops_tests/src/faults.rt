@@ -1,21 +1,22 @@
 // A script of which one call fails: the status, the count that rises, what is said, and what is found behind it.
-use crate::found::{stands, within};
-use crate::running::{after, crash_by, end_by, run, run_failing, stopped};
-use crate::scripts::{SCRIPTS, Script, new_store, store_failing};
+use crate::acts::{does, stopped};
+use crate::found::{stands_still, within};
+use crate::running::{after, copied, crash_by, end_by, run_failing};
+use crate::scripts::{SCRIPTS, Script, new_store};
 use disk_model::{Crash, MemMachine};
 use redo_shell::Status;
 use std::alloc::{AllocError, Global};
 use std::test::Fail;
 
-// A machine on which this call of a script fails, and the status and how many reads failed.
+// A copy of a store, on which this call of a script fails, and the status and how many reads failed.
 fn failing(
     alloc: Global,
     script: &Script,
+    store: &MemMachine,
     call: u64,
 ) -> Result<(MemMachine, (Status, u64)), AllocError> {
-    let made = store_failing(alloc, script, 0)?.calls();
-    let mut machine = store_failing(alloc, script, made.saturating_add(call))?;
-    let ended = run(alloc, &mut machine, "redo run", script.input);
+    let mut machine = copied(alloc, script.room, store, call)?;
+    let ended = does(alloc, &mut machine, script.act);
     Ok((machine, ended))
 }
 
@@ -32,19 +33,24 @@ fn is_of_the_fault(machine: &MemMachine, ended: (Status, u64)) -> bool {
 fn says_the_same(
     alloc: Global,
     script: &Script,
+    store: &MemMachine,
     call: u64,
     said: &[u8],
 ) -> Result<bool, AllocError> {
-    let store = new_store(alloc, script)?;
-    let calls = call.saturating_sub(1);
-    let once = stopped(alloc, store, calls, "redo run", script.input);
+    let machine = copied(alloc, script.room, store, 0)?;
+    let once = stopped(alloc, machine, call.saturating_sub(1), script.act);
     Ok(once.said() == said)
 }
 
 // Whether the failing call is answered so.
-fn is_told(alloc: Global, script: &Script, call: u64) -> Result<bool, AllocError> {
-    let (left, ended) = failing(alloc, script, call)?;
-    let same = says_the_same(alloc, script, call, left.said())?;
+fn is_told(
+    alloc: Global,
+    script: &Script,
+    store: &MemMachine,
+    call: u64,
+) -> Result<bool, AllocError> {
+    let (left, ended) = failing(alloc, script, store, call)?;
+    let same = says_the_same(alloc, script, store, call, left.said())?;
     Ok(is_of_the_fault(&left, ended) & same)
 }
 
@@ -52,29 +58,37 @@ fn is_told(alloc: Global, script: &Script, call: u64) -> Result<bool, AllocError
 fn keeps(
     alloc: Global,
     script: &Script,
+    store: &MemMachine,
     call: u64,
     ends: (Option<Crash>, Crash),
 ) -> Result<bool, AllocError> {
-    let (left, _) = failing(alloc, script, call)?;
+    let (left, _) = failing(alloc, script, store, call)?;
     let bounds = within(script, left.said());
-    Ok(stands(alloc, after(left, ends.0), script, bounds, ends.1))
+    Ok(stands_still(alloc, after(left, ends.0), script, bounds, ends.1))
 }
 
-// Whether that is so, however it ends.
-fn keeps_at_each_end(alloc: Global, script: &Script, call: u64) -> Result<bool, AllocError> {
-    let mut all = true;
+// Whether the failing call is answered so, and what was forced is found behind it, however it ends.
+fn is_refused(
+    alloc: Global,
+    script: &Script,
+    store: &MemMachine,
+    call: u64,
+) -> Result<bool, AllocError> {
+    let mut all = is_told(alloc, script, store, call)?;
     for end in 0..6u64 {
-        all &= keeps(alloc, script, call, (end_by(end), crash_by(call)))?;
+        let ends = (end_by(end), crash_by(call));
+        all &= keeps(alloc, script, store, call, ends)?;
     }
     Ok(all)
 }
 
 // How many calls a script takes, 0 where it does not say all that it has to.
-fn calls_of_whole(alloc: Global, script: &Script) -> Result<u64, AllocError> {
-    let mut machine = new_store(alloc, script)?;
-    let ended = run(alloc, &mut machine, "redo run", script.input);
+fn calls_of_whole(alloc: Global, script: &Script, store: &MemMachine) -> Result<u64, AllocError> {
+    let mut machine = copied(alloc, script.room, store, 0)?;
+    let before = machine.calls();
+    let ended = does(alloc, &mut machine, script.act);
     if (ended == (Status::Done, 0)) & (machine.said() == script.said) {
-        Ok(machine.calls())
+        Ok(machine.calls().saturating_sub(before))
     } else {
         Ok(0)
     }
@@ -83,12 +97,12 @@ fn calls_of_whole(alloc: Global, script: &Script) -> Result<u64, AllocError> {
 #[test]
 fn each_call_is_refused(rt: HostRuntime) -> Result<(), Fail> {
     for (row, script) in SCRIPTS.iter().enumerate() {
-        let calls = calls_of_whole(rt.alloc(), script)?;
+        let store = new_store(rt.alloc(), script)?;
+        let calls = calls_of_whole(rt.alloc(), script, &store)?;
         assert!(rt; calls > 0, "script {row}");
         for call in 1..=calls {
-            let kept = keeps_at_each_end(rt.alloc(), script, call)?;
             assert!(rt;
-                is_told(rt.alloc(), script, call)? & kept,
+                is_refused(rt.alloc(), script, &store, call)?,
                 "script {row}, call {call}"
             );
         }
@@ -100,7 +114,7 @@ fn each_call_is_refused(rt: HostRuntime) -> Result<(), Fail> {
 // whether nothing is said.
 fn reads_once(alloc: Global, read: u64) -> Result<((Status, u64), [u64; 2], bool), AllocError> {
     let mut machine = new_store(alloc, &SCRIPTS[0])?;
-    let ended = run_failing(alloc, &mut machine, "redo run", SCRIPTS[0].input, read);
+    let ended = run_failing(alloc, &mut machine, "redo run", b"put 0 aa\n", read);
     let counts = [machine.disk_faults(), machine.say_faults()];
     Ok((ended, counts, machine.said().is_empty()))
 }

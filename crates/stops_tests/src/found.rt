@@ -1,5 +1,5 @@
 // What the files of a stopped script stand for.
-use crate::running::run;
+use crate::running::{crashed, run};
 use crate::scripts::Script;
 use disk_model::{Crash, MemMachine};
 use redo_shell::Status;
@@ -52,8 +52,18 @@ fn is_within(commands: Option<usize>, bounds: (usize, usize)) -> bool {
     }
 }
 
-// Whether the files stand for so many commands, and still do after a crash.
+// Whether the files stand for so many commands.
 pub fn stands(
+    alloc: Global,
+    mut machine: MemMachine,
+    script: &Script,
+    bounds: (usize, usize),
+) -> bool {
+    is_within(dumped(alloc, &mut machine, script), bounds)
+}
+
+// Whether they do, and still stand for as many after a crash.
+pub fn stands_still(
     alloc: Global,
     mut machine: MemMachine,
     script: &Script,
@@ -61,6 +71,6 @@ pub fn stands(
     how: Crash,
 ) -> bool {
     let commands = dumped(alloc, &mut machine, script);
-    let mut next = machine.crash(how);
+    let mut next = crashed(machine, how);
     is_within(commands, bounds) & (commands == dumped(alloc, &mut next, script))
 }

@@ -1,21 +1,30 @@
 // `init` that is stopped, and run again.
-use crate::running::{after, calls_of, crash_by, end_by, run, stopped};
+use crate::acts::{Act, calls_of, stopped};
+use crate::running::{Room, after, crash_by, crashed, end_by, run};
 use disk_model::{Crash, FileNo, MemMachine};
 use redo_shell::Status;
 use std::alloc::{AllocError, Global};
 use std::test::Fail;
 
-const INIT: &str = "redo init 8 64 65536";
+const WORDS: &str = "redo init 8 64 65536";
+
+const INIT: Act = Act::Program(WORDS, b"");
+
+const ROOM: Room = Room {
+    sizes: [1264, 4096, 4096],
+    calls: 400,
+    bytes: 4096,
+};
 
 fn empty_folder(alloc: Global) -> Result<MemMachine, AllocError> {
-    MemMachine::new(alloc, [1264, 4096, 4096], 400, 4096, Vec::new(alloc))
+    ROOM.machine(alloc, 0)
 }
 
 // A folder with a store.
 fn made(alloc: Global) -> Result<MemMachine, AllocError> {
     let mut machine = empty_folder(alloc)?;
-    run(alloc, &mut machine, INIT, b"");
-    Ok(machine.crash(Crash::Old))
+    run(alloc, &mut machine, WORDS, b"");
+    Ok(crashed(machine, Crash::Old))
 }
 
 fn made_or_found(begins: bool) -> Status {
@@ -30,8 +39,8 @@ fn made_or_found(begins: bool) -> Status {
 // store new.
 fn is_made(alloc: Global, mut left: MemMachine, how: Crash) -> bool {
     let begins = left.bytes(FileNo::Objects).starts_with(b"\x01RDOOBJ01");
-    let (status, _) = run(alloc, &mut left, INIT, b"");
-    let mut next = left.crash(how);
+    let (status, _) = run(alloc, &mut left, WORDS, b"");
+    let mut next = crashed(left, how);
     let (done, _) = run(alloc, &mut next, "redo run", b"force\nget 7\n");
     let made = status == made_or_found(begins);
     made & (done == Status::Done) & (next.said() == b"forced 0\n-\n".as_slice())
@@ -44,8 +53,8 @@ fn is_made_behind(
     ends: (Option<Crash>, Option<Crash>),
     how: Crash,
 ) -> Result<bool, AllocError> {
-    let once = stopped(alloc, empty_folder(alloc)?, calls[0], INIT, b"");
-    let twice = stopped(alloc, after(once, ends.0), calls[1], INIT, b"");
+    let once = stopped(alloc, empty_folder(alloc)?, calls[0], INIT);
+    let twice = stopped(alloc, after(once, ends.0), calls[1], INIT);
     Ok(is_made(alloc, after(twice, ends.1), how))
 }
 
@@ -62,7 +71,7 @@ fn is_made_twice(alloc: Global, first: u64, more: u64) -> Result<bool, AllocErro
 
 #[test]
 fn a_stopped_init_is_run_again(rt: HostRuntime) -> Result<(), Fail> {
-    let calls = calls_of(rt.alloc(), &mut empty_folder(rt.alloc())?, INIT, b"");
+    let calls = calls_of(rt.alloc(), &mut empty_folder(rt.alloc())?, INIT);
     for first in 0..calls {
         assert!(rt; is_made_twice(rt.alloc(), first, calls)?, "after {first}");
     }
@@ -73,7 +82,7 @@ fn a_stopped_init_is_run_again(rt: HostRuntime) -> Result<(), Fail> {
 fn is_kept(alloc: Global) -> Result<bool, AllocError> {
     let store = made(alloc)?;
     let mut again = made(alloc)?;
-    let (status, _) = run(alloc, &mut again, INIT, b"");
+    let (status, _) = run(alloc, &mut again, WORDS, b"");
     let said = again.said() == b"already a store\n".as_slice();
     let mut same = true;
     for file in [FileNo::Objects, FileNo::LogA, FileNo::LogB] {

@@ -1,7 +1,50 @@
-// The program on machines in memory.
-use disk_model::{Crash, Fuse, Machine, MemMachine, MemSource};
+// The program on machines in memory, and what is left behind a process.
+use disk_model::{Crash, FileNo, Machine, MemMachine, MemSource};
 use redo_shell::{Status, top};
 use std::alloc::{AllocError, Global};
+
+/// How much room a machine has.
+#[derive(Clone, Copy)]
+pub struct Room {
+    /// The greatest sizes of the objects file and the two logs.
+    pub sizes: [u64; 3],
+    /// How many calls.
+    pub calls: u64,
+    /// How many bytes the calls write and say at most.
+    pub bytes: u64,
+}
+
+impl Room {
+    // A machine with empty files, whose call of this number fails; 0 is none.
+    pub fn machine(&self, alloc: Global, failing: u64) -> Result<MemMachine, AllocError> {
+        let fails = vec![in alloc; failing; 1]?;
+        MemMachine::new(alloc, self.sizes, self.calls, self.bytes, fails)
+    }
+}
+
+const FILES: [FileNo; 3] = [FileNo::Objects, FileNo::LogA, FileNo::LogB];
+
+// The calls that a copy takes: a write and a sync of each file.
+const COPYING: u64 = 6;
+
+// A settled machine with the files of another, whose next call of this number fails; 0 is none. Nothing is said yet.
+pub fn copied(
+    alloc: Global,
+    room: Room,
+    from: &MemMachine,
+    failing: u64,
+) -> Result<MemMachine, AllocError> {
+    let call = match failing {
+        0 => 0,
+        _ => failing.saturating_add(COPYING),
+    };
+    let mut machine = room.machine(alloc, call)?;
+    for file in FILES {
+        let written = machine.write_at(file, 0, from.bytes(file));
+        let _ = machine.sync(file).and(written);
+    }
+    Ok(machine)
+}
 
 // One of five kinds of crash, by a number.
 pub fn crash_by(number: u64) -> Crash {
@@ -17,19 +60,20 @@ pub fn crash_by(number: u64) -> Crash {
 // The same, or none: a process that was killed alone loses nothing.
 pub fn end_by(number: u64) -> Option<Crash> {
     match number % 6 {
-        0 => None,
-        1 => Some(Crash::Old),
-        2 => Some(Crash::New),
-        3 => Some(Crash::Fill(0)),
-        4 => Some(Crash::Fill(1)),
-        _ => Some(Crash::Fill(255)),
+        5 => None,
+        kind => Some(crash_by(kind)),
     }
+}
+
+// What a crash leaves.
+pub fn crashed(machine: MemMachine, how: Crash) -> MemMachine {
+    machine.crash(how)
 }
 
 // What is left behind a process.
 pub fn after(machine: MemMachine, how: Option<Crash>) -> MemMachine {
     match how {
-        Some(how) => machine.crash(how),
+        Some(how) => crashed(machine, how),
         None => machine,
     }
 }
@@ -77,24 +121,4 @@ pub fn run_failing<M: Machine>(
 // The program with these words and this input: its status, and how many reads of the input failed.
 pub fn run<M: Machine>(alloc: Global, machine: &mut M, line: &str, input: &[u8]) -> (Status, u64) {
     run_failing(alloc, machine, line, input, 0)
-}
-
-// The machine after a run that was stopped after so many calls.
-pub fn stopped(
-    alloc: Global,
-    machine: MemMachine,
-    calls: u64,
-    line: &str,
-    input: &[u8],
-) -> MemMachine {
-    let mut fuse = Fuse::new(machine, calls);
-    run(alloc, &mut fuse, line, input);
-    fuse.into_inner()
-}
-
-// How many calls a run takes.
-pub fn calls_of(alloc: Global, machine: &mut MemMachine, line: &str, input: &[u8]) -> u64 {
-    let before = machine.calls();
-    run(alloc, machine, line, input);
-    machine.calls().saturating_sub(before)
 }

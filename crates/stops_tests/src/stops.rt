@@ -1,51 +1,113 @@
-// A script that is stopped at each call, and a second call of the program behind it that is stopped too.
-use crate::found::{stands, within};
-use crate::running::{after, calls_of, crash_by, end_by, run, stopped};
+// A script that is stopped at each call, and another process behind it that is stopped too.
+use crate::acts::{Act, calls_of, stopped};
+use crate::found::{stands, stands_still, within};
+use crate::running::{after, copied, crash_by, crashed, end_by, run};
 use crate::scripts::{SCRIPTS, Script, new_store};
 use disk_model::{Crash, MemMachine};
 use std::alloc::{AllocError, Global};
 use std::test::Fail;
 
-// Whether what was forced is found, and no more than was accepted, behind a script and a second call of the program with
-// these words that are stopped after so many calls; how they end, and a crash behind them.
+// How many calls a process takes on a copy of a store.
+fn calls_on(
+    alloc: Global,
+    script: &Script,
+    store: &MemMachine,
+    act: Act,
+) -> Result<u64, AllocError> {
+    let mut machine = copied(alloc, script.room, store, 0)?;
+    Ok(calls_of(alloc, &mut machine, act))
+}
+
+// A script that is stopped after so many calls.
+fn cut(
+    alloc: Global,
+    script: &Script,
+    store: &MemMachine,
+    calls: u64,
+) -> Result<MemMachine, AllocError> {
+    let machine = copied(alloc, script.room, store, 0)?;
+    Ok(stopped(alloc, machine, calls, script.act))
+}
+
+// Whether a script that is stopped so keeps what was forced, and has no more than was accepted.
 fn keeps(
     alloc: Global,
     script: &Script,
-    words: &str,
-    calls: [u64; 2],
+    store: &MemMachine,
+    calls: u64,
     ends: (Option<Crash>, Crash),
 ) -> Result<bool, AllocError> {
-    let store = new_store(alloc, script)?;
-    let once = stopped(alloc, store, calls[0], "redo run", script.input);
+    let once = cut(alloc, script, store, calls)?;
     let bounds = within(script, once.said());
-    let twice = stopped(alloc, after(once, ends.0), calls[1], words, b"");
-    Ok(stands(alloc, twice, script, bounds, ends.1))
+    Ok(stands_still(alloc, after(once, ends.0), script, bounds, ends.1))
 }
 
-// How many calls a script takes, and then the program with these words.
-fn calls_in(alloc: Global, script: &Script, words: &str) -> Result<[u64; 2], AllocError> {
-    let mut machine = new_store(alloc, script)?;
-    let calls = calls_of(alloc, &mut machine, "redo run", script.input);
-    Ok([calls, calls_of(alloc, &mut machine, words, b"")])
-}
-
-// Whether a script that is stopped after so many calls keeps what was forced, however it ends.
-fn keeps_at_each_end(alloc: Global, script: &Script, calls: u64) -> Result<bool, AllocError> {
+// Whether it does, however it ends.
+fn keeps_at_each_end(
+    alloc: Global,
+    script: &Script,
+    store: &MemMachine,
+    calls: u64,
+) -> Result<bool, AllocError> {
     let mut all = true;
     for end in 0..6u64 {
         let ends = (end_by(end), crash_by(calls));
-        all &= keeps(alloc, script, "redo dump", [calls, 0], ends)?;
+        all &= keeps(alloc, script, store, calls, ends)?;
     }
     Ok(all)
+}
+
+const DUMP: Act = Act::Program("redo dump", b"");
+
+// Whether it does where its process is killed, and a dump behind it, which begins with a sync of each file, is stopped too.
+fn keeps_killed(
+    alloc: Global,
+    script: &Script,
+    store: &MemMachine,
+    calls: [u64; 2],
+    how: Crash,
+) -> Result<bool, AllocError> {
+    let once = cut(alloc, script, store, calls[0])?;
+    let bounds = within(script, once.said());
+    let twice = stopped(alloc, once, calls[1], DUMP);
+    Ok(stands(alloc, crashed(twice, how), script, bounds))
+}
+
+// Whether that is so at each of these syncs.
+fn keeps_killed_twice(
+    alloc: Global,
+    script: &Script,
+    store: &MemMachine,
+    calls: u64,
+) -> Result<bool, AllocError> {
+    let mut all = true;
+    for turn in 0..20u64 {
+        let stops = [calls, turn / 5];
+        all &= keeps_killed(alloc, script, store, stops, crash_by(turn))?;
+    }
+    Ok(all)
+}
+
+// Whether a script that is stopped so keeps what was forced in all these ways.
+fn keeps_all(
+    alloc: Global,
+    script: &Script,
+    store: &MemMachine,
+    calls: u64,
+) -> Result<bool, AllocError> {
+    let ended = keeps_at_each_end(alloc, script, store, calls)?;
+    let killed = keeps_killed_twice(alloc, script, store, calls)?;
+    Ok(ended & killed)
 }
 
 #[test]
 fn a_stopped_script_keeps_what_was_forced(rt: HostRuntime) -> Result<(), Fail> {
     for (row, script) in SCRIPTS.iter().enumerate() {
-        let [calls, _] = calls_in(rt.alloc(), script, "redo dump")?;
+        let store = new_store(rt.alloc(), script)?;
+        let calls = calls_on(rt.alloc(), script, &store, script.act)?;
         for first in 0..=calls {
             assert!(rt;
-                keeps_at_each_end(rt.alloc(), script, first)?,
+                keeps_all(rt.alloc(), script, &store, first)?,
                 "script {row}, after {first}"
             );
         }
@@ -53,37 +115,69 @@ fn a_stopped_script_keeps_what_was_forced(rt: HostRuntime) -> Result<(), Fail> {
     Ok(())
 }
 
-// Of the second stops behind a first one every sixteenth is tried, so that a test takes seconds. Behind the next first stop
-// these are others.
-const EVERY: u64 = 16;
+// A process behind a script, and how many of the five kinds of crash are tried behind each stop of it, one after the other.
+type Second = (Act, u64);
 
-// Whether a second stop at one of so many calls keeps it, with each end in turn.
-fn keeps_twice(
+// Whether files stand for as many commands behind a process that is stopped after so many calls, and a crash.
+fn stands_behind(
     alloc: Global,
     script: &Script,
-    words: &str,
-    first: u64,
-    more: u64,
+    left: &MemMachine,
+    bounds: (usize, usize),
+    second: Second,
+    calls: u64,
 ) -> Result<bool, AllocError> {
     let mut all = true;
-    for place in 0..=more / EVERY {
-        let second = place.saturating_mul(EVERY).saturating_add(first % EVERY);
-        let turn = first.saturating_add(place);
-        let ends = (end_by(turn), crash_by(turn));
-        all &= keeps(alloc, script, words, [first, second], ends)?;
+    for kind in 0..second.1 {
+        let machine = copied(alloc, script.room, left, 0)?;
+        let twice = stopped(alloc, machine, calls, second.0);
+        let how = crash_by(calls.saturating_add(kind));
+        all &= stands(alloc, crashed(twice, how), script, bounds);
     }
     Ok(all)
 }
 
+// Whether they do behind each stop of it.
+fn stands_behind_each(
+    alloc: Global,
+    script: &Script,
+    left: &MemMachine,
+    bounds: (usize, usize),
+    second: Second,
+) -> Result<bool, AllocError> {
+    let calls = calls_on(alloc, script, left, second.0)?;
+    let mut all = true;
+    for call in 0..=calls {
+        all &= stands_behind(alloc, script, left, bounds, second, call)?;
+    }
+    Ok(all)
+}
+
+// Whether a script that is stopped so, with a crash, keeps what was forced behind each stop of another process.
+fn keeps_twice(
+    alloc: Global,
+    script: &Script,
+    store: &MemMachine,
+    stop: (u64, Crash),
+    second: Second,
+) -> Result<bool, AllocError> {
+    let once = cut(alloc, script, store, stop.0)?;
+    let bounds = within(script, once.said());
+    let left = crashed(once, stop.1);
+    stands_behind_each(alloc, script, &left, bounds, second)
+}
+
 #[test]
-fn a_call_that_is_stopped_too_keeps_what_was_forced(rt: HostRuntime) -> Result<(), Fail> {
-    for words in ["redo dump", "redo run", "redo init 8 64 65536"] {
-        for (row, script) in SCRIPTS.iter().enumerate() {
-            let [calls, more] = calls_in(rt.alloc(), script, words)?;
-            for first in 0..=calls {
+fn a_stopped_dump_keeps_what_was_forced(rt: HostRuntime) -> Result<(), Fail> {
+    for (row, script) in SCRIPTS.iter().enumerate() {
+        let store = new_store(rt.alloc(), script)?;
+        let calls = calls_on(rt.alloc(), script, &store, script.act)?;
+        for first in 0..=calls {
+            for kind in 0..5u64 {
+                let stop = (first, crash_by(kind));
                 assert!(rt;
-                    keeps_twice(rt.alloc(), script, words, first, more)?,
-                    "script {row}, {words} after {first}"
+                    keeps_twice(rt.alloc(), script, &store, stop, (DUMP, 5))?,
+                    "script {row}, after {stop:?}"
                 );
             }
         }
@@ -91,21 +185,47 @@ fn a_call_that_is_stopped_too_keeps_what_was_forced(rt: HostRuntime) -> Result<(
     Ok(())
 }
 
-const GATE_SCRIPT: &[u8] = b"put 0 aa\nget 0\nforce\n";
+// What other processes do behind a script: a run without lines, an `init`, and restarts that install.
+const OTHERS: [Act; 4] = [
+    Act::Program("redo run", b""),
+    Act::Program("redo init 8 64 65536", b""),
+    Act::Restart(0),
+    Act::Restart(1),
+];
+
+#[test]
+fn another_stopped_process_keeps_what_was_forced(rt: HostRuntime) -> Result<(), Fail> {
+    for other in OTHERS {
+        for (row, script) in SCRIPTS.iter().enumerate() {
+            let store = new_store(rt.alloc(), script)?;
+            let calls = calls_on(rt.alloc(), script, &store, script.act)?;
+            for first in 0..=calls {
+                let stop = (first, crash_by(first));
+                assert!(rt;
+                    keeps_twice(rt.alloc(), script, &store, stop, (other, 1))?,
+                    "script {row}, after {stop:?}, {other:?}"
+                );
+            }
+        }
+    }
+    Ok(())
+}
+
+const GATE_SCRIPT: Act = Act::Program("redo run", b"put 0 aa\nget 0\nforce\n");
 
 // A run that is stopped in the write that opens the gate of its block: the calls behind it are a sync and the answer.
 fn stopped_in_the_gate(alloc: Global) -> Result<MemMachine, AllocError> {
     let mut whole = new_store(alloc, &SCRIPTS[0])?;
-    let calls = calls_of(alloc, &mut whole, "redo run", GATE_SCRIPT).saturating_sub(2);
+    let calls = calls_of(alloc, &mut whole, GATE_SCRIPT).saturating_sub(2);
     let store = new_store(alloc, &SCRIPTS[0])?;
-    Ok(stopped(alloc, store, calls, "redo run", GATE_SCRIPT))
+    Ok(stopped(alloc, store, calls, GATE_SCRIPT))
 }
 
 // Whether nothing of `forced` is said then, and the next run after a crash has this value.
 fn torn_gate_leaves(alloc: Global, how: Crash, value: &[u8]) -> Result<bool, AllocError> {
     let left = stopped_in_the_gate(alloc)?;
     let said = left.said() == b"ok\naa\n".as_slice();
-    let mut next = left.crash(how);
+    let mut next = crashed(left, how);
     run(alloc, &mut next, "redo run", b"get 0\n");
     Ok(said & (next.said() == value))
 }

@@ -1,0 +1,115 @@
+// Commands and installs by calls of the crates.
+ghost use Rattle.std.specs.Prelude.{IfOk, OnOk};
+ghost use Rattle.cache_manager.specs.Parts.{parts};
+ghost use Rattle.cache_manager.specs.Taking.{ArePartsInUse};
+
+use crate::acts::status_of;
+use cache_manager::{InstallErr, install_one};
+use disk_model::Machine;
+use execution::execute;
+use op_codec::AllOps;
+use op_meaning::{Put, Swap};
+use oper_core::{ByteList, Memory};
+use redo_shell::Status;
+use restart::{RestartErr, Restarted, Tuning, restart};
+use std::alloc::Global;
+
+// The parts of the store of a machine, behind a restart that installs while more objects than this are dirty.
+pub fn opened<M: Machine>(
+    alloc: Global,
+    machine: &mut M,
+    dirty: usize,
+) -> Result<Restarted<AllOps>, RestartErr>
+    ensures { IfOk result (λ it. ArePartsInUse (parts it.log it.objects it.graph.entries)) }
+{
+    let tuning = Tuning {
+        clean: 2,
+        redo_dirty: dirty,
+    };
+    restart::<AllOps, M>(alloc, machine, tuning)
+}
+
+// Whether a command is done.
+fn does<M: Machine>(alloc: Global, it: &mut Restarted<AllOps>, machine: &mut M, op: AllOps) -> bool
+    requires { ArePartsInUse (parts it.old.log it.old.objects it.old.graph.entries) }
+    ensures { ArePartsInUse (parts it.new.log it.new.objects it.new.graph.entries) }
+{
+    execute(
+        alloc,
+        &mut it.log,
+        &mut it.objects,
+        &mut it.graph,
+        machine,
+        op,
+    )
+    .is_ok()
+}
+
+fn put(alloc: Global, object: u32, value: &[u8]) -> Result<AllOps, Memory> {
+    let value = ByteList::new(value.to_vec(alloc)?);
+    Ok(AllOps::Put(Put { object, value }))
+}
+
+// Whether `put 0 aacc`, `put 1 bb` and `swap 0 1` are done.
+fn swaps<M: Machine>(
+    alloc: Global,
+    it: &mut Restarted<AllOps>,
+    machine: &mut M,
+) -> Result<bool, Memory>
+    requires { ArePartsInUse (parts it.old.log it.old.objects it.old.graph.entries) }
+    ensures { OnOk result (ArePartsInUse (parts it.new.log it.new.objects it.new.graph.entries)) }
+{
+    let long = put(alloc, 0, b"\xaa\xcc")?;
+    let short = put(alloc, 1, b"\xbb")?;
+    let swap = AllOps::Swap(Swap {
+        first: 0,
+        second: 1,
+    });
+    let mut all = does(alloc, it, machine, long);
+    all &= does(alloc, it, machine, short);
+    all &= does(alloc, it, machine, swap);
+    Ok(all)
+}
+
+// Says a line.
+pub fn say<M: Machine>(machine: &mut M, line: &[u8]) -> Result<(), Status> {
+    match machine.say(line) {
+        Ok(()) => Ok(()),
+        Err(_) => Err(Status::SayFault),
+    }
+}
+
+// An install.
+fn install<M: Machine>(it: &mut Restarted<AllOps>, machine: &mut M) -> Result<(), Status>
+    requires { ArePartsInUse (parts it.old.log it.old.objects it.old.graph.entries) }
+    ensures { OnOk result (ArePartsInUse (parts it.new.log it.new.objects it.new.graph.entries)) }
+{
+    match install_one(&mut it.log, &mut it.objects, &mut it.graph, machine) {
+        Ok(_) => Ok(()),
+        Err(InstallErr::DiskFault) => Err(Status::DiskFault),
+        Err(_) => Err(Status::Memory),
+    }
+}
+
+// Three installs, each of which is said: the node of the swap, that of its identity write, and none.
+fn install_all<M: Machine>(it: &mut Restarted<AllOps>, machine: &mut M) -> Result<(), Status>
+    requires { ArePartsInUse (parts it.old.log it.old.objects it.old.graph.entries) }
+{
+    install(it, machine)?;
+    say(machine, b"ok\n")?;
+    install(it, machine)?;
+    say(machine, b"ok\n")?;
+    install(it, machine)?;
+    say(machine, b"ok\n")
+}
+
+// Opens a store, makes two puts and a swap, and installs them.
+pub fn swap_and_install<M: Machine>(alloc: Global, machine: &mut M) -> Result<(), Status> {
+    match opened(alloc, machine, 64) {
+        Ok(mut it) => match swaps(alloc, &mut it, machine) {
+            Ok(true) => install_all(&mut it, machine),
+            _ => Err(Status::Memory),
+        },
+        Err(cause) => Err(status_of(cause)),
+    }
+}

@@ -1,0 +1,106 @@
+// Trees by calls of the engine, and by lines whose nodes are installed in part.
+use crate::acts::status_of;
+use crate::installs::say;
+use crate::running::{Room, crashed, run};
+use btree_ops::{NodeOp, Short};
+use disk_model::{Crash, Machine, MemMachine};
+use op_codec::AllOps;
+use redo_shell::Status;
+use std::alloc::{AllocError, Global};
+use std::test::Fail;
+use store_engine::{Engine, ForceErr, Tuning};
+
+const TUNING: Tuning = Tuning {
+    clean: 2,
+    redo_dirty: 64,
+};
+
+// Whether an operation on nodes is done.
+fn does<M: Machine>(engine: &mut Engine<AllOps>, machine: &mut M, op: NodeOp) -> bool {
+    if engine.is_broken() {
+        return false;
+    }
+    engine.exec(machine, AllOps::Node(op)).is_ok()
+}
+
+// A put of a pair of one byte each.
+fn put(key: u8, value: u8) -> Option<NodeOp> {
+    Some(NodeOp::Put {
+        object: 0,
+        key: Short::new(&[key])?,
+        value: Short::new(&[value])?,
+    })
+}
+
+// Whether seven pairs are put.
+fn fills<M: Machine>(engine: &mut Engine<AllOps>, machine: &mut M) -> bool {
+    let mut all = true;
+    for key in 1..=7u8 {
+        match put(key, 0xa0 + key) {
+            Some(op) => all &= does(engine, machine, op),
+            None => all = false,
+        }
+    }
+    all
+}
+
+// Forces all.
+fn force<M: Machine>(engine: &mut Engine<AllOps>, machine: &mut M) -> Result<u64, Status> {
+    if engine.is_broken() {
+        return Err(Status::Memory);
+    }
+    match engine.force(machine) {
+        Ok(count) => Ok(count),
+        Err(ForceErr::DiskFault) => Err(Status::DiskFault),
+    }
+}
+
+// Opens a store, puts seven pairs into object 0, splits it, and forces the eight commands.
+pub fn grow<M: Machine>(alloc: Global, machine: &mut M) -> Result<(), Status> {
+    let split = NodeOp::SplitRoot {
+        root: 0,
+        left: 1,
+        right: 2,
+    };
+    match Engine::<AllOps>::restart(alloc, machine, TUNING) {
+        Ok(mut engine) => {
+            let done = fills(&mut engine, machine) & does(&mut engine, machine, split);
+            let forced = force(&mut engine, machine)?;
+            if done & (forced == 8) {
+                say(machine, b"forced 8\n")
+            } else {
+                Err(Status::Memory)
+            }
+        }
+        Err(cause) => Err(status_of(cause)),
+    }
+}
+
+const ROOM: Room = Room {
+    sizes: [15588, 4096, 4096],
+    calls: 400,
+    bytes: 4096,
+};
+
+// A leaf is filled and split, and of the three nodes that the split writes two are installed.
+const SPLIT: &[u8] =
+    b"tinsert 0 7 01 a1\ntinsert 0 7 02 a2\ntinsert 0 7 03 a3\ntinsert 0 7 04 a4\ntinsert 0 7 05 a5\ntinsert 0 7 06 a6\ntinsert 0 7 07 a7\ntinsert 0 7 08 a8\ninstall\ninstall\n";
+
+// Whether the next run behind these lines and a crash says this.
+fn next_says(alloc: Global, lines: &[u8], next: &[u8], said: &[u8]) -> Result<bool, AllocError> {
+    let mut machine = ROOM.machine(alloc, 0)?;
+    run(alloc, &mut machine, "redo init 8 1024 65536", b"");
+    run(alloc, &mut machine, "redo run", lines);
+    let mut left = crashed(machine, Crash::Old);
+    run(alloc, &mut left, "redo run", next);
+    Ok(left.said() == said)
+}
+
+// The redo does the split again for one object alone, and the identity write of that object behind it: two records, one dirty
+// object.
+#[test]
+fn a_tree_installed_in_part_is_whole(rt: HostRuntime) -> Result<(), Fail> {
+    let said: &[u8] = b"stat 2 1 2 9 9 336 0\n01:a1 02:a2 03:a3 04:a4 05:a5 06:a6 07:a7 08:a8\n";
+    assert!(rt; next_says(rt.alloc(), SPLIT, b"stat\ntrange 0 7 01 09\n", said)?);
+    Ok(())
+}
