@@ -65,7 +65,7 @@ abbrev pub halves_in : Option Node → Option Halves
 halves_in None = None
 halves_in (Some node) = halves_of node
 
--- the branches with one more directly behind the first that leads to the child, if one does
+-- the branches with one more directly after the first that leads to the child, if one does
 abbrev pub behind_branch : ℕ → List ℕ × ℕ → List (List ℕ × ℕ) → Option (List (List ℕ × ℕ))
 behind_branch child new [] = None
 behind_branch child new (b ∷ branches) =
@@ -75,7 +75,7 @@ behind_branch child new (b ∷ branches) =
 abbrev pub behind_child : ℕ → List ℕ × ℕ → ℕ → List (List ℕ × ℕ) → Option (List (List ℕ × ℕ))
 behind_child child new first branches = if first == child then Some (new ∷ branches) else behind_branch child new branches
 
--- the upper half becomes the child directly behind the one that is split
+-- the upper half becomes the child directly after the one that is split
 abbrev pub split_child_with : ℕ → List (List ℕ × ℕ) → Halves → Option (List (List ℕ × ℕ)) → Result Made Refusal
 split_child_with first branches halves None = Err NotNode
 split_child_with first branches halves (Some more) =

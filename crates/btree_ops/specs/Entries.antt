@@ -29,7 +29,7 @@ abbrev pub child_field : Field ℕ
 child_field = record { code = little_bytes 4; read = child_in; fits = λ x. nat_lt x (2 ^ 32) }
 
 module _ {X : Type 0} (field : Field X) where
-  -- a key, and behind it what stands beside it
+  -- a key, and after it what stands beside it
   abbrev pub entry_code : List ℕ × X → List ℕ
   entry_code e = short_code e.0 ++ field.code e.1
 
@@ -37,7 +37,7 @@ module _ {X : Type 0} (field : Field X) where
   abbrev pub entries_code : List (List ℕ × X) → List ℕ
   entries_code = flat_map entry_code
 
-  -- the key, and the field that bytes begin with behind it
+  -- the key, and the field that bytes begin with after it
   abbrev pub beside : List ℕ → List ℕ → Option (List ℕ × X)
   beside bytes key = option_map (λ x. (key, x)) (field.read (drop (length (short_code key)) bytes))
 

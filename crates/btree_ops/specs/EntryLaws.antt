@@ -55,7 +55,7 @@ pub record IsExact {X : Type 0} (field : Field X) : Type 0 where
       → (bytes ≡ field.code x ++ drop (length (field.code x)) bytes) × IsTrue (field.fits x)
   pub small : (bytes : List ℕ) (x : X) → field.read bytes ≡ Some x → length (field.code x) ≤ 33
 
--- a list of bytes splits behind its front
+-- a list of bytes splits after its front
 pub split_off : (front rest bytes : List ℕ) → bytes ≡ front ++ rest → bytes ≡ front ++ drop (length front) bytes
 split_off front rest bytes e = e ∙ ap (λ (l : List ℕ). front ++ l) (sym (drop-append_seam front rest) ∙ ap (λ (l : List ℕ). drop (length front) l) (sym e))
 

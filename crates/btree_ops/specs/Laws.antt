@@ -49,7 +49,7 @@ pub record SplitsInner (first : ℕ) (branches : List (List ℕ × ℕ)) (h : Ha
 abbrev pub IsUpdate : {X : Type 0} → List ℕ → Option X → List (List ℕ × X) → List (List ℕ × X) → Type 0
 IsUpdate {X} key value old new = (q : List ℕ) → find byte_order q new ≡ (if eq_by_cmp byte_order q key then value else find byte_order q old)
 
--- the branches with one more, directly behind the first that leads to the child
+-- the branches with one more, directly after the first that leads to the child
 pub record IsBehindBranch (child : ℕ) (new : List ℕ × ℕ) (branches after : List (List ℕ × ℕ)) : Type 0 where
   pub before : List (List ℕ × ℕ)
   pub key : List ℕ

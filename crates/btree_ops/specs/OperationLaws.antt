@@ -177,7 +177,7 @@ module _ {X : Type 0} (field : Field X) where
   more : (e : List ℕ × X) (es : List (List ℕ × X)) → length (entries_code field (e ∷ es)) ≡ length (entry_code field e) + length (entries_code field es)
   more e es = length-append (entry_code field e) (entries_code field es)
 
-  -- seven entries, cut before the fourth, and behind it
+  -- seven entries, cut before the fourth, and after it
   record AreParts (a b c d e f g : List ℕ × X) (n : ℕ) : Type 0 where
     lower : length (entries_code field (a ∷ b ∷ c ∷ [])) ≤ n
     upper : length (entries_code field (d ∷ e ∷ f ∷ g ∷ [])) ≤ n
@@ -410,7 +410,7 @@ delete_begins body op are is =
       keys = next.1;
     })
 
--- three objects stand one behind the other
+-- three objects stand one after the other
 record AreThree (make : ℕ → ℕ → ℕ → NodeOp) (body : List ℕ) (op : NodeOp) : Type 0 where
   a : ℕ
   b : ℕ
@@ -418,7 +418,7 @@ record AreThree (make : ℕ → ℕ → ℕ → NodeOp) (body : List ℕ) (op : 
   is : make a b c ≡ op
   split : body ≡ little_bytes 4 a ++ (little_bytes 4 b ++ (little_bytes 4 c ++ drop 12 body))
 
--- an object that is read at a place is there, and the rest behind it
+-- an object that is read at a place is there, and the rest after it
 child_at : (n m x : ℕ) (body : List ℕ) → AreBytes body → n + 4 ≡ m → child_in (drop n body) ≡ Some x → drop n body ≡ little_bytes 4 x ++ drop m body
 child_at n m x body are next is =
     let behind : drop 4 (drop n body) ≡ drop m body = drop-drop 4 n body ∙ ap (λ (k : ℕ). drop k body) next in

@@ -1,4 +1,4 @@
--- A short list of bytes in an array of 32: behind it stand zeros.
+-- A short list of bytes in an array of 32: after it stand zeros.
 use Rattle.std.proofs.Common.{◌≡◌, ℕ, ◌-◌, ◌≤◌, List, ◌++◌, length, take, drop, replicate, sym, ap, ◌∙◌, arith, take-append-drop, length-take}
 use Rattle.btree_ops.specs.declared.short.Short.TheInside.{Inside}
 

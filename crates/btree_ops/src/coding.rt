@@ -113,7 +113,7 @@ pub(crate) fn read(bytes: &[u8]) -> Option<NodeOp>
     }
 }
 
-/// The put behind its tag.
+/// The put after its tag.
 fn read_put(body: &[u8]) -> Option<NodeOp>
     ensures { result ≡ put_in body.now }
 {
@@ -122,7 +122,7 @@ fn read_put(body: &[u8]) -> Option<NodeOp>
     Some(NodeOp::Put { object, key, value })
 }
 
-/// The delete behind its tag.
+/// The delete after its tag.
 fn read_delete(body: &[u8]) -> Option<NodeOp>
     ensures { result ≡ delete_in body.now }
 {
@@ -131,7 +131,7 @@ fn read_delete(body: &[u8]) -> Option<NodeOp>
     Some(NodeOp::Delete { object, key })
 }
 
-/// Three objects, one behind the other.
+/// Three objects, one after the other.
 fn read_three(body: &[u8]) -> Option<(u32, u32, u32)>
     ensures { (make : ℕ → ℕ → ℕ → NodeOp) → option_map (λ t. make t.0 t.1 t.2) result ≡ three_in make body.now }
 {

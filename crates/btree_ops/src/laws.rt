@@ -44,7 +44,7 @@ pub fn a_split_keeps_all()
     ensures full_inner { (first : ℕ) (branches : List (List ℕ × ℕ)) → length branches ≡ 7 → (h : Halves) × (inner_halves first branches ≡ Some h) }
 {}
 
-/// A new child stands with its separator directly behind the child that is split, of equal children behind the first.
+/// A new child stands with its separator directly after the child that is split, of equal children after the first.
 pub fn a_new_child_stands_behind()
     ensures { (child first : ℕ) (new : List ℕ × ℕ) (branches after : List (List ℕ × ℕ)) → behind_child child new first branches ≡ Some after →
         ((first ≡ child) × (after ≡ new ∷ branches)) ⊎ ((first ≢ child) × IsBehindBranch child new branches after) }

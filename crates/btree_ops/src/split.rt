@@ -96,7 +96,7 @@ fn listed<T: Copy + Default>(entries: &[T]) -> ArrayVec<T, 7>
     all
 }
 
-/// The place directly behind the first branch that leads to the child, if one does.
+/// The place directly after the first branch that leads to the child, if one does.
 fn place_behind(child: u32, first: u32, branches: &[(Short, u32)]) -> Option<usize>
     ensures some { IfSome result (λ at. (new : List ℕ × ℕ) → behind_child child new first branches.now ≡ Some (insert branches.now at new)) }
     ensures within { IfSome result (λ at. at ≤ length branches.now) }

@@ -31,7 +31,7 @@ kept-more forced end last le = each-to (IsKept forced end) (IsKept forced last) 
 kept-all : (forced n : ℕ) (groups : List Group) → AllByRecursion (IsKept forced (n + 1)) groups → AllByRecursion (IsKept n (n + 1)) groups
 kept-all forced n = each-to (IsKept forced (n + 1)) (IsKept n (n + 1)) (λ g is. record { whole = is.whole; unsplit = inl is.whole })
 
--- the open group begins behind what is forced
+-- the open group begins after what is forced
 kept-closed : (forced end : ℕ) (open_group : Option ℕ) (groups : List Group) → IfSome open_group (λ begun. begun ≡ forced + 1) → AllByRecursion (IsKept forced end) groups → AllByRecursion (IsKept forced end) (with_closed open_group end groups)
 kept-closed forced end None groups none each = each
 kept-closed forced end (Some begun) groups behind each = (record { whole = omega arith; unsplit = inr (omega arith) }, each)

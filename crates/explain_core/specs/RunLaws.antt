@@ -10,7 +10,7 @@ unfolding run
 run-append m w [] ys = refl
 run-append m w (x ∷ xs) ys = run-append m (step m w x) xs ys
 
--- steps that may be taken, and more of them behind
+-- steps that may be taken, and more of them after
 pub allowed-append : {O : Type 0} (m : Meaning O) (w : World O) (xs ys : List (Step O)) → AreAllowed m w xs → AreAllowed m (run m w xs) ys → AreAllowed m w (xs ++ ys)
 unfolding run
 allowed-append m w [] ys f g = g
@@ -35,7 +35,7 @@ begins-longer {O} xs ys taken is = record { rest = is.rest ++ ys; split = ap (λ
 pub begins-behind : {O : Type 0} (xs ys taken : List (Step O)) → Begins ys taken → Begins (xs ++ ys) (xs ++ taken)
 begins-behind {O} xs ys taken is = record { rest = is.rest; split = ap (λ (l : List (Step O)). xs ++ l) is.split ∙ sym (append_assoc xs taken is.rest) }
 
--- of steps that may be taken the first may be taken, and the others behind them
+-- of steps that may be taken the first may be taken, and the others after them
 pub allowed-front : {O : Type 0} (m : Meaning O) (w : World O) (xs ys : List (Step O)) → AreAllowed m w (xs ++ ys) → AreAllowed m w xs × AreAllowed m (run m w xs) ys
 unfolding run
 allowed-front m w [] ys may = (tt, may)

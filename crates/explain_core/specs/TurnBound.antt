@@ -120,7 +120,7 @@ module _ {O : Type 0} (m : Meaning O) (limit : ℕ) where
         ]
       ]
 
-  -- behind the last turn nothing is done
+  -- after the last turn nothing is done
   pub turns_stay : (n : ℕ) (w : World O) → turn m limit w ≡ [] → turns m limit n w ≡ []
   unfolding turns run
   turns_stay zero w over = refl

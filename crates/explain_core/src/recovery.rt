@@ -53,7 +53,7 @@ pub fn turns_keep<O: Oper>()
         ≡ state_after (O.meaning b) (commands_of w.history) x }
 {}
 
-/// From a world whose graph is empty, twice as many turns as members are left to replay are a whole redo: behind them
+/// From a world whose graph is empty, twice as many turns as members are left to replay are a whole redo: after them
 /// nothing is left to do.
 pub fn turns_end<O: Oper>()
     ensures { (b : Bounds) (w : World O) (limit : ℕ) → ((n : ℕ) → w.graph n ≡ false) →

@@ -72,6 +72,10 @@ impl Oper for AllOps {
         by_its_type!(self, op => op.apply(alloc, b, values))
     }
 
+    fn into_effect(self, alloc: Global, b: Bounds, values: Values) -> Result<Values, Memory> {
+        by_its_type!(self, op => op.into_effect(alloc, b, values))
+    }
+
     fn code_length(&self) -> u64 {
         by_its_type!(self, op => op.code_length())
     }

@@ -1,3 +1,4 @@
+pub mod Moved
 pub mod ReadState
 pub mod ReadNumbers
 pub mod Reading

@@ -12,7 +12,7 @@ pub in_bytes : (v : List ℕ) → 0 < length v → state_in v ≡ state_in_bytes
 in_bytes [] some = absurd (omega arith)
 in_bytes (byte ∷ v) some = refl
 
--- what is read of a value by parts: the input's length n, the input, and what stands behind it
+-- what is read of a value by parts: the input's length n, the input, and what follows it
 pub record IsRead (v : List ℕ) (n : ℕ) (front back : List ℕ) : Type 0 where
   pub number : n ≡ input_length v
   pub input : front ≡ take (input_length v) (drop 20 v)
@@ -31,7 +31,7 @@ read_parts v n input rest long read room front back =
       long = omega (arith, room, number, ap length (slice_from 20 v), length-drop 20 v);
     }
 
--- the output is what stands behind its length
+-- the output is what follows its length
 output_behind : (v : List ℕ) (n : ℕ) (input rest : List ℕ) → IsRead v n input rest → take (length rest - 4) (drop 4 rest) ≡ drop (24 + input_length v) v
 output_behind v n input rest read =
     slice_from 4 rest ∙ ap (drop 4) read.rest ∙ drop-drop 4 (20 + input_length v) v ∙ ap (λ (k : ℕ). drop k v) (omega arith)

@@ -11,7 +11,7 @@ use Rattle.std.proofs.lemmas.Nat.{div-mul-add}
 use Rattle.op_meaning.specs.Order.{record_at, records, byte_order, in_order}
 use Rattle.op_meaning.specs.OrderLaws.{in_order_only}
 
--- these are the first records of w bytes, and this is what stands behind them
+-- these are the first records of w bytes, and this is what follows them
 pub record AreFirst {B : Type 0} (now : B → List ℕ) (w : ℕ) (x : List ℕ) (found : List B) (rest : List ℕ) : Type 0 where
   pub all : map now found ≡ map (record_at w x) (range_with_len 0 (length found))
   pub behind : rest ≡ drop (length found * w) x

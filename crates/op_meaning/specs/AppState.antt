@@ -5,7 +5,7 @@ use Rattle.oper_core.specs.declared.refusal.Refusal.{Refusal}
 use Rattle.oper_core.specs.declared.refusal.Refusal.TheVariants.{NotApp}
 use Rattle.byteorder.specs.Endian.{little_bytes, little_number}
 
--- what an application has done, and what it has before it and behind it
+-- what an application has done, and what it has before it and after it
 pub record Application : Type 0 where
   pub steps : ℕ
   pub sum : ℕ
@@ -16,7 +16,7 @@ pub record Application : Type 0 where
 abbrev pub new_application : Application
 new_application = record { steps = 0; sum = 0; input = []; output = [] }
 
--- its bytes: steps and sum, then input and output, each behind its length
+-- its bytes: steps and sum, then input and output, each after its length
 abbrev pub state_code : Application → List ℕ
 state_code s =
     little_bytes 8 s.steps ++ (little_bytes 8 s.sum

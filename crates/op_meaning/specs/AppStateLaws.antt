@@ -89,7 +89,7 @@ state_within v s e = elim (found v s e) [
 abbrev pub AreBytes : List ℕ → Type 0
 AreBytes bytes = (i : ℕ) → slice_index bytes i < 256
 
--- the number at a place of a list of bytes, and what stands behind it
+-- the number at a place of a list of bytes, and what follows it
 pub number_at : (n place : ℕ) (bytes : List ℕ) → AreBytes bytes → place + n ≤ length bytes
     → drop place bytes ≡ little_bytes n (little_number n (drop place bytes)) ++ drop (place + n) bytes
 number_at n place bytes small long =

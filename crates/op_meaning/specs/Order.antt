@@ -17,7 +17,7 @@ records w x = map (record_at w x) (range_with_len 0 (length x / w))
 abbrev pub byte_order : List ℕ → List ℕ → Ordering
 byte_order = slice_cmp nat_cmp
 
--- a record behind those that come before it
+-- a record after those that come before it
 abbrev pub placed : List ℕ → List (List ℕ) → List (List ℕ)
 placed r [] = r ∷ []
 placed r (s ∷ rs) = if is_gt (byte_order r s) then s ∷ placed r rs else r ∷ s ∷ rs

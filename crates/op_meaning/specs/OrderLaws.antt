@@ -37,7 +37,7 @@ same_from_neither x y not_before not_behind =
 
 -- ---- sorted lists
 
--- the first of a sorted list is not behind any
+-- the first of a sorted list is not above any
 least : (r : List ℕ) (rs : List (List ℕ)) (j : ℕ) (d : List ℕ) → IsSorted byte_order (r ∷ rs) → j < length (r ∷ rs)
     → is_lt (byte_order (get_or (r ∷ rs) j d) r) ≡ false
 least r rs j d up within = sorted_far (λ x y. is_lt (byte_order x y)) (ranks_by nat_list_cmp_total (λ x. x)) (r ∷ rs) up 0 j d (omega arith) within

@@ -30,7 +30,7 @@ put_from_grammar b op e =
 pub grammar_from_put : (b : Bounds) (op : Put) → IsPut b op → IsInGrammar (put_meaning b) op
 grammar_from_put b op put = rw (lt-ltb op.object b.objects put.object, le-leb (length op.value) b.cap put.short) refl
 
--- the fields behind the tag, each beside the rest
+-- the fields after the tag, each beside the rest
 code_of : (op : Put) (rest : List ℕ)
     → put_code op ++ rest ≡ 1 ∷ (little_bytes 4 op.object ++ (little_bytes 4 (length op.value) ++ (op.value ++ rest)))
 code_of op rest = simp append_assoc

@@ -39,7 +39,7 @@ if_applicable (Some r) made = map (λ v. []) made
 -- one operation of the table
 pub record Row (O : Type 0) : Type 0 where
   pub tag : ℕ
-  -- what its code names behind the tag
+  -- what its code names after the tag
   pub objects : O → List ℕ
   pub numbers : O → List ℕ
   pub reads : O → List ℕ

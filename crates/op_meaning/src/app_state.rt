@@ -10,7 +10,7 @@ use std::marker::Model;
 // Steps, sum, and the lengths of input and output.
 const HEAD_BYTES: usize = 24;
 
-/// What an application has done, and what it has before it and behind it.
+/// What an application has done, and what it has before it and after it.
 #[derive(Drop)]
 pub struct AppState<'a> {
     /// How many steps it has done, modulo 2^64.

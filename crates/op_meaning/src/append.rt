@@ -10,7 +10,7 @@ use std::alloc::Global;
 
 const TAG: u8 = 3;
 
-/// Puts the value of an object behind that of another.
+/// Puts the value of an object after that of another.
 #[derive(Drop)]
 pub struct Append {
     /// The object whose value is added.

@@ -44,6 +44,10 @@ impl Oper for Copy {
         Ok(made)
     }
 
+    fn into_effect(self, _alloc: Global, _b: Bounds, values: Values) -> Result<Values, Memory> {
+        Ok(values)
+    }
+
     fn code_length(&self) -> u64 {
         TWO_NUMBERS as u64
     }

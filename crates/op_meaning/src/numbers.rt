@@ -28,7 +28,7 @@ pub(crate) const TWO_NUMBERS: usize = 9;
 /// How many bytes a tag and three numbers have.
 pub(crate) const THREE_NUMBERS: usize = 13;
 
-/// The number behind this tag, where the bytes begin with such a code.
+/// The number after this tag, where the bytes begin with such a code.
 pub(crate) fn one_number(tag: u8, bytes: &[u8]) -> Option<u32>
     ensures some { IfSome result (λ n. bytes.now ≡ numbers_code tag (n ∷ []) ++ drop 5 bytes.now) }
     ensures none { IfNone result ((x : ℕ) (rest : List ℕ) → bytes.now ≢ numbers_code tag (x ∷ []) ++ rest) }
@@ -39,7 +39,7 @@ pub(crate) fn one_number(tag: u8, bytes: &[u8]) -> Option<u32>
     Some(LittleEndian::read_u32(&bytes[1..]))
 }
 
-/// The two numbers behind this tag, where the bytes begin with such a code.
+/// The two numbers after this tag, where the bytes begin with such a code.
 pub(crate) fn two_numbers(tag: u8, bytes: &[u8]) -> Option<(u32, u32)>
     ensures some { IfSome result (λ n. bytes.now ≡ numbers_code tag (n.0 ∷ n.1 ∷ []) ++ drop 9 bytes.now) }
     ensures none { IfNone result ((x y : ℕ) (rest : List ℕ) → bytes.now ≢ numbers_code tag (x ∷ y ∷ []) ++ rest) }
@@ -53,7 +53,7 @@ pub(crate) fn two_numbers(tag: u8, bytes: &[u8]) -> Option<(u32, u32)>
     ))
 }
 
-/// The three numbers behind this tag, where the bytes begin with such a code.
+/// The three numbers after this tag, where the bytes begin with such a code.
 pub(crate) fn three_numbers(tag: u8, bytes: &[u8]) -> Option<(u32, u32, u32)>
     ensures some { IfSome result (λ n. bytes.now ≡ numbers_code tag (n.0 ∷ n.1 ∷ n.2 ∷ []) ++ drop 13 bytes.now) }
     ensures none { IfNone result ((x y z : ℕ) (rest : List ℕ) → bytes.now ≢ numbers_code tag (x ∷ y ∷ z ∷ []) ++ rest) }

@@ -7,7 +7,7 @@ ghost use Rattle.op_meaning.specs.Order.{byte_order, in_order, records};
 use oper_core::Memory;
 use std::alloc::Global;
 
-/// The records of so many bytes, in byte order, one behind the other. Records that are equal keep their order.
+/// The records of so many bytes, in byte order, one after the other. Records that are equal keep their order.
 pub(crate) fn sorted(alloc: Global, bytes: &[u8], width: usize) -> Result<Vec<u8>, Memory>
     requires { 0 < width }
     ensures { IfOk result (λ made. made.items ≡ concat (in_order (records width bytes.now))) }
@@ -32,7 +32,7 @@ fn cut_up(alloc: Global, bytes: &[u8], width: usize) -> Result<Vec<&[u8]>, Memor
     Ok(found)
 }
 
-// The records, one behind the other.
+// The records, one after the other.
 fn join(alloc: Global, found: &[&[u8]]) -> Result<Vec<u8>, Memory>
     ensures { IfOk result (λ made. made.items ≡ concat (map (λ r. r.now) found.now)) }
 {

@@ -61,6 +61,12 @@ impl Oper for Put {
         Ok(made)
     }
 
+    fn into_effect(self, alloc: Global, _b: Bounds, _values: Values) -> Result<Values, Memory> {
+        let mut made = Values::new(alloc);
+        made.push_list(self.value);
+        Ok(made)
+    }
+
     fn code_length(&self) -> u64 {
         (HEAD_BYTES + self.value.as_slice().len()) as u64
     }

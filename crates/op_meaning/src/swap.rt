@@ -43,6 +43,20 @@ impl Oper for Swap {
         Ok(made)
     }
 
+    fn into_effect(self, alloc: Global, _b: Bounds, values: Values) -> Result<Values, Memory> {
+        let mut rest = values;
+        let mut made = Values::new(alloc);
+        let Some(second) = rest.pop() else {
+            return Ok(made);
+        };
+        let Some(first) = rest.pop() else {
+            return Ok(made);
+        };
+        made.push_list(second);
+        made.push_list(first);
+        Ok(made)
+    }
+
     fn code_length(&self) -> u64 {
         TWO_NUMBERS as u64
     }

@@ -11,7 +11,7 @@ use Rattle.byteorder.specs.Numbers.{length-bytes_low_first, little_from-cons, li
 pub length-little_bytes : (n x : ℕ) → length (little_bytes n x) ≡ n
 length-little_bytes n x = length-bytes_low_first 0 n x
 
--- the number in the bytes of x is x, whatever stands behind them
+-- the number in the bytes of x is x, whatever follows them
 pub little_number-little_bytes : (n x : ℕ) (rest : List ℕ) → x < 256 ^ n → little_number n (little_bytes n x ++ rest) ≡ x
 little_number-little_bytes n x rest h = little_number-reads_back n x rest h
 
@@ -53,7 +53,7 @@ pub little_bytes-front : (n : ℕ) (bytes : List ℕ) → n ≤ length bytes →
 little_bytes-front n bytes long small =
     sym (take-append-drop n bytes) ∙ ap (λ (front : List ℕ). front ++ drop n bytes) (sym (little_bytes-little_number n bytes long small))
 
--- two numbers with the same n bytes in front are equal, and so is what stands behind
+-- two numbers with the same n bytes in front are equal, and so is what stands after
 pub little_bytes-split : (n x y : ℕ) (rest more : List ℕ) → x < 256 ^ n → y < 256 ^ n
     → little_bytes n x ++ rest ≡ little_bytes n y ++ more → (x ≡ y) × (rest ≡ more)
 little_bytes-split n x y rest more fits also same =

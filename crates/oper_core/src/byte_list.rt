@@ -1,5 +1,7 @@
-ghost use Rattle.std.specs.Prelude.{◌≡◌, List, ℕ};
+ghost use Rattle.std.specs.Prelude.{◌≡◌, [], List, ℕ};
 
+use std::alloc::Global;
+use std::default::MadeWith;
 use std::marker::Model;
 
 /// A list of bytes, which contracts see as that list.
@@ -12,6 +14,14 @@ impl Model for ByteList {
     ghost Value = { List ℕ };
 
     ghost view = { λ s. s.bytes.items };
+}
+
+impl MadeWith<Global> for ByteList {
+    ghost is_made_with = { λ s. s ≡ [] };
+
+    fn made_with(alloc: Global) -> ByteList {
+        ByteList::new(Vec::new(alloc))
+    }
 }
 
 impl ByteList {

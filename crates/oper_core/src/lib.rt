@@ -3,7 +3,7 @@
 //!
 //! The one contract is the trait [`Oper`] with its laws: an operation's effect is a function of the values that it
 //! reads, and bytes in the log begin with the code of at most one operation. It also says that wider bounds change no
-//! command. The crate depends on `thiserror`, and on `byteorder`'s words for numbers as bytes.
+//! command. The crate depends on `arrayvec`, on `thiserror`, and on `byteorder`'s words for numbers as bytes.
 #![tactic(auto)]
 
 mod bounds;

@@ -34,6 +34,16 @@ pub trait Oper: Drop {
         requires { FitsReads (meaning b) self.now values.now }
         ensures { IfOk result (λ made. made ≡ (meaning b).effect self.now values.now) };
 
+    /// The same, where neither the operation nor the values are needed again: what can be moved is not copied.
+    fn into_effect(self, alloc: Global, b: Bounds, values: Values) -> Result<Values, Memory>
+    where
+        Self: Sized,
+        requires { FitsReads (meaning b) self values }
+        ensures { IfOk result (λ made. made ≡ (meaning b).effect self values) }
+    {
+        self.apply(alloc, b, &values)
+    }
+
     /// How many bytes its code has.
     fn code_length(&self) -> u64
         ensures { (b : Bounds) → result ≡ length ((meaning b).code self.now) };

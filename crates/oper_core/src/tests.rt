@@ -1,4 +1,4 @@
-use crate::{ByteList, Objs, Values};
+use crate::{ByteList, Objs, Refusal, Values};
 use std::alloc::Global;
 use std::test::Fail;
 
@@ -38,5 +38,30 @@ fn gives_back(alloc: Global) -> Result<bool, Fail> {
 #[test]
 fn a_byte_list_gives_its_bytes_back(rt: HostRuntime) -> Result<(), Fail> {
     assert!(rt; gives_back(rt.alloc())?);
+    Ok(())
+}
+
+const NAMES: [(Refusal, &str); 10] = [
+    (Refusal::NoObject, "NoObject"),
+    (Refusal::Same, "Same"),
+    (Refusal::BadPlace, "BadPlace"),
+    (Refusal::BadWidth, "BadWidth"),
+    (Refusal::NotApp, "NotApp"),
+    (Refusal::NoInput, "NoInput"),
+    (Refusal::NotNode, "NotNode"),
+    (Refusal::NoKey, "NoKey"),
+    (Refusal::NodeFull, "NodeFull"),
+    (Refusal::TooLarge, "TooLarge"),
+];
+
+fn is_named(alloc: Global, refusal: Refusal, name: &str) -> Result<bool, Fail> {
+    Ok(refusal.to_string(alloc)?.as_str() == name)
+}
+
+#[test]
+fn a_refusal_is_shown_by_its_name(rt: HostRuntime) -> Result<(), Fail> {
+    for (refusal, name) in NAMES {
+        assert!(rt; is_named(rt.alloc(), refusal, name)?);
+    }
     Ok(())
 }

@@ -1,14 +1,15 @@
-ghost use Rattle.std.specs.Prelude.{◌≡◌, ◌<◌, ◌++◌, [], ◌∷◌, List, ℕ, length, OnOk, OnErr, slice_get, Some};
+ghost use Rattle.std.specs.Prelude.{◌≡◌, ◌<◌, ◌++◌, [], ◌∷◌, List, ℕ, length, IfNone, IfSome, OnOk, OnErr, slice_get, Some};
 
 use crate::{ByteList, Memory};
+use arrayvec::ArrayVec;
 use std::alloc::Global;
 use std::marker::Model;
 
-/// A list of at most four values, each a list of bytes.
+/// A list of at most four values, each a list of bytes. The list itself takes no memory.
 #[derive(Drop)]
 pub struct Values {
     alloc: Global,
-    items: Vec<ByteList>,
+    items: ArrayVec<ByteList, 4, Global>,
 }
 
 impl Model for Values {
@@ -24,7 +25,7 @@ impl Values {
     {
         Values {
             alloc,
-            items: Vec::new(alloc),
+            items: ArrayVec::new_in(alloc),
         }
     }
 
@@ -35,8 +36,31 @@ impl Values {
         ensures err { OnErr result (self.new ≡ self.old) }
     {
         let copy = value.to_vec(self.alloc)?;
-        self.items.push(ByteList::new(copy))?;
+        self.push_list(ByteList::new(copy));
         Ok(())
+    }
+
+    /// Adds the list, moved in, as the last value. No memory.
+    pub fn push_list(&mut self, list: ByteList)
+        requires { length self.old < 4 }
+        ensures { self.new ≡ self.old ++ list ∷ [] }
+    {
+        self.items.push(list);
+    }
+
+    /// Takes the last value out, if there is one.
+    pub fn pop(&mut self) -> Option<ByteList>
+        ensures some { IfSome result (λ list. self.old ≡ self.new ++ list ∷ []) }
+        ensures none { IfNone result (self.old ≡ []) }
+    {
+        self.items.pop()
+    }
+
+    /// How many values there are.
+    pub fn len(&self) -> usize
+        ensures { result ≡ length self.now }
+    {
+        self.items.len()
     }
 
     /// The value at a place.
@@ -44,13 +68,6 @@ impl Values {
         requires { i < length self.now }
         ensures { slice_get self.now i ≡ Some result.now }
     {
-        self.items[i].as_slice()
-    }
-
-    /// The values, moved out.
-    pub fn into_lists(self) -> Vec<ByteList>
-        ensures { result.items ≡ self }
-    {
-        self.items
+        self.items.as_slice()[i].as_slice()
     }
 }
