@@ -81,7 +81,7 @@ fn read_starts(alloc: Global, count: usize, bytes: &[u8]) -> Result<Starts, Memo
     Ok(Starts::new(pairs))
 }
 
-/// The pair with whose code the bytes begin, and the bytes behind it.
+/// The pair with whose code the bytes begin, and the bytes after it.
 fn read_start(bytes: &[u8]) -> ((u32, u64), &[u8])
     requires { 12 ≤ length bytes.now }
     ensures split { bytes.now ≡ start_code result.0 ++ result.1.now }

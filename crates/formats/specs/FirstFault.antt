@@ -12,7 +12,7 @@ use Rattle.formats.specs.Log.{Header, IsClosedLog}
 use Rattle.formats.specs.InForce.{HasHeader, IsInForce}
 use Rattle.formats.specs.Image.{IsWithin, params_in, place_in, IsOpenSlot, IsBlockFault, IsRecordFault, IsLateSlot}
 
--- A check of what has this place, and the checks behind it: it fails, or it passes, and the first of those behind it
+-- A check of what has this place, and the checks after it: it fails, or it passes, and the first of those after it
 -- that fails has this place.
 pub data Checks (at : ℕ) (Check : Type 0) (behind : ℕ → Type 0) (place : ℕ) : Type 0 where
   stops : place ≡ at → (Check → ⊥) → Checks at Check behind place
@@ -23,7 +23,7 @@ pub check_moved : {P Q : Type 0} {F G : ℕ → Type 0} (at place : ℕ) → (P 
 check_moved at place there back behind (stops is wrong) = stops is (λ holds. wrong (back holds))
 check_moved at place there back behind (goes_on holds later) = goes_on (there holds) (behind later)
 
--- of checks in their order one place is reported, if those behind report one
+-- of checks in their order one place is reported, if those after report one
 pub one_check : {P : Type 0} {F : ℕ → Type 0} (at p q : ℕ) → (F p → F q → p ≡ q) → Checks at P F p → Checks at P F q → p ≡ q
 one_check at p q one (stops here wrong) (stops there also) = here ∙ sym there
 one_check at p q one (stops here wrong) (goes_on holds later) = absurd (wrong holds)
@@ -62,7 +62,7 @@ pub record SlotChecks (file : List ℕ) (place : ℕ) : Type 0 where
   pub before : (y other : ℕ) → y < x → PairChecks file y other → ⊥
   pub fault : PairChecks file x place
 
--- the checks of the header of the objects file, and those behind them
+-- the checks of the header of the objects file, and those after them
 abbrev pub ObjectsChecks : List ℕ → (ℕ → Type 0) → ℕ → Type 0
 ObjectsChecks file behind =
     Checks 1 (take 8 (drop 1 file) ≡ codes "RDOOBJ01") (
@@ -74,7 +74,7 @@ ObjectsChecks file behind =
 abbrev pub IsFirstObjectsFault : List ℕ → ℕ → Type 0
 IsFirstObjectsFault file = ObjectsChecks file (Checks 0 (last_slot (params_in file) < length file) (SlotChecks file))
 
--- the checks of a log's header whose gate is open, and those behind them
+-- the checks of a log's header whose gate is open, and those after them
 abbrev pub LogChecks : List ℕ → (ℕ → Type 0) → ℕ → Type 0
 LogChecks file behind =
     Checks 1 (take 8 (drop 1 file) ≡ codes "RDOLOG01") (

@@ -11,7 +11,7 @@ other_of LogA = LogB
 other_of LogB = LogA
 other_of Objects = Objects
 
--- it begins with this header, and has a byte behind it
+-- it begins with this header, and has a byte after it
 pub record HasHeader (header : Header) (file : List ℕ) : Type 0 where
   pub in_range : IsHeader header
   pub gate : ℕ

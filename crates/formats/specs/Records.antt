@@ -1,6 +1,7 @@
 -- The records of a log's payloads: one after the other, without padding.
-use Rattle.std.specs.Prelude.{◌≡◌, ◌<◌, ◌≤◌, ◌+◌, ◌^◌, ⊤, ℕ, List, [], ◌∷◌, ◌++◌, length, map, All}
+use Rattle.std.specs.Prelude.{◌≡◌, ◌<◌, ◌≤◌, ◌+◌, ◌^◌, ⊤, ℕ, Option, None, Some, List, [], ◌∷◌, ◌++◌, length, map, All}
 use Rattle.std.specs.List.{flat_map}
+use Rattle.std.specs.Option.{option_or}
 use Rattle.std.specs.List.Sorted.{IsStrictlyIncreasing}
 use Rattle.byteorder.specs.Endian.{little_bytes}
 use Rattle.oper_core.specs.Meaning.{Meaning, IsInGrammar}
@@ -42,13 +43,13 @@ IsPlaced m base next (Command number op) = (number ≡ next) × (number < 2 ^ 62
 IsPlaced m base next (Identity number x value) = (number ≡ next) × (number < 2 ^ 62)
 IsPlaced m base next (Check table) = IsCheckAt m base next table
 
--- the next number behind a record: a check takes none
+-- the next number after a record: a check takes none
 abbrev pub next_behind : {O : Type 0} → ℕ → Record O → ℕ
 next_behind next (Command number op) = next + 1
 next_behind next (Identity number x value) = next + 1
 next_behind next (Check table) = next
 
--- the next number behind records
+-- the next number after records
 abbrev pub next_after : {O : Type 0} → ℕ → List (Record O) → ℕ
 next_after next [] = next
 next_after next (r ∷ records) = next_after (next_behind next r) records
@@ -68,6 +69,20 @@ commands_of [] = []
 commands_of (Command number op ∷ records) = op ∷ commands_of records
 commands_of (Identity number x value ∷ records) = commands_of records
 commands_of (Check table ∷ records) = commands_of records
+
+-- the numbers of the numbered records rise, from one number on and below another
+abbrev pub Rise : {O : Type 0} → ℕ → ℕ → List (Record O) → Type 0
+Rise low end [] = ⊤
+Rise low end (Command number op ∷ records) = (low ≤ number) × (number < end) × Rise (number + 1) end records
+Rise low end (Identity number x value ∷ records) = (low ≤ number) × (number < end) × Rise (number + 1) end records
+Rise low end (Check table ∷ records) = Rise low end records
+
+-- the table of the last check among the records
+abbrev pub last_check : {O : Type 0} → List (Record O) → Option Table
+last_check [] = None
+last_check (Command number op ∷ records) = last_check records
+last_check (Identity number x value ∷ records) = last_check records
+last_check (Check table ∷ records) = option_or (last_check records) (Some table)
 
 -- the records of all blocks, in their order
 abbrev pub records_of : {O : Type 0} → List (List (Record O)) → List (Record O)

@@ -5,11 +5,7 @@ use Rattle.std.proofs.lemmas.Bool.{cases_eq}
 use Rattle.disk_model.specs.Disk.{Holds, Torn}
 use Rattle.formats.specs.Log.{Header, header_bytes, blocks, end_of, IsLog}
 use Rattle.log_frames.specs.Forcing.{frame, with_block}
-use Rattle.log_frames.specs.Laws.{blocks-push}
-
-pub with_block-some : (payloads : List (List ℕ)) (payload : List ℕ) → 0 < length payload → with_block payloads payload ≡ payloads ++ payload ∷ []
-with_block-some payloads [] some = absurd (omega arith)
-with_block-some payloads (b ∷ bs) some = refl
+use Rattle.log_frames.specs.Laws.{blocks-push, with_block-some}
 
 -- a force moves the next gate by what it writes
 pub next_place : (payloads : List (List ℕ)) (payload : List ℕ) → 0 < length payload → end_of payloads + length (frame payload) ≡ end_of (with_block payloads payload)
@@ -39,7 +35,7 @@ module _ (front : List ℕ) (gate at : ℕ) (tail : List ℕ) (place : at ≡ le
   no_gap : (n : ℕ) → n ≡ 0 → replicate {A = ℕ} n 0 ≡ []
   no_gap n is = ap (λ (k : ℕ). replicate {A = ℕ} k 0) is
 
-  -- the front and the gate stand in each outcome of a write behind the gate
+  -- the front and the gate stand in each outcome of a write after the gate
   pub torn_behind : (n : ℕ) (c : List ℕ) → Torn (at + 1) n old c → (rest : List ℕ) × (c ≡ front ++ gate ∷ rest)
   torn_behind n c torn =
       let reach : min (at + 1) (length old) ≡ at + 1 = omega (arith, long) in

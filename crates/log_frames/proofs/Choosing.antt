@@ -29,7 +29,7 @@ pub closed_read : (file into : List ℕ) (n : ℕ) → into ≡ padded file 0 33
 closed_read [] into n is closed long some = some long
 closed_read (g ∷ rest) into n is closed long some = λ opened. closed (ap (λ (l : List ℕ). get_or l 0 0) is ∙ get_or-padded (g ∷ rest) 0 33 0 (omega arith) ∙ opened)
 
--- 33 bytes of a header, and one behind
+-- 33 bytes of a header, and one after
 pub header_stands : (h : Header) (file : List ℕ) → IsHeader h → take 33 file ≡ header_bytes h → 33 < length file → HasHeader h file
 header_stands h file is front within = record {
   in_range = is;

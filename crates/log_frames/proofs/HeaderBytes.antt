@@ -19,7 +19,7 @@ eight : (head : List ℕ) (at : ℕ) → at + 8 ≤ length head → ((i : ℕ) �
 eight head at within small =
     sym (little_bytes-little_number 8 (drop at head) (omega (arith, length-drop at head)) (λ i. subst (λ (n : ℕ). n < 256) (sym (get_or-drop at head i 0)) (small (at + i))))
 
--- n bytes, and what stands behind them
+-- n bytes, and what follows them
 cut : (n at : ℕ) (head : List ℕ) → drop at head ≡ take n (drop at head) ++ drop (at + n) head
 cut n at head = sym (take-append-drop n (drop at head)) ∙ ap (λ (l : List ℕ). take n (drop at head) ++ l) (drop-drop n at head)
 
@@ -91,7 +91,7 @@ module _ (file : List ℕ) where
       (check_moved 25 place (λ less. omega (arith, less, second, third)) (λ less. omega (arith, less, second, third)) (λ never. absurd never))))
       fault
 
-  -- behind a header that was read
+  -- after a header that was read
   pub behind_header : (h : Header) (into : List ℕ) (behind : ℕ → Type 0) (place : ℕ) → into ≡ head → IsHeader h → into ≡ header_bytes h → behind place → LogChecks file behind place
   behind_header h into behind place read is fields later =
       let whole : head ≡ header_bytes h ++ [] = sym read ∙ fields ∙ sym (append-nil (header_bytes h)) in

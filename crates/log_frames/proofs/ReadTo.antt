@@ -39,7 +39,7 @@ parts : (file : List ℕ) (gate : ℕ) (payloads : List (List ℕ)) → IsReadTo
 parts file gate payloads r within =
     sym (take-append-drop gate file) ∙ ap (λ (l : List ℕ). l ++ drop gate file) r.front ∙ ap (λ (l : List ℕ). (take 33 file ++ blocks payloads) ++ l) (drop_more file gate 0 within)
 
--- behind a header in its format, up to a closed gate
+-- after a header in its format, up to a closed gate
 pub whole_log : (h : Header) (file : List ℕ) (gate : ℕ) → IsHeader h → take 33 file ≡ header_bytes h → 33 < length file → (e : EndsBlocks file gate) → IsWholeLog h e.payloads file
 whole_log h file gate is front first e = record {
   in_range = is;

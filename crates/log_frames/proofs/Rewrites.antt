@@ -18,7 +18,7 @@ use Rattle.log_frames.specs.Laws.{length-block, blocks-push, has_header}
 use Rattle.log_frames.specs.Rewriting.{bytes_of, KeepsClosed, IsFront, IsPrepared, IsPassiveOrNew, next_header, rewritten, IsOldOrNew}
 use Rattle.log_frames.specs.declared.payload.Payload.{Payload}
 
--- a write behind the header gate keeps it closed
+-- a write after the header gate keeps it closed
 pub torn_keeps : (at n : ℕ) (old new : List ℕ) → 1 ≤ at → Torn at n old new → KeepsClosed old new
 torn_keeps at n [] new le torn closed = absurd closed
 torn_keeps at n (g ∷ rest) [] le torn closed = absurd (omega (arith, torn.no_shorter))
@@ -37,7 +37,7 @@ keeps_twice old mid new file first second = runs_twice old mid new (In file Keep
     (λ a b c x y. record { changed = λ closed. y.changed (x.changed closed); others = λ other is_other. y.others other is_other ∙ x.others other is_other })
     first second
 
--- one write more behind the header gate
+-- one write more after the header gate
 pub keeps_more : (old mid new : Disk) (file : FileNo) (at n : ℕ) → 1 ≤ at → Runs (In file KeepsClosed) Same old mid → Runs (In file (Torn at n)) Same mid new → Runs (In file KeepsClosed) Same old new
 keeps_more old mid new file at n le first second = keeps_twice old mid new file first (keeps_write mid new file at n le second)
 
@@ -47,7 +47,7 @@ keeps_settled old mid new file settled first second here =
     let run = runs_then_stays old mid new (In file KeepsClosed) first second in
     settled_again old new file KeepsClosed KeepsClosed run.ends settled run.time run.crash (λ told. run.reads (run.begins.telling told)) here
 
--- bytes written right behind a front make it longer
+-- bytes written right after a front make it longer
 pub front_grows : (front bytes a c : List ℕ) (at : ℕ) → at ≡ length front → IsFront front a → Holds at bytes a c → IsFront (front ++ bytes) c
 front_grows front bytes a c at here begins holds =
     let long : length a ≡ length front + length begins.0 = ap length begins.1 ∙ length-append front begins.0 in

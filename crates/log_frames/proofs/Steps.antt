@@ -6,8 +6,8 @@ use Rattle.disk_model.specs.declared.machine.FileNo.{FileNo}
 use Rattle.formats.specs.Log.{Header, header_bytes, blocks, IsLog, IsWholeLog}
 use Rattle.log_frames.specs.LogView.{LogView}
 use Rattle.log_frames.specs.Forcing.{frame, with_block, IsAtRest, IsBeforeOrAfter, IsLogAt, IsOneOf}
-use Rattle.log_frames.specs.Laws.{length-header_bytes, all_push}
-use Rattle.log_frames.proofs.Bytes.{with_block-some, torn_behind, held_behind, torn_gate, held_gate, opened, either, next_place}
+use Rattle.log_frames.specs.Laws.{with_block-some, length-header_bytes, all_push}
+use Rattle.log_frames.proofs.Bytes.{torn_behind, held_behind, torn_gate, held_gate, opened, either, next_place}
 
 -- what is written and where, and that it has a place
 pub record IsForce (old : Disk) (file : FileNo) (gate : ℕ) (header : Header) (payloads : List (List ℕ)) (payload : List ℕ) : Type 0 where
@@ -15,7 +15,7 @@ pub record IsForce (old : Disk) (file : FileNo) (gate : ℕ) (header : Header) (
   pub short : length payload ≤ 2 ^ 30
   pub rests : IsLogAt old file gate header payloads
 
--- the frame stands behind the closed gate, all of it on the disk
+-- the frame follows the closed gate, all of it on the disk
 pub record IsStaged (old mid : Disk) (file : FileNo) (header : Header) (payloads : List (List ℕ)) (payload : List ℕ) : Type 0 where
   pub settled : IsSettled mid
   pub gate_byte : ℕ
@@ -60,7 +60,7 @@ module _ (old : Disk) (file : FileNo) (gate : ℕ) (header : Header) (payloads :
         place = omega (arith, f.rests.place, next_place payloads payload f.some);
       }
 
-  -- a write behind the gate leaves the payloads
+  -- a write after the gate leaves the payloads
   staging : (mid : Disk) (n : ℕ) → old.tells_moments → Steps (In file (Torn (gate + 1) n)) Same old mid → (c : Files) (s : List ℕ) → mid.left_since old.clock c s → P c s
   staging mid n told goes c s left =
       let from = from_reads old mid _ Same told f.rests.settled goes c s left in

@@ -31,6 +31,6 @@ pub record IsOneOf (m : Disk) (file : FileNo) (header : Header) (payloads : List
 abbrev pub IsBeforeOrAfter : Disk → LogView → List (List ℕ) → Files → List ℕ → Type 0
 IsBeforeOrAfter m log payloads files said = IsOneOf m log.active log.header payloads log.pending files said
 
--- what is written behind a closed gate: the length, the payload and the next gate, closed
+-- what is written after a closed gate: the length, the payload and the next gate, closed
 abbrev pub frame : List ℕ → List ℕ
 frame payload = (little_bytes 4 (length payload) ++ payload) ++ 0 ∷ []

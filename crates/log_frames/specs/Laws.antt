@@ -13,6 +13,7 @@ use Rattle.formats.specs.Log.{Header, header_bytes, block, blocks, end_of, IsHea
 use Rattle.disk_model.specs.Disk.{Files, In}
 use Rattle.disk_model.specs.declared.machine.FileNo.{FileNo}
 use Rattle.disk_model.specs.declared.machine.FileNo.TheVariants.{Objects, LogA, LogB}
+use Rattle.log_frames.specs.Forcing.{with_block}
 use Rattle.log_frames.specs.Reading.{placed_from}
 use Rattle.log_frames.specs.declared.payload.Payload.{Payload}
 use Rattle.formats.specs.Image.{IsHeaderFault, magic, epoch, base, commands, short, IsBlockFault, IsLogFault, no_byte, in_header, none_open, one_epoch, in_block}
@@ -33,10 +34,15 @@ length-header_bytes h = omega (
 pub length-block : (payload : List ℕ) → length (block payload) ≡ 5 + length payload
 length-block payload = omega (arith, length-append (little_bytes 4 (length payload)) payload, length-bytes_low_first 0 4 (length payload))
 
--- one payload more is one block more behind the others
+-- one payload more is one block more after the others
 pub blocks-push : (payloads : List (List ℕ)) (payload : List ℕ) → blocks (payloads ++ payload ∷ []) ≡ blocks payloads ++ block payload
 blocks-push [] payload = append-nil (block payload)
 blocks-push (p ∷ payloads) payload = ap (λ (l : List ℕ). block p ++ l) (blocks-push payloads payload) ∙ sym (append_assoc (block p) (blocks payloads) (block payload))
+
+-- one with a byte is one more
+pub with_block-some : (payloads : List (List ℕ)) (payload : List ℕ) → 0 < length payload → with_block payloads payload ≡ payloads ++ payload ∷ []
+with_block-some payloads [] some = absurd (omega arith)
+with_block-some payloads (b ∷ bs) some = refl
 
 -- payloads with one more are payloads
 pub all_push : (payloads : List (List ℕ)) (payload : List ℕ) → All IsPayload payloads → IsPayload payload → All IsPayload (payloads ++ payload ∷ [])
@@ -79,7 +85,7 @@ one_header h k x y is_h is_k same =
     let counts = sym (commands_stand h is_h x) ∙ ap (λ (l : List ℕ). number_at 8 25 l) same ∙ commands_stand k is_k y in
     λ i. record { epoch = epochs i; base = bases i; commands = counts i }
 
--- what stands behind a block's gate begins with its length
+-- what follows a block's gate begins with its length
 pub length_stands : (payload rest : List ℕ) → IsPayload payload → little_number 4 (drop 1 (block payload ++ rest)) ≡ length payload
 length_stands payload rest is =
     ap (λ (l : List ℕ). little_number 4 l) (append_assoc (little_bytes 4 (length payload)) payload rest)
@@ -121,7 +127,7 @@ one_log h k ps qs file a b =
     (same ∙ ap (λ (header : Header). header_bytes header ++ (blocks qs ++ b.log.gate ∷ b.log.rest)) (sym headers)) in
     (headers, one_list ps qs _ _ _ _ a.whole b.whole a.log.closed b.log.closed behind)
 
--- a whole block, and something behind it
+-- a whole block, and something after it
 record Ahead (bytes : List ℕ) : Type 0 where
   payload : List ℕ
   rest : List ℕ
@@ -129,7 +135,7 @@ record Ahead (bytes : List ℕ) : Type 0 where
   split : bytes ≡ block payload ++ rest
   some : 0 < length rest
 
--- an open gate behind some of the blocks is the gate of the next one
+-- an open gate after some of the blocks is the gate of the next one
 ahead : (ps qs : List (List ℕ)) (g : ℕ) (x y : List ℕ) → All IsPayload ps → All IsPayload qs → g ≢ 1 → blocks ps ++ g ∷ x ≡ blocks qs ++ 1 ∷ y → Ahead (1 ∷ y)
 ahead [] [] g x y all_p all_q closed same = absurd (closed (first_byte g 1 x y same))
 ahead [] (q ∷ qs) g x y all_p all_q closed same = absurd (closed (first_byte g 1 x _ same))
@@ -174,7 +180,7 @@ no_block_fault h ps file place is fault =
     sym (drop_at (header_bytes h) (blocks ps ++ is.log.gate ∷ is.log.rest) 33 (length-header_bytes h)) ∙ ap (λ (l : List ℕ). drop 33 l) same ∙ drop_at fault.header (blocks fault.payloads ++ 1 ∷ fault.rest) 33 fault.long in
     not_ahead file place fault (ahead ps fault.payloads is.log.gate is.log.rest fault.rest is.whole fault.whole is.log.closed behind)
 
--- the same bytes are of one list of blocks, up to the first open gate behind which no whole block stands
+-- the same bytes are of one list of blocks, up to the first open gate after which no whole block stands
 one_open : (ps qs : List (List ℕ)) (x y : List ℕ) → All IsPayload ps → All IsPayload qs → blocks ps ++ 1 ∷ x ≡ blocks qs ++ 1 ∷ y → (Ahead (1 ∷ x) → ⊥) → (Ahead (1 ∷ y) → ⊥) → ps ≡ qs
 one_open [] [] x y all_p all_q same none_x none_y = refl
 one_open [] (q ∷ qs) x y all_p all_q same none_x none_y = absurd (none_x (record {
@@ -233,7 +239,7 @@ has_header h (p ∷ ps) file is = record {
 pub no_header_fault : (h : Header) (ps : List (List ℕ)) (file : List ℕ) (place : ℕ) → IsWholeLog h ps file → IsHeaderFault file place → ⊥
 no_header_fault h ps file place is fault = no_fault_of_header h file place (has_header h ps file is) fault
 
--- one payload more is placed behind the others
+-- one payload more is placed after the others
 pub placed-push : (from : ℕ) (payloads : List (List ℕ)) (payload : List ℕ) → placed_from from (payloads ++ payload ∷ []) ≡ placed_from from payloads ++ record { place = from + length (blocks payloads) + 5; bytes = payload } ∷ []
 placed-push from [] payload = let at : from + 5 ≡ from + 0 + 5 = omega arith in λ i. record { place = at i; bytes = payload } ∷ []
 placed-push from (p ∷ payloads) payload =
@@ -259,7 +265,7 @@ pub smaller : (n : ℕ) (h : Header) (file : List ℕ) → IsPassive n file → 
 smaller n h file (inl closed) has = absurd (not_closed h file has closed)
 smaller n h file (inr other) has = omega (arith, other.2, ap (λ (k : Header). k.epoch) (same_header h other.0 file has other.1))
 
--- a fault of a header is one behind an open gate
+-- a fault of a header is one after an open gate
 opens_by : (file : List ℕ) (place : ℕ) → IsHeaderFault file place → IsOpenAt 0 file
 opens_by file _ (magic is_open other) = is_open
 opens_by file _ (epoch is_open out) = is_open

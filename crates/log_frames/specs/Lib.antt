@@ -1,5 +1,6 @@
 pub mod LogView
 pub mod Forcing
+pub mod Payloads
 pub mod Rewriting
 pub mod Creating
 pub mod Reading

@@ -29,7 +29,7 @@ growth_of [] n = n + 5
 growth_of (byte ∷ bytes) n = n
 
 -- The epoch is one that a header may have. The bytes of the buffer begin with four for the block's length, there is
--- room for a gate behind them, and the block has a place behind this gate.
+-- room for a gate after them, and the block has a place after this gate.
 pub record IsInUse (epoch gate : ℕ) (bytes : List ℕ) (capacity : ℕ) : Type 0 where
   pub last : epoch ≤ 2 ^ 62
   pub reserved : 4 ≤ length bytes

@@ -20,7 +20,7 @@ placed_from gate (payload ∷ payloads) = record { place = gate + 5; bytes = pay
 abbrev pub placed : List (List ℕ) → List Payload
 placed payloads = placed_from 33 payloads
 
--- Why a reading call fails: by a fault of the disk, which then counts it, by a fault in the files, or for want of
+-- Why a reading call fails: by a fault of the disk, which then counts it, by a fault in the files, or for lack of
 -- memory.
 abbrev pub FailsBy : Type 0 → (FileNo → ℕ → Type 0) → LogErr → Type 0
 FailsBy rises fault DiskFault = rises
@@ -37,7 +37,7 @@ TellsDamage (Damaged file place) = Unit {0}
 TellsDamage (Exhausted epoch) = ⊥
 TellsDamage Memory = ⊥
 
--- at this gate stands a block whose payload has so many bytes, and a gate behind it
+-- at this gate stands a block whose payload has so many bytes, and a gate after it
 pub record IsBlockHead (gate len : ℕ) (file : List ℕ) : Type 0 where
   pub head : read_of file gate 5 ≡ 1 ∷ little_bytes 4 len
   pub some : 0 < len
@@ -49,7 +49,7 @@ abbrev pub FoundAt : ℕ → List ℕ → Option ℕ → Type 0
 FoundAt gate file None = IsClosedAt gate file
 FoundAt gate file (Some len) = IsBlockHead gate len file
 
--- this gate is open, but its block or the gate behind it isn't within the file, or its length is out of range
+-- this gate is open, but its block or the gate after it isn't within the file, or its length is out of range
 pub record IsBroken (gate : ℕ) (file : List ℕ) : Type 0 where
   pub open_gate : IsOpenAt gate file
   pub broken : IsWithin 1 (2 ^ 30) (number_at 4 (gate + 1) file) → gate + 1 + 4 + number_at 4 (gate + 1) file < length file → ⊥

@@ -54,7 +54,7 @@ pub record IsOldOrNew (m : Disk) (log : LogView) (payloads : List (List ℕ)) (n
   pub in_force : HoldsLog log.active log.header payloads files ⊎ HoldsLog new.active new.header new_payloads files
   pub nothing_said : said ≡ m.said
 
--- the length of a log file with these payloads: behind the last block stands a closed gate
+-- the length of a log file with these payloads: after the last block stands a closed gate
 abbrev pub file_length : List (List ℕ) → ℕ
 file_length payloads = end_of payloads + 1
 

@@ -27,7 +27,7 @@ pub fn close<M: Machine>(machine: &mut M, file: FileNo) -> Result<(), LogErr>
     Ok(())
 }
 
-// What stands behind the header gate of a new log: the magic, epoch 1, base 1, no command before it, and a closed gate.
+// What follows the header gate of a new log: the magic, epoch 1, base 1, no command before it, and a closed gate.
 fn new_front() -> [u8; HEADER_BYTES]
     ensures { result ≡ header_fields new_header ++ 0 ∷ [] }
 {

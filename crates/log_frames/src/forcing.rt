@@ -1,4 +1,4 @@
-// A block is written behind a closed gate, and counts once the gate is open.
+// A block is written after a closed gate, and counts once the gate is open.
 ghost use Rattle.std.specs.Prelude.{◌≡◌, ◌<◌, ◌≤◌, ◌+◌, ◌^◌, [], ◌∷◌, List, ℕ, length, drop, vec_capacity, OnOk, OnErr, IfErr};
 ghost use Rattle.disk_model.specs.Disk.{Rises, Runs, LeavesOnly, In, Any, Same, Torn, Holds, IsSettled};
 ghost use Rattle.formats.specs.Log.{Header};
@@ -10,7 +10,7 @@ use crate::{LogErr, LogFile};
 use byteorder::{ByteOrder, LittleEndian};
 use disk_model::{FileNo, Machine, write_through};
 
-// Makes of the buffer what stands behind a gate: the length, the payload and a closed gate.
+// Makes of the buffer what follows a gate: the length, the payload and a closed gate.
 fn seal(buffer: &mut Vec<u8>)
     requires reserved { 4 ≤ length buffer.old.items }
     requires room { length buffer.old.items < vec_capacity buffer.old }
@@ -23,7 +23,7 @@ fn seal(buffer: &mut Vec<u8>)
     buffer.push_reserved(CLOSED);
 }
 
-// Writes what stands behind a closed gate, and syncs it.
+// Writes what follows a closed gate, and syncs it.
 fn write_frame<M: Machine>(
     machine: &mut M,
     file: FileNo,
@@ -51,7 +51,7 @@ pub fn open_gate<M: Machine>(machine: &mut M, file: FileNo, gate: u64) -> Result
     Ok(())
 }
 
-// Writes what stands behind a closed gate, and then opens the gate.
+// Writes what follows a closed gate, and then opens the gate.
 fn write_block<M: Machine>(
     machine: &mut M,
     file: FileNo,

@@ -10,7 +10,7 @@ use std::marker::Model;
 
 /// The log in force: where it ends, and what waits to be forced.
 ///
-/// The buffer always has room for a block's length in front and for a closed gate behind, so a force takes no memory.
+/// The buffer always has room for a block's length in front and for a closed gate after, so a force takes no memory.
 #[derive(Drop)]
 pub struct LogFile {
     pub(crate) active: FileNo,

@@ -35,7 +35,7 @@ fn read_payload<M: Machine>(
     })
 }
 
-// The payloads of the blocks behind the header, up to the first closed gate.
+// The payloads of the blocks after the header, up to the first closed gate.
 fn read_payloads<M: Machine>(
     alloc: Global,
     machine: &mut M,

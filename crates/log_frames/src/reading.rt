@@ -41,7 +41,7 @@ pub fn open_block<M: Machine>(
     Ok(Some(len))
 }
 
-/// The place of the first closed gate behind the header.
+/// The place of the first closed gate after the header.
 pub fn first_closed<M: Machine>(machine: &mut M, file: FileNo, size: u64) -> Result<u64, LogErr>
     requires { 33 < size }
     ensures kept { Stays (M.disk machine.old) (M.disk machine.new) }

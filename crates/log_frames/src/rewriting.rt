@@ -28,7 +28,7 @@ fn other(file: FileNo) -> FileNo
     }
 }
 
-// What stands behind the header gate.
+// What follows the header gate.
 fn fields_of(header: Header) -> [u8; 32]
     ensures { result ≡ header_fields (header_of header) }
 {
@@ -69,7 +69,7 @@ fn put_block<M: Machine>(
     Ok(())
 }
 
-// Writes the blocks of these payloads, one behind the other, from the first on; nothing is synced.
+// Writes the blocks of these payloads, one after the other, from the first on; nothing is synced.
 fn put_blocks<M: Machine>(
     machine: &mut M,
     file: FileNo,
@@ -136,7 +136,7 @@ fn write_log<M: Machine>(
     Ok(())
 }
 
-// The place behind the blocks of these payloads.
+// The place after the blocks of these payloads.
 fn end_behind(payloads: &[Payload]) -> u64
     requires fits { end_of (bytes_of payloads.now) < 2 ^ 63 }
     ensures { result ≡ end_of (bytes_of payloads.now) }
