@@ -6,6 +6,8 @@
 #[cfg(test)]
 mod log;
 #[cfg(test)]
+mod pieces;
+#[cfg(test)]
 mod records;
 #[cfg(test)]
 mod rewriting;

@@ -33,7 +33,7 @@ const CODES: [(Row, &[u8]); 3] = [
     ),
 ];
 
-// The code of a record behind two other bytes.
+// The code of a record after two other bytes.
 fn coded(alloc: Global, number: u64, object: u32, value: &[u8]) -> Result<Vec<u8>, Fail>
     requires { length value.now < 2 ^ 32 }
 {
@@ -254,7 +254,7 @@ fn commands_alone_are_counted(rt: HostRuntime) -> Result<(), Fail> {
     Ok(())
 }
 
-// The blocks of the four records, and the closed gate behind them.
+// The blocks of the four records, and the closed gate after them.
 const BLOCKS: &[u8] = b"\x01\x26\0\0\0\
     \x01\x01\0\0\0\0\0\0\0\x01\x02\0\0\0\x01\0\0\0a\
     \x02\x02\0\0\0\0\0\0\0\x01\0\0\0\x02\0\0\0ab\
@@ -290,7 +290,7 @@ fn are_some(records: &[Record<Put>], first: usize, count: usize) -> bool {
     are
 }
 
-// Whether the four records are found again, and so many in the tail from a number on, behind so many others; what waits
+// Whether the four records are found again, and so many in the tail from a number on, after so many others; what waits
 // is not among them.
 fn are_found(alloc: Global, from: u64, first: usize, count: usize) -> Result<bool, Fail> {
     let (mut machine, _) = four_records(alloc)?;
@@ -306,6 +306,53 @@ fn a_tail_begins_at_its_number_and_keeps_checks(rt: HostRuntime) -> Result<(), F
     for (from, first, count) in [(0, 0, 4), (1, 0, 4), (2, 1, 3), (3, 2, 2), (4, 2, 1)] {
         assert!(rt; are_found(rt.alloc(), from, first, count)?, "from {from}");
     }
+    Ok(())
+}
+
+// Whether the commands and identity writes from a number on are the last of three, so many.
+fn are_numbered(alloc: Global, from: u64, count: usize) -> Result<bool, Fail> {
+    const ALL: [Row; 3] = [(1, 1, 2, b"a"), (2, 2, 1, b"ab"), (1, 3, 3, b"abc")];
+    let (mut machine, _) = four_records(alloc)?;
+    let log = loaded(alloc, &mut machine, BOUNDS)?;
+    let found = log.numbered_from(&mut machine, from)?;
+    let mut are = found.len() == count;
+    for (record, row) in found
+        .iter()
+        .zip(ALL.iter().skip(ALL.len().saturating_sub(count)))
+    {
+        are &= is_of(record, *row);
+    }
+    Ok(are)
+}
+
+#[test]
+fn what_is_done_again_begins_at_its_number(rt: HostRuntime) -> Result<(), Fail> {
+    for (from, count) in [(0, 3), (1, 3), (2, 2), (3, 1), (4, 0)] {
+        assert!(rt; are_numbered(rt.alloc(), from, count)?, "from {from}");
+    }
+    Ok(())
+}
+
+// Whether the last of two checks is found, by its next number.
+fn last_is_found(alloc: Global) -> Result<bool, Fail> {
+    let (mut machine, _) = four_records(alloc)?;
+    let mut log = loaded(alloc, &mut machine, BOUNDS)?;
+    add_check(
+        &mut log,
+        BOUNDS,
+        Starts::new(Vec::from_slice(alloc, &[(0, 1)])?),
+    )?;
+    log.force(&mut machine)?;
+    let (_, last) = RecordLog::<Put>::load_checked(alloc, &mut machine, BOUNDS)?;
+    let Some(table) = last else {
+        return Ok(false);
+    };
+    Ok(table.next == 4)
+}
+
+#[test]
+fn the_last_check_is_found(rt: HostRuntime) -> Result<(), Fail> {
+    assert!(rt; last_is_found(rt.alloc())?);
     Ok(())
 }
 
@@ -375,7 +422,7 @@ fn a_load_counts_commands_alone(rt: HostRuntime) -> Result<(), Fail> {
     Ok(())
 }
 
-// Blocks, each with a closed gate behind it, and where the log is then damaged.
+// Blocks, each with a closed gate after it, and where the log is then damaged.
 const BROKEN: [(&[u8], u64); 5] = [
     (b"\x01\x01\0\0\0\x02\0", 38),
     (
@@ -405,7 +452,7 @@ fn a_broken_record_is_damaged(rt: HostRuntime) -> Result<(), Fail> {
     Ok(())
 }
 
-// Blocks with a put and behind it an identity write or a check that is not right in its place, and why.
+// Blocks with a put and after it an identity write or a check that is not right in its place, and why.
 const MISPLACED: [(&[u8], &str); 7] = [
     (
         b"\x01\x23\0\0\0\x01\x01\0\0\0\0\0\0\0\x01\0\0\0\0\0\0\0\0\

@@ -1,7 +1,9 @@
 -- A log of records with one record more that waits.
-use Rattle.std.proofs.Common.{◌≡◌, ℕ, ◌+◌, List, ◌++◌, ap, ◌∙◌}
-use Rattle.formats.specs.Records.{next_behind}
+use Rattle.std.proofs.Common.{◌≡◌, ℕ, ◌+◌, ◌^◌, ◌≤◌, List, ◌++◌, ap, ◌∙◌, arith}
+use Rattle.oper_core.specs.Meaning.{Meaning}
+use Rattle.formats.specs.Records.{next_behind, IsPlaced}
 use Rattle.formats.specs.declared.record.Record.{Record}
+use Rattle.formats.specs.declared.record.Record.TheVariants.{Command, Identity, Check}
 use Rattle.log_frames.specs.LogView.{LogView}
 use Rattle.log_records.specs.RecordLog.{RecordLogView, counts}
 
@@ -23,3 +25,9 @@ appended inside now log next accepted code new same log_is next_is accepted_is =
     let nexts = next_is ∙ ap (λ (v : RecordLogView). next_behind v.next new) same in
     let counted = accepted_is ∙ ap (λ (v : RecordLogView). v.accepted + counts new) same in
     λ i. record { bounds = (same i).bounds; log = logs i; next = nexts i; accepted = counted i; forced = (same i).forced }
+
+-- the next number after one record ends at 2^62
+pub next_within : {O : Type 0} (m : Meaning O) (base next : ℕ) (r : Record O) → next ≤ 2 ^ 62 → IsPlaced m base next r → next_behind next r ≤ 2 ^ 62
+next_within m base next (Command number op) small place = omega (arith, place.0, place.1)
+next_within m base next (Identity number x value) small place = omega (arith, place.0, place.1)
+next_within m base next (Check table) small place = small

@@ -1,5 +1,6 @@
 pub mod Reading
-mod LoadingLemmas
+mod Passing
+mod Lasts
 mod LoadLemmas
 mod Starts
 mod Appended

@@ -14,7 +14,7 @@ use Rattle.log_records.specs.RecordLaws.{payload_push}
 use Rattle.log_records.specs.RewriteLaws.{block_length, goes_in, begins_next}
 use Rattle.log_records.specs.Rewriting.{blocks_behind, in_full_blocks}
 
--- the first records are in whole blocks and in the one in hand; those behind them go on from there
+-- the first records are in whole blocks and in the one in hand; those after them go on from there
 pub record ArePackedTo {O : Type 0} (m : Meaning O) (records : List (Record O)) (i : ℕ) (found : List (List ℕ)) (hand : List ℕ) : Type 0 where
   pub groups : List (List (Record O))
   pub in_hand : List (Record O)

@@ -14,7 +14,7 @@ use Rattle.formats.specs.Records.{record_code}
 use Rattle.log_records.specs.Codec.{StartsWithRecord}
 use Rattle.log_records.specs.CodecLaws.{identity_fields}
 
--- the kind, the number that is read, and the code behind it
+-- the kind, the number that is read, and the code after it
 pub begins : (bytes code rest : List ℕ) → ((i : ℕ) → slice_index bytes i < 256) → 9 ≤ length bytes → slice_index bytes 0 ≡ 1
     → drop 9 bytes ≡ code ++ rest → bytes ≡ (1 ∷ (little_bytes 8 (little_number 8 (drop 1 bytes)) ++ code)) ++ rest
 begins [] code rest small long kind behind = absurd (omega arith)
@@ -23,7 +23,7 @@ begins (first ∷ bytes) code rest small long kind behind =
     ap (λ (x : ℕ). x ∷ bytes) kind
     ∙ ap (λ (xs : List ℕ). 1 ∷ xs) (little_bytes-front 8 bytes (omega arith) (λ i. small (suc i)) ∙ ap (λ (xs : List ℕ). number ++ xs) behind ∙ sym (append_assoc number code rest))
 
--- five parts that were written one behind the other
+-- five parts that were written one after the other
 pub five_parts : (old one two three four all a b c d : List ℕ) (kind : ℕ) → one ≡ old ++ kind ∷ [] → two ≡ one ++ a → three ≡ two ++ b → four ≡ three ++ c → all ≡ four ++ d
     → all ≡ old ++ (kind ∷ (a ++ (b ++ (c ++ d))))
 five_parts old one two three four all a b c d kind first second third fourth fifth =
@@ -32,7 +32,7 @@ five_parts old one two three four all a b c d kind first second third fourth fif
     ∙ append_assoc (old ++ kind ∷ []) a (b ++ (c ++ d)) ∙ append_assoc old (kind ∷ []) (a ++ (b ++ (c ++ d)))
 
 module _ {O : Type 0} (m : Meaning O) (bytes : List ℕ) where
-  -- no record where no operation stands behind the number
+  -- no record where no operation follows the number
   pub no_command : slice_index bytes 0 ≡ 1 → ((number : ℕ) (op : O) → StartsWithRecord m bytes (Command number op) → ⊥) → (other : Record O) → StartsWithRecord m bytes other → ⊥
   no_command first none (Command number op) it = none number op it
   no_command first none (Identity number x value) it = omega (arith, ap (λ (l : List ℕ). get_or l 0 0) it.split, first)
@@ -47,7 +47,7 @@ module _ {O : Type 0} (m : Meaning O) (bytes : List ℕ) where
   no_identity first none (Identity number x value) it = none number x value it
   no_identity first none (Check table) it = omega (arith, ap (λ (l : List ℕ). get_or l 0 0) it.split, first)
 
-  -- none where no table stands behind the kind
+  -- none where no table follows the kind
   pub no_check : slice_index bytes 0 ≡ 3 → ((table : Table) → StartsWithTable (drop 1 bytes) table → ⊥) → (other : Record O) → StartsWithRecord m bytes other → ⊥
   no_check first none (Command number op) it = omega (arith, ap (λ (l : List ℕ). get_or l 0 0) it.split, first)
   no_check first none (Identity number x value) it = omega (arith, ap (λ (l : List ℕ). get_or l 0 0) it.split, first)
@@ -94,7 +94,7 @@ module _ {O : Type 0} (m : Meaning O) (bytes : List ℕ) where
         );
       }
 
--- the kind, the three numbers that are read, and a value of that length behind them
+-- the kind, the three numbers that are read, and a value of that length after them
 pub identity_begins : (bytes value rest : List ℕ) → ((i : ℕ) → slice_index bytes i < 256) → 17 ≤ length bytes → slice_index bytes 0 ≡ 2 → little_number 4 (drop 13 bytes) ≡ length value → drop 17 bytes ≡ value ++ rest
     → bytes ≡ (2 ∷ (little_bytes 8 (little_number 8 (drop 1 bytes)) ++ (little_bytes 4 (little_number 4 (drop 9 bytes)) ++ (little_bytes 4 (length value) ++ value)))) ++ rest
 identity_begins [] value rest small long kind count behind = absurd (omega arith)

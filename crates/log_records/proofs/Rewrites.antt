@@ -199,7 +199,7 @@ rewrite_fails old mid new log bytes fault length_is (Damaged file place) kept is
 rewrite_fails old mid new log bytes fault length_is (Exhausted epoch) kept is fails = fails
 rewrite_fails old mid new log bytes fault length_is Memory kept is fails = absurd fails
 
--- a run that changes one file, behind calls that change none
+-- a run that changes one file, after calls that change none
 pub rewritten_run : (old mid new : Disk) (file : FileNo) → Stays old mid → Runs (In file Any) Same mid new → Runs (In file Any) Same old new
 rewritten_run old mid new file kept run = runs_join old mid new Same (In file Any) (In file Any)
     (λ a b same. record { changed = tt; others = λ other apart. ap (λ (f : Files). f other) same })

@@ -32,7 +32,7 @@ module _ (objects base next : ℕ) where
   at_end : (xs : List ℕ) (x k : ℕ) → k ≡ length xs → get_or (xs ++ x ∷ []) k 0 ≡ x
   at_end xs x k is = ap (λ (n : ℕ). get_or (xs ++ x ∷ []) n 0) (is ∙ omega arith) ∙ sym (get_or-drop (length xs) (xs ++ x ∷ []) 0 0) ∙ ap (λ (l : List ℕ). get_or l 0 0) (drop-append_seam xs (x ∷ []))
 
-  -- one pair more, behind all of these
+  -- one pair more, after all of these
   seen_more : (least : ℕ) (starts : List (ℕ × ℕ)) (s : ℕ × ℕ) → AreSeen objects base next least starts → IsStart objects base next least s → AreSeen objects base next (s.0 + 1) (starts ++ s ∷ [])
   seen_more least starts s seen is =
       let xs = objects_of starts in

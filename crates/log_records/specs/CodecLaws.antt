@@ -77,7 +77,7 @@ encodable-from_grammar meaning b codes (Command number op) good = (b, codes.lawf
 encodable-from_grammar meaning b codes (Identity number x value) good = omega (arith, good.2, codes.short)
 encodable-from_grammar meaning b codes (Check table) good = good.few
 
--- what stands behind its code
+-- what follows its code
 pub rest-from_starts : {O : Type 0} (m : Meaning O) (bytes : List ℕ) (it : Record O) → (starts : StartsWithRecord m bytes it)
     → starts.rest ≡ drop (length (record_code m it)) bytes
 rest-from_starts m bytes it starts = sym (front_rest bytes (record_code m it) starts.rest starts.split)

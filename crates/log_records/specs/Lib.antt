@@ -5,5 +5,6 @@ pub mod RecordLaws
 pub mod Rewriting
 pub mod Packing
 pub mod RewriteLaws
+pub mod RecordReader
 pub mod Loading
 pub mod Uniqueness

@@ -1,11 +1,9 @@
--- What a reader of records finds in payloads.
-use Rattle.std.specs.Prelude.{◌≡◌, ◌<◌, ◌≤◌, ◌+◌, ◌^◌, All, ℕ, List, [], ◌∷◌, ◌++◌, length, map}
+-- What a load of a log finds in its files.
+use Rattle.std.specs.Prelude.{◌≡◌, ◌<◌, ◌≤◌, All, ℕ, List, length, map}
 use Rattle.std.specs.List.Sorted.{IsStrictlyIncreasing}
 use Rattle.oper_core.specs.Meaning.{Meaning}
-use Rattle.formats.specs.Records.{record_code, payload_of, records_of, next_after, AreRecords}
+use Rattle.formats.specs.Records.{commands_of, next_after, last_check}
 use Rattle.formats.specs.declared.record.Record.{Record}
-use Rattle.log_frames.specs.Rewriting.{bytes_of}
-use Rattle.log_frames.specs.declared.payload.Payload.{Payload}
 use Rattle.disk_model.specs.Disk.{Files, Disk}
 use Rattle.disk_model.specs.declared.machine.FileNo.{FileNo}
 use Rattle.formats.specs.InForce.{IsInForce, HasHeader}
@@ -13,6 +11,7 @@ use Rattle.formats.specs.Log.{Header, IsWholeLog}
 use Rattle.formats.specs.Image.{IsRecordFault}
 use Rattle.formats.specs.FirstFault.{IsFirstLogFault}
 use Rattle.log_frames.specs.LogView.{LogView}
+use Rattle.log_records.specs.declared.counted.Counted.{Counted}
 
 -- the object is from this one on and there, and its start is from the base on and before the next number
 abbrev pub IsStart : ℕ → ℕ → ℕ → ℕ → ℕ × ℕ → Type 0
@@ -25,45 +24,6 @@ pub record AreStarts (objects base next : ℕ) (starts : List (ℕ × ℕ)) : Ty
   pub from_base : All (λ s. base ≤ s.1) starts
   pub before : All (λ s. s.1 < next) starts
 
--- the bytes are these records, in their places where this number is next
-pub record AreBytesOf {O : Type 0} (m : Meaning O) (base next : ℕ) (bytes : List ℕ) (records : List (Record O)) : Type 0 where
-  pub bytes_are : bytes ≡ payload_of m records
-  pub placed : AreRecords m base next records
-
--- behind some records the bytes begin with none that is right in its place; the offset is that of the first such byte
-pub record IsBrokenAt {O : Type 0} (m : Meaning O) (base next : ℕ) (bytes : List ℕ) (offset : ℕ) : Type 0 where
-  pub before : List (Record O)
-  pub wrong : List ℕ
-  pub split : bytes ≡ payload_of m before ++ wrong
-  pub placed : AreRecords m base next before
-  pub some : 0 < length wrong
-  pub here : offset ≡ length (payload_of m before)
-  pub no_record : (other : Record O) (rest : List ℕ) → wrong ≡ record_code m other ++ rest → AreRecords m base next (before ++ other ∷ []) → ⊥
-
--- the payloads are these groups of records
-pub record AreGroups {O : Type 0} (m : Meaning O) (base : ℕ) (payloads : List Payload) (records : List (Record O)) : Type 0 where
-  pub groups : List (List (Record O))
-  pub bytes_are : bytes_of payloads ≡ map (payload_of m) groups
-  pub records_are : records ≡ records_of groups
-  pub placed : AreRecords m base base (records_of groups)
-
--- behind whole payloads of records stands one that is broken at this place
-pub record IsBrokenIn {O : Type 0} (m : Meaning O) (base : ℕ) (payloads : List Payload) (place : ℕ) : Type 0 where
-  pub groups : List (List (Record O))
-  pub before : List Payload
-  pub broken : Payload
-  pub later : List Payload
-  pub offset : ℕ
-  pub split : payloads ≡ before ++ broken ∷ later
-  pub bytes_are : bytes_of before ≡ map (payload_of m) groups
-  pub placed : AreRecords m base base (records_of groups)
-  pub break : IsBrokenAt m base (next_after base (records_of groups)) broken.bytes offset
-  pub here : place ≡ broken.place + offset
-
--- each payload ends below 2^64
-abbrev pub AllFit : List Payload → Type 0
-AllFit payloads = All (λ p. p.place + length p.bytes < 2 ^ 64) payloads
-
 -- the first check of the logs that fails is reported in this file at this place, or the first of the records of the log in
 -- force, whose blocks are whole
 pub data IsLoadFault {O : Type 0} (m : Meaning O) (files : Files) : FileNo → ℕ → Type 0 where
@@ -75,3 +35,9 @@ pub data IsLoadFault {O : Type 0} (m : Meaning O) (files : Files) : FileNo → �
 abbrev pub IsTailFault : {O : Type 0} → Meaning O → Disk → LogView → FileNo → ℕ → Type 0
 IsTailFault m d log file place =
     (file ≡ log.active) × (d.tells_files → (payloads : List (List ℕ)) → IsWholeLog log.header payloads (d.reads log.active) → IsRecordFault m (d.reads log.active) place)
+
+-- what a pass over a log that begins at this base, with these records, keeps of them
+pub record IsCountOf {O : Type 0} (base : ℕ) (records : List (Record O)) (it : Counted) : Type 0 where
+  pub next : it.next ≡ next_after base records
+  pub commands : it.commands ≡ length (commands_of records)
+  pub last : it.last ≡ last_check records

@@ -40,7 +40,7 @@ module _ {O : Type 0} (m : Meaning O) where
   records-with_group groups (r ∷ records) =
       flat_map-append (λ (g : List (Record O)). g) groups ((r ∷ records) ∷ []) ∙ ap (λ (l : List (Record O)). records_of groups ++ l) (append-nil (r ∷ records))
 
-  -- the next number behind some records and then others
+  -- the next number after some records and then others
   pub next-append : (next : ℕ) (xs ys : List (Record O)) → next_after next (xs ++ ys) ≡ next_after (next_after next xs) ys
   next-append next [] ys = refl
   next-append next (x ∷ xs) ys = next-append (next_behind next x) xs ys
@@ -55,7 +55,7 @@ module _ {O : Type 0} (m : Meaning O) where
   AreRecords-behind base next [] ys all = all
   AreRecords-behind base next (x ∷ xs) ys all = AreRecords-behind base (next_behind next x) xs ys all.2
 
-  -- records behind others go on with the numbers
+  -- records after others go on with the numbers
   pub placed-append : (base next : ℕ) (xs ys : List (Record O)) → AreRecords m base next xs → AreRecords m base (next_after next xs) ys → AreRecords m base next (xs ++ ys)
   placed-append base next [] ys all more = more
   placed-append base next (x ∷ xs) ys all more = (all.0, all.1, placed-append base (next_behind next x) xs ys all.2 more)
@@ -184,7 +184,7 @@ module _ {O : Type 0} (m : Meaning O) where
       (header ∙ ap (λ (v : RecordLogView). v.log.header) same) none (next ∙ ap (λ (v : RecordLogView). v.next) same)
       (accepted ∙ ap (λ (v : RecordLogView). v.accepted) same) (forced ∙ ap (λ (v : RecordLogView). v.accepted) same)
 
-  -- an append adds the record behind those that wait
+  -- an append adds the record after those that wait
   pub keeps_append : (d : Disk) (log after : RecordLogView) (stable pending : List (Record O)) (new : Record O) → Keeps m d log stable pending
       → IsRecord m new → IsPlaced m log.log.header.base log.next new → after.log.active ≡ log.log.active → after.log.header ≡ log.log.header → after.log.end ≡ log.log.end
       → after.log.pending ≡ log.log.pending ++ record_code m new → after.next ≡ next_behind log.next new → after.accepted ≡ log.accepted + counts new → after.forced ≡ log.forced

@@ -1,11 +1,11 @@
--- What a log of records holds, in its files and in the buffer behind them.
-use Rattle.std.specs.Prelude.{◌≡◌, ◌⊎◌, ◌<◌, ◌≤◌, ◌^◌, ℕ, ◌+◌, Bool, true, List, [], ◌∷◌, ◌++◌, length, map, filter, nat_le, All}
+-- What a log of records holds, in its files and in the buffer after them.
+use Rattle.std.specs.Prelude.{◌≡◌, ◌⊎◌, ◌<◌, ◌≤◌, ◌^◌, ℕ, ◌+◌, Bool, true, List, [], ◌∷◌, ◌++◌, length, map, filter, nat_le}
 use Rattle.disk_model.specs.Disk.{Files, Disk, In, IsSettled}
 use Rattle.oper_core.specs.Meaning.{Meaning, IsSmall}
 use Rattle.oper_core.specs.declared.bounds.Bounds.{Bounds}
 use Rattle.formats.specs.InForce.{IsInForce}
 use Rattle.formats.specs.Log.{Header, IsHeader, end_of}
-use Rattle.formats.specs.Records.{payload_of, records_of, commands_of, next_after, IsRecord, AreRecords, IsRecordLog, HoldsRecordLog}
+use Rattle.formats.specs.Records.{payload_of, records_of, commands_of, next_after, AreRecords, IsRecordLog, HoldsRecordLog}
 use Rattle.formats.specs.declared.record.Record.{Record}
 use Rattle.formats.specs.declared.record.Record.TheVariants.{Command, Identity, Check}
 use Rattle.log_frames.specs.LogView.{LogView}
@@ -37,7 +37,7 @@ pub record HoldsRecords {O : Type 0} (m : Meaning O) (header : Header) (records 
   pub log : IsRecordLog m header groups file
   pub records_are : records_of groups ≡ records
 
--- The log in force and the buffer behind it hold these records: the stable ones, and those that wait for a force.
+-- The log in force and the buffer after it hold these records: the stable ones, and those that wait for a force.
 pub record Keeps {O : Type 0} (m : Meaning O) (d : Disk) (log : RecordLogView) (stable pending : List (Record O)) : Type 0 where
   pub settled : IsSettled d
   pub in_force : IsInForce log.log.active log.log.header.epoch d.reads
@@ -76,13 +76,3 @@ pub record IsLoaded {O : Type 0} (m : Meaning O) (b : Bounds) (old new : Disk) (
   pub file : HoldsRecordLog m log.log.active log.log.header groups old.reads
   pub bounds : log.bounds ≡ b
   pub keeps : IsSettled old → Keeps m new log (records_of groups) []
-
--- A log in memory has these records and no others: they are of the grammar and right in their places, and the next number,
--- which is not 0, is that behind them, the last one that there is at most.
-pub record HasRecords {O : Type 0} (m : Meaning O) (b : Bounds) (log : RecordLogView) (records : List (Record O)) : Type 0 where
-  pub bounds : log.bounds ≡ b
-  pub grammar : All (IsRecord m) records
-  pub placed : AreRecords m log.log.header.base log.log.header.base records
-  pub next_is : log.next ≡ next_after log.log.header.base records
-  pub low : 1 ≤ log.next
-  pub last : log.next ≤ 2 ^ 62

@@ -93,6 +93,6 @@ module _ {O : Type 0} (m : Meaning O) where
             omega (arith, split, behind, counted)
       ]
 
-  -- where the new log ends: behind its header and the first block's head
+  -- where the new log ends: after its header and the first block's head
   pub new_end : (base : ℕ) (table : Table) (stable : List (Record O)) → end_of (new_payloads m base table stable) ≡ 38 + blocks_length 0 (code_lengths m (rewritten_records base table stable))
   new_end base table stable = let long = blocks_long [] (rewritten_records base table stable) in omega (arith, long)

@@ -1,5 +1,5 @@
 -- What a rewrite of a log of records leaves.
-use Rattle.std.specs.Prelude.{◌≡◌, ⊤, ◌⊎◌, ◌<◌, ◌≤◌, ◌+◌, ◌^◌, ℕ, Bool, false, not, nat_le, nat_lt, if◌then◌else◌, List, [], ◌∷◌, ◌++◌, length, map, filter}
+use Rattle.std.specs.Prelude.{◌≡◌, ⊤, ◌⊎◌, ◌<◌, ◌≤◌, ◌+◌, ◌^◌, ℕ, Bool, false, not, nat_le, nat_lt, ◌&&◌, if◌then◌else◌, List, [], ◌∷◌, ◌++◌, length, map, filter}
 use Rattle.disk_model.specs.Disk.{Files, Disk, In, Any}
 use Rattle.disk_model.specs.declared.machine.FileNo.{FileNo}
 use Rattle.checkpoint.specs.declared.table.Table.{Table}
@@ -25,7 +25,17 @@ is_numbered_from from (Check table) = false
 abbrev pub numbered_from : {O : Type 0} → ℕ → List (Record O) → List (Record O)
 numbered_from from records = filter (is_numbered_from from) records
 
--- all other records
+-- a record has a number, from this one on and below that one
+abbrev pub is_between : {O : Type 0} → ℕ → ℕ → Record O → Bool
+is_between from end (Command number op) = nat_le from number && nat_lt number end
+is_between from end (Identity number x value) = nat_le from number && nat_lt number end
+is_between from end (Check table) = false
+
+-- the commands and identity writes from a number on, below another
+abbrev pub numbered_between : {O : Type 0} → ℕ → ℕ → List (Record O) → List (Record O)
+numbered_between from end records = filter (is_between from end) records
+
+-- all records but those from a number on
 abbrev pub left_out : {O : Type 0} → ℕ → List (Record O) → List (Record O)
 left_out from records = filter (λ r. not (is_numbered_from from r)) records
 
@@ -51,7 +61,7 @@ AreFull m (g ∷ (r ∷ h) ∷ groups) = (2 ^ 30 < length (payload_of m g) + len
 abbrev pub in_full_blocks : {O : Type 0} → Meaning O → List (Record O) → List (List (Record O))
 in_full_blocks m records = blocks_behind m [] records
 
--- the bytes of the blocks of records of these lengths behind so many bytes of a block in hand, whose head is not counted
+-- the bytes of the blocks of records of these lengths after so many bytes of a block in hand, whose head is not counted
 abbrev pub blocks_length : ℕ → List ℕ → ℕ
 blocks_length filled [] = 0
 blocks_length filled (n ∷ lengths) = if nat_lt (2 ^ 30) (filled + n) then 5 + n + blocks_length n lengths else n + blocks_length (filled + n) lengths
@@ -73,7 +83,7 @@ abbrev pub rewritten_log : {O : Type 0} → Meaning O → LogView → ℕ → Ta
 rewritten_log m log base table stable = rewritten log base (commands_before log base stable) (new_payloads m base table stable)
 
 -- A log may be rewritten from this base on, with this check: nothing waits, the base is a number of the log or the next
--- one, and the check is right behind the records from there on, and goes into a block.
+-- one, and the check is right after the records from there on, and goes into a block.
 pub record IsRewritable {O : Type 0} (m : Meaning O) (log : RecordLogView) (base : ℕ) (table : Table) : Type 0 where
   pub waits : log.log.pending ≡ []
   pub low : log.log.header.base ≤ base

@@ -31,7 +31,7 @@ module _ {O : Type 0} (m : Meaning O) (codes : HasCodes m) where
   no_code (Identity number y value) x same = cc
   no_code (Check table) x same = cc
 
-  -- what stands behind the first records of a payload
+  -- what follows the first records of a payload
   pub record IsRest (before all : List (Record O)) (wrong : List ℕ) : Type 0 where
     pub others : List (Record O)
     pub all_are : all ≡ before ++ others

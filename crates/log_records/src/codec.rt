@@ -35,7 +35,7 @@ pub fn encode<O: Oper>(record: &Record<O>, out: &mut Vec<u8>) -> Result<(), Memo
     written
 }
 
-// The same, but a part of the code may stay behind the bytes.
+// The same, but a part of the code may stay after the bytes.
 fn append<O: Oper>(record: &Record<O>, out: &mut Vec<u8>) -> Result<(), Memory>
     requires { IsEncodable O.meaning «record».now }
     ensures ok { (b : Bounds) → OnOk result (out.new.items ≡ out.old.items ++ record_code (O.meaning b) «record».now) }
@@ -54,7 +54,8 @@ fn append<O: Oper>(record: &Record<O>, out: &mut Vec<u8>) -> Result<(), Memory>
     Ok(())
 }
 
-fn append_command<O: Oper>(number: u64, op: &O, out: &mut Vec<u8>) -> Result<(), Memory>
+/// Appends the code of a command's record. Without memory a part of it may stay after the bytes.
+pub(crate) fn append_command<O: Oper>(number: u64, op: &O, out: &mut Vec<u8>) -> Result<(), Memory>
     requires { IsEncodable O.meaning (Record.Command number op.now) }
     ensures ok { (b : Bounds) → OnOk result (out.new.items ≡ out.old.items ++ record_code (O.meaning b) (Record.Command number op.now)) }
     ensures err { OnErr result (take (length out.old.items) out.new.items ≡ out.old.items) }

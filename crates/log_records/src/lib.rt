@@ -2,18 +2,24 @@
 //!
 //! The one contract is [`RecordLog`]: commands and identity writes have consecutive numbers, and a check names the one
 //! that comes next. An append adds exactly one record, a force makes all of them stable or leaves those that were, and a
-//! rewrite puts the numbered records from a base on, and a check, in the place of the log, or leaves the old one. Below
-//! it stands the codec: a record is decoded exactly where the bytes begin with the code of one in the grammar, and no
-//! code is another's beginning. The crate depends on log_frames, whose blocks hold the records, on formats, whose grammar
-//! this is, on checkpoint for the tables, and on oper_core for the operations.
+//! rewrite puts the numbered records from a base on, and a check, in the place of the log, or leaves the old one. A
+//! command's code may be made before it is added, which then takes no memory. Below it stands the codec: a record is
+//! decoded exactly where the bytes begin with the code of one in the grammar, and no code is another's beginning. The
+//! crate depends on log_frames, whose blocks hold the records, on formats, whose grammar this is, on checkpoint for the
+//! tables, and on oper_core for the operations.
 #![tactic(auto)]
 
 mod codec;
+mod counted;
+mod encoding;
 mod forcing;
 mod loading;
+mod placing;
 mod record_log;
+mod record_reader;
 mod rewriting;
 mod tail;
 
 pub use codec::{decode, encode, one_record};
+pub use encoding::EncodedCommand;
 pub use record_log::RecordLog;

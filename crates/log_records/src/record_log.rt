@@ -8,7 +8,7 @@ ghost use Rattle.log_records.specs.Codec.{IsEncodable};
 ghost use Rattle.log_records.specs.RecordLog.{counts};
 
 use crate::codec::encode;
-use crate::loading::{commands_in, next_behind};
+use crate::placing::{commands_in, next_behind};
 use disk_model::Machine;
 use formats::Record;
 use log_frames::{LogErr, LogFile};
@@ -25,6 +25,8 @@ pub struct RecordLog<O: Oper> {
     pub(crate) next: u64,
     pub(crate) accepted: u64,
     pub(crate) forced: u64,
+    // What a command is encoded into.
+    pub(crate) code: Vec<u8>,
     pub(crate) of: PhantomData<O>,
 }
 
@@ -108,7 +110,7 @@ impl<O: Oper> RecordLog<O> {
         LogFile::create(m)
     }
 
-    /// Adds a record behind those that wait. A command is counted; a check takes no number. Without memory nothing changes
+    /// Adds a record after those that wait. A command is counted; a check takes no number. Without memory nothing changes
     /// but the room.
     pub fn append(&mut self, new: Record<O>) -> Result<(), LogErr>
         requires placed { IsPlaced (O.meaning self.old.bounds) self.old.log.header.base self.old.next new }

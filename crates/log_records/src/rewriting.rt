@@ -16,7 +16,7 @@ ghost use Rattle.log_records.specs.Rewriting.{is_numbered_from, numbered_from, l
 
 use crate::RecordLog;
 use crate::codec::encode;
-use crate::loading::count_commands;
+use crate::placing::count_commands;
 use checkpoint::Table;
 use disk_model::Machine;
 use formats::{NUMBERS_END, Record};
@@ -69,7 +69,7 @@ fn block_of(bytes: Vec<u8>) -> Payload
     }
 }
 
-// Puts a record into the block in hand, or, where it has no room there, into the next, and the full one behind those
+// Puts a record into the block in hand, or, where it has no room there, into the next, and the full one after those
 // found.
 fn add_record<O: Oper>(
     alloc: Global,
@@ -138,7 +138,7 @@ impl<O: Oper> RecordLog<O> {
         Ok((payloads, self.log.commands() + before))
     }
 
-    /// Puts a new log in the place of this one: the commands and identity writes from a base on, and behind them a check.
+    /// Puts a new log in the place of this one: the commands and identity writes from a base on, and after them a check.
     /// They stand in blocks of whole records, each as full as these allow. The new log is in force once it is whole, so
     /// at any moment it is that one or the old one. At `DiskFault` of a write, load the log again.
     pub fn rewrite<M: Machine>(&mut self, m: &mut M, base: u64, table: Table) -> Result<(), LogErr>

@@ -3,8 +3,7 @@ use Rattle.formats.specs.Log.{Header}
 use Rattle.formats.specs.Records.{record_code, IsPlaced}
 use Rattle.log_frames.specs.LogView.{LogView}
 use Rattle.log_records.specs.RecordLog.{RecordLogView, IsCounted}
-use Rattle.log_records.proofs.Appended.{pushed, appended}
-use Rattle.log_records.proofs.LoadingLemmas.{next_within}
+use Rattle.log_records.proofs.Appended.{pushed, appended, next_within}
 use Rattle.log_records.proofs.record_log.RecordLog.append.Goals as goal
 
 pub invariant_of-self-2 : goal.invariant_of-self-2

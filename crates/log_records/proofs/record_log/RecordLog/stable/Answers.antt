@@ -6,8 +6,9 @@ use Rattle.log_frames.specs.Reading.{FailsBy, none_told}
 use Rattle.log_records.specs.CodecLaws.{has_codes}
 use Rattle.log_records.specs.Loading.{IsTailFault}
 use Rattle.log_records.specs.RecordLog.{RecordLogView, Keeps}
+use Rattle.log_records.specs.RecordReader.{AreAll}
 use Rattle.log_records.specs.Uniqueness.{no_record_fault}
-use Rattle.log_records.proofs.LoadLemmas.{found_stable}
+use Rattle.log_records.proofs.LoadLemmas.{all_in_grammar, found_stable}
 use Rattle.log_records.proofs.record_log.RecordLog.stable.Goals as goal
 
 pub returns-in_err-records-clause-undamaged : goal.returns-in_err-records-clause-undamaged
@@ -36,4 +37,23 @@ returns-clause-records g c told stable pending keeps =
     let m = g.O.Oper.meaning b in
     let codes = has_codes m b c.self.invariant.small (g.met.O.Oper.bounded b) (g.met.O.Oper.lawful b c.self.invariant.small) in
     let k = subst (λ (v : RecordLogView). Keeps (g.O.Oper.meaning v.bounds) d v stable pending) (sym c.self.view_is) keeps in
-    found_stable m codes d _ stable pending c.in_ok-records.records.items k (c.in_ok-records.ensures.read told (map (payload_of m) k.groups) k.file.log)
+    found_stable m codes d _ stable pending c.in_ok-records.records.items k told c.in_ok-records.ensures.all
+
+pub returns-clause-grammar : goal.returns-clause-grammar
+returns-clause-grammar g c =
+    let d = g.M.Machine.disk c.args.m.now in
+    let now = c.args.self.now in
+    let all = subst (λ (v : RecordLogView). AreAll (g.O.Oper.meaning v.bounds) d v.log c.in_ok-records.records.items) c.self.view_is c.in_ok-records.ensures.all in
+    all_in_grammar (g.O.Oper.meaning now.bounds) now.log.header.base now.log.header.base c.in_ok-records.records.items all.placed
+
+pub returns-clause-placed : goal.returns-clause-placed
+returns-clause-placed g c =
+    let d = g.M.Machine.disk c.args.m.now in
+    let all = subst (λ (v : RecordLogView). AreAll (g.O.Oper.meaning v.bounds) d v.log c.in_ok-records.records.items) c.self.view_is c.in_ok-records.ensures.all in
+    all.placed
+
+pub returns-clause-short : goal.returns-clause-short
+returns-clause-short g c =
+    let d = g.M.Machine.disk c.args.m.now in
+    let all = subst (λ (v : RecordLogView). AreAll (g.O.Oper.meaning v.bounds) d v.log c.in_ok-records.records.items) c.self.view_is c.in_ok-records.ensures.all in
+    all.short

@@ -1,0 +1,8 @@
+use Rattle.std.proofs.Common.{rules}
+use Rattle.log_records.proofs.placing.is_placed.Goals as goal
+
+pub returns-then-table-next : goal.returns-then-table-next
+returns-then-table-next g c = search rules
+
+pub returns-then-number-next : goal.returns-then-number-next
+returns-then-number-next g c = search rules

@@ -1,0 +1,64 @@
+use Rattle.std.proofs.Common.{◌∙◌, ◌++◌, List, [], ◌∷◌, filter, sym, ap}
+use Rattle.std.proofs.lemmas.List.Elements.{filter-append}
+use Rattle.std.proofs.lemmas.Result.{err_from_is_err_and}
+use Rattle.disk_model.specs.Moments.{stays_twice}
+use Rattle.formats.specs.declared.record.Record.{Record}
+use Rattle.log_records.specs.Rewriting.{is_between}
+use Rattle.log_records.proofs.Passing.{all_before, next_found, next_ended, next_fails}
+use Rattle.log_records.proofs.tail.records_between.Goals as goal
+
+pub loop-found-init : goal.loop-found-init
+loop-found-init g c = record {
+  kept = c.in_ok-reader.ensures.kept;
+  bounds = c.in_ok-reader.ensures.bounds;
+  records = [];
+  reading = c.in_ok-reader.ensures.reading;
+  found_are = c.new-found.ensures.items;
+}
+
+pub loop-found-preserved : goal.loop-found-preserved
+loop-found-preserved g c =
+    let inv = c.loop-found.invariant in
+    let b = c.args.b in
+    let log = c.args.log.now in
+    let first = g.M.Machine.disk c.args.m.now in
+    let mid = g.M.Machine.disk c.loop-found.m in
+    let new = g.M.Machine.disk c.next.new.m in
+    let r = c.in-Some.record in
+    let among = is_between c.args.from c.args.end in
+    record {
+      kept = stays_twice first mid new inv.kept c.next.ensures.kept;
+      bounds = c.next.ensures.bounds ∙ inv.bounds;
+      records = inv.records ++ r ∷ [];
+      reading = next_found g.O.Oper.meaning b mid new log c.loop-found.reader c.next.new.self inv.records inv.bounds inv.reading c.in_ok-record.field-0 r c.in-Some.is c.in_ok-record.ensures.read;
+      found_are = c.in_ok-keep_between.ensures ∙ ap (λ (l : List (Record g.row.O.Denot)). l ++ filter among (r ∷ [])) inv.found_are ∙ sym (filter-append among inv.records (r ∷ []));
+    }
+
+pub returns-in_err-record-clause-kept : goal.returns-in_err-record-clause-kept
+returns-in_err-record-clause-kept g c =
+    stays_twice (g.M.Machine.disk c.args.m.now) (g.M.Machine.disk c.loop-found.m) (g.M.Machine.disk c.next.new.m) c.loop-found.invariant.kept c.next.ensures.kept
+
+pub returns-in_err-keep_between-clause-kept : goal.returns-in_err-keep_between-clause-kept
+returns-in_err-keep_between-clause-kept g c =
+    stays_twice (g.M.Machine.disk c.args.m.now) (g.M.Machine.disk c.loop-found.m) (g.M.Machine.disk c.next.new.m) c.loop-found.invariant.kept c.next.ensures.kept
+
+pub returns-clause-kept : goal.returns-clause-kept
+returns-clause-kept g c =
+    stays_twice (g.M.Machine.disk c.args.m.now) (g.M.Machine.disk c.loop-found.m) (g.M.Machine.disk c.next.new.m) c.loop-found.invariant.kept c.next.ensures.kept
+
+pub returns-in_err-record-clause-cause : goal.returns-in_err-record-clause-cause
+returns-in_err-record-clause-cause g c =
+    let inv = c.loop-found.invariant in
+    let p = err_from_is_err_and c.from_residual-in_err-record.result c.from_residual-in_err-record.ensures.1 in
+    rw (p.1, p.2) (next_fails g.O.Oper.meaning c.args.b (g.M.Machine.disk c.loop-found.m) (g.M.Machine.disk c.next.new.m) c.args.log.now c.loop-found.reader c.next.new.self inv.records inv.bounds inv.reading
+    (g.M.Machine.disk c.args.m.now) c.in_err-record.field-0.0 inv.kept c.in_err-record.ensures.cause)
+
+pub returns-clause-between : goal.returns-clause-between
+returns-clause-between g c =
+    let inv = c.loop-found.invariant in
+    let m = g.O.Oper.meaning c.args.b in
+    let first = g.M.Machine.disk c.args.m.now in
+    let mid = g.M.Machine.disk c.loop-found.m in
+    let new = g.M.Machine.disk c.next.new.m in
+    let ended = next_ended g.O.Oper.meaning c.args.b mid new c.args.log.now c.loop-found.reader c.next.new.self inv.records inv.bounds inv.reading c.in_ok-record.field-0 c.in_default.is c.in_ok-record.ensures.read in
+    (inv.records, all_before m first new c.args.log.now inv.records (stays_twice first mid new inv.kept c.next.ensures.kept) ended.0, inv.found_are)
