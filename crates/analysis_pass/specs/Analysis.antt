@@ -1,9 +1,8 @@
--- The last check of a log, and where a redo by it starts.
+-- Where a redo by the last check of a log starts.
 use Rattle.std.specs.Prelude.{ℕ, min, Option, None, Some, List, [], ◌∷◌}
-use Rattle.std.specs.Option.{option_or}
 use Rattle.checkpoint.specs.declared.table.Table.{Table}
+use Rattle.formats.specs.Records.{last_check}
 use Rattle.formats.specs.declared.record.Record.{Record}
-use Rattle.formats.specs.declared.record.Record.TheVariants.{Command, Identity, Check}
 
 -- a redo, as contracts see it before it begins
 pub record PlanView : Type 0 where
@@ -11,13 +10,6 @@ pub record PlanView : Type 0 where
   pub start : ℕ
   -- from which number on it applies what is written to each object
   pub table : Table
-
--- the table of the last check among the records
-abbrev pub last_check : {O : Type 0} → List (Record O) → Option Table
-last_check [] = None
-last_check (Command number op ∷ records) = last_check records
-last_check (Identity number x value ∷ records) = last_check records
-last_check (Check table ∷ records) = option_or (last_check records) (Some table)
 
 -- without a check, an empty table whose next number is the base, so each object starts there
 abbrev pub table_or : ℕ → Option Table → Table

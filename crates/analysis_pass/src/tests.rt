@@ -1,42 +1,31 @@
 use crate::{Plan, a_plan_starts_at_the_least_start, analyse};
 use explain_core::ByteOp;
-use formats::Record;
-use oper_core::{ByteList, Memory};
+use oper_core::Memory;
 use std::alloc::Global;
 
-// Records that are no check: a command, and an identity write.
-const COMMAND: &[u8] = b"\x01";
+// Tables, byte by byte: the next number, how many pairs, and each pair, an object and where its redo starts.
+const NEXT_3_FROM_1: &[u8] = b"\x03\0\0\0\0\0\0\0\x01\0\0\0\0\0\0\0\x01\0\0\0\0\0\0\0";
 
-const IDENTITY: &[u8] = b"\x02";
+const NEXT_4: &[u8] = b"\x04\0\0\0\0\0\0\0\0\0\0\0";
 
-// Checks, byte by byte: the next number, how many pairs, and each pair, an object and where its redo starts.
-const NEXT_3_FROM_1: &[u8] = b"\x03\x03\0\0\0\0\0\0\0\x01\0\0\0\0\0\0\0\x01\0\0\0\0\0\0\0";
-
-const NEXT_4: &[u8] = b"\x03\x04\0\0\0\0\0\0\0\0\0\0\0";
-
-const NEXT_9_OF_FIVE: &[u8] = b"\x03\x09\0\0\0\0\0\0\0\x05\0\0\0\
+const NEXT_9_OF_FIVE: &[u8] = b"\x09\0\0\0\0\0\0\0\x05\0\0\0\
     \x01\0\0\0\x08\0\0\0\0\0\0\0\x04\0\0\0\x05\0\0\0\0\0\0\0\x06\0\0\0\x03\0\0\0\0\0\0\0\
     \x08\0\0\0\x07\0\0\0\0\0\0\0\xff\x0f\0\0\x06\0\0\0\0\0\0\0";
 
 // The objects of this one do not rise, and one comes twice.
-const NEXT_9_OF_THREE: &[u8] = b"\x03\x09\0\0\0\0\0\0\0\x03\0\0\0\
+const NEXT_9_OF_THREE: &[u8] = b"\x09\0\0\0\0\0\0\0\x03\0\0\0\
     \x07\0\0\0\x03\0\0\0\0\0\0\0\x02\0\0\0\x05\0\0\0\0\0\0\0\x07\0\0\0\x02\0\0\0\0\0\0\0";
 
-// Where a log begins, its records, where its redo starts, and for some objects where the redo of each does.
-const LOGS: [(u64, &[&[u8]], u64, &[(u32, u64)]); 7] = [
-    (1, &[], 1, &[(0, 1), (4095, 1)]),
-    (5, &[COMMAND, IDENTITY], 5, &[(0, 5), (1, 5)]),
-    (1, &[COMMAND, COMMAND, NEXT_3_FROM_1], 1, &[(0, 1), (1, 3)]),
-    (
-        1,
-        &[COMMAND, COMMAND, NEXT_3_FROM_1, COMMAND, NEXT_4, IDENTITY],
-        4,
-        &[(0, 4), (1, 4)],
-    ),
-    (4, &[NEXT_4], 4, &[(0, 4)]),
+// Where a log begins, the table of its last check, none where it has no bytes, where its redo starts, and for some objects
+// where the redo of each does.
+const LOGS: [(u64, &[u8], u64, &[(u32, u64)]); 6] = [
+    (1, b"", 1, &[(0, 1), (4095, 1)]),
+    (5, b"", 5, &[(0, 5), (1, 5)]),
+    (1, NEXT_3_FROM_1, 1, &[(0, 1), (1, 3)]),
+    (1, NEXT_4, 4, &[(0, 4), (1, 4)]),
     (
         3,
-        &[NEXT_4, COMMAND, NEXT_9_OF_FIVE, COMMAND],
+        NEXT_9_OF_FIVE,
         3,
         &[
             (0, 9),
@@ -53,34 +42,18 @@ const LOGS: [(u64, &[&[u8]], u64, &[(u32, u64)]); 7] = [
     ),
     (
         1,
-        &[NEXT_9_OF_THREE],
+        NEXT_9_OF_THREE,
         2,
         &[(2, 5), (7, 3), (0, 9), (3, 9), (8, 9)],
     ),
 ];
 
-fn record(alloc: Global, bytes: &[u8]) -> Result<Record<ByteOp>, Memory> {
-    if let Some(table) = bytes.strip_prefix(b"\x03") {
-        if let Some((table, _)) = checkpoint::decode(alloc, table)? {
-            return Ok(Record::Check(table));
-        }
-    }
-    if bytes == IDENTITY {
-        return Ok(Record::Identity(2, 1, ByteList::new(Vec::new(alloc))));
-    }
-    let put = ByteOp::Put {
-        object: 0,
-        byte: 0xaa,
+fn plan(alloc: Global, base: u64, bytes: &[u8]) -> Result<Plan, Memory> {
+    let last = match checkpoint::decode(alloc, bytes)? {
+        Some((table, _)) => Some(table),
+        None => None,
     };
-    Ok(Record::Command(1, put))
-}
-
-fn plan(alloc: Global, base: u64, log: &[&[u8]]) -> Result<Plan, Memory> {
-    let mut records = Vec::new(alloc);
-    for bytes in log {
-        records.push(record(alloc, *bytes)?)?;
-    }
-    analyse(alloc, base, records.as_slice())
+    Ok(analyse(alloc, base, last))
 }
 
 fn all_start(plan: &Plan, starts: &[(u32, u64)]) -> bool {
@@ -95,8 +68,8 @@ fn all_start(plan: &Plan, starts: &[(u32, u64)]) -> bool {
 fn plans_are_right(alloc: Global) -> Result<bool, Memory> {
     a_plan_starts_at_the_least_start::<ByteOp>();
     let mut good = true;
-    for (base, log, start, starts) in LOGS {
-        let plan = plan(alloc, base, log)?;
+    for (base, last, start, starts) in LOGS {
+        let plan = plan(alloc, base, last)?;
         good = good && plan.start() == start && all_start(&plan, starts);
     }
     Ok(good)

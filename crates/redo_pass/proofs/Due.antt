@@ -1,4 +1,4 @@
--- The world that a restart finds is due, with the records of the log in force and the plan of these.
+-- The world that a restart finds is due, with the records that its plan wants.
 use Rattle.std.proofs.Common.{◌≡◌, ◌∙◌, sym, ap, subst, ℕ, suc, ◌-◌, ◌≤◌, List, length, take, drop, arith, refl}
 use Rattle.std.proofs.Math.Seq.{take-length}
 use Rattle.disk_model.specs.Disk.{Files}
@@ -9,42 +9,50 @@ use Rattle.checkpoint.specs.declared.table.Table.{Table}
 use Rattle.formats.specs.Records.{AreRecords, records_of}
 use Rattle.formats.specs.declared.params.Params.{Params}
 use Rattle.formats.specs.declared.record.Record.{Record}
+use Rattle.log_records.specs.Rewriting.{numbered_from}
 use Rattle.stable_objects.specs.SlotsView.{SlotsView, AreOf}
 use Rattle.explain_core.specs.History.{Member}
 use Rattle.explain_core.specs.World.{World, plan_of, start_of}
 use Rattle.standing.specs.Crashed.{crashed-stable, crashed-next}
-use Rattle.standing.specs.Members.{table_of}
+use Rattle.standing.specs.Members.{members_of, table_of}
 use Rattle.standing.specs.Standing.{IsFound}
 use Rattle.analysis_pass.specs.Analysis.{PlanView, plan_table, least_start}
 use Rattle.redo_pass.specs.Redo.{IsDue}
 use Rattle.redo_pass.specs.Rising.{AreMembers}
 use Rattle.redo_pass.proofs.Plans.{plan_shown}
-use Rattle.redo_pass.proofs.Members.{members_are}
+use Rattle.redo_pass.proofs.Members.{members_are, members_numbered}
+
+-- the records of the log in force are the world's members from its base on
+pub found_members : {O : Type 0} (m : Meaning O) (p : Params) (files : Files) (commands : List O) (w : World O) → (found : IsFound m p files commands w) → AreMembers w.history w.base (records_of found.shows.groups)
+found_members m p files commands w found =
+    let records = records_of found.shows.groups in
+    let low = found.sound.base in
+    let here : suc (w.base - 1) ≡ w.base = omega (arith, low) in
+    let reach : w.base - 1 ≤ length w.history = omega (arith, low, found.sound.next.0, found.sound.next.1) in
+    let whole : take w.forced w.history ≡ w.history = ap (λ (n : ℕ). take n w.history) (crashed-stable m w found.crashed found.sound).0 ∙ take-length w.history in
+    let placed = subst (λ (b : ℕ). AreRecords m b b records) found.shows.base found.shows.log.log.placed in
+    let are : members_of records ≡ drop (w.base - 1) w.history = found.shows.members ∙ ap (λ (h : List (Member _)). drop (w.base - 1) h) whole in
+    subst (λ (k : ℕ). AreMembers w.history k records) here (members_are m w.base w.history (w.base - 1) records reach (subst (λ (k : ℕ). AreRecords m w.base k records) (sym here) placed) are)
 
 module _ {O : Type 0} (m : Meaning O)
     (starts : (base : ℕ) (records : List (Record O)) → AreRecords m base base records → least_start (plan_table base records).next (plan_table base records).starts ≡ start_of m.objects (record { redo_from = redo_from (plan_table base records); next = (plan_table base records).next })) where
   pub due : (p : Params) (files : Files) (commands : List O) (w : World O) (found : IsFound m p files commands w) (slots : SlotsView) (plan : PlanView) → slots.params ≡ p → AreOf slots (files Objects)
-      → plan.table ≡ plan_table found.shows.header.base (records_of found.shows.groups) → plan.start ≡ least_start plan.table.next plan.table.starts → IsDue m p files slots plan (records_of found.shows.groups) w
+      → plan.table ≡ plan_table found.shows.header.base (records_of found.shows.groups) → plan.start ≡ least_start plan.table.next plan.table.starts
+      → IsDue m p files slots plan (numbered_from plan.start (records_of found.shows.groups)) w
   due p files commands w found slots plan params of_file table start =
       let records = records_of found.shows.groups in
       let base = found.shows.header.base in
-      let whole : take w.forced w.history ≡ w.history = ap (λ (n : ℕ). take n w.history) (crashed-stable m w found.crashed found.sound).0 ∙ take-length w.history in
       let of_world : table_of plan.table ≡ plan_of w.tables w.base = ap table_of table ∙ plan_shown base records ∙ (λ i. plan_of (found.shows.tables i) (found.shows.base i)) in
+      let from : plan.start ≡ w.next =
+      start ∙ ap (λ (t : Table). least_start t.next t.starts) table ∙ starts base records found.shows.log.log.placed
+      ∙ ap (λ (t : Table). start_of m.objects (table_of t)) (sym table) ∙ ap (start_of m.objects) of_world ∙ sym (crashed-next m w found.crashed) in
       record {
         found = record { shows = found.shows; sound = found.sound; crashed = found.crashed; commands_are = refl };
         params = params;
         of_file = of_file;
-        placed = subst (λ (b : ℕ). AreRecords m b b records) found.shows.base found.shows.log.log.placed;
-        members = found.shows.members ∙ ap (λ (h : List (Member O)). drop (w.base - 1) h) whole;
-        start = start ∙ ap (λ (t : Table). least_start t.next t.starts) table ∙ starts base records found.shows.log.log.placed
-            ∙ ap (λ (t : Table). start_of m.objects (table_of t)) (sym table) ∙ ap (start_of m.objects) of_world ∙ sym (crashed-next m w found.crashed);
+        from = plan.start;
+        low = omega (arith, from);
+        members = members_numbered plan.start w.history w.base records (found_members m p files commands w found) (omega (arith, from, found.sound.next.0)) (omega (arith, from, found.sound.next.1));
+        start = from;
         table = of_world;
       }
-
-pub due_members : {O : Type 0} (m : Meaning O) (p : Params) (files : Files) (slots : SlotsView) (plan : PlanView) (records : List (Record O)) (w : World O) → IsDue m p files slots plan records w → AreMembers w.history w.base records
-due_members m p files slots plan records w due =
-    let low = due.found.sound.base in
-    let here : suc (w.base - 1) ≡ w.base = omega (arith, low) in
-    let reach : w.base - 1 ≤ length w.history = omega (arith, low, due.found.sound.next.0, due.found.sound.next.1) in
-    subst (λ (k : ℕ). AreMembers w.history k records) here
-    (members_are m w.base w.history (w.base - 1) records reach (subst (λ (k : ℕ). AreRecords m w.base k records) (sym here) due.placed) due.members)

@@ -1,4 +1,4 @@
--- A call that fails behind others: what these counted stays counted, and where no fault can be there, none is.
+-- A call that fails after others: what these counted stays counted, and where no fault can be there, none is.
 use Rattle.std.proofs.Common.{ℕ, ◌≡◌, sym, subst}
 use Rattle.std.specs.Prelude.{Result, Ok, Err, IfErr, IsErrAnd}
 use Rattle.disk_model.specs.declared.machine.FileNo.{FileNo}

@@ -4,12 +4,13 @@ use Rattle.std.specs.Prelude.{IsTrue}
 use Rattle.std.specs.List.{list_any}
 use Rattle.std.proofs.lemmas.Bool.{both_ways, or_parts, leb-true, leb-false}
 use Rattle.explain_core.specs.History.{Member}
-use Rattle.redo_pass.specs.Rising.{AreMembers, Rise, starts_from}
+use Rattle.redo_pass.specs.Rising.{AreMembers, starts_from}
+use Rattle.formats.specs.Records.{Rise}
 use Rattle.formats.specs.declared.record.Record.{Record}
 use Rattle.formats.specs.declared.record.Record.TheVariants.{Command, Identity, Check}
 
 module _ {O : Type 0} (start : ℕ) where
-  -- the first that is from the number on, and those behind it
+  -- the first that is from the number on, and those after it
   pub members_from : (h : List (Member O)) (records : List (Record O)) (i k : ℕ) (r : Record O) (rest : List (Record O)) → list_any (starts_from start) (take i records) ≡ false → drop i records ≡ r ∷ rest → IsTrue (starts_from start r)
       → AreMembers h k records → k ≤ start → AreMembers h start (r ∷ rest)
   members_from h records zero k (Command number op) rest none split from are low =

@@ -1,4 +1,4 @@
--- One record more is replayed, and nodes are installed behind it: how far a redo then has come.
+-- One record more is replayed, and nodes are installed after it: how far a redo then has come.
 use Rattle.std.proofs.Common.{◌≡◌, ◌∙◌, sym, ap, subst, ℕ, zero, suc, ◌+◌, ◌-◌, ◌<◌, ◌≤◌, false, Some, List, [], ◌∷◌, length, arith, inl, inr}
 use Rattle.std.specs.Prelude.{◌*◌, slice_get}
 use Rattle.std.proofs.lemmas.Bool.{cases_lt}
@@ -45,7 +45,7 @@ module _ {O : Type 0} (m : Meaning O) (p : Params) (limit : ℕ) (w : World O) w
         store_shows = subst (λ (u : World O). ShowsStore m p (files Objects) after u) same store_shows;
       }
 
-  -- nodes are installed behind it, until none must be
+  -- nodes are installed after it, until none must be
   pub limited_so_far : (files : Files) (it : Store) (turned : ℕ) (rest : List (Record O)) → IsLimited m p files it limit (at m limit w turned)
       → AreMembers w.history (at m limit w turned).next rest → SoFar m p files it limit w rest
   limited_so_far files it turned rest is members =

@@ -9,6 +9,7 @@ use Rattle.disk_model.specs.Silent.{silent_twice}
 use Rattle.disk_model.specs.declared.machine.FileNo.TheVariants.{Objects}
 use Rattle.oper_core.specs.Cell.{Cell}
 use Rattle.oper_core.specs.Meaning.{Meaning}
+use Rattle.formats.specs.Records.{Rise}
 use Rattle.formats.specs.declared.params.Params.{Params}
 use Rattle.formats.specs.declared.record.Record.{Record}
 use Rattle.formats.specs.declared.record.Record.TheVariants.{Command, Identity, Check}
@@ -34,9 +35,8 @@ use Rattle.cache_manager.specs.Parts.{Store, ShowsStore, AreInUse}
 use Rattle.redo_pass.specs.Progress.{HasTurned, SoFar, IsAbove}
 use Rattle.redo_pass.specs.Redo.{IsDue}
 use Rattle.redo_pass.specs.Replayed.{IsNextRecord, after_record}
-use Rattle.redo_pass.specs.Rising.{AreMembers, Rise, IsBelow}
+use Rattle.redo_pass.specs.Rising.{AreMembers, IsBelow}
 use Rattle.redo_pass.proofs.Begins.{empty_shows, some_held}
-use Rattle.redo_pass.proofs.Due.{due_members}
 use Rattle.redo_pass.proofs.Ends.{at}
 use Rattle.redo_pass.proofs.Goes.{numbered_within}
 
@@ -73,7 +73,7 @@ is_above p low it (Command number op) rest is rise = (rise.1, λ k d within. ome
 is_above p low it (Identity number x value) rest is rise = (rise.1, λ k d within. omega (arith, is.above k d within, rise.0))
 is_above p low it (Check t) rest is rise = tt
 
--- the number from which on those behind a record rise
+-- the number from which on those after a record rise
 abbrev pub behind : {O : Type 0} → ℕ → Record O → ℕ
 behind low (Command number op) = number + 1
 behind low (Identity number x value) = number + 1
@@ -109,7 +109,7 @@ module _ {O : Type 0} (m : Meaning O) (p : Params) (limit : ℕ) (w : World O) w
         };
         enough = ap (must_install m limit) (sym here) ∙ enough;
         members = subst (λ (k : ℕ). AreMembers w.history k items) (due.start ∙ ap (λ (v : World O). v.next) here)
-            (from w.history w.base (due_members m p files slots plan records w due) (omega (arith, due.start, due.found.sound.next.0)) (omega (arith, due.start, due.found.sound.next.1)));
+            (from w.history due.from due.members (omega (arith, due.start, due.low)) (omega (arith, due.start, due.found.sound.next.1)));
       }
 
   -- the first of the records that are left is the next to be replayed
@@ -122,7 +122,7 @@ module _ {O : Type 0} (m : Meaning O) (p : Params) (limit : ℕ) (w : World O) w
       record { here = are.0; member_is = ap (λ (h : List (Member O)). numbered h number) kept.history ∙ ap (numbered w.history) are.0 ∙ are.1; plan = plan ∙ sym (λ i. plan_of (kept.tables i) (kept.base i)) }
   next_is table plan n (Check t) rest are = tt
 
-  -- so far, behind some turns, and before nodes are installed
+  -- so far, after some turns, and before nodes are installed
   pub record IsOn (files : Files) (it : Store) (rest : List (Record O)) : Type 0 where
     pub turned : ℕ
     pub shown : HasTurned m p files it limit w turned

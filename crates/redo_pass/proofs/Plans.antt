@@ -2,12 +2,13 @@
 use Rattle.std.proofs.Common.{◌≡◌, sym, ap, ℕ, Option, None, Some, List, [], ◌∷◌, ◌++◌, refl}
 use Rattle.std.specs.Option.{option_or}
 use Rattle.checkpoint.specs.declared.table.Table.{Table}
+use Rattle.formats.specs.Records.{last_check}
 use Rattle.formats.specs.declared.record.Record.{Record}
 use Rattle.formats.specs.declared.record.Record.TheVariants.{Command, Identity, Check}
 use Rattle.explain_core.specs.World.{plan_of}
 use Rattle.explain_core.specs.World as core
 use Rattle.standing.specs.Members.{table_of, tables_in}
-use Rattle.analysis_pass.specs.Analysis.{last_check, table_or, plan_table}
+use Rattle.analysis_pass.specs.Analysis.{table_or, plan_table}
 
 -- the newest of the tables is this one, if there is one
 abbrev NewestIs : Option Table → List core.Table → Type 0

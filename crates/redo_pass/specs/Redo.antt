@@ -1,29 +1,30 @@
 -- What a redo begins with, and what it leaves.
-use Rattle.std.specs.Prelude.{◌≡◌, ◌-◌, ◌*◌, ℕ, false, List, drop}
+use Rattle.std.specs.Prelude.{◌≡◌, ◌≤◌, ◌-◌, ◌*◌, ℕ, false, List}
 use Rattle.disk_model.specs.Disk.{Files}
 use Rattle.disk_model.specs.declared.machine.FileNo.TheVariants.{Objects}
 use Rattle.oper_core.specs.Meaning.{Meaning, state_after}
-use Rattle.formats.specs.Records.{AreRecords}
 use Rattle.formats.specs.declared.params.Params.{Params}
 use Rattle.formats.specs.declared.record.Record.{Record}
 use Rattle.stable_objects.specs.SlotsView.{SlotsView, AreOf}
 use Rattle.explain_core.specs.History.{commands_of}
 use Rattle.explain_core.specs.Turns.{must_install, turns}
 use Rattle.explain_core.specs.World.{World, Step, run, end_of, plan_of, IsLive}
-use Rattle.standing.specs.Members.{members_of, table_of}
+use Rattle.standing.specs.Members.{table_of}
 use Rattle.standing.specs.Standing.{FilesShow, IsFound}
 use Rattle.analysis_pass.specs.Analysis.{PlanView}
 use Rattle.cache_manager.specs.Parts.{Store, ShowsStore}
+use Rattle.redo_pass.specs.Rising.{AreMembers}
 
 -- The world is the one that a restart finds in the files: they show it, it is sound, and it is as a crash leaves it. The
--- slots are those of the objects file, the records are the world's members from its base on, each right in its place,
--- and the plan says what the last of the world's checks says, and starts at the next number to replay.
+-- slots are those of the objects file, the records are the world's members from a number on that is not above the next to
+-- replay, and the plan says what the last of the world's checks says, and starts at the next to replay.
 pub record IsDue {O : Type 0} (m : Meaning O) (p : Params) (files : Files) (slots : SlotsView) (plan : PlanView) (records : List (Record O)) (w : World O) : Type 0 where
   pub found : IsFound m p files (commands_of w.history) w
   pub params : slots.params ≡ p
   pub of_file : AreOf slots (files Objects)
-  pub placed : AreRecords m w.base w.base records
-  pub members : members_of records ≡ drop (w.base - 1) w.history
+  pub from : ℕ
+  pub low : from ≤ w.next
+  pub members : AreMembers w.history from records
   pub start : plan.start ≡ w.next
   pub table : table_of plan.table ≡ plan_of w.tables w.base
 
@@ -31,7 +32,7 @@ pub record IsDue {O : Type 0} (m : Meaning O) (p : Params) (files : Files) (slot
 abbrev pub redo_steps : {O : Type 0} → Meaning O → ℕ → World O → List (Step O)
 redo_steps m limit w = turns m limit (2 * (end_of w - w.next)) w
 
--- the world behind them
+-- the world after them
 abbrev pub redone_world : {O : Type 0} → Meaning O → ℕ → World O → World O
 redone_world m limit w = run m w (redo_steps m limit w)
 

@@ -1,16 +1,9 @@
--- Records whose numbers rise, and those that are the members of a history from a number on.
-use Rattle.std.specs.Prelude.{◌≡◌, ◌<◌, ◌≤◌, ◌+◌, ⊤, ℕ, Bool, false, nat_le, Some, List, [], ◌∷◌, length}
+-- Records that are the members of a history from a number on.
+use Rattle.std.specs.Prelude.{◌≡◌, ◌<◌, ◌+◌, ⊤, ℕ, Bool, false, nat_le, Some, List, [], ◌∷◌, length}
 use Rattle.formats.specs.declared.record.Record.{Record}
 use Rattle.formats.specs.declared.record.Record.TheVariants.{Command, Identity, Check}
 use Rattle.explain_core.specs.History.{Member, numbered}
 use Rattle.explain_core.specs.History.Member.{Command as a_command, Identity as an_identity}
-
--- the numbers of the numbered records rise, from one number on and below another
-abbrev pub Rise : {O : Type 0} → ℕ → ℕ → List (Record O) → Type 0
-Rise low end [] = ⊤
-Rise low end (Command number op ∷ records) = (low ≤ number) × (number < end) × Rise (number + 1) end records
-Rise low end (Identity number x value ∷ records) = (low ≤ number) × (number < end) × Rise (number + 1) end records
-Rise low end (Check table ∷ records) = Rise low end records
 
 -- the record's number is below this one; a check has none
 abbrev pub IsBelow : {O : Type 0} → ℕ → Record O → Type 0

@@ -9,6 +9,7 @@ ghost use Rattle.formats.specs.Objects.{bounds_of};
 ghost use Rattle.formats.specs.Records.{records_of};
 ghost use Rattle.formats.specs.declared.params.Params.{Params};
 ghost use Rattle.formats.specs.declared.record.Record.{Record};
+ghost use Rattle.log_records.specs.Rewriting.{numbered_from};
 ghost use Rattle.stable_objects.specs.SlotsView.{SlotsView, AreOf};
 ghost use Rattle.explain_core.specs.History.{Member, numbered, reads_of, writes_of, effect_of};
 ghost use Rattle.explain_core.specs.Sound.{IsSound};
@@ -25,23 +26,24 @@ ghost use Rattle.redo_pass.specs.Rising.{AreMembers};
 
 use oper_core::Oper;
 
-/// The redo of the world that a restart finds is due, with the slots of the objects file, the records of the log in force,
-/// and the plan that `analyse` answers for these.
+/// The redo of the world that a restart finds is due, with the slots of the objects file, the plan that `analyse` answers
+/// for the records of the log in force, and those of them that are commands or identity writes from its start on.
 pub fn a_found_world_is_due<O: Oper>()
     ensures { (p : Params) (files : Files) (commands : List O) (w : World O)
         (found : IsFound (O.meaning (bounds_of p)) p files commands w) (slots : SlotsView) (plan : PlanView) →
         slots.params ≡ p → AreOf slots (files Objects) →
         plan.table ≡ plan_table found.shows.header.base (records_of found.shows.groups) →
         plan.start ≡ least_start plan.table.next plan.table.starts →
-        IsDue (O.meaning (bounds_of p)) p files slots plan (records_of found.shows.groups) w }
+        IsDue (O.meaning (bounds_of p)) p files slots plan (numbered_from plan.start (records_of found.shows.groups)) w }
 {
     analysis_pass::a_plan_starts_at_the_least_start::<O>();
 }
 
-/// The records of a world whose redo is due are its members from the base on, each with its number.
+/// The records of the log in force are the members of the world that a restart finds, from its base on, each with its
+/// number.
 pub fn records_are_members<O: Oper>()
-    ensures { (p : Params) (files : Files) (slots : SlotsView) (plan : PlanView) (records : List (Record O)) (w : World O) →
-        IsDue (O.meaning (bounds_of p)) p files slots plan records w → AreMembers w.history w.base records }
+    ensures { (p : Params) (files : Files) (commands : List O) (w : World O) →
+        (found : IsFound (O.meaning (bounds_of p)) p files commands w) → AreMembers w.history w.base (records_of found.shows.groups) }
 {}
 
 /// A store that shows a world in the middle of a redo shows, with the next member replayed, the world after that step.
@@ -85,7 +87,7 @@ pub fn a_redo_leaves_nothing<O: Oper>()
 {}
 
 /// The parts of the redo's loop, of the world that a restart finds. A member that is replayed is one turn more, and what
-/// is installed behind it are further turns.
+/// is installed after it are further turns.
 pub fn a_redo_goes_on<O: Oper>()
     ensures replayed { (p : Params) (files : Files) (after : Store) (limit turned : ℕ) (w : World O) →
         IsSound (O.meaning (bounds_of p)) w → step (O.meaning (bounds_of p)) w Crash ≡ w →

@@ -3,8 +3,8 @@ ghost use Rattle.std.specs.Prelude.{◌≡◌, ◌≤◌, ◌^◌, ℕ, All, Non
 ghost use Rattle.disk_model.specs.Disk.{Rises, Runs, Same, Any, In, IsSettled};
 ghost use Rattle.disk_model.specs.declared.machine.FileNo.TheVariants.{Objects as ObjectsFile};
 ghost use Rattle.formats.specs.Objects.{bounds_of};
+ghost use Rattle.formats.specs.Records.{IsRecord, Rise};
 ghost use Rattle.formats.specs.declared.params.Params.{Params};
-ghost use Rattle.formats.specs.Records.{IsRecord};
 ghost use Rattle.dirty_cache.specs.Contents.{held};
 ghost use Rattle.explain_core.specs.World.{World};
 ghost use Rattle.standing.specs.Moments.{TakesSome};
@@ -13,7 +13,6 @@ ghost use Rattle.cache_manager.specs.Laid.{IsLaidOn};
 ghost use Rattle.cache_manager.specs.Parts.{AreInUse, store};
 ghost use Rattle.redo_pass.specs.Causes.{FailsBy, IsNotOf};
 ghost use Rattle.redo_pass.specs.Redo.{IsDue, IsRedone, redo_steps};
-ghost use Rattle.redo_pass.specs.Rising.{Rise};
 
 use crate::limit::limit_dirty;
 use crate::replay::replay;

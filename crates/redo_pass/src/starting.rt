@@ -1,8 +1,9 @@
 // Which records a redo looks at.
 ghost use Rattle.std.specs.Prelude.{◌≡◌, ◌≤◌, ◌+◌, ℕ, List, length, drop};
+ghost use Rattle.formats.specs.Records.{Rise};
 ghost use Rattle.formats.specs.declared.record.Record.{Record};
 ghost use Rattle.explain_core.specs.History.{Member};
-ghost use Rattle.redo_pass.specs.Rising.{AreMembers, Rise, starts_from};
+ghost use Rattle.redo_pass.specs.Rising.{AreMembers, starts_from};
 
 use formats::Record;
 

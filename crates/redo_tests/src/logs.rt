@@ -12,7 +12,7 @@ pub const BOUNDS: Bounds = Bounds {
     cap: 16,
 };
 
-// A block of `put 0 aa`, `put 1 bb` and `put 2 cc`, and the closed gate behind it.
+// A block of `put 0 aa`, `put 1 bb` and `put 2 cc`, and the closed gate after it.
 pub const THREE_PUTS: &[u8] = &[
     1, 60, 0, 0, 0, // the gate, and the payload's length
     1, 1, 0, 0, 0, 0, 0, 0, 0, 1, 0, 0, 0, 0, 2, 0, 0, 0, b'a', b'a', // put 0 aa
@@ -21,7 +21,7 @@ pub const THREE_PUTS: &[u8] = &[
     0,
 ];
 
-// A block of `put 0 aa`, `put 1 bb` and `swap 0 1`, and the closed gate behind it.
+// A block of `put 0 aa`, `put 1 bb` and `swap 0 1`, and the closed gate after it.
 pub const SWAPPED: &[u8] = &[
     1, 58, 0, 0, 0, // the gate, and the payload's length
     1, 1, 0, 0, 0, 0, 0, 0, 0, 1, 0, 0, 0, 0, 2, 0, 0, 0, b'a', b'a', // put 0 aa
@@ -30,7 +30,7 @@ pub const SWAPPED: &[u8] = &[
     0,
 ];
 
-// The same, with an identity write of object 1 behind the swap.
+// The same, with an identity write of object 1 after the swap.
 pub const LOGGED: &[u8] = &[
     1, 77, 0, 0, 0, // the gate, and the payload's length
     1, 1, 0, 0, 0, 0, 0, 0, 0, 1, 0, 0, 0, 0, 2, 0, 0, 0, b'a', b'a', // put 0 aa
@@ -49,7 +49,7 @@ pub const CHECKED: &[u8] = &[
     0,
 ];
 
-// The place of the first block of a log, and that of the block behind three puts.
+// The place of the first block of a log, and that of the block after three puts.
 const FIRST: u64 = 33;
 
 pub const BEHIND_THREE: u64 = 98;
@@ -68,7 +68,7 @@ pub fn with_block(alloc: Global, block: &[u8]) -> Result<MemMachine, Fail> {
     Ok(machine.crash(Crash::New))
 }
 
-// The same, with the slot of object 0 as a flush behind a swap leaves it.
+// The same, with the slot of object 0 as a flush after a swap leaves it.
 pub fn with_slot(alloc: Global, block: &[u8]) -> Result<MemMachine, Fail> {
     let mut machine = with_block(alloc, block)?;
     machine.write_at(FileNo::Objects, SLOT, SWAPPED_SLOT)?;

@@ -102,7 +102,7 @@ const HEALED: [Healed; 2] = [
     (LOGGED, (1, [3, 1]), &[b"bb", b"aa"]),
 ];
 
-// Whether a redo behind the flush gives what the row says.
+// Whether a redo after the flush gives what the row says.
 fn is_as_in(alloc: Global, row: Healed) -> Result<bool, Fail> {
     let (block, left, values) = row;
     let slots: &[&[u8]] = &[b"bb", b""];

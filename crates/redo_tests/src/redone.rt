@@ -3,11 +3,11 @@ ghost use Rattle.std.specs.Prelude.{◌≡◌, ◌^◌, ℕ, All, None, IfOk};
 ghost use Rattle.op_codec.specs.AllOps.{all_meaning};
 ghost use Rattle.dirty_cache.specs.Contents.{held};
 ghost use Rattle.formats.specs.Objects.{bounds_of};
-ghost use Rattle.formats.specs.Records.{IsRecord};
-ghost use Rattle.redo_pass.specs.Rising.{Rise};
+ghost use Rattle.formats.specs.Records.{IsRecord, Rise};
 
 use analysis_pass::{Plan, analyse};
 use cache_manager::Objects;
+use checkpoint::Table;
 use disk_model::{Fuse, MemMachine};
 use formats::Record;
 use log_frames::LogErr;
@@ -31,14 +31,18 @@ pub struct Redone {
     pub start: u64,
 }
 
-// The log of a machine.
-fn loaded(alloc: Global, machine: &mut MemMachine, b: Bounds) -> Result<RecordLog<AllOps>, LogErr>
-    ensures { IfOk result (λ log. log.bounds ≡ b) }
+// The log of a machine, and its last check.
+fn loaded(
+    alloc: Global,
+    machine: &mut MemMachine,
+    b: Bounds,
+) -> Result<(RecordLog<AllOps>, Option<Table>), LogErr>
+    ensures { IfOk result (λ it. it.0.bounds ≡ b) }
 {
-    RecordLog::load(alloc, machine, b)
+    RecordLog::load_checked(alloc, machine, b)
 }
 
-// The objects of a machine, its stable records, and the plan for their redo.
+// The objects of a machine, the records that have to be done again, and the plan for that.
 fn begun(
     alloc: Global,
     machine: &mut MemMachine,
@@ -48,9 +52,9 @@ fn begun(
     ensures rising { IfOk result (λ it. Rise 0 (2 ^ 62) it.1.items) }
 {
     let objects = Objects::load(alloc, machine, 2)?;
-    let log = loaded(alloc, machine, objects.bounds())?;
-    let records = log.stable(machine)?;
-    let plan = analyse(alloc, log.base(), &records)?;
+    let (log, last) = loaded(alloc, machine, objects.bounds())?;
+    let plan = analyse(alloc, log.base(), last);
+    let records = log.numbered_from(machine, plan.start())?;
     Ok((objects, records, plan))
 }
 

@@ -5,7 +5,7 @@ use disk_model::{Crash, MemMachine};
 use std::alloc::Global;
 use std::test::Fail;
 
-// A log, how many objects may be dirty, the calls that a redo makes then, and the values behind it.
+// A log, how many objects may be dirty, the calls that a redo makes then, and the values after it.
 type Row = (&'static [u8], usize, u64, &'static [&'static [u8]]);
 
 // A redo makes five calls for each object that is flushed.

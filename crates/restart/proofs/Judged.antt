@@ -27,7 +27,7 @@ pub passed_on : {T E : Type 0} (P : Result T E → Type 0) (result : Result T E)
 passed_on P (Ok value) why is said = absurd is
 passed_on P (Err e) why is said = subst (λ x. P (Err x)) (sym is) said
 
--- calls that say nothing, one behind the other
+-- calls that say nothing, one after the other
 pub quiet_stays : (old new : Disk) → Stays old new → IsQuiet old new
 quiet_stays old new kept = runs_wider old new Same (λ before after. Unit {0}) (λ a b same. tt) kept
 

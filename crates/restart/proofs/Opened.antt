@@ -1,11 +1,13 @@
 -- What a load makes of the files, and why it fails.
-use Rattle.std.proofs.Common.{◌≡◌, ◌<◌, ◌≤◌, ◌+◌, ◌*◌, ℕ, Bool, true, false, nat_lt, if◌then◌else◌, inl, inr, List, [], sym, ap, ◌∙◌, subst, arith}
-use Rattle.std.specs.Prelude.{None}
+use Rattle.std.proofs.Common.{◌≡◌, ◌<◌, ◌≤◌, ◌+◌, ◌*◌, ◌^◌, ℕ, Bool, true, false, nat_lt, if◌then◌else◌, inl, inr, List, [], sym, ap, ◌∙◌, subst, arith}
+use Rattle.std.specs.Prelude.{All, None, Option}
+use Rattle.std.proofs.lemmas.List.{append-nil}
 use Rattle.std.proofs.lemmas.Bool.{cases_lt}
 use Rattle.disk_model.specs.Disk.{Files, Disk, Rises, Stays, IsSettled}
 use Rattle.disk_model.specs.Moments.{stays_settled, stays_twice}
 use Rattle.disk_model.specs.declared.machine.FileNo.{FileNo}
 use Rattle.disk_model.specs.declared.machine.FileNo.TheVariants.{Objects}
+use Rattle.checkpoint.specs.declared.table.Table.{Table}
 use Rattle.oper_core.specs.Meaning.{Meaning, HasBounds, IsSmall, IsLawful}
 use Rattle.oper_core.specs.declared.bounds.Bounds.{Bounds}
 use Rattle.formats.specs.Bytes.{IsOpenAt, IsClosedAt}
@@ -13,7 +15,7 @@ use Rattle.formats.specs.Log.{Header}
 use Rattle.formats.specs.Objects.{IsInRange, IsObjectsFile, bounds_of, slot_place}
 use Rattle.formats.specs.FirstFault.{IsDamaged, AreObjectsWhole, at_objects, at_logs, at_record, at_late_slot}
 use Rattle.formats.specs.Image.{params_in, IsRecordFault, IsLateSlot}
-use Rattle.formats.specs.Records.{records_of, next_after, HoldsRecordLog}
+use Rattle.formats.specs.Records.{IsRecord, Rise, last_check, records_of, next_after, HoldsRecordLog}
 use Rattle.formats.specs.declared.params.Params.{Params}
 use Rattle.formats.specs.declared.record.Record.{Record}
 use Rattle.log_frames.specs.Reading as log
@@ -28,8 +30,10 @@ use Rattle.stable_objects.specs.declared.slot_err.SlotErr.TheVariants as of_slot
 use Rattle.dirty_cache.specs.Contents.{held}
 use Rattle.log_records.specs.Loading.{IsLoadFault}
 use Rattle.log_records.specs.Loading as load
-use Rattle.log_records.specs.RecordLog.{RecordLogView, HasRecords, Keeps, IsLoaded}
-use Rattle.log_records.specs.RecordLaws.{next_rises}
+use Rattle.log_records.specs.RecordLog.{RecordLogView, Keeps, IsLoaded}
+use Rattle.log_records.specs.RecordLaws.{keeps_stay}
+use Rattle.log_records.specs.Rewriting.{numbered_from}
+use Rattle.analysis_pass.specs.Analysis.{PlanView, table_or, least_start}
 use Rattle.cache_manager.specs.Laid.{Laid, IsLaidOn}
 use Rattle.cache_manager.specs.Parts.{meaning_in}
 use Rattle.restart.specs.Causes.{FailsBy, IsNoDamage, from_log, from_slots}
@@ -143,24 +147,26 @@ module _ {O : Type 0} (meaning : Bounds → Meaning O) where
       let records = subst (λ (x : Bounds). HoldsRecordLog (meaning x) image.active image.header image.groups old.reads) (ap (λ (q : Params). bounds_of q) same ∙ sym bounds) image.log in
       unharmed e (none image.active image.header image.groups (subst (HoldsRecordLog (meaning b) image.active image.header image.groups) files records))
 
-  -- what the log of a store in the files is, once loaded
-  pub record IsLogOfStore (files : Files) (last : Disk) (p : Params) (view : RecordLogView) (records : List (Record O)) : Type 0 where
+  -- what the log of a store in the files is, once loaded, and its last check
+  pub record IsLogOfStore (files : Files) (last : Disk) (p : Params) (view : RecordLogView) (check : Option Table) : Type 0 where
     pub groups : List (List (Record O))
     pub file : HoldsRecordLog (meaning_in meaning p) view.log.active view.log.header groups files
-    pub records_are : records ≡ records_of groups
+    pub check_is : check ≡ last_check (records_of groups)
     pub keeps : Keeps (meaning_in meaning p) last view (records_of groups) []
 
   -- Objects and log are loaded.
-  pub record HasLog (old last : Disk) (objects : Laid) (view : RecordLogView) (records : List (Record O)) : Type 0 where
+  pub record HasLog (old last : Disk) (objects : Laid) (view : RecordLogView) (check : Option Table) : Type 0 where
     pub slots : HasSlots old last objects
-    pub log : HasRecords (meaning_in meaning objects.slots.params) (bounds_of objects.slots.params) view records
-    pub read : old.tells_files → IsLogOfStore old.reads last objects.slots.params view records
+    pub bounds : view.bounds ≡ bounds_of objects.slots.params
+    pub low : 1 ≤ view.next
+    pub read : old.tells_files → IsLogOfStore old.reads last objects.slots.params view check
 
-  pub has_log : (old mid last : Disk) (objects : Laid) (b : Bounds) (view : RecordLogView) (records : List (Record O)) → HasSlots old mid objects → Stays mid last → b ≡ bounds_of objects.slots.params
-      → HasRecords (meaning b) b view records → (mid.tells_files → (it : IsLoaded (meaning b) b mid last view) × (records ≡ records_of it.groups)) → HasLog old last objects view records
-  has_log old mid last objects b view records has kept bounds own loaded = record {
+  pub has_log : (old mid last : Disk) (objects : Laid) (b : Bounds) (view : RecordLogView) (check : Option Table) → HasSlots old mid objects → Stays mid last → b ≡ bounds_of objects.slots.params
+      → view.bounds ≡ b → 1 ≤ view.next → (mid.tells_files → (it : IsLoaded (meaning b) b mid last view) × (check ≡ last_check (records_of it.groups))) → HasLog old last objects view check
+  has_log old mid last objects b view check has kept bounds own low loaded = record {
     slots = slots_on old mid last objects has kept;
-    log = subst (λ (x : Bounds). HasRecords (meaning x) x view records) bounds own;
+    bounds = own ∙ bounds;
+    low = low;
     read = λ told.
         let found = loaded (has.kept.time.files_told.0 told) in
         let is = found.0 in
@@ -169,15 +175,17 @@ module _ {O : Type 0} (meaning : Bounds → Meaning O) where
           groups = is.groups;
           file = subst (λ (x : Bounds). HoldsRecordLog (meaning x) view.log.active view.log.header is.groups old.reads) bounds
               (subst (HoldsRecordLog (meaning b) view.log.active view.log.header is.groups) files is.file);
-          records_are = found.1;
+          check_is = found.1;
           keeps = subst (λ (x : Bounds). Keeps (meaning x) last view (records_of is.groups) []) bounds (is.keeps has.settled);
         };
   }
 
-  module _ (old last : Disk) (objects : Laid) (view : RecordLogView) (records : List (Record O)) (has : HasLog old last objects view records) where
-    -- the next number is that behind its records
+  module _ (old last : Disk) (objects : Laid) (view : RecordLogView) (check : Option Table) (has : HasLog old last objects view check) where
+    -- the next number is that after its records
     pub next_is : (told : old.tells_files) → view.next ≡ next_after view.log.header.base (records_of (has.read told).groups)
-    next_is told = let read = has.read told in has.log.next_is ∙ ap (λ (l : List (Record O)). next_after view.log.header.base l) read.records_are
+    next_is told =
+        let read = has.read told in
+        read.keeps.next_is ∙ ap (λ (l : List (Record O)). next_after view.log.header.base l) (append-nil (records_of read.groups))
 
     -- an open slot with the next number, or a later one, is a fault of the files
     pub late_fault : (next place : ℕ) → next ≡ view.next → IsLateAt objects.slots next place → old.tells_files
@@ -215,9 +223,27 @@ module _ {O : Type 0} (meaning : Bounds → Meaning O) where
       });
     }
 
+    -- the log keeps its records on, as the machine stays
+    kept_on : (new : Disk) → Stays last new → (told : old.tells_files) → Keeps (meaning_in meaning objects.slots.params) new view (records_of (has.read told).groups) []
+    kept_on new kept told =
+        let read = has.read told in
+        keeps_stay (meaning_in meaning objects.slots.params) last new view (records_of read.groups) [] (has.slots.kept.time.files_told.0 told) kept read.keeps
+
+    -- the records that are read again are those that the plan wants
+    wanted : (plan : PlanView) (records : List (Record O)) → (told : old.tells_files)
+        → (last.tells_files → (stable pending : List (Record O)) → Keeps (meaning view.bounds) last view stable pending → records ≡ numbered_from plan.start stable)
+        → records ≡ numbered_from plan.start (records_of (has.read told).groups)
+    wanted plan records told found =
+        let read = has.read told in
+        found (has.slots.kept.time.files_told.0 told) (records_of read.groups) []
+        (subst (λ (x : Bounds). Keeps (meaning x) last view (records_of read.groups) []) (sym has.bounds) read.keeps)
+
     -- what is loaded is what the files hold
-    pub is_read : old.tells_files → ((x s : ℕ) → IsLate objects.slots view.next x s → ⊥) → IsRead meaning old.reads last objects view records
-    is_read told none =
+    pub is_read : (new : Disk) (plan : PlanView) (records : List (Record O)) (base : ℕ) → Stays last new → old.tells_files → ((x s : ℕ) → IsLate objects.slots view.next x s → ⊥)
+        → base ≡ view.log.header.base → plan.table ≡ table_or base check → plan.start ≡ least_start plan.table.next plan.table.starts
+        → (last.tells_files → (stable pending : List (Record O)) → Keeps (meaning view.bounds) last view stable pending → records ≡ numbered_from plan.start stable)
+        → IsRead meaning old.reads new objects view plan records
+    is_read new plan records base kept told none base_is table start found =
         let q = objects.slots.params in
         let file = old.reads Objects in
         let read = has.read told in
@@ -227,24 +253,53 @@ module _ {O : Type 0} (meaning : Bounds → Meaning O) where
           laid = laid;
           groups = read.groups;
           file = read.file;
-          records_are = read.records_are;
+          planned = record {
+            table = table ∙ (λ i. table_or (base_is i) (read.check_is i));
+            start = start;
+            records_are = wanted plan records told found;
+          };
           none_late = λ x s below two is_open.
-              let late = none_late objects.slots file view.next laid.slots (omega (arith, next, next_rises (meaning_in meaning q) view.log.header.base (records_of read.groups), read.file.log.log.in_range.base_low)) none x s below two is_open in
+              let late = none_late objects.slots file view.next laid.slots has.low none x s below two is_open in
               omega (arith, late, next);
-          keeps = subst (λ (l : List (Record O)). Keeps (meaning_in meaning q) last view l []) (sym read.records_are) read.keeps;
+          keeps = kept_on new kept told;
         }
 
-    pub is_ready : ((x s : ℕ) → IsLate objects.slots view.next x s → ⊥) → IsReady meaning last objects view records
-    is_ready none = record { settled = has.slots.settled; empty = has.slots.empty; has = has.log; early = early_slots objects.slots view.next has.log.low none }
+    pub is_ready : (new : Disk) (records : List (Record O)) (from : ℕ) → Stays last new → ((x s : ℕ) → IsLate objects.slots view.next x s → ⊥) → All (IsRecord (meaning view.bounds)) records
+        → ((low end : ℕ) → low ≤ from → view.next ≤ end → Rise low end records) → view.next ≤ 2 ^ 62 → IsReady meaning new objects view records
+    is_ready new records from kept none grammar rising most = record {
+      settled = all_settled last new kept has.slots.settled;
+      empty = has.slots.empty;
+      bounds = has.bounds;
+      grammar = subst (λ (x : Bounds). All (IsRecord (meaning x)) records) has.bounds grammar;
+      rising = λ end within. rising 0 end (omega arith) within;
+      last = most;
+      early = early_slots objects.slots view.next has.low none;
+    }
+
+    -- no damage is reported of a log that was loaded
+    pub again_unharmed : (e : LogErr) → old.tells_files → (last.tells_files → (stable pending : List (Record O)) → Keeps (meaning view.bounds) last view stable pending → log.TellsDamage e → ⊥) → log.TellsDamage e → ⊥
+    again_unharmed e told none =
+        let read = has.read told in
+        none (has.slots.kept.time.files_told.0 told) (records_of read.groups) [] (subst (λ (x : Bounds). Keeps (meaning x) last view (records_of read.groups) []) (sym has.bounds) read.keeps)
+
+    -- the records are not read again
+    pub again_fails : (new : Disk) (e : LogErr) (fault : FileNo → ℕ → Type 0) → log.FailsBy (Rises last.disk_faults new.disk_faults) fault e
+        → (last.tells_files → (stable pending : List (Record O)) → Keeps (meaning view.bounds) last view stable pending → log.TellsDamage e → ⊥)
+        → FailsBy (Rises old.disk_faults new.disk_faults) (old.tells_files → IsClosedAt 0 (old.reads Objects)) (λ file place. old.tells_files → IsDamaged meaning old.reads file place) (from_log e)
+    again_fails new of_log.DiskFault fault fails none = λ small. let risen = fails small in let later = has.slots.kept.time.disk_faults in omega arith
+    again_fails new (of_log.LogFull used need limit) fault fails none = tt
+    again_fails new (of_log.Damaged file place) fault fails none = λ told. absurd (again_unharmed (of_log.Damaged file place) told none tt)
+    again_fails new (of_log.Exhausted epoch) fault fails none = tt
+    again_fails new of_log.Memory fault fails none = tt
 
   -- a late slot is no slot of files that meet their format
-  pub late_never : ((b : Bounds) → HasBounds b (meaning b)) → ((b : Bounds) → IsSmall b → IsLawful (meaning b)) → (old last : Disk) (objects : Laid) (view : RecordLogView) (records : List (Record O)) (next place : ℕ)
-      → HasLog old last objects view records → next ≡ view.next → IsLateAt objects.slots next place → old.tells_files → IsWellFormed meaning old.reads → ⊥
-  late_never bounded lawful old last objects view records next place has same at told image = no_late_slot meaning bounded lawful old.reads place image (late_fault old last objects view records has next place same at told)
+  pub late_never : ((b : Bounds) → HasBounds b (meaning b)) → ((b : Bounds) → IsSmall b → IsLawful (meaning b)) → (old last : Disk) (objects : Laid) (view : RecordLogView) (check : Option Table) (next place : ℕ)
+      → HasLog old last objects view check → next ≡ view.next → IsLateAt objects.slots next place → old.tells_files → IsWellFormed meaning old.reads → ⊥
+  late_never bounded lawful old last objects view check next place has same at told image = no_late_slot meaning bounded lawful old.reads place image (late_fault old last objects view check has next place same at told)
 
   -- files that were read meet their format
-  pub read_well_formed : (files : Files) (d : Disk) (objects : Laid) (view : RecordLogView) (records : List (Record O)) → IsRead meaning files d objects view records → IsWellFormed meaning files
-  read_well_formed files d objects view records is = record {
+  pub read_well_formed : (files : Files) (d : Disk) (objects : Laid) (view : RecordLogView) (plan : PlanView) (records : List (Record O)) → IsRead meaning files d objects view plan records → IsWellFormed meaning files
+  read_well_formed files d objects view plan records is = record {
     params = objects.slots.params;
     active = view.log.active;
     header = view.log.header;

@@ -1,5 +1,5 @@
 -- What a redo of what was loaded makes of the world.
-use Rattle.std.proofs.Common.{◌≡◌, ◌∙◌, sym, ap, subst, ℕ, zero, suc, ◌++◌, ◌+◌, ◌-◌, ◌*◌, ◌≤◌, List, [], ◌∷◌, take, drop, refl, arith}
+use Rattle.std.proofs.Common.{◌≡◌, ◌∙◌, sym, ap, subst, ℕ, zero, suc, ◌++◌, ◌+◌, ◌-◌, ◌*◌, List, [], ◌∷◌, take, drop, refl, arith}
 use Rattle.std.proofs.lemmas.List.{drop_all}
 use Rattle.disk_model.specs.Disk.{Files, Disk, IsDisk, Runs, In, Any, Same, IsSettled}
 use Rattle.disk_model.specs.Moments.{started}
@@ -7,13 +7,12 @@ use Rattle.disk_model.specs.declared.machine.FileNo.TheVariants.{Objects}
 use Rattle.oper_core.specs.Meaning.{Meaning}
 use Rattle.formats.specs.Log.{Header}
 use Rattle.formats.specs.Objects.{bounds_of}
-use Rattle.formats.specs.Records.{records_of, next_after, AreRecords}
+use Rattle.formats.specs.Records.{records_of}
 use Rattle.formats.specs.declared.params.Params.{Params}
 use Rattle.formats.specs.declared.record.Record.{Record}
-use Rattle.formats.specs.declared.record.Record.TheVariants.{Command, Identity, Check}
 use Rattle.log_records.specs.CodecLaws.{HasCodes}
-use Rattle.log_records.specs.RecordLaws.{next_rises}
-use Rattle.log_records.specs.RecordLog.{RecordLogView, HasRecords}
+use Rattle.log_records.specs.RecordLog.{RecordLogView}
+use Rattle.log_records.specs.Rewriting.{numbered_from}
 use Rattle.log_records.specs.Uniqueness.{one_records}
 use Rattle.stable_objects.specs.SlotsView.{SlotsView, AreOf}
 use Rattle.install_order.specs.declared.entry.Entry.{Entry}
@@ -34,29 +33,11 @@ use Rattle.cache_manager.specs.Parts.{AreInUse, Shows, ShowsLog, parts, store}
 use Rattle.cache_manager.specs.Stored.{keeps_beside}
 use Rattle.cache_manager.specs.Taking.{ArePartsInUse}
 use Rattle.redo_pass.specs.Redo.{IsDue, IsRedone, redone_world}
-use Rattle.redo_pass.specs.Rising.{Rise}
 use Rattle.redo_pass.specs.Causes as again
 use Rattle.redo_pass.specs.declared.redo_err.RedoErr.{RedoErr}
 use Rattle.redo_pass.specs.declared.redo_err.RedoErr.TheVariants as of_redo
 use Rattle.restart.specs.Causes.{FailsBy, from_redo}
 use Rattle.restart.specs.Redoing.{IsToRedo}
-
--- records in their places rise up to the number behind them
-pub rise_placed : {O : Type 0} (m : Meaning O) (base low next end : ℕ) (rs : List (Record O)) → low ≤ next → next_after next rs ≤ end → AreRecords m base next rs → Rise low end rs
-rise_placed m base low next end [] le within are = tt
-rise_placed m base low next end (Command number op ∷ rs) le within are =
-    let here = are.1 in
-    let rest = next_rises m (next + 1) rs in
-    (omega (arith, le, here.0), omega (arith, here.0, rest, within), rise_placed m base (number + 1) (next + 1) end rs (omega (arith, here.0)) within are.2)
-rise_placed m base low next end (Identity number x value ∷ rs) le within are =
-    let here = are.1 in
-    let rest = next_rises m (next + 1) rs in
-    (omega (arith, le, here.0), omega (arith, here.0, rest, within), rise_placed m base (number + 1) (next + 1) end rs (omega (arith, here.0)) within are.2)
-rise_placed m base low next end (Check table ∷ rs) le within are = rise_placed m base low next end rs le within are.2
-
--- what is loaded has them below the log's next number
-pub ready_rises : {O : Type 0} (m : Meaning O) (b : _) (log : RecordLogView) (records : List (Record O)) (end : ℕ) → HasRecords m b log records → log.next ≤ end → Rise 0 end records
-ready_rises m b log records end has within = rise_placed m log.log.header.base 0 log.log.header.base end records (omega arith) (omega (arith, within, has.next_is)) has.placed
 
 -- what is stable of a check that waits, and of the commands before the base, no quiet step changes
 record IsRestKept {O : Type 0} (w v : World O) : Type 0 where
@@ -101,26 +82,26 @@ moments_here m p w d steps disk told settled shows = moments_none m p d d w step
   holds = subst (λ (f : Files). FilesShow m p f w) (λ i file. sym (settled file told c s left) i) shows;
 }))
 
-module _ {O : Type 0} (m : Meaning O) (codes : HasCodes m) (p : Params) (d : Disk) (objects : Laid) (log : RecordLogView) (records : List (Record O)) (w : World O) (to : IsToRedo m p d objects log records w) where
+module _ {O : Type 0} (m : Meaning O) (codes : HasCodes m) (p : Params) (d : Disk) (objects : Laid) (log : RecordLogView) (plan : PlanView) (records : List (Record O)) (w : World O) (to : IsToRedo m p d objects log plan records w) where
   -- the log and its records are those in which the world was found
   same_log : (log.log.active ≡ to.found.shows.active) × (log.log.header ≡ to.found.shows.header) × (records_of to.keeps.groups ≡ records_of to.found.shows.groups)
   same_log = one_records m codes log.log.active to.found.shows.active log.log.header to.found.shows.header to.keeps.groups to.found.shows.groups d.reads
       (record { in_force = to.keeps.in_force; log = to.keeps.file }) to.found.shows.log
 
-  pub same_records : records ≡ records_of to.found.shows.groups
+  pub same_records : to.stable ≡ records_of to.found.shows.groups
   same_records = sym to.keeps.stable_are ∙ same_log.2
 
   pub same_base : log.log.header.base ≡ to.found.shows.header.base
   same_base = ap (λ (h : Header). h.base) same_log.1
 
   -- its redo is due, by the plan of these records
-  pub is_due : (plan : PlanView) (base : ℕ) → base ≡ log.log.header.base → plan.table ≡ plan_table base records → plan.start ≡ least_start plan.table.next plan.table.starts
-      → ((slots : SlotsView) (plan : PlanView) → slots.params ≡ p → AreOf slots (d.reads Objects) → plan.table ≡ plan_table to.found.shows.header.base (records_of to.found.shows.groups)
-      → plan.start ≡ least_start plan.table.next plan.table.starts → IsDue m p d.reads slots plan (records_of to.found.shows.groups) w)
+  pub is_due : ((slots : SlotsView) (plan : PlanView) → slots.params ≡ p → AreOf slots (d.reads Objects) → plan.table ≡ plan_table to.found.shows.header.base (records_of to.found.shows.groups)
+      → plan.start ≡ least_start plan.table.next plan.table.starts → IsDue m p d.reads slots plan (numbered_from plan.start (records_of to.found.shows.groups)) w)
       → IsDue m p d.reads objects.slots plan records w
-  is_due plan base here table start due =
-      subst (λ (l : List (Record O)). IsDue m p d.reads objects.slots plan l w) (sym same_records)
-      (due objects.slots plan to.params to.of_file (table ∙ (λ i. plan_table ((here ∙ same_base) i) (same_records i))) start)
+  is_due due =
+      let planned = to.planned in
+      subst (λ (l : List (Record O)). IsDue m p d.reads objects.slots plan l w) (sym (planned.records_are ∙ ap (λ (l : List (Record O)). numbered_from plan.start l) same_records))
+      (due objects.slots plan to.params to.of_file (planned.table ∙ (λ i. plan_table (same_base i) (same_records i))) planned.start)
 
   -- After the redo parts and files show its world.
   module _ (new : Disk) (limit : ℕ) (after : Laid) (entries : List Entry) (runs : Runs (In Objects Any) Same d new) (settled : IsSettled new) where
@@ -136,9 +117,9 @@ module _ {O : Type 0} (m : Meaning O) (codes : HasCodes m) (p : Params) (d : Dis
         let stable = crashed-stable m w to.found.crashed to.found.sound in
         let all = kept_stable w later kept stable in
         record {
-          stable = records;
+          stable = to.stable;
           pending = [];
-          keeps = keeps_beside m p d new log records [] (runs.reads told).others settled to.keeps;
+          keeps = keeps_beside m p d new log to.stable [] (runs.reads told).others settled to.keeps;
           base = same_base ∙ shows.base ∙ sym kept.base;
           commands_before = ap (λ (h : Header). h.commands) same_log.1 ∙ shows.commands_before ∙ sym rest.commands_before;
           forced = ap (λ (l : List (Record O)). members_of l) same_records ∙ shows.members
@@ -162,11 +143,11 @@ module _ {O : Type 0} (m : Meaning O) (codes : HasCodes m) (p : Params) (d : Dis
         }
 
 -- what is in use after a redo is so for the log
-pub parts_in_use : {O : Type 0} (m : Meaning O) (p : Params) (log : RecordLogView) (records : List (Record O)) (objects : Laid) (entries : List Entry) → HasRecords m (bounds_of p) log records
+pub parts_in_use : (p : Params) (log : RecordLogView) (objects : Laid) (entries : List Entry) → log.bounds ≡ bounds_of p
     → AreInUse p log.next (store objects entries) → AreEarly log.next objects → ArePartsInUse (parts log objects entries)
-parts_in_use m p log records objects entries has used early =
+parts_in_use p log objects entries bounds used early =
     let same : p ≡ objects.slots.params = sym used.params in
-    record { bounds = has.bounds ∙ ap (λ (q : Params). bounds_of q) same; store = subst (λ (q : Params). AreInUse q log.next (store objects entries)) same used; early = early }
+    record { bounds = bounds ∙ ap (λ (q : Params). bounds_of q) same; store = subst (λ (q : Params). AreInUse q log.next (store objects entries)) same used; early = early }
 
 -- why a redo fails
 pub redo_fails : (rises : Type 0) (d : Disk) (slots : SlotsView) (e : RedoErr) → again.FailsBy rises (again.IsNotOf d slots) e → FailsBy rises ⊥ (λ file place. d.tells_files → AreOf slots (d.reads Objects) → ⊥) (from_redo e)

@@ -12,6 +12,6 @@ use Rattle.redo_pass.specs.Redo.{redo_steps}
 abbrev pub redo_course : {O : Type 0} → Meaning O → ℕ → World O → ℕ → Course O
 redo_course m limit w used = course (Crash ∷ redo_steps m limit (step m w Crash)) used Through
 
--- and behind them a check, where the log has room for one
+-- and after them a check, where the log has room for one
 abbrev pub restart_course : {O : Type 0} → Meaning O → ℕ → World O → ℕ → Course O
 restart_course m limit w used = and_then m w (redo_course m limit w used) (λ v used. closing_course m v used)

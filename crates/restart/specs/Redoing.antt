@@ -11,13 +11,17 @@ use Rattle.log_records.specs.RecordLog.{RecordLogView, Keeps}
 use Rattle.explain_core.specs.History.{commands_of}
 use Rattle.explain_core.specs.World.{World}
 use Rattle.standing.specs.Standing.{IsFound}
+use Rattle.analysis_pass.specs.Analysis.{PlanView}
 use Rattle.cache_manager.specs.Laid.{Laid}
+use Rattle.restart.specs.Loading.{IsPlanned}
 
--- The world is the one that a restart finds in the files. The slots are those of the objects file, and the log is that of
--- the files, with these records; nothing waits in it.
-pub record IsToRedo {O : Type 0} (m : Meaning O) (p : Params) (d : Disk) (objects : Laid) (log : RecordLogView) (records : List (Record O)) (w : World O) : Type 0 where
+-- The world is the one that a restart finds in the files. The slots are those of the objects file, the log is that of the
+-- files, in which nothing waits, and of its records the plan wants these.
+pub record IsToRedo {O : Type 0} (m : Meaning O) (p : Params) (d : Disk) (objects : Laid) (log : RecordLogView) (plan : PlanView) (records : List (Record O)) (w : World O) : Type 0 where
   pub found : IsFound m p d.reads (commands_of w.history) w
   pub params : objects.slots.params ≡ p
   pub bounds : log.bounds ≡ bounds_of p
   pub of_file : AreOf objects.slots (d.reads Objects)
-  pub keeps : Keeps m d log records []
+  pub stable : List (Record O)
+  pub keeps : Keeps m d log stable []
+  pub planned : IsPlanned log.log.header.base stable plan records

@@ -14,8 +14,6 @@ mod redoing;
 mod restart_err;
 mod restarted;
 mod restarting;
-#[cfg(test)]
-mod tests;
 
 pub use laws::{a_restart_may_be_made, one_damage};
 pub use redo_pass::Tuning;

@@ -9,6 +9,7 @@ ghost use Rattle.restart.specs.Loading.{IsRead, IsReady};
 ghost use Rattle.restart.specs.WellFormed.{IsWellFormed};
 
 use crate::RestartErr;
+use analysis_pass::{Plan, analyse};
 use cache_manager::Objects;
 use disk_model::{FileNo, Machine, settle};
 use formats::Record;
@@ -16,15 +17,18 @@ use log_records::RecordLog;
 use oper_core::Oper;
 use std::alloc::Global;
 
-// What the files hold: the slots, of which no object is cached yet, and the log with its records.
+// What the files hold: the slots, of which no object is cached yet, and the log; the plan that its last check makes, and the
+// records from its start on.
 #[derive(Drop)]
 pub(crate) struct Loaded<O: Oper> {
     pub(crate) objects: Objects,
     pub(crate) log: RecordLog<O>,
+    pub(crate) plan: Plan,
     pub(crate) records: Vec<Record<O>>,
 }
 
-// Syncs the files, and reads them.
+// Syncs the files, and reads them. The log is read twice. The first pass keeps the last check's table and nothing else, the
+// second the records from the plan's start on.
 pub(crate) fn load<O: Oper, M: Machine>(
     alloc: Global,
     machine: &mut M,
@@ -33,7 +37,7 @@ pub(crate) fn load<O: Oper, M: Machine>(
     requires some { 0 < clean }
     ensures kept { Stays (M.disk machine.old) (M.disk machine.new) }
     ensures ready { IfOk result (λ it. IsReady O.meaning (M.disk machine.new) it.objects it.log it.records.items) }
-    ensures read { (M.disk machine.old).tells_files → IfOk result (λ it. IsRead O.meaning (M.disk machine.old).reads (M.disk machine.new) it.objects it.log it.records.items) }
+    ensures read { (M.disk machine.old).tells_files → IfOk result (λ it. IsRead O.meaning (M.disk machine.old).reads (M.disk machine.new) it.objects it.log it.plan it.records.items) }
     ensures whole { (M.disk machine.old).tells_files → IsWellFormed O.meaning (M.disk machine.old).reads → IfErr result IsNoDamage }
     ensures cause { IfErr result (FailsBy (Rises (M.disk machine.old).disk_faults (M.disk machine.new).disk_faults)
         ((M.disk machine.old).tells_files → IsClosedAt 0 ((M.disk machine.old).reads ObjectsFile))
@@ -42,16 +46,19 @@ pub(crate) fn load<O: Oper, M: Machine>(
 {
     settle(machine)?;
     let objects = Objects::load(alloc, machine, clean)?;
-    let (log, records) = RecordLog::<O>::load_records(alloc, machine, objects.bounds())?;
+    let (log, last) = RecordLog::<O>::load_checked(alloc, machine, objects.bounds())?;
     if let Some(place) = objects.first_late(log.next()) {
         return Err(RestartErr::Damaged {
             file: FileNo::Objects,
             place,
         });
     }
+    let plan = analyse(alloc, log.base(), last);
+    let records = log.numbered_from(machine, plan.start())?;
     Ok(Loaded {
         objects,
         log,
+        plan,
         records,
     })
 }

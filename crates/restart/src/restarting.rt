@@ -42,7 +42,7 @@ pub fn restart<O: Oper, M: Machine>(
     let mut loaded = load::<O, M>(alloc, machine, tuning.clean)?;
     let graph = do_again(
         alloc,
-        &loaded.log,
+        &loaded.plan,
         loaded.records.as_slice(),
         &mut loaded.objects,
         machine,

@@ -6,7 +6,7 @@ use Rattle.disk_model.specs.Disk.{Files, Any, In, Rises}
 use Rattle.disk_model.specs.Moments.{runs_none, runs_twice, runs_then_stays, stays_settled}
 use Rattle.disk_model.specs.declared.machine.FileNo.TheVariants.{Objects as ObjectsFile}
 use Rattle.formats.specs.Objects.{bounds_of}
-use Rattle.formats.specs.Records.{IsRecord}
+use Rattle.formats.specs.Records.{IsRecord, Rise}
 use Rattle.formats.specs.declared.params.Params.{Params}
 use Rattle.formats.specs.declared.record.Record.{Record}
 use Rattle.stable_objects.specs.SlotsView.{SlotsView, AreOf, id_in}
@@ -21,7 +21,7 @@ use Rattle.standing.specs.Standing.{FilesShow}
 use Rattle.cache_manager.specs.Laid.{IsLaidOn}
 use Rattle.cache_manager.specs.Parts.{Store, AreInUse, ShowsStore}
 use Rattle.redo_pass.specs.Progress.{SoFar}
-use Rattle.redo_pass.specs.Rising.{AreMembers, Rise}
+use Rattle.redo_pass.specs.Rising.{AreMembers}
 use Rattle.redo_pass.proofs.Ends.{ended}
 use Rattle.redo_pass.proofs.Fronts.{drop_first}
 use Rattle.redo_pass.proofs.Goes.{limited_so_far, turns_are_steps}

@@ -2,6 +2,7 @@ use Rattle.std.proofs.Common.{◌≤◌, ◌^◌, ℕ, drop}
 use Rattle.disk_model.specs.Disk.{Runs, Same, Any, In, IsSettled}
 use Rattle.disk_model.specs.declared.machine.FileNo.TheVariants.{Objects as ObjectsFile}
 use Rattle.formats.specs.Objects.{bounds_of}
+use Rattle.formats.specs.Records.{Rise}
 use Rattle.formats.specs.declared.params.Params.{Params}
 use Rattle.stable_objects.specs.SlotsView.{AreOf}
 use Rattle.explain_core.specs.Turns.{turns}
@@ -12,7 +13,6 @@ use Rattle.cache_manager.specs.Laid.{IsLaidOn}
 use Rattle.cache_manager.specs.Parts.{Store, AreInUse}
 use Rattle.redo_pass.specs.Progress.{SoFar}
 use Rattle.redo_pass.specs.Redo.{IsDue}
-use Rattle.redo_pass.specs.Rising.{Rise}
 use Rattle.redo_pass.proofs.redoing.redo.Given as goal
 
 abbrev pub invariant-loop-record : goal.invariant-loop-record

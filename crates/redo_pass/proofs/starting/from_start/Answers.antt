@@ -1,7 +1,8 @@
 use Rattle.std.proofs.Common.{◌≡◌, ◌∙◌, sym, ap, subst, ◌+◌, ◌-◌, List, ◌∷◌, length, take, drop, arith}
 use Rattle.std.specs.List.{list_any}
 use Rattle.std.proofs.lemmas.List.{take_all, length-drop}
-use Rattle.redo_pass.specs.Rising.{AreMembers, Rise, starts_from}
+use Rattle.redo_pass.specs.Rising.{AreMembers, starts_from}
+use Rattle.formats.specs.Records.{Rise}
 use Rattle.formats.specs.declared.record.Record.{Record}
 use Rattle.redo_pass.proofs.Fronts.{members_from, members_none, rise_from, drop_first}
 use Rattle.redo_pass.proofs.starting.from_start.Goals as goal
