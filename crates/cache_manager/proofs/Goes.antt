@@ -1,4 +1,4 @@
--- Courses that may be taken, one behind the other.
+-- Courses that may be taken, one after the other.
 use Rattle.std.proofs.Common.{◌≡◌, sym, subst, ap, ℕ, ◌+◌, Bool, false, List, [], ◌∷◌, ◌++◌, length, refl, arith, inl, inr}
 use Rattle.std.specs.Prelude.{IsTrue, IsFalse, ◌^◌, ◌&&◌, nat_lt, nat_le, if◌then◌else◌}
 use Rattle.std.proofs.lemmas.Bool.{cases_Bool, both_ways, or_parts, cond_both, ltb-false, cond-true, cond-false}

@@ -93,7 +93,7 @@ module _ {O : Type 0} (m : Meaning O) (p : Params) (old mid : Disk) (before here
         → rest ≡ course (identity_steps m x v) (used_of here.log.log + growth_of here.log.log.pending n) Through
     written_is fits low = rest_here _ (placed_fits m p mid here v shows n (identity_steps m x v) fits low)
 
--- how a call ends that fails by a fault, or by want of memory
+-- how a call ends that fails by a fault, or by lack of memory
 pub fails : {T : Type 0} (r : Result T InstallErr) → IsErrAnd r (λ e. e ≡ DiskFault) → Ending.Failed ≡ ending_of r
 fails {T} r is = let q = err_from_is_err_and r is in ap (λ (k : Result T InstallErr). ending_of k) (sym (q.1 ∙ (λ i. Err (q.2 i))))
 
@@ -124,7 +124,7 @@ module _ {O : Type 0} (meaning : Bounds → Meaning O) (old : Disk) (before : Pa
     shown : (p : Params) (w : World O) → Shows (meaning_in meaning p) p old before w → Shows (meaning_in meaning p) p mid here (v (meaning_in meaning p) p old mid before here w x)
     shown p w shows = let m = meaning_in meaning p in subst (λ (n : ℕ). Shows m p mid here (run m w (room_steps m w n))) (long p w shows) (room p w shows)
 
-    -- a refusal, where the force behind it fails, and where it does not
+    -- a refusal, where the force after it fails, and where it does not
     module _ (new : Disk) (after : Parts) (e : InstallErr) (lacks : LacksRecordPlace here.log k e)
         (forced : mid.tells_moments → (p : Params) (u : World O) → Shows (meaning_in meaning p) p mid here u → TakesSome (meaning_in meaning p) p mid new u (force_steps (meaning_in meaning p) u)) where
       lacks_here : (p : Params) (w : World O) → Shows (meaning_in meaning p) p old before w → LacksRecordPlace here.log (identity_length (cached_length (meaning_in meaning p) w x)) e

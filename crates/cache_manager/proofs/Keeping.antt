@@ -1,4 +1,4 @@
--- What calls keep of the parts of a store, one behind the other, and what their ends leave.
+-- What calls keep of the parts of a store, one after the other, and what their ends leave.
 use Rattle.std.proofs.Common.{◌≡◌, ◌∙◌, sym, subst, ap, ℕ, ◌+◌, ◌<◌, ◌≤◌, true, List, [], ◌∷◌, length, refl, arith, inl, inr, ◌⊎◌, ⊎_elim, length-append, Option, Some, None}
 use Rattle.std.specs.Prelude.{◌^◌, IsErrAnd, IsErrOf, Result, Ok, Err}
 use Rattle.std.proofs.lemmas.Bool.{both_ways, cases_Bool, cases_eq, cond-false, ne_eqb}
@@ -30,7 +30,7 @@ use Rattle.cache_manager.proofs.Written.{same_object, written_dirty}
 use Rattle.cache_manager.specs.declared.install_err.InstallErr.{InstallErr}
 use Rattle.cache_manager.specs.declared.install_err.InstallErr.TheVariants.{LogFull, LsnEnd, DiskFault, Memory}
 
--- one call behind the other
+-- one call after the other
 pub kept_here : {O : Type 0} {meaning : Bounds → Meaning O} (d : Disk) (it : Parts) → ArePartsInUse it → AreKept meaning d d it it
 kept_here d it used = record { in_use = used; attached = λ at. at }
 
@@ -105,7 +105,7 @@ log_kept meaning old new log later it runs is keeps used =
 pub log_numbered : (log later : RecordLogView) (it : Store) → (later ≡ log) ⊎ IsForced log later → AreNumbered (with_log log it) (with_log later it)
 log_numbered log later it is = let same = same_log log later is in record { params = refl; rising = omega (arith, same.1) }
 
--- a refusal, of a log that is forced behind it, says where that log ends
+-- a refusal, of a log that is forced after it, says where that log ends
 growth_low : (pending : List ℕ) (n : ℕ) → growth_of pending n ≤ n + 5
 growth_low [] n = omega arith
 growth_low (byte ∷ bytes) n = omega arith

@@ -1,4 +1,4 @@
--- What steps log, one list of them behind the other: each object that they log could be logged before, and not again.
+-- What steps log, one list of them after the other: each object that they log could be logged before, and not again.
 use Rattle.std.proofs.Common.{◌≡◌, ◌∙◌, sym, subst, ap, ℕ, ◌+◌, ◌<◌, ◌≤◌, Bool, List, [], ◌∷◌, ◌++◌, length, refl, arith, inl, inr, append_assoc, length-append, ◌⊎◌}
 use Rattle.std.specs.Prelude.{IsTrue, IsFalse, ◌==◌, ◌||◌, nat_eq, if◌then◌else◌}
 use Rattle.std.proofs.lemmas.Bool.{both_ways, or_cases, or_left, or_right, or_from, eq-eqb, ne_eqb, eqb-true, cond_both, false_from_ne_true}

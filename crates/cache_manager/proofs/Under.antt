@@ -25,7 +25,7 @@ use Rattle.cache_manager.specs.Taking.{Follows, IsAfter, Takes, Ending, ending_o
 use Rattle.cache_manager.specs.declared.install_err.InstallErr.{InstallErr}
 use Rattle.cache_manager.specs.declared.install_err.InstallErr.TheVariants.{LogFull, LsnEnd, DiskFault, Memory}
 
--- calls that say nothing, one behind the other
+-- calls that say nothing, one after the other
 pub quiet_both : (old mid new : Disk) → IsQuiet old mid → IsQuiet mid new → IsQuiet old new
 quiet_both old mid new first second =
     runs_twice old mid new (λ before after. Unit {0}) (λ a b c changed then. tt) first second

@@ -1,4 +1,4 @@
--- Courses one behind the other, and what is left of a course when some of its steps are taken.
+-- Courses one after the other, and what is left of a course when some of its steps are taken.
 use Rattle.std.proofs.Common.{◌≡◌, ◌∙◌, sym, ap, ℕ, List, ◌++◌, refl, append_assoc}
 use Rattle.std.specs.Prelude.{IsTrue, IsFalse}
 use Rattle.std.proofs.lemmas.Bool.{both_ways}

@@ -34,14 +34,14 @@ pub record Course (O : Type 0) : Type 0 where
 abbrev pub course : {O : Type 0} → List (Step O) → ℕ → Stop → Course O
 course steps used stop = record { steps = steps; used = used; stop = stop }
 
--- one course, and behind it another unless the first is stopped
+-- one course, and after it another unless the first is stopped
 abbrev pub behind : {O : Type 0} → Course O → Course O → Stop → Course O
 behind first second Through = course (first.steps ++ second.steps) second.used second.stop
 behind first second (Full used need limit) = first
 behind first second (At_end number) = first
 behind first second (Worn epoch) = first
 
--- one course, and behind it the one that begins in the world and with the length that the first leaves
+-- one course, and after it the one that begins in the world and with the length that the first leaves
 abbrev pub and_then : {O : Type 0} → Meaning O → World O → Course O → (World O → ℕ → Course O) → Course O
 and_then m w first next = behind first (next (run m w first.steps) first.used) first.stop
 

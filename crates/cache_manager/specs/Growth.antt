@@ -66,7 +66,7 @@ module _ {O : Type 0} (m : Meaning O) where
       by_records (r ∷ records) bytes members tables =
           ap (λ (l : List ℕ). used_of log.log + growth_of l n) bytes ∙ ap (λ (k : ℕ). used_of log.log + k) (payload_some r records 0 n ∙ sym (cond-true (waits m w) n (n + 5) (waiting_some w r records members tables)))
 
--- the length with some bytes more behind those that wait
+-- the length with some bytes more after those that wait
 pub end_more : (gate : ℕ) (pending bytes : List ℕ) → 0 < length bytes → end_with gate (pending ++ bytes) ≡ end_with gate pending + growth_of pending (length bytes)
 end_more gate [] [] some = absurd (omega (arith, some))
 end_more gate [] (b ∷ bytes) some = omega arith

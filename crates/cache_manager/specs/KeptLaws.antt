@@ -23,7 +23,7 @@ use Rattle.cache_manager.specs.Stored.{keeps_beside}
 pub log_here : {O : Type 0} (meaning : Bounds → Meaning O) (d : Disk) (log : RecordLogView) → KeepsLog meaning d d log log
 log_here meaning d log told has = has
 
--- one call behind the other
+-- one call after the other
 pub log_twice : {O : Type 0} (meaning : Bounds → Meaning O) (old mid new : Disk) (before here after : RecordLogView) → (old.tells_files → mid.tells_files) → KeepsLog meaning old mid before here → KeepsLog meaning mid new here after
     → KeepsLog meaning old new before after
 log_twice meaning old mid new before here after tells first second told has = second (tells told) (first told has)

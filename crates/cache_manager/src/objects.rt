@@ -204,7 +204,7 @@ impl Objects {
         ensures dirty { (x : ℕ) → is_dirty self.new.cache x ≡ (is_among x objects.now || is_dirty self.old.cache x) }
         ensures laid { (file : List ℕ) → IsLaidOn self.old file → IsLaidOn self.new file }
     {
-        let mut values = values.into_lists();
+        let mut values = values;
         while let Some(value) = values.pop() {
             self.set(objects[values.len()], lsn, value);
         }
@@ -221,7 +221,7 @@ impl Objects {
         ensures dirty { (x : ℕ) → is_dirty self.new.cache x ≡ ((is_among x chosen.now && is_among x objects.now) || is_dirty self.old.cache x) }
         ensures laid { (file : List ℕ) → IsLaidOn self.old file → IsLaidOn self.new file }
     {
-        let mut values = values.into_lists();
+        let mut values = values;
         while let Some(value) = values.pop() {
             self.set_if_among(chosen, objects[values.len()], lsn, value);
         }

@@ -33,7 +33,7 @@ module _ {O : Type 0} (m : Meaning O) (limit : ℕ) (w : World O) (used : ℕ) (
   -- Why a command gets its answer in this world, with a log of this length: it is refused; or else its record does not fit;
   -- or else no number is left for it; or else it is done, and is the next command. No two of these hold at once, so each
   -- answer comes exactly where its cause holds, but that a fault may stand in the place of the second and the third, and of
-  -- any for a command that reads objects, and want of memory in that of any. No file is damaged.
+  -- any for a command that reads objects, and out of memory in that of any. No file is damaged.
   abbrev pub HasCause : Result ℕ ExecErr → Type 0
   HasCause (Ok n) = (refusal_in m w op ≡ None) × Fits × (end_of w < 2 ^ 62) × (n ≡ length (commands_of w.history) + 1)
   HasCause (Err (Refused refusal)) = refusal_in m w op ≡ Some refusal

@@ -15,7 +15,7 @@ use Rattle.execution.specs.Unchanged.{IsSameLog}
 use Rattle.execution.specs.declared.exec_err.ExecErr.{ExecErr}
 use Rattle.execution.specs.declared.exec_err.ExecErr.TheVariants.{LogFull, LsnEnd}
 
--- the log with a record of the command that waits behind all others
+-- the log with a record of the command that waits after all others
 abbrev pub IsLogWith : {O : Type 0} → Meaning O → O → RecordLogView → RecordLogView → Type 0
 IsLogWith m op before log = log ≡ record before {
   log = record before.log { pending = before.log.pending ++ record_code m (Logged before.next op); room = log.log.room };
@@ -23,7 +23,7 @@ IsLogWith m op before log = log ≡ record before {
   accepted = before.accepted + 1;
 }
 
--- A command was done, the nth since the store was made: some values admit it, its record had a place and waits behind all
+-- A command was done, the nth since the store was made: some values admit it, its record had a place and waits after all
 -- others, and the graph has its entry.
 pub record IsDone {O : Type 0} (meaning : Bounds → Meaning O) (before after : Parts) (op : O) (n : ℕ) : Type 0 where
   pub admissible : IsAdmissible meaning before.store.objects.slots.params op

@@ -10,7 +10,7 @@ use Rattle.cache_manager.specs.Running.{IsRunning}
 use Rattle.execution.specs.Courses.{exec_course, refusal_in}
 
 -- The steps of a command's course may be taken. After them calls may be made, and the commands are those before, with this
--- one behind them where nothing refuses it and nothing stops it.
+-- one after them where nothing refuses it and nothing stops it.
 pub record MayExec {O : Type 0} (m : Meaning O) (limit : ℕ) (op : O) (w : World O) (used : ℕ) : Type 0 where
   pub allowed : AreAllowed m w (exec_course m limit op w used).steps
   pub running : IsRunning m (run m w (exec_course m limit op w used).steps)

@@ -9,7 +9,6 @@ ghost use Rattle.execution.specs.Failures.{HasPlace, IsReady};
 ghost use Rattle.execution.specs.Unchanged.{IsUntaken};
 
 use cache_manager::Objects;
-use formats::Record;
 use install_order::Entry;
 use log_records::RecordLog;
 use oper_core::{Memory, Oper, Values};
@@ -24,18 +23,18 @@ pub(crate) fn append_command<O: Oper>(
     objects: &mut Objects,
     graph: &mut WriteGraph,
     op: O,
-    values: &Values,
+    values: Values,
 ) -> Result<(), Memory>
     requires in_use { ArePartsInUse (parts log.old objects.old graph.old.entries) }
-    requires ready { IsReady O.meaning objects.old.slots.params op values.now }
+    requires ready { IsReady O.meaning objects.old.slots.params op values }
     requires place { HasPlace objects.old.slots.params.limit log.old (command_length (meaning_in O.meaning objects.old.slots.params) op) }
     ensures ok { OnOk result (IsAppended (meaning_in O.meaning objects.old.slots.params) (parts log.old objects.old graph.old.entries)
-        (parts log.new objects.new graph.new.entries) (Command op) ((meaning_in O.meaning objects.old.slots.params).effect op values.now)) }
+        (parts log.new objects.new graph.new.entries) (Command op) ((meaning_in O.meaning objects.old.slots.params).effect op values)) }
     ensures laid { (file : List ℕ) → IsLaidOn objects.old file → IsLaidOn objects.new file }
     ensures err { OnErr result (IsUntaken (parts log.old objects.old graph.old.entries) (parts log.new objects.new graph.new.entries)) }
 {
     let _params = objects.params();
-    let made = op.apply(alloc, objects.bounds(), values)?;
+    let bounds = objects.bounds();
     let writes = op.writes();
     objects.make_room(writes.as_slice())?;
     let number = log.next();
@@ -46,9 +45,13 @@ pub(crate) fn append_command<O: Oper>(
         identity: false,
     };
     graph.make_room(&entry)?;
-    if log.append(Record::Command(number, op)).is_err() {
+    let Ok(code) = log.encode_command(&op) else {
         return Err(Memory);
-    }
+    };
+    let made = op.into_effect(alloc, bounds, values)?;
+
+    // Nothing fails from here on.
+    log.append_encoded(code);
     objects.set_values(number, writes.as_slice(), made);
     graph.add(entry);
     Ok(())

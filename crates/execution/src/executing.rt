@@ -66,6 +66,6 @@ pub fn execute<O: Oper, M: Machine>(
     let (values, length) = admit(objects, machine, &op)?;
     let limit = objects.params().limit as u64;
     require_place(log, machine, limit, length)?;
-    append_command(alloc, log, objects, graph, op, &values)?;
+    append_command(alloc, log, objects, graph, op, values)?;
     Ok(log.accepted())
 }

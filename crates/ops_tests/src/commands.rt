@@ -3,11 +3,11 @@ ghost use Rattle.std.specs.Prelude.{◌≡◌, ◌≤◌, All, IfOk, length};
 
 use crate::rows::{APPLICATIONS, NODES, OBJECTS, Row, VALUES};
 use op_codec::AllOps;
-use oper_core::{Bounds, ByteList, Oper, Refusal, Values};
+use oper_core::{Bounds, Oper, Refusal, Values};
 use std::alloc::Global;
 use std::test::Fail;
 
-// The command that the code is of, where another byte stands behind it.
+// The command that the code is of, where another byte follows it.
 fn decoded<O: Oper>(alloc: Global, b: Bounds, code: &[u8]) -> Result<O, Fail> {
     let mut bytes = code.to_vec(alloc)?;
     bytes.push(0xff)?;
@@ -46,24 +46,28 @@ fn values(alloc: Global, cap: u32, objects: &[u32], read: &[&[u8]]) -> Result<Va
     Ok(values)
 }
 
-// The first refusal on these values, and the values that the command makes of them.
+// The first refusal on these values, and the values that the command makes of them, by copies and by moves.
 fn outcome<O: Oper>(
     alloc: Global,
     b: Bounds,
-    op: &O,
+    op: O,
     read: &[&[u8]],
-) -> Result<(Result<(), Refusal>, Vec<ByteList>), Fail> {
+) -> Result<(Result<(), Refusal>, Values, Values), Fail> {
     let objects = op.reads();
     let values = values(alloc, b.cap, objects.as_slice(), read)?;
     let refused = op.check(b, &values);
-    let made = op.apply(alloc, b, &values)?.into_lists();
-    Ok((refused, made))
+    let made = op.apply(alloc, b, &values)?;
+    let moved = op.into_effect(alloc, b, values)?;
+    Ok((refused, made, moved))
 }
 
-fn are(lists: &[ByteList], want: &[&[u8]]) -> bool {
-    let mut good = lists.len() == want.len();
-    for (list, bytes) in lists.iter().zip(want.iter()) {
-        good = good && list.as_slice() == *bytes;
+fn are(values: &Values, want: &[&[u8]]) -> bool {
+    if values.len() != want.len() {
+        return false;
+    }
+    let mut good = true;
+    for i in 0..want.len() {
+        good = good && values.get(i) == want[i];
     }
     good
 }
@@ -77,9 +81,10 @@ fn is_as_worked(alloc: Global, row: &Row) -> Result<bool, Fail> {
     };
     let op: AllOps = decoded(alloc, b, code)?;
     let again = encoded(alloc, b, &op)?;
-    let (refused, made) = outcome(alloc, b, &op, read)?;
     let length = op.code_length() == code.len() as u64;
-    Ok((again.as_slice() == code) & length & (refused == want) & are(made.as_slice(), new))
+    let (refused, made, moved) = outcome(alloc, b, op, read)?;
+    let good = (again.as_slice() == code) & length & (refused == want);
+    Ok(good & are(&made, new) & are(&moved, new))
 }
 
 // The place of the first row that is not as it says; none where all are.

@@ -98,7 +98,7 @@ fn a_node_is_read_exactly_where_the_bytes_are_one(rt: HostRuntime) {
     assert!(rt; nodes_are_read(rt.alloc()));
 }
 
-// The bytes of a node of seven entries whose keys all have 32 bytes, with these bytes in front and behind each key.
+// The bytes of a node of seven entries whose keys all have 32 bytes, with these bytes in front and after each key.
 fn longest(alloc: Global, front: &[u8], beside: &[u8]) -> Option<Vec<u8>> {
     let mut out = front.to_vec(alloc).ok()?;
     for key in b"abcdefg".iter() {

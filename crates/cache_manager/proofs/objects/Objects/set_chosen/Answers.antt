@@ -8,12 +8,12 @@ use Rattle.cache_manager.proofs.objects.Objects.set_chosen.Goals as goal
 pub loop-value-preserved : goal.loop-value-preserved
 loop-value-preserved c =
     let so_far = c.loop-value.invariant in
-    let left = c.pop.new.self.items in
+    let left = c.pop.new.self in
     let chosen = c.args.chosen.now in
     let objects = c.args.objects.now in
-    let is = taken c.args.values c.loop-value.values.items left c.in-Some.value c.in-Some.ensures.items so_far.left in
-    let size : length c.loop-value.values.items ≡ suc (length left) = omega (arith, ap length c.in-Some.ensures.items, length-append left (c.in-Some.value ∷ [])) in
-    let at : c.len.result ≡ length left = c.len.ensures ∙ c.pop.new.self.ok.0 in
+    let is = taken c.args.values c.loop-value.values left c.in-Some.value c.in-Some.ensures.some so_far.left in
+    let size : length c.loop-value.values ≡ suc (length left) = omega (arith, ap length c.in-Some.ensures.some, length-append left (c.in-Some.value ∷ [])) in
+    let at : c.len.result ≡ length left = c.len.ensures in
     let there : length left < length objects = omega (arith, so_far.few, size) in
     let before = subst (λ (n : ℕ). (x : ℕ) → held c.loop-value.self.cache x ≡ with_chosen (held c.args.self.now.cache) c.args.lsn chosen (drop n objects) (drop n c.args.values) x) size so_far.set in
     let set = subst (λ (n : ℕ). (x : ℕ) → held c.set_if_among.new.self.cache x

@@ -8,10 +8,10 @@ use Rattle.cache_manager.proofs.objects.Objects.set_values.Goals as goal
 pub loop-value-preserved : goal.loop-value-preserved
 loop-value-preserved c =
     let so_far = c.loop-value.invariant in
-    let left = c.pop.new.self.items in
-    let is = taken c.args.values c.loop-value.values.items left c.in-Some.value c.in-Some.ensures.items so_far.left in
-    let size : length c.loop-value.values.items ≡ suc (length left) = omega (arith, ap length c.in-Some.ensures.items, length-append left (c.in-Some.value ∷ [])) in
-    let at : c.len.result ≡ length left = c.len.ensures ∙ c.pop.new.self.ok.0 in
+    let left = c.pop.new.self in
+    let is = taken c.args.values c.loop-value.values left c.in-Some.value c.in-Some.ensures.some so_far.left in
+    let size : length c.loop-value.values ≡ suc (length left) = omega (arith, ap length c.in-Some.ensures.some, length-append left (c.in-Some.value ∷ [])) in
+    let at : c.len.result ≡ length left = c.len.ensures in
     let there : length left < length c.args.objects.now = omega (arith, so_far.few, size) in
     let before = subst (λ (n : ℕ). (x : ℕ) → held c.loop-value.self.cache x ≡ with_entries (held c.args.self.now.cache) c.args.lsn (drop n c.args.objects.now) (drop n c.args.values) x) size so_far.set in
     let set = subst (λ (n : ℕ). (x : ℕ) → held c.set.new.self.cache x ≡ (if x == slice_index c.args.objects.now n then Some (record { lsn = c.args.lsn; bytes = c.in-Some.value }) else held c.loop-value.self.cache x)) at c.set.ensures.entries in

@@ -7,13 +7,13 @@ use Rattle.cache_manager.proofs.objects.Objects.set_values.Given as goal
 abbrev pub invariant-loop-value : goal.invariant-loop-value
 invariant-loop-value l = record {
   slots : l.self.slots ≡ l.fn.self.slots;
-  few : length l.values.items ≤ length l.objects;
-  left : l.values.items ≡ take (length l.values.items) l.fn.values;
+  few : length l.values ≤ length l.objects;
+  left : l.values ≡ take (length l.values) l.fn.values;
   room : All (HasRoom l.self.cache) l.objects;
-  set : (x : ℕ) → held l.self.cache x ≡ with_entries (held l.fn.self.cache) l.lsn (drop (length l.values.items) l.objects) (drop (length l.values.items) l.fn.values) x;
-  dirty : (x : ℕ) → is_dirty l.self.cache x ≡ (is_among x (drop (length l.values.items) l.objects) || is_dirty l.fn.self.cache x);
+  set : (x : ℕ) → held l.self.cache x ≡ with_entries (held l.fn.self.cache) l.lsn (drop (length l.values) l.objects) (drop (length l.values) l.fn.values) x;
+  dirty : (x : ℕ) → is_dirty l.self.cache x ≡ (is_among x (drop (length l.values) l.objects) || is_dirty l.fn.self.cache x);
   laid : (file : List ℕ) → IsLaidOn l.fn.self file → IsLaidOn l.self file;
 }
 
 abbrev pub decreases-loop-value : goal.decreases-loop-value
-decreases-loop-value l = length l.values.items
+decreases-loop-value l = length l.values
