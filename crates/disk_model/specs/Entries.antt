@@ -5,7 +5,7 @@ use Rattle.disk_model.specs.declared.machine.FileNo.{FileNo}
 use Rattle.disk_model.specs.declared.entry.Entry.{Entry}
 use Rattle.disk_model.specs.declared.entry.Entry.TheVariants.{Written, Synced, Said}
 
--- the calls, with their bytes from the pool, which has them one behind the other
+-- the calls, with their bytes from the pool, which has them one after the other
 abbrev pub calls_in : List Entry → List ℕ → List Call
 calls_in [] pool = []
 calls_in (Written file at n ∷ entries) pool = Write file at (take n pool) ∷ calls_in entries (drop n pool)

@@ -7,6 +7,7 @@ use crate::count::counted;
 use crate::stored_file::StoredFile;
 use crate::{Failed, FileNames, FileNo, Machine};
 use std::io::{self, Write};
+use std::os::unix::fs::FileExt;
 use std::rt::Files;
 
 /// Three files of the current folder, and the standard output. It reports nothing of their content.
@@ -52,7 +53,10 @@ fn say_all(rt: &impl Print, bytes: &[u8]) -> io::Result<()> {
     output.flush()
 }
 
-impl<R: Files + Print> Machine for FileMachine<R> {
+impl<R: Files + Print> Machine for FileMachine<R>
+where
+    R::File: FileExt,
+{
     ghost disk = { λ s. untold s.disk_faults s.say_faults };
 
     ghost lawful = { λ s. lawful_untold s.disk_faults s.say_faults };

@@ -39,7 +39,7 @@ impl Reserved {
         self.bound
     }
 
-    /// Whether so many bytes more fit behind those that are there.
+    /// Whether so many bytes more fit after those that are there.
     pub fn has_room(&self, count: usize) -> bool
         ensures { IsTrue result ↔ (length self.now.bytes.items + count ≤ self.now.bound) }
     {

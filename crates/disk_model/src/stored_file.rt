@@ -2,7 +2,8 @@
 ghost use Rattle.std.specs.Prelude.{◌≤◌, length, IfOk};
 
 use std::fs::{File, OpenFile, OpenOptions};
-use std::io::{self, ErrorKind, Read, Seek, SeekFrom, Write};
+use std::io::{self, ErrorKind, Seek, SeekFrom, Write};
+use std::os::unix::fs::FileExt;
 use std::rt::Files;
 
 /// A file that may be missing, and is then empty. Only a write makes it.
@@ -35,10 +36,12 @@ impl<R: Files> StoredFile<R> {
     }
 
     pub fn read(&mut self, rt: &R, at: u64, into: &mut [u8]) -> io::Result<usize>
+    where
+        R::File: FileExt,
         ensures { IfOk result (λ n. n ≤ length into.old) }
     {
         self.open(rt)?;
-        match &mut self.opened {
+        match &self.opened {
             Some(file) => read_at(file, at, into),
             None => Ok(0),
         }
@@ -109,16 +112,15 @@ fn sync_folder<R: Files>(rt: &R) -> io::Result<()> {
 }
 
 // Reads until there is no room or nothing more.
-fn read_at<F: Read + Seek>(file: &mut F, at: u64, into: &mut [u8]) -> io::Result<usize>
+fn read_at<F: FileExt>(file: &F, at: u64, into: &mut [u8]) -> io::Result<usize>
     ensures { IfOk result (λ n. n ≤ length into.old) }
 {
-    file.seek(SeekFrom::Start(at))?;
     let mut count = 0;
     for _ in 0..u64::MAX {
         if count == into.len() {
             break;
         }
-        match file.read(&mut into[count..]) {
+        match file.read_at(&mut into[count..], at.saturating_add(count as u64)) {
             Ok(0) => break,
             Ok(more) => count += more,
             Err(error) if error.kind() == ErrorKind::Interrupted => {}

@@ -1,7 +1,8 @@
 // What no clause can say of the machine over files: what it does to real ones. A wrong body of the adapter is refused
 // here or nowhere.
-use crate::frail_files::{FRAIL, Fails, FrailFiles};
-use disk_model::{Failed, FileMachine, FileNames, FileNo, Machine};
+use crate::frail_files::{FRAIL, Fails, FrailFiles, FrailInput};
+use disk_model::{Failed, FileMachine, FileNames, FileNo, Machine, Source, StdSource, settle};
+use std::os::unix::fs::FileExt;
 use std::rt::Files;
 use std::test::Fail;
 
@@ -25,12 +26,23 @@ fn syncs<M: Machine>(machine: &mut M) -> Result<[bool; 4], Failed> {
 }
 
 // Whether these syncs succeed where one fails.
-fn syncs_reach<R: Files + Print + Drop>(rt: R, fails: Fails, succeed: [bool; 4]) -> bool {
+fn syncs_reach<R: Files + Print + Drop>(rt: R, fails: Fails, succeed: [bool; 4]) -> bool
+where
+    R::File: FileExt,
+{
     let mut machine = FileMachine::with_names(FrailFiles { rt, fails }, FRAIL);
     syncs(&mut machine) == Ok(succeed)
 }
 
-// The folder is first synced behind files that were just made, and then behind files that were found.
+// Whether the three files, which an earlier machine wrote, are synced by one that has opened none.
+fn settles<R: Files + Print + Drop>(rt: R, fails: Fails) -> bool
+where
+    R::File: FileExt,
+{
+    settle(&mut FileMachine::with_names(FrailFiles { rt, fails }, FRAIL)).is_ok()
+}
+
+// The folder is first synced after files that were just made, and then after files that were found.
 const SYNCS: [(Fails, [bool; 4]); 6] = [
     (Fails::Folder, [false, false, false, false]),
     (Fails::Folder, [false, false, false, false]),
@@ -43,7 +55,8 @@ const SYNCS: [(Fails, [bool; 4]); 6] = [
 #[test]
 fn a_sync_reaches_its_file_and_the_folder(rt: HostRuntime) -> Result<(), Fail> {
     for (fails, succeed) in SYNCS {
-        assert!(rt; syncs_reach(rt.clone()?, fails, succeed));
+        let reached = syncs_reach(rt.clone()?, fails, succeed);
+        assert!(rt; reached & (settles(rt.clone()?, fails) == (succeed == [true; 4])));
     }
     Ok(())
 }
@@ -56,6 +69,8 @@ fn moves_all<M: Machine>(machine: &mut M) -> Result<bool, Failed> {
     machine.write_at(FileNo::LogB, 0, b"other")?;
     let mut into = [9; 7];
     let count = machine.read(FileNo::LogA, 1, &mut into)?;
+    // A length does not depend on where the last call ended.
+    machine.read(FileNo::LogA, 0, &mut [9])?;
     Ok(
         count == 5
             && into == *b"\0axy\0\x09\x09"
@@ -64,7 +79,10 @@ fn moves_all<M: Machine>(machine: &mut M) -> Result<bool, Failed> {
     )
 }
 
-fn moves_all_by_bytes<R: Files + Print + Drop>(rt: R) -> Result<bool, Failed> {
+fn moves_all_by_bytes<R: Files + Print + Drop>(rt: R) -> Result<bool, Failed>
+where
+    R::File: FileExt,
+{
     let fails = Fails::Nothing;
     let mut machine = FileMachine::with_names(FrailFiles { rt, fails }, MOVED);
     moves_all(&mut machine)
@@ -76,7 +94,42 @@ fn short_reads_and_writes_go_on(rt: HostRuntime) -> Result<(), Fail> {
     Ok(())
 }
 
-fn says<R: Files + Print + Drop>(rt: R, fails: Fails) -> bool {
+const FOLDERS: FileNames = FileNames {
+    objects: ".",
+    log_a: ".",
+    log_b: ".",
+};
+
+// Which calls succeed where the names are those of a folder.
+fn calls_on_a_folder<R: Files + Print + Drop>(rt: R) -> [bool; 4]
+where
+    R::File: FileExt,
+{
+    let mut machine = FileMachine::with_names(rt, FOLDERS);
+    [
+        machine.size(FileNo::Objects).is_ok(),
+        machine.read(FileNo::LogA, 0, &mut [0]).is_ok(),
+        machine.write_at(FileNo::LogB, 0, &[1]).is_ok(),
+        machine.sync(FileNo::LogB).is_ok(),
+    ]
+}
+
+// Else the files of a store that may not be read would be those of none.
+#[test]
+fn a_file_that_cannot_be_opened_is_no_missing_one(rt: HostRuntime) -> Result<(), Fail> {
+    assert!(rt; calls_on_a_folder(rt.clone()?) == [false; 4]);
+    Ok(())
+}
+
+#[test]
+fn an_interrupted_read_of_the_input_goes_on(rt: HostRuntime) {
+    assert!(rt; StdSource::new(&FrailInput).read(&mut [0]) == Ok(0));
+}
+
+fn says<R: Files + Print + Drop>(rt: R, fails: Fails) -> bool
+where
+    R::File: FileExt,
+{
     let mut machine = FileMachine::with_names(FrailFiles { rt, fails }, MOVED);
     machine.say(b"said\n").is_ok()
 }

@@ -4,7 +4,8 @@ use std::alloc::Allocator;
 use std::cell::Cell;
 use std::fmt::Display;
 use std::fs::{File, Metadata, OpenFile, OpenOptions};
-use std::io::{self, ErrorKind, Read, Seek, SeekFrom, Write};
+use std::io::{self, BufRead, ErrorKind, Lines, Read, Seek, SeekFrom, Write};
+use std::os::unix::fs::FileExt;
 use std::rt::Files;
 
 /// The names of the files whose syncs can fail.
@@ -41,7 +42,7 @@ impl Fails {
     }
 }
 
-/// A runtime over real files, of which a read or a write moves one byte.
+/// A runtime over real files, of which a read or a write moves one byte, and the first read is interrupted.
 #[derive(Drop)]
 pub struct FrailFiles<R: Files + Print> {
     pub rt: R,
@@ -51,6 +52,7 @@ pub struct FrailFiles<R: Files + Print> {
 #[derive(Drop)]
 pub struct FrailFile<F> {
     file: F,
+    interrupts: Cell<bool>,
     fails: Cell<bool>,
 }
 
@@ -79,6 +81,7 @@ impl<R: Files + Print> Files for FrailFiles<R> {
     fn open_file(&self, how: &OpenOptions, path: &str) -> io::Result<FrailFile<R::File>> {
         Ok(FrailFile {
             file: self.rt.open_file(how, path)?,
+            interrupts: Cell::new(true),
             fails: Cell::new(self.fails.sync_of(path)),
         })
     }
@@ -143,6 +146,20 @@ impl<F: Seek> Seek for FrailFile<F> {
     }
 }
 
+impl<F: FileExt> FileExt for FrailFile<F> {
+    fn read_at(&self, into: &mut [u8], at: u64) -> io::Result<usize> {
+        if self.interrupts.replace(false) {
+            return Err(ErrorKind::Interrupted.into());
+        }
+        let count = into.len().min(1);
+        self.file.read_at(&mut into[..count], at)
+    }
+
+    fn write_at(&self, bytes: &[u8], at: u64) -> io::Result<usize> {
+        self.file.write_at(&bytes[..bytes.len().min(1)], at)
+    }
+}
+
 impl<F: OpenFile> OpenFile for FrailFile<F> {
     fn metadata(&self) -> io::Result<Metadata> {
         self.file.metadata()
@@ -162,4 +179,47 @@ impl<F: OpenFile> OpenFile for FrailFile<F> {
     fn sync_data(&self) -> io::Result<()> {
         self.file.sync_data()
     }
+}
+
+/// A runtime with an input of no bytes.
+pub struct FrailInput;
+
+/// Its reader: the first read is interrupted.
+#[derive(Drop)]
+pub struct FrailReader {
+    interrupts: bool,
+}
+
+impl Input for FrailInput {
+    type Reader = FrailReader;
+
+    fn read_line<A: Allocator + Clone>(&self, _buf: &mut String<A>) -> io::Result<usize> {
+        Ok(0)
+    }
+
+    fn lines<A: Allocator>(&self, alloc: A) -> Lines<FrailReader, A> {
+        self.reader().lines(alloc)
+    }
+
+    fn reader(&self) -> FrailReader {
+        FrailReader { interrupts: true }
+    }
+}
+
+impl Read for FrailReader {
+    fn read(&mut self, _into: &mut [u8]) -> io::Result<usize> {
+        if self.interrupts {
+            self.interrupts = false;
+            return Err(ErrorKind::Interrupted.into());
+        }
+        Ok(0)
+    }
+}
+
+impl BufRead for FrailReader {
+    fn fill_buf(&mut self) -> io::Result<&[u8]> {
+        Ok(&[])
+    }
+
+    fn consume(&mut self, _amount: usize) {}
 }
