@@ -7,7 +7,7 @@ fn machine(alloc: Global, calls: u64, pool: u64, fails: &[u64]) -> Result<MemMac
     MemMachine::new(alloc, [8, 8, 8], calls, pool, fails.to_vec(alloc)?)
 }
 
-// Four synced bytes, two written over, and one behind a gap; the log A is synced. It reports which calls succeed.
+// Four synced bytes, two written over, and one after a gap; the log A is synced. It reports which calls succeed.
 fn some_unsynced(machine: &mut MemMachine) -> [bool; 7] {
     [
         machine.write_at(FileNo::Objects, 0, &[1, 2, 3, 4]).is_ok(),

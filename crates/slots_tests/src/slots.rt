@@ -130,7 +130,7 @@ fn finds_a_short_file_and_an_identifier_twice(rt: HostRuntime) -> Result<(), Fai
     Ok(())
 }
 
-// A store with an open slot of object 3, an older one of object 4 behind a newer, and one at the file's end.
+// A store with an open slot of object 3, an older one of object 4 after a newer, and one at the file's end.
 fn with_slots(alloc: Global) -> Result<MemMachine, Fail> {
     let mut machine = store(alloc)?;
     machine.write_at(FileNo::Objects, 571, &FIVE)?;
@@ -180,6 +180,44 @@ fn reads_what_an_open_slot_holds(rt: HostRuntime) -> Result<(), Fail> {
         );
     }
     assert!(rt; first_slots(rt.alloc())? == [Some(572), Some(572), Some(649), None]);
+    Ok(())
+}
+
+// A store without values, the last gate of whose objects file stands at this offset.
+fn large(alloc: Global, objects: u32, cap: u32, last: u64) -> Result<MemMachine, Fail> {
+    let mut machine = MemMachine::new(alloc, [1 << 20, 0, 0], 64, 64, Vec::new(alloc))?;
+    machine.write_at(FileNo::Objects, 0, &HEADER)?;
+    machine.write_at(FileNo::Objects, 9, &objects.to_le_bytes())?;
+    machine.write_at(FileNo::Objects, 13, &cap.to_le_bytes())?;
+    machine.write_at(FileNo::Objects, last, &[0])?;
+    Ok(machine)
+}
+
+// How many calls load such a store.
+fn calls_to_load(alloc: Global, objects: u32, cap: u32, last: u64) -> Result<u64, Fail> {
+    let mut machine = large(alloc, objects, cap, last)?;
+    let before = machine.calls();
+    let _ = Slots::load(alloc, &mut machine)?;
+    Ok(machine.calls().saturating_sub(before))
+}
+
+// N, CAP, the place of the last gate, and the calls: three for the header and the file's length, and the others for the
+// heads, of which a read of 64 KiB gives 851 in the first row. In the last row each is read by itself.
+const LOADS: [(u32, u32, u64, u64); 4] = [
+    (4096, 64, 630739, 13),
+    (8, 64, 1187, 4),
+    (8, 4096, 61667, 4),
+    (8, 4097, 61682, 19),
+];
+
+#[test]
+fn loads_many_heads_by_one_call(rt: HostRuntime) -> Result<(), Fail> {
+    for (objects, cap, last, calls) in LOADS {
+        assert!(rt;
+            calls_to_load(rt.alloc(), objects, cap, last)? == calls,
+            "{objects} objects of {cap}"
+        );
+    }
     Ok(())
 }
 

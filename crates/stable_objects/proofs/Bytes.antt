@@ -5,7 +5,7 @@ use Rattle.byteorder.specs.Endian.{little_from}
 use Rattle.disk_model.specs.Disk.{Holds, Torn, written_over, read_of}
 use Rattle.formats.specs.Bytes.{byte_at}
 
--- zeros behind the end are as no bytes
+-- zeros after the end are as no bytes
 zero_byte : (m j : ℕ) → get_or (replicate {A = ℕ} m 0) j 0 ≡ 0
 zero_byte zero j = refl
 zero_byte (suc m) zero = refl
@@ -48,7 +48,7 @@ module _ (at : ℕ) (bytes old : List ℕ) where
       ∙ byte_filled (take at old) (at - length old) j
       ∙ get_or-take at old j 0 less
 
-  -- and so does one behind them
+  -- and so does one after them
   pub byte_after : (j : ℕ) → at + length bytes ≤ j → byte_at j (written_over at bytes old) ≡ byte_at j old
   byte_after j le =
       let split : at + length bytes + (j - (at + length bytes)) ≡ j = omega arith in
@@ -70,7 +70,7 @@ byte_written at b old =
     let spot : at + 0 ≡ at = omega arith in
     ap (λ (k : ℕ). get_or new k 0) (sym spot) ∙ sym (get_or-drop at new 0 0) ∙ sym (get_or-take 1 (drop at new) 0 0 (omega arith)) ∙ ap (λ (l : List ℕ). get_or l 0 0) (written_read at (b ∷ []) old)
 
--- the first byte that was written, and what stands behind it
+-- the first byte that was written, and what follows it
 pub held_first : (b : ℕ) (old new : List ℕ) → Holds 0 (b ∷ []) old new → new ≡ b ∷ drop 1 old
 held_first b old new holds =
     let none : 0 - length old ≡ 0 = omega arith in
@@ -80,7 +80,7 @@ pub torn_first : (old new : List ℕ) → 0 < length old → Torn 0 1 old new �
 torn_first old [] some torn = absurd (omega (arith, torn.no_shorter))
 torn_first old (b ∷ new) some torn = ap (λ (l : List ℕ). b ∷ l) torn.after
 
--- a byte behind the first
+-- a byte after the first
 pub byte_behind : (b : ℕ) (old : List ℕ) (j : ℕ) → 1 ≤ j → byte_at j (b ∷ drop 1 old) ≡ byte_at j old
 byte_behind b old j le =
     let split : 1 + (j - 1) ≡ j = omega arith in

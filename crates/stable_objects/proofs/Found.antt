@@ -15,7 +15,7 @@ use Rattle.disk_model.specs.declared.machine.FileNo.TheVariants.{Objects}
 use Rattle.formats.specs.Bytes.{number_at, IsClosedAt}
 use Rattle.formats.specs.Objects.{IsInRange, IsObjectsFile, objects_fields, last_slot}
 use Rattle.formats.specs.Image.{params_in, IsWithin}
-use Rattle.formats.specs.FirstFault.{stops, goes_on, check_moved, NoMore, ObjectsChecks, IsFirstObjectsFault}
+use Rattle.formats.specs.FirstFault.{stops, goes_on, check_moved, NoMore, ObjectsChecks}
 use Rattle.formats.specs.declared.params.Params.{Params}
 use Rattle.stable_objects.specs.SlotGates.{slot_gate}
 use Rattle.stable_objects.specs.Reading.{FailsBy, FailsAt, HasHeader, IsHeaderFault, IsDamagedAt, IsNoDamage, fails_on}
@@ -74,7 +74,7 @@ checks_read file behind place fault =
     (check_moved 17 place (subst limits all) (subst limits (sym all)) (λ never. absurd never))))
     fault
 
--- behind a header without a fault
+-- after a header without a fault
 pub behind_header : (file : List ℕ) (behind : ℕ → Type 0) (place : ℕ) → take 8 (drop 1 file) ≡ codes "RDOOBJ01" → IsInRange (params_in file) → behind place → ObjectsChecks file behind place
 behind_header file behind place name is later = goes_on name (goes_on (is.some, is.objects) (goes_on (is.low, is.cap) (goes_on (is.least, is.limit) later)))
 
@@ -162,7 +162,7 @@ only_the_disk rises told file p DiskFault is_told is fails = tt
 only_the_disk rises told file p (Damaged number place) is_told is fails = no_fault p file place is (first_is_fault file place (fails.1 is_told).fault)
 only_the_disk rises told file p Memory is_told is fails = tt
 
--- why a call failed behind calls that changed nothing, for a caller who knows more of the fault
+-- why a call failed after calls that changed nothing, for a caller who knows more of the fault
 pub moved : (old mid new : Disk) (no_store no_store' : Type 0) (P Q : List ℕ → ℕ → Type 0) (e : SlotErr) → Stays old mid → (no_store → no_store') → (old.tells_files → (place : ℕ) → P (old.reads Objects) place → Q (old.reads Objects) place)
     → FailsBy (Rises mid.disk_faults new.disk_faults) no_store (FailsAt (λ place. mid.tells_files → P (mid.reads Objects) place)) e
     → FailsBy (Rises old.disk_faults new.disk_faults) no_store' (FailsAt (λ place. old.tells_files → Q (old.reads Objects) place)) e

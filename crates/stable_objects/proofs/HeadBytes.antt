@@ -1,11 +1,11 @@
 -- What the heads that were read say of the slots.
-use Rattle.std.proofs.Common.{◌≡◌, ◌≢◌, ◌<◌, ◌≤◌, ◌+◌, ◌-◌, ◌*◌, ℕ, List, [], ◌∷◌, ◌++◌, length, get_or, take, drop, refl, sym, ◌∙◌, ap, subst, arith, inl, inr, length-append}
+use Rattle.std.proofs.Common.{◌≡◌, ◌≢◌, ◌<◌, ◌≤◌, ◌+◌, ◌-◌, ◌*◌, ℕ, List, [], ◌∷◌, ◌++◌, length, get_or, take, drop, refl, sym, ◌∙◌, ap, subst, arith, inl, inr, length-append, length-take, length-drop}
 use Rattle.std.proofs.lemmas.Bool.{cases_eq, cases_lt}
-use Rattle.std.proofs.lemmas.List.{get_or-take, get_or_append_left, get_or_push}
+use Rattle.std.proofs.lemmas.List.{ext_get_or, get_or-drop, get_or-take, get_or_append_left, get_or_push}
 use Rattle.byteorder.specs.Endian.{little_number}
 use Rattle.byteorder.specs.Numbers.{little_from-take}
 use Rattle.disk_model.specs.Disk.{Files, Disk, Stays, Rises}
-use Rattle.disk_model.specs.Padded.{padded, get_or-padded}
+use Rattle.disk_model.specs.Padded.{padded, length-padded, get_or-padded}
 use Rattle.disk_model.specs.Moments.{stays_twice}
 use Rattle.disk_model.specs.declared.machine.FileNo.TheVariants.{Objects}
 use Rattle.formats.specs.Bytes.{byte_at, number_at, IsOpenAt, IsClosedAt}
@@ -30,6 +30,17 @@ head_read file bytes place is =
     let number = number_read file place 13 1 8 (omega arith) in
     let length_is = number_read file place 13 9 4 (omega arith) in
     ap (λ (l : List ℕ). head_at 0 l) is ∙ (λ i. record { gate = gate i; identifier = number i; long = length_is i })
+
+-- some of the bytes that were read are those of the file from their place on
+pub part_read : (file bytes : List ℕ) (place from n : ℕ) → bytes ≡ padded file place (length bytes) → from + n ≤ length bytes → take n (drop from bytes) ≡ padded file (place + from) n
+part_read file bytes place from n is within =
+    let part = take n (drop from bytes) in
+    let long : length part ≡ n = omega (arith, within, length-take n (drop from bytes), length-drop from bytes) in
+    ext_get_or 0 part (padded file (place + from) n) (long ∙ sym (length-padded file (place + from) n)) (λ i less.
+    let low : i < n = omega (arith, less, long) in
+    let spot : place + (from + i) ≡ place + from + i = omega arith in
+    get_or-take n (drop from bytes) i 0 low ∙ get_or-drop from bytes i 0 ∙ ap (λ (l : List ℕ). get_or l (from + i) 0) is
+    ∙ get_or-padded file place (length bytes) (from + i) (omega (arith, low, within)) ∙ ap (λ (j : ℕ). get_or file j 0) spot ∙ sym (get_or-padded file (place + from) n i low))
 
 -- a number read from the rest of the bytes
 pub number_behind : (n at : ℕ) (bytes : List ℕ) → at + n ≤ length bytes → little_number n (take (length bytes - at) (drop at bytes)) ≡ number_at n at bytes

@@ -13,7 +13,7 @@ use Rattle.stable_objects.specs.Making.{KeepsGate, HasClosedSlots, IsPrepared, I
 use Rattle.stable_objects.specs.Laws.{length-objects_fields}
 use Rattle.stable_objects.proofs.Bytes.{written_long, byte_before, byte_after, byte_written, written_read, held_first, torn_first, byte_behind}
 
--- a write behind the gate keeps it
+-- a write after the gate keeps it
 pub torn_keeps : (at n : ℕ) (old new : List ℕ) → 1 ≤ at → Torn at n old new → KeepsGate old new
 torn_keeps at n old new le torn some = (
   omega (arith, torn.no_shorter, some),
@@ -23,7 +23,7 @@ torn_keeps at n old new le torn some = (
 keeps_twice : (a b c : List ℕ) → KeepsGate a b → KeepsGate b c → KeepsGate a c
 keeps_twice a b c first second some = let then = first some in let after = second then.0 in (after.0, after.1 ∙ then.1)
 
--- one write more behind the gate
+-- one write more after the gate
 pub run_keeps : (old mid new : Disk) (at n : ℕ) → 1 ≤ at → Runs (In Objects KeepsGate) Same old mid → Runs (In Objects (Torn at n)) Same mid new → Runs (In Objects KeepsGate) Same old new
 run_keeps old mid new at n le first second = runs_twice old mid new (In Objects KeepsGate)
     (λ a b c x y. record {

@@ -25,7 +25,7 @@ torn_agrees at n old new torn = record {
 pub held_agrees : (at : ℕ) (bytes old new : List ℕ) → Holds at bytes old new → AgreesOutside at (length bytes) old new
 held_agrees at bytes old new holds = torn_agrees at (length bytes) old new (subst (λ (l : List ℕ). Torn at (length bytes) old l) (sym holds) (torn_whole at bytes old))
 
--- all behind the range
+-- all after the range
 from_behind : (at n : ℕ) (old new : List ℕ) → AgreesOutside at n old new → (p : ℕ) → at + n ≤ p → drop p new ≡ drop p old
 from_behind at n old new agrees p after =
     let split : at + n + (p - (at + n)) ≡ p = omega (arith, after) in
@@ -53,7 +53,7 @@ agrees_same at n a b same = record {
   behind = ap (λ (l : List ℕ). drop (at + n) l) same;
 }
 
--- k bytes before the range, which the old file had, or behind it
+-- k bytes before the range, which the old file had, or after it
 abbrev pub IsBeside : ℕ → ℕ → List ℕ → ℕ → ℕ → Type 0
 IsBeside at n old p k = ((p + k ≤ at) × (p + k ≤ length old)) ⊎ (at + n ≤ p)
 
@@ -89,7 +89,7 @@ module _ (at n : ℕ) (old new : List ℕ) (agrees : AgreesOutside at n old new)
   pub number_stays : number_at k p new ≡ number_at k p old
   number_stays = number_same 0 k (drop p new) (drop p old) (λ j low high. byte_same j (omega (arith, high)))
 
--- the head of a slot, and then its value, written behind its gate
+-- the head of a slot, and then its value, written after its gate
 module _ (place id : ℕ) (value file mid new : List ℕ) (small : id < 2 ^ 64) (short : length value < 2 ^ 32)
     (first : Holds (place + 1) (little_bytes 8 id ++ little_bytes 4 (length value)) file mid) (second : Holds (place + 13) value mid new) where
   abbrev head : List ℕ
@@ -141,7 +141,7 @@ module _ (place id : ℕ) (value file mid new : List ℕ) (small : id < 2 ^ 64) 
     within = omega (arith, ap length second, written_long (place + 13) value mid);
   }
 
--- the gate's byte doesn't count for what stands behind it
+-- the gate's byte doesn't count for what follows it
 pub filled_stays : (place id : ℕ) (value old new : List ℕ) → AgreesOutside place 1 old new → IsFilled place id value old → IsFilled place id value new
 filled_stays place id value old new agrees filled =
     let long = number_stays place 1 old new agrees (place + 9) 4 (inr (omega arith)) ∙ filled.long in

@@ -41,7 +41,7 @@ any_join old mid new one two first second = runs_join old mid new (In Objects on
     first second
 
 module _ (old mid : Disk) (place id : ℕ) (value : List ℕ) (first : Runs (In Objects (Torn (place + 1) (12 + length value))) Same old mid) where
-  -- what is torn behind a gate is torn in its slot
+  -- what is torn after a gate is torn in its slot
   behind : (a b : List ℕ) → AgreesOutside (place + 1) (12 + length value) a b → AgreesOutside place (13 + length value) a b
   behind a b agrees = agrees_wider (place + 1) (12 + length value) place (13 + length value) a b (omega arith) (omega arith) agrees
 
@@ -49,7 +49,7 @@ module _ (old mid : Disk) (place id : ℕ) (value : List ℕ) (first : Runs (In 
   here : (a b : List ℕ) → AgreesOutside place 1 a b → AgreesOutside place (13 + length value) a b
   here a b agrees = agrees_wider place 1 place (13 + length value) a b (omega arith) (omega arith) agrees
 
-  -- while a slot is filled behind its closed gate
+  -- while a slot is filled after its closed gate
   pub leaves_filling : old.tells_moments → IsSettled old → place < length (old.reads Objects) → IsClosedAt place (old.reads Objects) → LeavesOnly old mid (IsHalfPut old place id value)
   leaves_filling told settled within closed = first_call old mid (IsHalfPut old place id value) told first.time (λ c s left.
       let from = from_reads old mid (In Objects (Torn (place + 1) (12 + length value))) Same told settled first.crash c s left in

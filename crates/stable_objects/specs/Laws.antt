@@ -80,7 +80,7 @@ begins_store p file is = sym (take-take 9 21 file (omega arith)) ∙ ap (λ (l :
 pub gate_is_open : (p : Params) (file : List ℕ) → IsObjectsFile p file → IsOpenAt 0 file
 gate_is_open p file is = sym (get_or-take 21 file 0 0 (omega arith)) ∙ ap (λ (l : List ℕ). get_or l 0 0) is.header
 
--- where a store begins, the gate is open and the magic stands behind it
+-- where a store begins, the gate is open and the magic follows it
 pub start_is_open : (file : List ℕ) → BeginsStore file → IsOpenAt 0 file
 start_is_open file begins = sym (get_or-take 9 file 0 0 (omega arith)) ∙ ap (λ (l : List ℕ). get_or l 0 0) begins
 
@@ -102,7 +102,7 @@ nowhere file place is (twice x in_range first second same) = is.slots.apart x fi
 pub no_fault : (p : Params) (file : List ℕ) (place : ℕ) → IsObjectsFile p file → IsObjectsFault file place → ⊥
 no_fault p file place is fault = nowhere file place (subst (λ (q : Params). IsObjectsFile q file) (sym (params_of_file p file is)) is) fault
 
--- the magic stands behind the gate of a header
+-- the magic follows the gate of a header
 pub header_magic : (p : Params) (file : List ℕ) → take 21 file ≡ 1 ∷ objects_fields p → take 8 (drop 1 file) ≡ codes "RDOOBJ01"
 header_magic p file header = magic_stands file (sym (take-take 9 21 file (omega arith)) ∙ ap (λ (l : List ℕ). take 9 l) header)
 

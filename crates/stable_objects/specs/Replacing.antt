@@ -30,13 +30,13 @@ pub record IsOldOrNew (old : Disk) (p : Params) (x : ℕ) (cell : Cell) (files :
 abbrev pub spare_in : SlotsView → ℕ → ℕ
 spare_in slots x = if nat_lt (head slots x 1) (head slots x 0) then 1 else 0
 
--- the file lost no byte; each one that it had before these n bytes is as it was, and so is all behind them
+-- the file lost no byte; each one that it had before these n bytes is as it was, and so is all after them
 pub record AgreesOutside (at n : ℕ) (old new : List ℕ) : Type 0 where
   pub no_shorter : length old ≤ length new
   pub before : (j : ℕ) → j < length old → j < at → byte_at j new ≡ byte_at j old
   pub behind : drop (at + n) new ≡ drop (at + n) old
 
--- behind the gate at this place stand this identifier and this value
+-- after the gate at this place stand this identifier and this value
 pub record IsFilled (place id : ℕ) (value file : List ℕ) : Type 0 where
   pub numbered : identifier_at place file ≡ id
   pub long : length_at place file ≡ length value

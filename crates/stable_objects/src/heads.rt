@@ -1,16 +1,17 @@
 // Reads the heads of the slots.
-ghost use Rattle.std.specs.Prelude.{◌≡◌, ◌<◌, ◌≤◌, ◌*◌, ◌^◌, length, IfOk, IfErr};
+ghost use Rattle.std.specs.Prelude.{◌≡◌, ◌<◌, ◌≤◌, ◌*◌, ◌^◌, length, IfOk, IfErr, OnOk};
 ghost use Rattle.disk_model.specs.Disk.{Rises, Stays};
 ghost use Rattle.disk_model.specs.declared.machine.FileNo.TheVariants.{Objects};
 ghost use Rattle.formats.specs.Objects.{IsInRange};
-ghost use Rattle.stable_objects.specs.Heads.{head_at, IsRead, IsHeadFault, IsPair, IsPairFault, ArePairs, HasPairFault};
+ghost use Rattle.stable_objects.specs.Heads.{ShowsFile, head_at, IsRead, IsHeadFault, IsPair, IsPairFault, ArePairs, HasPairFault};
 ghost use Rattle.stable_objects.specs.Reading.{FailsBy, FailsAt};
 
 use crate::SlotErr;
 use crate::layout::{OPEN, SLOT_HEAD_BYTES, place_of};
 use crate::slot_err::damaged_at;
+use crate::window::Window;
 use byteorder::{ByteOrder, LittleEndian};
-use disk_model::{FileNo, Machine, read_padded};
+use disk_model::Machine;
 use formats::{NUMBERS_END, Params};
 use std::alloc::Global;
 
@@ -39,15 +40,22 @@ fn parse_head(head: &[u8], cap: u32, place: u64, size: u64) -> Result<u64, SlotE
 }
 
 // The identifier in the slot at a place, 0 where its gate is closed.
-fn read_head<M: Machine>(machine: &mut M, cap: u32, place: u64, size: u64) -> Result<u64, SlotErr>
-    requires { place < 2 ^ 32 }
+fn read_head<M: Machine>(
+    machine: &mut M,
+    window: &mut Window,
+    cap: u32,
+    place: u64,
+    size: u64,
+) -> Result<u64, SlotErr>
+    requires shows { ShowsFile (M.disk machine.old) window.old.place window.old.bytes.items }
+    requires small { place < 2 ^ 32 }
+    ensures shows { OnOk result (ShowsFile (M.disk machine.new) window.new.place window.new.bytes.items) }
     ensures kept { Stays (M.disk machine.old) (M.disk machine.new) }
     ensures read { (M.disk machine.old).tells_files → IfOk result (IsRead cap place size (head_at place ((M.disk machine.old).reads Objects))) }
     ensures cause { IfErr result (FailsBy (Rises (M.disk machine.old).disk_faults (M.disk machine.new).disk_faults) ⊥
         (FailsAt (λ at. (M.disk machine.old).tells_files → IsHeadFault cap place size (head_at place ((M.disk machine.old).reads Objects)) at))) }
 {
-    let mut head = [0; SLOT_HEAD_BYTES as usize];
-    read_padded(machine, FileNo::Objects, place, &mut head)?;
+    let head = window.head_at(machine, place)?;
     let id = parse_head(&head, cap, place, size)?;
     Ok(id)
 }
@@ -55,20 +63,23 @@ fn read_head<M: Machine>(machine: &mut M, cap: u32, place: u64, size: u64) -> Re
 // The identifiers in the two slots of an object.
 fn read_pair<M: Machine>(
     machine: &mut M,
+    window: &mut Window,
     cap: u32,
     object: u32,
     size: u64,
 ) -> Result<(u64, u64), SlotErr>
+    requires shows { ShowsFile (M.disk machine.old) window.old.place window.old.bytes.items }
     requires cap { cap ≤ 16384 }
     requires object { object < 4096 }
+    ensures shows { OnOk result (ShowsFile (M.disk machine.new) window.new.place window.new.bytes.items) }
     ensures kept { Stays (M.disk machine.old) (M.disk machine.new) }
     ensures read { (M.disk machine.old).tells_files → IfOk result (λ ids. IsPair cap object size ((M.disk machine.old).reads Objects) ids.0 ids.1) }
     ensures cause { IfErr result (FailsBy (Rises (M.disk machine.old).disk_faults (M.disk machine.new).disk_faults) ⊥
         (FailsAt (λ at. (M.disk machine.old).tells_files → IsPairFault cap object size ((M.disk machine.old).reads Objects) at))) }
 {
-    let first = read_head(machine, cap, place_of(cap, object, 0), size)?;
+    let first = read_head(machine, window, cap, place_of(cap, object, 0), size)?;
     let place = place_of(cap, object, 1);
-    let second = read_head(machine, cap, place, size)?;
+    let second = read_head(machine, window, cap, place, size)?;
     if first != 0 && first == second {
         return Err(damaged_at(place + 1));
     }
@@ -90,8 +101,9 @@ pub fn read_heads<M: Machine>(
         (FailsAt (λ at. (M.disk machine.old).tells_files → HasPairFault params size ((M.disk machine.old).reads Objects) at))) }
 {
     let mut heads = Vec::with_capacity(alloc, 2 * params.objects as usize)?;
+    let mut window = Window::open(alloc, machine, params.cap, size)?;
     for object in 0..params.objects {
-        let (first, second) = read_pair(machine, params.cap, object, size)?;
+        let (first, second) = read_pair(machine, &mut window, params.cap, object, size)?;
         heads.push(first)?;
         heads.push(second)?;
     }

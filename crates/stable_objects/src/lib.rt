@@ -15,6 +15,7 @@ mod replacing;
 mod slot_err;
 mod slots;
 mod value;
+mod window;
 
 pub use slot_err::SlotErr;
 pub use slots::Slots;

@@ -10,15 +10,15 @@ pub returns-in_err-id-clause-cause : goal.returns-in_err-id-clause-cause
 returns-in_err-id-clause-cause g c =
     let old = g.M.Machine.disk c.args.machine.now in
     let a = c.args in
-    let bytes = c.read_padded.new.into in
+    let head = c.in_ok-head.head in
     let e = err_from_is_err_and c.from_residual-in_err-id.result c.from_residual-in_err-id.ensures.1 in
-    rw (e.1, e.2) (fails_on ⊥ _ ⊥ ⊥ (FailsAt (IsHeadFault a.cap a.place a.size (head_at 0 bytes)))
+    rw (e.1, e.2) (fails_on ⊥ _ ⊥ ⊥ (FailsAt (IsHeadFault a.cap a.place a.size (head_at 0 head)))
     (FailsAt (λ at. old.tells_files → IsHeadFault a.cap a.place a.size (head_at a.place (old.reads Objects)) at)) _ (λ none. absurd none) (λ none. none)
-    (λ file at there. (there.0, λ told. subst (λ (h : Head). IsHeadFault a.cap a.place a.size h at) (head_read (old.reads Objects) bytes a.place (c.in_ok-read_padded.ensures.bytes told)) there.1))
+    (λ file at there. (there.0, λ told. subst (λ (h : Head). IsHeadFault a.cap a.place a.size h at) (head_read (old.reads Objects) head a.place (c.in_ok-head.ensures.head told)) there.1))
     c.in_err-id.ensures.cause)
 
 pub returns-clause-read : goal.returns-clause-read
 returns-clause-read g c told =
     let old = g.M.Machine.disk c.args.machine.now in
     let a = c.args in
-    subst (λ (h : Head). IsRead a.cap a.place a.size h c.in_ok-id.id) (head_read (old.reads Objects) c.read_padded.new.into a.place (c.in_ok-read_padded.ensures.bytes told)) c.in_ok-id.ensures.read
+    subst (λ (h : Head). IsRead a.cap a.place a.size h c.in_ok-id.id) (head_read (old.reads Objects) c.in_ok-head.head a.place (c.in_ok-head.ensures.head told)) c.in_ok-id.ensures.read

@@ -8,6 +8,9 @@ use Rattle.stable_objects.proofs.HeadBytes.{more_pairs}
 use Rattle.stable_objects.proofs.Found.{moved}
 use Rattle.stable_objects.proofs.heads.read_heads.Goals as goal
 
+pub returns-in_err-push-clause-kept : goal.returns-in_err-push-clause-kept
+returns-in_err-push-clause-kept g c = stays_twice _ _ _ c.loop-object.invariant.kept c.read_pair.ensures.kept
+
 pub returns-in_err-push-2-clause-kept : goal.returns-in_err-push-2-clause-kept
 returns-in_err-push-2-clause-kept g c = stays_twice _ _ _ c.loop-object.invariant.kept c.read_pair.ensures.kept
 
@@ -36,6 +39,7 @@ loop-object-preserved g c =
     let second = c.in_ok-push-2.ensures.items in
     record {
       kept = stays_twice _ _ _ inv.kept c.read_pair.ensures.kept;
+      shows = c.in_ok-first.ensures.shows;
       count = omega (arith, inv.count, ap length first, ap length second, length-append heads (one ∷ []), length-append half (other ∷ []));
       pairs = λ told.
           let pair = subst (λ (f : Files). IsPair p.cap c.loop-object.object c.args.size (f Objects) one other) (inv.kept.reads told) (c.in_ok-first.ensures.read (inv.kept.time.files_told.0 told)) in

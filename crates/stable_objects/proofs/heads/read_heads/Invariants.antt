@@ -1,13 +1,14 @@
 use Rattle.std.proofs.Common.{◌≡◌, ◌*◌, ℕ, List, length}
 use Rattle.disk_model.specs.Disk.{Disk, Stays}
 use Rattle.disk_model.specs.declared.machine.FileNo.TheVariants.{Objects}
-use Rattle.stable_objects.specs.Heads.{ArePairs}
+use Rattle.stable_objects.specs.Heads.{ShowsFile, ArePairs}
 use Rattle.stable_objects.proofs.heads.read_heads.Given as goal
 
-pub record ReadSo (first now : Disk) (cap size n : ℕ) (heads : List ℕ) : Type 0 where
+pub record ReadSo (first now : Disk) (cap size n : ℕ) (heads : List ℕ) (place : ℕ) (bytes : List ℕ) : Type 0 where
   pub kept : Stays first now
+  pub shows : ShowsFile now place bytes
   pub count : length heads ≡ 2 * n
   pub pairs : first.tells_files → ArePairs cap size (first.reads Objects) n heads
 
 abbrev pub invariant-loop-object : goal.invariant-loop-object
-invariant-loop-object g l = ReadSo (g.M.Machine.disk l.fn.machine) (g.M.Machine.disk l.machine) l.params.cap l.size l.object l.heads.items
+invariant-loop-object g l = ReadSo (g.M.Machine.disk l.fn.machine) (g.M.Machine.disk l.machine) l.params.cap l.size l.object l.heads.items l.window.place l.window.bytes.items

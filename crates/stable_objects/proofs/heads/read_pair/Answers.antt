@@ -1,4 +1,4 @@
-use Rattle.std.proofs.Common.{◌+◌, ℕ, List, refl, sym, arith, subst}
+use Rattle.std.proofs.Common.{◌+◌, ℕ, List, refl, sym, subst}
 use Rattle.std.proofs.lemmas.Result.{err_from_is_err_and}
 use Rattle.disk_model.specs.Disk.{Files}
 use Rattle.disk_model.specs.Moments.{stays_here, stays_twice}
