@@ -7,8 +7,18 @@ use Rattle.sparse_order.specs.Digraph.{Walk, AreNodes, IsOnWay}
 use Rattle.sparse_order.specs.Digraph.Walk.{Here, Then}
 use Rattle.sparse_order.specs.MergeLaws.{walk-on}
 use Rattle.graph_nodes.specs.Arcs.{arc_at, node_at, IsArc}
+use Rattle.number_lists.specs.Lists.{Lists}
+use Rattle.graph_nodes.specs.Into.{AreInto}
+use Rattle.graph_nodes.specs.Search.{IsBehind}
 use Rattle.graph_nodes.specs.Ahead.{LeadsTo, IsReached}
+use Rattle.graph_nodes.proofs.Options.{of-some}
 use Rattle.graph_nodes.specs.Spread.{IsSpread, IsLedTo}
+
+-- an arc between slots of two nodes is one between the nodes
+pub arc-behind : (arcs : List (Option ℕ)) (node : List ℕ) (into : Lists) (o p : ℕ) → AreInto arcs node into → IsArc arcs o p → (node_at node o ≡ node_at node p → ⊥) → IsBehind arcs node into (node_at node o) (node_at node p)
+arc-behind arcs node into o p are arc apart =
+    let start : node_at node (arc.0 / 8) ≡ node_at node o = ap (λ (k : ℕ). node_at node k) arc.1 in
+    (arc.0, are.there arc.0 p arc.2 (λ e. apart (sym start ∙ e)), (of-some (arc_at arcs arc.0) p arc.2, start))
 
 -- a walk between nodes is one between their slots
 pub lift-leads : (arcs : List (Option ℕ)) (node : List ℕ) (m n i j : ℕ) → AreNodes (IsArc arcs) (node_at node) → Walk (LeadsTo arcs node) m n → node_at node i ≡ m → node_at node j ≡ n → Walk (IsArc arcs) i j

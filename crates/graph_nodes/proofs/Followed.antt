@@ -12,7 +12,7 @@ use Rattle.graph_nodes.specs.Arcs.{arc_at, node_at, AreEnds}
 use Rattle.graph_nodes.specs.Into.{AreInto}
 use Rattle.graph_nodes.specs.Merge.{IsFiled}
 use Rattle.graph_nodes.specs.Search.{AreKept, IsBehind, IsApart}
-use Rattle.graph_nodes.specs.Ahead.{AreFollowed, IsFollowed, IsWalkable, LeadsTo, IsAdvanced, IsReached}
+use Rattle.graph_nodes.specs.Ahead.{AreFollowed, IsFollowed, IsWalkable, LeadsTo, IsAdvanced, IsGoingOn, IsReached}
 use Rattle.graph_nodes.specs.Kept.{IsKept}
 use Rattle.graph_nodes.proofs.Options.{none-some, some-of}
 use Rattle.graph_nodes.proofs.Found.{kept-twice, kept-none, among-place, place-among, among-left, read-left}
@@ -107,13 +107,6 @@ advanced-all arcs node n stop old new is = record {
   closed = λ ne k leads. subst (λ (m : ℕ). IsTrue (is_among m new.members)) leads.4 (is.there leads.0 leads.1 leads.2 leads.3);
   same = is.same;
 }
-
--- w is found, and all to which arcs from the first so many found nodes lead, but for the stop
-pub record IsGoingOn (arcs : List (Option ℕ)) (node : List ℕ) (w stop next : ℕ) (ahead : List ℕ) : Type 0 where
-  pub start : IsTrue (is_among w ahead)
-  pub sound : (n : ℕ) → IsTrue (is_among n ahead) → Walk (LeadsTo arcs node) w n
-  pub closed : (k q : ℕ) → k < next → (slice_index ahead k ≡ stop → ⊥) → LeadsTo arcs node (slice_index ahead k) q → IsTrue (is_among q ahead)
-  pub within : next ≤ length ahead
 
 pub going-start : (arcs : List (Option ℕ)) (node : List ℕ) (w stop : ℕ) (none ahead : Members) → none.members ≡ [] → IsWith none w ahead → IsGoingOn arcs node w stop 0 ahead.members
 going-start arcs node w stop none ahead e is = record {

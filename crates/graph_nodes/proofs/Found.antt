@@ -10,7 +10,7 @@ use Rattle.sparse_order.specs.MergeLaws.{walk-on}
 use Rattle.number_lists.specs.Lists.{Lists, list_at}
 use Rattle.number_lists.specs.Members.{Members, IsWith}
 use Rattle.graph_nodes.specs.Arcs.{arc_at, node_at, IsStartOf}
-use Rattle.graph_nodes.specs.Search.{AreKept, IsLookedBack, AreLookedBack, IsBehind, IsExpanded, IsSearched}
+use Rattle.graph_nodes.specs.Search.{AreKept, IsLookedBack, AreLookedBack, IsBehind, IsExpanded, IsSearching, IsSearched}
 
 pub kept-twice : (a b c : Members) → AreKept a b → AreKept b c → AreKept a c
 kept-twice a b c f g = record {
@@ -96,13 +96,6 @@ expanded-stop arcs node into n stop old e = record { sound = λ m t. inl t; clos
 
 pub expanded-all : (arcs : List (Option ℕ)) (node : List ℕ) (into : Lists) (n stop : ℕ) (old new : Members) → AreLookedBack arcs node (list_at into.lists n) old new → IsExpanded arcs node into n stop old new
 expanded-all arcs node into n stop old new is = record { sound = λ m t. (is.there m).0 t; closed = λ ne m behind. (is.there m).1 (inr behind); same = is.same }
-
--- the search once the first so many of the found nodes were expanded
-pub record IsSearching (arcs : List (Option ℕ)) (node : List ℕ) (into : Lists) (v stop next : ℕ) (found : List ℕ) : Type 0 where
-  pub start : IsTrue (is_among v found)
-  pub sound : (m : ℕ) → IsTrue (is_among m found) → Walk (IsBehind arcs node into) m v
-  pub closed : (k m : ℕ) → k < next → (slice_index found k ≡ stop → ⊥) → IsBehind arcs node into m (slice_index found k) → IsTrue (is_among m found)
-  pub within : next ≤ length found
 
 pub among-left : (k : ℕ) (xs ys : List ℕ) → IsTrue (is_among k xs) → IsTrue (is_among k (xs ++ ys))
 among-left k [] ys t = absurd (both_ways _ refl t)

@@ -140,7 +140,7 @@ one-stays n one = elim (cases_eq one n) [ inl q ↦ renamed-at n one one q | inr
 pub many-twice : (a b c : Lists) → AreAsMany a b → AreAsMany b c → AreAsMany a c
 many-twice a b c f g = record { lists = g.lists ∙ f.lists; items = g.items ∙ f.items; list_room = g.list_room ∙ f.list_room; item_room = g.item_room ∙ f.item_room }
 
-among-push : (k n : ℕ) (xs : List ℕ) → is_among k (xs ++ n ∷ []) ≡ (is_among k xs || (k == n))
+pub among-push : (k n : ℕ) (xs : List ℕ) → is_among k (xs ++ n ∷ []) ≡ (is_among k xs || (k == n))
 among-push k n [] = elim (cases_Bool (k == n)) [ inl e ↦ or_left (k == n) false e ∙ sym e | inr e ↦ or_from (k == n) false e refl ∙ sym e ]
 among-push k n (x ∷ xs) = elim (cases_Bool (k == x)) [
   | inl e ↦ or_left (k == x) (is_among k (xs ++ n ∷ [])) e ∙ sym (or_left (is_among k (x ∷ xs)) (k == n) (or_left (k == x) (is_among k xs) e))

@@ -3,12 +3,13 @@ pub mod Found
 pub mod Followed
 pub mod Leads
 pub mod Along
-pub mod Turned
+pub mod Through
 pub mod Taken
 pub mod Joined
 pub mod Settled
 pub mod Ordered
 pub mod Bare
+pub mod Turned
 pub mod Slot
 pub mod Cleared
 pub mod Scattered

@@ -15,9 +15,10 @@ use Rattle.graph_nodes.specs.Named.{Naming, AreNamed, AreNamesMerged}
 use Rattle.graph_nodes.specs.Search.{IsBehind, IsSearched, IsApart}
 use Rattle.graph_nodes.specs.Spread.{IsSpread}
 use Rattle.graph_nodes.specs.Merge.{gathered, AreMoved}
-use Rattle.graph_nodes.specs.Kept.{AreOwn, IsKept, AreOnWayBack, AreOnWayAhead, AreOnWay, AreJoined}
+use Rattle.graph_nodes.specs.Kept.{AreOwn, IsKept, AreOnWalks, AreOnWay, AreJoined}
 use Rattle.graph_nodes.proofs.Options.{none-some, some-of, of-some}
-use Rattle.graph_nodes.proofs.Along.{lift-leads, along-way, where-leads}
+use Rattle.graph_nodes.proofs.Along.{arc-behind, lift-leads, along-way, where-leads}
+use Rattle.graph_nodes.proofs.Through.{through-way, through-slot, through-start}
 use Rattle.graph_nodes.proofs.Settled.{settled-into, settled-fewer}
 
 pub same-nodes : (E : ℕ → ℕ → Type 0) (f g : ℕ → ℕ) → ((i : ℕ) → g i ≡ f i) → AreNodes E f → AreNodes E g
@@ -37,12 +38,6 @@ nodes-iff E F node same are i j = (
   (λ joined. (are i j).1 (walk-same F E i j (λ k l. (same k l).0) joined.0, walk-same F E j i (λ k l. (same k l).0) joined.1)),
 )
 
--- an arc between slots of two nodes is one between the nodes
-arc-behind : (arcs : List (Option ℕ)) (node : List ℕ) (into : Lists) (o p : ℕ) → AreInto arcs node into → IsArc arcs o p → (node_at node o ≡ node_at node p → ⊥) → IsBehind arcs node into (node_at node o) (node_at node p)
-arc-behind arcs node into o p are arc apart =
-    let start : node_at node (arc.0 / 8) ≡ node_at node o = ap (λ (k : ℕ). node_at node k) arc.1 in
-    (arc.0, are.there arc.0 p arc.2 (λ e. apart (sym start ∙ e)), (of-some (arc_at arcs arc.0) p arc.2, start))
-
 -- a walk between nodes is one between their slots
 lift : (arcs : List (Option ℕ)) (node : List ℕ) (into : Lists) (m n i j : ℕ) → AreNodes (IsArc arcs) (node_at node) → AreInto arcs node into → Walk (IsBehind arcs node into) m n → node_at node i ≡ m → node_at node j ≡ n → Walk (IsArc arcs) i j
 lift arcs node into m n i j nodes are Here at_i at_j = ((nodes i j).0 (at_i ∙ sym at_j)).0
@@ -57,7 +52,7 @@ lift arcs node into m n i j nodes are (Then k q walk behind) at_i at_j =
 abbrev pub level_none : ℕ → ℕ
 level_none i = 0
 
--- the search found what reaches v, without a look behind w
+-- the search found what reaches v, without a look past w
 pub found-is : (arcs : List (Option ℕ)) (node : List ℕ) (into : Lists) (vs ws : ℕ) (found : List ℕ) → AreNodes (IsArc arcs) (node_at node) → AreInto arcs node into → IsSearched arcs node into (node_at node vs) (node_at node ws) found →
     IsFound (IsArc arcs) level_none (λ s. node_at node s == node_at node ws) (λ i. is_among (node_at node i) found) vs
 found-is arcs node into vs ws found nodes are is = record {
@@ -135,27 +130,36 @@ way-slot arcs node into v ws n ns are ends low way t = elim way [
   | inl none ↦ absurd (both_ways _ refl (subst (λ (xs : List ℕ). IsTrue (is_among n xs)) none.1 t))
   | inr on ↦ elim on [
     | inl some ↦ elim (some.3.sound n t) [ inl e ↦ (ws, low, sym e) | inr r ↦ where-walk arcs node into ws n are ends low r.1 ]
-    | inr some ↦ elim (some.3.sound n t) [
-      | inl e ↦ let s = where-leads arcs node ws v ends low (some.1.sound v some.2) in (s.0, s.1, s.2 ∙ sym e)
-      | inr r ↦ where-leads arcs node ws n ends low (some.1.sound n r.0)
+    | inr more ↦ elim more [
+      | inl some ↦ elim (some.3.sound n t) [
+        | inl e ↦ let s = where-leads arcs node ws v ends low (some.1.sound v some.2) in (s.0, s.1, s.2 ∙ sym e)
+        | inr r ↦ where-leads arcs node ws n ends low (some.1.sound n r.0)
+      ]
+      | inr through ↦ through-slot arcs node into v ws n ns are ends low through t
     ]
   ]
 ]
 
 -- the nodes on the way, in either case
-way-all : (arcs : List (Option ℕ)) (node : List ℕ) (into : Lists) (vs ws : ℕ) (ns : List ℕ) → AreNodes (IsArc arcs) (node_at node) → AreInto arcs node into → AreOnWayBack arcs node into (node_at node vs) (node_at node ws) ns ⊎ AreOnWayAhead arcs node (node_at node vs) (node_at node ws) ns →
+way-all : (arcs : List (Option ℕ)) (node : List ℕ) (into : Lists) (vs ws : ℕ) (ns : List ℕ) → AreNodes (IsArc arcs) (node_at node) → AreInto arcs node into → AreOnWalks arcs node into (node_at node vs) (node_at node ws) ns →
     (i : ℕ) → IsTrue (is_among (node_at node i) ns) ↔ IsOnWay (IsArc arcs) vs ws i
 way-all arcs node into vs ws ns nodes are on = elim on [
   | inl some ↦ on-way arcs node into vs ws some.0 ns nodes are some.1 some.2 some.3
-  | inr some ↦ along-way arcs node vs ws some.0 ns nodes some.1 some.2 some.3
+  | inr more ↦ elim more [
+    | inl some ↦ along-way arcs node vs ws some.0 ns nodes some.1 some.2 some.3
+    | inr through ↦ through-way arcs node into vs ws ns nodes are through
+  ]
 ]
 
 -- the end of the arc is on the way
-pub way-start : (arcs : List (Option ℕ)) (node : List ℕ) (into : Lists) (vs ws : ℕ) (ns : List ℕ) → AreNodes (IsArc arcs) (node_at node) → AreInto arcs node into → AreOnWayBack arcs node into (node_at node vs) (node_at node ws) ns ⊎ AreOnWayAhead arcs node (node_at node vs) (node_at node ws) ns →
+pub way-start : (arcs : List (Option ℕ)) (node : List ℕ) (into : Lists) (vs ws : ℕ) (ns : List ℕ) → AreNodes (IsArc arcs) (node_at node) → AreInto arcs node into → AreOnWalks arcs node into (node_at node vs) (node_at node ws) ns →
     IsTrue (is_among (node_at node ws) ns)
 way-start arcs node into vs ws ns nodes are on = elim on [
   | inl some ↦ some.3.start
-  | inr some ↦ (along-way arcs node vs ws some.0 ns nodes some.1 some.2 some.3 ws).1 (Here, lift-leads arcs node (node_at node ws) (node_at node vs) ws vs nodes (some.1.sound (node_at node vs) some.2) refl refl)
+  | inr more ↦ elim more [
+    | inl some ↦ (along-way arcs node vs ws some.0 ns nodes some.1 some.2 some.3 ws).1 (Here, lift-leads arcs node (node_at node ws) (node_at node vs) ws vs nodes (some.1.sound (node_at node vs) some.2) refl refl)
+    | inr through ↦ through-start arcs node into vs ws ns nodes are through
+  ]
 ]
 
 -- the nodes after the merge are those with the arc

@@ -136,10 +136,13 @@ spread-start Next w found none taken e is =
       within = omega arith;
     }
 
+-- what was taken stays
+pub kept-among : (k : ℕ) (old new : Members) → AreKept old new → IsTrue (is_among k old.members) → IsTrue (is_among k new.members)
+kept-among k old new is t = subst (λ (xs : List ℕ). IsTrue (is_among k xs)) (sym is.kept.1) (among-left k old.members is.kept.0 t)
+
 pub spread-on : (Next : ℕ → ℕ → Type 0) (w : ℕ) (found : List ℕ) (before : ℕ) (old new : Members) → IsSpreading Next w found before old.members → IsRoundDone Next found old new → IsSpreading Next w found (length old.members) new.members
 spread-on Next w found before old new was is =
-    let grown = is.same.kept.1 in
-    let stays : (k : ℕ) → IsTrue (is_among k old.members) → IsTrue (is_among k new.members) = λ k t. subst (λ (xs : List ℕ). IsTrue (is_among k xs)) (sym grown) (among-left k old.members is.same.kept.0 t) in
+    let stays : (k : ℕ) → IsTrue (is_among k old.members) → IsTrue (is_among k new.members) = λ k t. kept-among k old new is.same t in
     record {
       start = stays w was.start;
       sound = λ n t. elim (is.sound n t) [

@@ -1,5 +1,5 @@
 -- What a search along the arcs has found, and a search in both directions.
-use Rattle.std.specs.Prelude.{◌≡◌, ℕ, ◌/◌, ◌*◌, ◌+◌, ◌<◌, ◌⊎◌, IsTrue, List, length, Option, Some, slice_index}
+use Rattle.std.specs.Prelude.{◌≡◌, ℕ, ◌/◌, ◌*◌, ◌+◌, ◌<◌, ◌≤◌, ◌⊎◌, IsTrue, List, length, Option, Some, slice_index}
 use Rattle.oper_core.specs.State.{is_among}
 use Rattle.sparse_order.specs.Digraph.{Walk}
 use Rattle.number_lists.specs.Lists.{Lists}
@@ -34,6 +34,13 @@ pub record IsReached (arcs : List (Option ℕ)) (node : List ℕ) (w stop : ℕ)
   pub sound : (n : ℕ) → IsTrue (is_among n ahead) → Walk (LeadsTo arcs node) w n
   pub closed : (m n : ℕ) → IsTrue (is_among m ahead) → (m ≡ stop → ⊥) → LeadsTo arcs node m n → IsTrue (is_among n ahead)
 
+-- w is found, and all to which arcs from the first so many found nodes lead, but for the stop
+pub record IsGoingOn (arcs : List (Option ℕ)) (node : List ℕ) (w stop next : ℕ) (ahead : List ℕ) : Type 0 where
+  pub start : IsTrue (is_among w ahead)
+  pub sound : (n : ℕ) → IsTrue (is_among n ahead) → Walk (LeadsTo arcs node) w n
+  pub closed : (k q : ℕ) → k < next → (slice_index ahead k ≡ stop → ⊥) → LeadsTo arcs node (slice_index ahead k) q → IsTrue (is_among q ahead)
+  pub within : next ≤ length ahead
+
 -- there are eight cells for each slot, the nodes are below the end, and the lists have the cells whose arcs lead into their nodes
 pub record IsWalkable (arcs : List (Option ℕ)) (node : List ℕ) (into : Lists) (end : ℕ) : Type 0 where
   pub size : length arcs ≡ 8 * length node
@@ -52,7 +59,7 @@ pub record IsStepAhead (arcs : List (Option ℕ)) (node : List ℕ) (stop old_ne
   pub some : old_next < length old.members
   pub few : old_next < old.end
 
--- one of the two searches, which are from v and from w, has made a step, and the other is where it was
+-- one of two searches, which stop at v along the arcs and at w against them, has made a step, and the other is where it was
 abbrev pub IsTurn : List (Option ℕ) → List ℕ → Lists → ℕ → ℕ → ℕ → ℕ → Members → Members → ℕ → ℕ → Members → Members → Type 0
 IsTurn arcs node into v w old_back new_back old_found new_found old_on new_on old_ahead new_ahead =
     (IsStepBack arcs node into w old_back new_back old_found new_found × (new_on ≡ old_on) × (new_ahead ≡ old_ahead)) ⊎

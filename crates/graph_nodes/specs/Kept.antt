@@ -1,5 +1,5 @@
 -- What a graph of slots keeps.
-use Rattle.std.specs.Prelude.{◌≡◌, ℕ, ◌*◌, ◌^◌, ◌<◌, ◌≤◌, ◌⊎◌, ◌↔◌, Bool, true, IsTrue, ◌+◌, ◌++◌, ◌∷◌, replicate, List, [], length, Option, None, Some}
+use Rattle.std.specs.Prelude.{◌≡◌, ℕ, ◌*◌, ◌^◌, ◌<◌, ◌≤◌, ◌⊎◌, ◌↔◌, Bool, true, IsTrue, IsFalse, ◌+◌, ◌++◌, ◌∷◌, replicate, List, [], length, Option, None, Some}
 use Rattle.oper_core.specs.State.{is_among}
 use Rattle.sparse_order.specs.Digraph.{AreNodes}
 use Rattle.number_lists.specs.Lists.{Lists, list_at}
@@ -9,7 +9,7 @@ use Rattle.graph_nodes.specs.Arcs.{arc_at, node_at, name_at, held_at, IsArc}
 use Rattle.graph_nodes.specs.Into.{AreLed, AreLost}
 use Rattle.graph_nodes.specs.Named.{Graph, Naming, AreNamed, AreNamesMerged}
 use Rattle.graph_nodes.specs.declared.turns.Way.{Way}
-use Rattle.graph_nodes.specs.declared.turns.Way.TheVariants.{Apart, Against, Along}
+use Rattle.graph_nodes.specs.declared.turns.Way.TheVariants.{Apart, Against, Along, Through}
 use Rattle.graph_nodes.specs.Search.{IsBehind, IsSearched, IsApart}
 use Rattle.graph_nodes.specs.Ahead.{IsReached}
 use Rattle.graph_nodes.specs.Spread.{IsSpread, IsLedTo}
@@ -74,20 +74,62 @@ AreOnWayBack arcs node into v w ns = (found : List ℕ) × IsSearched arcs node 
 abbrev pub AreOnWayAhead : List (Option ℕ) → List ℕ → ℕ → ℕ → List ℕ → Type 0
 AreOnWayAhead arcs node v w ns = (ahead : List ℕ) × IsReached arcs node w v ahead × IsTrue (is_among v ahead) × IsSpread (IsLedTo arcs node) v ahead ns
 
+-- all was found that reaches v and all that w reaches, without a look beyond the hub, and the hub is found in both searches
+pub record AreSplit (arcs : List (Option ℕ)) (node : List ℕ) (into : Lists) (v w hub : ℕ) (found ahead : List ℕ) : Type 0 where
+  pub against : IsSearched arcs node into v hub found
+  pub along : IsReached arcs node w hub ahead
+  pub in_found : IsTrue (is_among hub found)
+  pub in_ahead : IsTrue (is_among hub ahead)
+
+-- one list has what is in the two others
+abbrev pub AreTogether : List ℕ → List ℕ → List ℕ → Type 0
+AreTogether left right all = (n : ℕ) → IsTrue (is_among n all) ↔ (IsTrue (is_among n left) ⊎ IsTrue (is_among n right))
+
+-- of what two such searches found, that to which walks from w lead, and of that what walks to v come from
+pub record AreOnWayThrough (arcs : List (Option ℕ)) (node : List ℕ) (into : Lists) (v w : ℕ) (ns : List ℕ) : Type 0 where
+  pub hub : ℕ
+  pub found : List ℕ
+  pub ahead : List ℕ
+  pub all : List ℕ
+  pub some : List ℕ
+  pub split : AreSplit arcs node into v w hub found ahead
+  pub together : AreTogether found ahead all
+  pub from_w : IsSpread (IsBehind arcs node into) w all some
+  pub to_v : IsSpread (IsLedTo arcs node) v some ns
+
 -- what two searches say, of which the one from v has found the one list, and the one from w the other
-abbrev pub IsWay : List (Option ℕ) → List ℕ → Lists → ℕ → ℕ → List ℕ → List ℕ → Way → Type 0
-IsWay arcs node into v w found ahead Apart = IsApart arcs node into v w
-IsWay arcs node into v w found ahead Against = IsSearched arcs node into v w found × IsTrue (is_among w found)
-IsWay arcs node into v w found ahead Along = IsReached arcs node w v ahead × IsTrue (is_among v ahead)
+abbrev pub IsWay : List (Option ℕ) → List ℕ → Lists → ℕ → ℕ → ℕ → List ℕ → List ℕ → Way → Type 0
+IsWay arcs node into v w hub found ahead Apart = IsApart arcs node into v w
+IsWay arcs node into v w hub found ahead Against = IsSearched arcs node into v w found × IsTrue (is_among w found)
+IsWay arcs node into v w hub found ahead Along = IsReached arcs node w v ahead × IsTrue (is_among v ahead)
+IsWay arcs node into v w hub found ahead Through = AreSplit arcs node into v w hub found ahead
+
+-- what a search along the arcs says that is over
+abbrev pub IsAlong : ℕ → List ℕ → Way → Type 0
+IsAlong v ahead Apart = IsFalse (is_among v ahead)
+IsAlong v ahead Against = ⊥
+IsAlong v ahead Along = IsTrue (is_among v ahead)
+IsAlong v ahead Through = ⊥
+
+-- what a search against the arcs says that is over
+abbrev pub IsAgainst : ℕ → List ℕ → Way → Type 0
+IsAgainst w found Apart = IsFalse (is_among w found)
+IsAgainst w found Against = IsTrue (is_among w found)
+IsAgainst w found Along = ⊥
+IsAgainst w found Through = ⊥
 
 -- the taken nodes are one
 abbrev pub AreGathered : List ℕ → List ℕ → List ℕ → Naming → Naming → Lists → Lists → Lists → Lists → Type 0
 AreGathered ns old_node new_node old_names new_names old_members new_members old_into new_into =
     (one : ℕ) × IsTrue (is_among one ns) × AreNamesMerged ns one old_names new_names × AreRenamed (gathered ns one) old_node new_node old_members new_members old_into new_into
 
+-- the nodes that walks from w to v go through, found in one of three ways
+abbrev pub AreOnWalks : List (Option ℕ) → List ℕ → Lists → ℕ → ℕ → List ℕ → Type 0
+AreOnWalks arcs node into v w ns = AreOnWayBack arcs node into v w ns ⊎ (AreOnWayAhead arcs node v w ns ⊎ AreOnWayThrough arcs node into v w ns)
+
 -- the nodes that walks from w to v go through, none where w does not reach v or is v
 abbrev pub AreOnWay : List (Option ℕ) → List ℕ → Lists → ℕ → ℕ → List ℕ → Type 0
-AreOnWay arcs node into v w ns = (IsApart arcs node into v w × (ns ≡ [])) ⊎ (AreOnWayBack arcs node into v w ns ⊎ AreOnWayAhead arcs node v w ns)
+AreOnWay arcs node into v w ns = (IsApart arcs node into v w × (ns ≡ [])) ⊎ AreOnWalks arcs node into v w ns
 
 -- the nodes on the way from w to v are one
 abbrev pub AreJoined : List (Option ℕ) → ℕ → ℕ → List ℕ → List ℕ → Naming → Naming → Lists → Lists → Lists → Lists → Type 0

@@ -1,5 +1,5 @@
 -- What a search against the arcs has found.
-use Rattle.std.specs.Prelude.{◌≡◌, ℕ, ◌/◌, ◌*◌, ◌+◌, ◌<◌, ◌≤◌, ◌++◌, ◌⊎◌, ◌↔◌, IsTrue, List, length, Option, None}
+use Rattle.std.specs.Prelude.{◌≡◌, ℕ, ◌/◌, ◌*◌, ◌+◌, ◌<◌, ◌≤◌, ◌++◌, ◌⊎◌, ◌↔◌, IsTrue, List, length, Option, None, slice_index}
 use Rattle.oper_core.specs.State.{is_among}
 use Rattle.sparse_order.specs.Digraph.{Walk}
 use Rattle.number_lists.specs.Lists.{Lists, list_at}
@@ -26,17 +26,24 @@ pub record AreLookedBack (arcs : List (Option ℕ)) (node cells : List ℕ) (old
 abbrev pub IsBehind : List (Option ℕ) → List ℕ → Lists → ℕ → ℕ → Type 0
 IsBehind arcs node into m n = IsStartAmong arcs node (list_at into.lists n) m
 
--- what is behind n is found too, if n is not where the search stops
+-- what is past n is found too, if n is not where the search stops
 pub record IsExpanded (arcs : List (Option ℕ)) (node : List ℕ) (into : Lists) (n stop : ℕ) (old new : Members) : Type 0 where
   pub sound : (m : ℕ) → IsTrue (is_among m new.members) → IsTrue (is_among m old.members) ⊎ IsBehind arcs node into m n
   pub closed : (n ≡ stop → ⊥) → (m : ℕ) → IsBehind arcs node into m n → IsTrue (is_among m new.members)
   pub same : AreKept old new
 
--- v and all that reaches it is found, without a look behind the stop
+-- v and all that reaches it is found, without a look past the stop
 pub record IsSearched (arcs : List (Option ℕ)) (node : List ℕ) (into : Lists) (v stop : ℕ) (found : List ℕ) : Type 0 where
   pub start : IsTrue (is_among v found)
   pub sound : (m : ℕ) → IsTrue (is_among m found) → Walk (IsBehind arcs node into) m v
   pub closed : (n m : ℕ) → IsTrue (is_among n found) → (n ≡ stop → ⊥) → IsBehind arcs node into m n → IsTrue (is_among m found)
+
+-- the search once the first so many of the found nodes were expanded
+pub record IsSearching (arcs : List (Option ℕ)) (node : List ℕ) (into : Lists) (v stop next : ℕ) (found : List ℕ) : Type 0 where
+  pub start : IsTrue (is_among v found)
+  pub sound : (m : ℕ) → IsTrue (is_among m found) → Walk (IsBehind arcs node into) m v
+  pub closed : (k m : ℕ) → k < next → (slice_index found k ≡ stop → ⊥) → IsBehind arcs node into m (slice_index found k) → IsTrue (is_among m found)
+  pub within : next ≤ length found
 
 -- the slot m stands for its node, and its cells are there
 pub record IsOwn (arcs : List (Option ℕ)) (node : List ℕ) (m : ℕ) : Type 0 where

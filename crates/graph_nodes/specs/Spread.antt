@@ -27,10 +27,14 @@ pub record IsRoundDone (Next : ℕ → ℕ → Type 0) (found : List ℕ) (old n
   pub closed : length new.members ≡ length old.members → (m n : ℕ) → IsTrue (is_among m old.members) → IsTrue (is_among n found) → Next m n → IsTrue (is_among n old.members)
   pub same : AreKept old new
 
+-- n is w, or it was found and a walk from w leads to it
+abbrev pub IsSpreadTo : (ℕ → ℕ → Type 0) → ℕ → List ℕ → ℕ → Type 0
+IsSpreadTo Next w found n = (n ≡ w) ⊎ (IsTrue (is_among n found) × Walk Next w n)
+
 -- w is taken, and of what was found all that walks from w lead to
 pub record IsSpread (Next : ℕ → ℕ → Type 0) (w : ℕ) (found taken : List ℕ) : Type 0 where
   pub start : IsTrue (is_among w taken)
-  pub sound : (n : ℕ) → IsTrue (is_among n taken) → (n ≡ w) ⊎ (IsTrue (is_among n found) × Walk Next w n)
+  pub sound : (n : ℕ) → IsTrue (is_among n taken) → IsSpreadTo Next w found n
   pub closed : (m n : ℕ) → IsTrue (is_among m taken) → IsTrue (is_among n found) → Next m n → IsTrue (is_among n taken)
 
 -- an arc of one of these cells leads to a taken node

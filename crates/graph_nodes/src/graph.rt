@@ -21,7 +21,8 @@ use crate::names::Names;
 use crate::pruning::tidy;
 use crate::removing::{release, scatter};
 use crate::spreading::spread;
-use crate::turns::{Way, search};
+use crate::turns::{Way, next_hub, search};
+use crate::uniting::unite;
 use number_lists::{Chains, NumberSet, push_in_room};
 use oper_core::Memory;
 use std::alloc::Global;
@@ -43,6 +44,8 @@ pub struct SlotGraph {
     found: NumberSet,
     taken: NumberSet,
     scratch: Vec<u32>,
+    /// A slot of the large node into which an arc led last: a search does not look beyond that node.
+    hub: u32,
     /// How many looks at cells are saved up.
     saved: u64,
     /// For how many more slots all tables have memory.
@@ -80,6 +83,7 @@ impl SlotGraph {
             found: NumberSet::new(alloc),
             taken: NumberSet::new(alloc),
             scratch: Vec::new(alloc),
+            hub: 0,
             saved: 0,
             room: 0,
         }
@@ -176,9 +180,11 @@ impl SlotGraph {
         ensures nodes { AreNodes (IsArc self.new.arcs) (node_at self.new.node) }
         ensures room { self.new.room ≡ self.old.room }
     {
+        let hub = self.hub_node();
         join(
             self.node[cell as usize / 8],
             self.node[to as usize],
+            hub,
             self.arcs.as_slice(),
             self.node.as_mut_slice(),
             &mut self.names,
@@ -200,6 +206,18 @@ impl SlotGraph {
             &mut self.saved,
         );
         self.names.tell(n, self.into.count(n) == 0);
+        self.hub = next_hub(hub, n, &self.members);
+    }
+
+    /// The node of the hub, or of the first slot where the hub is none.
+    fn hub_node(&self) -> u32
+        requires { 0 < length self.now.node }
+        ensures { result < length self.now.node }
+    {
+        if self.hub as usize >= self.node.len() {
+            return self.node[0];
+        }
+        self.node[self.hub as usize]
     }
 
     /// Takes out the slots of a minimal node: they are held no more, have no arcs, and are nodes by themselves.
@@ -267,6 +285,7 @@ impl SlotGraph {
 fn join(
     v: u32,
     w: u32,
+    hub: u32,
     arcs: &[Option<u32>],
     node: &mut [u32],
     names: &mut Names,
@@ -278,6 +297,7 @@ fn join(
 )
     requires v { v < found.old.end }
     requires w { w < found.old.end }
+    requires hub { hub < found.old.end }
     requires ends { found.old.end ≡ taken.old.end }
     requires names { length names.old.name ≡ taken.old.end }
     requires members { taken.old.end ≡ length members.old.lists }
@@ -297,14 +317,18 @@ fn join(
     if joins_nothing(v, w, arcs, members) {
         return;
     }
-    match search(v, w, arcs, node, members, into, cells, found, taken) {
+    match search(v, w, hub, arcs, node, members, into, cells, found, taken) {
         Way::Apart => {}
         Way::Against => {
-            spread(w, arcs, node, into, cells, found, taken);
+            spread(w, w, arcs, node, into, cells, found, taken);
             gather(taken, node, names, members, into, cells);
         }
         Way::Along => {
-            spread_back(v, arcs, node, members, cells, taken, found);
+            spread_back(v, v, arcs, node, members, cells, taken, found);
+            gather(found, node, names, members, into, cells);
+        }
+        Way::Through => {
+            unite(v, w, hub, arcs, node, members, into, cells, found, taken);
             gather(found, node, names, members, into, cells);
         }
     }

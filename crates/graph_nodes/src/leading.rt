@@ -3,13 +3,15 @@ ghost use Rattle.std.specs.Vec.{vec_capacity};
 ghost use Rattle.oper_core.specs.State.{is_among};
 ghost use Rattle.graph_nodes.specs.Arcs.{AreEnds};
 ghost use Rattle.graph_nodes.specs.Merge.{IsFiled};
-ghost use Rattle.graph_nodes.specs.Spread.{LeadsIn, IsLedTo, IsTakenUp, IsRoundDone, IsSpread};
+ghost use Rattle.graph_nodes.specs.Spread.{LeadsIn, IsLedTo, IsTakenUp, IsRoundDone, IsSpread, IsSpreadTo};
 
 use number_lists::{Chains, NumberSet};
 
-/// Takes the node v and, of the nodes that were found along the arcs, all from which walks lead to it.
+/// Takes the node v and, of the nodes that were found along the arcs, all from which walks lead to it. That one of these
+/// is such a node, or v, is known before.
 pub(crate) fn spread_back(
     v: u32,
+    known: u32,
     arcs: &[Option<u32>],
     node: &[u32],
     members: &Chains,
@@ -18,6 +20,8 @@ pub(crate) fn spread_back(
     taken: &mut NumberSet,
 )
     requires start { v < taken.old.end }
+    requires below_end { known < taken.old.end }
+    requires known { IsSpreadTo (IsLedTo arcs.now node.now) v ahead.now.members known }
     requires same { ahead.now.end ≡ taken.old.end }
     requires lists { taken.old.end ≤ length members.now.lists }
     requires filed { IsFiled node.now members.now }
@@ -31,6 +35,7 @@ pub(crate) fn spread_back(
 {
     taken.clear();
     taken.add(v);
+    taken.add(known);
     let mut before = 0;
     while before < taken.len() {
         before = taken.len();

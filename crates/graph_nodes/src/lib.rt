@@ -17,8 +17,7 @@ mod removing;
 mod search;
 mod settling;
 mod spreading;
-#[cfg(test)]
-mod tests;
 mod turns;
+mod uniting;
 
 pub use graph::SlotGraph;

@@ -10,7 +10,7 @@ use crate::settling::{is_from_outside, settle};
 use number_lists::Chains;
 
 /// How many cells may be looked at for each arc that is inserted.
-const SAVED: u64 = 8;
+const SAVED: u64 = 2;
 
 /// Drops the cells without an arc from another node: all in the node's list, where so many looks were saved up, else those
 /// in front. So the lists stay short, at a cost of a few looks for each call.

@@ -4,13 +4,15 @@ ghost use Rattle.oper_core.specs.State.{is_among};
 ghost use Rattle.number_lists.specs.Lists.{list_at};
 ghost use Rattle.graph_nodes.specs.Arcs.{AreCells, AreBelow};
 ghost use Rattle.graph_nodes.specs.Search.{IsBehind};
-ghost use Rattle.graph_nodes.specs.Spread.{StartsIn, StartAmongIn, IsTakenUp, IsRoundDone, IsSpread};
+ghost use Rattle.graph_nodes.specs.Spread.{StartsIn, StartAmongIn, IsTakenUp, IsRoundDone, IsSpread, IsSpreadTo};
 
 use number_lists::{Chains, NumberSet};
 
-/// Takes the node w and all that walks from it lead to among the nodes that were found.
+/// Takes the node w and all that walks from it lead to among the nodes that were found. That one of these is such a node,
+/// or w, is known before.
 pub(crate) fn spread(
     w: u32,
+    known: u32,
     arcs: &[Option<u32>],
     node: &[u32],
     into: &Chains,
@@ -19,18 +21,22 @@ pub(crate) fn spread(
     taken: &mut NumberSet,
 )
     requires start { w < taken.old.end }
+    requires below_end { known < taken.old.end }
+    requires known { IsSpreadTo (IsBehind arcs.now node.now into.now) w found.now.members known }
     requires ends { found.now.end ≡ taken.old.end }
     requires lists { taken.old.end ≤ length into.now.lists }
     requires cells { (n : ℕ) → AreCells arcs.now node.now (list_at into.now.lists n) }
     requires below { AreBelow node.now taken.old.end }
     requires room { into.now.items ≤ vec_capacity cells.old }
     ensures taken { IsSpread (IsBehind arcs.now node.now into.now) w found.now.members taken.new.members }
+    ensures known { IsTrue (is_among known taken.new.members) }
     ensures end { taken.new.end ≡ taken.old.end }
     ensures room { taken.old.room ≤ taken.new.room }
     ensures capacity { vec_capacity cells.old ≤ vec_capacity cells.new }
 {
     taken.clear();
     taken.add(w);
+    taken.add(known);
     let mut before = 0;
     while before < taken.len() {
         before = taken.len();

@@ -1,6 +1,6 @@
 use Rattle.std.proofs.Common.{◌∙◌, sym, subst, ℕ, arith}
 use Rattle.graph_nodes.specs.Search.{IsBehind}
-use Rattle.graph_nodes.proofs.Taken.{IsSpreading, spread-on}
+use Rattle.graph_nodes.proofs.Taken.{IsSpreading, spread-on, kept-among}
 use Rattle.graph_nodes.proofs.spreading.spread.Goals as goal
 
 pub loop-before-preserved : goal.loop-before-preserved
@@ -12,4 +12,5 @@ loop-before-preserved c =
       is.same.end ∙ was.1,
       omega (arith, is.same.room, was.2),
       omega (arith, c.take_round.ensures.capacity, was.3),
+      kept-among c.args.known c.loop-before.taken c.take_round.new.taken is.same was.4,
     )

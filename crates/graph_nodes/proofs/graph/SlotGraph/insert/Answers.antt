@@ -272,3 +272,28 @@ tell-requires c =
     let low : c.args.to < length new = omega (arith, to, join.2.3.size) in
     let at = value-at new c.args.to c.index-n.result.now low (subst (λ (xs : List ℕ). c.index-n.result.now ≡ slice_index_or xs c.args.to c.index-n.result.now) back c.index-n.ensures) in
     omega (arith, at, joined-below arcs old new held name names c.self.inside.members c.join.new.members c.self.inside.into c.join.new.into (node_at old (c.args.cell / 8)) c.args.to kept to join, join.2.3.into.same.lists, kept.range.into_lists, kept.range.names, join.2.2.size)
+
+pub next_hub-self-inside-requires : goal.next_hub-self-inside-requires
+next_hub-self-inside-requires c =
+    let arcs = c.self.inside.arcs.items in
+    let old = c.self.inside.node.items in
+    let held = c.self.inside.held.items in
+    let kept = c.self.invariant.0 in
+    let cell : c.args.cell < length arcs = subst (λ (g : Graph). c.args.cell < length g.arcs) (sym c.self.view_is) c.requires.cell in
+    let to_held : IsTrue (held_at held c.args.to) = subst (λ (g : Graph). IsTrue (held_at g.held c.args.to)) (sym c.self.view_is) c.requires.to_held in
+    let to : c.args.to < length old = omega (arith, mark-below held c.args.to to_held, kept.range.holds) in
+    let slot : c.args.cell / 8 < length old = slot-in c.args.cell (length old) (length arcs) kept.range.cells cell in
+    let v = value-at old (c.args.cell / 8) c.index.result.now slot c.index.ensures in
+    let w = value-at old c.args.to c.index-2.result.now to c.index-2.ensures in
+    let new = c.join.new.node in
+    let name = c.self.inside.names in
+    let names = c.join.new.names in
+    let join = joined-at arcs c.as_slice.result.now old c.as_mut_slice.result.now c.index.result.now (node_at old (c.args.cell / 8)) c.index-2.result.now (node_at old c.args.to) new name names c.self.inside.members c.join.new.members c.self.inside.into c.join.new.into
+    c.as_slice.ensures.value c.as_mut_slice.ensures.value v w c.join.ensures.joined in
+    let back = back-is old new c.self.inside.node.len join.2.3.size c.self.inside.node.ok.0 in
+    let low : c.args.to < length new = omega (arith, to, join.2.3.size) in
+    let at = value-at new c.args.to c.index-n.result.now low (subst (λ (xs : List ℕ). c.index-n.result.now ≡ slice_index_or xs c.args.to c.index-n.result.now) back c.index-n.ensures) in
+    omega (arith, at, joined-below arcs old new held name names c.self.inside.members c.join.new.members c.self.inside.into c.join.new.into (node_at old (c.args.cell / 8)) c.args.to kept to join, join.2.3.into.same.lists, join.2.3.members.lists, kept.range.into_lists, kept.range.member_lists)
+
+pub returns-clause-arcs : goal.returns-clause-arcs
+returns-clause-arcs c = ap (λ (g : Graph). slice_set g.arcs c.args.cell (Some c.args.to)) c.self.view_is
