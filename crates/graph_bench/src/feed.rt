@@ -41,11 +41,6 @@ impl Feed {
         self.calls
     }
 
-    /// How many nodes there are.
-    pub fn nodes(&self) -> u64 {
-        self.graph.node_count()
-    }
-
     /// Adds the operations, takes nodes out where there are more entries than are to be held, and at the end all of them.
     pub fn run(&mut self, work: Work, plan: Plan) -> Result<(), Memory> {
         let mut dice = Dice::new();
@@ -59,7 +54,7 @@ impl Feed {
     }
 
     /// Adds an operation, numbered with the next number; the first is 0.
-    pub fn add(&mut self, reads: Objs, writes: Objs) -> Result<(), Memory> {
+    fn add(&mut self, reads: Objs, writes: Objs) -> Result<(), Memory> {
         let number = self.next;
         let Some(next) = number.checked_add(1) else {
             return Err(Memory);
@@ -87,13 +82,13 @@ impl Feed {
     /// Takes the least minimal node out, if there are more entries than so many.
     fn take_one(&mut self, held: u64) {
         if self.graph.len() > held {
-            self.take_from(0);
+            self.take_least();
         }
     }
 
-    /// Takes the minimal node with the least name at or above the number out, if there is one.
-    pub fn take_from(&mut self, n: u64) {
-        let Some(name) = self.graph.minimal_from(n) else {
+    /// Takes the least minimal node out, if there is one.
+    fn take_least(&mut self) {
+        let Some(name) = self.graph.minimal() else {
             return;
         };
         self.graph.remove_minimal(name);

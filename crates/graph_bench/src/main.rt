@@ -7,8 +7,6 @@
 
 mod dice;
 mod feed;
-#[cfg(test)]
-mod tests;
 mod works;
 
 use feed::Feed;

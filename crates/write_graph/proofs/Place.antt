@@ -74,7 +74,7 @@ place-left x (y ∷ xs) ys lt = elim (cases_eq x y) [
   | inr ne ↦ place-next x y (xs ++ ys) ne ∙ ap suc (place-left x xs ys (omega (arith, place-next x y xs ne, lt))) ∙ sym (place-next x y xs ne)
 ]
 
--- behind the list
+-- after the list
 pub place-right : (x : ℕ) (xs ys : List ℕ) → length xs ≤ place_in x xs → place_in x (xs ++ ys) ≡ length xs + place_in x ys
 place-right x [] ys le = omega arith
 place-right x (y ∷ xs) ys le = elim (cases_eq x y) [
@@ -92,7 +92,7 @@ read-past [] i d le = refl
 read-past (x ∷ xs) zero d le = absurd (omega (arith, le))
 read-past (x ∷ xs) (suc i) d le = read-past xs i d (omega (arith, le))
 
--- a table that is longer by what stands behind it reads the same
+-- a table that is longer by what follows it reads the same
 pub read-more : {X : Type 0} (xs : List X) (i : ℕ) (d : X) → slice_index_or (xs ++ d ∷ []) i d ≡ slice_index_or xs i d
 read-more [] zero d = refl
 read-more [] (suc i) d = refl

@@ -17,7 +17,5 @@ mod lowering;
 mod places;
 mod renewing;
 mod rows;
-#[cfg(test)]
-mod tests;
 
 pub use graph::{NodeNo, WriteGraph};

@@ -3,7 +3,7 @@ use Rattle.std.specs.List.{filter}
 use Rattle.std.proofs.lemmas.List.Elements.{All-nil, All-cons, All-head, All-tail, All-map, All-filter}
 use Rattle.install_order.specs.declared.entry.Entry.{Entry}
 use Rattle.write_graph.specs.Graph.{numbers, NamesMinimal, IsNodeNamed}
-use Rattle.graph_bench.proofs.feed.Feed.take_from.Goals as goal
+use Rattle.graph_bench.proofs.feed.Feed.take_least.Goals as goal
 
 -- each entry has such a number
 each : (P : ℕ → Type 0) (es : List Entry) → All P (numbers es) → All (λ e. P e.number) es
@@ -16,4 +16,4 @@ still_below old new n m minimal entries below = subst (λ (es : List Entry). All
     (All-map (λ k. k < m) (λ (e : Entry). e.number) _ (All-filter (λ (e : Entry). not (minimal.0 e.number)) (λ (e : Entry). e.number < m) old (each (λ k. k < m) old below)))
 
 pub invariant_of-self : goal.invariant_of-self
-invariant_of-self c = still_below c.self.inside.graph.entries _ c.in-Some.name c.self.inside.next c.in-Some.ensures.some.0.1 c.remove_minimal.ensures.entries c.self.invariant
+invariant_of-self c = still_below c.self.inside.graph.entries _ c.in-Some.name c.self.inside.next c.in-Some.ensures.some.0 c.remove_minimal.ensures.entries c.self.invariant

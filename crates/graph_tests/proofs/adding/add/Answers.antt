@@ -3,7 +3,7 @@ use Rattle.std.proofs.lemmas.List.{map-append}
 use Rattle.std.proofs.lemmas.List.Elements.{All-push}
 use Rattle.install_order.specs.declared.entry.Entry.{Entry}
 use Rattle.write_graph.specs.Graph.{numbers}
-use Rattle.write_graph.proofs.tests.add_all.Goals as goal
+use Rattle.graph_tests.proofs.adding.add.Goals as goal
 
 -- one entry more, numbered with the next number
 above-push : (entries : List Entry) (e : Entry) (m : ℕ) → All (λ n. n < m) (numbers entries) → e.number ≡ m → All (λ n. n < m + 1) (numbers (entries ++ e ∷ []))
@@ -12,10 +12,7 @@ above-push entries e m above is =
     (All-push (λ (n : ℕ). n < m + 1) (numbers entries) e.number (λ k d lt. let a = above k d lt in omega (arith, a)) (omega (arith, is)))
 
 pub add-requires-clause-above : goal.add-requires-clause-above
-add-requires-clause-above c = subst (λ (es : List Entry). All (λ n. n < c.loop-reads.number) (numbers es)) (sym c.make_room.ensures.same) c.loop-reads.invariant.0
+add-requires-clause-above c = subst (λ (es : List Entry). All (λ n. n < c.args.number) (numbers es)) (sym c.make_room.ensures.same) c.requires
 
-pub loop-reads-preserved : goal.loop-reads-preserved
-loop-reads-preserved c = (
-  rw (c.add.ensures, c.make_room.ensures.same) (above-push c.loop-reads.graph.entries _ c.loop-reads.number c.loop-reads.invariant.0 refl),
-  omega (arith, c.loop-reads.invariant.1),
-)
+pub returns : goal.returns
+returns c = rw (c.add.ensures, c.make_room.ensures.same) (above-push c.args.graph.now.entries _ c.args.number c.requires refl)

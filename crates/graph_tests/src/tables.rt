@@ -1,13 +1,10 @@
 ghost use Rattle.std.specs.Prelude.{◌≡◌, []};
 
-use crate::{NodeNo, WriteGraph};
-use install_order::Entry;
-use oper_core::{Memory, Objs};
+use crate::adding::{Accesses, add};
+use oper_core::Memory;
 use std::alloc::Global;
 use std::test::Fail;
-
-/// What an operation reads, and what it writes.
-type Accesses<'a> = (&'a [u32], &'a [u32]);
+use write_graph::{NodeNo, WriteGraph};
 
 /// The numbers of a node, and the objects that it flushes.
 type Node<'a> = (&'a [u64], &'a [u32]);
@@ -158,29 +155,9 @@ fn add_all(graph: &mut WriteGraph, first: u32, operations: &[Accesses]) -> Resul
     requires { graph.old.entries ≡ [] }
 {
     let mut number = first as u64;
-    for (reads, writes) in operations {
-        let entry = Entry {
-            number,
-            reads: objs(reads),
-            writes: objs(writes),
-            identity: false,
-        };
-        graph.make_room(&entry)?;
-        graph.add(entry);
+    for operation in operations {
+        add(graph, number, *operation)?;
         number += 1;
     }
     Ok(())
-}
-
-/// One or two objects, or none.
-fn objs(objects: &[u32]) -> Objs {
-    match objects {
-        [] => Objs::new(),
-        [x] => Objs::one(*x),
-        [x, y, ..] => {
-            let mut both = Objs::one(*x);
-            both.push(*y);
-            both
-        }
-    }
 }
