@@ -216,7 +216,7 @@ module _ (p : Params) (commands : List Command) (line : List ℕ) where
         → ((refusal_after p commands op ≡ None) × (reply ≡ ok)) ⊎ ((why : Refusal) × (refusal_after p commands op ≡ Some why) × (reply ≡ refused why))
     answer_of op reply added asks a = by_refusal op (refusal_after p commands op) (made_is op asks a)
 
-    -- one that comes behind others, or is the first, is refused by nothing
+    -- one that comes after others, or is the first, is refused by nothing
     nothing_refuses : (op first : Command) (front : List Command) → AsksCommand line op → AsksBehind p commands line front first → refusal_after p commands op ≡ None
     nothing_refuses op first front asks b = some_left (refusal_after p commands op) refl
       where

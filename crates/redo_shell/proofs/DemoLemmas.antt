@@ -27,7 +27,7 @@ split_one (byte ∷ text) rest plain =
 split_more : (reply : Reply) (bytes : List ℕ) → slice_split is_newline ((text_of reply ++ 10 ∷ []) ++ bytes) ≡ text_of reply ∷ slice_split is_newline bytes
 split_more reply bytes = ap (λ (l : List ℕ). slice_split is_newline l) (append_assoc (text_of reply) (10 ∷ []) bytes) ∙ split_one (text_of reply) bytes (plain_text reply)
 
--- What was said is split into the texts of the answers; nothing is behind the last newline.
+-- What was said is split into the texts of the answers; nothing is after the last newline.
 pub split_said : (replies : List Reply) → slice_split is_newline (flat_map said_line replies) ≡ texts_of replies ++ [] ∷ []
 split_said [] = refl
 split_said (silence ∷ replies) = split_said replies
@@ -63,7 +63,7 @@ no_refusal text a b c d = λ i. ((a i || b i) || c i) || d i
 low_glyph : (n : ℕ) → hex_glyph (n % 16) ≤ 102
 low_glyph n = let small : n % 16 < 16 = omega arith in grind (arith, nat_tests, small)
 
--- no digits are, however they go on behind the first four
+-- no digits are, however they go on after the first four
 digits_kind : (a b : ℕ) (rest : List ℕ) → is_refusal (flat_map hex_pair (a ∷ b ∷ []) ++ rest) ≡ false
 digits_kind a b rest =
     let text = flat_map hex_pair (a ∷ b ∷ []) ++ rest in

@@ -138,7 +138,7 @@ pub record IsExec (p : Params) (old now : Disk) (before after : EngineView) (w :
   pub rising : IsErrOf result DiskFault ⊎ (forced_in before ≤ forced_in after)
 
 module _ (m : Meaning Command) (op : Command) (w : World Command) where
-  -- the command is behind all others
+  -- the command is after all others
   appended : commands_of (run m w (Append (Logged_command op) ∷ [])).history ≡ commands_of w.history ++ op ∷ []
   unfolding step run
   appended = commands_of-append w.history (Logged_command op ∷ [])
@@ -205,7 +205,7 @@ module _ (p : Params) (old now : Disk) (before after : EngineView) (commands : L
   ends_so stop none is there same =
       (its, inl (made (op ∷ []) ok, asks_in holds (one none), sym (one_course m p.limit op w (used_in before))), is, stage_on p now before after w its there (none_logged same))
 
-  -- nothing is behind it
+  -- nothing is after it
   last_one : refusal_after p commands op ≡ None → AsksBehind p commands line [] op
   last_one none = record { it = made (op ∷ []) ok; asks = one none; rest = []; next = refl }
 

@@ -128,7 +128,7 @@ dump_stands p mid new engine commands h all keeps settled =
     let here : Stands p mid.reads commands = subst (λ (l : List Command). Stands p mid.reads l) (take_all (forced_in engine) commands (omega (arith, all))) h.says.images.0 in
     settled_each new (λ files. Stands p files commands) settled (subst (λ (f : Files). Stands p f commands) (sym (keeps.reads (told_by h))) here)
 
--- What is done at each moment: the restart's course, and nothing behind it.
+-- What is done at each moment: the restart's course, and nothing after it.
 module _ (p : Params) (old mid new : Disk) (commands : List Command) (engine : EngineView) (opened : IsOpen p commands old mid engine) (files : OpensFiles p commands old mid) (keeps : KeepsFiles mid new) (first : Stage) (is : IsFirst p commands old first) where
   opened_shows : FilesShow (meaning_in p) p mid.reads first.world
   opened_shows =

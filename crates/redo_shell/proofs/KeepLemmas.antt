@@ -18,7 +18,7 @@ keeps_once old new run = record {
 pub keeps_none : (d : Disk) → IsDisk d → KeepsFiles d d
 keeps_none d lawful = keeps_once d d (stays_here d lawful)
 
--- calls behind one that changes nothing
+-- calls after one that changes nothing
 pub keeps_behind : (old mid new : Disk) → Stays old mid → KeepsFiles mid new → KeepsFiles old new
 keeps_behind old mid new first second =
     let image : old.tells_moments → (files : Files) → mid.left_since mid.clock files mid.said → old.left_since old.clock files old.said

@@ -11,6 +11,7 @@ pub mod ExactLemmas
 pub mod DumpLemmas
 pub mod KeepLemmas
 pub mod CauseLemmas
+pub mod SayLemmas
 pub mod SessionLemmas
 pub mod PrintedLemmas
 pub mod FuseLemmas

@@ -39,7 +39,7 @@ pub made_ends : (p : Params) (commands : List Command) (it : Made) (engine : Eng
 made_ends p commands it engine number trim makes stops = cc
 made_ends p commands it engine number request makes stops = stops
 
--- and so does what may be stopped for want of one
+-- and so does what may be stopped for lack of one
 pub number_ends : (engine : EngineView) (number : ℕ) (request : Request) → MayStop request (At_end number) → IsStopped engine (At_end number) → EndsAtLast engine request number
 number_ends engine number trim may stops = absurd may
 number_ends engine number request may stops = stops

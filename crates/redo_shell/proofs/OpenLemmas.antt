@@ -120,7 +120,7 @@ pub run_completes : {p : Params} {first : Stage} (start new : Disk) {commands : 
 run_completes {p} {first} start new {commands} {script} (Ok refusing) status is all done = subst (λ (s : Status). IsComplete p first start new commands script s) (sym is) all
 run_completes start new (Err stop) status is all done = absurd (not_early stop (subst (λ (s : Status). (s ≡ Done) ⊎ (s ≡ DoneWithRefusals)) is done))
 
--- each image at its end is one at a moment behind the opening
+-- each image at its end is one at a moment after the opening
 ends_behind : {p : Params} {first : Stage} (old mid new : Disk) {commands : List Command} (script : List (List ℕ)) → IsDisk new → Passes old mid → Passes mid new → mid.said ≡ old.said → IsRun p first mid new commands script
     → old.tells_moments → InEachImage new (λ files. Moment p commands script old.said files new.said)
 ends_behind {p} {first} old mid new {commands} script lawful before time quiet run told =
@@ -132,7 +132,7 @@ ends_behind {p} {first} old mid new {commands} script lawful before time quiet r
     subst (λ (l : List ℕ). Moment p commands script l files new.said) quiet (subst (λ (l : List ℕ). Moment p commands script mid.said files l) same here) in
     (image new.reads new.said (lawful.as_read (time.moments_told.0 told_mid)), λ told_new. image)
 
--- what is done at each moment, behind the opening by the courses of the lines
+-- what is done at each moment, after the opening by the courses of the lines
 run_courses : {p : Params} {first : Stage} {old mid new : Disk} {commands : List Command} (script : List (List ℕ)) → OpensFiles p commands old mid → Passes old mid → IsRun p first mid new commands script
     → old.tells_moments → (is : IsFirst p commands old first) → LeavesOnly old new (OrAtStart old (RunMoment p commands old first is script))
 run_courses {p} {first} {old} {mid} {new} {commands} script files before run told is =

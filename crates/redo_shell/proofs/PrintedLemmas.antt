@@ -99,7 +99,7 @@ plain_others : (others : List Pair) → IsPlain (flat_map spaced_pair others)
 plain_others [] = tt
 plain_others (pair ∷ others) = plain_on (spaced_pair pair) (flat_map spaced_pair others) (space_on (pair_text pair) (plain_pair pair)) (plain_others others)
 
--- a number behind a word
+-- a number after a word
 plain_count : (name : List ℕ) (n : ℕ) → IsPlain name → IsPlain (name ++ decimal n)
 plain_count name n plain = plain_on name (decimal n) plain (plain_decimal n)
 
@@ -247,7 +247,7 @@ first_forces reply replies n is = let f = forced_text reply n is in record { cou
 later_forces : (reply : Reply) (replies : List Reply) (n : ℕ) → OneForces replies n → OneForces (reply ∷ replies) n
 later_forces reply replies n one = let (k, small, is) = one.has in record { count = one.count; has = (suc k, omega (arith, small), is); same = one.same }
 
--- a list of texts that has this one, in front or behind
+-- a list of texts that has this one, in front or after
 texts_cases : (first text : List ℕ) (texts : List (List ℕ)) → Contains (first ∷ texts) text → (first ≡ text) ⊎ Contains texts text
 texts_cases first text texts (zero, small, is) = inl is
 texts_cases first text texts (suc k, small, is) = inr (k, omega (arith, small), is)

@@ -147,7 +147,7 @@ courses_more {p} {first} {start} {now} {new} {engine} {after} {commands} {script
 told_so_far : {p : Params} {first : Stage} {start now : Disk} {script : List (List ℕ)} → LeavesOnly start now (StageSoFar p first script start.said) → LeavesOnly start now (StageMoment p first script start.said)
 told_so_far {p} {first} {start} {now} {script} leaves = weaker start now (StageSoFar p first script start.said) (StageMoment p first script start.said) leaves (λ f s m. m.is)
 
--- the force behind the last line
+-- the force after the last line
 stage_force : {p : Params} {first : Stage} {start now : Disk} {engine : EngineView} {commands : List Command} {script todo : List (List ℕ)} {refusing : Bool} (g : Going p first start now engine commands script todo refusing) → todo ≡ []
     → (f : Files) (s : List ℕ) → IsQuiet (ShowsSome (meaning_in p) p g.holds.world (force_steps (meaning_in p) g.holds.world)) now.said f s → StageMoment p first script start.said f s
 stage_force {p} {first} {start} {now} {engine} {commands} {script} {todo} g over f s b = record {

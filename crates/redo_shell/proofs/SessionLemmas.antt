@@ -87,7 +87,7 @@ survives_silent p files (ran ∷ runs) (first, rest) stands =
 
 module _ {T : Type 0} (disk : T → Disk) (lawful : (m : T) → IsDisk (disk m)) (p : Params) (commands : List Command) (first : T) (told : (disk first).tells_moments)
     (here : (files : Files) (said : List ℕ) → (disk first).left_since (disk first).clock files said → Stands p files commands) where
-  -- whatever a crash leaves behind the last of the calls
+  -- whatever a crash leaves after the last of the calls
   pub survive : {inits : List Params} {runs : List Ran} {last : T} → Sessions disk first inits runs last
       → (disk last).tells_moments × ((files : Files) (said : List ℕ) → (disk last).left_since (disk last).clock files said → Survives p commands runs files)
   survive start = (
@@ -215,7 +215,7 @@ follows_kill old mid new lawful first second = record {
       second.keeps told old.clock files mid.said first.later ((follows_nothing old mid lawful first).within told files s left);
 }
 
--- a crash behind it
+-- a crash after it
 pub follows_crash : (old new next : Disk) → IsDisk new → Passes old new → (new.tells_moments ↔ next.tells_moments) → IsSettled next → new.left_since new.clock next.reads new.said → Follows old new next new.said
 follows_crash old new next lawful time told settled image = record {
   told = λ tells. told.0 (time.moments_told.0 tells);

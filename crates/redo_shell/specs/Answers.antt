@@ -68,14 +68,14 @@ pub record SaysAnswers (p : Params) (commands : List Command) (script : List (Li
   pub since : after ≡ before ++ bytes
   pub story : Said p (λ line reply. ⊤) commands script bytes
 
--- the bytes said end inside an answer that stands behind these bytes: they have its first byte, and not its newline
+-- the bytes said end inside an answer that stands after these bytes: they have its first byte, and not its newline
 pub record EndsInside (before : List ℕ) (reply : Reply) (said : List ℕ) : Type 0 where
   pub count : ℕ
   pub some : 0 < count
   pub within : count ≤ length (text_of reply)
   pub said_is : said ≡ before ++ take count (text_of reply)
 
--- each of these answers, one to each line, said behind these bytes, is true of the files if the bytes said end inside it
+-- each of these answers, one to each line, said after these bytes, is true of the files if the bytes said end inside it
 abbrev pub TrueWithin : Params → List ℕ → List (List ℕ) → List Reply → Files → List ℕ → Type 0
 TrueWithin p before [] [] files said = ⊤
 TrueWithin p before [] (reply ∷ replies) files said = ⊥

@@ -15,7 +15,7 @@ use Rattle.redo_shell.specs.Store.{Command, meaning_in}
 use Rattle.redo_shell.specs.Stages.{Stage, HasCourse, Leads, AllGoBy, IsFirst, redo_dirty}
 
 -- What may be done for the next of these lines before anything is said of it: the course that the line has the engine take,
--- a force for `force` and behind the last line; nothing may be done for any line.
+-- a force for `force` and after the last line; nothing may be done for any line.
 abbrev pub IsDue : Params → Stage → List (List ℕ) → Course Command → Type 0
 IsDue p s [] c = c ≡ force_course (meaning_in p) s.world s.used
 IsDue p s (line ∷ lines) c = HasCourse p s line c ⊎ ((AsksFor line force × (c ≡ force_course (meaning_in p) s.world s.used)) ⊎ (c ≡ course [] s.used Through))
@@ -39,7 +39,7 @@ pub record IsBeingSaid (p : Params) (s : Stage) (line part : List ℕ) (files : 
 abbrev pub IsAtWork : Params → Stage → List (List ℕ) → List ℕ → Files → Type 0
 IsAtWork p s todo part files = ((part ≡ []) × IsWorkedOn p s todo files) ⊎ ((line : List ℕ) × (rest : List (List ℕ)) × (todo ≡ line ∷ rest) × IsBeingSaid p s line part files)
 
--- The bytes said behind `before` are whole answers to the first lines of the script, by which the stages go from the first
+-- The bytes said after `before` are whole answers to the first lines of the script, by which the stages go from the first
 -- on, and perhaps a part of the next answer. Before its first byte the image shows the world after some first steps of what
 -- is due for the next line, from then on the world that the answer leads to.
 pub record StageMoment (p : Params) (first : Stage) (script : List (List ℕ)) (before : List ℕ) (files : Files) (said : List ℕ) : Type 0 where
@@ -62,6 +62,6 @@ module _ (p : Params) (commands : List Command) (old : Disk) (first : Stage) (is
   abbrev pub RunMoment : List (List ℕ) → Files → List ℕ → Type 0
   RunMoment script files said = OpeningMoment files said ⊎ StageMoment p first script old.said files said
 
-  -- a moment of a dump: behind the opening the image shows the world that the restart has made, whatever is said
+  -- a moment of a dump: after the opening the image shows the world that the restart has made, whatever is said
   abbrev pub TableMoment : Files → List ℕ → Type 0
   TableMoment files said = OpeningMoment files said ⊎ FilesShow (meaning_in p) p files first.world

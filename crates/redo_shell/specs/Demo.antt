@@ -72,7 +72,7 @@ IsOfDemo Memory = ⊤
 IsOfDemo status = ⊥
 
 -- A demo leaves the files alone. It says the totals of its script, or a beginning of them where the output fails, or
--- nothing, for want of memory.
+-- nothing, where memory runs out.
 pub record IsDemo (seed steps : ℕ) (old new : Disk) (status : Status) : Type 0 where
   pub ends : IsOfDemo status
   pub keeps : KeepsFiles old new

@@ -25,7 +25,7 @@ table_of s objects commands = flat_map said_line (rows_below s objects ++ comman
 abbrev pub dump_of : Params → List Command → List ℕ
 dump_of p commands = table_of (state_of p commands) p.objects (length commands)
 
--- a moment of a dump: the files stand for the commands, and a beginning of the dump was said behind these bytes
+-- a moment of a dump: the files stand for the commands, and a beginning of the dump was said after these bytes
 pub record DumpMoment (p : Params) (commands : List Command) (before : List ℕ) (files : Files) (said : List ℕ) : Type 0 where
   pub stands : Stands p files commands
   pub count : ℕ

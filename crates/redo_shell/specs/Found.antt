@@ -39,7 +39,7 @@ use Rattle.redo_shell.specs.declared.stop.Stop.TheVariants.{DiskFault, Damaged, 
 abbrev pub IsStopped : EngineView → CourseStop → Type 0
 IsStopped engine stop = (most : ℕ) × StopsAt most engine.parts.log stop
 
--- why no number is left: behind a trim no epoch is, else no number for a record
+-- why no number is left: after a trim no epoch is, else no number for a record
 abbrev pub EndsAtLast : EngineView → Request → ℕ → Type 0
 EndsAtLast engine trim number = IsStopped engine (Worn number)
 EndsAtLast engine request number = IsStopped engine (At_end number)
@@ -84,7 +84,7 @@ IsAnswerOf (Stopped (Worn number)) result = result ≡ Ok (answers.End number)
 IsAnswerOf Short result = (stop : Stop) × IsShort stop × (result ≡ Err stop)
 IsAnswerOf Failed result = result ≡ Err DiskFault
 
--- only some calls may be stopped for want of a number, and by their own bounds
+-- only some calls may be stopped for lack of a number, and by their own bounds
 abbrev pub MayStop : Request → CourseStop → Type 0
 MayStop request Through = ⊤
 MayStop request (Full used need limit) = (limit ≡ 2 ^ 48) × (limit < used + need → IsOver request used need limit)
@@ -126,7 +126,7 @@ answer_of_tree_error tree_errors.NoKey = Ok (answers.Refused refusals.NoKey)
 answer_of_tree_error (tree_errors.Exec error) = answer_of_error error
 answer_of_tree_error tree_errors.Memory = Err Memory
 
--- how a call ends that answers this error, or none: a fault, a damaged slot or want of memory ends it early
+-- how a call ends that answers this error, or none: a fault, a damaged slot or running out of memory ends it early
 abbrev pub IsEndedBy : {T : Type 0} → Option ExecErr → Result T Stop → Type 0
 IsEndedBy (Some exec_errors.DiskFault) result = result ≡ Err DiskFault
 IsEndedBy (Some (exec_errors.Damaged file place)) result = result ≡ Err (Damaged file place)

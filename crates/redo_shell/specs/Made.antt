@@ -33,7 +33,7 @@ one_unless op (Some why) = made [] (refused why)
 abbrev pub one_made : Params → List Command → Command → Made
 one_made p commands op = one_unless op (refusal_after p commands op)
 
--- so many of at most n steps were done, where the first is not refused, or only for want of input
+-- so many of at most n steps were done, where the first is not refused, or only for lack of input
 abbrev pub run_reply : ℕ → ℕ → Option Refusal → Reply
 run_reply zero k refusal = ran k
 run_reply (suc n) k None = ran k
@@ -93,7 +93,7 @@ pub record IsFront (p : Params) (commands : List Command) (line : List ℕ) (fro
   pub count : ℕ
   pub first : front ≡ take count it.ops
 
--- behind these commands the line asks for one more
+-- after these commands the line asks for one more
 pub record AsksBehind (p : Params) (commands : List Command) (line : List ℕ) (front : List Command) (op : Command) : Type 0 where
   pub it : Made
   pub asks : AsksMade p commands line it

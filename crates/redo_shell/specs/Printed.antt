@@ -7,7 +7,7 @@ abbrev pub before_line : ℕ → List (List ℕ) → List (List ℕ)
 before_line byte [] = []
 before_line byte (line ∷ lines) = (byte ∷ line) ∷ lines
 
--- The lines that end by a newline. Bytes behind the last newline are no line yet.
+-- The lines that end by a newline. Bytes after the last newline are no line yet.
 abbrev pub whole_lines : List ℕ → List (List ℕ)
 whole_lines [] = []
 whole_lines (byte ∷ rest) = if byte == 10 then [] ∷ whole_lines rest else before_line byte (whole_lines rest)

@@ -40,7 +40,7 @@ IsNumbered trim = ⊤
 IsNumbered request = ⊥
 
 -- the log has no room for a command, or for what a request adds that adds no command: a log that is rewritten is longer than
--- it may be, any other record does not fit behind those that are there
+-- it may be, any other record does not fit after those that are there
 abbrev pub IsOver : Request → ℕ → ℕ → ℕ → Type 0
 IsOver trim used need limit = limit < need
 IsOver request used need limit = limit < used + need
@@ -75,7 +75,7 @@ Replies p commands line (object_value object bytes) added = ⊥
 Replies p commands line (command_count n) added = ⊥
 Replies p commands line (summary totals) added = ⊥
 
--- what the number of an `end` is: behind a trim the epoch of the log in force, else the number that comes next
+-- what the number of an `end` is: after a trim the epoch of the log in force, else the number that comes next
 abbrev pub IsLast : Params → Files → Request → ℕ → Type 0
 IsLast p files trim number = EpochIs files number
 IsLast p files request number = NextIs (meaning_in p) files number

@@ -21,13 +21,13 @@ use Rattle.redo_shell.specs.declared.status.Status.TheVariants.{DoneWithRefusals
 use Rattle.redo_shell.specs.declared.stop.Stop.{Stop}
 use Rattle.redo_shell.specs.declared.stop.Stop.TheVariants.{DiskFault, Damaged, ReadFault, SayFault, Memory, TooLong}
 
--- a moment while this answer to a line is found and said behind these bytes: it is true where the bytes said end inside it
+-- a moment while this answer to a line is found and said after these bytes: it is true where the bytes said end inside it
 pub record IsTrueSaying (p : Params) (before line : List ℕ) (reply : Reply) (files : Files) (said : List ℕ) : Type 0 where
   pub true_in : EndsInside before reply said → IsTrueIn p files line reply
   pub no_shorter : length before ≤ length said
   pub no_longer : length said ≤ length (before ++ said_line reply)
 
--- a moment of a run that has said these answers to these lines behind these bytes, and no more than these
+-- a moment of a run that has said these answers to these lines after these bytes, and no more than these
 pub record IsTrueSoFar (p : Params) (before : List ℕ) (lines : List (List ℕ)) (replies : List Reply) (now : List ℕ) (files : Files) (said : List ℕ) : Type 0 where
   pub true_within : TrueWithin p before lines replies files said
   pub no_longer : length said ≤ length now
@@ -80,12 +80,12 @@ abbrev pub LineMoment : Params → Disk → ℕ → List Command → List ℕ �
 LineMoment p old least commands line files said =
     Working p old least commands line files said ⊎ During p old least commands line files said
 
--- a moment while a line is answered in this stage: nothing is said behind these bytes, or a part of its answer
+-- a moment while a line is answered in this stage: nothing is said after these bytes, or a part of its answer
 abbrev pub LineStage : Params → Stage → List ℕ → List ℕ → Files → List ℕ → Type 0
 LineStage p s before line files said =
     IsSilent (IsWorkedOn p s (line ∷ [])) before files said ⊎ ((part : List ℕ) × (said ≡ before ++ part) × IsBeingSaid p s line part files)
 
--- a moment of a run so far: behind the lines that it was given nothing is done
+-- a moment of a run so far: after the lines that it was given nothing is done
 pub record StageSoFar (p : Params) (first : Stage) (script : List (List ℕ)) (before : List ℕ) (files : Files) (said : List ℕ) : Type 0 where
   pub is : StageMoment p first script before files said
   pub waiting : is.todo ≡ [] → (is.part ≡ []) × FilesShow (meaning_in p) p files is.stage.world
@@ -108,7 +108,7 @@ pub record Going (p : Params) (first : Stage) (start now : Disk) (engine : Engin
   pub courses : start.tells_moments → LeavesOnly start now (StageSoFar p first script start.said)
 
 -- A whole run: each line is answered, the files stand for all that was added, and the status reports refusals. The
--- stages go from the first on, with each answer; the files show the world of the last behind a force, and the log in them
+-- stages go from the first on, with each answer; the files show the world of the last after a force, and the log in them
 -- ends where the last has its length.
 pub record IsComplete (p : Params) (first : Stage) (start now : Disk) (commands : List Command) (script : List (List ℕ)) (status : Status) : Type 0 where
   pub replies : List Reply

@@ -16,7 +16,7 @@ pub record Ran : Type 0 where
   pub script : List (List ℕ)
   pub bytes : List ℕ
 
--- What a run makes of a store with these commands: what it said is answers to its script, and behind the commands stands
+-- What a run makes of a store with these commands: what it said is answers to its script, and after the commands stands
 -- a beginning of those that it adds, no shorter than any number that its bytes say to be forced.
 pub record Adds (p : Params) (commands : List Command) (ran : Ran) (now : List Command) : Type 0 where
   pub story : Said p (λ line reply. ⊤) commands ran.script ran.bytes
@@ -36,7 +36,7 @@ abbrev pub SaidForced : List Ran → ℕ → Type 0
 SaidForced [] n = ⊥
 SaidForced (ran ∷ runs) n = SaidForced runs n ⊎ SaysForced ran.bytes n
 
--- The files stand for the commands of the start, and behind them the commands that the runs have added, no fewer than any
+-- The files stand for the commands of the start, and after them the commands that the runs have added, no fewer than any
 -- of them has printed to be forced.
 pub record Survives (p : Params) (commands : List Command) (runs : List Ran) (files : Files) : Type 0 where
   pub now : List Command
@@ -46,7 +46,7 @@ pub record Survives (p : Params) (commands : List Command) (runs : List Ran) (fi
   pub stands : Stands p files now
   pub acked : (n : ℕ) → SaidForced runs n → n ≤ length now
 
--- What is behind a call, with these bytes said: each of its images was one at a moment of the call. With no call between
+-- What is after a call, with these bytes said: each of its images was one at a moment of the call. With no call between
 -- it is what the call left, after a kill what there was at that moment, after a crash a machine that is settled on one of
 -- the images.
 pub record Follows (old new next : Disk) (said : List ℕ) : Type 0 where

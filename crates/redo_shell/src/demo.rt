@@ -28,7 +28,7 @@ const PARAMS: Params = Params {
     limit: 536_870_912,
 };
 
-/// A machine with a new store. It fails for want of memory alone, as each call of it does.
+/// A machine with a new store. It fails only where memory runs out, as each call of it does.
 fn new_store(alloc: Global) -> Result<GrowMem, Memory>
     ensures { IfOk result (λ machine. IsNewStore demo_params (disk_of machine).reads × ((disk_of machine).said ≡ [])) }
 {

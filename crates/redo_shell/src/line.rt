@@ -159,7 +159,7 @@ fn say_value<M: Machine>(
     say_answer(alloc, machine, &Answer::Refused(Refusal::NoObject))
 }
 
-/// Answers a line. It reports whether the answer is a refusal. Fails where the disk or the output does, and by want of
+/// Answers a line. It reports whether the answer is a refusal. Fails where the disk or the output does, and by lack of
 /// memory.
 fn answer_line<M: Machine>(
     alloc: Global,

@@ -26,7 +26,7 @@ fn refuses(answer: &Answer<'_>) -> bool
     )
 }
 
-/// Says an answer as a line. It reports whether the answer is a refusal. Fails where the output does, and by want of
+/// Says an answer as a line. It reports whether the answer is a refusal. Fails where the output does, and by lack of
 /// memory.
 pub fn say_answer<M: Machine>(
     alloc: Global,
@@ -39,9 +39,24 @@ pub fn say_answer<M: Machine>(
     ensures cause { IfErr result (λ stop. IsCaused stop (M.disk machine.old) (M.disk machine.new)) }
     ensures undamaged { IfErr result IsUndamaged }
 {
+    if let Answer::Done = answer {
+        say_line(machine, b"ok\n")?;
+        return Ok(false);
+    }
     let line = answer_line(alloc, answer)?;
-    match machine.say(line.as_slice()) {
-        Ok(()) => Ok(refuses(answer)),
+    say_line(machine, line.as_slice())?;
+    Ok(refuses(answer))
+}
+
+/// Says a line. Fails where the output does.
+fn say_line<M: Machine>(machine: &mut M, line: &[u8]) -> Result<(), Stop>
+    ensures runs { Runs Same (SaysFront line.now) (M.disk machine.old) (M.disk machine.new) }
+    ensures all { (M.disk machine.old).tells_files → OnOk result ((M.disk machine.new).said ≡ (M.disk machine.old).said ++ line.now) }
+    ensures cause { IfErr result (λ stop. IsCaused stop (M.disk machine.old) (M.disk machine.new)) }
+    ensures undamaged { IfErr result IsUndamaged }
+{
+    match machine.say(line) {
+        Ok(()) => Ok(()),
         Err(_) => Err(Stop::SayFault),
     }
 }

@@ -86,7 +86,7 @@ pub enum Work {
 }
 
 impl Work {
-    /// What a line asks for, a put with its bytes. Fails by want of memory for these.
+    /// What a line asks for, a put with its bytes. Fails where memory for these runs out.
     pub fn of_line(alloc: Global, line: &[u8]) -> Result<Self, Memory>
         ensures { IfOk result (AsksWork line.now) }
     {
