@@ -20,12 +20,12 @@ pub fn advice(status: Status) -> Option<&'static str> {
              all that was answered `forced` is there. If the disk itself fails, copy the files and restart the machine first.",
         ),
         Status::ReadFault => Some(
-            "the input could not be read to its end. Of the commands after the last `forced` some may be kept: `redo dump` \
-             says how many there are in all. Run again with those behind them.",
+            "the input could not be read to its end. Some of the commands after the last `forced` may be kept: `redo dump` \
+             says how many there are in all. Run again with the rest.",
         ),
         Status::SayFault => Some(
-            "an answer could not be written. Of the commands after the last `forced` some may be kept: `redo dump` says how \
-             many there are in all. Run again with those behind them.",
+            "an answer could not be written. In a run, some of the commands after the last `forced` may be kept: `redo dump` \
+             says how many there are in all. Run again with the rest.",
         ),
         Status::Memory => Some(
             "out of memory. A restart takes about 500 bytes for each record that it does again, beside the values: run \
