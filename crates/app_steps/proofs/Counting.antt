@@ -24,7 +24,7 @@ use Rattle.command_lists.specs.ListLaws.{all_hold, refused_calls}
 use Rattle.command_lists.specs.Steps.{HasRun}
 use Rattle.app_steps.specs.Steps.{EndsSo, HasAnswer, IsRefusedAtOnce, step_of, steps, steps_accepted}
 
--- one step behind others
+-- one step after others
 pub one_behind : (k app : ℕ) → replicate k (step_of app) ++ step_of app ∷ [] ≡ replicate (k + 1) (step_of app)
 one_behind k app = replicate-append-replicate k 1 (step_of app)
 
@@ -32,18 +32,18 @@ module _ (p : Params) (commands : List AllOps) (app : ℕ) where
   abbrev op : AllOps
   op = step_of app
 
-  -- a step that nothing refuses is one more, and then come those behind it
+  -- a step that nothing refuses is one more, and then come those after it
   pub step_counts : (n : ℕ) → refusal_after all_meaning p commands op ≡ None → steps_accepted p commands app (suc n) ≡ suc (steps_accepted p (commands ++ op ∷ []) app n)
   step_counts n none =
       cond-false (is_some (refusal_after all_meaning p commands op)) 0 (suc (steps_accepted p (commands ++ op ∷ []) app n)) (ap (λ (o : Option Refusal). is_some o) none)
 
-  -- behind one that is refused there are none
+  -- after one that is refused there are none
   pub none_count : (refusal : Refusal) → refusal_after all_meaning p commands op ≡ Some refusal → (n : ℕ) → steps_accepted p commands app n ≡ 0
   none_count refusal is zero = refl
   none_count refusal is (suc n) =
       cond-true (is_some (refusal_after all_meaning p commands op)) 0 (suc (steps_accepted p (commands ++ op ∷ []) app n)) (ap (λ (o : Option Refusal). is_some o) is)
 
--- so many steps of a run are done, and so many are accepted as there are behind these
+-- so many steps of a run are done, and so many are accepted as there are after these
 pub record IsUnderWay (p : Params) (commands : List AllOps) (app n done : ℕ) : Type 0 where
   pub left : steps_accepted p commands app n ≡ done + steps_accepted p (commands ++ replicate done (step_of app)) app (n - done)
 

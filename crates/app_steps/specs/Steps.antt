@@ -22,7 +22,7 @@ abbrev pub drain_of : ℕ → ℕ → AllOps
 drain_of app to = AppWrite (record { app = app; to = to })
 
 -- A run has done some steps and its next is refused, or fails: it answers how many were done, but where the first is refused
--- for another reason than want of input, and where it fails, it answers why.
+-- for another reason than lack of input, and where it fails, it answers why.
 abbrev pub EndsSo : ℕ → ExecErr → Result ℕ ExecErr → Type 0
 EndsSo done e (Ok n) = (n ≡ done) × ((refusal : Refusal) × (e ≡ Refused refusal) × (done ≡ 0 → refusal ≡ NoInput))
 EndsSo done e (Err f) = (f ≡ e) × ((refusal : Refusal) → e ≡ Refused refusal → (done ≡ 0) × (refusal ≢ NoInput))
@@ -37,7 +37,7 @@ module _ (p : Params) where
   abbrev pub steps : List AllOps → ℕ → ℕ → List AllOps
   steps commands app n = replicate (steps_accepted commands app n) (step_of app)
 
-  -- a step is asked for, and the first one is refused so, and not for want of input
+  -- a step is asked for, and the first one is refused so, and not for lack of input
   pub record IsRefusedAtOnce (commands : List AllOps) (app n : ℕ) (refusal : Refusal) : Type 0 where
     pub some : n ≢ 0
     pub first : refusal_after all_meaning p commands (step_of app) ≡ Some refusal

@@ -37,7 +37,7 @@ use Rattle.checkpointing.specs.Left.{check_ending}
 use Rattle.checkpointing.proofs.Checked.{forced_same, roomed_shows, with_room}
 use Rattle.checkpointing.proofs.Then.{takes_first, takes_then}
 
--- a check that is right in its place is so behind the same log
+-- a check that is right in its place is so after the same log
 pub here_same : {O : Type 0} (m : Meaning O) (before after : RecordLogView) (table : Table) → IsSameLog before after → IsCheckHere m before table → IsCheckHere m after table
 here_same m before after table same here = record {
   placed = record {

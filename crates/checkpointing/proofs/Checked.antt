@@ -74,7 +74,7 @@ module _ {O : Type 0} (m : Meaning O) (log : RecordLogView) (table : Logged_tabl
       ap (λ (r : RecordLogView). used_of r.log) forced ∙ end_more log.log.end log.log.pending (record_code m (Logged_check table)) (omega (arith, bytes))
       ∙ ap (λ (n : ℕ). used_of log.log + growth_of log.log.pending n) bytes
 
-  -- a log that keeps some records keeps the check behind them
+  -- a log that keeps some records keeps the check after them
   pub checked_log : (d : Disk) → IsCheckHere m log table → HasLog m d log → HasLog m d after
   checked_log d here has =
       let new : Record O = Logged_check table in

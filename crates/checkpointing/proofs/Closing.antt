@@ -148,7 +148,7 @@ ends_as {T} r e is = let q = err_from_is_err_and r is in both e ∙ ap (λ (k : 
     both DiskFault = refl
     both Memory = refl
 
--- a check fails by want of memory, or by a fault
+-- a check fails by lack of memory, or by a fault
 module _ {O : Type 0} (meaning : Bounds → Meaning O) (old new : Disk) (before after : Parts) (e : InstallErr) (only : (e ≡ Memory) ⊎ (e ≡ DiskFault))
     (takes : Takes meaning old new before after (λ m w used. check_course m w used) (ended {T = Unit {0}} (Err e))) where
   pub checkpoint_fails : Takes meaning old new before after (λ m w used. checkpoint_course m w used) (ended {T = Unit {0}} (Err e))

@@ -94,7 +94,7 @@ pub on_done : {T P : Type 0} {x : T} → IsErrOf {T = T} {E = InstallErr} (Ok x)
 on_done {T} (inl fault) = let h : ◌≡◌ {A = Result T InstallErr} (Ok _) (Err DiskFault) = fault in cc
 on_done (inr holds) = holds
 
--- a call that ends by a fault, or for want of memory, has not run out of numbers
+-- a call that ends by a fault, or for lack of memory, has not run out of numbers
 pub numbers_left : {T : Type 0} (r : Result T InstallErr) (e : InstallErr) (number : ℕ) → IsErrAnd r (λ k. k ≡ e) → (e ≡ Memory) ⊎ (e ≡ DiskFault) → IsErrOf r (LsnEnd number) → ⊥
 numbers_left {T} r e number is only end =
     let q = err_from_is_err_and r is in

@@ -1,4 +1,4 @@
--- A call that takes a course by two calls, one behind the other.
+-- A call that takes a course by two calls, one after the other.
 use Rattle.std.proofs.Common.{sym, subst, ap, ℕ}
 use Rattle.disk_model.specs.Disk.{Disk, Runs, Same, Files}
 use Rattle.oper_core.specs.Meaning.{Meaning}

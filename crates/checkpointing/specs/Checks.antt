@@ -17,7 +17,7 @@ use Rattle.standing.specs.Members.{table_of}
 abbrev pub is_in_log : ℕ → ℕ → ℕ × ℕ → Bool
 is_in_log objects base s = nat_lt s.0 objects && nat_le base s.1
 
--- The check is right in its place behind the log, and in the grammar. There are no more than 4,096 objects.
+-- The check is right in its place after the log, and in the grammar. There are no more than 4,096 objects.
 pub record IsCheckHere {O : Type 0} (m : Meaning O) (log : RecordLogView) (table : Table) : Type 0 where
   pub placed : IsCheckAt m log.log.header.base log.next table
   pub grammar : IsTable table

@@ -55,7 +55,7 @@ module _ {O : Type 0} (m : Meaning O) where
   abbrev pub trimmed : World O → ℕ
   trimmed w = 33 + (5 + blocks_length 0 (lengths_left w))
 
-  -- the length of its file, in which a closed gate stands behind the last block
+  -- the length of its file, in which a closed gate follows the last block
   abbrev pub trimmed_file : World O → ℕ
   trimmed_file w = trimmed w + 1
 

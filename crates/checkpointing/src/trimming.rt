@@ -22,7 +22,7 @@ use oper_core::Oper;
 use write_graph::WriteGraph;
 
 /// Forces the log and puts another in its place: the commands and identity writes from the least number in the graph on, or
-/// none where the graph is empty, and behind them a check taken now. A log of the last epoch is not trimmed: `Exhausted`
+/// none where the graph is empty, and after them a check taken now. A log of the last epoch is not trimmed: `Exhausted`
 /// comes before all else. The other refusals come after the force. `LogFull` says how long the log is, and how long the file
 /// of the new one would be. `Damaged` names the place of a record that breaks its format, and never comes where the log is
 /// that of the files.

@@ -104,7 +104,7 @@ module _ {O : Type 0} (m : Meaning O) (limit : ℕ) (op : O) (w : World O) (used
   pub course_of_one : one.stop ≡ Through → commands_course m limit (op ∷ []) w used ≡ course (one.steps ++ []) one.used Through
   course_of_one through = behind_through one (course [] one.used Through) one.stop (ap is_through through)
 
-  -- stopped, it is all, whatever would have come behind it
+  -- stopped, it is all, whatever would have come after it
   pub course_stopped : (rest : List O) → IsFalse (is_through one.stop) → commands_course m limit (op ∷ rest) w used ≡ one
   course_stopped rest stopped = behind_stopped one (commands_course m limit rest (run m w one.steps) one.used) one.stop stopped
 
@@ -117,7 +117,7 @@ module _ {O : Type 0} (m : Meaning O) (limit : ℕ) where
   abbrev whole : List O → World O → ℕ → Course O
   whole ops w used = commands_course m limit ops w used
 
-  -- the course of two lists is that of the one and, behind it, that of the other, where nothing stops the first
+  -- the course of two lists is that of the one and, after it, that of the other, where nothing stops the first
   pub course_joined : (xs ys : List O) (w : World O) (used : ℕ) → (whole xs w used).stop ≡ Through
       → whole (xs ++ ys) w used ≡ joined (whole xs w used) (whole ys (run m w (whole xs w used).steps) (whole xs w used).used)
   unfolding run
@@ -159,7 +159,7 @@ module _ {O : Type 0} (m : Meaning O) (limit : ℕ) where
   course_behind xs ys w mid used mid_used first =
       course_joined xs ys w used first.0 ∙ (λ i. joined (whole xs w used) (whole ys (sym first.1.world_is i) (sym first.1.used_is i)))
 
-  -- memory runs out behind the first list, whatever was to come
+  -- memory runs out after the first list, whatever was to come
   pub ends_short : (xs ys : List O) (w mid : World O) (used mid_used : ℕ) → EndsBy m w (whole xs w used) mid mid_used Done → EndsBy m w (whole (xs ++ ys) w used) mid mid_used Short
   ends_short xs ys w mid used mid_used first =
       let one = whole xs w used in
@@ -167,7 +167,7 @@ module _ {O : Type 0} (m : Meaning O) (limit : ℕ) where
       subst (λ (c : Course O). IsAfterSome m (λ (v : World O). mid ≡ v) w c.steps) (sym (course_behind xs ys w mid used mid_used first))
       (after_longer m (λ (v : World O). mid ≡ v) w one.steps two.steps (after_all m (λ (v : World O). mid ≡ v) w one.steps first.1.world_is))
 
-  -- where the first list ends by its course, and the second, behind it, by its own, both end by theirs
+  -- where the first list ends by its course, and the second, after it, by its own, both end by theirs
   pub ends_joined : (xs ys : List O) (w mid now : World O) (used mid_used now_used : ℕ) (ending : Ending) → EndsBy m w (whole xs w used) mid mid_used Done
       → EndsBy m mid (whole ys mid mid_used) now now_used ending → EndsBy m w (whole (xs ++ ys) w used) now now_used ending
   ends_joined xs ys w mid now used mid_used now_used ending first = by_ending ending

@@ -1,4 +1,4 @@
--- What calls add that are made behind others.
+-- What calls add that are made after others.
 use Rattle.std.proofs.Common.{◌≡◌, ◌∙◌, sym, subst, ap, ℕ, ◌+◌, ◌≤◌, List, [], ◌++◌, length, take, refl, inl, inr, ⊎_elim, arith, length-append, append_assoc}
 use Rattle.std.proofs.Math.Seq.{drop-append-add, take-append-add, take-length}
 use Rattle.std.proofs.lemmas.List.{append-nil, take-append-le}
@@ -69,7 +69,7 @@ module _ {O : Type 0} (meaning : Bounds → Meaning O) (p : Params) where
     abbrev reached_are : commands_of reached.world.history ≡ commands ++ front
     reached_are = reached.commands_are ∙ ap (λ (l : List O). commands ++ l) taken
 
-    -- its course, and what stands behind it
+    -- its course, and what follows it
     abbrev one : Course O
     one = commands_course m p.limit front w (used_in before)
 

@@ -154,7 +154,7 @@ module _ {O : Type 0} (meaning : Bounds → Meaning O) (old new : Disk) (before 
           cause = same_cause r cause;
         }
 
--- ---- calls behind calls
+-- ---- calls after calls
 
 module _ {O : Type 0} (meaning : Bounds → Meaning O) (old mid new : Disk) (before between after : EngineView) (error : Option ExecErr) (lawful : IsDisk new)
     (first : AreCalls meaning old mid before between None) (second : AreCalls meaning mid new between after error) where

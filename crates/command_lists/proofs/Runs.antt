@@ -173,7 +173,7 @@ module _ {O : Type 0} (meaning : Bounds → Meaning O) (p : Params) (old new : D
         ends = subst (λ (c : Course O). EndsBy m w c (run m w one.steps) (used_in after) (Stopped stop)) (sym (course_stopped m p.limit op w used rest no)) here;
       }
 
-  -- whatever would have come behind it
+  -- whatever would have come after it
   stopped_course : (rest : List O) (stop : Stop) → is_through stop ≡ false → refusal_in m w op ≡ None → Follows m p new after.parts w (exec_course m (params_of before).limit op w used) (Stopped stop)
       → exec_course m (params_of before).limit op w used ≡ commands_course m p.limit (op ∷ rest) w used
   stopped_course rest stop ended none f =

@@ -17,7 +17,7 @@ use Rattle.command_lists.specs.Lists.{AddsFront, AreCalls, ComesNext, IsCutOff, 
 use Rattle.command_lists.specs.Steps.{HasRun, HasFetched}
 
 module _ {O T : Type 0} (meaning : Bounds → Meaning O) (disk : T → Disk) where
-  -- what holds on every machine holds of calls behind calls of which none failed
+  -- what holds on every machine holds of calls after calls of which none failed
   abbrev pub CallsBehind : Type 0
   CallsBehind = (old mid new : T) (before between after : EngineView) (error : Option ExecErr)
       → AreCalls meaning (disk old) (disk mid) before between None → AreCalls meaning (disk mid) (disk new) between after error → AreCalls meaning (disk old) (disk new) before after error
@@ -34,7 +34,7 @@ module _ {O T : Type 0} (meaning : Bounds → Meaning O) (disk : T → Disk) whe
       → AddsFront meaning p (disk old) (disk mid) before between w commands front Done → HasRun meaning (disk mid) (disk new) between after op (Err (Refused refusal))
       → AddsFront meaning p (disk old) (disk new) before after w commands front Done
 
-  -- the log stops a command, whatever would have come behind it
+  -- the log stops a command, whatever would have come after it
   abbrev pub ExecStopped : Type 0
   ExecStopped = (old mid new : T) (before between after : EngineView) (p : Params) (w : World O) (commands front : List O) (op : O) (rest : List O) (e : ExecErr) (stop : Stop)
       → AddsFront meaning p (disk old) (disk mid) before between w commands front Done → HasRun meaning (disk mid) (disk new) between after op (Err e)
@@ -59,12 +59,12 @@ module _ {O T : Type 0} (meaning : Bounds → Meaning O) (disk : T → Disk) whe
       → AddsFront meaning p (disk old) (disk mid) before between w commands front Done → HasFetched meaning (disk mid) (disk new) between after object error
       → IsCutOff (ending_of error) → AddsFront meaning p (disk old) (disk new) before after w commands (front ++ rest) (ending_of error)
 
-  -- memory runs out behind what was added, whatever was to come
+  -- memory runs out after what was added, whatever was to come
   abbrev pub RunsShort : Type 0
   RunsShort = (old now : T) (before after : EngineView) (p : Params) (w : World O) (commands front rest : List O)
       → AddsFront meaning p (disk old) (disk now) before after w commands front Done → AddsFront meaning p (disk old) (disk now) before after w commands (front ++ rest) Short
 
-  -- calls behind calls: what the second adds, in each world that engine and files then show, is behind what the first added
+  -- calls after calls: what the second adds, in each world that engine and files then show, is after what the first added
   abbrev pub AddsBehind : Type 0
   AddsBehind = (old mid new : T) (before between after : EngineView) (p : Params) (w : World O) (commands front ops : List O) (ending : Ending)
       → AddsFront meaning p (disk old) (disk mid) before between w commands front Done

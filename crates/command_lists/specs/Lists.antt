@@ -88,7 +88,7 @@ module _ {O : Type 0} (meaning : Bounds → Meaning O) (p : Params) where
   IsNeed op (At_end number) = ⊤
   IsNeed op (Worn epoch) = ⊥
 
-  -- of these commands the one behind the first `done` was stopped so
+  -- of these commands the one after the first `done` was stopped so
   pub record IsStoppedAt (ops : List O) (done : ℕ) (stop : Stop) : Type 0 where
     pub op : O
     pub rest : List O

@@ -22,8 +22,8 @@ pub fn nothing_is_made<O: Oper, M: Machine>(machine: &M, engine: &Engine<O>)
     engine_stands(machine, engine);
 }
 
-/// A command behind others: one more is done, or it is refused and nothing is added, or the log stops it, whatever would have
-/// come behind it, or memory or the disk ends it there, where it comes next or is refused.
+/// A command after others: one more is done, or it is refused and nothing is added, or the log stops it, whatever would have
+/// come after it, or memory or the disk ends it there, where it comes next or is refused.
 pub fn exec_goes_on<O: Oper, M: Machine>()
     ensures done { ExecDone O.meaning M.disk }
     ensures refused { ExecRefused O.meaning M.disk }
@@ -33,7 +33,7 @@ pub fn exec_goes_on<O: Oper, M: Machine>()
     explain_core::live_cache_is_the_map::<O>();
 }
 
-/// An object is fetched behind commands, or there is none, and nothing is added; or the fetch fails, or memory runs out in
+/// An object is fetched after commands, or there is none, and nothing is added; or the fetch fails, or memory runs out in
 /// between, whatever was to come.
 pub fn fetch_goes_on<O: Oper, M: Machine>()
     ensures done { FetchDone O.meaning M.disk }
@@ -41,12 +41,12 @@ pub fn fetch_goes_on<O: Oper, M: Machine>()
     ensures memory { RunsShort O.meaning M.disk }
 {}
 
-/// Calls that add commands, behind others.
+/// Calls that add commands, after others.
 pub fn fronts_are_joined<O: Oper, M: Machine>()
     ensures { AddsBehind O.meaning M.disk }
 {}
 
-/// What holds of calls on every machine holds of calls behind others.
+/// What holds of calls on every machine holds of calls after others.
 pub fn calls_go_on<O: Oper, M: Machine>()
     ensures { CallsBehind O.meaning M.disk }
 {}

@@ -19,11 +19,11 @@ abbrev pub hex_text : List ℕ → List ℕ
 hex_text [] = codes "-"
 hex_text (byte ∷ bytes) = flat_map hex_pair (byte ∷ bytes)
 
--- a number in digits behind a space
+-- a number in digits after a space
 abbrev pub spaced : ℕ → List ℕ
 spaced n = 32 ∷ decimal n
 
--- a word, and numbers behind it
+-- a word, and numbers after it
 abbrev pub line : List ℕ → List ℕ → List ℕ
 line word numbers = word ++ flat_map spaced numbers
 
@@ -73,7 +73,7 @@ own_draws kind g = 0
 abbrev pub line_at : ℕ → List ℕ
 line_at g = text_of (kind_of (draw 16 g)) (draw 16 (after_draws 1 g)) (draw 16 (after_draws 2 g)) (after_draws 3 g)
 
--- the number behind a step that begins at g
+-- the number after a step that begins at g
 abbrev pub behind : ℕ → ℕ
 behind g = after_draws (own_draws (kind_of (draw 16 g)) (after_draws 3 g)) (after_draws 3 g)
 

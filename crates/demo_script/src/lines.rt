@@ -9,7 +9,7 @@ use crate::kind::{Kind, kind_of};
 use oper_core::Memory;
 use std::alloc::Global;
 
-/// Adds a word, and each number in digits behind a space.
+/// Adds a word, and each number in digits after a space.
 fn push_line(
     alloc: Global,
     script: &mut Vec<u8>,

@@ -12,7 +12,7 @@ use Rattle.graph_view.specs.declared.draw_error.DrawError.TheVariants as errors
 use Rattle.graph_view.specs.Lines.{AreEntries, IsAsked, IsAskedAt, IsAdded, IsRefused, IsNextAsked, IsCause, entry_of}
 use Rattle.graph_view.specs.Lines.AreEntries.{no_line, command, nothing}
 
--- of all lines these are left, the next one having the number n; their entries go behind those of the lines before them
+-- of all lines these are left, the next one having the number n; their entries go after those of the lines before them
 pub record AreRead (all rest : List (List ℕ)) (n : ℕ) (now : List Entry) : Type 0 where
   pub done : List (List ℕ)
   pub whole : all ≡ done ++ rest
@@ -22,7 +22,7 @@ pub record AreRead (all rest : List (List ℕ)) (n : ℕ) (now : List Entry) : T
 pub none_read : (all : List (List ℕ)) → AreRead all all 1 []
 none_read all = record { done = []; whole = refl; count = refl; goes_on = λ entries are. are }
 
--- the entries of the rest go behind those of a line more
+-- the entries of the rest go after those of a line more
 goes_on_behind : (all rest : List (List ℕ)) (line : List ℕ) (now after : List Entry) (asked : Asked)
     → ((entries : List Entry) → AreEntries (length now + 1) (line ∷ rest) entries → AreEntries 1 all (now ++ entries))
     → IsAsked line asked → IsAdded now asked after → (entries : List Entry) → AreEntries (length after + 1) rest entries → AreEntries 1 all (after ++ entries)

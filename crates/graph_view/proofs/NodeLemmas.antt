@@ -13,7 +13,7 @@ use Rattle.graph_view.specs.Nodes.AreInstalled.{none, next}
 use Rattle.graph_view.specs.Dot.{node_text}
 use Rattle.graph_view.specs.Taking.{TakesNode}
 
--- some nodes of all entries were taken out and said, and what is to be said of the rest goes behind them
+-- some nodes of all entries were taken out and said, and what is to be said of the rest goes after them
 pub record AreSaid (all rest : List Entry) (before now : List ℕ) : Type 0 where
   pub nodes : List Node
   pub text : now ≡ before ++ flat_map node_text nodes

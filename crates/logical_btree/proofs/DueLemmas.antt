@@ -73,7 +73,7 @@ pub full_halves : (node : Node) → is_full node ≡ true → (h : Halves) × (h
 full_halves (Leaf pairs) e = leaf_cut pairs.items (seven (length pairs.items) e)
 full_halves (Inner first branches) e = inner_cut first branches.items (seven (length branches.items) e)
 
--- where a key leads to a child, a new one stands behind it
+-- where a key leads to a child, a new one follows it
 behind : (key : List ℕ) (child : ℕ) (new : List ℕ × ℕ) (first : ℕ) (branches : List (List ℕ × ℕ)) → child_for key first branches ≡ child
     → (more : List (List ℕ × ℕ)) × (behind_child child new first branches ≡ Some more)
 behind key child new first [] is = (new ∷ [], ap (λ (t : Bool). if t then Some (new ∷ []) else None) (ap (λ (z : ℕ). first == z) (sym is) ∙ same_test first))
@@ -242,7 +242,7 @@ module _ (lo hi : ℕ) (key value : List ℕ) where
               ] refl
         ] refl
 
-    -- what stands behind each step of an insert, on any state
+    -- what stands after each step of an insert, on any state
     pub insert_tells : (b : Bounds) → Tells s (insert_next b lo hi s key value)
     insert_tells b = by_way (walk lo hi s key) refl
 

@@ -19,7 +19,7 @@ not_true : (b : Bool) → (b ≡ true → ⊥) → b ≡ false
 not_true true never = absurd (never refl)
 not_true false never = refl
 
--- the first free one of n objects from x on, and those behind it
+-- the first free one of n objects from x on, and those after it
 pub record FirstFree (s : State) (x n y : ℕ) (rest : List ℕ) : Type 0 where
   pub above : x ≤ y
   pub empty : s y ≡ []

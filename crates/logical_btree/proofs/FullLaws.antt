@@ -1,4 +1,4 @@
--- Why a call on a tree is refused: an insert for want of free objects alone, a delete exactly where the map lacks the key.
+-- Why a call on a tree is refused: an insert for lack of free objects alone, a delete exactly where the map lacks the key.
 use Rattle.std.proofs.Common.{◌≡◌, ◌<◌, ℕ, zero, suc, Bool, true, false, if◌then◌else◌, Option, None, Some, is_some, Result, Ok, List, [], ◌∷◌, length, refl, sym, ap, ◌∙◌, subst, arith}
 use Rattle.std.specs.Prelude.{IsTrue, ⊤}
 use Rattle.std.specs.FinMap.{get}

@@ -149,7 +149,7 @@ module _ (lo hi : ℕ) (s t : State) (parent child new : ℕ) (separator : List 
               (within_to b.0 (record { from = base; to = span.to }) (both_true (is_within b.0 (record { from = base; to = span.to })) (all_within (record { from = base; to = span.to }) branches) within).0)),
         )
 
-    -- how the parent changed: the new child stands directly behind the old one
+    -- how the parent changed: the new child follows directly the old one
     pub record ParentCut : Type 0 where
       pub first : ℕ
       pub branches : List (List ℕ × ℕ)

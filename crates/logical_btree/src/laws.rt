@@ -57,7 +57,7 @@ pub fn an_insert_ends_with_its_put()
     ensures { (b : Bounds) (lo hi : ℕ) (s : State) (key value : List ℕ) → IsRange b lo hi → EndsWithPut key value (insert_plan b lo hi s key value) }
 {}
 
-/// On a tree an insert is refused for want of free objects alone, and a delete exactly where the map lacks the key.
+/// On a tree an insert is refused for lack of free objects alone, and a delete exactly where the map lacks the key.
 pub fn a_tree_refuses_by_cause()
     ensures insert { (b : Bounds) (lo hi : ℕ) (s : State) (key value : List ℕ) (r : TreeRefusal) → IsRange b lo hi → IsTree lo hi s
         → (insert_plan b lo hi s key value).refusal ≡ Some r → IsTreeFull r }

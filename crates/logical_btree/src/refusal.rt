@@ -2,7 +2,7 @@
 pub enum TreeRefusal {
     /// The range ends past the last object, or above its own end.
     NoObject,
-    /// An object that was met is no node, has a child outside the range or the root as a child, or stands behind too long
+    /// An object that was met is no node, has a child outside the range or the root as a child, or stands after too long
     /// a way. The one met first is carried.
     BadTree { object: u32 },
     /// A split needs so many objects, and fewer are free.

@@ -21,7 +21,7 @@ pub fn eight_inserts_split_the_root()
 {}
 
 /// A key that is equal to a separator stands to its right. The object that is met first of the bad ones is the one reported:
-/// one that is no node, one with a child outside the range or with the root as a child, one behind too long a way.
+/// one that is no node, one with a child outside the range or with the root as a child, one after too long a way.
 pub fn the_first_bad_object_is_told()
     ensures no_node { get_answer bounds 0 7 no_node (1 ∷ []) ≡ Err (BadTree 0) }
     ensures equal_right { get_answer bounds 0 7 one_separator (5 ∷ []) ≡ Err (BadTree 2) }

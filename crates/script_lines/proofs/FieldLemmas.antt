@@ -14,7 +14,7 @@ space_cuts b text is = subst (λ (x : ℕ). pieces_of (x ∷ text) ≡ [] ∷ pi
 byte_goes_on : (b : ℕ) (text : List ℕ) → (b == 32) ≡ false → pieces_of (b ∷ text) ≡ before_first b (pieces_of text)
 byte_goes_on b text other = ap (λ (t : Bool). cond t ([] ∷ pieces_of text) (before_first b (pieces_of text))) other
 
--- the first piece, and the pieces behind it
+-- the first piece, and the pieces after it
 record FirstPiece (text : List ℕ) (end : ℕ) : Type 0 where
   pub more : List (List ℕ)
   pub whole : pieces_of text ≡ take end text ∷ more
@@ -64,7 +64,7 @@ fields_behind (b ∷ text) = elim (cases_eq b 32) [
   | inr other ↦ ap (λ (k : ℕ). fields_of (drop k (b ∷ text))) (sym (spaces_end b text (grind (arith, nat_tests, other))))
 ]
 
--- behind them stands another byte
+-- after them stands another byte
 other_behind : (text : List ℕ) → spaces_of text < length text → (0 < length (drop (spaces_of text) text)) × (get_or (drop (spaces_of text) text) 0 32 ≢ 32)
 other_behind [] within = absurd (omega arith)
 other_behind (b ∷ text) within = elim (cases_eq b 32) [
@@ -81,7 +81,7 @@ other_behind (b ∷ text) within = elim (cases_eq b 32) [
 pub no_field : (text : List ℕ) → length text ≤ spaces_of text → fields_of text ≡ []
 no_field text all = fields_behind text ∙ ap fields_of (drop_all (spaces_of text) text all)
 
--- the first field stands behind the spaces, and reaches to the next one
+-- the first field follows the spaces, and reaches to the next one
 pub field_behind : (text rest : List ℕ) (end : ℕ) → spaces_of text < length text → rest ≡ drop (spaces_of text) text → end ≡ place_of 32 rest → fields_of text ≡ take end rest ∷ fields_of (drop end rest)
 field_behind text rest end within is place =
     let P : List ℕ → Type 0 = λ r. fields_of text ≡ take (place_of 32 r) r ∷ fields_of (drop (place_of 32 r) r) in

@@ -82,7 +82,7 @@ form_told (tget low high key) word fields is = ap tag_of is.0
 form_told (tdelete low high key) word fields is = ap tag_of is.0
 form_told (trange low high from to) word fields is = ap tag_of is.0
 
--- the fields behind the first one, of each kind
+-- the fields after the first one, of each kind
 pub one_is : (fields : List (List ℕ)) (n : ℕ) → SayAll (number n ∷ []) fields → (fields ≡ decimal n ∷ []) × (n < 2 ^ 32)
 one_is [] n say = absurd say
 one_is (a ∷ []) n say = (ap (λ (t : List ℕ). t ∷ []) say.0.0, say.0.1)
@@ -112,11 +112,11 @@ pub none_are : (fields : List (List ℕ)) → SayAll [] fields → fields ≡ []
 none_are [] say = refl
 none_are (a ∷ fields) say = absurd say
 
--- the fields behind the first one
+-- the fields after the first one
 pub say_rest : (fields others : List (List ℕ)) (text : List ℕ) (first : Field) (form : List Field) → fields ≡ text ∷ others → SayAll (first ∷ form) fields → SayAll form others
 say_rest fields others text first form is say = (subst (λ (l : List (List ℕ)). SayAll (first ∷ form) l) is say).1
 
--- a number, and others behind it
+-- a number, and others after it
 pub say_number : (fields : List (List ℕ)) (n : ℕ) (form : List Field) → SayAll (number n ∷ form) fields → (others : List (List ℕ)) × (fields ≡ decimal n ∷ others) × (n < 2 ^ 32)
 say_number [] n form say = absurd say
 say_number (a ∷ fields) n form say = (fields, ap (λ (t : List ℕ). t ∷ fields) say.0.0, say.0.1)
@@ -195,7 +195,7 @@ pub no_trange : (word : List ℕ) (fields : List (List ℕ)) → word ≡ codes 
 no_trange word fields is none (trange low high from to) asks = none low high from to asks.1
 no_trange word fields is none a asks = omega (arith, form_told a word fields asks, ap tag_of is)
 
--- nor does a word that stands alone, with a field behind it
+-- nor does a word that stands alone, with a field after it
 pub no_alone : (word : List ℕ) (fields : List (List ℕ)) → 10 ≤ tag_of word → tag_of word ≤ 15 → fields ≢ [] → (a : Request) → AreOf a (word ∷ fields) → ⊥
 no_alone word fields low high some force asks = some (none_are fields asks.1)
 no_alone word fields low high some install asks = some (none_are fields asks.1)

@@ -188,14 +188,14 @@ line_is_taken {old} now stored left {before} {after} t line same run is which =
     let more = takes_run now stored r.run rest after.line t (run_in before.ahead r.run (10 ∷ after.ahead) left now same r.front) r.plain (stored_then line r) in
     subst (λ (n : Next). IsNext n after.line old (after.ahead ++ left)) (sym which) (line_found rest after.line (after.ahead ++ left) more refl)
 
--- the input ends behind some bytes of a line
+-- the input ends after some bytes of a line
 pub line_ends_input : {old : List ℕ} (now stored rest line : List ℕ) {next : Next} → Taken old now stored → line ≡ stored → rest ≡ now → rest ≡ [] → 0 < length line
     → next ≡ found_by (nat_le (length line) 40000) → IsNext next line old rest
 line_ends_input {old} now stored rest line t same left over some which =
     let there = subst (λ (l : List ℕ). Taken old now l) (sym same) t in
     subst (λ (n : Next). IsNext n line old rest) (sym which) (line_at_end now line rest there (sym left ∙ over) over some)
 
--- the input ends behind no byte
+-- the input ends after no byte
 pub input_ends : {old : List ℕ} (now stored rest line : List ℕ) → Taken old now stored → line ≡ stored → rest ≡ now → rest ≡ [] → length line ≡ 0 → IsNext End line old rest
 input_ends {old} now stored rest line t same left over none =
     none_at_end now line rest (subst (λ (l : List ℕ). Taken old now l) (sym same) t) (sym left ∙ over) over none

@@ -89,7 +89,7 @@ none_skips : (a : Request) → AreOf a [] → a ≡ skip
 none_skips skip p = refl
 none_skips a p = absurd p
 
--- fields behind one first field ask one thing
+-- fields after one first field ask one thing
 same_one : (a b : Request) (word : List ℕ) (fields : List (List ℕ)) → tag a ≡ tag b → AreOf a (word ∷ fields) → AreOf b (word ∷ fields) → a ≡ b
 same_one (put x u) (put y v) word fields same p q = put_one fields x y u v p.1 q.1
 same_one (copy w x) (copy y z) word fields same p q = two_one fields copy p.1 q.1

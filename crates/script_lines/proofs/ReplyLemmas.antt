@@ -160,7 +160,7 @@ no_space_decimal n small = lacks_digits 32 (decimal n) (inl (omega arith)) (digi
 no_colon_decimal : (n : ℕ) → n < 2 ^ 64 → has 58 (decimal n) ≡ false
 no_colon_decimal n small = lacks_digits 58 (decimal n) (inr (omega arith)) (digits_decimal own n small)
 
--- a number, and more behind a space
+-- a number, and more after a space
 no_colon_more : (n : ℕ) (rest : List ℕ) → n < 2 ^ 64 → has 58 rest ≡ false → has 58 (decimal n ++ 32 ∷ rest) ≡ false
 no_colon_more n rest small none = lacks_both 58 (decimal n) (32 ∷ rest) (no_colon_decimal n small) (lacks_on 58 32 rest (λ is. omega (arith, is)) none)
 
@@ -179,7 +179,7 @@ object_kind n rest small =
     let text = decimal n ++ 32 ∷ rest in
     kind_object (get_or text 0 0) (get_or text 1 0) (get_or text 3 0) (length text) (has 32 text) (second_low (decimal n) rest (digits_decimal own n small) (decimal_nonempty n small)) (has_behind 32 (decimal n) rest)
 
--- the text up to the first such byte, and behind it
+-- the text up to the first such byte, and after it
 parted : (mark : ℕ) (p q u v : List ℕ) → has mark p ≡ false → has mark q ≡ false → p ++ mark ∷ u ≡ q ++ mark ∷ v → (p ≡ q) × (u ≡ v)
 parted mark [] [] u v none other same = (refl, cc)
 parted mark [] (c ∷ q) u v none other same = absurd (let is : mark ≡ c = cc in grind (arith, nat_tests))
@@ -196,7 +196,7 @@ number_parted m n u v small little same =
 
 -- pairs are told by their text
 
--- a value, and nothing or more pairs behind it
+-- a value, and nothing or more pairs after it
 value_alone : (u v : List ℕ) (q : Pair) (qs : List Pair) → flat_map hex_pair u ++ [] ≡ flat_map hex_pair v ++ flat_map spaced_pair (q ∷ qs) → ⊥
 value_alone u v q qs same =
     let none : has 32 (flat_map hex_pair u) ≡ false = no_space_in u in
@@ -227,7 +227,7 @@ pairs_told p q (x ∷ ps) (y ∷ qs) same =
     let others : x ∷ ps ≡ y ∷ qs = cc (rest.0, rest.1) in
     (pair_is p q key.0 (pairs_one p.1 q.1 both.0), others)
 
--- as many numbers, each behind a space, are told by their text
+-- as many numbers, each after a space, are told by their text
 spaced_one : (m n : List ℕ) → AreSmall m → AreSmall n → length m ≡ length n → flat_map spaced m ≡ flat_map spaced n → m ≡ n
 spaced_one [] [] p q like same = refl
 spaced_one [] (b ∷ n) p q like same = absurd (omega (arith, like))
@@ -323,7 +323,7 @@ no_colon_name TooLarge = refl
 
 -- the totals of a script
 
--- what stands behind each of the numbers
+-- what stands after each of the numbers
 abbrev behind_refused : Totals → List ℕ
 behind_refused t = codes "sum " ++ (decimal t.sum ++ [])
 
@@ -385,7 +385,7 @@ to_sum t = to_refused t ++ codes " sum " ++ decimal t.sum
 two_more : (front name digits rest : List ℕ) → (front ++ name ++ digits) ++ rest ≡ front ++ (name ++ (digits ++ rest))
 two_more front name digits rest = append_assoc (front ++ name) digits rest ∙ append_assoc front name (digits ++ rest)
 
--- the text, by what stands behind each number
+-- the text, by what stands after each number
 regrouped : (t : Totals) → to_sum t ≡ codes "demo seed " ++ (decimal t.seed ++ 32 ∷ behind_seed t)
 regrouped t =
     sym (append-nil (to_sum t)) ∙ two_more (to_refused t) (codes " sum ") (decimal t.sum) [] ∙ two_more (to_accepted t) (codes " refused ") (decimal t.refused) (32 ∷ behind_refused t)

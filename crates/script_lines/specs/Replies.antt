@@ -92,7 +92,7 @@ name_of NoKey = codes "NoKey"
 name_of NodeFull = codes "NodeFull"
 name_of TooLarge = codes "TooLarge"
 
--- a number in digits behind a space
+-- a number in digits after a space
 abbrev pub spaced : ℕ → List ℕ
 spaced n = 32 ∷ decimal n
 
@@ -104,7 +104,7 @@ numbers_of c = c.nodes ∷ c.dirty ∷ c.uninstalled ∷ c.forced ∷ c.accepted
 abbrev pub pair_text : Pair → List ℕ
 pair_text pair = flat_map hex_pair pair.0 ++ 58 ∷ flat_map hex_pair pair.1
 
--- a pair behind a space
+-- a pair after a space
 abbrev pub spaced_pair : Pair → List ℕ
 spaced_pair pair = 32 ∷ pair_text pair
 

@@ -5,7 +5,7 @@ use Rattle.formats.specs.Objects.{IsInRange}
 use Rattle.script_lines.specs.declared.words.Asked.{Asked}
 use Rattle.script_lines.specs.declared.words.Asked.TheVariants.{Init, Run, Dump, Demo}
 
--- two options, each with its number behind it: the seed and the number of steps, in either order
+-- two options, each with its number after it: the seed and the number of steps, in either order
 abbrev pub IsDemo : List ℕ → List ℕ → List ℕ → List ℕ → ℕ → ℕ → Type 0
 IsDemo first one second two seed steps = ((first ≡ codes "--seed") × (one ≡ decimal seed) × (second ≡ codes "--steps") × (two ≡ decimal steps))
     ⊎ ((first ≡ codes "--steps") × (one ≡ decimal steps) × (second ≡ codes "--seed") × (two ≡ decimal seed))
@@ -19,7 +19,7 @@ pub record AreDemo (seed steps : ℕ) (name : List ℕ) (words : List (List ℕ)
   pub text : words ≡ name ∷ codes "demo" ∷ first ∷ one ∷ second ∷ two ∷ []
   pub options : IsDemo first one second two seed steps
 
--- the words that ask this, behind the program's name
+-- the words that ask this, after the program's name
 abbrev pub AreWords : Asked → List ℕ → List (List ℕ) → Type 0
 AreWords Run name words = words ≡ name ∷ codes "run" ∷ []
 AreWords Dump name words = words ≡ name ∷ codes "dump" ∷ []

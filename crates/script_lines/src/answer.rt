@@ -77,7 +77,7 @@ pub enum Answer<'a> {
     BadTree,
     /// The tree has too few free objects for an insert: `refused TreeFull`.
     TreeFull,
-    /// What a generated script did: `demo`, and seven numbers, each behind its name.
+    /// What a generated script did: `demo`, and seven numbers, each after its name.
     Summary(Totals),
 }
 
@@ -120,7 +120,7 @@ fn push_value(text: &mut Vec<u8>, bytes: &[u8]) -> Result<(), Memory>
     Ok(())
 }
 
-/// Adds a word, and a number in digits behind a space.
+/// Adds a word, and a number in digits after a space.
 fn push_counted(alloc: Global, text: &mut Vec<u8>, word: &[u8], number: u64) -> Result<(), Memory>
     ensures { OnOk result (text.new.items ≡ text.old.items ++ word.now ++ 32 ∷ decimal number) }
 {
@@ -129,7 +129,7 @@ fn push_counted(alloc: Global, text: &mut Vec<u8>, word: &[u8], number: u64) -> 
     push_number(alloc, text, number)
 }
 
-/// Adds each number in digits, behind a space.
+/// Adds each number in digits, after a space.
 fn push_numbers(alloc: Global, text: &mut Vec<u8>, numbers: &[u64]) -> Result<(), Memory>
     ensures { OnOk result (text.new.items ≡ text.old.items ++ flat_map spaced numbers.now) }
 {
@@ -178,7 +178,7 @@ fn push_pair(text: &mut Vec<u8>, pair: &(Short, Short)) -> Result<(), Memory>
     push_hex(text, pair.1.as_slice())
 }
 
-/// Adds each pair behind a space.
+/// Adds each pair after a space.
 fn push_spaced_pairs(text: &mut Vec<u8>, pairs: &[(Short, Short)]) -> Result<(), Memory>
     ensures { OnOk result (text.new.items ≡ text.old.items ++ flat_map spaced_pair pairs.now) }
 {
@@ -203,7 +203,7 @@ fn push_pairs(text: &mut Vec<u8>, pairs: &[(Short, Short)]) -> Result<(), Memory
     Ok(())
 }
 
-/// Adds `demo` and the totals, each behind its name.
+/// Adds `demo` and the totals, each after its name.
 fn push_totals(alloc: Global, text: &mut Vec<u8>, totals: &Totals) -> Result<(), Memory>
     ensures { OnOk result (text.new.items ≡ text.old.items ++ text_of (summary totals.now)) }
 {

@@ -21,7 +21,7 @@ fn space_in(text: &[u8]) -> Option<usize>
     text.iter().position(|byte| *byte == b' ')
 }
 
-/// The first field of a text, and what stands behind it.
+/// The first field of a text, and what follows it.
 pub fn next_field(text: &[u8]) -> Option<(&[u8], &[u8])>
     ensures some { IfSome result (λ found. fields_of text.now ≡ found.0.now ∷ fields_of found.1.now) }
     ensures none { IfNone result (fields_of text.now ≡ []) }
@@ -43,7 +43,7 @@ pub fn no_field(text: &[u8]) -> Option<()>
     }
 }
 
-/// The number that the first field is, and what stands behind it.
+/// The number that the first field is, and what follows it.
 fn next_number(text: &[u8]) -> Option<(u32, &[u8])>
     ensures some { IfSome result (λ found. fields_of text.now ≡ decimal found.0 ∷ fields_of found.1.now) }
     ensures none { IfNone result ((n : ℕ) (others : List (List ℕ)) → n < 2 ^ 32 → fields_of text.now ≢ decimal n ∷ others) }

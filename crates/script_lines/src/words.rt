@@ -51,7 +51,7 @@ fn read_params(objects: &[u8], cap: &[u8], limit: &[u8]) -> Option<Params>
 /// The most steps that a generated script has.
 const MAX_STEPS: u64 = 1000000;
 
-/// The seed and the number of steps, from two options, each with its number behind it, in either order.
+/// The seed and the number of steps, from two options, each with its number after it, in either order.
 fn read_demo(first: &[u8], one: &[u8], second: &[u8], two: &[u8]) -> Option<(u64, u64)>
     ensures some { IfSome result (λ d. (d.1 ≤ 1000000) × IsDemo first.now one.now second.now two.now d.0 d.1) }
     ensures none { IfNone result ((seed steps : ℕ) → seed < 2 ^ 64 → steps ≤ 1000000 → IsDemo first.now one.now second.now two.now seed steps → ⊥) }

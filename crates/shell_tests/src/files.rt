@@ -9,7 +9,7 @@ const NEW_LOG: [u8; 34] = *b"\x01RDOLOG01\x01\0\0\0\0\0\0\0\x01\0\0\0\0\0\0\0\0\
 
 const BLOCK: [u8; 25] = *b"\x01\x13\0\0\0\x01\x01\0\0\0\0\0\0\0\x01\0\0\0\0\x01\0\0\0\xaa\0";
 
-// The block of an empty check, which a restart logs, and its closed gate behind it.
+// The block of an empty check, which a restart logs, and its closed gate after it.
 const CHECK: [u8; 19] = *b"\x01\x0d\0\0\0\x03\x01\0\0\0\0\0\0\0\0\0\0\0\0";
 
 fn a_new_store_is_as_worked(alloc: Global) -> Result<bool, AllocError> {

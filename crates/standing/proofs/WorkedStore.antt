@@ -222,7 +222,7 @@ right_log epoch file some few split =
 right_holds : HoldsStable small_meaning small (files_with right_check) (parts_with right_table)
 right_holds = holds_parts LogA 1 right_table (files_with right_check) refl (first_in_force right_check) (right_log 1 (files_with right_check LogA) (omega arith) (omega arith) refl)
 
--- a smaller epoch makes a log passive, whatever stands behind its header
+-- a smaller epoch makes a log passive, whatever follows its header
 rewritten_holds : HoldsStable small_meaning small rewritten_files (parts_with right_table)
 rewritten_holds =
     let range : IsHeader new_header = record { epoch_low = omega arith; epoch_high = omega arith; base_low = omega arith; base_high = omega arith; commands = omega arith } in

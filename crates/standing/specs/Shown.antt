@@ -15,7 +15,7 @@ use Rattle.standing.specs.Members.{next-members, commands-members}
 use Rattle.standing.specs.Standing.{HoldsStable}
 
 module _ {O : Type 0} (m : Meaning O) (p : Params) (files : Files) (parts : Stable O) (holds : HoldsStable m p files parts) where
-  -- the next number behind the log's last record
+  -- the next number after the log's last record
   abbrev pub next_held : ℕ
   next_held = next_after holds.header.base (records_of holds.groups)
 
@@ -35,7 +35,7 @@ module _ {O : Type 0} (m : Meaning O) (p : Params) (files : Files) (parts : Stab
   )
 
   module _ (history : List (Member O)) (installed : ℕ → Bool) (is : IsStableOf m parts history installed) where
-    -- it is that behind the history
+    -- it is that after the history
     pub next-stands : next_held ≡ length history + 1
     next-stands = omega (arith, held-next, stand-length m parts history installed is, is.base)
 

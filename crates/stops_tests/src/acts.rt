@@ -54,7 +54,7 @@ pub fn does<M: Machine>(alloc: Global, machine: &mut M, act: Act) -> (Status, u6
     }
 }
 
-// The machine behind a process that was stopped after so many calls.
+// The machine after a process that was stopped after so many calls.
 pub fn stopped(alloc: Global, machine: MemMachine, calls: u64, act: Act) -> MemMachine {
     let mut fuse = Fuse::new(machine, calls);
     does(alloc, &mut fuse, act);

@@ -1,4 +1,4 @@
-// A script of which one call fails: the status, the count that rises, what is said, and what is found behind it.
+// A script of which one call fails: the status, the count that rises, what is said, and what is found after it.
 use crate::acts::{does, stopped};
 use crate::found::{stands_still, within};
 use crate::running::{after, copied, crash_by, end_by, run_failing};
@@ -54,7 +54,7 @@ fn is_told(
     Ok(is_of_the_fault(&left, ended) & same)
 }
 
-// Whether what was forced is found behind it.
+// Whether what was forced is found after it.
 fn keeps(
     alloc: Global,
     script: &Script,
@@ -67,7 +67,7 @@ fn keeps(
     Ok(stands_still(alloc, after(left, ends.0), script, bounds, ends.1))
 }
 
-// Whether the failing call is answered so, and what was forced is found behind it, however it ends.
+// Whether the failing call is answered so, and what was forced is found after it, however it ends.
 fn is_refused(
     alloc: Global,
     script: &Script,

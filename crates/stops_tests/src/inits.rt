@@ -46,7 +46,7 @@ fn is_made(alloc: Global, mut left: MemMachine, how: Crash) -> bool {
     made & (done == Status::Done) & (next.said() == b"forced 0\n-\n".as_slice())
 }
 
-// Whether that is so behind two that were stopped after so many calls.
+// Whether that is so after two that were stopped after so many calls.
 fn is_made_behind(
     alloc: Global,
     calls: [u64; 2],

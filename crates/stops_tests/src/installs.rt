@@ -14,7 +14,7 @@ use redo_shell::Status;
 use restart::{RestartErr, Restarted, Tuning, restart};
 use std::alloc::Global;
 
-// The parts of the store of a machine, behind a restart that installs while more objects than this are dirty.
+// The parts of the store of a machine, after a restart that installs while more objects than this are dirty.
 pub fn opened<M: Machine>(
     alloc: Global,
     machine: &mut M,

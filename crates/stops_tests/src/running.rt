@@ -1,4 +1,4 @@
-// The program on machines in memory, and what is left behind a process.
+// The program on machines in memory, and what is left after a process.
 use disk_model::{Crash, FileNo, Machine, MemMachine, MemSource};
 use redo_shell::{Status, top};
 use std::alloc::{AllocError, Global};
@@ -70,7 +70,7 @@ pub fn crashed(machine: MemMachine, how: Crash) -> MemMachine {
     machine.crash(how)
 }
 
-// What is left behind a process.
+// What is left after a process.
 pub fn after(machine: MemMachine, how: Option<Crash>) -> MemMachine {
     match how {
         Some(how) => crashed(machine, how),

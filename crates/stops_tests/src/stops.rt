@@ -1,4 +1,4 @@
-// A script that is stopped at each call, and another process behind it that is stopped too.
+// A script that is stopped at each call, and another process after it that is stopped too.
 use crate::acts::{Act, calls_of, stopped};
 use crate::found::{stands, stands_still, within};
 use crate::running::{after, copied, crash_by, crashed, end_by, run};
@@ -59,7 +59,7 @@ fn keeps_at_each_end(
 
 const DUMP: Act = Act::Program("redo dump", b"");
 
-// Whether it does where its process is killed, and a dump behind it, which begins with a sync of each file, is stopped too.
+// Whether it does where its process is killed, and a dump after it, which begins with a sync of each file, is stopped too.
 fn keeps_killed(
     alloc: Global,
     script: &Script,
@@ -115,10 +115,10 @@ fn a_stopped_script_keeps_what_was_forced(rt: HostRuntime) -> Result<(), Fail> {
     Ok(())
 }
 
-// A process behind a script, and how many of the five kinds of crash are tried behind each stop of it, one after the other.
+// A process after a script, and how many of the five kinds of crash are tried after each stop of it, one after the other.
 type Second = (Act, u64);
 
-// Whether files stand for as many commands behind a process that is stopped after so many calls, and a crash.
+// Whether files stand for as many commands after a process that is stopped after so many calls, and a crash.
 fn stands_behind(
     alloc: Global,
     script: &Script,
@@ -137,7 +137,7 @@ fn stands_behind(
     Ok(all)
 }
 
-// Whether they do behind each stop of it.
+// Whether they do after each stop of it.
 fn stands_behind_each(
     alloc: Global,
     script: &Script,
@@ -153,7 +153,7 @@ fn stands_behind_each(
     Ok(all)
 }
 
-// Whether a script that is stopped so, with a crash, keeps what was forced behind each stop of another process.
+// Whether a script that is stopped so, with a crash, keeps what was forced after each stop of another process.
 fn keeps_twice(
     alloc: Global,
     script: &Script,
@@ -185,7 +185,7 @@ fn a_stopped_dump_keeps_what_was_forced(rt: HostRuntime) -> Result<(), Fail> {
     Ok(())
 }
 
-// What other processes do behind a script: a run without lines, an `init`, and restarts that install.
+// What other processes do after a script: a run without lines, an `init`, and restarts that install.
 const OTHERS: [Act; 4] = [
     Act::Program("redo run", b""),
     Act::Program("redo init 8 64 65536", b""),
@@ -213,7 +213,7 @@ fn another_stopped_process_keeps_what_was_forced(rt: HostRuntime) -> Result<(), 
 
 const GATE_SCRIPT: Act = Act::Program("redo run", b"put 0 aa\nget 0\nforce\n");
 
-// A run that is stopped in the write that opens the gate of its block: the calls behind it are a sync and the answer.
+// A run that is stopped in the write that opens the gate of its block: the calls after it are a sync and the answer.
 fn stopped_in_the_gate(alloc: Global) -> Result<MemMachine, AllocError> {
     let mut whole = new_store(alloc, &SCRIPTS[0])?;
     let calls = calls_of(alloc, &mut whole, GATE_SCRIPT).saturating_sub(2);

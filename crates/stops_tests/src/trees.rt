@@ -86,7 +86,7 @@ const ROOM: Room = Room {
 const SPLIT: &[u8] =
     b"tinsert 0 7 01 a1\ntinsert 0 7 02 a2\ntinsert 0 7 03 a3\ntinsert 0 7 04 a4\ntinsert 0 7 05 a5\ntinsert 0 7 06 a6\ntinsert 0 7 07 a7\ntinsert 0 7 08 a8\ninstall\ninstall\n";
 
-// Whether the next run behind these lines and a crash says this.
+// Whether the next run after these lines and a crash says this.
 fn next_says(alloc: Global, lines: &[u8], next: &[u8], said: &[u8]) -> Result<bool, AllocError> {
     let mut machine = ROOM.machine(alloc, 0)?;
     run(alloc, &mut machine, "redo init 8 1024 65536", b"");
@@ -96,7 +96,7 @@ fn next_says(alloc: Global, lines: &[u8], next: &[u8], said: &[u8]) -> Result<bo
     Ok(left.said() == said)
 }
 
-// The redo does the split again for one object alone, and the identity write of that object behind it: two records, one dirty
+// The redo does the split again for one object alone, and the identity write of that object after it: two records, one dirty
 // object.
 #[test]
 fn a_tree_installed_in_part_is_whole(rt: HostRuntime) -> Result<(), Fail> {

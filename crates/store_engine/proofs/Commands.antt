@@ -128,7 +128,7 @@ module _ {O : Type 0} (meaning : Bounds → Meaning O) (p : Params) (old new : D
         rising = omega (arith, has.enough, holds_forced meaning p old before commands holds, forced_shown m p new after.parts (run m w taken) shows);
       }
 
-  -- a command that is done is behind the others
+  -- a command that is done is after the others
   pub exec_ok : (r : Result ℕ ExecErr) → Follows m p new after.parts w whole (ending_of_exec r) → of_world.HasCause m p.limit w (used_in before) op r → IsFailed (ending_of_exec r) ⊎ (after.broken ≡ false)
       → OnOk r (Kept meaning p before new after (commands ++ op ∷ []))
   exec_ok (Ok n) f cause unbroken = ⊎_elim (λ failed. absurd failed) (λ fine.

@@ -19,7 +19,7 @@ use Rattle.store_engine.specs.Engine.{InEachImage, IsNew, IsNewStore}
 use Rattle.restart.specs.Starts.{OrAtStart, then_leaves}
 use Rattle.store_engine.specs.Store.{Stands}
 
--- no store begins behind a closed gate
+-- no store begins after a closed gate
 closed_begins : (file : List ℕ) → IsClosedAt 0 file → BeginsStore file → ⊥
 closed_begins file closed begins = closed (sym (get_or-take 9 file 0 0 (omega arith)) ∙ ap (λ (l : List ℕ). get_or l 0 0) begins)
 
@@ -62,7 +62,7 @@ module _ {O : Type 0} (meaning : Bounds → Meaning O) (p : Params) (stands_new 
   abbrev pub NewSoFar : Disk → Files → List ℕ → Type 0
   NewSoFar old files said = IsNew meaning p files × (said ≡ old.said)
 
-  -- behind a call that changes no image
+  -- after a call that changes no image
   pub behind : (old mid new : Disk) → Stays old mid → old.tells_moments → LeavesOnly mid new (NewSoFar mid) → LeavesOnly old new (OrAtStart old (NewSoFar old))
   behind old mid new kept told leaves = then_leaves old mid new (NewSoFar old) kept told
       (weaker mid new (NewSoFar mid) (NewSoFar old) leaves (λ files said is. (is.0, is.1 ∙ kept.said (kept.begins.telling told))))

@@ -60,6 +60,6 @@ module _ {O : Type 0} (m : Meaning O) where
   plain_turns limit zero w = tt
   plain_turns limit (suc n) w = plain_append (turn m limit w) (turns m limit n (run m w (turn m limit w))) (plain_turn limit w) (plain_turns limit n (run m w (turn m limit w)))
 
-  -- a redo, and steps that log nothing behind it
+  -- a redo, and steps that log nothing after it
   pub plain_redo : (limit : ℕ) (w : World O) (closing : List (Step O)) → ArePlain closing → ArePlain (redo_steps m limit w ++ closing)
   plain_redo limit w closing are = plain_append (redo_steps m limit w) closing (plain_turns limit (2 * (end_of w - w.next)) w) are

@@ -34,7 +34,7 @@ module _ {O : Type 0} (m : Meaning O) (p : Params) (files : Files) (commands : L
   within : w.forced ≤ length w.history
   within = found.sound.forced
 
-  -- behind the crash the steps are plain
+  -- after the crash the steps are plain
   abbrev rest : List (Step O)
   rest = redo_steps m dirty (step m w Crash) ++ (closing_course m (run m w (redo_course m dirty w used).steps) used).steps
 

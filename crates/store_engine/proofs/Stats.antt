@@ -21,7 +21,7 @@ use Rattle.explain_core.specs.Turns.{count_below}
 use Rattle.explain_core.specs.World.{World, end_of, graph_access, node_named}
 use Rattle.cache_manager.specs.Parts.{Store, ShowsStore}
 
--- numbers behind one that rise with it rise
+-- numbers after one that rise with it rise
 rising-tail : (x : ℕ) (xs : List ℕ) → IsStrictlyIncreasing (x ∷ xs) → IsStrictlyIncreasing xs
 rising-tail x xs rising i lt =
     let e : suc i + 1 ≡ suc (i + 1) = omega arith in

@@ -30,7 +30,7 @@ abbrev pub ArePlain : {O : Type 0} → List (Step O) → Type 0
 ArePlain [] = ⊤
 ArePlain (s ∷ steps) = IsPlain s × ArePlain steps
 
--- the later world has the earlier one's members, and behind them others; no fewer are forced
+-- the later world has the earlier one's members, and after them others; no fewer are forced
 pub record Extends {O : Type 0} (w later : World O) : Type 0 where
   pub more : List (Member O)
   pub history : later.history ≡ w.history ++ more

@@ -52,7 +52,7 @@ impl<O: Oper> Engine<O> {
     }
 
     /// Forces the log and puts another in its place: the commands and identity writes from the least number in the write
-    /// graph on, or none where the graph is empty, and behind them a check taken now.
+    /// graph on, or none where the graph is empty, and after them a check taken now.
     ///
     /// The first that applies is answered: `Exhausted`, where no greater epoch is left; after the force `Damaged`, where the
     /// log that is read breaks its format, at the first place where it does, `LogFull` and `Memory`. A log that is as the

@@ -55,7 +55,7 @@ pub record IsUnderWay (old mid : Disk) (before between : EngineView) (p : Params
   pub adds : AddsFront all_meaning p old mid before between w (commands_of w.history) (map Node front) Done
   pub going : IsGoing p lo hi key value (commands_of w.history) front left
 
--- engine and files stand for the front behind the commands that were there
+-- engine and files stand for the front after the commands that were there
 pub holds_on : {old mid : Disk} {before between : EngineView} {p : Params} {w : World Command} {ops : List Command} → AddsFront all_meaning p old mid before between w (commands_of w.history) ops Done
     → Holds p mid between (commands_of w.history ++ ops)
 holds_on {old} {mid} {before} {between} {p} {w} {ops} adds =
@@ -96,7 +96,7 @@ module _ {T : Type 0} (disk : T → Disk) (on : AddsOn disk) (old mid new : T) (
   abbrev Front : List Command → Ending → Type 0
   Front made ending = AddsFront all_meaning p (disk old) (disk new) before after w c made ending
 
-  -- the turn's commands behind the front
+  -- the turn's commands after the front
   behind : (error : Option ExecErr) (rest : List Command) → Makes (disk mid) (disk new) between after ops error → (ending_of error ≡ Done → rest ≡ []) → Front (map Node way.front ++ (ops p now ++ rest)) (ending_of error)
   behind error rest makes ended =
       on old mid new before between after error p w (map Node way.front) (ops p now) rest way.adds

@@ -1,4 +1,4 @@
--- Calls that come one behind the other.
+-- Calls that come one after the other.
 use Rattle.std.proofs.Common.{◌≡◌, ◌<◌, refl, sym, ap, ◌∙◌, subst, inl, inr, ℕ, false, Option, None, Some, List, [], ◌++◌, append-nil, arith}
 use Rattle.std.proofs.Math.Seq.{take-nil}
 use Rattle.std.proofs.lemmas.Bool.{false_from_ne_true}
@@ -64,7 +64,7 @@ reads_short disk short old now before after reads = record {
   adds = λ p w shows rest ended. short old now before after p w (commands_of w.history) [] rest (reads.adds p w shows [] (λ done. refl));
 }
 
--- engine and files stand for the same commands behind calls that only read
+-- engine and files stand for the same commands after calls that only read
 pub holds_behind : {p : Params} {old mid : Disk} {before between : EngineView} {commands : List Command} → Reads old mid before between None → Holds p old before commands → Holds p mid between commands
 holds_behind {p} {old} {mid} {before} {between} {commands} reads holds =
     let adds = reads.adds p holds.world holds.shows [] (λ done. refl) in
@@ -132,13 +132,13 @@ fetch_refuses object DiskFault holds below fetch done = cc
 fetch_refuses object (Damaged file place) holds below fetch done = cc
 fetch_refuses object Memory holds below fetch done = cc
 
--- what is done behind calls that only read, and may run out of memory alone
+-- what is done after calls that only read, and may run out of memory alone
 pub reads_then : {T U : Type 0} (disk : T → Disk) → ReadsShort disk → (old now : T) (before after : EngineView) (r : Result U TreeErr) → Reads (disk old) (disk now) before after None → IfErr r (λ e. e ≡ OutOfMemory)
     → Reads (disk old) (disk now) before after (cause_in r)
 reads_then disk short old now before after (Ok value) reads memory = reads
 reads_then disk short old now before after (Err e) reads memory = subst (λ (x : TreeErr). Reads (disk old) (disk now) before after (cause_of x)) (sym memory) (short old now before after reads)
 
--- want of memory is no refusal
+-- lack of memory is no refusal
 pub memory_is_short : (e : TreeErr) → e ≡ OutOfMemory → ending_of (cause_of e) ≡ Done → ⊥
 memory_is_short e memory done = short_is_not (subst (λ (x : TreeErr). ending_of (cause_of x) ≡ Done) memory done)
   where

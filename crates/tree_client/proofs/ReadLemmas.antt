@@ -27,7 +27,7 @@ pub read_adds : {p : Params} {old new : Disk} {before after : EngineView} {error
 read_adds {p} {old} {new} {before} {after} {error} {commands} reads holds ops none =
     subst (λ (l : List Command). AddsFront all_meaning p old new before after holds.world l ops (ending_of error)) holds.commands_are (reads.adds p holds.world holds.shows ops none)
 
--- one command behind calls that only read
+-- one command after calls that only read
 pub one_behind : {T : Type 0} (disk : T → Disk) → AddsOn disk → (old mid new : T) (before between after : EngineView) (error : Option ExecErr) {p : Params} {commands : List Command}
     → Reads (disk old) (disk mid) before between None → (holds : Holds p (disk old) before commands) → (ops all : List Command) → ops ≡ all
     → ((v : World Command) → ShowsIn p (disk mid) between v → commands_of v.history ≡ commands → Adds (disk mid) (disk new) between after p v ops error)
@@ -61,7 +61,7 @@ refused_passed {U} r e P is holds = subst (λ (q : Result U TreeErr). IfErr q P)
 pub refuses_passed : {U : Type 0} (r : Result U TreeErr) (e : TreeErr) (x : Option TreeErr) → r ≡ Err e → (ending_of (cause_of e) ≡ Done → Some e ≡ x) → ending_of (cause_in r) ≡ Done → result_err r ≡ x
 refuses_passed {U} r e x is answer done = ap (λ (q : Result U TreeErr). result_err q) is ∙ answer (subst (λ (q : Result U TreeErr). ending_of (cause_in q) ≡ Done) is done)
 
--- what a turn makes: a command that is due, behind calls that only read
+-- what a turn makes: a command that is due, after calls that only read
 pub turn_adds : {T : Type 0} (disk : T → Disk) → AddsOn disk → (old mid new : T) (before between after : EngineView) (error : Option ExecErr) (p : Params) (w : World Command) → ShowsIn p (disk old) before w
     → Reads (disk old) (disk mid) before between None → (op : NodeOp) (plan : Plan) → plan ≡ record { commands = op ∷ []; refusal = None } → IsDue p (state_of p (commands_of w.history)) op
     → ((q : Params) (v : World Command) → ShowsIn q (disk mid) between v → IsDue q (state_of q (commands_of v.history)) op → Adds (disk mid) (disk new) between after q v (made_of q.cap (op ∷ [])) error)

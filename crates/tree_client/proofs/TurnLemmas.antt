@@ -134,7 +134,7 @@ refused_made cap next e is rest none =
 pub refused_answer : (cap : ℕ) (next : Next) (e : TreeErr) → IsRefusedTurn next e → Some e ≡ refused_in cap (turn_plan next)
 refused_answer cap next e is = ap (λ (x : TreeErr). Some x) is.error ∙ sym (ap (λ (x : Next). refused_in cap (turn_plan x)) is.is)
 
--- ---- the turns behind each other
+-- ---- the turns after each other
 
 -- these commands in front of a plan
 abbrev pub with_front : List NodeOp → Plan → Plan
@@ -207,7 +207,7 @@ module _ (p : Params) (lo hi : ℕ) (key value : List ℕ) (commands : List Comm
     pub all_made : (op : NodeOp) → next ≡ puts op → whole_plan ≡ record { commands = front ++ op ∷ []; refusal = None }
     all_made op is = going.plan ∙ ap (λ (x : Next). with_front front (plan_next on x)) is
 
-    -- nothing comes behind the front
+    -- nothing comes after the front
     pub none_made : (r : TreeRefusal) → next ≡ refuses r → whole_plan ≡ record { commands = front; refusal = Some r }
     none_made r is = going.plan ∙ ap (λ (x : Next). with_front front (plan_next on x)) is ∙ (λ i. record { commands = append-nil front i; refusal = Some r })
 

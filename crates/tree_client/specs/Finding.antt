@@ -26,7 +26,7 @@ first_of (Some a) other = Some a
 abbrev pub full_here : Option ℕ → ℕ → Node → Option Full
 full_here parent object node = if is_full node then Some (record { parent = parent; child = object }) else None
 
--- where a way ends, behind a full node that was seen before, and under a node, if there was one
+-- where a way ends, after a full node that was seen before, and under a node, if there was one
 abbrev pub way_end : Option Full → Option ℕ → Result Way ℕ → Result WayEnd TreeErr
 way_end seen parent (Err bad) = Err (BadTree bad)
 way_end seen parent (Ok way) = Ok (record { leaf = way.object; pairs = record { items = way.pairs }; full = first_of seen (first_full parent (steps_of way)) })
@@ -35,7 +35,7 @@ way_end seen parent (Ok way) = Ok (record { leaf = way.object; pairs = record { 
 abbrev pub free_from : State → ℕ → ℕ → List ℕ
 free_from s from end = filter (λ x. is_empty (s x)) (objects_from from (end - from))
 
--- the first free object, if there is one, and behind it the others
+-- the first free object, if there is one, and after it the others
 abbrev pub IsFirstFree : State → ℕ → ℕ → Option ℕ → Type 0
 IsFirstFree s from end None = free_from s from end ≡ []
 IsFirstFree s from end (Some x) = free_from s from end ≡ x ∷ free_from s (suc x) end

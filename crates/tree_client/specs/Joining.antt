@@ -13,12 +13,12 @@ use Rattle.command_lists.specs.Lists.{AddsFront, ending_of}
 use Rattle.tree_client.specs.Making.{Adds, Makes, Reads}
 use Rattle.tree_client.specs.Store.{Command, ShowsIn}
 
--- a call behind calls that only read makes what it makes alone
+-- a call after calls that only read makes what it makes alone
 abbrev pub ReadsBehind : {T : Type 0} → (T → Disk) → Type 0
 ReadsBehind {T} disk = (old mid new : T) (before between after : EngineView) (ops : Params → List Command → List Command) (error : Option ExecErr)
     → Reads (disk old) (disk mid) before between None → Makes (disk mid) (disk new) between after ops error → Makes (disk old) (disk new) before after ops error
 
--- A call behind calls that have added commands adds its own behind them. What it adds is known of each world that engine
+-- A call after calls that have added commands adds its own after them. What it adds is known of each world that engine
 -- and files then may show.
 abbrev pub AddsOn : {T : Type 0} → (T → Disk) → Type 0
 AddsOn {T} disk = (old mid new : T) (before between after : EngineView) (error : Option ExecErr) (p : Params) (w : World Command) (front ops rest : List Command)

@@ -13,7 +13,7 @@ use Rattle.tree_client.specs.Store.{Command, ShowsIn}
 
 module _ (old new : Disk) (before after : EngineView) where
   -- On an engine and files that show the world the call was to add these commands to those of the world, and has added a
-  -- front of them. Where it ended early this is so whatever would have come behind them.
+  -- front of them. Where it ended early this is so whatever would have come after them.
   abbrev pub Adds : Params → World Command → List Command → Option ExecErr → Type 0
   Adds p w ops error = (rest : List Command) → (ending_of error ≡ Done → rest ≡ [])
       → AddsFront all_meaning p old new before after w (commands_of w.history) (ops ++ rest) (ending_of error)

@@ -41,7 +41,7 @@ module _ (lo hi : ℕ) where
     abbrev pub stack_scan : List Part → Result (List Pair) ℕ
     stack_scan parts = fold (λ rest part. both_pairs (part_scan part) rest) (Ok []) parts
 
-    -- what is there, behind it what comes now, and behind that the parts: it is what is there then, and behind it the parts
+    -- what is there, after it what comes now, and after that the parts: it is what is there then, and after it the parts
     pub record GoesOn (now : Result (List Pair) ℕ) (parts : List Part) (pairs : List Pair) (after : List Part) (more : List Pair) : Type 0 where
       pub same : both_pairs (Ok pairs) (both_pairs now (stack_scan parts)) ≡ both_pairs (Ok more) (stack_scan after)
       pub within : AreWithin after

@@ -1,4 +1,4 @@
-// What calls make that come one behind the other.
+// What calls make that come one after the other.
 ghost use Rattle.op_codec.specs.AllOps.{all_meaning};
 ghost use Rattle.command_lists.specs.Laws.{CallsBehind};
 ghost use Rattle.tree_client.specs.Joining.{AddsOn, ReadsBehind, ReadsShort};
@@ -7,7 +7,7 @@ use command_lists::{calls_go_on, fetch_goes_on, fronts_are_joined};
 use disk_model::Machine;
 use op_codec::AllOps;
 
-/// A call behind calls that only read makes what it makes alone.
+/// A call after calls that only read makes what it makes alone.
 pub(crate) fn reads_go_on<M: Machine>()
     ensures { ReadsBehind M.disk }
 {
@@ -15,7 +15,7 @@ pub(crate) fn reads_go_on<M: Machine>()
     fronts_are_joined::<AllOps, M>();
 }
 
-/// A call behind calls that have added commands adds its own behind them.
+/// A call after calls that have added commands adds its own after them.
 pub(crate) fn makes_go_on<M: Machine>()
     ensures calls { CallsBehind all_meaning M.disk }
     ensures front { AddsOn M.disk }
@@ -24,7 +24,7 @@ pub(crate) fn makes_go_on<M: Machine>()
     fronts_are_joined::<AllOps, M>();
 }
 
-/// Calls that only read may run out of memory behind it.
+/// Calls that only read may run out of memory after it.
 pub(crate) fn reads_run_short<M: Machine>()
     ensures { ReadsShort M.disk }
 {

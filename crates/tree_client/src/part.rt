@@ -5,7 +5,7 @@ ghost use Rattle.btree_ops.specs.Entries.{byte_order};
 
 use btree_ops::{Branches, Short};
 
-/// Children of a node that are to be met: the first, and behind it those of the branches. Of their keys those from `from` on
+/// Children of a node that are to be met: the first, and after it those of the branches. Of their keys those from `from` on
 /// and below `to` are asked for, and their ways may have `depth` objects.
 #[derive(Drop)]
 pub(crate) struct Part {

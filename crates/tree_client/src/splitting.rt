@@ -44,7 +44,7 @@ fn first_free<M: Machine>(
     Ok(None)
 }
 
-/// Splits the root with a free object and the least free one behind it.
+/// Splits the root with a free object and the least free one after it.
 fn split_root_beside<M: Machine>(
     engine: &mut Engine<AllOps>,
     machine: &mut M,

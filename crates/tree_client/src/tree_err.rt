@@ -11,7 +11,7 @@ pub enum TreeErr {
     /// The range ends past the last object of the store.
     #[error("the range ends past the last object")]
     NoObject,
-    /// An object that was met is no node, has a child outside the range or the root as a child, or stands behind too long
+    /// An object that was met is no node, has a child outside the range or the root as a child, or stands after too long
     /// a way.
     #[error("object {object} is no node of a tree in this range")]
     BadTree { object: u32 },

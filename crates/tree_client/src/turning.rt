@@ -31,7 +31,7 @@ pub(crate) struct Turn {
 }
 
 /// Finds the command that comes next: the split of the first full node on the way, or the put of the pair, where the key is
-/// there or no node on the way is full. `end` is the number behind the last object of the range.
+/// there or no node on the way is full. `end` is the number after the last object of the range.
 pub(crate) fn next_turn<M: Machine>(
     tree: &Tree,
     engine: &mut Engine<AllOps>,
