@@ -1,5 +1,5 @@
 // The work that bench/table measures, on LMDB or LevelDB: `peers lmdb|leveldb WORK N EVERY LENGTH` in a folder of its own.
-// A key is four bytes, an object's number; what is written is made stable behind each EVERY operations (0: at the end).
+// A key is four bytes, an object's number; what is written is made stable after each EVERY operations (0: at the end).
 // Needs their headers and libraries (Debian: liblmdb-dev, libleveldb-dev); bench/table builds it with what is there.
 #include <algorithm>
 #include <cstdint>
