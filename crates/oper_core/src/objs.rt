@@ -6,7 +6,7 @@ use std::marker::Model;
 #[derive(Drop)]
 pub struct Objs {
     items: [u32; 4],
-    count: usize,
+    count: u32,
 }
 
 impl Model for Objs {
@@ -43,7 +43,7 @@ impl Objs {
         requires { length self.old < 4 }
         ensures { self.new ≡ self.old ++ object ∷ [] }
     {
-        self.items[self.count] = object;
+        self.items[self.count as usize] = object;
         self.count += 1;
     }
 
@@ -52,6 +52,6 @@ impl Objs {
         ensures value { result.now ≡ self.now }
         ensures few { length self.now ≤ 4 }
     {
-        &self.items[..self.count]
+        &self.items[..self.count as usize]
     }
 }
