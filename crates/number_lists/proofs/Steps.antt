@@ -1,5 +1,5 @@
 -- A number is put in front of a list, and the first is taken out.
-use Rattle.std.proofs.Common.{◌≡◌, ◌∙◌, ap, sym, subst, ℕ, zero, suc, ◌+◌, ◌-◌, ◌<◌, ◌≤◌, ◌^◌, Fits, w64, List, [], ◌∷◌, ◌++◌, append_assoc, length, refl, arith}
+use Rattle.std.proofs.Common.{◌≡◌, ◌∙◌, ap, sym, subst, ℕ, zero, suc, ◌+◌, ◌-◌, ◌<◌, ◌≤◌, ◌^◌, Fits, w32, List, [], ◌∷◌, ◌++◌, append_assoc, length, refl, arith}
 use Rattle.std.specs.Prelude.{IsTrue, ◌==◌, slice_set, slice_index, slice_index_or}
 use Rattle.std.proofs.lemmas.Bool.{or_left, or_right, eq-eqb}
 use Rattle.std.proofs.lemmas.List.{map-set, length-set, get_or_default}
@@ -25,7 +25,7 @@ same-sizes next linked nr cs cr i new e = record {
   item_room = ap (λ (n : ℕ). nr - n) e;
 }
 
-pub few-fits : (next : List ℕ) (cs : List Chain) (i : ℕ) (c : Chain) → i < length (lists_of next cs) → c ≡ slice_index_or cs i c → AreApart (lists_of next cs) (length next) → length next < 2 ^ 63 → Fits w64 (c.count + 1)
+pub few-fits : (next : List ℕ) (cs : List Chain) (i : ℕ) (c : Chain) → i < length (lists_of next cs) → c ≡ slice_index_or cs i c → AreApart (lists_of next cs) (length next) → length next ≤ 2 ^ 31 → Fits w32 (c.count + 1)
 few-fits next cs i c lt at are small = let r = few next cs i c (low next cs i lt) at are in Fits-of_lt (omega (arith, r, small))
 
 pushed-lists : (next : List ℕ) (cs : List Chain) (i x : ℕ) (c : Chain) → i < length (lists_of next cs) → x < length next → IsFree (lists_of next cs) x → c ≡ slice_index_or cs i c →

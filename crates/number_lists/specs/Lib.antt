@@ -5,3 +5,4 @@ pub mod Members
 pub mod Marks
 pub mod Back
 pub mod MarkLaws
+pub mod Packed

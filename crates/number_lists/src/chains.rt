@@ -10,11 +10,14 @@ use oper_core::Memory;
 use std::alloc::Global;
 use std::marker::Model;
 
+/// How many numbers there are at most.
+const MOST: usize = 1 << 31;
+
 /// One list: where it begins, and how many numbers it has.
 #[derive(Clone, Copy)]
 struct Chain {
     first: u32,
-    count: usize,
+    count: u32,
 }
 
 /// Lists of numbers, each of which is in one of them at most, as contracts see them.
@@ -25,7 +28,7 @@ pub struct Chains {
 }
 
 impl Model for Chains {
-    ghost use Rattle.std.specs.Prelude.{length};
+    ghost use Rattle.std.specs.Prelude.{◌≤◌, ◌^◌, min, length};
     ghost use Rattle.std.specs.Vec.{vec_capacity};
     ghost use Rattle.number_lists.specs.Lists.{Lists, AreApart};
 
@@ -33,9 +36,9 @@ impl Model for Chains {
 
     ghost use Rattle.number_lists.specs.Followed.{lists_of, view_of};
 
-    ghost view = { λ g. view_of g.next.items (vec_capacity g.next) g.chains.items (vec_capacity g.chains) };
+    ghost view = { λ g. view_of g.next.items (min (vec_capacity g.next) (2 ^ 31)) g.chains.items (vec_capacity g.chains) };
 
-    ghost invariant = { λ g. AreApart (lists_of g.next.items g.chains.items) (length g.next.items) };
+    ghost invariant = { λ g. AreApart (lists_of g.next.items g.chains.items) (length g.next.items) × (length g.next.items ≤ 2 ^ 31) };
 }
 
 impl Chains {
@@ -57,7 +60,7 @@ impl Chains {
         ensures distinct { IsDistinct nat_eq (list_at self.now.lists list) }
     {
         let chain = self.chains[list as usize];
-        chain.count
+        chain.count as usize
     }
 
     /// Puts a number that is in no list in front of a list.
@@ -119,10 +122,11 @@ impl Chains {
         ensures capacity { vec_capacity out.old ≤ vec_capacity out.new }
     {
         let chain = self.chains[list as usize];
-        walk(self.next.as_slice(), chain.first, chain.count, out);
+        walk(self.next.as_slice(), chain.first, chain.count as usize, out);
     }
 
-    /// Makes room for so many more lists and numbers. Nothing else changes, also where it is out of memory.
+    /// Makes room for so many more lists and numbers. Nothing else changes, also where it is out of memory, as
+    /// it is where there would be more numbers than `2^31`.
     pub fn make_room(&mut self, lists: usize, items: usize) -> Result<(), Memory>
         ensures lists { self.new.lists ≡ self.old.lists }
         ensures items { self.new.items ≡ self.old.items }
@@ -131,6 +135,9 @@ impl Chains {
         ensures lists_kept { self.old.list_room ≤ self.new.list_room }
         ensures items_kept { self.old.item_room ≤ self.new.item_room }
     {
+        if items > MOST - self.next.len() {
+            return Err(Memory);
+        }
         self.chains.reserve(lists)?;
         self.next.reserve(items)?;
         Ok(())

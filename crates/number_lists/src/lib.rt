@@ -7,6 +7,7 @@
 mod chains;
 mod number_set;
 mod number_tree;
+mod packed_option;
 mod push;
 #[cfg(test)]
 mod tests;
@@ -14,4 +15,5 @@ mod tests;
 pub use chains::Chains;
 pub use number_set::NumberSet;
 pub use number_tree::NumberTree;
+pub use packed_option::PackedOption;
 pub use push::push_in_room;

@@ -15,4 +15,4 @@ returns-clause-value c =
     ∙ ap (λ (v : Lists). length (list_at v.lists c.args.list)) c.self.view_is
 
 pub returns-clause-distinct : goal.returns-clause-distinct
-returns-clause-distinct c = subst (λ (v : Lists). IsDistinct nat_eq (list_at v.lists c.args.list)) c.self.view_is (c.self.invariant.distinct c.args.list)
+returns-clause-distinct c = subst (λ (v : Lists). IsDistinct nat_eq (list_at v.lists c.args.list)) c.self.view_is (c.self.invariant.0.distinct c.args.list)

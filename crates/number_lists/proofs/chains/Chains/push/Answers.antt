@@ -1,4 +1,5 @@
 use Rattle.std.proofs.Common.{sym, subst, length, ◌<◌, arith}
+use Rattle.std.proofs.lemmas.List.{length-set}
 use Rattle.number_lists.specs.Lists.{Lists, IsFree}
 use Rattle.number_lists.proofs.Steps.{pushed, pushed-apart, few-fits}
 use Rattle.number_lists.proofs.chains.Chains.push.Goals as goal
@@ -6,14 +7,16 @@ use Rattle.number_lists.proofs.chains.Chains.push.Goals as goal
 pub overflow_add-chain : goal.overflow_add-chain
 overflow_add-chain c =
     let lt = subst (λ (v : Lists). c.args.list < length v.lists) (sym c.self.view_is) c.requires.list in
-    few-fits c.self.inside.next.items c.self.inside.chains.items c.args.list c.index-chain.result.now lt c.index-chain.ensures c.self.invariant (omega (arith, c.self.inside.next.ok.0, c.self.inside.next.ok.1, c.self.inside.next.small))
+    few-fits c.self.inside.next.items c.self.inside.chains.items c.args.list c.index-chain.result.now lt c.index-chain.ensures c.self.invariant.0 c.self.invariant.1
 
 pub invariant_of-self : goal.invariant_of-self
 invariant_of-self c =
     let lt = subst (λ (v : Lists). c.args.list < length v.lists) (sym c.self.view_is) c.requires.list in
     let below = subst (λ (v : Lists). c.args.item < v.items) (sym c.self.view_is) c.requires.item in
-    let free = subst (λ (v : Lists). IsFree v.lists c.args.item) (sym c.self.view_is) c.requires.free in
-    pushed-apart c.self.inside.next.items c.self.inside.chains.items c.args.list c.args.item c.index-chain.result.now lt below free c.index-chain.ensures c.self.invariant
+    let free = subst (λ (v : Lists). IsFree v.lists c.args.item) (sym c.self.view_is) c.requires.free in (
+      pushed-apart c.self.inside.next.items c.self.inside.chains.items c.args.list c.args.item c.index-chain.result.now lt below free c.index-chain.ensures c.self.invariant.0,
+      omega (arith, length-set c.self.inside.next.items c.args.item c.index-chain.result.now.first, c.self.invariant.1),
+    )
 
 pub returns : goal.returns
 returns c =
