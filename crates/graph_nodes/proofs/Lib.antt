@@ -18,3 +18,4 @@ pub mod Asked
 pub mod Told
 pub mod Least
 pub mod Pruned
+pub mod Read

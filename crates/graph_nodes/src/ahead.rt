@@ -5,13 +5,13 @@ ghost use Rattle.graph_nodes.specs.Arcs.{AreEnds};
 ghost use Rattle.graph_nodes.specs.Ahead.{AreFollowed, IsAdvanced};
 ghost use Rattle.graph_nodes.specs.Merge.{IsFiled};
 
-use number_lists::{Chains, NumberSet};
+use number_lists::{Chains, NumberSet, PackedOption};
 
 /// Finds the nodes to which arcs from the node n lead, if that is not where the search stops.
 pub(crate) fn advance(
     n: u32,
     stop: u32,
-    arcs: &[Option<u32>],
+    arcs: &[PackedOption],
     node: &[u32],
     members: &Chains,
     slots: &mut Vec<u32>,
@@ -33,7 +33,7 @@ pub(crate) fn advance(
 }
 
 /// Finds the nodes to which arcs from the slots lead.
-fn follow_slots(slots: &[u32], arcs: &[Option<u32>], node: &[u32], ahead: &mut NumberSet)
+fn follow_slots(slots: &[u32], arcs: &[PackedOption], node: &[u32], ahead: &mut NumberSet)
     requires slots { (i : ℕ) → IsTrue (is_among i slots.now) → i < length node.now }
     requires size { length arcs.now ≡ 8 * length node.now }
     requires ends { AreEnds arcs.now node.now ahead.old.end }
@@ -45,7 +45,7 @@ fn follow_slots(slots: &[u32], arcs: &[Option<u32>], node: &[u32], ahead: &mut N
 }
 
 /// Finds the nodes to which arcs from the slot lead.
-fn follow_slot(slot: u32, arcs: &[Option<u32>], node: &[u32], ahead: &mut NumberSet)
+fn follow_slot(slot: u32, arcs: &[PackedOption], node: &[u32], ahead: &mut NumberSet)
     requires cells { 8 * slot + 8 ≤ length arcs.now }
     requires ends { AreEnds arcs.now node.now ahead.old.end }
     ensures { AreFollowed (λ c. c / 8 ≡ slot) arcs.now node.now ahead.old ahead.new }
@@ -56,12 +56,12 @@ fn follow_slot(slot: u32, arcs: &[Option<u32>], node: &[u32], ahead: &mut Number
 }
 
 /// Finds the node to which the cell's arc leads, where it has one.
-fn follow_arc(cell: usize, arcs: &[Option<u32>], node: &[u32], ahead: &mut NumberSet)
+fn follow_arc(cell: usize, arcs: &[PackedOption], node: &[u32], ahead: &mut NumberSet)
     requires cell { cell < length arcs.now }
     requires ends { AreEnds arcs.now node.now ahead.old.end }
     ensures { AreFollowed (λ c. c ≡ cell) arcs.now node.now ahead.old ahead.new }
 {
-    let Some(to) = arcs[cell] else {
+    let Some(to) = arcs[cell].get() else {
         return;
     };
     ahead.add(node[to as usize]);

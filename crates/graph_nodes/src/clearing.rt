@@ -6,12 +6,12 @@ ghost use Rattle.graph_nodes.specs.Removed.{IsInOrder};
 
 use crate::names::Names;
 use crate::settling::settle;
-use number_lists::Chains;
+use number_lists::{Chains, PackedOption};
 
 /// Takes away the arcs of the slots' cells.
 pub(crate) fn clear_slots(
     slots: &[u32],
-    arcs: &mut [Option<u32>],
+    arcs: &mut [PackedOption],
     node: &[u32],
     into: &mut Chains,
     names: &mut Names,
@@ -30,7 +30,7 @@ pub(crate) fn clear_slots(
 /// Takes away the arcs of the slot's eight cells.
 fn clear_slot(
     slot: u32,
-    arcs: &mut [Option<u32>],
+    arcs: &mut [PackedOption],
     node: &[u32],
     into: &mut Chains,
     names: &mut Names,
@@ -49,7 +49,7 @@ fn clear_slot(
 /// Takes away the arc of the cell, if it has one.
 fn clear_arc(
     cell: usize,
-    arcs: &mut [Option<u32>],
+    arcs: &mut [PackedOption],
     node: &[u32],
     into: &mut Chains,
     names: &mut Names,
@@ -60,10 +60,10 @@ fn clear_arc(
     ensures order { IsInOrder arcs.new node.now into.new names.new }
     ensures same { AreNamesSame names.old names.new }
 {
-    let Some(to) = arcs[cell] else {
+    let Some(to) = arcs[cell].get() else {
         return;
     };
-    arcs[cell] = None;
+    arcs[cell] = PackedOption::none();
     let end = node[to as usize];
     settle(end, arcs, node, into);
     names.tell(end, into.count(end) == 0);

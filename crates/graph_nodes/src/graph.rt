@@ -23,7 +23,7 @@ use crate::removing::{release, scatter};
 use crate::spreading::spread;
 use crate::turns::{Way, next_hub, search};
 use crate::uniting::unite;
-use number_lists::{Chains, NumberSet, push_in_room};
+use number_lists::{Chains, NumberSet, PackedOption, push_in_room};
 use oper_core::Memory;
 use std::alloc::Global;
 use std::marker::Model;
@@ -32,7 +32,7 @@ use std::marker::Model;
 #[derive(Drop)]
 pub struct SlotGraph {
     /// Where the arc of each cell leads; a slot has eight cells.
-    arcs: Vec<Option<u32>>,
+    arcs: Vec<PackedOption>,
     /// The slot that stands for the node of each slot.
     node: Vec<u32>,
     /// Whether each slot is held, that is, not removed.
@@ -104,7 +104,7 @@ impl SlotGraph {
         requires { cell < length self.now.arcs }
         ensures { result ≡ arc_at self.now.arcs cell }
     {
-        self.arcs[cell as usize]
+        self.arcs[cell as usize].get()
     }
 
     /// Whether the slot is held: it is until it is removed.
@@ -194,7 +194,7 @@ impl SlotGraph {
             &mut self.found,
             &mut self.taken,
         );
-        self.arcs[cell as usize] = Some(to);
+        self.arcs[cell as usize] = PackedOption::some(to);
         let n = self.node[to as usize];
         self.into.push(n, cell);
         tidy(
@@ -286,7 +286,7 @@ fn join(
     v: u32,
     w: u32,
     hub: u32,
-    arcs: &[Option<u32>],
+    arcs: &[PackedOption],
     node: &mut [u32],
     names: &mut Names,
     members: &mut Chains,
@@ -335,14 +335,14 @@ fn join(
 }
 
 /// Adds eight cells without arcs.
-fn add_cells(arcs: &mut Vec<Option<u32>>, into: &mut Chains)
+fn add_cells(arcs: &mut Vec<PackedOption>, into: &mut Chains)
     requires arcs { vec_len arcs.old + 8 ≤ vec_capacity arcs.old }
     requires into { 8 ≤ into.old.item_room }
     ensures added { AreCellsAdded 8 arcs.old.items arcs.new.items into.old into.new }
     ensures capacity { vec_capacity arcs.old ≤ vec_capacity arcs.new }
 {
     for i in 0..8u32 {
-        push_in_room(arcs, None);
+        push_in_room(arcs, PackedOption::none());
         into.add_item();
     }
 }

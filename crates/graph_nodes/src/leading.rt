@@ -5,14 +5,14 @@ ghost use Rattle.graph_nodes.specs.Arcs.{AreEnds};
 ghost use Rattle.graph_nodes.specs.Merge.{IsFiled};
 ghost use Rattle.graph_nodes.specs.Spread.{LeadsIn, IsLedTo, IsTakenUp, IsRoundDone, IsSpread, IsSpreadTo};
 
-use number_lists::{Chains, NumberSet};
+use number_lists::{Chains, NumberSet, PackedOption};
 
 /// Takes the node v and, of the nodes that were found along the arcs, all from which walks lead to it. That one of these
 /// is such a node, or v, is known before.
 pub(crate) fn spread_back(
     v: u32,
     known: u32,
-    arcs: &[Option<u32>],
+    arcs: &[PackedOption],
     node: &[u32],
     members: &Chains,
     slots: &mut Vec<u32>,
@@ -45,7 +45,7 @@ pub(crate) fn spread_back(
 
 /// Takes each node ahead from which an arc leads to a taken one, in one round from the last to the first.
 fn take_round(
-    arcs: &[Option<u32>],
+    arcs: &[PackedOption],
     node: &[u32],
     members: &Chains,
     slots: &mut Vec<u32>,
@@ -71,7 +71,7 @@ fn take_round(
 /// Takes the node, where an arc leads from it to a taken one, unless it is taken.
 fn take_up(
     n: u32,
-    arcs: &[Option<u32>],
+    arcs: &[PackedOption],
     node: &[u32],
     members: &Chains,
     slots: &mut Vec<u32>,
@@ -96,7 +96,7 @@ fn take_up(
 }
 
 /// Whether an arc leads from one of the slots to a taken node.
-fn one_leads_in(slots: &[u32], arcs: &[Option<u32>], node: &[u32], taken: &NumberSet) -> bool
+fn one_leads_in(slots: &[u32], arcs: &[PackedOption], node: &[u32], taken: &NumberSet) -> bool
     requires slots { (i : ℕ) → IsTrue (is_among i slots.now) → i < length node.now }
     requires size { length arcs.now ≡ 8 * length node.now }
     requires ends { AreEnds arcs.now node.now taken.now.end }
@@ -111,7 +111,7 @@ fn one_leads_in(slots: &[u32], arcs: &[Option<u32>], node: &[u32], taken: &Numbe
 }
 
 /// Whether an arc leads from the slot to a taken node.
-fn slot_leads_in(slot: u32, arcs: &[Option<u32>], node: &[u32], taken: &NumberSet) -> bool
+fn slot_leads_in(slot: u32, arcs: &[PackedOption], node: &[u32], taken: &NumberSet) -> bool
     requires cells { 8 * slot + 8 ≤ length arcs.now }
     requires ends { AreEnds arcs.now node.now taken.now.end }
     ensures { IsTrue result ↔ LeadsIn (λ c. c / 8 ≡ slot) arcs.now node.now taken.now.members }
@@ -125,12 +125,12 @@ fn slot_leads_in(slot: u32, arcs: &[Option<u32>], node: &[u32], taken: &NumberSe
 }
 
 /// Whether the cell has an arc that leads to a taken node.
-fn leads_in(cell: usize, arcs: &[Option<u32>], node: &[u32], taken: &NumberSet) -> bool
+fn leads_in(cell: usize, arcs: &[PackedOption], node: &[u32], taken: &NumberSet) -> bool
     requires cell { cell < length arcs.now }
     requires ends { AreEnds arcs.now node.now taken.now.end }
     ensures { IsTrue result ↔ LeadsIn (λ c. c ≡ cell) arcs.now node.now taken.now.members }
 {
-    let Some(to) = arcs[cell] else {
+    let Some(to) = arcs[cell].get() else {
         return false;
     };
     taken.contains(node[to as usize])

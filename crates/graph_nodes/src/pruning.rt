@@ -7,7 +7,7 @@ ghost use Rattle.graph_nodes.specs.Arcs.{AreCells};
 ghost use Rattle.graph_nodes.specs.Into.{IsSettled, IsPutBack, ArePutBack};
 
 use crate::settling::{is_from_outside, settle};
-use number_lists::Chains;
+use number_lists::{Chains, PackedOption};
 
 /// How many cells may be looked at for each arc that is inserted.
 const SAVED: u64 = 2;
@@ -16,7 +16,7 @@ const SAVED: u64 = 2;
 /// in front. So the lists stay short, at a cost of a few looks for each call.
 pub(crate) fn tidy(
     n: u32,
-    arcs: &[Option<u32>],
+    arcs: &[PackedOption],
     node: &[u32],
     into: &mut Chains,
     cells: &mut Vec<u32>,
@@ -40,7 +40,7 @@ pub(crate) fn tidy(
 }
 
 /// Drops all cells without an arc from another node from the node's list.
-fn prune(n: u32, arcs: &[Option<u32>], node: &[u32], into: &mut Chains, cells: &mut Vec<u32>)
+fn prune(n: u32, arcs: &[PackedOption], node: &[u32], into: &mut Chains, cells: &mut Vec<u32>)
     requires list { n < length into.old.lists }
     requires cells { AreCells arcs.now node.now (list_at into.old.lists n) }
     requires items { length arcs.now ≤ into.old.items }
@@ -54,7 +54,7 @@ fn prune(n: u32, arcs: &[Option<u32>], node: &[u32], into: &mut Chains, cells: &
 }
 
 /// Puts those of the cells into the node's empty list that have an arc from another node.
-fn put_back(cells: &[u32], n: u32, arcs: &[Option<u32>], node: &[u32], into: &mut Chains)
+fn put_back(cells: &[u32], n: u32, arcs: &[PackedOption], node: &[u32], into: &mut Chains)
     requires list { n < length into.old.lists }
     requires cells { AreCells arcs.now node.now cells.now }
     requires distinct { IsDistinct nat_eq cells.now }
@@ -69,7 +69,7 @@ fn put_back(cells: &[u32], n: u32, arcs: &[Option<u32>], node: &[u32], into: &mu
 }
 
 /// Puts the cell into the node's list, if it has an arc from another node.
-fn push_if_outside(cell: u32, n: u32, arcs: &[Option<u32>], node: &[u32], into: &mut Chains)
+fn push_if_outside(cell: u32, n: u32, arcs: &[PackedOption], node: &[u32], into: &mut Chains)
     requires list { n < length into.old.lists }
     requires cell { cell < length arcs.now }
     requires slot { cell / 8 < length node.now }

@@ -5,13 +5,13 @@ ghost use Rattle.number_lists.specs.Lists.{list_at};
 ghost use Rattle.graph_nodes.specs.Arcs.{AreCells, AreBelow};
 ghost use Rattle.graph_nodes.specs.Search.{IsLookedBack, AreLookedBack, IsExpanded};
 
-use number_lists::{Chains, NumberSet};
+use number_lists::{Chains, NumberSet, PackedOption};
 
 /// Finds the nodes from which an arc leads to the node n, if that is not where the search stops.
 pub(crate) fn expand(
     n: u32,
     stop: u32,
-    arcs: &[Option<u32>],
+    arcs: &[PackedOption],
     node: &[u32],
     into: &Chains,
     cells: &mut Vec<u32>,
@@ -32,7 +32,7 @@ pub(crate) fn expand(
 }
 
 /// Finds the nodes from which the cells' arcs lead.
-fn look_back_all(cells: &[u32], arcs: &[Option<u32>], node: &[u32], found: &mut NumberSet)
+fn look_back_all(cells: &[u32], arcs: &[PackedOption], node: &[u32], found: &mut NumberSet)
     requires cells { AreCells arcs.now node.now cells.now }
     requires below { AreBelow node.now found.old.end }
     ensures { AreLookedBack arcs.now node.now cells.now found.old found.new }
@@ -43,13 +43,13 @@ fn look_back_all(cells: &[u32], arcs: &[Option<u32>], node: &[u32], found: &mut 
 }
 
 /// Finds the node from which the cell's arc leads, where it has one.
-fn look_back(cell: u32, arcs: &[Option<u32>], node: &[u32], found: &mut NumberSet)
+fn look_back(cell: u32, arcs: &[PackedOption], node: &[u32], found: &mut NumberSet)
     requires cell { cell < length arcs.now }
     requires slot { cell / 8 < length node.now }
     requires below { AreBelow node.now found.old.end }
     ensures { IsLookedBack arcs.now node.now cell found.old found.new }
 {
-    if arcs[cell as usize].is_none() {
+    if arcs[cell as usize].get().is_none() {
         return;
     }
     found.add(node[cell as usize / 8]);

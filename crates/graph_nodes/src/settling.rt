@@ -3,10 +3,10 @@ ghost use Rattle.number_lists.specs.Lists.{list_at};
 ghost use Rattle.graph_nodes.specs.Arcs.{AreCells, IsFromOutside};
 ghost use Rattle.graph_nodes.specs.Into.{IsSettled};
 
-use number_lists::Chains;
+use number_lists::{Chains, PackedOption};
 
 /// Drops cells from the front of the node's list until the first one has an arc from another node.
-pub(crate) fn settle(n: u32, arcs: &[Option<u32>], node: &[u32], into: &mut Chains)
+pub(crate) fn settle(n: u32, arcs: &[PackedOption], node: &[u32], into: &mut Chains)
     requires list { n < length into.old.lists }
     requires cells { AreCells arcs.now node.now (list_at into.old.lists n) }
     ensures { IsSettled arcs.now node.now n into.old into.new }
@@ -20,13 +20,10 @@ pub(crate) fn settle(n: u32, arcs: &[Option<u32>], node: &[u32], into: &mut Chai
 }
 
 /// Whether the cell has an arc, which starts in another node than n.
-pub(crate) fn is_from_outside(cell: u32, n: u32, arcs: &[Option<u32>], node: &[u32]) -> bool
+pub(crate) fn is_from_outside(cell: u32, n: u32, arcs: &[PackedOption], node: &[u32]) -> bool
     requires cell { cell < length arcs.now }
     requires slot { cell / 8 < length node.now }
     ensures { IsTrue result ↔ IsFromOutside arcs.now node.now cell n }
 {
-    if arcs[cell as usize].is_none() {
-        return false;
-    }
-    node[cell as usize / 8] != n
+    node[cell as usize / 8] != n && arcs[cell as usize].get().is_some()
 }

@@ -6,14 +6,14 @@ ghost use Rattle.graph_nodes.specs.Arcs.{AreCells, AreBelow};
 ghost use Rattle.graph_nodes.specs.Search.{IsBehind};
 ghost use Rattle.graph_nodes.specs.Spread.{StartsIn, StartAmongIn, IsTakenUp, IsRoundDone, IsSpread, IsSpreadTo};
 
-use number_lists::{Chains, NumberSet};
+use number_lists::{Chains, NumberSet, PackedOption};
 
 /// Takes the node w and all that walks from it lead to among the nodes that were found. That one of these is such a node,
 /// or w, is known before.
 pub(crate) fn spread(
     w: u32,
     known: u32,
-    arcs: &[Option<u32>],
+    arcs: &[PackedOption],
     node: &[u32],
     into: &Chains,
     cells: &mut Vec<u32>,
@@ -47,7 +47,7 @@ pub(crate) fn spread(
 /// Takes each found node into which an arc leads from a taken one, in one round over the found nodes. These were found
 /// against the arcs, so the round goes from the last to the first: a chain is then taken in one round.
 fn take_round(
-    arcs: &[Option<u32>],
+    arcs: &[PackedOption],
     node: &[u32],
     into: &Chains,
     cells: &mut Vec<u32>,
@@ -72,7 +72,7 @@ fn take_round(
 /// Takes the node, where an arc leads into it from a taken one, unless it is taken.
 fn take_up(
     n: u32,
-    arcs: &[Option<u32>],
+    arcs: &[PackedOption],
     node: &[u32],
     into: &Chains,
     cells: &mut Vec<u32>,
@@ -96,7 +96,7 @@ fn take_up(
 }
 
 /// Whether the arc of one of the cells starts in a taken node.
-fn one_starts_in(cells: &[u32], arcs: &[Option<u32>], node: &[u32], taken: &NumberSet) -> bool
+fn one_starts_in(cells: &[u32], arcs: &[PackedOption], node: &[u32], taken: &NumberSet) -> bool
     requires cells { AreCells arcs.now node.now cells.now }
     requires below { AreBelow node.now taken.now.end }
     ensures { IsTrue result ↔ StartAmongIn arcs.now node.now cells.now taken.now.members }
@@ -110,13 +110,13 @@ fn one_starts_in(cells: &[u32], arcs: &[Option<u32>], node: &[u32], taken: &Numb
 }
 
 /// Whether the cell has an arc that starts in a taken node.
-fn starts_in(cell: u32, arcs: &[Option<u32>], node: &[u32], taken: &NumberSet) -> bool
+fn starts_in(cell: u32, arcs: &[PackedOption], node: &[u32], taken: &NumberSet) -> bool
     requires cell { cell < length arcs.now }
     requires slot { cell / 8 < length node.now }
     requires below { AreBelow node.now taken.now.end }
     ensures { IsTrue result ↔ StartsIn arcs.now node.now cell taken.now.members }
 {
-    if arcs[cell as usize].is_none() {
+    if arcs[cell as usize].get().is_none() {
         return false;
     }
     taken.contains(node[cell as usize / 8])

@@ -2,15 +2,15 @@ ghost use Rattle.std.specs.Prelude.{◌≡◌, ℕ, ◌<◌, ◌≤◌, ◌+◌,
 ghost use Rattle.std.specs.Vec.{vec_capacity};
 ghost use Rattle.number_lists.specs.Lists.{list_at};
 ghost use Rattle.graph_nodes.specs.Arcs.{AreCells, AreBelow, AreEnds};
-ghost use Rattle.graph_nodes.specs.Ahead.{IsWalkable, IsGoingOn, IsReached, IsStepBack, IsStepAhead, IsTurn};
-ghost use Rattle.graph_nodes.specs.Search.{IsSearching, IsSearched};
+ghost use Rattle.graph_nodes.specs.Ahead.{IsWalkable, IsGoingOn, IsStepBack, IsStepAhead, IsTurn};
+ghost use Rattle.graph_nodes.specs.Search.{IsSearching};
 ghost use Rattle.graph_nodes.specs.Kept.{IsWide, IsAlong, IsAgainst, IsWay};
 ghost use Rattle.graph_nodes.specs.Merge.{IsFiled};
 
 use crate::ahead::advance;
 use crate::front::Front;
 use crate::search::expand;
-use number_lists::{Chains, NumberSet};
+use number_lists::{Chains, NumberSet, PackedOption};
 
 /// With fewer slots a node is not large.
 const LEAST_LARGE: usize = 64;
@@ -31,12 +31,12 @@ pub(crate) enum Way {
 /// Whether w reaches v, and if so, what of the searches has found all that can be on the way.
 ///
 /// One search goes against the arcs from v, and one along them from w, and the one that has cost less so far is next. Where
-/// the hub is large and neither of the two is, no search looks beyond it.
+/// the hub is large and neither of the two is, no search looks beyond it, unless to do without costs more.
 pub(crate) fn search(
     v: u32,
     w: u32,
     hub: u32,
-    arcs: &[Option<u32>],
+    arcs: &[PackedOption],
     node: &[u32],
     members: &Chains,
     into: &Chains,
@@ -87,7 +87,7 @@ fn is_large(n: u32, members: &Chains) -> bool
 fn search_all(
     v: u32,
     w: u32,
-    arcs: &[Option<u32>],
+    arcs: &[PackedOption],
     node: &[u32],
     members: &Chains,
     into: &Chains,
@@ -123,11 +123,12 @@ fn search_all(
 }
 
 /// Two searches, which look everywhere but beyond the hub: at least one is over and has not found it, or both are over.
+/// Where the second goes on for longer than a look beyond the hub takes, two searches that look everywhere are made instead.
 fn search_past(
     v: u32,
     w: u32,
     hub: u32,
-    arcs: &[Option<u32>],
+    arcs: &[PackedOption],
     node: &[u32],
     members: &Chains,
     into: &Chains,
@@ -160,11 +161,18 @@ fn search_past(
     if back.next >= found.len() && !found.contains(hub) {
         return way_against(w, found);
     }
-    go_ahead(hub, arcs, node, members, cells, ahead, &mut on);
+    let limit = cells_of(hub, members);
+    go_ahead(hub, limit, arcs, node, members, cells, ahead, &mut on);
+    if on.next < ahead.len() {
+        return search_all(v, w, arcs, node, members, into, cells, found, ahead);
+    }
     if !ahead.contains(hub) {
         return way_along(v, ahead);
     }
-    go_back(hub, arcs, node, into, cells, found, &mut back);
+    go_back(hub, limit, arcs, node, into, cells, found, &mut back);
+    if back.next < found.len() {
+        return search_all(v, w, arcs, node, members, into, cells, found, ahead);
+    }
     if !found.contains(hub) {
         return way_against(w, found);
     }
@@ -199,7 +207,7 @@ fn take_turns(
     w: u32,
     ahead_stop: u32,
     back_stop: u32,
-    arcs: &[Option<u32>],
+    arcs: &[PackedOption],
     node: &[u32],
     members: &Chains,
     into: &Chains,
@@ -243,10 +251,11 @@ fn take_turns(
     }
 }
 
-/// Goes on with the search against the arcs until it is over.
+/// Goes on with the search against the arcs until it is over, or has looked at more cells than so many.
 fn go_back(
     stop: u32,
-    arcs: &[Option<u32>],
+    limit: u64,
+    arcs: &[PackedOption],
     node: &[u32],
     into: &Chains,
     cells: &mut Vec<u32>,
@@ -257,19 +266,23 @@ fn go_back(
     requires cells { (n : ℕ) → AreCells arcs.now node.now (list_at into.now.lists n) }
     requires below { AreBelow node.now found.old.end }
     requires room { into.now.items ≤ vec_capacity cells.old }
-    ensures found { (v : ℕ) → IsSearching arcs.now node.now into.now v stop back.old.next found.old.members → IsSearched arcs.now node.now into.now v stop found.new.members }
+    ensures found { (v : ℕ) → IsSearching arcs.now node.now into.now v stop back.old.next found.old.members → IsSearching arcs.now node.now into.now v stop back.new.next found.new.members }
     ensures wide { IsWide found.old found.new }
     ensures capacity { vec_capacity cells.old ≤ vec_capacity cells.new }
 {
     'steps: while back.next < found.len() {
+        if back.spent > limit {
+            return;
+        }
         step_back(stop, arcs, node, into, cells, found, back);
     }
 }
 
-/// Goes on with the search along the arcs until it is over.
+/// Goes on with the search along the arcs until it is over, or has looked at more cells than so many.
 fn go_ahead(
     stop: u32,
-    arcs: &[Option<u32>],
+    limit: u64,
+    arcs: &[PackedOption],
     node: &[u32],
     members: &Chains,
     cells: &mut Vec<u32>,
@@ -281,11 +294,14 @@ fn go_ahead(
     requires size { length arcs.now ≡ 8 * length node.now }
     requires ends { AreEnds arcs.now node.now ahead.old.end }
     requires room { members.now.items ≤ vec_capacity cells.old }
-    ensures ahead { (w : ℕ) → IsGoingOn arcs.now node.now w stop on.old.next ahead.old.members → IsReached arcs.now node.now w stop ahead.new.members }
+    ensures ahead { (w : ℕ) → IsGoingOn arcs.now node.now w stop on.old.next ahead.old.members → IsGoingOn arcs.now node.now w stop on.new.next ahead.new.members }
     ensures wide { IsWide ahead.old ahead.new }
     ensures capacity { vec_capacity cells.old ≤ vec_capacity cells.new }
 {
     'steps: while on.next < ahead.len() {
+        if on.spent > limit {
+            return;
+        }
         step_ahead(stop, arcs, node, members, cells, ahead, on);
     }
 }
@@ -294,7 +310,7 @@ fn go_ahead(
 fn turn(
     v: u32,
     w: u32,
-    arcs: &[Option<u32>],
+    arcs: &[PackedOption],
     node: &[u32],
     members: &Chains,
     into: &Chains,
@@ -365,13 +381,20 @@ fn cost_along(n: u32, stop: u32, members: &Chains) -> u64
     if n == stop {
         return 0;
     }
+    cells_of(n, members)
+}
+
+/// How many cells the node's slots have.
+fn cells_of(n: u32, members: &Chains) -> u64
+    requires { n < length members.now.lists }
+{
     (members.count(n) as u64).saturating_mul(8)
 }
 
 /// Looks past the next found node, if that is not where the search stops.
 fn step_back(
     stop: u32,
-    arcs: &[Option<u32>],
+    arcs: &[PackedOption],
     node: &[u32],
     into: &Chains,
     cells: &mut Vec<u32>,
@@ -396,7 +419,7 @@ fn step_back(
 /// Looks ahead of the next found node, if that is not where the search stops.
 fn step_ahead(
     stop: u32,
-    arcs: &[Option<u32>],
+    arcs: &[PackedOption],
     node: &[u32],
     members: &Chains,
     cells: &mut Vec<u32>,

@@ -8,14 +8,14 @@ ghost use Rattle.graph_nodes.specs.Merge.{IsFiled};
 
 use crate::leading::spread_back;
 use crate::spreading::spread;
-use number_lists::{Chains, NumberSet};
+use number_lists::{Chains, NumberSet, PackedOption};
 
 /// Finds the nodes on the way from w to v among those that two searches found, which did not look beyond the hub.
 pub(crate) fn unite(
     v: u32,
     w: u32,
     hub: u32,
-    arcs: &[Option<u32>],
+    arcs: &[PackedOption],
     node: &[u32],
     members: &Chains,
     into: &Chains,
@@ -41,13 +41,13 @@ pub(crate) fn unite(
     ensures ahead { IsWide ahead.old ahead.new }
     ensures capacity { vec_capacity cells.old ≤ vec_capacity cells.new }
 {
-    put_all(ahead, found);
+    add_all(ahead, found);
     spread(w, hub, arcs, node, into, cells, found, ahead);
     spread_back(v, hub, arcs, node, members, cells, ahead, found);
 }
 
 /// Puts the numbers of one set into the other.
-fn put_all(from: &NumberSet, to: &mut NumberSet)
+fn add_all(from: &NumberSet, to: &mut NumberSet)
     requires { from.now.end ≡ to.old.end }
     ensures together { AreTogether to.old.members from.now.members to.new.members }
     ensures wide { IsWide to.old to.new }

@@ -1,36 +1,41 @@
 use Rattle.std.proofs.Common.{◌≡◌, ◌∙◌, ap, sym, subst, ℕ, List, length, arith}
-use Rattle.std.specs.Prelude.{None, slice_index, slice_set}
+use Rattle.std.specs.Prelude.{Option, None, Some, slice_index, slice_set}
 use Rattle.std.proofs.lemmas.List.{length-set}
 use Rattle.number_lists.specs.Lists.{list_at}
-use Rattle.graph_nodes.specs.Arcs.{node_at, name_at}
+use Rattle.graph_nodes.specs.Arcs.{arc_at, node_at, name_at}
 use Rattle.graph_nodes.specs.Into.{IsSettled}
 use Rattle.graph_nodes.specs.Named.{AreNamed}
 use Rattle.graph_nodes.proofs.Found.{node-read}
+use Rattle.graph_nodes.proofs.Read.{arc-read}
 use Rattle.graph_nodes.proofs.Cleared.{cut-led, cut-cleared, ends-left}
 use Rattle.graph_nodes.proofs.Told.{told-settled}
 use Rattle.graph_nodes.proofs.Asked.{free-iff}
 use Rattle.graph_nodes.proofs.clearing.clear_arc.Goals as goal
 
 pub bounds-node-to : goal.bounds-node-to
-bounds-node-to c = (c.requires.order.ends c.args.cell c.in-Some.to c.in-Some.is).0
+bounds-node-to c = (c.requires.order.ends c.args.cell c.in-Some.to (arc-read c.args.arcs.now c.args.cell c.index-arcs-cell.result c.get.result c.in-Some.to c.requires.cell c.index-arcs-cell.is c.get.ensures c.in-Some.is)).0
 
 pub settle-requires-clause-list : goal.settle-requires-clause-list
 settle-requires-clause-list c =
-    let ends = c.requires.order.ends c.args.cell c.in-Some.to c.in-Some.is in
+    let ends = c.requires.order.ends c.args.cell c.in-Some.to (arc-read c.args.arcs.now c.args.cell c.index-arcs-cell.result c.get.result c.in-Some.to c.requires.cell c.index-arcs-cell.is c.get.ensures c.in-Some.is) in
     omega (arith, ends.1, node-read c.args.node.now c.in-Some.to ends.0)
 
 pub count-requires : goal.count-requires
 count-requires c =
-    let ends = c.requires.order.ends c.args.cell c.in-Some.to c.in-Some.is in
+    let ends = c.requires.order.ends c.args.cell c.in-Some.to (arc-read c.args.arcs.now c.args.cell c.index-arcs-cell.result c.get.result c.in-Some.to c.requires.cell c.index-arcs-cell.is c.get.ensures c.in-Some.is) in
     omega (arith, ends.1, node-read c.args.node.now c.in-Some.to ends.0, c.settle.ensures.same.lists)
 
 pub tell-requires : goal.tell-requires
 tell-requires c =
-    let ends = c.requires.order.ends c.args.cell c.in-Some.to c.in-Some.is in
+    let ends = c.requires.order.ends c.args.cell c.in-Some.to (arc-read c.args.arcs.now c.args.cell c.index-arcs-cell.result c.get.result c.in-Some.to c.requires.cell c.index-arcs-cell.is c.get.ensures c.in-Some.is) in
     omega (arith, node-read c.args.node.now c.in-Some.to ends.0, ends.1, c.requires.order.lists, c.requires.order.size)
 
 pub returns-clause-cleared : goal.returns-clause-cleared
-returns-clause-cleared c = cut-cleared c.args.arcs.now c.args.node.now c.args.into.now c.settle.new.into c.args.cell _ c.requires.cell c.settle.ensures
+returns-clause-cleared c =
+    let arcs = c.args.arcs.now in
+    let node = c.args.node.now in
+    let settled : IsSettled (slice_set arcs c.args.cell None) node (slice_index node c.in-Some.to) c.args.into.now c.settle.new.into = subst (λ (o : Option ℕ). IsSettled (slice_set arcs c.args.cell o) node (slice_index node c.in-Some.to) c.args.into.now c.settle.new.into) c.none.ensures c.settle.ensures in
+    rw c.none.ensures (cut-cleared arcs node c.args.into.now c.settle.new.into c.args.cell (slice_index node c.in-Some.to) c.requires.cell settled)
 
 pub returns-clause-order : goal.returns-clause-order
 returns-clause-order c =
@@ -42,16 +47,18 @@ returns-clause-order c =
     let to = c.in-Some.to in
     let cut = slice_set arcs c.args.cell None in
     let t = slice_index node to in
-    let read = node-read node to (was.ends c.args.cell to c.in-Some.is).0 in
+    let is : arc_at arcs c.args.cell ≡ Some to = arc-read c.args.arcs.now c.args.cell c.index-arcs-cell.result c.get.result c.in-Some.to c.requires.cell c.index-arcs-cell.is c.get.ensures c.in-Some.is in
+    let at_t : IsSettled cut node t old new = subst (λ (o : Option ℕ). IsSettled (slice_set arcs c.args.cell o) node t old new) c.none.ensures c.settle.ensures in
+    let read = node-read node to (was.ends c.args.cell to is).0 in
     let name = c.args.names.now.name in
     let member : node_at node (name_at name t) ≡ t = subst (λ (m : ℕ). node_at node (name_at name m) ≡ m) (sym read) (was.named.member to) in
-    let settled : IsSettled cut node (node_at node to) old new = subst (λ (k : ℕ). IsSettled cut node k old new) read c.settle.ensures in
-    record {
+    let settled : IsSettled cut node (node_at node to) old new = subst (λ (k : ℕ). IsSettled cut node k old new) read at_t in
+    rw c.none.ensures record {
       cells = length-set arcs c.args.cell None ∙ was.cells;
       lists = c.settle.ensures.same.lists ∙ was.lists;
       size = ap length c.tell.ensures.name ∙ was.size;
-      ends = ends-left (λ k. k ≡ c.args.cell) arcs cut old new node was.ends (cut-cleared arcs node old new c.args.cell t c.requires.cell c.settle.ensures);
-      led = cut-led arcs node old new c.args.cell to c.requires.cell c.in-Some.is was.led settled;
+      ends = ends-left (λ k. k ≡ c.args.cell) arcs cut old new node was.ends (cut-cleared arcs node old new c.args.cell t c.requires.cell at_t);
+      led = cut-led arcs node old new c.args.cell to c.requires.cell is was.led settled;
       named = subst (λ (xs : List ℕ). AreNamed node xs) (sym c.tell.ensures.name) was.named;
       told = told-settled node old new t _ c.args.names.now c.tell.new.self was.told member c.settle.ensures.others (free-iff (list_at new.lists t) c.count.result c.count.ensures.value) c.tell.ensures;
     }

@@ -1,11 +1,12 @@
 use Rattle.std.proofs.Common.{arith}
 use Rattle.graph_nodes.proofs.Found.{node-read}
+use Rattle.graph_nodes.proofs.Read.{arc-read}
 use Rattle.graph_nodes.proofs.leading.leads_in.Goals as goal
 
 pub bounds-node-to : goal.bounds-node-to
-bounds-node-to c = (c.requires.ends c.args.cell c.in-Some.to c.in-Some.is).0
+bounds-node-to c = (c.requires.ends c.args.cell c.in-Some.to (arc-read c.args.arcs.now c.args.cell c.index-arcs-cell.result c.get.result c.in-Some.to c.requires.cell c.index-arcs-cell.is c.get.ensures c.in-Some.is)).0
 
 pub contains-requires : goal.contains-requires
 contains-requires c =
-    let ends = c.requires.ends c.args.cell c.in-Some.to c.in-Some.is in
+    let ends = c.requires.ends c.args.cell c.in-Some.to (arc-read c.args.arcs.now c.args.cell c.index-arcs-cell.result c.get.result c.in-Some.to c.requires.cell c.index-arcs-cell.is c.get.ensures c.in-Some.is) in
     omega (arith, ends.1, node-read c.args.node.now c.in-Some.to ends.0)

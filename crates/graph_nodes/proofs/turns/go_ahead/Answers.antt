@@ -1,7 +1,7 @@
-use Rattle.std.proofs.Common.{◌∙◌, sym, subst, ℕ, ◌≤◌, length, refl, arith}
+use Rattle.std.proofs.Common.{◌∙◌, sym, subst, ℕ, refl, arith}
 use Rattle.std.specs.Prelude.{slice_index}
 use Rattle.graph_nodes.specs.Ahead.{IsGoingOn}
-use Rattle.graph_nodes.proofs.Followed.{ends-to, going-on, going-end}
+use Rattle.graph_nodes.proofs.Followed.{ends-to, going-on}
 use Rattle.graph_nodes.proofs.turns.go_ahead.Goals as goal
 
 pub steps-preserved : goal.steps-preserved
@@ -18,7 +18,4 @@ pub step_ahead-requires-clause-ends : goal.step_ahead-requires-clause-ends
 step_ahead-requires-clause-ends c = ends-to c.args.arcs.now c.args.node.now c.args.ahead.now.end c.steps.ahead.end c.steps.invariant.1.end c.requires.ends
 
 pub returns-clause-ahead : goal.returns-clause-ahead
-returns-clause-ahead c w start =
-    let ahead = c.steps.ahead.members in
-    let le : length ahead ≤ c.steps.on.next = omega (arith, c.steps-test.false, c.len.ensures.count) in
-    going-end c.args.arcs.now c.args.node.now w c.args.stop c.steps.on.next ahead le (c.steps.invariant.0 w start)
+returns-clause-ahead c w start = c.steps.invariant.0 w start

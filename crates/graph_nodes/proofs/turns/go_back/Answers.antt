@@ -1,7 +1,7 @@
-use Rattle.std.proofs.Common.{◌∙◌, sym, subst, ℕ, ◌<◌, ◌≤◌, length, refl, arith}
+use Rattle.std.proofs.Common.{◌∙◌, sym, subst, ℕ, ◌<◌, length, refl, arith}
 use Rattle.std.specs.Prelude.{slice_index}
 use Rattle.graph_nodes.specs.Search.{IsSearching}
-use Rattle.graph_nodes.proofs.Found.{searching-on, searching-end}
+use Rattle.graph_nodes.proofs.Found.{searching-on}
 use Rattle.graph_nodes.proofs.turns.go_back.Goals as goal
 
 pub steps-preserved : goal.steps-preserved
@@ -16,7 +16,4 @@ steps-preserved c =
     )
 
 pub returns-clause-found : goal.returns-clause-found
-returns-clause-found c v start =
-    let found = c.steps.found.members in
-    let le : length found ≤ c.steps.back.next = omega (arith, c.steps-test.false, c.len.ensures.count) in
-    searching-end c.args.arcs.now c.args.node.now c.args.into.now v c.args.stop c.steps.back.next found le (c.steps.invariant.0 v start)
+returns-clause-found c v start = c.steps.invariant.0 v start

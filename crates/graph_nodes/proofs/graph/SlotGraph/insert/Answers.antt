@@ -60,6 +60,13 @@ pub join-requires-clause-walkable : goal.join-requires-clause-walkable
 join-requires-clause-walkable c =
     walkable-at c.self.inside.arcs.items c.as_slice.result.now c.self.inside.node.items c.as_mut_slice.result.now c.self.inside.held.items c.self.inside.names.name c.self.inside.members c.self.inside.into c.self.inside.found.end c.self.invariant.0 c.self.invariant.1 c.as_slice.ensures.value c.as_mut_slice.ensures.value
 
+pub some-requires : goal.some-requires
+some-requires c =
+    let held = c.self.inside.held.items in
+    let range = c.self.invariant.0.range in
+    let to_held : IsTrue (held_at held c.args.to) = subst (λ (g : Graph). IsTrue (held_at g.held c.args.to)) (sym c.self.view_is) c.requires.to_held in
+    omega (arith, mark-below held c.args.to to_held, range.holds, range.small)
+
 pub push-requires-clause-list : goal.push-requires-clause-list
 push-requires-clause-list c =
     let arcs = c.self.inside.arcs.items in
@@ -152,7 +159,7 @@ tidy-requires-clause-cells c =
     let holds : IsTrue (held_at held (c.args.cell / 8)) = subst (λ (g : Graph). IsTrue (held_at g.held (c.args.cell / 8))) (sym c.self.view_is) c.requires.from_held in
     let push : IsPushed c.join.new.into (node_at new c.args.to) c.args.cell c.push.new.self = subst (λ (k : ℕ). IsPushed c.join.new.into k c.args.cell c.push.new.self) at c.push.ensures in
     let set = slice_set arcs c.args.cell (Some c.args.to) in
-    rw (c.as_slice-2.ensures.value, c.as_slice-3.ensures.value, back)
+    rw (c.as_slice-2.ensures.value, c.as_slice-3.ensures.value, back, c.some.ensures)
     (pushed-cells arcs old new held name names c.self.inside.members c.join.new.members c.self.inside.into c.join.new.into c.push.new.self c.args.cell c.args.to c.index-n.result.now kept cell none holds to join push)
 
 pub invariant_of-self : goal.invariant_of-self
@@ -179,17 +186,18 @@ invariant_of-self c =
     let holds : IsTrue (held_at held (c.args.cell / 8)) = subst (λ (g : Graph). IsTrue (held_at g.held (c.args.cell / 8))) (sym c.self.view_is) c.requires.from_held in
     let push : IsPushed c.join.new.into (node_at new c.args.to) c.args.cell c.push.new.self = subst (λ (k : ℕ). IsPushed c.join.new.into k c.args.cell c.push.new.self) at c.push.ensures in
     let set = slice_set arcs c.args.cell (Some c.args.to) in
+    let stored : slice_set arcs c.args.cell c.some.result ≡ set = ap (λ (o : Option ℕ). slice_set arcs c.args.cell o) c.some.ensures in
     let settle : IsSettled set new (node_at new c.args.to) c.push.new.self c.tidy.new.into =
     subst (λ (k : ℕ). IsSettled set new k c.push.new.self c.tidy.new.into) at
     (subst (λ (xs : List ℕ). IsSettled set xs c.index-n.result.now c.push.new.self c.tidy.new.into) (c.as_slice-3.ensures.value ∙ back)
-    (subst (λ (xs : List (Option ℕ)). IsSettled xs c.as_slice-3.result.now c.index-n.result.now c.push.new.self c.tidy.new.into) c.as_slice-2.ensures.value c.tidy.ensures.settled)) in
+    (subst (λ (xs : List (Option ℕ)). IsSettled xs c.as_slice-3.result.now c.index-n.result.now c.push.new.self c.tidy.new.into) (c.as_slice-2.ensures.value ∙ stored) c.tidy.ensures.settled)) in
     let after = kept-inserted arcs old new held name names c.self.inside.members c.join.new.members c.self.inside.into c.join.new.into c.push.new.self c.tidy.new.into c.args.cell c.args.to kept cell none holds to join push settle in
     let told = c.tell.new.self in
     let tell : IsTold (node_at new c.args.to) (nat_eq c.count.result 0) names told = subst (λ (k : ℕ). IsTold k (nat_eq c.count.result 0) names told) at c.tell.ensures in
     let count : c.count.result ≡ length (list_at c.tidy.new.into.lists (node_at new c.args.to)) = subst (λ (k : ℕ). c.count.result ≡ length (list_at c.tidy.new.into.lists k)) at c.count.ensures.value in
     let marks = marked-inserted arcs old new held name names told c.self.inside.members c.join.new.members c.self.inside.into c.join.new.into c.tidy.new.into (c.args.cell / 8) c.args.to (nat_eq c.count.result 0) kept c.self.invariant.4 to join after.named
     (λ m ne. settle.others m ne ∙ push.others m ne) (free-iff (list_at c.tidy.new.into.lists (node_at new c.args.to)) c.count.result count) tell in (
-      kept-room set set new _ held held names.name told.name c.join.new.members c.join.new.members c.tidy.new.into c.tidy.new.into after refl back refl tell.name refl refl refl refl,
+      kept-room set _ new _ held held names.name told.name c.join.new.members c.join.new.members c.tidy.new.into c.tidy.new.into after stored back refl tell.name refl refl refl refl,
       c.join.ensures.found.end ∙ c.self.invariant.1 ∙ sym (ap length back ∙ join.2.3.size),
       c.join.ensures.taken.end ∙ c.self.invariant.2 ∙ sym (ap length back ∙ join.2.3.size),
       room-more c.self.inside.room (length old) _ (vec_capacity c.self.inside.arcs) _ (vec_capacity c.self.inside.node) _ (vec_capacity c.self.inside.held) _ (vec_capacity c.self.inside.scratch) _ name told c.self.inside.members c.join.new.members c.self.inside.into c.tidy.new.into
@@ -222,12 +230,14 @@ returns-clause-nodes c =
     let holds : IsTrue (held_at held (c.args.cell / 8)) = subst (λ (g : Graph). IsTrue (held_at g.held (c.args.cell / 8))) (sym c.self.view_is) c.requires.from_held in
     let push : IsPushed c.join.new.into (node_at new c.args.to) c.args.cell c.push.new.self = subst (λ (k : ℕ). IsPushed c.join.new.into k c.args.cell c.push.new.self) at c.push.ensures in
     let set = slice_set arcs c.args.cell (Some c.args.to) in
+    let stored : slice_set arcs c.args.cell c.some.result ≡ set = ap (λ (o : Option ℕ). slice_set arcs c.args.cell o) c.some.ensures in
     let settle : IsSettled set new (node_at new c.args.to) c.push.new.self c.tidy.new.into =
     subst (λ (k : ℕ). IsSettled set new k c.push.new.self c.tidy.new.into) at
     (subst (λ (xs : List ℕ). IsSettled set xs c.index-n.result.now c.push.new.self c.tidy.new.into) (c.as_slice-3.ensures.value ∙ back)
-    (subst (λ (xs : List (Option ℕ)). IsSettled xs c.as_slice-3.result.now c.index-n.result.now c.push.new.self c.tidy.new.into) c.as_slice-2.ensures.value c.tidy.ensures.settled)) in
+    (subst (λ (xs : List (Option ℕ)). IsSettled xs c.as_slice-3.result.now c.index-n.result.now c.push.new.self c.tidy.new.into) (c.as_slice-2.ensures.value ∙ stored) c.tidy.ensures.settled)) in
     let after = kept-inserted arcs old new held name names c.self.inside.members c.join.new.members c.self.inside.into c.join.new.into c.push.new.self c.tidy.new.into c.args.cell c.args.to kept cell none holds to join push settle in
-    subst (λ (xs : List ℕ). AreNodes (IsArc set) (node_at xs)) (sym back) after.nodes
+    subst (λ (xs : List ℕ). AreNodes (IsArc (slice_set arcs c.args.cell c.some.result)) (node_at xs)) (sym back)
+    (subst (λ (o : List (Option ℕ)). AreNodes (IsArc o) (node_at new)) (sym stored) after.nodes)
 
 pub count-requires : goal.count-requires
 count-requires c =
@@ -296,4 +306,4 @@ next_hub-self-inside-requires c =
     omega (arith, at, joined-below arcs old new held name names c.self.inside.members c.join.new.members c.self.inside.into c.join.new.into (node_at old (c.args.cell / 8)) c.args.to kept to join, join.2.3.into.same.lists, join.2.3.members.lists, kept.range.into_lists, kept.range.member_lists)
 
 pub returns-clause-arcs : goal.returns-clause-arcs
-returns-clause-arcs c = ap (λ (g : Graph). slice_set g.arcs c.args.cell (Some c.args.to)) c.self.view_is
+returns-clause-arcs c = ap (λ (o : Option ℕ). slice_set c.self.inside.arcs.items c.args.cell o) c.some.ensures ∙ ap (λ (g : Graph). slice_set g.arcs c.args.cell (Some c.args.to)) c.self.view_is

@@ -2,7 +2,7 @@ use Rattle.std.proofs.Common.{◌≡◌, ◌∙◌, ap, sym, subst, ℕ, List, [
 use Rattle.std.proofs.lemmas.List.{take_more}
 use Rattle.graph_nodes.specs.Kept.{AreTogether}
 use Rattle.graph_nodes.proofs.Through.{together-start, together-on}
-use Rattle.graph_nodes.proofs.uniting.put_all.Goals as goal
+use Rattle.graph_nodes.proofs.uniting.add_all.Goals as goal
 
 pub loop-i-init : goal.loop-i-init
 loop-i-init c = (together-start c.args.to.now.members, record { end = refl; room = omega arith })
