@@ -55,3 +55,9 @@ before-after entries n from before after bound i low at later =
       | inl more ↦ absurd (omega (arith, before (suc i) more, later (suc i) (omega arith) (omega (arith, more, bound, len))))
       | inr ge ↦ omega (arith, lt, ge)
     ]
+
+-- where the last number is not greater, none is
+pub before-last : (entries : List Entry) (n count : ℕ) (d : Entry) → NeverFall (numbers entries) → count ≡ length entries → nat_le (slice_index_or entries (count - 1) d).number n ≡ true → (i : ℕ) → i < length entries → slice_index (numbers entries) i ≤ n
+before-last entries n count d never size low i lt =
+    let last : count - 1 < length entries = omega (arith, size, lt) in
+    omega (arith, never i (count - 1) (omega (arith, size, lt)) (omega (arith, last, length-numbers entries)), number-at entries (count - 1) d last, leb-true (slice_index_or entries (count - 1) d).number n low)

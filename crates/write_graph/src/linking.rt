@@ -69,6 +69,7 @@ fn lead_writer(slot: u32, x: u32, earlier: &[Entry], graph: &mut SlotGraph, rows
 pub(crate) fn answer_all(slot: u32, objects: &[u32], graph: &mut SlotGraph, rows: &mut Rows)
     requires slot { slot < length graph.old.node }
     requires held { IsTrue (held_at graph.old.held slot) }
+    requires small { length graph.old.node ≤ 2 ^ 28 }
     requires below { (x w : ℕ) → last_of rows.old x ≡ Some w → w < length graph.old.node }
     requires cells { (x c : ℕ) → IsTrue (is_among c (waiting_of rows.old x)) → c / 8 < length graph.old.node }
     requires room { length objects.now ≤ rows.old.row_room }

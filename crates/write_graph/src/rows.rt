@@ -5,7 +5,7 @@ ghost use Rattle.write_graph.specs.RowTables.{IsRow};
 ghost use Rattle.write_graph.specs.Rows.{last_of, waiting_of, AreEmpty, AreSameLast, AreSameWaiting, IsLastSet, IsWaiting, IsTaken, AreCellsAdded};
 
 use indexmap::IndexSet;
-use number_lists::{Chains, push_in_room};
+use number_lists::{Chains, PackedOption, push_in_room};
 use oper_core::Memory;
 use std::alloc::Global;
 use std::marker::Model;
@@ -17,7 +17,7 @@ const MOST: usize = 1 << 32;
 #[derive(Drop)]
 pub(crate) struct Rows {
     objects: IndexSet<u32>,
-    last: Vec<Option<u32>>,
+    last: Vec<PackedOption>,
     waiting: Chains,
 }
 
@@ -80,16 +80,17 @@ impl Rows {
     {
         let last = self.last.as_slice();
         let row = self.find(x)?;
-        last[row]
+        last[row].get()
     }
 
     /// Sets the slot that wrote the object last.
     pub(crate) fn set_last(&mut self, x: u32, slot: u32)
-        requires { 0 < self.old.row_room }
+        requires room { 0 < self.old.row_room }
+        requires slot { slot < 4294967295 }
         ensures { IsLastSet self.old x slot self.new }
     {
         let row = self.row(x);
-        self.last[row] = Some(slot);
+        self.last[row] = PackedOption::some(slot);
     }
 
     /// Lets a cell that doesn't wait yet wait for the next write of the object.
@@ -127,7 +128,7 @@ impl Rows {
             unreachable!()
         };
         if is_new {
-            push_in_room(&mut self.last, None);
+            push_in_room(&mut self.last, PackedOption::none());
             self.waiting.add_list();
         }
         row
