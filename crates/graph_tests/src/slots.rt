@@ -94,6 +94,29 @@ fn ring(alloc: Global) -> Result<usize, Memory> {
     Ok(graph.node_count())
 }
 
+#[test]
+fn no_arc_is_sought_far_where_one_search_is_cut(rt: HostRuntime) -> Result<(), Fail> {
+    assert!(rt; tail(rt.alloc())? == 199_801);
+    Ok(())
+}
+
+/// How many nodes there are of 200,000 slots, of which 200 are a ring, 1,000 have an arc from it and the others are a chain,
+/// once each of the 1,000 has an arc to the head of the chain.
+fn tail(alloc: Global) -> Result<usize, Memory> {
+    let mut graph = with_slots(alloc, 200_000)?;
+    for i in 0..200u32 {
+        set_arc(&mut graph, 8 * i, (i + 1) % 200);
+    }
+    for to in 1_201..200_000u32 {
+        set_arc(&mut graph, 8 * (to - 1), to);
+    }
+    for i in 0..1_000u32 {
+        set_arc(&mut graph, 8 * (i / 5) + 1 + i % 5, 200 + i);
+        set_arc(&mut graph, 8 * (200 + i), 1_200);
+    }
+    Ok(graph.node_count())
+}
+
 /// A graph of so many slots.
 fn with_slots(alloc: Global, slots: u32) -> Result<SlotGraph, Memory> {
     let mut graph = SlotGraph::new(alloc);
