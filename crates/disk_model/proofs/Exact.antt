@@ -2,22 +2,22 @@
 use Rattle.std.proofs.Common.{◌≡◌, ◌↔◌, ℕ, ◌+◌, ◌≤◌, min, List, [], ◌++◌, length, take, drop, sym, ◌∙◌, ap, subst, arith, append_assoc, length-append, length-drop}
 use Rattle.std.proofs.lemmas.List.{take_all, take_at, drop_at, drop_all, drop-drop, take-append-drop, length-take-le}
 use Rattle.disk_model.specs.Disk.{Files, Torn}
-use Rattle.disk_model.specs.Record.{State, IsImage, Moment, after, start}
-use Rattle.disk_model.specs.RecordLaws.{is_disk, left_now}
+use Rattle.disk_model.specs.Calls.{DiskState, IsImage, Moment, disk_after, disk_start}
+use Rattle.disk_model.specs.CallLaws.{is_disk, left_now}
 use Rattle.disk_model.specs.Recorded.{calls_of, first_of, reads_of, synced_of}
 use Rattle.disk_model.specs.Store.{state_of}
 use Rattle.disk_model.specs.declared.mem_disk.MemDisk.{MemDisk}
 
-pub memory_exact : (d : MemDisk) (c : Files) (s : List ℕ) → Moment (first_of d.files) (calls_of d.calls) (length (calls_of d.calls)) c s ↔ (IsImage (state_of d) c × (s ≡ d.said.bytes.items))
+pub memory_exact : (d : MemDisk) (c : Files) (s : List ℕ) → Moment (first_of d.files) (calls_of d.history) (length (calls_of d.history)) c s ↔ (IsImage (state_of d) c × (s ≡ d.said.bytes.items))
 memory_exact d c s = (
   (λ left.
-      let calls = calls_of d.calls in
+      let calls = calls_of d.history in
       let k_is : left.k ≡ length calls = omega (arith, left.since, left.until) in (
-        subst (λ (st : State). IsImage st c) (ap (λ k. after (start (first_of d.files)) (take k calls)) k_is ∙ ap (λ l. after (start (first_of d.files)) l) (take_all (length calls) calls (omega arith))) left.image,
+        subst (λ (st : DiskState). IsImage st c) (ap (λ k. disk_after (disk_start (first_of d.files)) (take k calls)) k_is ∙ ap (λ l. disk_after (disk_start (first_of d.files)) l) (take_all (length calls) calls (omega arith))) left.image,
         (is_disk (first_of d.files) calls (reads_of d.files) (synced_of d.files) d.said.bytes.items 0 0 d.matches).said_now tt c s left,
       )),
-  (λ (is, said). subst (λ (l : List ℕ). Moment (first_of d.files) (calls_of d.calls) (length (calls_of d.calls)) c l) (sym said)
-      (left_now (first_of d.files) (calls_of d.calls) (reads_of d.files) (synced_of d.files) d.said.bytes.items d.matches c is)),
+  (λ (is, said). subst (λ (l : List ℕ). Moment (first_of d.files) (calls_of d.history) (length (calls_of d.history)) c l) (sym said)
+      (left_now (first_of d.files) (calls_of d.history) (reads_of d.files) (synced_of d.files) d.said.bytes.items d.matches c is)),
 )
 
 pub empty_exact : (at n : ℕ) (left : List ℕ) → Torn at n [] left ↔ (length left ≤ at + n)

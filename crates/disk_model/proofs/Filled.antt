@@ -4,8 +4,8 @@ use Rattle.std.proofs.lemmas.List.{get_or_append_left, get_or-append_right, get_
 use Rattle.std.proofs.lemmas.Bool.{cases_lt}
 use Rattle.disk_model.specs.Disk.{Files, written_over}
 use Rattle.disk_model.specs.Moments.{same_file}
-use Rattle.disk_model.specs.Record.{Call, Write, Sync, Say, State, changed, filled_over, step, after, start}
-use Rattle.disk_model.specs.RecordLaws.{changed_here, changed_others, length-over}
+use Rattle.disk_model.specs.Calls.{Call, Write, Sync, Say, DiskState, changed, filled_over, disk_step, disk_after, disk_start}
+use Rattle.disk_model.specs.CallLaws.{changed_here, changed_others, length-over}
 use Rattle.disk_model.specs.Unsynced.{NoSync, IsUnsynced, IsFilled}
 use Rattle.disk_model.specs.declared.machine.FileNo.{FileNo}
 
@@ -97,63 +97,63 @@ fills_sync byte reads = record {
 }
 
 module _ (byte : ℕ) (file : FileNo) where
-  abbrev FillsAt : (ℕ → Type 0) → State → Type 0
+  abbrev FillsAt : (ℕ → Type 0) → DiskState → Type 0
   FillsAt written st = Filling byte written (st.synced file) (st.reads file) (st.filled byte file)
 
-  fills_on : (calls : List Call) (st : State) (written : ℕ → Type 0) → FillsAt written st → FillsAt (λ i. (written i × NoSync file calls) ⊎ IsUnsynced file i calls) (after st calls)
+  fills_on : (calls : List Call) (st : DiskState) (written : ℕ → Type 0) → FillsAt written st → FillsAt (λ i. (written i × NoSync file calls) ⊎ IsUnsynced file i calls) (disk_after st calls)
   fills_on [] st written f = same_places byte written (λ i. (written i × Unit {0}) ⊎ ⊥) (st.synced file) (st.reads file) (st.filled byte file) (λ i w. inl (w, tt)) (λ i w. ⊎_elim (λ p. p.0) (λ none. absurd none) w) f
   fills_on (Write other at bytes ∷ calls) st written f = elim (same_file file other) [
     | inl is ↦
-        let next = step (Write other at bytes) st in
+        let next = disk_step (Write other at bytes) st in
         let more : ℕ → Type 0 = λ i. written i ⊎ ((at ≤ i) × (i < at + length bytes)) in
         let here : FillsAt more next = subst (λ (g : FileNo). Filling byte more (st.synced g) (changed other (written_over at bytes (st.reads other)) st.reads g) (changed other (filled_over byte at (length bytes) (st.filled byte other)) (st.filled byte) g)) (sym is)
         (subst (λ (l : List ℕ). Filling byte more (st.synced other) l (changed other (filled_over byte at (length bytes) (st.filled byte other)) (st.filled byte) other)) (sym (changed_here other (written_over at bytes (st.reads other)) st.reads))
         (subst (λ (l : List ℕ). Filling byte more (st.synced other) (written_over at bytes (st.reads other)) l) (sym (changed_here other (filled_over byte at (length bytes) (st.filled byte other)) (st.filled byte)))
         (fills_write byte at bytes written (st.synced other) (st.reads other) (st.filled byte other) (subst (λ (g : FileNo). Filling byte written (st.synced g) (st.reads g) (st.filled byte g)) is f)))) in
         same_places byte (λ i. (more i × NoSync file calls) ⊎ IsUnsynced file i calls) (λ i. (written i × NoSync file calls) ⊎ (((file ≡ other) × (at ≤ i) × (i < at + length bytes) × NoSync file calls) ⊎ IsUnsynced file i calls))
-        ((after next calls).synced file) ((after next calls).reads file) ((after next calls).filled byte file)
+        ((disk_after next calls).synced file) ((disk_after next calls).reads file) ((disk_after next calls).filled byte file)
         (λ i w. ⊎_elim (λ p. ⊎_elim (λ old. inl (old, p.1)) (λ range. inr (inl (is, range.0, range.1, p.1))) p.0) (λ later. inr (inr later)) w)
         (λ i w. ⊎_elim (λ p. inl (inl p.0, p.1)) (λ v. ⊎_elim (λ q. inl (inr (q.1, q.2), q.3)) (λ later. inr later) v) w)
         (fills_on calls next more here)
     | inr is_other ↦
-        let next = step (Write other at bytes) st in
+        let next = disk_step (Write other at bytes) st in
         let here : FillsAt written next =
         subst (λ (l : List ℕ). Filling byte written (st.synced file) l (changed other (filled_over byte at (length bytes) (st.filled byte other)) (st.filled byte) file)) (sym (changed_others other (written_over at bytes (st.reads other)) st.reads file is_other))
         (subst (λ (l : List ℕ). Filling byte written (st.synced file) (st.reads file) l) (sym (changed_others other (filled_over byte at (length bytes) (st.filled byte other)) (st.filled byte) file is_other)) f) in
         same_places byte (λ i. (written i × NoSync file calls) ⊎ IsUnsynced file i calls) (λ i. (written i × NoSync file calls) ⊎ (((file ≡ other) × (at ≤ i) × (i < at + length bytes) × NoSync file calls) ⊎ IsUnsynced file i calls))
-        ((after next calls).synced file) ((after next calls).reads file) ((after next calls).filled byte file)
+        ((disk_after next calls).synced file) ((disk_after next calls).reads file) ((disk_after next calls).filled byte file)
         (λ i w. ⊎_elim (λ p. inl p) (λ later. inr (inr later)) w)
         (λ i w. ⊎_elim (λ p. inl p) (λ v. ⊎_elim (λ q. absurd (is_other q.0)) (λ later. inr later) v) w)
         (fills_on calls next written here)
   ]
   fills_on (Sync other ∷ calls) st written f = elim (same_file file other) [
     | inl is ↦
-        let next = step (Sync other) st in
+        let next = disk_step (Sync other) st in
         let here : FillsAt (λ i. ⊥) next = subst (λ (g : FileNo). Filling byte (λ i. ⊥) (changed other (st.reads other) st.synced g) (st.reads g) (changed other (st.reads other) (st.filled byte) g)) (sym is)
         (subst (λ (l : List ℕ). Filling byte (λ i. ⊥) l (st.reads other) (changed other (st.reads other) (st.filled byte) other)) (sym (changed_here other (st.reads other) st.synced))
         (subst (λ (l : List ℕ). Filling byte (λ i. ⊥) (st.reads other) (st.reads other) l) (sym (changed_here other (st.reads other) (st.filled byte))) (fills_sync byte (st.reads other)))) in
         same_places byte (λ i. (⊥ × NoSync file calls) ⊎ IsUnsynced file i calls) (λ i. (written i × ((file ≢ other) × NoSync file calls)) ⊎ IsUnsynced file i calls)
-        ((after next calls).synced file) ((after next calls).reads file) ((after next calls).filled byte file)
+        ((disk_after next calls).synced file) ((disk_after next calls).reads file) ((disk_after next calls).filled byte file)
         (λ i w. ⊎_elim (λ p. absurd p.0) (λ later. inr later) w)
         (λ i w. ⊎_elim (λ p. absurd (p.1.0 is)) (λ later. inr later) w)
         (fills_on calls next (λ i. ⊥) here)
     | inr is_other ↦
-        let next = step (Sync other) st in
+        let next = disk_step (Sync other) st in
         let here : FillsAt written next =
         subst (λ (l : List ℕ). Filling byte written l (st.reads file) (changed other (st.reads other) (st.filled byte) file)) (sym (changed_others other (st.reads other) st.synced file is_other))
         (subst (λ (l : List ℕ). Filling byte written (st.synced file) (st.reads file) l) (sym (changed_others other (st.reads other) (st.filled byte) file is_other)) f) in
         same_places byte (λ i. (written i × NoSync file calls) ⊎ IsUnsynced file i calls) (λ i. (written i × ((file ≢ other) × NoSync file calls)) ⊎ IsUnsynced file i calls)
-        ((after next calls).synced file) ((after next calls).reads file) ((after next calls).filled byte file)
+        ((disk_after next calls).synced file) ((disk_after next calls).reads file) ((disk_after next calls).filled byte file)
         (λ i w. ⊎_elim (λ p. inl (p.0, (is_other, p.1))) (λ later. inr later) w)
         (λ i w. ⊎_elim (λ p. inl (p.0, p.1.1)) (λ later. inr later) w)
         (fills_on calls next written here)
   ]
-  fills_on (Say bytes ∷ calls) st written f = fills_on calls (step (Say bytes) st) written f
+  fills_on (Say bytes ∷ calls) st written f = fills_on calls (disk_step (Say bytes) st) written f
 
-  pub fill_exact : (first : Files) (calls : List Call) → let st = after (start first) calls in IsFilled byte (λ i. IsUnsynced file i calls ⊎ (length (st.synced file) ≤ i)) (st.reads file) (st.filled byte file)
+  pub fill_exact : (first : Files) (calls : List Call) → let st = disk_after (disk_start first) calls in IsFilled byte (λ i. IsUnsynced file i calls ⊎ (length (st.synced file) ≤ i)) (st.reads file) (st.filled byte file)
   fill_exact first calls =
-      let st = after (start first) calls in
-      let f = fills_on calls (start first) (λ i. ⊥) (fills_sync byte (first file)) in
+      let st = disk_after (disk_start first) calls in
+      let f = fills_on calls (disk_start first) (λ i. ⊥) (fills_sync byte (first file)) in
       record {
         size = f.size;
         filled = λ i lt place. f.filled i lt (⊎_elim (λ w. inl (inr w)) (λ past. inr past) place);

@@ -4,7 +4,7 @@ use Rattle.std.proofs.lemmas.List.{append-nil}
 use Rattle.disk_model.specs.Disk.{IsDisk, Runs, Stays, Same, In, Torn, SaysFront}
 use Rattle.disk_model.specs.Fused.{with_faults, runs_with_faults}
 use Rattle.disk_model.specs.Moments.{runs_silent, stays_here}
-use Rattle.disk_model.specs.RecordLaws.{is_disk, torn_none}
+use Rattle.disk_model.specs.CallLaws.{is_disk, torn_none}
 use Rattle.disk_model.specs.Recorded.{calls_of, first_of, reads_of, synced_of}
 use Rattle.disk_model.specs.Store.{recorded}
 use Rattle.disk_model.specs.declared.machine.FileNo.{FileNo}
@@ -12,7 +12,7 @@ use Rattle.disk_model.specs.declared.mem_disk.MemDisk.{MemDisk}
 
 module _ (d : MemDisk) where
   lawful : IsDisk (recorded d)
-  lawful = is_disk (first_of d.files) (calls_of d.calls) (reads_of d.files) (synced_of d.files) d.said.bytes.items 0 0 d.matches
+  lawful = is_disk (first_of d.files) (calls_of d.history) (reads_of d.files) (synced_of d.files) d.said.bytes.items 0 0 d.matches
 
   pub looks : (df df' sf sf' : ℕ) → df ≤ df' → sf ≤ sf' → Stays (with_faults (recorded d) df sf) (with_faults (recorded d) df' sf')
   looks df df' sf sf' a b = runs_with_faults (recorded d) (recorded d) Same Same df df' sf sf' a b (stays_here (recorded d) lawful)

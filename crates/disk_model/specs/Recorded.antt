@@ -2,31 +2,31 @@
 use Rattle.std.specs.Prelude.{◌≡◌, ℕ, ◌+◌, List, [], length, slice_index}
 use Rattle.disk_model.specs.ByFile.{part_of}
 use Rattle.disk_model.specs.Disk.{Files}
-use Rattle.disk_model.specs.Record.{Call}
+use Rattle.disk_model.specs.Calls.{Call}
 use Rattle.disk_model.specs.Entries.{calls_in, replay}
 use Rattle.disk_model.specs.declared.machine.FileNo.{FileNo}
 use Rattle.disk_model.specs.declared.machine.FileNo.TheVariants.{Objects, LogA, LogB}
-use Rattle.disk_model.specs.declared.record.Record.{Record}
+use Rattle.disk_model.specs.declared.call_history.CallHistory.{CallHistory}
 use Rattle.disk_model.specs.declared.entry.Entry.{Entry}
 use Rattle.disk_model.specs.declared.crash.Crash.{Crash}
 use Rattle.disk_model.specs.declared.crash.Crash.TheVariants.{Old, New, Fill}
 use Rattle.disk_model.specs.declared.mem_file.MemFile.{MemFile}
 use Rattle.disk_model.specs.declared.mem_files.MemFiles.{MemFiles}
 
-abbrev pub calls_of : Record → List Call
+abbrev pub calls_of : CallHistory → List Call
 calls_of r = calls_in r.entries.items r.pool.bytes.items
 
 -- no call has been recorded
-pub record IsEmpty (r : Record) : Type 0 where
+pub record IsEmpty (r : CallHistory) : Type 0 where
   pub entries : r.entries.items ≡ []
   pub pool : r.pool.bytes.items ≡ []
 
-pub record HasSameLimits (old new : Record) : Type 0 where
+pub record HasSameLimits (old new : CallHistory) : Type 0 where
   pub limit : new.limit ≡ old.limit
   pub pool : new.pool.bound ≡ old.pool.bound
 
 -- one call more is recorded, with so many bytes
-pub record Takes (count : ℕ) (old new : Record) : Type 0 where
+pub record Takes (count : ℕ) (old new : CallHistory) : Type 0 where
   pub limit : new.limit ≡ old.limit
   pub pool : new.pool.bound ≡ old.pool.bound
   pub calls : length new.entries.items ≡ length old.entries.items + 1

@@ -5,7 +5,7 @@ ghost use Rattle.disk_model.specs.Disk.{Rises};
 use crate::Failed;
 
 /// Counts one more. A count at its last value stays.
-pub fn raise(count: &mut u64)
+pub fn increment(count: &mut u64)
     ensures value { count.new ≡ min (count.old + 1) (2 ^ 64 - 1) }
     ensures no_lower { count.old ≤ count.new }
 {
@@ -26,9 +26,9 @@ pub fn count_call(calls: &mut u64, faults: &mut u64, fails: bool) -> Result<(), 
     ensures err { OnErr result (faults.new ≡ min (faults.old + 1) (2 ^ 64 - 1)) }
     ensures no_lower { faults.old ≤ faults.new }
 {
-    raise(calls);
+    increment(calls);
     if fails {
-        raise(faults);
+        increment(faults);
         return Err(Failed);
     }
     Ok(())
@@ -46,7 +46,7 @@ pub fn counted<T: Drop, E: Drop>(faults: &mut u64, answer: Result<T, E>) -> Resu
     match answer {
         Ok(value) => Ok(value),
         Err(_) => {
-            raise(faults);
+            increment(faults);
             Err(Failed)
         }
     }

@@ -12,7 +12,7 @@ use crate::overwriting::overwrite;
 use crate::{Failed, FileNo, Machine};
 use std::alloc::{AllocError, Global};
 
-/// Three files and what was said, in memory that is taken as they grow. It reports its files and none of its moments. A
+/// Three files and what was printed, in memory that is taken as they grow. It reports its files and none of its moments. A
 /// write that lengthens its file and a `say` fail where memory runs out, which is counted; no other call fails.
 #[derive(Drop)]
 pub struct GrowMem {
@@ -49,7 +49,7 @@ impl GrowMem {
         self.files.get(file)
     }
 
-    /// All bytes said.
+    /// All bytes printed.
     pub fn said(&self) -> &[u8]
         ensures { result.now ≡ (disk_of self.now).said }
     {

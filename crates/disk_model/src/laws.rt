@@ -1,7 +1,7 @@
 // What the definitions say, in the plainest cases.
 ghost use Rattle.std.specs.Prelude.{◌≡◌, ◌↔◌, ◌⊎◌, ◌≤◌, ◌+◌, ◌++◌, ℕ, List, [], length, take, drop};
 ghost use Rattle.disk_model.specs.Disk.{Files, Torn};
-ghost use Rattle.disk_model.specs.Record.{IsImage};
+ghost use Rattle.disk_model.specs.Calls.{IsImage};
 ghost use Rattle.disk_model.specs.Unsynced.{IsUnsynced, IsFilled};
 ghost use Rattle.disk_model.specs.declared.machine.FileNo.{FileNo};
 ghost use Rattle.disk_model.specs.Recorded.{calls_of};
@@ -18,7 +18,7 @@ pub fn memory_leaves_exactly()
 /// A crash that fills with a byte puts it at each offset of a file that no sync has reached, and leaves the others.
 pub fn fill_leaves_exactly()
     ensures { (m : MemMachine) (byte : ℕ) (file : FileNo) → let st = state_of (store_of m) in
-        IsFilled byte (λ i. IsUnsynced file i (calls_of (store_of m).calls) ⊎ (length (st.synced file) ≤ i)) (st.reads file) (st.filled byte file) }
+        IsFilled byte (λ i. IsUnsynced file i (calls_of (store_of m).history) ⊎ (length (st.synced file) ≤ i)) (st.reads file) (st.filled byte file) }
 {}
 
 /// A write into an empty file that was not synced leaves any bytes up to its end, and nothing else.

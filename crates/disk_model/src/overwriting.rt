@@ -15,7 +15,7 @@ pub fn overwrite(into: &mut Vec<u8>, at: usize, bytes: &[u8]) -> Result<(), Allo
         return Err(AllocError);
     };
     lengthen(into, end, 0)?;
-    put(into.as_mut_slice(), at, bytes);
+    copy_into(into.as_mut_slice(), at, bytes);
     Ok(())
 }
 
@@ -32,7 +32,7 @@ pub fn lengthen(into: &mut Vec<u8>, least: usize, byte: u8) -> Result<(), AllocE
     Ok(())
 }
 
-fn put(into: &mut [u8], at: usize, bytes: &[u8])
+fn copy_into(into: &mut [u8], at: usize, bytes: &[u8])
     requires { at + length bytes.now ≤ length into.old }
     ensures { into.new ≡ take at into.old ++ bytes.now ++ drop (at + length bytes.now) into.old }
 {

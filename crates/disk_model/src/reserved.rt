@@ -1,7 +1,7 @@
 // Bytes in memory that was taken when they were made.
 ghost use Rattle.std.specs.Prelude.{◌≡◌, ◌<◌, ◌≤◌, ◌+◌, ◌-◌, ◌++◌, ◌↔◌, [], length, take, drop, replicate, IfOk, IsTrue, vec_len, vec_capacity};
 ghost use Rattle.disk_model.specs.Disk.{written_over};
-ghost use Rattle.disk_model.specs.Record.{filled_over};
+ghost use Rattle.disk_model.specs.Calls.{filled_over};
 
 use crate::overwriting::{lengthen, overwrite};
 use std::alloc::{AllocError, Global};
@@ -79,11 +79,11 @@ impl Reserved {
         ensures bound { self.new.bound ≡ self.old.bound }
     {
         lengthen(&mut self.bytes, at + count, byte).unwrap();
-        put_all(self.bytes.as_mut_slice(), at, count, byte);
+        fill_range(self.bytes.as_mut_slice(), at, count, byte);
     }
 }
 
-fn put_all(into: &mut [u8], at: usize, count: usize, byte: u8)
+fn fill_range(into: &mut [u8], at: usize, count: usize, byte: u8)
     requires { at + count ≤ length into.old }
     ensures { into.new ≡ take at into.old ++ replicate count byte ++ drop (at + count) into.old }
 {

@@ -5,7 +5,7 @@ use Rattle.std.proofs.lemmas.Grind.{same_number_lists}
 use Rattle.byteorder.specs.Endian.{little_bytes, little_number}
 use Rattle.oper_core.specs.LittleEndian.{length-little_bytes, little_number-little_bytes}
 use Rattle.disk_model.specs.Disk.{Torn, Holds}
-use Rattle.disk_model.specs.RecordLaws.{torn_whole}
+use Rattle.disk_model.specs.CallLaws.{torn_whole}
 use Rattle.formats.specs.Bytes.{byte_at, number_at}
 use Rattle.formats.specs.Objects.{identifier_at, length_at}
 use Rattle.stable_objects.specs.Replacing.{AgreesOutside, IsFilled}

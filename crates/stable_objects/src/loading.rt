@@ -73,10 +73,10 @@ fn read_header<M: Machine>(machine: &mut M) -> Result<Params, SlotErr>
 }
 
 impl Slots {
-    /// The slots of the store in the objects file. The head of each slot is read once.
+    /// The slots of the store in the objects file.
     ///
     /// It answers `NotAStore` where the objects gate is not open, `Damaged` where the file breaks its format,
-    /// `DiskFault` where the device fails, and `Memory`. The gate is looked at before memory is taken.
+    /// `DiskFault` where the device fails, and `Memory`, which comes only where the gate is open.
     pub fn load<M: Machine>(alloc: Global, machine: &mut M) -> Result<Slots, SlotErr>
         ensures kept { Stays (M.disk machine.old) (M.disk machine.new) }
         ensures read { (M.disk machine.old).tells_files → IfOk result (λ s. AreOf s ((M.disk machine.old).reads Objects)) }

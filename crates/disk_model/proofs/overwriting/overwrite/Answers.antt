@@ -7,8 +7,8 @@ pub returns-clause-ok : goal.returns-clause-ok
 returns-clause-ok c =
     let old = c.args.into.now.items in
     let into = c.lengthen.new.into in
-    let whole : length c.put.new.into ≡ into.len = omega (arith, c.put.auto.into, c.as_mut_slice.ensures.len) in
+    let whole : length c.copy_into.new.into ≡ into.len = omega (arith, c.copy_into.auto.into, c.as_mut_slice.ensures.len) in
     let end_is : c.in-Some.end ≡ c.args.at + length c.args.bytes.now = omega (arith, c.in-Some.ensures) in
-    take_at c.put.new.into (drop (length c.put.new.into) into.items) into.len whole
-    ∙ put_over 0 c.args.at (length c.args.bytes.now) old c.args.bytes.now c.as_mut_slice.result.now c.put.new.into
-    (c.as_mut_slice.ensures.value ∙ c.in_ok-lengthen.ensures.ok ∙ ap (λ (n : ℕ). old ++ replicate (n - length old) 0) end_is) c.put.ensures
+    take_at c.copy_into.new.into (drop (length c.copy_into.new.into) into.items) into.len whole
+    ∙ put_over 0 c.args.at (length c.args.bytes.now) old c.args.bytes.now c.as_mut_slice.result.now c.copy_into.new.into
+    (c.as_mut_slice.ensures.value ∙ c.in_ok-lengthen.ensures.ok ∙ ap (λ (n : ℕ). old ++ replicate (n - length old) 0) end_is) c.copy_into.ensures

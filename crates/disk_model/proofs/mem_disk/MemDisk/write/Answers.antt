@@ -12,7 +12,7 @@ invariant_of-self c =
     let later = calls_of c.add_write.new.self in
     record {
       matches = same_matches (first_of s.files) (first_of files) later (reads_of files) (reads_of files) (synced_of s.files) (synced_of files) s.said.bytes.items c.write.ensures.first refl c.write.ensures.synced
-          (write_matches (first_of s.files) (calls_of s.calls) (reads_of s.files) (synced_of s.files) s.said.bytes.items s.matches later c.args.file c.args.at c.args.bytes.now c.add_write.ensures.calls (reads_of files) c.write.ensures.reads);
+          (write_matches (first_of s.files) (calls_of s.history) (reads_of s.files) (synced_of s.files) s.said.bytes.items s.matches later c.args.file c.args.at c.args.bytes.now c.add_write.ensures.calls (reads_of files) c.write.ensures.reads);
       said_bound = s.said_bound ∙ sym c.add_write.ensures.takes.pool;
       said_within = omega (arith, s.said_within, c.add_write.ensures.takes.bytes);
     }
@@ -23,4 +23,4 @@ returns-clause-runs c =
     let files = c.write.new.self in
     let later = calls_of c.add_write.new.self in
     same_runs (recorded s) (In c.args.file (Torn c.args.at (length c.args.bytes.now))) Same (first_of s.files) (first_of files) later (reads_of files) (reads_of files) s.said.bytes.items c.write.ensures.first refl
-    (write_runs (first_of s.files) (calls_of s.calls) (reads_of s.files) (synced_of s.files) s.said.bytes.items s.matches later c.args.file c.args.at c.args.bytes.now c.add_write.ensures.calls (reads_of files) c.write.ensures.reads)
+    (write_runs (first_of s.files) (calls_of s.history) (reads_of s.files) (synced_of s.files) s.said.bytes.items s.matches later c.args.file c.args.at c.args.bytes.now c.add_write.ensures.calls (reads_of files) c.write.ensures.reads)

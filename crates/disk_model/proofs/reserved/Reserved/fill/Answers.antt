@@ -11,6 +11,6 @@ from_ok (Err e) ok p = cc
 pub returns-clause-bytes : goal.returns-clause-bytes
 returns-clause-bytes c =
     let into = c.lengthen.new.into in
-    let whole : length c.put_all.new.into ≡ into.len = omega (arith, c.put_all.auto.into, c.as_mut_slice.ensures.len) in
-    take_at c.put_all.new.into (drop (length c.put_all.new.into) into.items) into.len whole
-    ∙ put_over c.args.byte c.args.at c.args.count c.args.self.now.bytes.items (replicate c.args.count c.args.byte) c.as_mut_slice.result.now c.put_all.new.into (c.as_mut_slice.ensures.value ∙ from_ok c.lengthen.result (c.lengthen.ensures.room (omega (arith, c.requires, c.args.self.now.room))) c.lengthen.ensures.ok) c.put_all.ensures
+    let whole : length c.fill_range.new.into ≡ into.len = omega (arith, c.fill_range.auto.into, c.as_mut_slice.ensures.len) in
+    take_at c.fill_range.new.into (drop (length c.fill_range.new.into) into.items) into.len whole
+    ∙ put_over c.args.byte c.args.at c.args.count c.args.self.now.bytes.items (replicate c.args.count c.args.byte) c.as_mut_slice.result.now c.fill_range.new.into (c.as_mut_slice.ensures.value ∙ from_ok c.lengthen.result (c.lengthen.ensures.room (omega (arith, c.requires, c.args.self.now.room))) c.lengthen.ensures.ok) c.fill_range.ensures
