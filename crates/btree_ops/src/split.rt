@@ -20,7 +20,7 @@ pub(crate) fn split_child(parent: &[u8], node: &[u8], child: u32, new: u32) -> R
     let Some(halves) = halves_of(node) else {
         return Err(Refusal::NotNode);
     };
-    let Some(at) = place_behind(child, first, branches.as_slice()) else {
+    let Some(at) = place_after(child, first, branches.as_slice()) else {
         return Err(Refusal::NotNode);
     };
     if branches.is_full() {
@@ -97,7 +97,7 @@ fn listed<T: Copy + Default>(entries: &[T]) -> ArrayVec<T, 7>
 }
 
 /// The place directly after the first branch that leads to the child, if one does.
-fn place_behind(child: u32, first: u32, branches: &[(Short, u32)]) -> Option<usize>
+fn place_after(child: u32, first: u32, branches: &[(Short, u32)]) -> Option<usize>
     ensures some { IfSome result (λ at. (new : List ℕ × ℕ) → behind_child child new first branches.now ≡ Some (insert branches.now at new)) }
     ensures within { IfSome result (λ at. at ≤ length branches.now) }
     ensures none { IfNone result ((new : List ℕ × ℕ) → behind_child child new first branches.now ≡ None) }

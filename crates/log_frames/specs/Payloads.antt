@@ -66,7 +66,7 @@ IsNoLog d it file place =
 
 -- So many of these bytes were taken. The others, with those after them, are no more than a payload may have; they stand
 -- before a gate, and not before the file's beginning.
-pub record IsReading (bytes : List ℕ) (taken place left : ℕ) : Type 0 where
+pub record IsPiece (bytes : List ℕ) (taken place left : ℕ) : Type 0 where
   pub within : taken ≤ length bytes
   pub short : length bytes - taken + left ≤ 2 ^ 30
   pub behind : length bytes - taken ≤ place

@@ -1,9 +1,11 @@
 //! A log file of gated blocks. A block counts from the moment that its gate is open on the disk, so a force is whole
 //! or absent.
 //!
-//! The one contract is [`LogFile::force`]: a crash at any moment of it leaves the payloads from before it, with what
-//! waited as one block more or without. The crate depends on disk_model, whose machines it writes to, and on formats,
-//! which says what the bytes of a log are.
+//! The one contract is that of [`LogFile`]: a crash at any moment of a force leaves the payloads from before it, with what
+//! waited as one block more or without; a crash at any moment of a rewrite leaves the old log in force, or a whole new one.
+//! A [`PayloadReader`] takes a log's payloads one after the other, and brings the bytes of one into memory piece by piece.
+//! The crate depends on disk_model, whose machines it writes to, on formats, which says what the bytes of a log are, on
+//! oper_core for its error, and on byteorder for the numbers in the bytes.
 #![tactic(auto)]
 
 mod creating;

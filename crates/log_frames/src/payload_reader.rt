@@ -14,10 +14,10 @@ use formats::BLOCK_HEAD;
 use std::alloc::Global;
 use std::marker::Model;
 
-// A piece has so many bytes, or as many as are in memory already where that is more, or all that is left.
+// The least number of bytes that are read at a time, unless fewer are left.
 const PIECE: usize = 1 << 16;
 
-/// Stands in the payloads of a log, with one piece of one payload in memory.
+/// Stands in the payloads of a log, with a part of one of them in memory, or all of it.
 #[derive(Drop)]
 pub struct PayloadReader {
     alloc: Global,
@@ -35,17 +35,17 @@ pub struct PayloadReader {
 
 impl Model for PayloadReader {
     ghost use Rattle.std.specs.Prelude.{drop};
-    ghost use Rattle.log_frames.specs.Payloads.{PayloadReaderView, IsReading};
+    ghost use Rattle.log_frames.specs.Payloads.{PayloadReaderView, IsPiece};
 
     ghost Value = { PayloadReaderView };
 
     ghost view = { λ r. record { file = r.file; size = r.size; bytes = drop r.taken r.bytes.items; place = r.place; left = r.left } };
 
-    ghost invariant = { λ r. IsReading r.bytes.items r.taken r.place r.left };
+    ghost invariant = { λ r. IsPiece r.bytes.items r.taken r.place r.left };
 }
 
 // So many bytes of a file at a place, after those in front.
-fn read_behind<M: Machine>(
+fn read_after<M: Machine>(
     alloc: Global,
     machine: &mut M,
     file: FileNo,
@@ -132,8 +132,8 @@ impl PayloadReader {
         Ok(true)
     }
 
-    /// Brings further bytes of the payload in hand into memory: a piece of 64 KiB, as many as are there already where that
-    /// is more, or all that is left; false, and the reader stays, where nothing is. What fails changes nothing.
+    /// Adds further bytes of the payload in hand to those in memory that were not taken: 64 KiB, as many as these where they
+    /// are more, or all that is left. False, and the reader stays, where nothing is left. What fails changes nothing.
     pub fn read_more<M: Machine>(&mut self, machine: &mut M) -> Result<bool, LogErr>
         ensures kept { Stays (M.disk machine.old) (M.disk machine.new) }
         ensures file { self.new.file ≡ self.old.file }
@@ -151,7 +151,7 @@ impl PayloadReader {
         }
         let front = &self.bytes[self.taken..];
         let count = self.left.min(front.len().max(PIECE) as u64);
-        self.bytes = read_behind(
+        self.bytes = read_after(
             self.alloc,
             machine,
             self.file,

@@ -137,7 +137,7 @@ fn write_log<M: Machine>(
 }
 
 // The place after the blocks of these payloads.
-fn end_behind(payloads: &[Payload]) -> u64
+fn end_after(payloads: &[Payload]) -> u64
     requires fits { end_of (bytes_of payloads.now) < 2 ^ 63 }
     ensures { result ≡ end_of (bytes_of payloads.now) }
 {
@@ -150,8 +150,8 @@ fn end_behind(payloads: &[Payload]) -> u64
 
 impl LogFile {
     /// Puts a new log of these payloads, with the next epoch, in the place of this one. It is written into the other
-    /// file, and is in force once its header gate is open. The places of the payloads are not looked at. At
-    /// `DiskFault`, load the log again.
+    /// file, and is in force once its header gate is open. It does not depend on the places of
+    /// the payloads. At `DiskFault`, load the log again.
     pub fn rewrite<M: Machine>(
         &mut self,
         machine: &mut M,
@@ -189,7 +189,7 @@ impl LogFile {
                 epoch: self.header.epoch,
             });
         }
-        let end = end_behind(payloads);
+        let end = end_after(payloads);
         if end >= MAX_LOG {
             return Err(LogErr::LogFull {
                 used: self.used(),

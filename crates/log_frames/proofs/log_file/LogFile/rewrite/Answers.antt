@@ -22,4 +22,4 @@ returns-clause-any_moment g c told =
 pub returns-clause-acknowledged : goal.returns-clause-acknowledged
 returns-clause-acknowledged g c told held rests in_force =
     rewrite_acknowledged (g.M.Machine.disk c.args.machine.now) (g.M.Machine.disk c.write_log.new.machine) _ c.args.base c.args.commands (bytes_of c.args.payloads.now)
-    (omega arith) c.requires.base_low c.requires.base_high c.requires.commands c.args.self.now c.other-file.result _ c.self.view_is c.other-file.ensures c.end_behind-end.ensures c.write_log.ensures.runs told (c.in_ok-write_log.ensures.made told) held rests in_force
+    (omega arith) c.requires.base_low c.requires.base_high c.requires.commands c.args.self.now c.other-file.result _ c.self.view_is c.other-file.ensures c.end_after-end.ensures c.write_log.ensures.runs told (c.in_ok-write_log.ensures.made told) held rests in_force

@@ -1,6 +1,6 @@
 use Rattle.std.proofs.Common.{◌≡◌, ℕ, suc, ◌+◌, Some, insert, ap, ◌∙◌, arith}
 use Rattle.btree_ops.proofs.SplitLemmas.{behind_later, behind_no_child}
-use Rattle.btree_ops.proofs.split.place_behind.Goals as goal
+use Rattle.btree_ops.proofs.split.place_after.Goals as goal
 
 pub returns-then-branches-i-clause-some : goal.returns-then-branches-i-clause-some
 returns-then-branches-i-clause-some c new =

@@ -1,6 +1,6 @@
 use Rattle.std.proofs.Common.{arith, ap, length}
 use Rattle.log_frames.proofs.Rewrites.{end_more, end_within}
-use Rattle.log_frames.proofs.rewriting.end_behind.Goals as goal
+use Rattle.log_frames.proofs.rewriting.end_after.Goals as goal
 
 pub overflow_add-gate-in-loop-payload : goal.overflow_add-gate-in-loop-payload
 overflow_add-gate-in-loop-payload c =
