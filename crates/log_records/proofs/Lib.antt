@@ -6,4 +6,5 @@ mod Starts
 mod Appended
 mod Packed
 mod Numbered
+mod NumberedReading
 mod Rewrites

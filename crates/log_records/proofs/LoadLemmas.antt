@@ -1,8 +1,8 @@
 -- What a loaded log holds, and why a load fails.
-use Rattle.std.proofs.Common.{◌≡◌, ℕ, ◌+◌, ◌-◌, ◌^◌, List, [], ◌∷◌, ◌++◌, length, map, min, refl, sym, ap, ◌∙◌, subst, arith, Result, Ok, Err}
+use Rattle.std.proofs.Common.{◌≡◌, ℕ, ◌+◌, ◌-◌, ◌^◌, List, [], ◌++◌, length, map, min, refl, sym, ap, ◌∙◌, subst, arith, Result, Ok, Err}
 use Rattle.std.specs.Prelude.{All, IfErr, IfOk}
 use Rattle.std.proofs.lemmas.List.{append-nil}
-use Rattle.std.proofs.lemmas.List.Elements.{All-cons, All-nil, All-filter}
+use Rattle.std.proofs.lemmas.List.Elements.{All-filter}
 use Rattle.disk_model.specs.Disk.{Files, Disk, Stays, Rises}
 use Rattle.disk_model.specs.Moments.{stays_settled}
 use Rattle.disk_model.specs.declared.machine.FileNo.{FileNo}
@@ -10,7 +10,7 @@ use Rattle.formats.specs.InForce.{IsInForce, HoldsLog}
 use Rattle.oper_core.specs.Meaning.{Meaning}
 use Rattle.oper_core.specs.declared.bounds.Bounds.{Bounds}
 use Rattle.formats.specs.Log.{Header, end_of, IsWholeLog}
-use Rattle.formats.specs.Records.{payload_of, records_of, commands_of, next_behind, next_after, IsRecord, AreRecords, IsRecordLog, HoldsRecordLog}
+use Rattle.formats.specs.Records.{payload_of, records_of, commands_of, next_after, IsRecord, AreRecords, IsRecordLog, HoldsRecordLog}
 use Rattle.formats.specs.Image.{IsRecordFault}
 use Rattle.formats.specs.declared.record.Record.{Record}
 use Rattle.log_frames.specs.Laws.{no_first_log_fault, one_place}
@@ -34,11 +34,6 @@ module _ {O : Type 0} (m : Meaning O) where
   no_load_fault codes active header groups files f p is (in_record other k place beside has fault) =
       let same = one_place active other header k (map (payload_of m) groups) files (log_of m is) beside has in
       no_record_fault m codes header groups (files active) place is.log (subst (λ (x : FileNo). IsRecordFault m (files x) place) same fault)
-
-  -- records in their places are in the grammar
-  pub all_in_grammar : (base next : ℕ) (records : List (Record O)) → AreRecords m base next records → All (IsRecord m) records
-  all_in_grammar base next [] are = All-nil (IsRecord m)
-  all_in_grammar base next (r ∷ records) are = All-cons (IsRecord m) r records are.0 (all_in_grammar base (next_behind next r) records are.2)
 
   -- the groups that were read make the file a log of records
   pub groups_log : (header : Header) (payloads : List (List ℕ)) (file : List ℕ) (found : List (Record O)) → IsWholeLog header payloads file → (so : AreGroups m payloads found) → AreRecords m header.base header.base found

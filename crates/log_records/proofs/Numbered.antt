@@ -1,14 +1,13 @@
--- The records that a rewrite keeps, and those that it leaves out; those that a redo reads.
-use Rattle.std.proofs.Common.{◌≡◌, ℕ, ◌+◌, ◌-◌, ◌<◌, ◌≤◌, ◌&&◌, nat_le, nat_lt, Bool, true, false, cond, List, [], ◌∷◌, length, refl, sym, ap, ◌∙◌, subst, arith, inl, inr}
-use Rattle.std.proofs.Math.Bool.{and-true}
-use Rattle.std.proofs.lemmas.Bool.{cases_Bool, cases_lt, cond-true, cond-false, not_from_true, not_from_false, and_parts, leb-true, leb-false, ltb-true, lt-ltb, false≢true}
+-- The records that a rewrite keeps, and those that it leaves out.
+use Rattle.std.proofs.Common.{◌≡◌, ℕ, ◌+◌, ◌-◌, ◌<◌, ◌≤◌, true, false, List, [], ◌∷◌, length, refl, sym, ap, ◌∙◌, subst, arith, inl, inr}
+use Rattle.std.proofs.lemmas.Bool.{cases_Bool, cases_lt, cond-true, cond-false, not_from_true, not_from_false, leb-true, leb-false, false≢true}
 use Rattle.oper_core.specs.Meaning.{Meaning}
-use Rattle.formats.specs.Records.{commands_of, next_behind, next_after, IsPlaced, AreRecords, Rise}
+use Rattle.formats.specs.Records.{commands_of, next_behind, next_after, IsPlaced, AreRecords}
 use Rattle.formats.specs.declared.record.Record.{Record}
 use Rattle.formats.specs.declared.record.Record.TheVariants.{Command, Identity, Check}
 use Rattle.log_records.specs.RecordLog.{counts}
-use Rattle.log_records.specs.RecordLaws.{count-append, next_rises}
-use Rattle.log_records.specs.Rewriting.{is_numbered_from, numbered_from, numbered_between, left_out}
+use Rattle.log_records.specs.RecordLaws.{count-append}
+use Rattle.log_records.specs.Rewriting.{is_numbered_from, numbered_from, left_out}
 
 module _ {O : Type 0} (m : Meaning O) (from : ℕ) where
   -- a record that is kept
@@ -99,47 +98,3 @@ module _ {O : Type 0} (m : Meaning O) (from : ℕ) where
           λ low. ap (λ (l : List (Record O)). next_after begun l) kept ∙ rest.1 low,
         )
   ]
-
-module _ {O : Type 0} (m : Meaning O) (from end : ℕ) where
-  same_test : (number : ℕ) → number < end → (nat_le from number && nat_lt number end) ≡ nat_le from number
-  same_test number low = ap (λ (b : Bool). nat_le from number && b) (lt-ltb number end low) ∙ and-true (nat_le from number)
-
-  -- of records in their places all are below a number that is not below the next
-  pub between_all : (base next : ℕ) (records : List (Record O)) → AreRecords m base next records → next_after next records ≤ end → numbered_between from end records ≡ numbered_from from records
-  between_all base next [] are within = refl
-  between_all base next (Command number op ∷ records) are within =
-      let rest = between_all base (next + 1) records are.2 within in
-      let same = same_test number (omega (arith, are.1.0, within, next_rises m (next + 1) records)) in
-      λ i. cond (same i) (Command number op ∷ rest i) (rest i)
-  between_all base next (Identity number x value ∷ records) are within =
-      let rest = between_all base (next + 1) records are.2 within in
-      let same = same_test number (omega (arith, are.1.0, within, next_rises m (next + 1) records)) in
-      λ i. cond (same i) (Identity number x value ∷ rest i) (rest i)
-  between_all base next (Check table ∷ records) are within = between_all base next records are.2 within
-
-  -- the numbers of those between two numbers rise
-  pub rise_between : (base next low last : ℕ) (records : List (Record O)) → AreRecords m base next records → ((k : ℕ) → from ≤ k → next ≤ k → low ≤ k) → end ≤ last → Rise low last (numbered_between from end records)
-  rise_between base next low last [] are above most = tt
-  rise_between base next low last (Command number op ∷ records) are above most = elim (cases_Bool (nat_le from number && nat_lt number end)) [
-    | inl stays ↦
-        let tests = and_parts (nat_le from number) (nat_lt number end) stays in
-        subst (λ (l : List (Record O)). Rise low last l) (sym (cond-true _ _ _ stays)) (
-          above number (leb-true from number tests.0) (omega (arith, are.1.0)),
-          omega (arith, most, ltb-true number end tests.1),
-          rise_between base (next + 1) (number + 1) last records are.2 (λ k one two. omega (arith, two, are.1.0)) most,
-        )
-    | inr goes ↦
-        subst (λ (l : List (Record O)). Rise low last l) (sym (cond-false _ _ _ goes)) (rise_between base (next + 1) low last records are.2 (λ k one two. above k one (omega (arith, two))) most)
-  ]
-  rise_between base next low last (Identity number x value ∷ records) are above most = elim (cases_Bool (nat_le from number && nat_lt number end)) [
-    | inl stays ↦
-        let tests = and_parts (nat_le from number) (nat_lt number end) stays in
-        subst (λ (l : List (Record O)). Rise low last l) (sym (cond-true _ _ _ stays)) (
-          above number (leb-true from number tests.0) (omega (arith, are.1.0)),
-          omega (arith, most, ltb-true number end tests.1),
-          rise_between base (next + 1) (number + 1) last records are.2 (λ k one two. omega (arith, two, are.1.0)) most,
-        )
-    | inr goes ↦
-        subst (λ (l : List (Record O)). Rise low last l) (sym (cond-false _ _ _ goes)) (rise_between base (next + 1) low last records are.2 (λ k one two. above k one (omega (arith, two))) most)
-  ]
-  rise_between base next low last (Check table ∷ records) are above most = rise_between base next low last records are.2 above most

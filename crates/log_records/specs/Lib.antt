@@ -6,5 +6,7 @@ pub mod Rewriting
 pub mod Packing
 pub mod RewriteLaws
 pub mod RecordReader
+pub mod NumberedReader
 pub mod Loading
 pub mod Uniqueness
+pub mod NumberedLaws

@@ -1,4 +1,4 @@
--- A log holds one list of records, and has then no fault in its records.
+-- A log holds one list of records, of which a reader meets the first, and has then no fault in its records.
 use Rattle.std.proofs.Common.{◌≡◌, ℕ, ◌<◌, List, [], ◌∷◌, ◌++◌, length, map, refl, sym, ap, ◌∙◌, subst, arith, append_assoc, length-append}
 use Rattle.std.proofs.lemmas.List.{append_cancel_left}
 use Rattle.disk_model.specs.Disk.{Files}
@@ -10,6 +10,7 @@ use Rattle.formats.specs.Records.{record_code, payload_of, records_of, next_behi
 use Rattle.formats.specs.Image.{IsRecordFault}
 use Rattle.formats.specs.declared.record.Record.{Record}
 use Rattle.formats.specs.declared.record.Record.TheVariants.{Command, Identity, Check}
+use Rattle.log_frames.specs.Forcing.{with_block}
 use Rattle.log_frames.specs.Laws.{one_log, one_in_force, same_header, has_header}
 use Rattle.log_records.specs.CodecLaws.{HasCodes, same_record}
 use Rattle.log_records.specs.RecordLaws.{AreRecords-front, AreRecords-behind, placed-append, next-append}
@@ -38,12 +39,12 @@ module _ {O : Type 0} (m : Meaning O) (codes : HasCodes m) where
     pub wrong_is : wrong ≡ payload_of m others
 
   rest_of : (base next base' next' : ℕ) (before all : List (Record O)) (wrong : List ℕ) → AreRecords m base next before → AreRecords m base' next' all
-      → payload_of m before ++ wrong ≡ payload_of m all → 0 < length wrong → IsRest before all wrong
-  rest_of base next base' next' [] all wrong are_before are_all same some = record { others = all; all_are = refl; wrong_is = same }
-  rest_of base next base' next' (r ∷ before) [] wrong are_before are_all same some = absurd (no_code r (payload_of m before ++ wrong) (sym same ∙ append_assoc (record_code m r) (payload_of m before) wrong))
-  rest_of base next base' next' (r ∷ before) (s ∷ all) wrong are_before are_all same some =
+      → payload_of m before ++ wrong ≡ payload_of m all → IsRest before all wrong
+  rest_of base next base' next' [] all wrong are_before are_all same = record { others = all; all_are = refl; wrong_is = same }
+  rest_of base next base' next' (r ∷ before) [] wrong are_before are_all same = absurd (no_code r (payload_of m before ++ wrong) (sym same ∙ append_assoc (record_code m r) (payload_of m before) wrong))
+  rest_of base next base' next' (r ∷ before) (s ∷ all) wrong are_before are_all same =
       let first = same_first r s (payload_of m before ++ wrong) (payload_of m all) are_before.0 are_all.0 (sym (append_assoc (record_code m r) (payload_of m before) wrong) ∙ same) in
-      let rest = rest_of base (next_behind next r) base' (next_behind next' s) before all wrong are_before.2 are_all.2 first.1 some in
+      let rest = rest_of base (next_behind next r) base' (next_behind next' s) before all wrong are_before.2 are_all.2 first.1 in
       record { others = rest.others; all_are = ap (λ (t : Record O). t ∷ all) (sym first.0) ∙ ap (λ (l : List (Record O)). r ∷ l) rest.all_are; wrong_is = rest.wrong_is }
 
   -- one payload is that of one list of records
@@ -69,6 +70,58 @@ module _ {O : Type 0} (m : Meaning O) (codes : HasCodes m) where
       let rest = one_grouping base (next_after next g) base' (next_after next' h) gs hs (AreRecords-behind m base next g (records_of gs) are_g) (AreRecords-behind m base' next' h (records_of hs) are_h) tails in
       λ i. first i ++ rest i
 
+  -- the records of some groups and of a part of the next one are the first of all
+  pub record FirstOf (all first : List (Record O)) : Type 0 where
+    pub more : List (Record O)
+    pub all_are : all ≡ first ++ more
+
+  with_first : (x : List ℕ) (xs : List (List ℕ)) (bytes : List ℕ) → with_block (x ∷ xs) bytes ≡ x ∷ with_block xs bytes
+  with_first x xs [] = refl
+  with_first x xs (byte ∷ bytes) = refl
+
+  some_code : (r : Record O) (bytes : List ℕ) → with_block [] (record_code m r ++ bytes) ≡ (record_code m r ++ bytes) ∷ []
+  some_code (Command number op) bytes = refl
+  some_code (Identity number x value) bytes = refl
+  some_code (Check table) bytes = refl
+
+  one_block : (r : Record O) (part : List (Record O)) (rest : List ℕ) → with_block [] (payload_of m (r ∷ part) ++ rest) ≡ (payload_of m (r ∷ part) ++ rest) ∷ []
+  one_block r part rest =
+      let split = append_assoc (record_code m r) (payload_of m part) rest in
+      ap (λ (l : List ℕ). with_block [] l) split ∙ some_code r (payload_of m part ++ rest) ∙ ap (λ (l : List ℕ). l ∷ []) (sym split)
+
+  pub first_records : (base next base' next' : ℕ) (gs groups : List (List (Record O))) (part : List (Record O)) (rest : List ℕ) (later : List (List ℕ)) → AreRecords m base next (records_of gs)
+      → AreRecords m base' next' (records_of groups ++ part) → map (payload_of m) gs ≡ with_block (map (payload_of m) groups) (payload_of m part ++ rest) ++ later → FirstOf (records_of gs) (records_of groups ++ part)
+  first_records base next base' next' gs [] [] rest later are_g are same = record { more = records_of gs; all_are = refl }
+  first_records base next base' next' [] [] (r ∷ part) rest later are_g are same = absurd (none_first (same ∙ ap (λ (l : List (List ℕ)). l ++ later) (one_block r part rest)))
+    where
+      none_first : {x : List ℕ} → [] ≡ x ∷ later → ⊥
+      none_first e = cc
+  first_records base next base' next' (g ∷ gs) [] (r ∷ part) rest later are_g are same =
+      let split : payload_of m g ∷ map (payload_of m) gs ≡ (payload_of m (r ∷ part) ++ rest) ∷ later = same ∙ ap (λ (l : List (List ℕ)). l ++ later) (one_block r part rest) in
+      let here : payload_of m g ≡ payload_of m (r ∷ part) ++ rest = cc in
+      let front = rest_of base' next' base next (r ∷ part) g rest are (AreRecords-front m base next g (records_of gs) are_g) (sym here) in
+      record {
+        more = front.others ++ records_of gs;
+        all_are = ap (λ (l : List (Record O)). l ++ records_of gs) front.all_are ∙ append_assoc (r ∷ part) front.others (records_of gs);
+      }
+  first_records base next base' next' [] (h ∷ groups) part rest later are_g are same = absurd (none_there (same ∙ ap (λ (l : List (List ℕ)). l ++ later) (with_first (payload_of m h) (map (payload_of m) groups) (payload_of m part ++ rest))))
+    where
+      none_there : {x : List ℕ} {xs : List (List ℕ)} → [] ≡ x ∷ xs → ⊥
+      none_there e = cc
+  first_records base next base' next' (g ∷ gs) (h ∷ groups) part rest later are_g are same =
+      let split : payload_of m g ∷ map (payload_of m) gs ≡ payload_of m h ∷ (with_block (map (payload_of m) groups) (payload_of m part ++ rest) ++ later) =
+      same ∙ ap (λ (l : List (List ℕ)). l ++ later) (with_first (payload_of m h) (map (payload_of m) groups) (payload_of m part ++ rest)) in
+      let heads : payload_of m g ≡ payload_of m h = cc in
+      let tails : map (payload_of m) gs ≡ with_block (map (payload_of m) groups) (payload_of m part ++ rest) ++ later = cc in
+      let are_h = subst (λ (l : List (Record O)). AreRecords m base' next' l) (append_assoc h (records_of groups) part) are in
+      let first = one_payload base next base' next' g h (AreRecords-front m base next g (records_of gs) are_g) (AreRecords-front m base' next' h (records_of groups ++ part) are_h) heads in
+      let others = first_records base (next_after next g) base' (next_after next' h) gs groups part rest later (AreRecords-behind m base next g (records_of gs) are_g)
+      (AreRecords-behind m base' next' h (records_of groups ++ part) are_h) tails in
+      record {
+        more = others.more;
+        all_are = (λ i. first i ++ others.all_are i) ∙ sym (append_assoc h (records_of groups ++ part) others.more) ∙ ap (λ (l : List (Record O)). l ++ others.more) (sym (append_assoc h (records_of groups) part));
+      }
+
   -- a file holds one list of records
   pub one_record_log : (h k : Header) (gs hs : List (List (Record O))) (file : List ℕ) → IsRecordLog m h gs file → IsRecordLog m k hs file → (h ≡ k) × (records_of gs ≡ records_of hs)
   one_record_log h k gs hs file a b =
@@ -93,7 +146,7 @@ module _ {O : Type 0} (m : Meaning O) (codes : HasCodes m) where
       let here : payload_of m g ≡ payload_of m before ++ wrong = cc in
       let n = next_after base front in
       let are_here = AreRecords-front m base n g (records_of gs) are_g in
-      let rest = rest_of base n base n before g wrong are_b are_here (sym here) some in
+      let rest = rest_of base n base n before g wrong are_b are_here (sym here) in
       next_one rest.others rest.all_are rest.wrong_is are_here
     where
       next_one : (others : List (Record O)) → g ≡ before ++ others → wrong ≡ payload_of m others → AreRecords m base (next_after base front) g → ⊥
@@ -159,7 +212,7 @@ module _ {O : Type 0} (m : Meaning O) (codes : HasCodes m) where
       → payload_of m before ++ wrong ≡ payload_of m all → 0 < length wrong → NoneNext base (next_after next before) wrong → ⊥
   not_whole base next before all behind wrong are also same some none =
       let are_all = AreRecords-front m base next all behind also in
-      let rest = rest_of base next base next before all wrong are are_all same some in
+      let rest = rest_of base next base next before all wrong are are_all same in
       first_of rest.others rest.all_are rest.wrong_is are_all
     where
       first_of : (others : List (Record O)) → all ≡ before ++ others → wrong ≡ payload_of m others → AreRecords m base next all → ⊥

@@ -14,6 +14,7 @@ mod counted;
 mod encoding;
 mod forcing;
 mod loading;
+mod numbered_reader;
 mod placing;
 mod record_log;
 mod record_reader;
@@ -22,4 +23,5 @@ mod tail;
 
 pub use codec::{decode, encode, one_record};
 pub use encoding::EncodedCommand;
+pub use numbered_reader::NumberedReader;
 pub use record_log::RecordLog;

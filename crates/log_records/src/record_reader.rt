@@ -19,7 +19,8 @@ use oper_core::{Bounds, Memory, Oper};
 use std::alloc::Global;
 use std::marker::{Model, PhantomData};
 
-/// Stands in the records of a log, with one piece of one payload in memory.
+/// Stands in the records of a log, with one piece of one payload in memory. Where a record goes on after it, further pieces
+/// are added, each as long as what is in memory then, until the record is whole.
 #[derive(Drop)]
 pub struct RecordReader<O: Oper> {
     alloc: Global,

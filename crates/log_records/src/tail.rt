@@ -57,7 +57,7 @@ fn stable_records<O: Oper, M: Machine>(
 }
 
 // Whether a record has a number, from this one on and below that one.
-fn is_between<O: Oper>(record: &Record<O>, from: u64, end: u64) -> bool
+pub(crate) fn is_between<O: Oper>(record: &Record<O>, from: u64, end: u64) -> bool
     ensures { result ≡ is_between from end «record».now }
 {
     match record {

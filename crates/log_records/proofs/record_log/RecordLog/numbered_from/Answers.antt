@@ -8,12 +8,12 @@ use Rattle.formats.specs.declared.record.Record.{Record}
 use Rattle.log_frames.specs.Reading.{FailsBy, none_told}
 use Rattle.log_records.specs.CodecLaws.{has_codes}
 use Rattle.log_records.specs.Loading.{IsTailFault}
+use Rattle.log_records.specs.NumberedLaws.{all_in_grammar, between_all, rise_between}
 use Rattle.log_records.specs.RecordLaws.{next-append, next_rises}
 use Rattle.log_records.specs.RecordLog.{RecordLogView, Keeps}
 use Rattle.log_records.specs.Rewriting.{is_between, numbered_from}
 use Rattle.log_records.specs.Uniqueness.{no_record_fault}
-use Rattle.log_records.proofs.LoadLemmas.{all_in_grammar, found_stable}
-use Rattle.log_records.proofs.Numbered.{between_all, rise_between}
+use Rattle.log_records.proofs.LoadLemmas.{found_stable}
 use Rattle.log_records.proofs.record_log.RecordLog.numbered_from.Goals as goal
 
 pub returns-in_err-found-clause-undamaged : goal.returns-in_err-found-clause-undamaged

@@ -5,10 +5,11 @@ use Rattle.formats.specs.Records.{payload_of}
 use Rattle.log_frames.specs.Reading.{FailsBy, none_told}
 use Rattle.log_records.specs.CodecLaws.{has_codes}
 use Rattle.log_records.specs.Loading.{IsTailFault}
+use Rattle.log_records.specs.NumberedLaws.{all_in_grammar}
 use Rattle.log_records.specs.RecordLog.{RecordLogView, Keeps}
 use Rattle.log_records.specs.RecordReader.{AreAll}
 use Rattle.log_records.specs.Uniqueness.{no_record_fault}
-use Rattle.log_records.proofs.LoadLemmas.{all_in_grammar, found_stable}
+use Rattle.log_records.proofs.LoadLemmas.{found_stable}
 use Rattle.log_records.proofs.record_log.RecordLog.stable.Goals as goal
 
 pub returns-in_err-records-clause-undamaged : goal.returns-in_err-records-clause-undamaged
