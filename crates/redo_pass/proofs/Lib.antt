@@ -8,6 +8,7 @@ mod Goes
 mod Fronts
 mod Limits
 mod Loops
+mod Doing
 mod Small
 mod Dues
 mod Replaying

@@ -38,14 +38,8 @@ use Rattle.redo_pass.specs.Replayed.{IsNextRecord, after_record}
 use Rattle.redo_pass.specs.Rising.{AreMembers, IsBelow}
 use Rattle.redo_pass.proofs.Begins.{empty_shows, some_held}
 use Rattle.redo_pass.proofs.Ends.{at}
+use Rattle.redo_pass.proofs.Fronts.{behind}
 use Rattle.redo_pass.proofs.Goes.{numbered_within}
-
--- from a lower number on they rise too
-pub rise_lower : {O : Type 0} (k low end : ℕ) (rs : List (Record O)) → k ≤ low → Rise low end rs → Rise k end rs
-rise_lower k low end [] le rise = tt
-rise_lower k low end (Command number op ∷ rs) le rise = (omega (arith, le, rise.0), rise.1, rise.2)
-rise_lower k low end (Identity number x value ∷ rs) le rise = (omega (arith, le, rise.0), rise.1, rise.2)
-rise_lower k low end (Check t ∷ rs) le rise = rise_lower k low end rs le rise
 
 -- what is in use below a number is so below a greater one
 pub in_use_later : (p : Params) (low next : ℕ) (it : Store) → low ≤ next → next ≤ 2 ^ 62 → AreInUse p low it → AreInUse p next it
@@ -73,12 +67,6 @@ is_above p low it (Command number op) rest is rise = (rise.1, λ k d within. ome
 is_above p low it (Identity number x value) rest is rise = (rise.1, λ k d within. omega (arith, is.above k d within, rise.0))
 is_above p low it (Check t) rest is rise = tt
 
--- the number from which on those after a record rise
-abbrev pub behind : {O : Type 0} → ℕ → Record O → ℕ
-behind low (Command number op) = number + 1
-behind low (Identity number x value) = number + 1
-behind low (Check t) = low
-
 pub behind_rise : {O : Type 0} (low end : ℕ) (r : Record O) (rest : List (Record O)) → low ≤ end → Rise low end (r ∷ rest) → (behind low r ≤ end) × Rise (behind low r) end rest
 behind_rise low end (Command number op) rest le rise = (omega (arith, rise.1), rise.2)
 behind_rise low end (Identity number x value) rest le rise = (omega (arith, rise.1), rise.2)
@@ -92,11 +80,9 @@ behind_in_use p low before after (Check t) rest is rise goes = goes low tt is
 
 module _ {O : Type 0} (m : Meaning O) (p : Params) (limit : ℕ) (w : World O) where
   -- no record is replayed yet
-  pub begun : (files : Files) (slots : SlotsView) (plan : PlanView) (records items : List (Record O)) (it : Store) → IsDue m p files slots plan records w
-      → it.objects.slots ≡ slots → ((x : ℕ) → held it.objects.cache x ≡ None) → it.entries ≡ []
-      → ((h : List (Member O)) (k : ℕ) → AreMembers h k records → k ≤ plan.start → plan.start ≤ length h + 1 → AreMembers h plan.start items)
-      → SoFar m p files it limit w items
-  begun files slots plan records items it due same none empty from =
+  pub begun : (files : Files) (slots : SlotsView) (plan : PlanView) (records : List (Record O)) (it : Store) → IsDue m p files slots plan records w
+      → it.objects.slots ≡ slots → ((x : ℕ) → held it.objects.cache x ≡ None) → it.entries ≡ [] → AreMembers w.history plan.start records → SoFar m p files it limit w records
+  begun files slots plan records it due same none empty members =
       let here = run_zero m limit w in
       let clean : (x : ℕ) → is_dirty_in w x ≡ false = λ x. ap not (eq-eqb (w.slots x).id (w.cache x).id (ap (λ (c : ℕ → Cell). (c x).id) (sym (crashed-cache m w due.found.crashed)))) in
       let few : dirty_in m w ≡ 0 = count_same m.objects (is_dirty_in w) (λ x. false) (λ x below. clean x) ∙ count_none m.objects in
@@ -108,8 +94,7 @@ module _ {O : Type 0} (m : Meaning O) (p : Params) (limit : ℕ) (w : World O) w
           store_shows = subst (λ (v : World O). ShowsStore m p (files Objects) it v) here (empty_shows m p files slots plan records w due it same none empty);
         };
         enough = ap (must_install m limit) (sym here) ∙ enough;
-        members = subst (λ (k : ℕ). AreMembers w.history k items) (due.start ∙ ap (λ (v : World O). v.next) here)
-            (from w.history due.from due.members (omega (arith, due.start, due.low)) (omega (arith, due.start, due.found.sound.next.1)));
+        members = subst (λ (k : ℕ). AreMembers w.history k records) (due.start ∙ ap (λ (v : World O). v.next) here) members;
       }
 
   -- the first of the records that are left is the next to be replayed

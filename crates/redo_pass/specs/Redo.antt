@@ -1,10 +1,12 @@
 -- What a redo begins with, and what it leaves.
-use Rattle.std.specs.Prelude.{◌≡◌, ◌≤◌, ◌-◌, ◌*◌, ℕ, false, List}
-use Rattle.disk_model.specs.Disk.{Files}
+use Rattle.std.specs.Prelude.{◌≡◌, ◌≤◌, ◌-◌, ◌*◌, ℕ, false, List, []}
+use Rattle.disk_model.specs.Disk.{Files, Disk}
 use Rattle.disk_model.specs.declared.machine.FileNo.TheVariants.{Objects}
 use Rattle.oper_core.specs.Meaning.{Meaning, state_after}
 use Rattle.formats.specs.declared.params.Params.{Params}
 use Rattle.formats.specs.declared.record.Record.{Record}
+use Rattle.log_records.specs.RecordLog.{RecordLogView, Keeps}
+use Rattle.log_records.specs.Rewriting.{numbered_from}
 use Rattle.stable_objects.specs.SlotsView.{SlotsView, AreOf}
 use Rattle.explain_core.specs.History.{commands_of}
 use Rattle.explain_core.specs.Turns.{must_install, turns}
@@ -27,6 +29,12 @@ pub record IsDue {O : Type 0} (m : Meaning O) (p : Params) (files : Files) (slot
   pub members : AreMembers w.history from records
   pub start : plan.start ≡ w.next
   pub table : table_of plan.table ≡ plan_of w.tables w.base
+
+-- The same, where the log keeps some records, all of which are stable, and the plan's start says which of them are due.
+pub record IsLogDue {O : Type 0} (m : Meaning O) (p : Params) (d : Disk) (log : RecordLogView) (slots : SlotsView) (plan : PlanView) (w : World O) : Type 0 where
+  pub stable : List (Record O)
+  pub keeps : Keeps m d log stable []
+  pub due : IsDue m p d.reads slots plan (numbered_from plan.start stable) w
 
 -- the steps of a whole redo: all its turns, of which there are at most twice as many as members are left to replay
 abbrev pub redo_steps : {O : Type 0} → Meaning O → ℕ → World O → List (Step O)

@@ -1,5 +1,5 @@
 -- Records that are the members of a history from a number on.
-use Rattle.std.specs.Prelude.{◌≡◌, ◌<◌, ◌+◌, ⊤, ℕ, Bool, false, nat_le, Some, List, [], ◌∷◌, length}
+use Rattle.std.specs.Prelude.{◌≡◌, ◌<◌, ◌+◌, ⊤, ℕ, Some, List, [], ◌∷◌, length}
 use Rattle.formats.specs.declared.record.Record.{Record}
 use Rattle.formats.specs.declared.record.Record.TheVariants.{Command, Identity, Check}
 use Rattle.explain_core.specs.History.{Member, numbered}
@@ -10,12 +10,6 @@ abbrev pub IsBelow : {O : Type 0} → ℕ → Record O → Type 0
 IsBelow end (Command number op) = number < end
 IsBelow end (Identity number x value) = number < end
 IsBelow end (Check table) = ⊤
-
--- the record has this number or a greater one; a check has none
-abbrev pub starts_from : {O : Type 0} → ℕ → Record O → Bool
-starts_from start (Command number op) = nat_le start number
-starts_from start (Identity number x value) = nat_le start number
-starts_from start (Check table) = false
 
 -- the numbered records are the members of the history from the number k on, to its end
 abbrev pub AreMembers : {O : Type 0} → List (Member O) → ℕ → List (Record O) → Type 0

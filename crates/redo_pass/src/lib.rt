@@ -3,8 +3,8 @@
 //! The one contract is [`redo`]: of each world of the theory that a restart finds in the files, all steps of its redo are
 //! taken, and at each moment each image shows the world after some first ones of these. The crate depends on analysis_pass
 //! for where a redo starts, on cache_manager for the objects and for the install of a thin node, on write_graph for the
-//! graph that it makes, on explain_core and standing for worlds, on formats for the records, and on log_records for which
-//! of a log's records a redo wants.
+//! graph that it makes, on explain_core and standing for worlds, on formats for the records, and on log_records for the log
+//! that they are read from.
 #![tactic(auto)]
 
 mod choosing;
@@ -14,7 +14,6 @@ mod limit;
 mod redo_err;
 mod redoing;
 mod replay;
-mod starting;
 mod tuning;
 
 pub use laws::{

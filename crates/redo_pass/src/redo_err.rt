@@ -1,9 +1,10 @@
 ghost use Rattle.std.specs.Prelude.{◌≡◌};
-ghost use Rattle.redo_pass.specs.Causes.{from_slots, from_installs};
+ghost use Rattle.redo_pass.specs.Causes.{from_slots, from_installs, from_log};
 ghost use Rattle.redo_pass.specs.declared.redo_err.RedoErr.TheVariants.{DiskFault, Memory as OutOfMemory};
 
 use cache_manager::InstallErr;
 use disk_model::{Failed, FileNo};
+use log_frames::LogErr;
 use oper_core::Memory;
 use stable_objects::SlotErr;
 use thiserror::Error;
@@ -14,7 +15,7 @@ pub enum RedoErr {
     /// The disk failed.
     #[error("the disk failed")]
     DiskFault,
-    /// A slot that was read breaks its format, in this file at this place.
+    /// A slot or a record that was read breaks its format, in this file at this place.
     #[error("{file:?} is damaged at {place}")]
     Damaged { file: FileNo, place: u64 },
     /// Out of memory.
@@ -60,6 +61,19 @@ impl From<InstallErr> for RedoErr {
             InstallErr::DiskFault => RedoErr::DiskFault,
             InstallErr::LogFull { .. } | InstallErr::LsnEnd { .. } | InstallErr::Memory =>
                 RedoErr::Memory,
+        }
+    }
+}
+
+impl From<LogErr> for RedoErr {
+    ghost from_gives = { λ cause e. e ≡ from_log cause };
+
+    // A log that is read is never full, and its epoch does not end.
+    fn from(cause: LogErr) -> Self {
+        match cause {
+            LogErr::DiskFault => RedoErr::DiskFault,
+            LogErr::Damaged { file, place } => RedoErr::Damaged { file, place },
+            LogErr::LogFull { .. } | LogErr::Exhausted { .. } | LogErr::Memory => RedoErr::Memory,
         }
     }
 }

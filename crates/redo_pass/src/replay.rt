@@ -53,7 +53,7 @@ fn replay_command<O: Oper, M: Machine>(
     ensures cause { IfErr result (FailsBy (Rises (M.disk machine.old).disk_faults (M.disk machine.new).disk_faults) (IsNotOf (M.disk machine.old) objects.old.slots)) }
 {
     let bounds = objects.bounds();
-    // The numbers of the store are looked at for what holds of all of them: they are small.
+    // Called for its clauses: the numbers of a store are small.
     let _params = objects.params();
     let writes = op.writes();
     let due = due_among(plan, objects, number, writes.as_slice());
@@ -140,7 +140,7 @@ pub(crate) fn replay<O: Oper, M: Machine>(
             alloc, plan, objects, graph, machine, *number, op,
         ),
         Record::Identity(number, object, value) => {
-            // The numbers of the store are looked at for what holds of all of them.
+            // Called for its clauses, which bound the numbers of a store.
             let _params = objects.params();
             replay_identity::<O>(
                 alloc,
