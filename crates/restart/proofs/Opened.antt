@@ -1,6 +1,6 @@
 -- What a load makes of the files, and why it fails.
-use Rattle.std.proofs.Common.{◌≡◌, ◌<◌, ◌≤◌, ◌+◌, ◌*◌, ◌^◌, ℕ, Bool, true, false, nat_lt, if◌then◌else◌, inl, inr, List, [], sym, ap, ◌∙◌, subst, arith}
-use Rattle.std.specs.Prelude.{All, None, Option}
+use Rattle.std.proofs.Common.{◌≡◌, ◌<◌, ◌≤◌, ◌+◌, ◌*◌, ℕ, Bool, true, false, nat_lt, if◌then◌else◌, inl, inr, List, [], sym, ap, ◌∙◌, subst, arith}
+use Rattle.std.specs.Prelude.{None, Option}
 use Rattle.std.proofs.lemmas.List.{append-nil}
 use Rattle.std.proofs.lemmas.Bool.{cases_lt}
 use Rattle.disk_model.specs.Disk.{Files, Disk, Rises, Stays, IsSettled}
@@ -15,7 +15,7 @@ use Rattle.formats.specs.Log.{Header}
 use Rattle.formats.specs.Objects.{IsInRange, IsObjectsFile, bounds_of, slot_place}
 use Rattle.formats.specs.FirstFault.{IsDamaged, AreObjectsWhole, at_objects, at_logs, at_record, at_late_slot}
 use Rattle.formats.specs.Image.{params_in, IsRecordFault, IsLateSlot}
-use Rattle.formats.specs.Records.{IsRecord, Rise, last_check, records_of, next_after, HoldsRecordLog}
+use Rattle.formats.specs.Records.{last_check, records_of, next_after, HoldsRecordLog}
 use Rattle.formats.specs.declared.params.Params.{Params}
 use Rattle.formats.specs.declared.record.Record.{Record}
 use Rattle.log_frames.specs.Reading as log
@@ -32,7 +32,6 @@ use Rattle.log_records.specs.Loading.{IsLoadFault}
 use Rattle.log_records.specs.Loading as load
 use Rattle.log_records.specs.RecordLog.{RecordLogView, Keeps, IsLoaded}
 use Rattle.log_records.specs.RecordLaws.{keeps_stay}
-use Rattle.log_records.specs.Rewriting.{numbered_from}
 use Rattle.analysis_pass.specs.Analysis.{PlanView, table_or, least_start}
 use Rattle.cache_manager.specs.Laid.{Laid, IsLaidOn}
 use Rattle.cache_manager.specs.Parts.{meaning_in}
@@ -229,21 +228,11 @@ module _ {O : Type 0} (meaning : Bounds → Meaning O) where
         let read = has.read told in
         keeps_stay (meaning_in meaning objects.slots.params) last new view (records_of read.groups) [] (has.slots.kept.time.files_told.0 told) kept read.keeps
 
-    -- the records that are read again are those that the plan wants
-    wanted : (plan : PlanView) (records : List (Record O)) → (told : old.tells_files)
-        → (last.tells_files → (stable pending : List (Record O)) → Keeps (meaning view.bounds) last view stable pending → records ≡ numbered_from plan.start stable)
-        → records ≡ numbered_from plan.start (records_of (has.read told).groups)
-    wanted plan records told found =
-        let read = has.read told in
-        found (has.slots.kept.time.files_told.0 told) (records_of read.groups) []
-        (subst (λ (x : Bounds). Keeps (meaning x) last view (records_of read.groups) []) (sym has.bounds) read.keeps)
-
     -- what is loaded is what the files hold
-    pub is_read : (new : Disk) (plan : PlanView) (records : List (Record O)) (base : ℕ) → Stays last new → old.tells_files → ((x s : ℕ) → IsLate objects.slots view.next x s → ⊥)
+    pub is_read : (new : Disk) (plan : PlanView) (base : ℕ) → Stays last new → old.tells_files → ((x s : ℕ) → IsLate objects.slots view.next x s → ⊥)
         → base ≡ view.log.header.base → plan.table ≡ table_or base check → plan.start ≡ least_start plan.table.next plan.table.starts
-        → (last.tells_files → (stable pending : List (Record O)) → Keeps (meaning view.bounds) last view stable pending → records ≡ numbered_from plan.start stable)
-        → IsRead meaning old.reads new objects view plan records
-    is_read new plan records base kept told none base_is table start found =
+        → IsRead meaning old.reads new objects view plan
+    is_read new plan base kept told none base_is table start =
         let q = objects.slots.params in
         let file = old.reads Objects in
         let read = has.read told in
@@ -256,7 +245,6 @@ module _ {O : Type 0} (meaning : Bounds → Meaning O) where
           planned = record {
             table = table ∙ (λ i. table_or (base_is i) (read.check_is i));
             start = start;
-            records_are = wanted plan records told found;
           };
           none_late = λ x s below two is_open.
               let late = none_late objects.slots file view.next laid.slots has.low none x s below two is_open in
@@ -264,33 +252,13 @@ module _ {O : Type 0} (meaning : Bounds → Meaning O) where
           keeps = kept_on new kept told;
         }
 
-    pub is_ready : (new : Disk) (records : List (Record O)) (from : ℕ) → Stays last new → ((x s : ℕ) → IsLate objects.slots view.next x s → ⊥) → All (IsRecord (meaning view.bounds)) records
-        → ((low end : ℕ) → low ≤ from → view.next ≤ end → Rise low end records) → view.next ≤ 2 ^ 62 → IsReady meaning new objects view records
-    is_ready new records from kept none grammar rising most = record {
+    pub is_ready : (new : Disk) → Stays last new → ((x s : ℕ) → IsLate objects.slots view.next x s → ⊥) → IsReady new objects view
+    is_ready new kept none = record {
       settled = all_settled last new kept has.slots.settled;
       empty = has.slots.empty;
       bounds = has.bounds;
-      grammar = subst (λ (x : Bounds). All (IsRecord (meaning x)) records) has.bounds grammar;
-      rising = λ end within. rising 0 end (omega arith) within;
-      last = most;
       early = early_slots objects.slots view.next has.low none;
     }
-
-    -- no damage is reported of a log that was loaded
-    pub again_unharmed : (e : LogErr) → old.tells_files → (last.tells_files → (stable pending : List (Record O)) → Keeps (meaning view.bounds) last view stable pending → log.TellsDamage e → ⊥) → log.TellsDamage e → ⊥
-    again_unharmed e told none =
-        let read = has.read told in
-        none (has.slots.kept.time.files_told.0 told) (records_of read.groups) [] (subst (λ (x : Bounds). Keeps (meaning x) last view (records_of read.groups) []) (sym has.bounds) read.keeps)
-
-    -- the records are not read again
-    pub again_fails : (new : Disk) (e : LogErr) (fault : FileNo → ℕ → Type 0) → log.FailsBy (Rises last.disk_faults new.disk_faults) fault e
-        → (last.tells_files → (stable pending : List (Record O)) → Keeps (meaning view.bounds) last view stable pending → log.TellsDamage e → ⊥)
-        → FailsBy (Rises old.disk_faults new.disk_faults) (old.tells_files → IsClosedAt 0 (old.reads Objects)) (λ file place. old.tells_files → IsDamaged meaning old.reads file place) (from_log e)
-    again_fails new of_log.DiskFault fault fails none = λ small. let risen = fails small in let later = has.slots.kept.time.disk_faults in omega arith
-    again_fails new (of_log.LogFull used need limit) fault fails none = tt
-    again_fails new (of_log.Damaged file place) fault fails none = λ told. absurd (again_unharmed (of_log.Damaged file place) told none tt)
-    again_fails new (of_log.Exhausted epoch) fault fails none = tt
-    again_fails new of_log.Memory fault fails none = tt
 
   -- a late slot is no slot of files that meet their format
   pub late_never : ((b : Bounds) → HasBounds b (meaning b)) → ((b : Bounds) → IsSmall b → IsLawful (meaning b)) → (old last : Disk) (objects : Laid) (view : RecordLogView) (check : Option Table) (next place : ℕ)
@@ -298,8 +266,8 @@ module _ {O : Type 0} (meaning : Bounds → Meaning O) where
   late_never bounded lawful old last objects view check next place has same at told image = no_late_slot meaning bounded lawful old.reads place image (late_fault old last objects view check has next place same at told)
 
   -- files that were read meet their format
-  pub read_well_formed : (files : Files) (d : Disk) (objects : Laid) (view : RecordLogView) (plan : PlanView) (records : List (Record O)) → IsRead meaning files d objects view plan records → IsWellFormed meaning files
-  read_well_formed files d objects view plan records is = record {
+  pub read_well_formed : (files : Files) (d : Disk) (objects : Laid) (view : RecordLogView) (plan : PlanView) → IsRead meaning files d objects view plan → IsWellFormed meaning files
+  read_well_formed files d objects view plan is = record {
     params = objects.slots.params;
     active = view.log.active;
     header = view.log.header;

@@ -1,19 +1,21 @@
 -- What a redo of what was loaded makes of the world.
-use Rattle.std.proofs.Common.{◌≡◌, ◌∙◌, sym, ap, subst, ℕ, zero, suc, ◌++◌, ◌+◌, ◌-◌, ◌*◌, List, [], ◌∷◌, take, drop, refl, arith}
+use Rattle.std.proofs.Common.{◌≡◌, ◌∙◌, sym, ap, subst, ℕ, zero, suc, ◌++◌, ◌+◌, ◌-◌, ◌*◌, List, [], ◌∷◌, map, take, drop, refl, arith, ⊎_elim, ◌≢◌}
 use Rattle.std.proofs.lemmas.List.{drop_all}
 use Rattle.disk_model.specs.Disk.{Files, Disk, IsDisk, Runs, In, Any, Same, IsSettled}
 use Rattle.disk_model.specs.Moments.{started}
 use Rattle.disk_model.specs.declared.machine.FileNo.TheVariants.{Objects}
-use Rattle.oper_core.specs.Meaning.{Meaning}
+use Rattle.oper_core.specs.Meaning.{Meaning, HasBounds, IsLawful, IsSmall}
+use Rattle.oper_core.specs.declared.bounds.Bounds.{Bounds}
 use Rattle.formats.specs.Log.{Header}
 use Rattle.formats.specs.Objects.{bounds_of}
-use Rattle.formats.specs.Records.{records_of}
+use Rattle.formats.specs.Records.{payload_of, records_of}
 use Rattle.formats.specs.declared.params.Params.{Params}
 use Rattle.formats.specs.declared.record.Record.{Record}
 use Rattle.log_records.specs.CodecLaws.{HasCodes}
-use Rattle.log_records.specs.RecordLog.{RecordLogView}
+use Rattle.log_records.specs.Loading.{IsTailFault}
+use Rattle.log_records.specs.RecordLog.{RecordLogView, Keeps}
 use Rattle.log_records.specs.Rewriting.{numbered_from}
-use Rattle.log_records.specs.Uniqueness.{one_records}
+use Rattle.log_records.specs.Uniqueness.{one_records, no_record_fault}
 use Rattle.stable_objects.specs.SlotsView.{SlotsView, AreOf}
 use Rattle.install_order.specs.declared.entry.Entry.{Entry}
 use Rattle.explain_core.specs.KeptLog.{AreQuiet, IsQuiet, quiet_turn, turns_kept, kept_stable}
@@ -32,11 +34,12 @@ use Rattle.cache_manager.specs.Laid.{Laid}
 use Rattle.cache_manager.specs.Parts.{AreInUse, Shows, ShowsLog, parts, store}
 use Rattle.cache_manager.specs.Stored.{keeps_beside}
 use Rattle.cache_manager.specs.Taking.{ArePartsInUse}
-use Rattle.redo_pass.specs.Redo.{IsDue, IsRedone, redone_world}
+use Rattle.redo_pass.specs.Redo.{IsDue, IsLogDue, IsRedone, redone_world}
 use Rattle.redo_pass.specs.Causes as again
 use Rattle.redo_pass.specs.declared.redo_err.RedoErr.{RedoErr}
 use Rattle.redo_pass.specs.declared.redo_err.RedoErr.TheVariants as of_redo
 use Rattle.restart.specs.Causes.{FailsBy, from_redo}
+use Rattle.restart.specs.DamageLaws.{codes_in}
 use Rattle.restart.specs.Redoing.{IsToRedo}
 
 -- what is stable of a check that waits, and of the commands before the base, no quiet step changes
@@ -82,7 +85,7 @@ moments_here m p w d steps disk told settled shows = moments_none m p d d w step
   holds = subst (λ (f : Files). FilesShow m p f w) (λ i file. sym (settled file told c s left) i) shows;
 }))
 
-module _ {O : Type 0} (m : Meaning O) (codes : HasCodes m) (p : Params) (d : Disk) (objects : Laid) (log : RecordLogView) (plan : PlanView) (records : List (Record O)) (w : World O) (to : IsToRedo m p d objects log plan records w) where
+module _ {O : Type 0} (m : Meaning O) (codes : HasCodes m) (p : Params) (d : Disk) (objects : Laid) (log : RecordLogView) (plan : PlanView) (w : World O) (to : IsToRedo m p d objects log plan w) where
   -- the log and its records are those in which the world was found
   same_log : (log.log.active ≡ to.found.shows.active) × (log.log.header ≡ to.found.shows.header) × (records_of to.keeps.groups ≡ records_of to.found.shows.groups)
   same_log = one_records m codes log.log.active to.found.shows.active log.log.header to.found.shows.header to.keeps.groups to.found.shows.groups d.reads
@@ -97,11 +100,15 @@ module _ {O : Type 0} (m : Meaning O) (codes : HasCodes m) (p : Params) (d : Dis
   -- its redo is due, by the plan of these records
   pub is_due : ((slots : SlotsView) (plan : PlanView) → slots.params ≡ p → AreOf slots (d.reads Objects) → plan.table ≡ plan_table to.found.shows.header.base (records_of to.found.shows.groups)
       → plan.start ≡ least_start plan.table.next plan.table.starts → IsDue m p d.reads slots plan (numbered_from plan.start (records_of to.found.shows.groups)) w)
-      → IsDue m p d.reads objects.slots plan records w
+      → IsLogDue m p d log objects.slots plan w
   is_due due =
       let planned = to.planned in
-      subst (λ (l : List (Record O)). IsDue m p d.reads objects.slots plan l w) (sym (planned.records_are ∙ ap (λ (l : List (Record O)). numbered_from plan.start l) same_records))
-      (due objects.slots plan to.params to.of_file (planned.table ∙ (λ i. plan_table (same_base i) (same_records i))) planned.start)
+      record {
+        stable = to.stable;
+        keeps = to.keeps;
+        due = subst (λ (l : List (Record O)). IsDue m p d.reads objects.slots plan (numbered_from plan.start l) w) (sym same_records)
+            (due objects.slots plan to.params to.of_file (planned.table ∙ (λ i. plan_table (same_base i) (same_records i))) planned.start);
+      }
 
   -- After the redo parts and files show its world.
   module _ (new : Disk) (limit : ℕ) (after : Laid) (entries : List Entry) (runs : Runs (In Objects Any) Same d new) (settled : IsSettled new) where
@@ -150,7 +157,16 @@ parts_in_use p log objects entries bounds used early =
     record { bounds = bounds ∙ ap (λ (q : Params). bounds_of q) same; store = subst (λ (q : Params). AreInUse q log.next (store objects entries)) same used; early = early }
 
 -- why a redo fails
-pub redo_fails : (rises : Type 0) (d : Disk) (slots : SlotsView) (e : RedoErr) → again.FailsBy rises (again.IsNotOf d slots) e → FailsBy rises ⊥ (λ file place. d.tells_files → AreOf slots (d.reads Objects) → ⊥) (from_redo e)
-redo_fails rises d slots of_redo.DiskFault fails = fails
-redo_fails rises d slots (of_redo.Damaged file place) fails = fails.1
-redo_fails rises d slots of_redo.Memory fails = tt
+pub redo_fails : {O : Type 0} (meaning : Bounds → Meaning O) → ((b : Bounds) → HasBounds b (meaning b)) → ((b : Bounds) → IsSmall b → IsLawful (meaning b)) → (rises : Type 0) (d : Disk) (log : RecordLogView) (slots : SlotsView) (e : RedoErr)
+    → log.bounds ≡ bounds_of slots.params → again.FailsBy rises (again.IsRedoFault (meaning log.bounds) d log.log slots) e
+    → FailsBy rises ⊥ (λ file place. d.tells_files → AreOf slots (d.reads Objects) → (stable : List (Record O)) → Keeps (meaning log.bounds) d log stable [] → ⊥) (from_redo e)
+redo_fails meaning bounded lawful rises d log slots of_redo.DiskFault bounds fails = fails
+redo_fails {O} meaning bounded lawful rises d log slots (of_redo.Damaged file place) bounds fails = λ told of stable keeps.
+    let m = meaning log.bounds in
+    let codes = subst (λ (b : Bounds). HasCodes (meaning b)) (sym bounds) (codes_in meaning bounded lawful slots.params of.whole.in_range) in
+    ⊎_elim
+    (λ (not : again.IsNotOf d slots file place). not.1 told of)
+    (λ (there : log.log.active ≢ Objects → IsTailFault m d log.log file place).
+    no_record_fault m codes log.log.header keeps.groups (d.reads log.log.active) place keeps.file ((there keeps.in_force.a_log).1 told (map (payload_of m) keeps.groups) keeps.file.log))
+    fails
+redo_fails meaning bounded lawful rises d log slots of_redo.Memory bounds fails = tt

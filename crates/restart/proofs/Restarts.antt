@@ -11,7 +11,6 @@ use Rattle.formats.specs.Log.{end_of}
 use Rattle.formats.specs.Objects.{bounds_of}
 use Rattle.formats.specs.Records.{payload_of, records_of}
 use Rattle.formats.specs.declared.params.Params.{Params}
-use Rattle.formats.specs.declared.record.Record.{Record}
 use Rattle.log_frames.specs.Laws.{one_in_force}
 use Rattle.log_frames.specs.LogView.{end_with, used_of}
 use Rattle.log_records.specs.RecordLog.{RecordLogView, Keeps}
@@ -56,9 +55,9 @@ module _ {O : Type 0} (m : Meaning O) (p : Params) (old d : Disk) (used : ℕ) (
   crashed = step m w Crash
 
   -- the world after the crash is found in the files, and is to be redone
-  pub to_redo : (meaning : Bounds → Meaning O) → meaning (bounds_of p) ≡ m → (objects : Laid) (log : RecordLogView) (plan : PlanView) (records : List (Record O))
-      → IsReady meaning d objects log records → IsRead meaning old.reads d objects log plan records → IsSound m crashed → FilesShow m p old.reads crashed → IsToRedo m p d objects log plan records crashed
-  to_redo meaning is_m objects log plan records ready read sound shows =
+  pub to_redo : (meaning : Bounds → Meaning O) → meaning (bounds_of p) ≡ m → (objects : Laid) (log : RecordLogView) (plan : PlanView)
+      → IsReady d objects log → IsRead meaning old.reads d objects log plan → IsSound m crashed → FilesShow m p old.reads crashed → IsToRedo m p d objects log plan crashed
+  to_redo meaning is_m objects log plan ready read sound shows =
       let same : objects.slots.params ≡ p = one_store objects.slots.params p (old.reads Objects) read.laid.slots.whole opens.shows.objects in
       let files = sym (kept.reads opens.told) in
       record {
@@ -77,8 +76,8 @@ module _ {O : Type 0} (m : Meaning O) (p : Params) (old d : Disk) (used : ℕ) (
       }
 
   -- the log that is loaded is as long as that of the files
-  pub used_is : (objects : Laid) (log : RecordLogView) (plan : PlanView) (records : List (Record O)) → IsToRedo m p d objects log plan records crashed → used_of log.log ≡ used
-  used_is objects log plan records to =
+  pub used_is : (objects : Laid) (log : RecordLogView) (plan : PlanView) → IsToRedo m p d objects log plan crashed → used_of log.log ≡ used
+  used_is objects log plan to =
       let keeps = to.keeps in
       let ends = subst (λ (f : Files). EndsAt f used) (sym (kept.reads opens.told)) opens.ends in
       let same = one_in_force log.log.active ends.active log.log.header ends.header (map (payload_of m) keeps.groups) ends.payloads d.reads (log_of m (record { in_force = keeps.in_force; log = keeps.file })) ends.log in
@@ -134,10 +133,10 @@ module _ {O : Type 0} (m : Meaning O) (p : Params) (old d : Disk) (used : ℕ) (
         (subst (λ (s : List ℕ). LeavesOnly d new (IsSilent (ShowsSome m p w whole.steps) s)) (kept.said opens.told) takes)
 
 -- after the redo of what was read the parts are attached
-pub attached_again : {O : Type 0} (meaning : Bounds → Meaning O) (old d mid : Disk) (objects after : Laid) (log : RecordLogView) (plan : PlanView) (records : List (Record O)) (entries : List Entry) → Stays old d
-    → (old.tells_files → IsRead meaning old.reads d objects log plan records) → Runs (In Objects Any) Same d mid
+pub attached_again : {O : Type 0} (meaning : Bounds → Meaning O) (old d mid : Disk) (objects after : Laid) (log : RecordLogView) (plan : PlanView) (entries : List Entry) → Stays old d
+    → (old.tells_files → IsRead meaning old.reads d objects log plan) → Runs (In Objects Any) Same d mid
     → IsSettled mid → log.bounds ≡ bounds_of objects.slots.params → (d.tells_files → IsLaidOn objects (d.reads Objects) → IsLaidOn after (mid.reads Objects)) → IsAttached meaning mid (parts log after entries)
-attached_again meaning old d mid objects after log plan records entries kept read runs settled bounds laid told_mid =
+attached_again meaning old d mid objects after log plan entries kept read runs settled bounds laid told_mid =
     let told_d = runs.time.files_told.1 told_mid in
     let told = kept.time.files_told.1 told_d in
     let is = read told in (

@@ -16,12 +16,12 @@ use Rattle.cache_manager.specs.Laid.{Laid}
 use Rattle.restart.specs.Loading.{IsPlanned}
 
 -- The world is the one that a restart finds in the files. The slots are those of the objects file, the log is that of the
--- files, in which nothing waits, and of its records the plan wants these.
-pub record IsToRedo {O : Type 0} (m : Meaning O) (p : Params) (d : Disk) (objects : Laid) (log : RecordLogView) (plan : PlanView) (records : List (Record O)) (w : World O) : Type 0 where
+-- files, in which nothing waits, and the plan is by its records.
+pub record IsToRedo {O : Type 0} (m : Meaning O) (p : Params) (d : Disk) (objects : Laid) (log : RecordLogView) (plan : PlanView) (w : World O) : Type 0 where
   pub found : IsFound m p d.reads (commands_of w.history) w
   pub params : objects.slots.params ≡ p
   pub bounds : log.bounds ≡ bounds_of p
   pub of_file : AreOf objects.slots (d.reads Objects)
   pub stable : List (Record O)
   pub keeps : Keeps m d log stable []
-  pub planned : IsPlanned log.log.header.base stable plan records
+  pub planned : IsPlanned log.log.header.base stable plan

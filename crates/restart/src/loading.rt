@@ -12,23 +12,20 @@ use crate::RestartErr;
 use analysis_pass::{Plan, analyse};
 use cache_manager::Objects;
 use disk_model::{FileNo, Machine, settle};
-use formats::Record;
 use log_records::RecordLog;
 use oper_core::Oper;
 use std::alloc::Global;
 
-// What the files hold: the slots, of which no object is cached yet, and the log; the plan that its last check makes, and the
-// records from its start on.
+// What the files hold: the slots, of which no object is cached yet, and the log; and the plan that its last check makes.
 #[derive(Drop)]
 pub(crate) struct Loaded<O: Oper> {
     pub(crate) objects: Objects,
     pub(crate) log: RecordLog<O>,
     pub(crate) plan: Plan,
-    pub(crate) records: Vec<Record<O>>,
 }
 
-// Syncs the files, and reads them. The log is read twice. The first pass keeps the last check's table and nothing else, the
-// second the records from the plan's start on.
+// Syncs the files, and reads them. Each record of the log is checked, and the last check's table is kept. The records are
+// read once more as they are done again.
 pub(crate) fn load<O: Oper, M: Machine>(
     alloc: Global,
     machine: &mut M,
@@ -36,8 +33,8 @@ pub(crate) fn load<O: Oper, M: Machine>(
 ) -> Result<Loaded<O>, RestartErr>
     requires some { 0 < clean }
     ensures kept { Stays (M.disk machine.old) (M.disk machine.new) }
-    ensures ready { IfOk result (λ it. IsReady O.meaning (M.disk machine.new) it.objects it.log it.records.items) }
-    ensures read { (M.disk machine.old).tells_files → IfOk result (λ it. IsRead O.meaning (M.disk machine.old).reads (M.disk machine.new) it.objects it.log it.plan it.records.items) }
+    ensures ready { IfOk result (λ it. IsReady (M.disk machine.new) it.objects it.log) }
+    ensures read { (M.disk machine.old).tells_files → IfOk result (λ it. IsRead O.meaning (M.disk machine.old).reads (M.disk machine.new) it.objects it.log it.plan) }
     ensures whole { (M.disk machine.old).tells_files → IsWellFormed O.meaning (M.disk machine.old).reads → IfErr result IsNoDamage }
     ensures cause { IfErr result (FailsBy (Rises (M.disk machine.old).disk_faults (M.disk machine.new).disk_faults)
         ((M.disk machine.old).tells_files → IsClosedAt 0 ((M.disk machine.old).reads ObjectsFile))
@@ -54,11 +51,5 @@ pub(crate) fn load<O: Oper, M: Machine>(
         });
     }
     let plan = analyse(alloc, log.base(), last);
-    let records = log.numbered_from(machine, plan.start())?;
-    Ok(Loaded {
-        objects,
-        log,
-        plan,
-        records,
-    })
+    Ok(Loaded { objects, log, plan })
 }

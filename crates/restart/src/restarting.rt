@@ -18,7 +18,7 @@ use std::alloc::Global;
 
 /// Opens the files: they are read, the records are done again, and a check is logged where the log stays within 2^48 bytes.
 /// The machine need not be settled: it begins with a sync of each file, and what reads give is what the files show. The
-/// objects gate is looked at before memory is taken.
+/// objects gate is tested before memory is taken.
 pub fn restart<O: Oper, M: Machine>(
     alloc: Global,
     machine: &mut M,
@@ -43,7 +43,7 @@ pub fn restart<O: Oper, M: Machine>(
     let graph = do_again(
         alloc,
         &loaded.plan,
-        loaded.records.as_slice(),
+        &loaded.log,
         &mut loaded.objects,
         machine,
         tuning,

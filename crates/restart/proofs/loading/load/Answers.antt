@@ -1,9 +1,8 @@
-use Rattle.std.proofs.Common.{◌∙◌, ℕ, ap, subst}
+use Rattle.std.proofs.Common.{ℕ, subst}
 use Rattle.std.proofs.lemmas.Result.{err_from_is_err_and}
-use Rattle.disk_model.specs.Moments.{stays_twice}
-use Rattle.log_records.specs.Rewriting.{numbered_from}
+use Rattle.disk_model.specs.Moments.{stays_here}
 use Rattle.stable_objects.specs.SlotsView.{IsLate}
-use Rattle.restart.proofs.Opened.{three_stay, has_slots, has_log, slots_gate, slots_fail, log_fails, log_unharmed, late_fails, late_never, again_fails, again_unharmed, unharmed, is_read, is_ready}
+use Rattle.restart.proofs.Opened.{three_stay, has_slots, has_log, slots_gate, slots_fail, log_fails, log_unharmed, late_fails, late_never, is_read, is_ready}
 use Rattle.restart.proofs.loading.load.Goals as goal
 
 pub returns-in_err-objects-clause-cause : goal.returns-in_err-objects-clause-cause
@@ -56,41 +55,9 @@ returns-in-Some-clause-cause g c told =
     has_objects c.load_checked.ensures.kept c.bounds.ensures c.in_ok-log.ensures.bounds c.in_ok-log.ensures.low c.in_ok-log.ensures.read in
     late_fails g.O.Oper.meaning (g.M.Machine.disk c.args.machine.now) (g.M.Machine.disk c.load_checked.new.m) c.in_ok-objects.objects c.in_ok-log.log c.in_ok-log.last has c.next.result c.in-Some.place c.next.ensures c.in-Some.ensures.some told
 
-pub returns-in_err-records-clause-kept : goal.returns-in_err-records-clause-kept
-returns-in_err-records-clause-kept g c =
-    stays_twice (g.M.Machine.disk c.args.machine.now) (g.M.Machine.disk c.load_checked.new.m) (g.M.Machine.disk c.numbered_from.new.m)
-    (three_stay (g.M.Machine.disk c.args.machine.now) (g.M.Machine.disk c.settle.new.machine) (g.M.Machine.disk c.load.new.machine) (g.M.Machine.disk c.load_checked.new.m) c.settle.ensures.kept c.load.ensures.kept c.load_checked.ensures.kept)
-    c.numbered_from.ensures.kept
-
-pub returns-in_err-records-clause-whole : goal.returns-in_err-records-clause-whole
-returns-in_err-records-clause-whole g c told image =
-    let has_objects = has_slots (g.M.Machine.disk c.args.machine.now) (g.M.Machine.disk c.settle.new.machine) (g.M.Machine.disk c.load.new.machine) c.in_ok-objects.objects
-    c.settle.ensures.kept c.in_ok-settle.ensures.settled c.load.ensures.kept c.in_ok-objects.ensures.read c.in_ok-objects.ensures.empty in
-    let has = has_log g.O.Oper.meaning (g.M.Machine.disk c.args.machine.now) (g.M.Machine.disk c.load.new.machine) (g.M.Machine.disk c.load_checked.new.m) c.in_ok-objects.objects c.bounds.result c.in_ok-log.log c.in_ok-log.last
-    has_objects c.load_checked.ensures.kept c.bounds.ensures c.in_ok-log.ensures.bounds c.in_ok-log.ensures.low c.in_ok-log.ensures.read in
-    let p = err_from_is_err_and c.from_residual-in_err-records.result c.from_residual-in_err-records.ensures.1 in
-    rw (p.1, p.2) (unharmed c.in_err-records.field-0.0 (again_unharmed g.O.Oper.meaning (g.M.Machine.disk c.args.machine.now) (g.M.Machine.disk c.load_checked.new.m) c.in_ok-objects.objects c.in_ok-log.log c.in_ok-log.last has c.in_err-records.field-0.0 told c.in_err-records.ensures.undamaged))
-
-pub returns-in_err-records-clause-cause : goal.returns-in_err-records-clause-cause
-returns-in_err-records-clause-cause g c =
-    let has_objects = has_slots (g.M.Machine.disk c.args.machine.now) (g.M.Machine.disk c.settle.new.machine) (g.M.Machine.disk c.load.new.machine) c.in_ok-objects.objects
-    c.settle.ensures.kept c.in_ok-settle.ensures.settled c.load.ensures.kept c.in_ok-objects.ensures.read c.in_ok-objects.ensures.empty in
-    let has = has_log g.O.Oper.meaning (g.M.Machine.disk c.args.machine.now) (g.M.Machine.disk c.load.new.machine) (g.M.Machine.disk c.load_checked.new.m) c.in_ok-objects.objects c.bounds.result c.in_ok-log.log c.in_ok-log.last
-    has_objects c.load_checked.ensures.kept c.bounds.ensures c.in_ok-log.ensures.bounds c.in_ok-log.ensures.low c.in_ok-log.ensures.read in
-    let p = err_from_is_err_and c.from_residual-in_err-records.result c.from_residual-in_err-records.ensures.1 in
-    rw (p.1, p.2) (again_fails g.O.Oper.meaning (g.M.Machine.disk c.args.machine.now) (g.M.Machine.disk c.load_checked.new.m) c.in_ok-objects.objects c.in_ok-log.log c.in_ok-log.last has (g.M.Machine.disk c.numbered_from.new.m) c.in_err-records.field-0.0 _ c.in_err-records.ensures.cause c.in_err-records.ensures.undamaged)
-
-pub returns-in_err-records-clause-memory : goal.returns-in_err-records-clause-memory
-returns-in_err-records-clause-memory g c told refused =
-    let has_objects = has_slots (g.M.Machine.disk c.args.machine.now) (g.M.Machine.disk c.settle.new.machine) (g.M.Machine.disk c.load.new.machine) c.in_ok-objects.objects
-    c.settle.ensures.kept c.in_ok-settle.ensures.settled c.load.ensures.kept c.in_ok-objects.ensures.read c.in_ok-objects.ensures.empty in
-    slots_gate (g.M.Machine.disk c.args.machine.now) (g.M.Machine.disk c.load.new.machine) c.in_ok-objects.objects has_objects told
-
 pub returns-clause-kept : goal.returns-clause-kept
 returns-clause-kept g c =
-    stays_twice (g.M.Machine.disk c.args.machine.now) (g.M.Machine.disk c.load_checked.new.m) (g.M.Machine.disk c.numbered_from.new.m)
-    (three_stay (g.M.Machine.disk c.args.machine.now) (g.M.Machine.disk c.settle.new.machine) (g.M.Machine.disk c.load.new.machine) (g.M.Machine.disk c.load_checked.new.m) c.settle.ensures.kept c.load.ensures.kept c.load_checked.ensures.kept)
-    c.numbered_from.ensures.kept
+    three_stay (g.M.Machine.disk c.args.machine.now) (g.M.Machine.disk c.settle.new.machine) (g.M.Machine.disk c.load.new.machine) (g.M.Machine.disk c.load_checked.new.m) c.settle.ensures.kept c.load.ensures.kept c.load_checked.ensures.kept
 
 pub returns-clause-ready : goal.returns-clause-ready
 returns-clause-ready g c =
@@ -98,8 +65,9 @@ returns-clause-ready g c =
     c.settle.ensures.kept c.in_ok-settle.ensures.settled c.load.ensures.kept c.in_ok-objects.ensures.read c.in_ok-objects.ensures.empty in
     let has = has_log g.O.Oper.meaning (g.M.Machine.disk c.args.machine.now) (g.M.Machine.disk c.load.new.machine) (g.M.Machine.disk c.load_checked.new.m) c.in_ok-objects.objects c.bounds.result c.in_ok-log.log c.in_ok-log.last
     has_objects c.load_checked.ensures.kept c.bounds.ensures c.in_ok-log.ensures.bounds c.in_ok-log.ensures.low c.in_ok-log.ensures.read in
-    is_ready g.O.Oper.meaning (g.M.Machine.disk c.args.machine.now) (g.M.Machine.disk c.load_checked.new.m) c.in_ok-objects.objects c.in_ok-log.log c.in_ok-log.last has (g.M.Machine.disk c.numbered_from.new.m) c.in_ok-records.records.items c.start.result c.numbered_from.ensures.kept
-    (subst (λ (n : ℕ). (x s : ℕ) → IsLate c.in_ok-objects.objects.slots n x s → ⊥) c.next.ensures c.in_default.ensures.none) c.in_ok-records.ensures.grammar (λ low end under most. c.in_ok-records.ensures.rising low end under most) c.in_ok-records.ensures.last
+    is_ready g.O.Oper.meaning (g.M.Machine.disk c.args.machine.now) (g.M.Machine.disk c.load_checked.new.m) c.in_ok-objects.objects c.in_ok-log.log c.in_ok-log.last has (g.M.Machine.disk c.load_checked.new.m)
+    (stays_here (g.M.Machine.disk c.load_checked.new.m) c.load_checked.ensures.kept.ends)
+    (subst (λ (n : ℕ). (x s : ℕ) → IsLate c.in_ok-objects.objects.slots n x s → ⊥) c.next.ensures c.in_default.ensures.none)
 
 pub returns-clause-read : goal.returns-clause-read
 returns-clause-read g c told =
@@ -107,6 +75,6 @@ returns-clause-read g c told =
     c.settle.ensures.kept c.in_ok-settle.ensures.settled c.load.ensures.kept c.in_ok-objects.ensures.read c.in_ok-objects.ensures.empty in
     let has = has_log g.O.Oper.meaning (g.M.Machine.disk c.args.machine.now) (g.M.Machine.disk c.load.new.machine) (g.M.Machine.disk c.load_checked.new.m) c.in_ok-objects.objects c.bounds.result c.in_ok-log.log c.in_ok-log.last
     has_objects c.load_checked.ensures.kept c.bounds.ensures c.in_ok-log.ensures.bounds c.in_ok-log.ensures.low c.in_ok-log.ensures.read in
-    is_read g.O.Oper.meaning (g.M.Machine.disk c.args.machine.now) (g.M.Machine.disk c.load_checked.new.m) c.in_ok-objects.objects c.in_ok-log.log c.in_ok-log.last has (g.M.Machine.disk c.numbered_from.new.m) c.analyse-plan.result c.in_ok-records.records.items c.base.result c.numbered_from.ensures.kept told
+    is_read g.O.Oper.meaning (g.M.Machine.disk c.args.machine.now) (g.M.Machine.disk c.load_checked.new.m) c.in_ok-objects.objects c.in_ok-log.log c.in_ok-log.last has (g.M.Machine.disk c.load_checked.new.m) c.analyse-plan.result c.base.result
+    (stays_here (g.M.Machine.disk c.load_checked.new.m) c.load_checked.ensures.kept.ends) told
     (subst (λ (n : ℕ). (x s : ℕ) → IsLate c.in_ok-objects.objects.slots n x s → ⊥) c.next.ensures c.in_default.ensures.none) c.base.ensures.value c.analyse-plan.ensures.table c.analyse-plan.ensures.start
-    (λ told_last stable pending keeps. c.in_ok-records.ensures.records told_last stable pending keeps ∙ ap (λ (n : ℕ). numbered_from n stable) c.start.ensures)

@@ -1,15 +1,16 @@
-use Rattle.std.proofs.Common.{◌^◌, List, refl, sym, subst, Ok, Err}
+use Rattle.std.proofs.Common.{[], refl, sym, subst, Ok, Err}
 use Rattle.disk_model.specs.Disk.{Files}
 use Rattle.disk_model.specs.declared.machine.FileNo.TheVariants.{Objects}
 use Rattle.formats.specs.Objects.{bounds_of}
-use Rattle.formats.specs.declared.record.Record.{Record}
+use Rattle.oper_core.specs.declared.bounds.Bounds.{Bounds}
+use Rattle.formats.specs.Records.{records_of}
+use Rattle.log_records.specs.RecordLog.{Keeps}
 use Rattle.stable_objects.specs.SlotsView.{AreOf}
 use Rattle.explain_core.specs.World.{step}
 use Rattle.explain_core.specs.World.Step.{Crash}
 use Rattle.standing.specs.OneStable.{small_store}
 use Rattle.cache_manager.specs.Parts.{parts}
 use Rattle.restart.specs.Causes.{from_check}
-use Rattle.restart.specs.Loading.{IsRead, IsReady}
 use Rattle.restart.specs.Opening.{IsJudged, IsOpening, opened}
 use Rattle.restart.specs.Starts.{at_start}
 use Rattle.restart.proofs.Judged.{passed_on, quiet_stays, quiet_objects, quiet_then, rises_behind, not_opened, is_opened, check_fails, check_harmless, redo_harmless, redo_rises, judged_whole, judged_unread, unless_failed}
@@ -32,23 +33,16 @@ returns-in_err-loaded-clause-moments g c told p used w opens = at_start (g.M.Mac
 
 pub do_again-requires-clause-settled : goal.do_again-requires-clause-settled
 do_again-requires-clause-settled g c =
-    let ready = subst (λ (l : List (Record g.row.O.Denot)). IsReady g.O.Oper.meaning (g.M.Machine.disk c.load.new.machine) c.in_ok-loaded.loaded.objects c.in_ok-loaded.loaded.log l) (sym c.as_slice.ensures.value) c.in_ok-loaded.ensures.ready in
+    let ready = c.in_ok-loaded.ensures.ready in
     ready.settled
 
 pub do_again-requires-clause-empty : goal.do_again-requires-clause-empty
 do_again-requires-clause-empty g c =
-    let ready = subst (λ (l : List (Record g.row.O.Denot)). IsReady g.O.Oper.meaning (g.M.Machine.disk c.load.new.machine) c.in_ok-loaded.loaded.objects c.in_ok-loaded.loaded.log l) (sym c.as_slice.ensures.value) c.in_ok-loaded.ensures.ready in
+    let ready = c.in_ok-loaded.ensures.ready in
     ready.empty
 
-pub do_again-requires-clause-grammar : goal.do_again-requires-clause-grammar
-do_again-requires-clause-grammar g c =
-    let ready = subst (λ (l : List (Record g.row.O.Denot)). IsReady g.O.Oper.meaning (g.M.Machine.disk c.load.new.machine) c.in_ok-loaded.loaded.objects c.in_ok-loaded.loaded.log l) (sym c.as_slice.ensures.value) c.in_ok-loaded.ensures.ready in
-    ready.grammar
-
-pub do_again-requires-clause-rising : goal.do_again-requires-clause-rising
-do_again-requires-clause-rising g c =
-    let ready = subst (λ (l : List (Record g.row.O.Denot)). IsReady g.O.Oper.meaning (g.M.Machine.disk c.load.new.machine) c.in_ok-loaded.loaded.objects c.in_ok-loaded.loaded.log l) (sym c.as_slice.ensures.value) c.in_ok-loaded.ensures.ready in
-    ready.rising (2 ^ 62) ready.last
+pub do_again-requires-clause-bounds : goal.do_again-requires-clause-bounds
+do_again-requires-clause-bounds g c = c.in_ok-loaded.ensures.ready.bounds
 
 pub returns-in_err-graph-clause-opening : goal.returns-in_err-graph-clause-opening
 returns-in_err-graph-clause-opening g c =
@@ -60,23 +54,26 @@ returns-in_err-graph-clause-opening g c =
 pub returns-in_err-graph-clause-judged : goal.returns-in_err-graph-clause-judged
 returns-in_err-graph-clause-judged g c told =
     passed_on (λ r. IsJudged g.O.Oper.meaning (g.M.Machine.disk c.args.machine.now) (g.M.Machine.disk c.do_again.new.machine) (opened r)) c.from_residual-in_err-graph.result c.in_err-graph.field-0.0 c.from_residual-in_err-graph.ensures.1
-    (judged_whole g.O.Oper.meaning g.met.O.Oper.bounded g.met.O.Oper.lawful (g.M.Machine.disk c.args.machine.now) (g.M.Machine.disk c.do_again.new.machine) (read_well_formed g.O.Oper.meaning (g.M.Machine.disk c.args.machine.now).reads (g.M.Machine.disk c.load.new.machine) c.in_ok-loaded.loaded.objects c.in_ok-loaded.loaded.log c.in_ok-loaded.loaded.plan c.in_ok-loaded.loaded.records.items (c.in_ok-loaded.ensures.read told)) (Err c.in_err-graph.field-0.0)
-    (redo_harmless _ _ c.in_err-graph.field-0.0 c.in_err-graph.ensures.cause (λ f place none. none (c.load.ensures.kept.time.files_told.0 told) (subst (λ (fs : Files). AreOf c.in_ok-loaded.loaded.objects.slots (fs Objects)) (sym (c.load.ensures.kept.reads told)) (c.in_ok-loaded.ensures.read told).laid.slots))))
+    (judged_whole g.O.Oper.meaning g.met.O.Oper.bounded g.met.O.Oper.lawful (g.M.Machine.disk c.args.machine.now) (g.M.Machine.disk c.do_again.new.machine) (read_well_formed g.O.Oper.meaning (g.M.Machine.disk c.args.machine.now).reads (g.M.Machine.disk c.load.new.machine) c.in_ok-loaded.loaded.objects c.in_ok-loaded.loaded.log c.in_ok-loaded.loaded.plan (c.in_ok-loaded.ensures.read told)) (Err c.in_err-graph.field-0.0)
+    (redo_harmless _ _ c.in_err-graph.field-0.0 c.in_err-graph.ensures.cause (λ f place none.
+    let read = c.in_ok-loaded.ensures.read told in
+    none (c.load.ensures.kept.time.files_told.0 told) (subst (λ (fs : Files). AreOf c.in_ok-loaded.loaded.objects.slots (fs Objects)) (sym (c.load.ensures.kept.reads told)) read.laid.slots)
+    (records_of read.groups) (subst (λ (b : Bounds). Keeps (g.O.Oper.meaning b) (g.M.Machine.disk c.load.new.machine) c.in_ok-loaded.loaded.log (records_of read.groups) []) (sym c.in_ok-loaded.ensures.ready.bounds) read.keeps))))
 
 pub returns-in_err-graph-clause-moments : goal.returns-in_err-graph-clause-moments
 returns-in_err-graph-clause-moments g c told p used w opens =
-    let ready = subst (λ (l : List (Record g.row.O.Denot)). IsReady g.O.Oper.meaning (g.M.Machine.disk c.load.new.machine) c.in_ok-loaded.loaded.objects c.in_ok-loaded.loaded.log l) (sym c.as_slice.ensures.value) c.in_ok-loaded.ensures.ready in
-    let read = subst (λ (l : List (Record g.row.O.Denot)). IsRead g.O.Oper.meaning (g.M.Machine.disk c.args.machine.now).reads (g.M.Machine.disk c.load.new.machine) c.in_ok-loaded.loaded.objects c.in_ok-loaded.loaded.log c.in_ok-loaded.loaded.plan l) (sym c.as_slice.ensures.value) (c.in_ok-loaded.ensures.read opens.told) in
+    let ready = c.in_ok-loaded.ensures.ready in
+    let read = c.in_ok-loaded.ensures.read opens.told in
     let small = small_store p ((g.M.Machine.disk c.args.machine.now).reads Objects) opens.shows.objects in
-    let to = to_redo (g.O.Oper.meaning (bounds_of p)) p (g.M.Machine.disk c.args.machine.now) (g.M.Machine.disk c.load.new.machine) used w opens c.load.ensures.kept g.O.Oper.meaning refl c.in_ok-loaded.loaded.objects c.in_ok-loaded.loaded.log c.in_ok-loaded.loaded.plan c.as_slice.result.now ready read
+    let to = to_redo (g.O.Oper.meaning (bounds_of p)) p (g.M.Machine.disk c.args.machine.now) (g.M.Machine.disk c.load.new.machine) used w opens c.load.ensures.kept g.O.Oper.meaning refl c.in_ok-loaded.loaded.objects c.in_ok-loaded.loaded.log c.in_ok-loaded.loaded.plan ready read
     (c.crash_keeps.ensures (bounds_of p) w small opens.sound) (c.unseen_steps_change_nothing.ensures p (g.M.Machine.disk c.args.machine.now).reads w Crash opens.sound tt opens.shows) in
     from_start (g.O.Oper.meaning (bounds_of p)) p (g.M.Machine.disk c.args.machine.now) (g.M.Machine.disk c.load.new.machine) used w opens c.load.ensures.kept c.args.tuning.redo_dirty (g.M.Machine.disk c.do_again.new.machine) told
-    (redo_moments (g.O.Oper.meaning (bounds_of p)) p (g.M.Machine.disk c.args.machine.now) (g.M.Machine.disk c.load.new.machine) used w opens c.load.ensures.kept c.args.tuning.redo_dirty (g.M.Machine.disk c.do_again.new.machine) (c.do_again.ensures.any_moment (c.load.ensures.kept.time.moments_told.0 told) c.in_ok-loaded.loaded.log p (step (g.O.Oper.meaning (bounds_of p)) w Crash) to))
+    (redo_moments (g.O.Oper.meaning (bounds_of p)) p (g.M.Machine.disk c.args.machine.now) (g.M.Machine.disk c.load.new.machine) used w opens c.load.ensures.kept c.args.tuning.redo_dirty (g.M.Machine.disk c.do_again.new.machine) (c.do_again.ensures.any_moment (c.load.ensures.kept.time.moments_told.0 told) p (step (g.O.Oper.meaning (bounds_of p)) w Crash) to))
 
 pub closing_check-requires : goal.closing_check-requires
 closing_check-requires g c =
-    let ready = subst (λ (l : List (Record g.row.O.Denot)). IsReady g.O.Oper.meaning (g.M.Machine.disk c.load.new.machine) c.in_ok-loaded.loaded.objects c.in_ok-loaded.loaded.log l) (sym c.as_slice.ensures.value) c.in_ok-loaded.ensures.ready in
-    record { in_use = c.in_ok-graph.ensures.in_use c.in_ok-loaded.loaded.log ready }
+    let ready = c.in_ok-loaded.ensures.ready in
+    record { in_use = c.in_ok-graph.ensures.in_use ready }
 
 pub returns-in_err-closing_check-clause-opening : goal.returns-in_err-closing_check-clause-opening
 returns-in_err-closing_check-clause-opening g c =
@@ -88,21 +85,21 @@ returns-in_err-closing_check-clause-opening g c =
 pub returns-in_err-closing_check-clause-judged : goal.returns-in_err-closing_check-clause-judged
 returns-in_err-closing_check-clause-judged g c told =
     passed_on (λ r. IsJudged g.O.Oper.meaning (g.M.Machine.disk c.args.machine.now) (g.M.Machine.disk c.closing_check.new.machine) (opened r)) c.from_residual-in_err-closing_check.result (from_check c.in_err-closing_check.field-0.0) c.from_residual-in_err-closing_check.ensures.1
-    (judged_whole g.O.Oper.meaning g.met.O.Oper.bounded g.met.O.Oper.lawful (g.M.Machine.disk c.args.machine.now) (g.M.Machine.disk c.closing_check.new.machine) (read_well_formed g.O.Oper.meaning (g.M.Machine.disk c.args.machine.now).reads (g.M.Machine.disk c.load.new.machine) c.in_ok-loaded.loaded.objects c.in_ok-loaded.loaded.log c.in_ok-loaded.loaded.plan c.in_ok-loaded.loaded.records.items (c.in_ok-loaded.ensures.read told)) (Err (from_check c.in_err-closing_check.field-0.0)) (check_harmless c.in_err-closing_check.field-0.0))
+    (judged_whole g.O.Oper.meaning g.met.O.Oper.bounded g.met.O.Oper.lawful (g.M.Machine.disk c.args.machine.now) (g.M.Machine.disk c.closing_check.new.machine) (read_well_formed g.O.Oper.meaning (g.M.Machine.disk c.args.machine.now).reads (g.M.Machine.disk c.load.new.machine) c.in_ok-loaded.loaded.objects c.in_ok-loaded.loaded.log c.in_ok-loaded.loaded.plan (c.in_ok-loaded.ensures.read told)) (Err (from_check c.in_err-closing_check.field-0.0)) (check_harmless c.in_err-closing_check.field-0.0))
 
 pub returns-in_err-closing_check-clause-moments : goal.returns-in_err-closing_check-clause-moments
 returns-in_err-closing_check-clause-moments g c told p used w opens =
-    let ready = subst (λ (l : List (Record g.row.O.Denot)). IsReady g.O.Oper.meaning (g.M.Machine.disk c.load.new.machine) c.in_ok-loaded.loaded.objects c.in_ok-loaded.loaded.log l) (sym c.as_slice.ensures.value) c.in_ok-loaded.ensures.ready in
-    let read = subst (λ (l : List (Record g.row.O.Denot)). IsRead g.O.Oper.meaning (g.M.Machine.disk c.args.machine.now).reads (g.M.Machine.disk c.load.new.machine) c.in_ok-loaded.loaded.objects c.in_ok-loaded.loaded.log c.in_ok-loaded.loaded.plan l) (sym c.as_slice.ensures.value) (c.in_ok-loaded.ensures.read opens.told) in
+    let ready = c.in_ok-loaded.ensures.ready in
+    let read = c.in_ok-loaded.ensures.read opens.told in
     let small = small_store p ((g.M.Machine.disk c.args.machine.now).reads Objects) opens.shows.objects in
-    let to = to_redo (g.O.Oper.meaning (bounds_of p)) p (g.M.Machine.disk c.args.machine.now) (g.M.Machine.disk c.load.new.machine) used w opens c.load.ensures.kept g.O.Oper.meaning refl c.in_ok-loaded.loaded.objects c.in_ok-loaded.loaded.log c.in_ok-loaded.loaded.plan c.as_slice.result.now ready read
+    let to = to_redo (g.O.Oper.meaning (bounds_of p)) p (g.M.Machine.disk c.args.machine.now) (g.M.Machine.disk c.load.new.machine) used w opens c.load.ensures.kept g.O.Oper.meaning refl c.in_ok-loaded.loaded.objects c.in_ok-loaded.loaded.log c.in_ok-loaded.loaded.plan ready read
     (c.crash_keeps.ensures (bounds_of p) w small opens.sound) (c.unseen_steps_change_nothing.ensures p (g.M.Machine.disk c.args.machine.now).reads w Crash opens.sound tt opens.shows) in
     let mp = g.O.Oper.meaning (bounds_of p) in
     let told_d = c.load.ensures.kept.time.moments_told.0 told in
-    let shows = c.in_ok-graph.ensures.shown (c.load.ensures.kept.time.files_told.0 opens.told) c.in_ok-loaded.loaded.log p (step mp w Crash) to in
+    let shows = c.in_ok-graph.ensures.shown (c.load.ensures.kept.time.files_told.0 opens.told) p (step mp w Crash) to in
     from_start mp p (g.M.Machine.disk c.args.machine.now) (g.M.Machine.disk c.load.new.machine) used w opens c.load.ensures.kept c.args.tuning.redo_dirty (g.M.Machine.disk c.closing_check.new.machine) told
-    (check_moments mp p (g.M.Machine.disk c.args.machine.now) (g.M.Machine.disk c.load.new.machine) used w opens c.load.ensures.kept c.args.tuning.redo_dirty (g.M.Machine.disk c.do_again.new.machine) (g.M.Machine.disk c.closing_check.new.machine) _ (used_is mp p (g.M.Machine.disk c.args.machine.now) (g.M.Machine.disk c.load.new.machine) used w opens c.load.ensures.kept c.in_ok-loaded.loaded.objects c.in_ok-loaded.loaded.log c.in_ok-loaded.loaded.plan c.as_slice.result.now to)
-    (c.do_again.ensures.runs.said (c.load.ensures.kept.time.files_told.0 opens.told)) (c.do_again.ensures.any_moment told_d c.in_ok-loaded.loaded.log p (step mp w Crash) to)
+    (check_moments mp p (g.M.Machine.disk c.args.machine.now) (g.M.Machine.disk c.load.new.machine) used w opens c.load.ensures.kept c.args.tuning.redo_dirty (g.M.Machine.disk c.do_again.new.machine) (g.M.Machine.disk c.closing_check.new.machine) _ (used_is mp p (g.M.Machine.disk c.args.machine.now) (g.M.Machine.disk c.load.new.machine) used w opens c.load.ensures.kept c.in_ok-loaded.loaded.objects c.in_ok-loaded.loaded.log c.in_ok-loaded.loaded.plan to)
+    (c.do_again.ensures.runs.said (c.load.ensures.kept.time.files_told.0 opens.told)) (c.do_again.ensures.any_moment told_d p (step mp w Crash) to)
     (c.closing_check.ensures.takes.moments (c.do_again.ensures.runs.time.moments_told.0 told_d) p _ shows))
 
 pub returns-clause-opening : goal.returns-clause-opening
@@ -111,37 +108,37 @@ returns-clause-opening g c =
     let kept = unless_failed _ _ c.in_ok-closing_check.ensures.kept in
     is_opened g.O.Oper.meaning (g.M.Machine.disk c.args.machine.now) (g.M.Machine.disk c.closing_check.new.machine) (parts c.closing_check.new.log c.do_again.new.objects c.in_ok-graph.graph.entries) (quiet_then (g.M.Machine.disk c.args.machine.now) (g.M.Machine.disk c.do_again.new.machine) (g.M.Machine.disk c.closing_check.new.machine) first c.closing_check.ensures.quiet)
     (c.in_ok-closing_check.ensures.settled c.in_ok-graph.ensures.settled) kept.in_use
-    (kept.attached (attached_again g.O.Oper.meaning (g.M.Machine.disk c.args.machine.now) (g.M.Machine.disk c.load.new.machine) (g.M.Machine.disk c.do_again.new.machine) c.in_ok-loaded.loaded.objects c.do_again.new.objects c.in_ok-loaded.loaded.log c.in_ok-loaded.loaded.plan c.in_ok-loaded.loaded.records.items c.in_ok-graph.graph.entries
+    (kept.attached (attached_again g.O.Oper.meaning (g.M.Machine.disk c.args.machine.now) (g.M.Machine.disk c.load.new.machine) (g.M.Machine.disk c.do_again.new.machine) c.in_ok-loaded.loaded.objects c.do_again.new.objects c.in_ok-loaded.loaded.log c.in_ok-loaded.loaded.plan c.in_ok-graph.graph.entries
     c.load.ensures.kept c.in_ok-loaded.ensures.read c.do_again.ensures.runs c.in_ok-graph.ensures.settled c.in_ok-loaded.ensures.ready.bounds c.in_ok-graph.ensures.laid))
 
 pub returns-clause-judged : goal.returns-clause-judged
 returns-clause-judged g c told =
-    judged_whole g.O.Oper.meaning g.met.O.Oper.bounded g.met.O.Oper.lawful (g.M.Machine.disk c.args.machine.now) (g.M.Machine.disk c.closing_check.new.machine) (read_well_formed g.O.Oper.meaning (g.M.Machine.disk c.args.machine.now).reads (g.M.Machine.disk c.load.new.machine) c.in_ok-loaded.loaded.objects c.in_ok-loaded.loaded.log c.in_ok-loaded.loaded.plan c.in_ok-loaded.loaded.records.items (c.in_ok-loaded.ensures.read told)) (Ok (parts c.closing_check.new.log c.do_again.new.objects c.in_ok-graph.graph.entries)) tt
+    judged_whole g.O.Oper.meaning g.met.O.Oper.bounded g.met.O.Oper.lawful (g.M.Machine.disk c.args.machine.now) (g.M.Machine.disk c.closing_check.new.machine) (read_well_formed g.O.Oper.meaning (g.M.Machine.disk c.args.machine.now).reads (g.M.Machine.disk c.load.new.machine) c.in_ok-loaded.loaded.objects c.in_ok-loaded.loaded.log c.in_ok-loaded.loaded.plan (c.in_ok-loaded.ensures.read told)) (Ok (parts c.closing_check.new.log c.do_again.new.objects c.in_ok-graph.graph.entries)) tt
 
 pub returns-clause-follows : goal.returns-clause-follows
 returns-clause-follows g c p used w opens =
-    let ready = subst (λ (l : List (Record g.row.O.Denot)). IsReady g.O.Oper.meaning (g.M.Machine.disk c.load.new.machine) c.in_ok-loaded.loaded.objects c.in_ok-loaded.loaded.log l) (sym c.as_slice.ensures.value) c.in_ok-loaded.ensures.ready in
-    let read = subst (λ (l : List (Record g.row.O.Denot)). IsRead g.O.Oper.meaning (g.M.Machine.disk c.args.machine.now).reads (g.M.Machine.disk c.load.new.machine) c.in_ok-loaded.loaded.objects c.in_ok-loaded.loaded.log c.in_ok-loaded.loaded.plan l) (sym c.as_slice.ensures.value) (c.in_ok-loaded.ensures.read opens.told) in
+    let ready = c.in_ok-loaded.ensures.ready in
+    let read = c.in_ok-loaded.ensures.read opens.told in
     let small = small_store p ((g.M.Machine.disk c.args.machine.now).reads Objects) opens.shows.objects in
-    let to = to_redo (g.O.Oper.meaning (bounds_of p)) p (g.M.Machine.disk c.args.machine.now) (g.M.Machine.disk c.load.new.machine) used w opens c.load.ensures.kept g.O.Oper.meaning refl c.in_ok-loaded.loaded.objects c.in_ok-loaded.loaded.log c.in_ok-loaded.loaded.plan c.as_slice.result.now ready read
+    let to = to_redo (g.O.Oper.meaning (bounds_of p)) p (g.M.Machine.disk c.args.machine.now) (g.M.Machine.disk c.load.new.machine) used w opens c.load.ensures.kept g.O.Oper.meaning refl c.in_ok-loaded.loaded.objects c.in_ok-loaded.loaded.log c.in_ok-loaded.loaded.plan ready read
     (c.crash_keeps.ensures (bounds_of p) w small opens.sound) (c.unseen_steps_change_nothing.ensures p (g.M.Machine.disk c.args.machine.now).reads w Crash opens.sound tt opens.shows) in
     let mp = g.O.Oper.meaning (bounds_of p) in
-    let shows = c.in_ok-graph.ensures.shown (c.load.ensures.kept.time.files_told.0 opens.told) c.in_ok-loaded.loaded.log p (step mp w Crash) to in
+    let shows = c.in_ok-graph.ensures.shown (c.load.ensures.kept.time.files_told.0 opens.told) p (step mp w Crash) to in
     opened_after mp p (g.M.Machine.disk c.args.machine.now) (g.M.Machine.disk c.load.new.machine) used w opens c.load.ensures.kept c.args.tuning.redo_dirty (g.M.Machine.disk c.closing_check.new.machine) (parts c.closing_check.new.log c.do_again.new.objects c.in_ok-graph.graph.entries) _
-    (used_is mp p (g.M.Machine.disk c.args.machine.now) (g.M.Machine.disk c.load.new.machine) used w opens c.load.ensures.kept c.in_ok-loaded.loaded.objects c.in_ok-loaded.loaded.log c.in_ok-loaded.loaded.plan c.as_slice.result.now to)
+    (used_is mp p (g.M.Machine.disk c.args.machine.now) (g.M.Machine.disk c.load.new.machine) used w opens c.load.ensures.kept c.in_ok-loaded.loaded.objects c.in_ok-loaded.loaded.log c.in_ok-loaded.loaded.plan to)
     (c.in_ok-closing_check.ensures.takes.follows p _ shows).1
 
 pub returns-clause-moments : goal.returns-clause-moments
 returns-clause-moments g c told p used w opens =
-    let ready = subst (λ (l : List (Record g.row.O.Denot)). IsReady g.O.Oper.meaning (g.M.Machine.disk c.load.new.machine) c.in_ok-loaded.loaded.objects c.in_ok-loaded.loaded.log l) (sym c.as_slice.ensures.value) c.in_ok-loaded.ensures.ready in
-    let read = subst (λ (l : List (Record g.row.O.Denot)). IsRead g.O.Oper.meaning (g.M.Machine.disk c.args.machine.now).reads (g.M.Machine.disk c.load.new.machine) c.in_ok-loaded.loaded.objects c.in_ok-loaded.loaded.log c.in_ok-loaded.loaded.plan l) (sym c.as_slice.ensures.value) (c.in_ok-loaded.ensures.read opens.told) in
+    let ready = c.in_ok-loaded.ensures.ready in
+    let read = c.in_ok-loaded.ensures.read opens.told in
     let small = small_store p ((g.M.Machine.disk c.args.machine.now).reads Objects) opens.shows.objects in
-    let to = to_redo (g.O.Oper.meaning (bounds_of p)) p (g.M.Machine.disk c.args.machine.now) (g.M.Machine.disk c.load.new.machine) used w opens c.load.ensures.kept g.O.Oper.meaning refl c.in_ok-loaded.loaded.objects c.in_ok-loaded.loaded.log c.in_ok-loaded.loaded.plan c.as_slice.result.now ready read
+    let to = to_redo (g.O.Oper.meaning (bounds_of p)) p (g.M.Machine.disk c.args.machine.now) (g.M.Machine.disk c.load.new.machine) used w opens c.load.ensures.kept g.O.Oper.meaning refl c.in_ok-loaded.loaded.objects c.in_ok-loaded.loaded.log c.in_ok-loaded.loaded.plan ready read
     (c.crash_keeps.ensures (bounds_of p) w small opens.sound) (c.unseen_steps_change_nothing.ensures p (g.M.Machine.disk c.args.machine.now).reads w Crash opens.sound tt opens.shows) in
     let mp = g.O.Oper.meaning (bounds_of p) in
     let told_d = c.load.ensures.kept.time.moments_told.0 told in
-    let shows = c.in_ok-graph.ensures.shown (c.load.ensures.kept.time.files_told.0 opens.told) c.in_ok-loaded.loaded.log p (step mp w Crash) to in
+    let shows = c.in_ok-graph.ensures.shown (c.load.ensures.kept.time.files_told.0 opens.told) p (step mp w Crash) to in
     from_start mp p (g.M.Machine.disk c.args.machine.now) (g.M.Machine.disk c.load.new.machine) used w opens c.load.ensures.kept c.args.tuning.redo_dirty (g.M.Machine.disk c.closing_check.new.machine) told
-    (check_moments mp p (g.M.Machine.disk c.args.machine.now) (g.M.Machine.disk c.load.new.machine) used w opens c.load.ensures.kept c.args.tuning.redo_dirty (g.M.Machine.disk c.do_again.new.machine) (g.M.Machine.disk c.closing_check.new.machine) _ (used_is mp p (g.M.Machine.disk c.args.machine.now) (g.M.Machine.disk c.load.new.machine) used w opens c.load.ensures.kept c.in_ok-loaded.loaded.objects c.in_ok-loaded.loaded.log c.in_ok-loaded.loaded.plan c.as_slice.result.now to)
-    (c.do_again.ensures.runs.said (c.load.ensures.kept.time.files_told.0 opens.told)) (c.do_again.ensures.any_moment told_d c.in_ok-loaded.loaded.log p (step mp w Crash) to)
+    (check_moments mp p (g.M.Machine.disk c.args.machine.now) (g.M.Machine.disk c.load.new.machine) used w opens c.load.ensures.kept c.args.tuning.redo_dirty (g.M.Machine.disk c.do_again.new.machine) (g.M.Machine.disk c.closing_check.new.machine) _ (used_is mp p (g.M.Machine.disk c.args.machine.now) (g.M.Machine.disk c.load.new.machine) used w opens c.load.ensures.kept c.in_ok-loaded.loaded.objects c.in_ok-loaded.loaded.log c.in_ok-loaded.loaded.plan to)
+    (c.do_again.ensures.runs.said (c.load.ensures.kept.time.files_told.0 opens.told)) (c.do_again.ensures.any_moment told_d p (step mp w Crash) to)
     (c.closing_check.ensures.takes.moments (c.do_again.ensures.runs.time.moments_told.0 told_d) p _ shows))
