@@ -40,7 +40,7 @@ pub const LOGGED: &[u8] = &[
     0,
 ];
 
-// Behind the three puts: a block of an identity write of object 1 and of a check with its redo start, and the closed gate.
+// After the three puts: a block of an identity write of object 1 and of a check with its redo start, and the closed gate.
 pub const CHECKED: &[u8] = &[
     1, 44, 0, 0, 0, // the gate, and the payload's length
     2, 4, 0, 0, 0, 0, 0, 0, 0, 1, 0, 0, 0, 2, 0, 0, 0, b'z', b'z', // the identity write

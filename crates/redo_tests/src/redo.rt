@@ -93,7 +93,7 @@ fn a_redo_gives_the_values_within_its_limit(rt: HostRuntime) -> Result<(), Fail>
     Ok(())
 }
 
-// Behind the flush of one object of a swap: a block, what a redo leaves, and the values then.
+// After the flush of one object of a swap: a block, what a redo leaves, and the values then.
 type Healed = (&'static [u8], Left, &'static [&'static [u8]]);
 
 const HEALED: [Healed; 2] = [

@@ -1,15 +1,12 @@
 // A store whose log is done again.
-ghost use Rattle.std.specs.Prelude.{◌≡◌, ◌^◌, ℕ, All, None, IfOk};
-ghost use Rattle.op_codec.specs.AllOps.{all_meaning};
+ghost use Rattle.std.specs.Prelude.{◌≡◌, ℕ, None, IfOk};
 ghost use Rattle.dirty_cache.specs.Contents.{held};
 ghost use Rattle.formats.specs.Objects.{bounds_of};
-ghost use Rattle.formats.specs.Records.{IsRecord, Rise};
 
 use analysis_pass::{Plan, analyse};
 use cache_manager::Objects;
 use checkpoint::Table;
 use disk_model::{Fuse, MemMachine};
-use formats::Record;
 use log_frames::LogErr;
 use log_records::RecordLog;
 use op_codec::AllOps;
@@ -42,20 +39,18 @@ fn loaded(
     RecordLog::load_checked(alloc, machine, b)
 }
 
-// The objects of a machine, the records that have to be done again, and the plan for that.
+// The objects of a machine, its log, and the plan by which that has to be done again.
 fn begun(
     alloc: Global,
     machine: &mut MemMachine,
-) -> Result<(Objects, Vec<Record<AllOps>>, Plan), Fail>
+) -> Result<(Objects, RecordLog<AllOps>, Plan), Fail>
     ensures empty { IfOk result (λ it. (x : ℕ) → held it.0.cache x ≡ None) }
-    ensures grammar { IfOk result (λ it. All (IsRecord (all_meaning (bounds_of it.0.slots.params))) it.1.items) }
-    ensures rising { IfOk result (λ it. Rise 0 (2 ^ 62) it.1.items) }
+    ensures bounds { IfOk result (λ it. it.1.bounds ≡ bounds_of it.0.slots.params) }
 {
     let objects = Objects::load(alloc, machine, 2)?;
     let (log, last) = loaded(alloc, machine, objects.bounds())?;
     let plan = analyse(alloc, log.base(), last);
-    let records = log.numbered_from(machine, plan.start())?;
-    Ok((objects, records, plan))
+    Ok((objects, log, plan))
 }
 
 // A redo that leaves so many objects dirty.
@@ -73,16 +68,9 @@ pub fn run_redo(
     limit: usize,
     calls: u64,
 ) -> Result<Redone, Fail> {
-    let (mut objects, records, plan) = begun(alloc, &mut machine)?;
+    let (mut objects, log, plan) = begun(alloc, &mut machine)?;
     let mut fuse = Fuse::new(machine, calls);
-    let answer = redo(
-        alloc,
-        &plan,
-        &records,
-        &mut objects,
-        &mut fuse,
-        within(limit),
-    );
+    let answer = redo(alloc, &plan, &log, &mut objects, &mut fuse, within(limit));
     Ok(Redone {
         machine: fuse.into_inner(),
         objects,
