@@ -36,7 +36,7 @@ module _ (lsn : ℕ) where
   entry_of v = record { lsn = lsn; bytes = v }
 
   -- what is set at the first object stands before what is set at the others
-  entries_cons : (old : ℕ → Option Entry) (o : ℕ) (objects : List ℕ) (v : List ℕ) (values : List (List ℕ)) (x : ℕ)
+  pub entries_cons : (old : ℕ → Option Entry) (o : ℕ) (objects : List ℕ) (v : List ℕ) (values : List (List ℕ)) (x : ℕ)
       → with_entries old lsn (o ∷ objects) (v ∷ values) x ≡ (if x == o then Some (entry_of v) else with_entries old lsn objects values x)
   entries_cons old o objects v values x =
       elim (x == o) as (λ b. (if (b || is_among x objects) then Some (entry_of (if b then v else value_for x objects values)) else old x) ≡ (if b then Some (entry_of v) else with_entries old lsn objects values x))

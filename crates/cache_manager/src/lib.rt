@@ -11,8 +11,9 @@
 //! logged.
 //!
 //! The crate depends on standing and explain_core for worlds and files, on log_records for the log, on stable_objects for
-//! the slots, on dirty_cache for what is cached, on write_graph for the nodes, on oper_core for values, on formats for what
-//! the bytes of the objects file are, and on disk_model for the machine.
+//! the slots, on dirty_cache for what is cached, on write_graph for the nodes, on identity_writes for what is logged of a
+//! large node, on oper_core for values, on formats for what the bytes of the objects file are, and on disk_model for the
+//! machine.
 #![tactic(auto)]
 
 mod cached;
