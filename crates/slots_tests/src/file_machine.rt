@@ -64,19 +64,15 @@ fn a_sync_reaches_its_file_and_the_folder(rt: HostRuntime) -> Result<(), Fail> {
 // Whether reads and writes of more than a byte do what they should.
 fn moves_all<M: Machine>(machine: &mut M) -> Result<bool, Failed> {
     machine.write_at(FileNo::LogA, 2, b"abc")?;
-    machine.write_at(FileNo::LogA, 3, b"xy")?;
     machine.write_at(FileNo::LogA, 6, &[])?;
+    machine.write_at(FileNo::LogA, 3, b"xy")?;
     machine.write_at(FileNo::LogB, 0, b"other")?;
     let mut into = [9; 7];
-    let count = machine.read(FileNo::LogA, 1, &mut into)?;
+    let read = machine.read(FileNo::LogA, 1, &mut into) == Ok(5);
     // A length does not depend on where the last call ended.
     machine.read(FileNo::LogA, 0, &mut [9])?;
-    Ok(
-        count == 5
-            && into == *b"\0axy\0\x09\x09"
-            && machine.size(FileNo::LogA)? == 6
-            && machine.size(FileNo::Objects)? == 0,
-    )
+    let sizes = [machine.size(FileNo::LogA)?, machine.size(FileNo::Objects)?];
+    Ok(read & (into == *b"\0axy\0\x09\x09") & (sizes == [6, 0]))
 }
 
 fn moves_all_by_bytes<R: Files + Print + Drop>(rt: R) -> Result<bool, Failed>
@@ -141,26 +137,42 @@ fn a_say_fails_where_the_output_does(rt: HostRuntime) -> Result<(), Fail> {
     Ok(())
 }
 
-// What the files of these names hold.
-fn holds<R: Files + AllocGlobal>(rt: &R) -> std::io::Result<bool> {
-    Ok(
-        std::fs::read(rt, "named_objects")?.as_slice() == b"o".as_slice()
-            && std::fs::read(rt, "named_log_a")?.as_slice() == b"a".as_slice()
-            && std::fs::read(rt, "named_log_b")?.as_slice() == b"b".as_slice(),
-    )
+// Whether the file of this name holds this.
+fn holds<R: Files + AllocGlobal>(rt: &R, name: &str, bytes: &[u8]) -> bool {
+    match std::fs::read(rt, name) {
+        Ok(found) => found.as_slice() == bytes,
+        Err(_) => false,
+    }
+}
+
+const NAMED: FileNames = FileNames {
+    objects: "named_objects",
+    log_a: "named_log_a",
+    log_b: "named_log_b",
+};
+
+// Whether a byte is written to each file.
+fn writes_each<R: Files + Print + Drop>(rt: R) -> bool
+where
+    R::File: FileExt,
+{
+    let mut machine = FileMachine::with_names(rt, NAMED);
+    let written = [
+        machine.write_at(FileNo::Objects, 0, b"o").is_ok(),
+        machine.write_at(FileNo::LogA, 0, b"a").is_ok(),
+        machine.write_at(FileNo::LogB, 0, b"b").is_ok(),
+    ];
+    written == [true; 3]
 }
 
 #[test]
 fn files_have_the_names_that_are_given(rt: HostRuntime) -> Result<(), Fail> {
-    let names = FileNames {
-        objects: "named_objects",
-        log_a: "named_log_a",
-        log_b: "named_log_b",
-    };
-    let mut machine = FileMachine::with_names(rt.clone()?, names);
-    machine.write_at(FileNo::Objects, 0, b"o")?;
-    machine.write_at(FileNo::LogA, 0, b"a")?;
-    machine.write_at(FileNo::LogB, 0, b"b")?;
-    assert!(rt; holds(&rt)?);
+    let written = writes_each(rt.clone()?);
+    let held = [
+        holds(&rt, NAMED.objects, b"o"),
+        holds(&rt, NAMED.log_a, b"a"),
+        holds(&rt, NAMED.log_b, b"b"),
+    ];
+    assert!(rt; written & (held == [true; 3]));
     Ok(())
 }

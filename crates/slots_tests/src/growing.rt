@@ -1,5 +1,5 @@
 // What no clause says of memory that grows, and of a read past the end: that calls succeed, and worked cases.
-use disk_model::{Failed, FileNo, GrowMem, Machine, read_padded, settle};
+use disk_model::{FileNo, GrowMem, Machine, read_padded, settle};
 use std::alloc::{AllocError, Global};
 use std::test::Fail;
 
@@ -12,27 +12,27 @@ const WRITES: [(u64, &[u8], &[u8]); 4] = [
 ];
 
 // Whether the writes leave what they should, and the other files and what was said go with them.
-fn grows(machine: &mut GrowMem) -> Result<bool, Failed> {
+fn grows(machine: &mut GrowMem) -> bool {
+    let mut all = true;
     for (at, bytes, left) in WRITES {
-        machine.write_at(FileNo::LogA, at, bytes)?;
-        if machine.bytes(FileNo::LogA) != left {
-            return Ok(false);
-        }
+        all &= machine.write_at(FileNo::LogA, at, bytes).is_ok();
+        all &= machine.bytes(FileNo::LogA) == left;
     }
-    machine.say(b"o")?;
-    machine.say(b"k")?;
-    settle(machine)?;
-    Ok(
-        machine.size(FileNo::LogA)? == 7
-            && machine.bytes(FileNo::LogB).is_empty()
-            && machine.said() == b"ok".as_slice(),
-    )
+    let calls = [
+        machine.say(b"o").is_ok(),
+        machine.say(b"k").is_ok(),
+        settle(machine).is_ok(),
+        machine.size(FileNo::LogA) == Ok(7),
+    ];
+    let others = machine.bytes(FileNo::LogB).is_empty() & (machine.said() == b"ok".as_slice());
+    all & (calls == [true; 4]) & others
 }
 
 #[test]
 fn grows_as_it_is_written(rt: HostRuntime) -> Result<(), Fail> {
     let mut machine = GrowMem::new(rt.alloc())?;
-    assert!(rt; grows(&mut machine)?);
+    let right = grows(&mut machine);
+    assert!(rt; right);
     Ok(())
 }
 
@@ -42,13 +42,9 @@ fn counts_what_fails(alloc: Global) -> Result<bool, AllocError> {
     let kept = machine.write_at(FileNo::Objects, 0, b"kept").is_ok();
     let far = machine.write_at(FileNo::Objects, u64::MAX, b"x").is_err();
     let long = machine.write_at(FileNo::Objects, 1 << 63, b"x").is_err();
-    Ok(
-        kept && far
-            && long
-            && machine.bytes(FileNo::Objects) == b"kept".as_slice()
-            && machine.disk_faults() == 2
-            && machine.say_faults() == 0,
-    )
+    let bytes = machine.bytes(FileNo::Objects) == b"kept".as_slice();
+    let faults = [machine.disk_faults(), machine.say_faults()];
+    Ok(([kept, far, long, bytes] == [true; 4]) & (faults == [2, 0]))
 }
 
 #[test]
@@ -64,22 +60,21 @@ const READS: [(u64, [u8; 4]); 4] = [
     (u64::MAX, [0; 4]),
 ];
 
-// Whether each read gives these bytes, and the next ones are left alone.
-fn pads(alloc: Global) -> Result<bool, Fail> {
-    let mut machine = GrowMem::new(alloc)?;
-    machine.write_at(FileNo::LogB, 0, b"abcde")?;
+// Whether each read of a file with five bytes gives these bytes.
+fn pads(machine: &mut GrowMem) -> bool {
+    let mut all = machine.write_at(FileNo::LogB, 0, b"abcde").is_ok();
     for (at, bytes) in READS {
         let mut into = [9; 4];
-        read_padded(&mut machine, FileNo::LogB, at, &mut into)?;
-        if into != bytes {
-            return Ok(false);
-        }
+        all &= read_padded(machine, FileNo::LogB, at, &mut into).is_ok();
+        all &= into == bytes;
     }
-    Ok(true)
+    all
 }
 
 #[test]
 fn a_read_past_the_end_gives_zeros(rt: HostRuntime) -> Result<(), Fail> {
-    assert!(rt; pads(rt.alloc())?);
+    let mut machine = GrowMem::new(rt.alloc())?;
+    let right = pads(&mut machine);
+    assert!(rt; right);
     Ok(())
 }

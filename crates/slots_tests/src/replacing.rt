@@ -2,7 +2,7 @@
 use disk_model::{Crash, FileNo, Fuse, Machine, MemMachine};
 use oper_core::Bounds;
 use stable_objects::Slots;
-use std::alloc::Global;
+use std::alloc::{AllocError, Global};
 use std::test::Fail;
 
 const BOUNDS: Bounds = Bounds {
@@ -33,12 +33,17 @@ struct Store {
     slots: Slots,
 }
 
+// A settled machine with a new store.
+fn made(alloc: Global) -> Result<MemMachine, AllocError> {
+    let mut machine = MemMachine::new(alloc, [2048, 0, 0], 128, 128, Vec::new(alloc))?;
+    let _ = Slots::close(&mut machine);
+    let _ = Slots::create(&mut machine, BOUNDS, 65536);
+    Ok(machine.crash(Crash::New))
+}
+
 impl Store {
     fn new(alloc: Global) -> Result<Store, Fail> {
-        let mut machine = MemMachine::new(alloc, [2048, 0, 0], 128, 128, Vec::new(alloc))?;
-        Slots::close(&mut machine)?;
-        Slots::create(&mut machine, BOUNDS, 65536)?;
-        let mut machine = machine.crash(Crash::New);
+        let mut machine = made(alloc)?;
         let slots = Slots::load(alloc, &mut machine)?;
         Ok(Store { machine, slots })
     }
@@ -70,31 +75,38 @@ fn put<M: Machine>(slots: &mut Slots, machine: &mut M, id: u64, value: &[u8]) ->
 }
 
 // Whether values go into the slots by turns, and an open gate is closed before its slot is filled again.
-fn takes_turns(alloc: Global) -> Result<bool, Fail> {
-    let mut store = Store::new(alloc)?;
+fn takes_turns(store: &mut Store) -> bool {
     let calls = [store.put(1, &[0xaa]), store.put(2, &[0xbb])];
-    let two = store.has(32, &FIRST) && store.has(109, &SECOND);
+    let two = [store.has(32, &FIRST), store.has(109, &SECOND)];
     let third = store.put(256, &[0xcc, 0xcd]);
-    let three = store.has(32, &THIRD) && store.has(109, &SECOND);
-    Ok(calls == [5, 5] && two && third == 7 && three)
+    let three = [store.has(32, &THIRD), store.has(109, &SECOND)];
+    (calls == [5, 5]) & (third == 7) & ([two, three] == [[true; 2]; 2])
 }
 
 #[test]
 fn values_go_into_the_slots_by_turns(rt: HostRuntime) -> Result<(), Fail> {
-    assert!(rt; takes_turns(rt.alloc())?);
+    let mut store = Store::new(rt.alloc())?;
+    let right = takes_turns(&mut store);
+    assert!(rt; right);
     Ok(())
+}
+
+// An object's identifier, and its value; the greatest number is no identifier.
+fn read(slots: &Slots, machine: &mut MemMachine, object: u32, value: &mut Vec<u8>) -> u64 {
+    if object < slots.params().objects {
+        slots.read(machine, object, value).unwrap_or(u64::MAX)
+    } else {
+        u64::MAX
+    }
 }
 
 // The identifier of object 0 and its byte, 0 where its value is empty, and whether the last object is empty.
 fn seen(alloc: Global, machine: &mut MemMachine) -> Result<(u64, u8, bool), Fail> {
     let slots = Slots::load(alloc, machine)?;
     let mut value = Vec::new(alloc);
-    if slots.params().objects != 8 {
-        return Ok((0, 0, false));
-    }
-    let other = slots.read(machine, 7, &mut value)?;
-    let empty = other == 0 && value.is_empty();
-    let id = slots.read(machine, 0, &mut value)?;
+    let other = read(&slots, machine, 7, &mut value);
+    let empty = (other == 0) & value.is_empty();
+    let id = read(&slots, machine, 0, &mut value);
     Ok((id, value.as_slice().first().copied().unwrap_or(0), empty))
 }
 

@@ -22,37 +22,72 @@ fn empty(alloc: Global) -> Result<MemMachine, AllocError> {
     MemMachine::new(alloc, [2048, 0, 0], 256, 256, Vec::new(alloc))
 }
 
-fn store(alloc: Global) -> Result<MemMachine, Fail> {
+// A machine whose objects file has a closed gate and nothing else.
+fn closed(alloc: Global) -> Result<MemMachine, AllocError> {
     let mut machine = empty(alloc)?;
-    Slots::close(&mut machine)?;
-    Slots::create(&mut machine, BOUNDS, LIMIT)?;
+    let _ = Slots::close(&mut machine);
     Ok(machine)
 }
 
-// Whether the file of a new store has the header and else zeros, made by a write for each gate and one for the fields.
-fn is_as_worked(alloc: Global) -> Result<bool, Fail> {
-    let machine = store(alloc)?;
-    let bytes = machine.bytes(FileNo::Objects);
-    let rest = bytes.strip_prefix(HEADER.as_slice()).unwrap_or(&[1]);
-    Ok(machine.calls() == 23 && bytes.len() == 1188 && rest.iter().all(|b| *b == 0))
+fn store(alloc: Global) -> Result<MemMachine, AllocError> {
+    let mut machine = closed(alloc)?;
+    let _ = Slots::create(&mut machine, BOUNDS, LIMIT);
+    Ok(machine)
 }
 
-// Whether a store is opened until its gate is closed.
-fn is_opened_until_closed(alloc: Global) -> Result<bool, Fail> {
+type Write<'a> = (u64, &'a [u8]);
+
+// Writes bytes at offsets of the objects file.
+fn write_all(machine: &mut MemMachine, writes: &[Write<'_>]) -> bool {
+    let mut all = true;
+    for (at, bytes) in writes {
+        all &= machine.write_at(FileNo::Objects, *at, bytes).is_ok();
+    }
+    all
+}
+
+// Whether the file of a new store has the header and else zeros, made by a write for each gate and one for the fields.
+fn is_as_worked(machine: &MemMachine) -> bool {
+    let bytes = machine.bytes(FileNo::Objects);
+    let rest = bytes.strip_prefix(HEADER.as_slice()).unwrap_or(&[1]);
+    (machine.calls() == 23) & (bytes.len() == 1188) & rest.iter().all(|b| *b == 0)
+}
+
+fn are_new(slots: &Slots) -> bool {
+    (slots.bounds() == BOUNDS) & (slots.limit() == LIMIT) & (slots.params().cap == 64)
+}
+
+// Whether a machine's file is loaded as that of a new store.
+fn loads_new(alloc: Global, machine: &mut MemMachine) -> bool {
+    match Slots::load(alloc, machine) {
+        Ok(slots) => are_new(&slots),
+        Err(_) => false,
+    }
+}
+
+// Whether the store of a machine is opened until its gate is closed.
+fn is_opened_until_closed(alloc: Global, machine: &mut MemMachine) -> bool {
+    let opened = [
+        Slots::begins(machine) == Ok(true),
+        loads_new(alloc, machine),
+    ];
+    let closed = [
+        Slots::close(machine) == Ok(()),
+        Slots::begins(machine) == Ok(false),
+        fault_of(alloc, machine).is_none(),
+    ];
+    (opened == [true; 2]) & (closed == [true; 3])
+}
+
+fn is_made(alloc: Global) -> Result<bool, AllocError> {
     let mut machine = store(alloc)?;
-    let begins = Slots::begins(&mut machine)?;
-    let slots = Slots::load(alloc, &mut machine)?;
-    let params = slots.bounds() == BOUNDS && slots.limit() == LIMIT && slots.params().cap == 64;
-    Slots::close(&mut machine)?;
-    let closed = !Slots::begins(&mut machine)?;
-    let none = Slots::load(alloc, &mut machine).err() == Some(SlotErr::NotAStore);
-    Ok(begins && params && closed && none)
+    let worked = is_as_worked(&machine);
+    Ok(worked & is_opened_until_closed(alloc, &mut machine))
 }
 
 #[test]
 fn makes_a_store(rt: HostRuntime) -> Result<(), Fail> {
-    assert!(rt; is_as_worked(rt.alloc())?);
-    assert!(rt; is_opened_until_closed(rt.alloc())?);
+    assert!(rt; is_made(rt.alloc())?);
     Ok(())
 }
 
@@ -79,7 +114,8 @@ const FAULTS: [(u64, &[u8], Option<u64>); 15] = [
     (1187, &[1, 1, 0, 0, 0, 0, 0, 0, 0, 1, 0, 0, 0], Some(1196)),
 ];
 
-// Why a machine's file is not loaded: the offset of the damage, or none where it is no store. 9,999 where it is loaded.
+// Why a machine's file is not loaded: the offset of the damage, or none where it is no store. 9,999 where it is loaded, or
+// for another cause.
 fn fault_of(alloc: Global, machine: &mut MemMachine) -> Option<u64> {
     match Slots::load(alloc, machine) {
         Err(SlotErr::NotAStore) => None,
@@ -88,17 +124,24 @@ fn fault_of(alloc: Global, machine: &mut MemMachine) -> Option<u64> {
     }
 }
 
-fn fault_with(alloc: Global, at: u64, bytes: &[u8]) -> Result<Option<u64>, Fail> {
+// Why it is not loaded after these writes; 9,998 where one fails.
+fn fault_after(alloc: Global, machine: &mut MemMachine, writes: &[Write<'_>]) -> Option<u64> {
+    let written = write_all(machine, writes);
+    let fault = fault_of(alloc, machine);
+    if written { fault } else { Some(9998) }
+}
+
+// Why the file of a new store is not loaded after these writes.
+fn fault_with(alloc: Global, writes: &[Write<'_>]) -> Result<Option<u64>, AllocError> {
     let mut machine = store(alloc)?;
-    machine.write_at(FileNo::Objects, at, bytes)?;
-    Ok(fault_of(alloc, &mut machine))
+    Ok(fault_after(alloc, &mut machine, writes))
 }
 
 #[test]
 fn finds_the_first_fault(rt: HostRuntime) -> Result<(), Fail> {
     for (at, bytes, fault) in FAULTS {
         assert!(rt;
-            fault_with(rt.alloc(), at, bytes)? == fault,
+            fault_with(rt.alloc(), &[(at, bytes)])? == fault,
             "{bytes:?} at {at}"
         );
     }
@@ -106,21 +149,17 @@ fn finds_the_first_fault(rt: HostRuntime) -> Result<(), Fail> {
 }
 
 // Where a file is damaged that is one byte short.
-fn fault_of_a_short_file(alloc: Global) -> Result<Option<u64>, Fail> {
+fn fault_of_a_short_file(alloc: Global) -> Result<Option<u64>, AllocError> {
     let mut machine = empty(alloc)?;
-    machine.write_at(FileNo::Objects, 0, &HEADER)?;
-    machine.write_at(FileNo::Objects, 1186, &[1])?;
-    Ok(fault_of(alloc, &mut machine))
+    Ok(fault_after(alloc, &mut machine, &[(0, &HEADER), (1186, &[1])]))
 }
 
 // Where a file is damaged with an identifier in both slots of object 0; and whether another one mends that.
-fn fault_of_an_identifier_twice(alloc: Global) -> Result<[Option<u64>; 2], Fail> {
-    let mut machine = store(alloc)?;
-    machine.write_at(FileNo::Objects, 32, &FIVE)?;
-    machine.write_at(FileNo::Objects, 109, &FIVE)?;
-    let twice = fault_of(alloc, &mut machine);
-    machine.write_at(FileNo::Objects, 110, &[6])?;
-    Ok([twice, fault_of(alloc, &mut machine)])
+fn fault_of_an_identifier_twice(alloc: Global) -> Result<[Option<u64>; 2], AllocError> {
+    Ok([
+        fault_with(alloc, &[(32, &FIVE), (109, &FIVE)])?,
+        fault_with(alloc, &[(32, &FIVE), (109, &FIVE), (110, &[6])])?,
+    ])
 }
 
 #[test]
@@ -130,29 +169,33 @@ fn finds_a_short_file_and_an_identifier_twice(rt: HostRuntime) -> Result<(), Fai
     Ok(())
 }
 
-// A store with an open slot of object 3, an older one of object 4 after a newer, and one at the file's end.
-fn with_slots(alloc: Global) -> Result<MemMachine, Fail> {
+// An open slot of object 3, an older one of object 4 after a newer, and one at the file's end.
+const SLOTS: [Write<'static>; 4] = [(571, &FIVE), (648, &[1, 9]), (725, &FIVE), (1187, &[1, 7])];
+
+// A store with these slots.
+fn with_slots(alloc: Global) -> Result<MemMachine, AllocError> {
     let mut machine = store(alloc)?;
-    machine.write_at(FileNo::Objects, 571, &FIVE)?;
-    machine.write_at(FileNo::Objects, 648, &[1, 9])?;
-    machine.write_at(FileNo::Objects, 725, &FIVE)?;
-    machine.write_at(FileNo::Objects, 1187, &[1, 7])?;
+    write_all(&mut machine, SLOTS.as_slice());
     Ok(machine)
+}
+
+// An object's identifier, and how many calls reading it takes. The greatest number is no identifier.
+fn read(slots: &Slots, machine: &mut MemMachine, object: u32, into: &mut Vec<u8>) -> (u64, u64) {
+    if object >= slots.params().objects {
+        return (u64::MAX, 0);
+    }
+    let before = machine.calls();
+    let id = slots.read(machine, object, into).unwrap_or(u64::MAX);
+    (id, machine.calls().saturating_sub(before))
 }
 
 // Whether an object has this identifier and this value, read by so many calls.
 fn is_read(alloc: Global, object: u32, id: u64, value: &[u8], calls: u64) -> Result<bool, Fail> {
     let mut machine = with_slots(alloc)?;
     let slots = Slots::load(alloc, &mut machine)?;
-    let before = machine.calls();
     let mut into = Vec::new(alloc);
-    let found = if object < slots.params().objects {
-        slots.read(&mut machine, object, &mut into)?
-    } else {
-        u64::MAX
-    };
-    let taken = machine.calls().saturating_sub(before);
-    Ok(found == id && into.as_slice() == value && taken == calls)
+    let found = read(&slots, &mut machine, object, &mut into);
+    Ok((found == (id, calls)) & (into.as_slice() == value))
 }
 
 // Where the first open slot has an identifier of at least each of these numbers.
@@ -184,21 +227,23 @@ fn reads_what_an_open_slot_holds(rt: HostRuntime) -> Result<(), Fail> {
 }
 
 // A store without values, the last gate of whose objects file stands at this offset.
-fn large(alloc: Global, objects: u32, cap: u32, last: u64) -> Result<MemMachine, Fail> {
+fn large(alloc: Global, objects: u32, cap: u32, last: u64) -> Result<MemMachine, AllocError> {
     let mut machine = MemMachine::new(alloc, [1 << 20, 0, 0], 64, 64, Vec::new(alloc))?;
-    machine.write_at(FileNo::Objects, 0, &HEADER)?;
-    machine.write_at(FileNo::Objects, 9, &objects.to_le_bytes())?;
-    machine.write_at(FileNo::Objects, 13, &cap.to_le_bytes())?;
-    machine.write_at(FileNo::Objects, last, &[0])?;
+    let [objects, cap] = [objects.to_le_bytes(), cap.to_le_bytes()];
+    write_all(
+        &mut machine,
+        &[(0, &HEADER), (9, &objects), (13, &cap), (last, &[0])],
+    );
     Ok(machine)
 }
 
-// How many calls load such a store.
-fn calls_to_load(alloc: Global, objects: u32, cap: u32, last: u64) -> Result<u64, Fail> {
+// How many calls load such a store; 0 where it is not loaded.
+fn calls_to_load(alloc: Global, objects: u32, cap: u32, last: u64) -> Result<u64, AllocError> {
     let mut machine = large(alloc, objects, cap, last)?;
     let before = machine.calls();
-    let _ = Slots::load(alloc, &mut machine)?;
-    Ok(machine.calls().saturating_sub(before))
+    let loaded = Slots::load(alloc, &mut machine).is_ok();
+    let calls = machine.calls().saturating_sub(before);
+    Ok(if loaded { calls } else { 0 })
 }
 
 // N, CAP, the place of the last gate, and the calls: three for the header and the file's length, and the others for the
@@ -221,17 +266,18 @@ fn loads_many_heads_by_one_call(rt: HostRuntime) -> Result<(), Fail> {
     Ok(())
 }
 
-// What a crash leaves of a store whose making was stopped after so many calls: whether it begins a store, and is one.
-fn stopped(alloc: Global, calls: u64, how: Crash) -> Result<[bool; 2], Fail> {
-    let mut machine = empty(alloc)?;
-    Slots::close(&mut machine)?;
-    let mut fuse = Fuse::new(machine, calls);
+// What a crash leaves of a store whose making was stopped after so many calls.
+fn stopped(alloc: Global, calls: u64, how: Crash) -> Result<MemMachine, AllocError> {
+    let mut fuse = Fuse::new(closed(alloc)?, calls);
     let _ = Slots::create(&mut fuse, BOUNDS, LIMIT);
-    let mut left = fuse.into_inner().crash(how);
-    Ok([
-        Slots::begins(&mut left)?,
-        Slots::load(alloc, &mut left).is_ok(),
-    ])
+    Ok(fuse.into_inner().crash(how))
+}
+
+// Whether that begins a store and is one where it should, and else neither.
+fn is_whole(alloc: Global, calls: u64, how: Crash, whole: bool) -> Result<bool, AllocError> {
+    let mut left = stopped(alloc, calls, how)?;
+    let begins = Slots::begins(&mut left) == Ok(whole);
+    Ok(begins & (Slots::load(alloc, &mut left).is_ok() == whole))
 }
 
 #[test]
@@ -245,7 +291,7 @@ fn stops_at_each_call(rt: HostRuntime) -> Result<(), Fail> {
         ] {
             let whole = calls == 20 || (calls == 19 && opens);
             assert!(rt;
-                stopped(rt.alloc(), calls, how)? == [whole; 2],
+                is_whole(rt.alloc(), calls, how, whole)?,
                 "{how:?} after {calls}"
             );
         }
