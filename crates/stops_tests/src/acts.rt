@@ -1,14 +1,13 @@
 // What a process does with the files of a machine, and one that is stopped.
-use crate::installs::{opened, swap_and_install};
+use crate::installs::open;
 use crate::running::run;
 use crate::trees::grow;
 use disk_model::{Fuse, Machine, MemMachine};
 use redo_shell::Status;
-use restart::RestartErr;
 use std::alloc::Global;
 
 /// What a process does.
-#[derive(Clone, Copy, Debug)]
+#[derive(Clone, Copy)]
 pub enum Act {
     /// It is the program, with these words and this input.
     Program(&'static str, &'static [u8]),
@@ -18,23 +17,6 @@ pub enum Act {
     Installs,
     /// It opens the files, and makes a tree whose root is split, by calls of the engine, and says that it is forced.
     Grows,
-}
-
-// The status of the program that a restart would end with.
-pub fn status_of(cause: RestartErr) -> Status {
-    match cause {
-        RestartErr::DiskFault => Status::DiskFault,
-        RestartErr::NotAStore => Status::NotAStore,
-        RestartErr::Damaged { .. } => Status::Damaged,
-        RestartErr::Memory => Status::Memory,
-    }
-}
-
-fn restarts<M: Machine>(alloc: Global, machine: &mut M, dirty: usize) -> Result<(), Status> {
-    match opened(alloc, machine, dirty) {
-        Ok(_) => Ok(()),
-        Err(cause) => Err(status_of(cause)),
-    }
 }
 
 fn ended(answer: Result<(), Status>) -> Status {
@@ -48,8 +30,8 @@ fn ended(answer: Result<(), Status>) -> Status {
 pub fn does<M: Machine>(alloc: Global, machine: &mut M, act: Act) -> (Status, u64) {
     match act {
         Act::Program(words, input) => run(alloc, machine, words, input),
-        Act::Restart(dirty) => (ended(restarts(alloc, machine, dirty)), 0),
-        Act::Installs => (ended(swap_and_install(alloc, machine)), 0),
+        Act::Restart(dirty) => (ended(open(alloc, machine, dirty, false)), 0),
+        Act::Installs => (ended(open(alloc, machine, 64, true)), 0),
         Act::Grows => (ended(grow(alloc, machine)), 0),
     }
 }

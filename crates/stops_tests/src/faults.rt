@@ -1,14 +1,16 @@
 // A script of which one call fails: the status, the count that rises, what is said, and what is found after it.
 use crate::acts::{does, stopped};
 use crate::found::{stands_still, within};
-use crate::running::{after, copied, crash_by, end_by, run_failing};
-use crate::scripts::{SCRIPTS, Script, new_store};
+use crate::inits::made;
+use crate::running::{COPYING, after, copied, crash_by, end_by, run_failing};
+use crate::scripts::{Script, scripts};
+use crate::trials::{Trial, lost};
 use disk_model::{Crash, MemMachine};
 use redo_shell::Status;
 use std::alloc::{AllocError, Global};
 use std::test::Fail;
 
-// A copy of a store, on which this call of a script fails, and the status and how many reads failed.
+// A copy of a store, on which this call of a script fails, and the status and how many reads failed; 0 is no call.
 fn failing(
     alloc: Global,
     script: &Script,
@@ -18,6 +20,13 @@ fn failing(
     let mut machine = copied(alloc, script.room, store, call)?;
     let ended = does(alloc, &mut machine, script.act);
     Ok((machine, ended))
+}
+
+// Whether a script of which no call fails makes calls, and says all that it has to.
+pub fn is_whole(alloc: Global, script: &Script, store: &MemMachine) -> Result<bool, AllocError> {
+    let (left, ended) = failing(alloc, script, store, 0)?;
+    let calls = left.calls() > COPYING;
+    Ok(calls & (ended == (Status::Done, 0)) & (left.said() == script.said))
 }
 
 // Whether the status is that of the one call that failed, and no read failed.
@@ -50,7 +59,7 @@ fn is_told(
     call: u64,
 ) -> Result<bool, AllocError> {
     let (left, ended) = failing(alloc, script, store, call)?;
-    let same = says_the_same(alloc, script, store, call, left.said())?;
+    let same = says_the_same(alloc, script, store, call, left.said()).unwrap_or(false);
     Ok(is_of_the_fault(&left, ended) & same)
 }
 
@@ -68,7 +77,7 @@ fn keeps(
 }
 
 // Whether the failing call is answered so, and what was forced is found after it, however it ends.
-fn is_refused(
+pub fn is_refused(
     alloc: Global,
     script: &Script,
     store: &MemMachine,
@@ -82,30 +91,11 @@ fn is_refused(
     Ok(all)
 }
 
-// How many calls a script takes, 0 where it does not say all that it has to.
-fn calls_of_whole(alloc: Global, script: &Script, store: &MemMachine) -> Result<u64, AllocError> {
-    let mut machine = copied(alloc, script.room, store, 0)?;
-    let before = machine.calls();
-    let ended = does(alloc, &mut machine, script.act);
-    if (ended == (Status::Done, 0)) & (machine.said() == script.said) {
-        Ok(machine.calls().saturating_sub(before))
-    } else {
-        Ok(0)
-    }
-}
-
 #[test]
 fn each_call_is_refused(rt: HostRuntime) -> Result<(), Fail> {
-    for (row, script) in SCRIPTS.iter().enumerate() {
-        let store = new_store(rt.alloc(), script)?;
-        let calls = calls_of_whole(rt.alloc(), script, &store)?;
-        assert!(rt; calls > 0, "script {row}");
-        for call in 1..=calls {
-            assert!(rt;
-                is_refused(rt.alloc(), script, &store, call)?,
-                "script {row}, call {call}"
-            );
-        }
+    for (row, script) in scripts().iter().enumerate() {
+        let lost = lost(rt.alloc(), script, Trial::Fault)?;
+        assert!(rt; lost.is_none(), "script {row}, call {lost:?}");
     }
     Ok(())
 }
@@ -113,7 +103,7 @@ fn each_call_is_refused(rt: HostRuntime) -> Result<(), Fail> {
 // The status and the counts of failed reads, disk calls and writes of the output where this read of the input fails, and
 // whether nothing is said.
 fn reads_once(alloc: Global, read: u64) -> Result<((Status, u64), [u64; 2], bool), AllocError> {
-    let mut machine = new_store(alloc, &SCRIPTS[0])?;
+    let mut machine = made(alloc)?;
     let ended = run_failing(alloc, &mut machine, "redo run", b"put 0 aa\n", read);
     let counts = [machine.disk_faults(), machine.say_faults()];
     Ok((ended, counts, machine.said().is_empty()))

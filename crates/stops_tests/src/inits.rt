@@ -1,6 +1,6 @@
 // `init` that is stopped, and run again.
 use crate::acts::{Act, calls_of, stopped};
-use crate::running::{Room, after, crash_by, crashed, end_by, run};
+use crate::running::{Room, after, copied, crash_by, crashed, end_by, run};
 use disk_model::{Crash, FileNo, MemMachine};
 use redo_shell::Status;
 use std::alloc::{AllocError, Global};
@@ -20,8 +20,8 @@ fn empty_folder(alloc: Global) -> Result<MemMachine, AllocError> {
     ROOM.machine(alloc, 0)
 }
 
-// A folder with a store.
-fn made(alloc: Global) -> Result<MemMachine, AllocError> {
+// A settled machine with a store.
+pub fn made(alloc: Global) -> Result<MemMachine, AllocError> {
     let mut machine = empty_folder(alloc)?;
     run(alloc, &mut machine, WORDS, b"");
     Ok(crashed(machine, Crash::Old))
@@ -78,17 +78,25 @@ fn a_stopped_init_is_run_again(rt: HostRuntime) -> Result<(), Fail> {
     Ok(())
 }
 
-// Whether `init` says that there is a store, and leaves the files of it.
-fn is_kept(alloc: Global) -> Result<bool, AllocError> {
-    let store = made(alloc)?;
-    let mut again = made(alloc)?;
-    let (status, _) = run(alloc, &mut again, WORDS, b"");
-    let said = again.said() == b"already a store\n".as_slice();
+fn have_same_files(one: &MemMachine, other: &MemMachine) -> bool {
     let mut same = true;
     for file in [FileNo::Objects, FileNo::LogA, FileNo::LogB] {
-        same &= store.bytes(file) == again.bytes(file);
+        same &= one.bytes(file) == other.bytes(file);
     }
-    Ok(said & same & (status == Status::AlreadyStore))
+    same
+}
+
+// Whether `init` says that there is a store, and leaves the files of it.
+fn is_kept_on(alloc: Global, store: &MemMachine) -> Result<bool, AllocError> {
+    let mut again = copied(alloc, ROOM, store, 0)?;
+    let (status, _) = run(alloc, &mut again, WORDS, b"");
+    let said = again.said() == b"already a store\n".as_slice();
+    Ok(said & have_same_files(store, &again) & (status == Status::AlreadyStore))
+}
+
+fn is_kept(alloc: Global) -> Result<bool, AllocError> {
+    let store = made(alloc)?;
+    is_kept_on(alloc, &store)
 }
 
 #[test]

@@ -3,7 +3,6 @@ ghost use Rattle.std.specs.Prelude.{IfOk, OnOk};
 ghost use Rattle.cache_manager.specs.Parts.{parts};
 ghost use Rattle.cache_manager.specs.Taking.{ArePartsInUse};
 
-use crate::acts::status_of;
 use cache_manager::{InstallErr, install_one};
 use disk_model::Machine;
 use execution::execute;
@@ -15,7 +14,7 @@ use restart::{RestartErr, Restarted, Tuning, restart};
 use std::alloc::Global;
 
 // The parts of the store of a machine, after a restart that installs while more objects than this are dirty.
-pub fn opened<M: Machine>(
+fn opened<M: Machine>(
     alloc: Global,
     machine: &mut M,
     dirty: usize,
@@ -103,13 +102,56 @@ fn install_all<M: Machine>(it: &mut Restarted<AllOps>, machine: &mut M) -> Resul
     say(machine, b"ok\n")
 }
 
-// Opens a store, makes two puts and a swap, and installs them.
-pub fn swap_and_install<M: Machine>(alloc: Global, machine: &mut M) -> Result<(), Status> {
-    match opened(alloc, machine, 64) {
-        Ok(mut it) => match swaps(alloc, &mut it, machine) {
-            Ok(true) => install_all(&mut it, machine),
-            _ => Err(Status::Memory),
-        },
+// Makes two puts and a swap, and installs them.
+fn swap_and_install<M: Machine>(
+    alloc: Global,
+    it: &mut Restarted<AllOps>,
+    machine: &mut M,
+) -> Result<(), Status>
+    requires { ArePartsInUse (parts it.old.log it.old.objects it.old.graph.entries) }
+{
+    match swaps(alloc, it, machine) {
+        Ok(true) => install_all(it, machine),
+        _ => Err(Status::Memory),
+    }
+}
+
+// Does so if it is asked to.
+fn swap_if_asked<M: Machine>(
+    alloc: Global,
+    it: &mut Restarted<AllOps>,
+    machine: &mut M,
+    swaps: bool,
+) -> Result<(), Status>
+    requires { ArePartsInUse (parts it.old.log it.old.objects it.old.graph.entries) }
+{
+    if swaps {
+        swap_and_install(alloc, it, machine)
+    } else {
+        Ok(())
+    }
+}
+
+// The status of the program where a restart answers so.
+pub fn status_of(cause: RestartErr) -> Status {
+    match cause {
+        RestartErr::DiskFault => Status::DiskFault,
+        RestartErr::NotAStore => Status::NotAStore,
+        RestartErr::Damaged { .. } => Status::Damaged,
+        RestartErr::Memory => Status::Memory,
+    }
+}
+
+// Opens a store, with installs while more objects than this are dirty, and if it is asked to, makes two puts and a swap and
+// installs them.
+pub fn open<M: Machine>(
+    alloc: Global,
+    machine: &mut M,
+    dirty: usize,
+    swaps: bool,
+) -> Result<(), Status> {
+    match opened(alloc, machine, dirty) {
+        Ok(mut it) => swap_if_asked(alloc, &mut it, machine, swaps),
         Err(cause) => Err(status_of(cause)),
     }
 }

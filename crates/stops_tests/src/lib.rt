@@ -23,3 +23,5 @@ mod scripts;
 mod stops;
 #[cfg(test)]
 mod trees;
+#[cfg(test)]
+mod trials;

@@ -25,7 +25,7 @@ impl Room {
 const FILES: [FileNo; 3] = [FileNo::Objects, FileNo::LogA, FileNo::LogB];
 
 // The calls that a copy takes: a write and a sync of each file.
-const COPYING: u64 = 6;
+pub const COPYING: u64 = 6;
 
 // A settled machine with the files of another, whose next call of this number fails; 0 is none. Nothing is said yet.
 pub fn copied(

@@ -53,7 +53,7 @@ const PUT: &[&[u8]] = &[
     b"0 aa\n1 bb\n2 cc\ncommands 3\n",
 ];
 
-pub const SCRIPTS: [Script; 10] = [
+static SCRIPTS: [Script; 10] = [
     Script {
         room: TWO_LOGS,
         init: SMALL,
@@ -258,6 +258,11 @@ pub const SCRIPTS: [Script; 10] = [
         ],
     },
 ];
+
+// All scripts.
+pub fn scripts() -> &'static [Script] {
+    SCRIPTS.as_slice()
+}
 
 // A settled machine with the store of a script. Nothing is said yet.
 pub fn new_store(alloc: Global, script: &Script) -> Result<MemMachine, AllocError> {

@@ -1,22 +1,13 @@
 // A script that is stopped at each call, and another process after it that is stopped too.
 use crate::acts::{Act, calls_of, stopped};
 use crate::found::{stands, stands_still, within};
+use crate::inits::made;
 use crate::running::{after, copied, crash_by, crashed, end_by, run};
-use crate::scripts::{SCRIPTS, Script, new_store};
+use crate::scripts::{Script, scripts};
+use crate::trials::{Trial, calls_on, lost};
 use disk_model::{Crash, MemMachine};
 use std::alloc::{AllocError, Global};
 use std::test::Fail;
-
-// How many calls a process takes on a copy of a store.
-fn calls_on(
-    alloc: Global,
-    script: &Script,
-    store: &MemMachine,
-    act: Act,
-) -> Result<u64, AllocError> {
-    let mut machine = copied(alloc, script.room, store, 0)?;
-    Ok(calls_of(alloc, &mut machine, act))
-}
 
 // A script that is stopped after so many calls.
 fn cut(
@@ -42,21 +33,6 @@ fn keeps(
     Ok(stands_still(alloc, after(once, ends.0), script, bounds, ends.1))
 }
 
-// Whether it does, however it ends.
-fn keeps_at_each_end(
-    alloc: Global,
-    script: &Script,
-    store: &MemMachine,
-    calls: u64,
-) -> Result<bool, AllocError> {
-    let mut all = true;
-    for end in 0..6u64 {
-        let ends = (end_by(end), crash_by(calls));
-        all &= keeps(alloc, script, store, calls, ends)?;
-    }
-    Ok(all)
-}
-
 const DUMP: Act = Act::Program("redo dump", b"");
 
 // Whether it does where its process is killed, and a dump after it, which begins with a sync of each file, is stopped too.
@@ -73,14 +49,18 @@ fn keeps_killed(
     Ok(stands(alloc, crashed(twice, how), script, bounds))
 }
 
-// Whether that is so at each of these syncs.
-fn keeps_killed_twice(
+// Whether a script that is stopped after so many calls keeps what was forced, however it ends.
+pub fn keeps_once(
     alloc: Global,
     script: &Script,
     store: &MemMachine,
     calls: u64,
 ) -> Result<bool, AllocError> {
     let mut all = true;
+    for end in 0..6u64 {
+        let ends = (end_by(end), crash_by(calls));
+        all &= keeps(alloc, script, store, calls, ends)?;
+    }
     for turn in 0..20u64 {
         let stops = [calls, turn / 5];
         all &= keeps_killed(alloc, script, store, stops, crash_by(turn))?;
@@ -88,29 +68,11 @@ fn keeps_killed_twice(
     Ok(all)
 }
 
-// Whether a script that is stopped so keeps what was forced in all these ways.
-fn keeps_all(
-    alloc: Global,
-    script: &Script,
-    store: &MemMachine,
-    calls: u64,
-) -> Result<bool, AllocError> {
-    let ended = keeps_at_each_end(alloc, script, store, calls)?;
-    let killed = keeps_killed_twice(alloc, script, store, calls)?;
-    Ok(ended & killed)
-}
-
 #[test]
 fn a_stopped_script_keeps_what_was_forced(rt: HostRuntime) -> Result<(), Fail> {
-    for (row, script) in SCRIPTS.iter().enumerate() {
-        let store = new_store(rt.alloc(), script)?;
-        let calls = calls_on(rt.alloc(), script, &store, script.act)?;
-        for first in 0..=calls {
-            assert!(rt;
-                keeps_all(rt.alloc(), script, &store, first)?,
-                "script {row}, after {first}"
-            );
-        }
+    for (row, script) in scripts().iter().enumerate() {
+        let lost = lost(rt.alloc(), script, Trial::Stop)?;
+        assert!(rt; lost.is_none(), "script {row}, after {lost:?}");
     }
     Ok(())
 }
@@ -154,7 +116,7 @@ fn stands_behind_each(
 }
 
 // Whether a script that is stopped so, with a crash, keeps what was forced after each stop of another process.
-fn keeps_twice(
+fn keeps_after(
     alloc: Global,
     script: &Script,
     store: &MemMachine,
@@ -167,20 +129,36 @@ fn keeps_twice(
     stands_behind_each(alloc, script, &left, bounds, second)
 }
 
+// Whether it does after a dump that is stopped, each with every kind of crash.
+pub fn keeps_twice(
+    alloc: Global,
+    script: &Script,
+    store: &MemMachine,
+    calls: u64,
+) -> Result<bool, AllocError> {
+    let mut all = true;
+    for kind in 0..5u64 {
+        all &= keeps_after(alloc, script, store, (calls, crash_by(kind)), (DUMP, 5))?;
+    }
+    Ok(all)
+}
+
+// Whether it does after another process that is stopped, with the kinds of crash in turn.
+pub fn keeps_after_other(
+    alloc: Global,
+    script: &Script,
+    store: &MemMachine,
+    calls: u64,
+    other: Act,
+) -> Result<bool, AllocError> {
+    keeps_after(alloc, script, store, (calls, crash_by(calls)), (other, 1))
+}
+
 #[test]
 fn a_stopped_dump_keeps_what_was_forced(rt: HostRuntime) -> Result<(), Fail> {
-    for (row, script) in SCRIPTS.iter().enumerate() {
-        let store = new_store(rt.alloc(), script)?;
-        let calls = calls_on(rt.alloc(), script, &store, script.act)?;
-        for first in 0..=calls {
-            for kind in 0..5u64 {
-                let stop = (first, crash_by(kind));
-                assert!(rt;
-                    keeps_twice(rt.alloc(), script, &store, stop, (DUMP, 5))?,
-                    "script {row}, after {stop:?}"
-                );
-            }
-        }
+    for (row, script) in scripts().iter().enumerate() {
+        let lost = lost(rt.alloc(), script, Trial::Dump)?;
+        assert!(rt; lost.is_none(), "script {row}, after {lost:?}");
     }
     Ok(())
 }
@@ -196,16 +174,9 @@ const OTHERS: [Act; 4] = [
 #[test]
 fn another_stopped_process_keeps_what_was_forced(rt: HostRuntime) -> Result<(), Fail> {
     for other in OTHERS {
-        for (row, script) in SCRIPTS.iter().enumerate() {
-            let store = new_store(rt.alloc(), script)?;
-            let calls = calls_on(rt.alloc(), script, &store, script.act)?;
-            for first in 0..=calls {
-                let stop = (first, crash_by(first));
-                assert!(rt;
-                    keeps_twice(rt.alloc(), script, &store, stop, (other, 1))?,
-                    "script {row}, after {stop:?}, {other:?}"
-                );
-            }
+        for (row, script) in scripts().iter().enumerate() {
+            let lost = lost(rt.alloc(), script, Trial::Other(other))?;
+            assert!(rt; lost.is_none(), "script {row}, after {lost:?}");
         }
     }
     Ok(())
@@ -215,10 +186,8 @@ const GATE_SCRIPT: Act = Act::Program("redo run", b"put 0 aa\nget 0\nforce\n");
 
 // A run that is stopped in the write that opens the gate of its block: the calls after it are a sync and the answer.
 fn stopped_in_the_gate(alloc: Global) -> Result<MemMachine, AllocError> {
-    let mut whole = new_store(alloc, &SCRIPTS[0])?;
-    let calls = calls_of(alloc, &mut whole, GATE_SCRIPT).saturating_sub(2);
-    let store = new_store(alloc, &SCRIPTS[0])?;
-    Ok(stopped(alloc, store, calls, GATE_SCRIPT))
+    let calls = calls_of(alloc, &mut made(alloc)?, GATE_SCRIPT).saturating_sub(2);
+    Ok(stopped(alloc, made(alloc)?, calls, GATE_SCRIPT))
 }
 
 // Whether nothing of `forced` is said then, and the next run after a crash has this value.

@@ -1,6 +1,5 @@
 // Trees by calls of the engine, and by lines whose nodes are installed in part.
-use crate::acts::status_of;
-use crate::installs::say;
+use crate::installs::{say, status_of};
 use crate::running::{Room, crashed, run};
 use btree_ops::{NodeOp, Short};
 use disk_model::{Crash, Machine, MemMachine};
@@ -55,23 +54,26 @@ fn force<M: Machine>(engine: &mut Engine<AllOps>, machine: &mut M) -> Result<u64
     }
 }
 
-// Opens a store, puts seven pairs into object 0, splits it, and forces the eight commands.
-pub fn grow<M: Machine>(alloc: Global, machine: &mut M) -> Result<(), Status> {
+// Puts seven pairs into object 0, splits it, and forces the eight commands.
+fn fill_and_split<M: Machine>(engine: &mut Engine<AllOps>, machine: &mut M) -> Result<(), Status> {
     let split = NodeOp::SplitRoot {
         root: 0,
         left: 1,
         right: 2,
     };
+    let done = fills(engine, machine) & does(engine, machine, split);
+    let forced = force(engine, machine)?;
+    if done & (forced == 8) {
+        say(machine, b"forced 8\n")
+    } else {
+        Err(Status::Memory)
+    }
+}
+
+// Opens a store, and makes a tree whose root is split.
+pub fn grow<M: Machine>(alloc: Global, machine: &mut M) -> Result<(), Status> {
     match Engine::<AllOps>::restart(alloc, machine, TUNING) {
-        Ok(mut engine) => {
-            let done = fills(&mut engine, machine) & does(&mut engine, machine, split);
-            let forced = force(&mut engine, machine)?;
-            if done & (forced == 8) {
-                say(machine, b"forced 8\n")
-            } else {
-                Err(Status::Memory)
-            }
-        }
+        Ok(mut engine) => fill_and_split(&mut engine, machine),
         Err(cause) => Err(status_of(cause)),
     }
 }
