@@ -16,8 +16,9 @@ pub fn advice(status: Status) -> Option<&'static str> {
              anything else.",
         ),
         Status::DiskFault => Some(
-            "a file of the store could not be read, written or synced. See to free space and rights, then run again: \
-             all that was answered `forced` is there. If the disk itself fails, copy the files and restart the machine first.",
+            "a file of the store could not be read, written or synced. All that was answered `forced` is there. See to free \
+             space and rights, then run again. If it may have been a sync that failed, or the disk itself fails, copy the files \
+             and restart the machine first.",
         ),
         Status::ReadFault => Some(
             "the input could not be read to its end. Some of the commands after the last `forced` may be kept: `redo dump` \
@@ -28,8 +29,8 @@ pub fn advice(status: Status) -> Option<&'static str> {
              says how many there are in all. Run again with the rest.",
         ),
         Status::Memory => Some(
-            "out of memory. A restart takes about 500 bytes for each record that it does again, beside the values: run \
-             again with more. All that was answered `forced` is there.",
+            "out of memory. All that was answered `forced` is there. Run again with more: a restart takes about 200 bytes for \
+             each record that it does again, beside the values.",
         ),
         Status::TooLong => Some(
             "the input has 2^40 bytes or more. Run again with the rest of it: `redo dump` says how many commands are done.",

@@ -42,7 +42,7 @@ fn main(rt: HostRuntime) -> ExitCode {
     let mut machine = FileMachine::new(rt);
     let status = top(alloc, &words, &mut machine, &mut input);
     if let Some(text) = advice(status) {
-        // (where standard error can't be written either, nobody is reported)
+        // (where standard error can't be written either, nothing is left to do)
         let _told = eprintln!(rt; "redo: {text}");
     }
     ExitCode::from(status.number())
