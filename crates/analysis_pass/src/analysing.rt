@@ -1,4 +1,4 @@
-// The plan that the last check of a log makes.
+// The plan that a table makes.
 ghost use Rattle.std.specs.Prelude.{◌≡◌, IsTrue, map};
 ghost use Rattle.std.specs.List.Sorted.{IsStrictlyIncreasing};
 ghost use Rattle.analysis_pass.specs.Analysis.{table_or, least_start};
@@ -7,8 +7,8 @@ use crate::Plan;
 use checkpoint::{Starts, Table};
 use std::alloc::Global;
 
-/// The plan of a redo of a log that begins at this base, by the table of its last check; without a check, by one that starts
-/// every object at the base. The redo starts at the least of the table's next number and its redo starts.
+/// The plan of a redo that goes by this table, which is that of the log's last check; where none is given, by one that
+/// starts every object at this base, the log's. The redo starts at the least of the table's next number and its redo starts.
 pub fn analyse(alloc: Global, base: u64, last: Option<Table>) -> Plan
     ensures table { result.table ≡ table_or base last }
     ensures start { result.start ≡ least_start result.table.next result.table.starts }

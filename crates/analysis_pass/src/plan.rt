@@ -11,7 +11,7 @@ pub struct Plan {
     pub(crate) start: u64,
     pub(crate) table: Table,
 
-    // Where this is set, the objects of the table rise, so one is found by halving.
+    // Where this is set, the objects of the table rise, so one is found by binary search.
     pub(crate) rises: bool,
 }
 
@@ -28,7 +28,7 @@ impl Model for Plan {
 }
 
 impl Plan {
-    /// The number of the first record that the redo looks at.
+    /// The number of the first record that the redo tests.
     pub fn start(&self) -> u64
         ensures { result ≡ self.now.start }
     {
@@ -43,7 +43,7 @@ impl Plan {
     }
 
     /// The number from which the redo applies what the records write to this object. Where the table's objects rise, as
-    /// in every check of a whole log, it is found by halving, else by looking at one pair after the other.
+    /// in every check of a whole log, it is found by binary search, else pair by pair.
     pub fn redo_from(&self, object: u32) -> u64
         ensures { result ≡ starts_from self.now.table object }
     {

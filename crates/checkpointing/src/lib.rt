@@ -5,8 +5,9 @@
 //! length, and at each moment each image shows the world after some first ones of these. [`checkpoint`] takes a check and
 //! forces it, and says where the log has no room for one; [`closing_check`], with which a restart ends, then takes none.
 //! [`trim`] forces the log and puts in its place one that begins at the least number in the write graph. The crate depends on
-//! cache_manager for the parts of a store and for the worlds that they show, on log_records for the log, on checkpoint for
-//! the tables, on write_graph for the redo starts, and on explain_core for the steps.
+//! cache_manager for the parts of a store and for the worlds that they show, on log_records and log_frames for the log, on
+//! checkpoint for the tables, on write_graph for the redo starts, on explain_core for the steps, on oper_core for the
+//! operations, on formats for the log's limits, and on disk_model for the machine.
 #![tactic(auto)]
 
 mod checks;

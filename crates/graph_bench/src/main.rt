@@ -1,4 +1,4 @@
-//! The program `graph_bench`: it adds so many operations of one kind to a write graph, takes all nodes out again, and says
+//! The program `graph_bench`: it adds so many operations of one kind to a write graph, takes all nodes out again, and prints
 //! how many calls that were. `bench/graph` measures it.
 //!
 //! The one contract: each entry that it adds has a number above all others, and there is room for it. It depends on

@@ -6,7 +6,7 @@ use oper_core::Memory;
 use script_lines::ReadError;
 use thiserror::Error;
 
-/// Why no graph is said.
+/// Why no graph is printed.
 #[derive(Clone, Copy, Debug, Error)]
 pub enum DrawError {
     /// The line of this number, from 1 on, is outside the grammar.

@@ -3,7 +3,7 @@ ghost use Rattle.install_order.specs.Tables.{put, copy};
 ghost use Rattle.graph_view.specs.Dot.{dot_of};
 ghost use Rattle.graph_view.specs.Nodes.{row};
 
-/// Two graphs of docs/RECOVERY.md, with their nodes, as they are said.
+/// Two graphs of docs/RECOVERY.md, with their nodes, as they are printed.
 pub fn graphs_are_worked_out()
     // the copy reads the version that the last put destroys, so it goes before the put that wrote it
     ensures put_copy_put { dot_of (row 2 (2 ∷ []) (1 ∷ []) ∷ row 1 (1 ∷ []) [] ∷ row 3 (3 ∷ []) (0 ∷ []) ∷ [])

@@ -1,4 +1,4 @@
-//! The program `graph_view`: it reads the lines of a script, and says the write graph of their commands in the DOT
+//! The program `graph_view`: it reads the lines of a script, and prints the write graph of their commands in the DOT
 //! language, by which Graphviz draws it. All commands are taken as accepted, and none as installed.
 //!
 //! The one contract is that of `draw_script`: the text says exactly the edges that `install_order` defines over the
@@ -23,7 +23,7 @@ use draw_error::DrawError;
 use drawing::draw_script;
 use std::process::ExitCode;
 
-/// Status 0; 1 where a line is refused; 3 where the script could not be read or the graph could not be made or said.
+/// Status 0; 1 where a line is refused; 3 where the script could not be read or the graph could not be made or printed.
 fn main(rt: HostRuntime) -> ExitCode {
     let mut input = StdSource::new(&rt);
     match draw_script(rt.alloc(), &mut input) {

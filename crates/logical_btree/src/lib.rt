@@ -3,9 +3,11 @@
 //!
 //! The one contract: on a range that is a tree, get, range, insert and delete act on the map of all its pairs as on an
 //! ordered map, at each command of a call the range is a tree with the old map or the new one, and the commands are
-//! accepted one after the other on any state. It stands on definitions: what a way and a scan meet (`Walk`), which ranges
+//! accepted one after the other on any state. The definitions are what a way and a scan meet (`Walk`), which ranges
 //! are trees and what they hold (`Tree`), and which commands and answers a call makes (`Plan`). As code the crate has the
-//! range and the single steps of a walk, of which a client over an engine makes the calls. Nothing takes memory.
+//! range and the single steps of a walk, of which a client over an engine makes the calls. Nothing takes memory. The crate
+//! depends on btree_ops for nodes and operations, on oper_core for what a command means, and on arrayvec for the
+//! entries of an empty leaf.
 #![tactic(auto)]
 
 mod child;

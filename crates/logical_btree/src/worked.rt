@@ -34,7 +34,7 @@ pub fn the_first_bad_object_is_told()
 {}
 
 /// Of two full nodes on the way the first is split first. The answers at the edges: an empty root is an empty tree, a range
-/// of no keys meets the root all the same, and no object past the store or above the end of its range is looked at.
+/// of no keys meets the root all the same, and no object past the store or above the end of its range is read.
 pub fn the_first_full_node_is_split()
     ensures full { insert_plan bounds 0 15 two_full (8 ∷ []) (168 ∷ []) ≡ record {
       commands =

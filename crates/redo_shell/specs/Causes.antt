@@ -51,7 +51,7 @@ pub record JudgesFiles (old new : Disk) (status : Status) : Type 0 where
   -- no others are opened, and they are kept
   pub opened : IsOfStore status → IsWellFormed old.reads
   pub keeps : (IsWellFormed old.reads → ⊥) → KeepsFiles old new
-  -- no memory is taken before the objects gate is looked at
+  -- memory runs out only where the objects gate is open
   pub memory : status ≡ Memory → IsOpenAt 0 (old.reads Objects)
   -- of files that do not meet their format nothing is said where the disk fails or memory runs out
   pub silent : (IsWellFormed old.reads → ⊥) → (status ≡ DiskFault) ⊎ (status ≡ Memory) → new.said ≡ old.said

@@ -1,4 +1,4 @@
--- Several calls of the program, one after the other: each ended anyhow, and followed by nothing, a kill or a crash.
+-- Several calls of the program, one after the other: each ended in any way, and followed by nothing, a kill or a crash.
 use Rattle.std.specs.Prelude.{◌≡◌, ◌⊎◌, ◌≤◌, ⊤, ℕ, List, [], ◌∷◌, ◌++◌, length, take}
 use Rattle.disk_model.specs.Disk.{Files, Disk, LeavesOnly}
 use Rattle.disk_model.specs.declared.machine.FileNo.TheVariants.{Objects}
@@ -46,9 +46,9 @@ pub record Survives (p : Params) (commands : List Command) (runs : List Ran) (fi
   pub stands : Stands p files now
   pub acked : (n : ℕ) → SaidForced runs n → n ≤ length now
 
--- What is after a call, with these bytes said: each of its images was one at a moment of the call. With no call between
--- it is what the call left, after a kill what there was at that moment, after a crash a machine that is settled on one of
--- the images.
+-- The machine that the next call meets, after one that said these bytes: each of its images was one at a moment of that
+-- call. It is what the call left, or after a kill what there was at that moment, or after a crash one that is settled on
+-- one of the images.
 pub record Follows (old new next : Disk) (said : List ℕ) : Type 0 where
   pub told : old.tells_moments → next.tells_moments
   pub within : next.tells_moments → (files : Files) (s : List ℕ) → next.left_since next.clock files s → new.left_since old.clock files said

@@ -1,4 +1,4 @@
-// The answers to what a line asks, found before they are said.
+// The answers to what a line asks, found before they are printed.
 ghost use Rattle.std.specs.Prelude.{◌≡◌, false, List, ℕ, OnOk, IfOk, IfErr};
 ghost use Rattle.disk_model.specs.Disk.{Passes, LeavesOnly};
 ghost use Rattle.formats.specs.declared.params.Params.{Params};

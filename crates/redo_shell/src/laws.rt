@@ -47,8 +47,8 @@ pub fn a_line_gets_the_answer_of_its_cause()
     a_line_asks_one_thing();
 }
 
-/// The whole lines of what is said are the texts of the answers, one after the other: no text has a newline, and what is
-/// said of the next answer is no whole line. So what was printed reports which answers were given.
+/// The whole lines of what is printed are the texts of the answers, one after the other: no text has a newline, and what
+/// is printed of the next answer is no whole line. So what was printed reports which answers were given.
 pub fn the_lines_said_are_the_answers()
     ensures lines { (replies : List Reply) (next : Reply) (count : ℕ) → whole_lines (flat_map said_line replies ++ take count (text_of next)) ≡ texts_of replies }
     ensures one { (a b : Reply) → HasSmallNumbers a → HasSmallNumbers b → text_of a ≡ text_of b → a ≡ b }
@@ -56,9 +56,9 @@ pub fn the_lines_said_are_the_answers()
     a_text_says_one_thing();
 }
 
-/// Any calls of the program, one after the other, each ended anyhow and followed by nothing, a kill or a crash: what is
-/// left stands for the commands of the start and those that the runs have added, no fewer than any run has printed to be
-/// forced. From files that are no store the same holds from the first `init` on that has made one, with the numbers that an
+/// Any calls of the program, one after the other, each ended in any way and followed by nothing, a kill or a crash: what
+/// is left stands for the commands of the start and those that the runs have added, no fewer than any run has printed to
+/// be forced. From files that are no store the same holds from the first `init` on that has made one, with the numbers that an
 /// `init` has asked for.
 pub fn sessions_keep_what_was_forced<M: Machine>()
     ensures from_store { (p : Params) (commands : List Command) (first last : M) (inits : List Params) (runs : List Ran) → (M.disk first).tells_moments →

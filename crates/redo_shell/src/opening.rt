@@ -1,4 +1,4 @@
-// How a store is opened, and what is said where it is not.
+// How a store is opened, and what is printed where it is not.
 ghost use Rattle.std.specs.Prelude.{◌≡◌, ◌≢◌, ◌⊎◌, ◌++◌, false, List, ℕ, OnOk, IfOk, IfErr};
 ghost use Rattle.disk_model.specs.Disk.{Rises, Passes, IsSettled};
 ghost use Rattle.disk_model.specs.declared.machine.FileNo.{FileNo};
@@ -30,8 +30,8 @@ const TUNING: Tuning = Tuning {
     redo_dirty: 4_096,
 };
 
-/// Says why a store was not opened, where there is a line for that, and ends with the status that reports it, or by want
-/// of memory for the line with that, or where the output fails with that.
+/// Says why a store was not opened, where there is a line for that, and ends with the status that reports it. Without memory
+/// for the line it ends with `Memory`, and where the output fails with `SayFault`.
 fn end_unopened<M: Machine>(alloc: Global, machine: &mut M, cause: RestartErr) -> Status
     ensures time { Passes (M.disk machine.old) (M.disk machine.new) }
     ensures keeps { KeepsFiles (M.disk machine.old) (M.disk machine.new) }

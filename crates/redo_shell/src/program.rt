@@ -26,7 +26,7 @@ use script_lines::{Asked, read_words, words_ask_one_thing};
 use std::alloc::Global;
 use store_engine::standing_files_meet_their_format;
 
-/// What is said where the words ask nothing.
+/// What is printed where the words ask nothing.
 const USAGE: &[u8] = b"usage: redo init N CAP LIMIT | run | dump | demo --seed S --steps T\n";
 
 /// Does what was asked, with the files of the machine, its output, and the script that the source gives.

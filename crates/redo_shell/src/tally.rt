@@ -1,4 +1,4 @@
-// What was said is counted.
+// What was printed is counted.
 ghost use Rattle.std.specs.Prelude.{◌≡◌, ◌%◌, ◌^◌, count_by};
 ghost use Rattle.redo_shell.specs.Demo.{is_newline, is_refusal, refusal_count, weighed};
 

@@ -36,13 +36,13 @@ pub struct Totals {
     pub steps: u32,
     /// The lines that were answered.
     pub lines: u64,
-    /// The bytes that were said, newlines included.
+    /// The bytes that were printed, newlines included.
     pub bytes: u64,
     /// The commands that were accepted.
     pub accepted: u64,
     /// The answers that are `bad`, `refused`, `full` or `end`.
     pub refused: u64,
-    /// The sum, modulo 2^64, of each byte that was said times its place, counted from 1.
+    /// The sum, modulo 2^64, of each byte that was printed times its place, counted from 1.
     pub sum: u64,
 }
 
@@ -256,7 +256,7 @@ pub fn answer_text(alloc: Global, answer: &Answer<'_>) -> Result<Vec<u8>, Memory
     Ok(text)
 }
 
-/// The text of an answer and a newline, as it is said.
+/// The text of an answer and a newline, as it is printed.
 pub fn answer_line(alloc: Global, answer: &Answer<'_>) -> Result<Vec<u8>, Memory>
     ensures { IfOk result (λ line. line.items ≡ said_line (reply_of answer.now)) }
 {

@@ -11,7 +11,7 @@ type Change = (FileNo, u64, &'static [u8]);
 
 const NEW_LOG: &[u8] = b"\x01RDOLOG01\x01\0\0\0\0\0\0\0\x01\0\0\0\0\0\0\0\0\0\0\0\0\0\0\0\0";
 
-// What is changed, all other bytes being those of a new store with 8 objects of 64 bytes, and what is said. The slots of
+// What is changed, all other bytes being those of a new store with 8 objects of 64 bytes, and what is printed. The slots of
 // object 0 are at 32 and 109. In the last three rows two checks fail.
 const DAMAGED: [(&[Change], &[u8]); 22] = [
     (&[(Objects, 1, b"\0")], b"damaged objects 1\n"),
@@ -108,7 +108,7 @@ fn the_first_fault_is_said(rt: HostRuntime) -> Result<(), Fail> {
     Ok(())
 }
 
-// A file of a new store that is cut at this offset, and what is said.
+// A file of a new store that is cut at this offset, and what is printed.
 const CUT: [(FileNo, usize, &[u8]); 3] = [
     (Objects, 1187, b"damaged objects 0\n"),
     (LogA, 33, b"damaged log_a 33\n"),

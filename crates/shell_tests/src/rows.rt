@@ -1,4 +1,4 @@
-// Whole runs: the words, the input, the status, and all that is said.
+// Whole runs: the words, the input, the status, and all that is printed.
 use crate::running::{INIT, empty_folder, run};
 use disk_model::Crash;
 use redo_shell::Status;

@@ -33,7 +33,7 @@ pub fn run<M: Machine>(alloc: Global, machine: &mut M, line: &str, input: &[u8])
     }
 }
 
-// A folder with a store of 8 objects. Nothing is said yet, and all is synced.
+// A folder with a store of 8 objects. Nothing is printed yet, and all is synced.
 pub fn new_store(alloc: Global) -> Result<MemMachine, AllocError> {
     let mut machine = empty_folder(alloc)?;
     run(alloc, &mut machine, INIT, b"");

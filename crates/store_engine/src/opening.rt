@@ -43,8 +43,8 @@ impl<O: Oper> Engine<O> {
     /// Opens the files: what a process before this one left unsynced is synced, the log and the slots are read, what is not
     /// installed is done again, and one check is logged and forced, where the log stays within 2^48 bytes.
     ///
-    /// The machine need not be settled: what reads give is what the files stand for. The objects gate is looked at before
-    /// memory is taken.
+    /// The machine need not be settled: what reads give is what the files stand for. `Memory` comes only
+    /// where the objects gate is open.
     pub fn restart<M: Machine>(
         alloc: Global,
         machine: &mut M,
