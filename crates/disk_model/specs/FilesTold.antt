@@ -1,5 +1,5 @@
 -- A machine that reports its files and what was said, and none of its moments.
-use Rattle.std.proofs.Common.{◌≤◌, ℕ, List, arith}
+use Rattle.std.proofs.Common.{◌≡◌, ◌≤◌, ℕ, List, arith, refl, sym, subst}
 use Rattle.disk_model.specs.Disk.{Files, Disk, IsDisk, Runs}
 
 abbrev pub files_told : Files → List ℕ → ℕ → ℕ → Disk
@@ -7,6 +7,7 @@ files_told reads said disk_faults say_faults = record {
   tells_files = Unit {0};
   tells_moments = ⊥;
   reads = reads;
+  agrees = λ files. files ≡ reads;
   said = said;
   clock = 0;
   left_since = λ t c s. ⊥;
@@ -17,6 +18,7 @@ files_told reads said disk_faults say_faults = record {
 pub lawful_files_told : (reads : Files) (said : List ℕ) (disk_faults say_faults : ℕ) → IsDisk (files_told reads said disk_faults say_faults)
 lawful_files_told reads said disk_faults say_faults = record {
   telling = λ told. absurd told;
+  agreeing = λ told. refl;
   as_read = λ told. absurd told;
   said_now = λ told. absurd told;
   among = λ t u c s le here left. left;
@@ -39,5 +41,6 @@ runs_told step says reads reads' said said' df df' sf sf' d s goes speaks = reco
   };
   crash = λ told. absurd told;
   reads = λ told. goes;
+  agreed = λ now agrees. (reads, refl, subst (λ (f : Files). step reads f) (sym agrees) goes);
   said = λ told. speaks;
 }

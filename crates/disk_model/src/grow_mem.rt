@@ -1,6 +1,6 @@
 // A machine in memory that grows.
 ghost use Rattle.std.specs.Prelude.{◌≡◌, ◌<◌, ◌≤◌, ◌+◌, ◌-◌, ◌++◌, [], length, take, IfOk, OnOk, OnErr, IsOk, IsErr, IsOkAnd};
-ghost use Rattle.disk_model.specs.Disk.{Rises, Runs, Stays, Same, In, Torn, Holds, SaysFront, IsSettledIn, read_of};
+ghost use Rattle.disk_model.specs.Disk.{Files, Rises, Runs, Stays, Same, In, Torn, Holds, SaysFront, IsSettledIn, read_of};
 ghost use Rattle.disk_model.specs.FilesTold.{lawful_files_told};
 ghost use Rattle.disk_model.specs.Growing.{disk_of, files_of, said_by, HasSameFaults, HoldsTheSame, FailsToWrite, FailsToSay};
 ghost use Rattle.disk_model.specs.declared.machine.FileNo.{FileNo};
@@ -79,7 +79,7 @@ impl Machine for GrowMem {
 
     fn size(&mut self, file: FileNo) -> Result<u64, Failed>
         ensures kept { Stays (disk_of self.old) (disk_of self.new) }
-        ensures size { (disk_of self.old).tells_files → IfOk result (λ n. n ≡ length ((disk_of self.old).reads file)) }
+        ensures size { (files : Files) → (disk_of self.new).agrees files → IfOk result (λ n. n ≡ length (files file)) }
         ensures cause { IsErr result → Rises (disk_of self.old).disk_faults (disk_of self.new).disk_faults }
 
         ensures succeeds { IsOk result }
@@ -91,10 +91,10 @@ impl Machine for GrowMem {
     fn read(&mut self, file: FileNo, at: u64, into: &mut [u8]) -> Result<usize, Failed>
         ensures kept { Stays (disk_of self.old) (disk_of self.new) }
         ensures fits { IfOk result (λ n. n ≤ length into.old) }
-        ensures bytes { (disk_of self.old).tells_files → IfOk result (λ n.
-            take n into.new ≡ read_of ((disk_of self.old).reads file) at (length into.old)) }
-        ensures count { (disk_of self.old).tells_files → IfOk result (λ n.
-            n ≡ length (read_of ((disk_of self.old).reads file) at (length into.old))) }
+        ensures bytes { (files : Files) → (disk_of self.new).agrees files → IfOk result (λ n.
+            take n into.new ≡ read_of (files file) at (length into.old)) }
+        ensures count { (files : Files) → (disk_of self.new).agrees files → IfOk result (λ n.
+            n ≡ length (read_of (files file) at (length into.old))) }
         ensures cause { IsErr result → Rises (disk_of self.old).disk_faults (disk_of self.new).disk_faults }
 
         ensures succeeds { IsOk result }

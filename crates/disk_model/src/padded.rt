@@ -1,6 +1,6 @@
 // Reads past a file's end.
 ghost use Rattle.std.specs.Prelude.{◌≡◌, ◌<◌, ℕ, length, slice_index, OnOk, IsErr};
-ghost use Rattle.disk_model.specs.Disk.{Rises, Stays};
+ghost use Rattle.disk_model.specs.Disk.{Files, Rises, Stays};
 ghost use Rattle.disk_model.specs.Padded.{padded};
 
 use crate::{Failed, FileNo, Machine};
@@ -13,7 +13,7 @@ pub fn read_padded<M: Machine>(
     into: &mut [u8],
 ) -> Result<(), Failed>
     ensures kept { Stays (M.disk machine.old) (M.disk machine.new) }
-    ensures bytes { (M.disk machine.old).tells_files → OnOk result (into.new ≡ padded ((M.disk machine.old).reads file) at (length into.old)) }
+    ensures bytes { (files : Files) → (M.disk machine.new).agrees files → OnOk result (into.new ≡ padded (files file) at (length into.old)) }
     ensures small { OnOk result ((i : ℕ) → slice_index into.new i < 256) }
     ensures cause { IsErr result → Rises (M.disk machine.old).disk_faults (M.disk machine.new).disk_faults }
 {
