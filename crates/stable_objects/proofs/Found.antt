@@ -155,17 +155,17 @@ pub last_gate : (p : Params) → IsInRange p → slot_gate p.cap (2 * p.objects 
 last_gate p in_range = let same : 2 * p.objects - 1 ≡ 2 * (p.objects - 1) + 1 = omega (arith, in_range.some) in ap (λ (k : ℕ). slot_gate p.cap k) same
 
 -- over a whole file, only the disk or the memory fails
-pub only_the_disk : (rises told : Type 0) (file : List ℕ) (p : Params) (e : SlotErr) → told → IsObjectsFile p file
-    → FailsBy rises (told → IsClosedAt 0 file) (FailsAt (λ place. told → IsDamagedAt file place)) e → IsNoDamage e
-only_the_disk rises told file p NotAStore is_told is fails = fails is_told (gate_is_open p file is)
-only_the_disk rises told file p DiskFault is_told is fails = tt
-only_the_disk rises told file p (Damaged number place) is_told is fails = no_fault p file place is (first_is_fault file place (fails.1 is_told).fault)
-only_the_disk rises told file p Memory is_told is fails = tt
+pub only_the_disk : (rises : Type 0) (agrees : Files → Type 0) (files : Files) (p : Params) (e : SlotErr) → agrees files → IsObjectsFile p (files Objects)
+    → FailsBy rises ((files : Files) → agrees files → IsClosedAt 0 (files Objects)) (FailsAt (λ place. (files : Files) → agrees files → IsDamagedAt (files Objects) place)) e → IsNoDamage e
+only_the_disk rises agrees files p NotAStore agree is fails = fails files agree (gate_is_open p (files Objects) is)
+only_the_disk rises agrees files p DiskFault agree is fails = tt
+only_the_disk rises agrees files p (Damaged number place) agree is fails = no_fault p (files Objects) place is (first_is_fault (files Objects) place (fails.1 files agree).fault)
+only_the_disk rises agrees files p Memory agree is fails = tt
 
 -- why a call failed after calls that changed nothing, for a caller who knows more of the fault
-pub moved : (old mid new : Disk) (no_store no_store' : Type 0) (P Q : List ℕ → ℕ → Type 0) (e : SlotErr) → Stays old mid → (no_store → no_store') → (old.tells_files → (place : ℕ) → P (old.reads Objects) place → Q (old.reads Objects) place)
-    → FailsBy (Rises mid.disk_faults new.disk_faults) no_store (FailsAt (λ place. mid.tells_files → P (mid.reads Objects) place)) e
-    → FailsBy (Rises old.disk_faults new.disk_faults) no_store' (FailsAt (λ place. old.tells_files → Q (old.reads Objects) place)) e
+pub moved : (old mid new : Disk) (no_store no_store' : Type 0) (P Q : List ℕ → ℕ → Type 0) (e : SlotErr) → Stays old mid → (no_store → no_store') → ((files : Files) → new.agrees files → (place : ℕ) → P (files Objects) place → Q (files Objects) place)
+    → FailsBy (Rises mid.disk_faults new.disk_faults) no_store (FailsAt (λ place. (files : Files) → new.agrees files → P (files Objects) place)) e
+    → FailsBy (Rises old.disk_faults new.disk_faults) no_store' (FailsAt (λ place. (files : Files) → new.agrees files → Q (files Objects) place)) e
 moved old mid new no_store no_store' P Q e stays closed more fails = fails_on _ _ no_store no_store' _ _ e (λ risen below. let rose = risen below in omega (arith, rose, stays.time.disk_faults)) closed
-    (λ file place there. (there.0, λ told. more told place (subst (λ (f : Files). P (f Objects) place) (stays.reads told) (there.1 (stays.time.files_told.0 told)))))
+    (λ file place there. (there.0, λ files agree. more files agree place (there.1 files agree)))
     fails

@@ -6,7 +6,7 @@ use Rattle.byteorder.specs.Endian.{little_number}
 use Rattle.byteorder.specs.Numbers.{little_from-take}
 use Rattle.disk_model.specs.Disk.{Files, Disk, Stays, Rises}
 use Rattle.disk_model.specs.Padded.{padded, length-padded, get_or-padded}
-use Rattle.disk_model.specs.Moments.{stays_twice}
+use Rattle.disk_model.specs.Moments.{agreed_before, stays_twice}
 use Rattle.disk_model.specs.declared.machine.FileNo.TheVariants.{Objects}
 use Rattle.formats.specs.Bytes.{byte_at, number_at, IsOpenAt, IsClosedAt}
 use Rattle.formats.specs.Objects.{IsInRange, slot_place, identifier_at, open_identifier, last_slot}
@@ -169,9 +169,11 @@ loaded p file heads size header is pairs =
     }
 
 -- why the heads could not be read, for a caller who knows the header and the size
-pub heads_failed : (old mid last new : Disk) (p : Params) (size : ℕ) (e : SlotErr) → Stays old mid → Stays mid last → (old.tells_files → HasHeader p (old.reads Objects)) → (mid.tells_files → size ≡ length (mid.reads Objects))
-    → FailsBy (Rises last.disk_faults new.disk_faults) ⊥ (FailsAt (λ place. last.tells_files → HasPairFault p size (last.reads Objects) place)) e
-    → FailsBy (Rises old.disk_faults new.disk_faults) (old.tells_files → IsClosedAt 0 (old.reads Objects)) (FailsAt (λ place. old.tells_files → IsDamagedAt (old.reads Objects) place)) e
-heads_failed old mid last new p size e first second header long_is fails = moved old last new ⊥ _ (λ file place. HasPairFault p size file place) IsDamagedAt e (stays_twice old mid last first second) (λ none. absurd none)
-    (λ told place found. slots_damage p (old.reads Objects) size place (header told) (long_is (first.time.files_told.0 told) ∙ ap (λ (f : Files). length (f Objects)) (first.reads told)) found)
+pub heads_failed : (old mid last new : Disk) (p : Params) (size : ℕ) (e : SlotErr) → Stays old mid → Stays mid last → Stays last new → ((files : Files) → mid.agrees files → HasHeader p (files Objects)) → ((files : Files) → last.agrees files → size ≡ length (files Objects))
+    → FailsBy (Rises last.disk_faults new.disk_faults) ⊥ (FailsAt (λ place. (files : Files) → new.agrees files → HasPairFault p size (files Objects) place)) e
+    → FailsBy (Rises old.disk_faults new.disk_faults) ((files : Files) → new.agrees files → IsClosedAt 0 (files Objects)) (FailsAt (λ place. (files : Files) → new.agrees files → IsDamagedAt (files Objects) place)) e
+heads_failed old mid last new p size e first second third header long_is fails = moved old last new ⊥ _ (λ file place. HasPairFault p size file place) IsDamagedAt e (stays_twice old mid last first second) (λ none. absurd none)
+    (λ files agree place found.
+    let then = agreed_before third files agree in
+    slots_damage p (files Objects) size place (header files (agreed_before second files then)) (long_is files then) found)
     fails

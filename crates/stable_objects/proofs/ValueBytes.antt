@@ -2,15 +2,16 @@
 use Rattle.std.proofs.Common.{◌≡◌, ◌≢◌, ◌<◌, ◌≤◌, ◌+◌, ℕ, List, ◌++◌, length, take, drop, refl, sym, ◌∙◌, ap, subst, arith, length-take, length-drop}
 use Rattle.std.proofs.lemmas.List.{take_at, take_all}
 use Rattle.byteorder.specs.Endian.{little_number}
-use Rattle.disk_model.specs.Disk.{read_of}
+use Rattle.disk_model.specs.Disk.{Files, read_of}
 use Rattle.disk_model.specs.Padded.{padded}
-use Rattle.formats.specs.Bytes.{number_at, IsOpenAt}
+use Rattle.disk_model.specs.declared.machine.FileNo.TheVariants.{Objects}
+use Rattle.formats.specs.Bytes.{number_at}
 use Rattle.formats.specs.Objects.{slot_place, length_at, value_at, holder, cell_of}
 use Rattle.stable_objects.specs.SlotsView.{SlotsView, AreOf, id_in, holder_in}
 use Rattle.stable_objects.specs.Reading.{FailsBy, FailsAt, IsLongValue, IsNoDamage}
 use Rattle.stable_objects.specs.declared.slot_err.SlotErr.{SlotErr}
 use Rattle.stable_objects.specs.declared.slot_err.SlotErr.TheVariants.{NotAStore, DiskFault, Damaged, Memory}
-use Rattle.stable_objects.specs.SlotLaws.{open_value, told_is_open, holder_below, holder_is, id_is}
+use Rattle.stable_objects.specs.SlotLaws.{open_value, held_is_open, held_short, holder_is}
 use Rattle.stable_objects.proofs.Found.{number_read}
 
 -- the length that was read is the file's
@@ -32,29 +33,21 @@ pub value_read : (file into items : List ℕ) (place n len read : ℕ) → n ≡
 value_read file into items place n len read is bytes count le len_is =
     take_at into (drop (length into) items) len (omega (arith, count, len_is)) ∙ sym (take_all read into (omega (arith, count, le))) ∙ bytes ∙ ap (λ (k : ℕ). take k (drop (place + 13) file)) is
 
--- the slot that holds an object with an identifier is open
+-- the slot that holds an object with an identifier
 module _ (slots : SlotsView) (file : List ℕ) (x place : ℕ) (are : AreOf slots file) (below : x < slots.params.objects) (some : id_in slots x ≢ 0) (here : place ≡ slot_place slots.params.cap x (holder_in slots x)) where
   spot : slot_place slots.params.cap x (holder slots.params.cap x file) ≡ place
   spot = sym (here ∙ ap (λ (s : ℕ). slot_place slots.params.cap x s) (holder_is slots file x are below))
 
-  is_open : IsOpenAt (slot_place slots.params.cap x (holder slots.params.cap x file)) file
-  is_open = told_is_open (slot_place slots.params.cap x (holder slots.params.cap x file)) file (omega (arith, some, id_is slots file x are below))
-
   -- what was read is the object's value
   pub held_value : (bytes : List ℕ) → bytes ≡ value_at place file → bytes ≡ (cell_of slots.params.cap x file).value
   held_value bytes is =
-      is ∙ ap (λ (k : ℕ). value_at k file) (sym spot) ∙ sym (open_value (slot_place slots.params.cap x (holder slots.params.cap x file)) file is_open)
+      is ∙ ap (λ (k : ℕ). value_at k file) (sym spot) ∙ sym (open_value (slot_place slots.params.cap x (holder slots.params.cap x file)) file (held_is_open slots file x are below some))
 
-  -- and it is not too long
-  pub held_short : (at : ℕ) → IsLongValue slots.params.cap place file at → ⊥
-  held_short at wrong =
-      let whole = are.whole.slots.each x (holder slots.params.cap x file) below (holder_below slots.params.cap x file) is_open in
-      let there = subst (λ (k : ℕ). IsLongValue slots.params.cap k file at) (sym spot) wrong in
-      there.long whole.short whole.within
-
-  -- so only the disk fails
-  pub held_fails : (rises told : Type 0) (n : ℕ) (e : SlotErr) → told → n ≡ slots.params.cap → FailsBy rises ⊥ (FailsAt (λ at. told → IsLongValue n place file at)) e → IsNoDamage e
-  held_fails rises told n NotAStore is_told cap fails = fails
-  held_fails rises told n DiskFault is_told cap fails = tt
-  held_fails rises told n (Damaged number at) is_told cap fails = held_short at (subst (λ (k : ℕ). IsLongValue k place file at) cap (fails.1 is_told))
-  held_fails rises told n Memory is_told cap fails = tt
+  -- and only the disk fails
+  pub held_fails : (rises : Type 0) (agrees : Files → Type 0) (files : Files) (n : ℕ) (e : SlotErr) → files Objects ≡ file → agrees files → n ≡ slots.params.cap
+      → FailsBy rises ⊥ (FailsAt (λ at. (files : Files) → agrees files → IsLongValue n place (files Objects) at)) e → IsNoDamage e
+  held_fails rises agrees files n NotAStore same agree cap fails = fails
+  held_fails rises agrees files n DiskFault same agree cap fails = tt
+  held_fails rises agrees files n (Damaged number at) same agree cap fails = held_short slots file x at are below some
+      (subst (λ (k : ℕ). IsLongValue slots.params.cap k file at) here (subst (λ (l : List ℕ). IsLongValue slots.params.cap place l at) same (subst (λ (k : ℕ). IsLongValue k place (files Objects) at) cap (fails.1 files agree))))
+  held_fails rises agrees files n Memory same agree cap fails = tt

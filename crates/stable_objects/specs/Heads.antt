@@ -1,6 +1,6 @@
 -- What is read of the slots' heads, and the faults that they show.
 use Rattle.std.specs.Prelude.{◌≡◌, ◌≢◌, ◌<◌, ◌≤◌, ◌+◌, ◌*◌, ◌-◌, ◌^◌, ℕ, nat_eq, if◌then◌else◌, List, length, slice_index_or}
-use Rattle.disk_model.specs.Disk.{Disk}
+use Rattle.disk_model.specs.Disk.{Files, Disk}
 use Rattle.disk_model.specs.Padded.{padded}
 use Rattle.disk_model.specs.declared.machine.FileNo.TheVariants.{Objects}
 use Rattle.formats.specs.Bytes.{byte_at}
@@ -18,11 +18,11 @@ pub record Head : Type 0 where
 abbrev pub head_at : ℕ → List ℕ → Head
 head_at place file = record { gate = byte_at place file; identifier = identifier_at place file; long = length_at place file }
 
--- A slot's head has room in these bytes, and where the machine reports its files, they are those of the objects file from
--- a place on. A byte past its end counts as 0.
+-- A slot's head has room in these bytes, and they are those of the objects file from a place on, of all files that agree with
+-- what the machine's reads gave. A byte past its end counts as 0.
 pub record ShowsFile (m : Disk) (place : ℕ) (bytes : List ℕ) : Type 0 where
   pub room : 13 ≤ length bytes
-  pub same : m.tells_files → bytes ≡ padded (m.reads Objects) place (length bytes)
+  pub same : (files : Files) → m.agrees files → bytes ≡ padded (files Objects) place (length bytes)
 
 -- the slot at this place has the number of a record, and a value within CAP and, where it has some byte, within a file of this size
 pub record Fits (cap place size : ℕ) (h : Head) : Type 0 where

@@ -1,5 +1,5 @@
 -- Laws of the slots: what they say of an object is what the file says, and an open slot's number is reported.
-use Rattle.std.proofs.Common.{◌≡◌, ◌<◌, ◌≤◌, ◌+◌, ℕ, List, [], length, drop, sym, ◌∙◌, ap, subst, arith, inl, inr, length-take}
+use Rattle.std.proofs.Common.{◌≡◌, ◌≢◌, ◌<◌, ◌≤◌, ◌+◌, ℕ, List, [], length, drop, sym, ◌∙◌, ap, subst, arith, inl, inr, length-take}
 use Rattle.std.specs.Prelude.{Bool, cond, nat_eq, nat_lt}
 use Rattle.std.proofs.lemmas.Bool.{ne_eqb, eq-eqb, cond-true, cond-false, cond_both, cases_eq, cases_lt}
 use Rattle.formats.specs.Bytes.{byte_at, IsOpenAt, IsClosedAt}
@@ -9,6 +9,7 @@ use Rattle.formats.specs.Image.{IsOpenSlot, place_in, params_in}
 use Rattle.formats.specs.declared.params.Params.{Params}
 use Rattle.stable_objects.specs.SlotsView.{SlotsView, AreOf, IsLate, head, id_in, holder_in}
 use Rattle.stable_objects.specs.Laws.{params_of_file}
+use Rattle.stable_objects.specs.Reading.{IsLongValue}
 
 -- what the slot at a place reports where it is closed, and where it is open
 pub closed_tells : (place : ℕ) (file : List ℕ) → IsClosedAt place file → open_identifier place file ≡ 0
@@ -48,6 +49,20 @@ holder_is slots file x are below =
 pub id_is : (slots : SlotsView) (file : List ℕ) (x : ℕ) → AreOf slots file → x < slots.params.objects → id_in slots x ≡ (cell_of slots.params.cap x file).id
 id_is slots file x are below =
     ap (λ (s : ℕ). head slots x s) (holder_is slots file x are below) ∙ are.heads x (holder slots.params.cap x file) below (holder_below slots.params.cap x file)
+
+-- the slot that holds an object with an identifier is open
+pub held_is_open : (slots : SlotsView) (file : List ℕ) (x : ℕ) → AreOf slots file → x < slots.params.objects → id_in slots x ≢ 0
+    → IsOpenAt (slot_place slots.params.cap x (holder slots.params.cap x file)) file
+held_is_open slots file x are below some = told_is_open (slot_place slots.params.cap x (holder slots.params.cap x file)) file (omega (arith, some, id_is slots file x are below))
+
+-- and the value in it is not too long
+pub held_short : (slots : SlotsView) (file : List ℕ) (x at : ℕ) → AreOf slots file → x < slots.params.objects → id_in slots x ≢ 0
+    → IsLongValue slots.params.cap (slot_place slots.params.cap x (holder_in slots x)) file at → ⊥
+held_short slots file x at are below some wrong =
+    let cap = slots.params.cap in
+    let whole = are.whole.slots.each x (holder cap x file) below (holder_below cap x file) (held_is_open slots file x are below some) in
+    let there = subst (λ (s : ℕ). IsLongValue cap (slot_place cap x s) file at) (holder_is slots file x are below) wrong in
+    there.long whole.short whole.within
 
 -- where all slots are closed, each object has the identifier 0 and no bytes
 pub closed_cells : (p : Params) (file : List ℕ) (x : ℕ) → AreSlotsClosed p file → x < p.objects → cell_of p.cap x file ≡ record { id = 0; value = [] }

@@ -1,6 +1,6 @@
 // Reads the heads of the slots.
 ghost use Rattle.std.specs.Prelude.{◌≡◌, ◌<◌, ◌≤◌, ◌*◌, ◌^◌, length, IfOk, IfErr, OnOk};
-ghost use Rattle.disk_model.specs.Disk.{Rises, Stays};
+ghost use Rattle.disk_model.specs.Disk.{Files, Rises, Stays};
 ghost use Rattle.disk_model.specs.declared.machine.FileNo.TheVariants.{Objects};
 ghost use Rattle.formats.specs.Objects.{IsInRange};
 ghost use Rattle.stable_objects.specs.Heads.{ShowsFile, head_at, IsRead, IsHeadFault, IsPair, IsPairFault, ArePairs, HasPairFault};
@@ -51,9 +51,9 @@ fn read_head<M: Machine>(
     requires small { place < 2 ^ 32 }
     ensures shows { OnOk result (ShowsFile (M.disk machine.new) window.new.place window.new.bytes.items) }
     ensures kept { Stays (M.disk machine.old) (M.disk machine.new) }
-    ensures read { (M.disk machine.old).tells_files → IfOk result (IsRead cap place size (head_at place ((M.disk machine.old).reads Objects))) }
+    ensures read { (files : Files) → (M.disk machine.new).agrees files → IfOk result (IsRead cap place size (head_at place (files Objects))) }
     ensures cause { IfErr result (FailsBy (Rises (M.disk machine.old).disk_faults (M.disk machine.new).disk_faults) ⊥
-        (FailsAt (λ at. (M.disk machine.old).tells_files → IsHeadFault cap place size (head_at place ((M.disk machine.old).reads Objects)) at))) }
+        (FailsAt (λ at. (files : Files) → (M.disk machine.new).agrees files → IsHeadFault cap place size (head_at place (files Objects)) at))) }
 {
     let head = window.head_at(machine, place)?;
     let id = parse_head(&head, cap, place, size)?;
@@ -73,9 +73,9 @@ fn read_pair<M: Machine>(
     requires object { object < 4096 }
     ensures shows { OnOk result (ShowsFile (M.disk machine.new) window.new.place window.new.bytes.items) }
     ensures kept { Stays (M.disk machine.old) (M.disk machine.new) }
-    ensures read { (M.disk machine.old).tells_files → IfOk result (λ ids. IsPair cap object size ((M.disk machine.old).reads Objects) ids.0 ids.1) }
+    ensures read { (files : Files) → (M.disk machine.new).agrees files → IfOk result (λ ids. IsPair cap object size (files Objects) ids.0 ids.1) }
     ensures cause { IfErr result (FailsBy (Rises (M.disk machine.old).disk_faults (M.disk machine.new).disk_faults) ⊥
-        (FailsAt (λ at. (M.disk machine.old).tells_files → IsPairFault cap object size ((M.disk machine.old).reads Objects) at))) }
+        (FailsAt (λ at. (files : Files) → (M.disk machine.new).agrees files → IsPairFault cap object size (files Objects) at))) }
 {
     let first = read_head(machine, window, cap, place_of(cap, object, 0), size)?;
     let place = place_of(cap, object, 1);
@@ -96,9 +96,9 @@ pub fn read_heads<M: Machine>(
     requires { IsInRange params }
     ensures kept { Stays (M.disk machine.old) (M.disk machine.new) }
     ensures count { IfOk result (λ heads. length heads.items ≡ 2 * params.objects) }
-    ensures read { (M.disk machine.old).tells_files → IfOk result (λ heads. ArePairs params.cap size ((M.disk machine.old).reads Objects) params.objects heads.items) }
+    ensures read { (files : Files) → (M.disk machine.new).agrees files → IfOk result (λ heads. ArePairs params.cap size (files Objects) params.objects heads.items) }
     ensures cause { IfErr result (FailsBy (Rises (M.disk machine.old).disk_faults (M.disk machine.new).disk_faults) ⊥
-        (FailsAt (λ at. (M.disk machine.old).tells_files → HasPairFault params size ((M.disk machine.old).reads Objects) at))) }
+        (FailsAt (λ at. (files : Files) → (M.disk machine.new).agrees files → HasPairFault params size (files Objects) at))) }
 {
     let mut heads = Vec::with_capacity(alloc, 2 * params.objects as usize)?;
     let mut window = Window::open(alloc, machine, params.cap, size)?;

@@ -1,6 +1,6 @@
 // Reads and checks the header, and loads the slots.
 ghost use Rattle.std.specs.Prelude.{◌≡◌, ◌≢◌, ◌∷◌, ◌<◌, length, IfOk, IfErr, IsErrOf};
-ghost use Rattle.disk_model.specs.Disk.{Rises, Stays};
+ghost use Rattle.disk_model.specs.Disk.{Files, Rises, Stays};
 ghost use Rattle.disk_model.specs.declared.machine.FileNo.TheVariants.{Objects};
 ghost use Rattle.formats.specs.Bytes.{IsOpenAt, IsClosedAt};
 ghost use Rattle.formats.specs.Objects.{IsInRange, IsObjectsFile, objects_fields};
@@ -56,10 +56,10 @@ fn parse_header(head: &[u8]) -> Result<Params, SlotErr>
 fn read_header<M: Machine>(machine: &mut M) -> Result<Params, SlotErr>
     ensures kept { Stays (M.disk machine.old) (M.disk machine.new) }
     ensures in_range { IfOk result IsInRange }
-    ensures read { (M.disk machine.old).tells_files → IfOk result (λ p. HasHeader p ((M.disk machine.old).reads Objects)) }
+    ensures read { (files : Files) → (M.disk machine.new).agrees files → IfOk result (λ p. HasHeader p (files Objects)) }
     ensures cause { IfErr result (FailsBy (Rises (M.disk machine.old).disk_faults (M.disk machine.new).disk_faults)
-        ((M.disk machine.old).tells_files → IsClosedAt 0 ((M.disk machine.old).reads Objects))
-        (FailsAt (λ place. (M.disk machine.old).tells_files → IsDamagedAt ((M.disk machine.old).reads Objects) place))) }
+        ((files : Files) → (M.disk machine.new).agrees files → IsClosedAt 0 (files Objects))
+        (FailsAt (λ place. (files : Files) → (M.disk machine.new).agrees files → IsDamagedAt (files Objects) place))) }
     ensures no_memory { IfErr result (λ e. e ≢ SlotErr.Memory) }
 {
     let mut head = [0; HEADER_BYTES];
@@ -79,12 +79,12 @@ impl Slots {
     /// `DiskFault` where the device fails, and `Memory`, which comes only where the gate is open.
     pub fn load<M: Machine>(alloc: Global, machine: &mut M) -> Result<Slots, SlotErr>
         ensures kept { Stays (M.disk machine.old) (M.disk machine.new) }
-        ensures read { (M.disk machine.old).tells_files → IfOk result (λ s. AreOf s ((M.disk machine.old).reads Objects)) }
+        ensures read { (files : Files) → (M.disk machine.new).agrees files → IfOk result (λ s. AreOf s (files Objects)) }
         ensures cause { IfErr result (FailsBy (Rises (M.disk machine.old).disk_faults (M.disk machine.new).disk_faults)
-            ((M.disk machine.old).tells_files → IsClosedAt 0 ((M.disk machine.old).reads Objects))
-            (FailsAt (λ place. (M.disk machine.old).tells_files → IsDamagedAt ((M.disk machine.old).reads Objects) place))) }
-        ensures whole { (M.disk machine.old).tells_files → (p : Numbers) → IsObjectsFile p ((M.disk machine.old).reads Objects) → IfErr result IsNoDamage }
-        ensures memory { (M.disk machine.old).tells_files → IsErrOf result SlotErr.Memory → IsOpenAt 0 ((M.disk machine.old).reads Objects) }
+            ((files : Files) → (M.disk machine.new).agrees files → IsClosedAt 0 (files Objects))
+            (FailsAt (λ place. (files : Files) → (M.disk machine.new).agrees files → IsDamagedAt (files Objects) place))) }
+        ensures whole { (files : Files) → (M.disk machine.new).agrees files → (p : Numbers) → IsObjectsFile p (files Objects) → IfErr result IsNoDamage }
+        ensures memory { (files : Files) → (M.disk machine.new).agrees files → IsErrOf result SlotErr.Memory → IsOpenAt 0 (files Objects) }
     {
         let params = read_header(machine)?;
         let size = machine.size(FileNo::Objects)?;

@@ -1,6 +1,6 @@
 // The objects gate: whether a store begins there, and how it is closed for a new one.
 ghost use Rattle.std.specs.Prelude.{◌≡◌, ◌↔◌, OnOk, IfOk, IsErr, IsTrue};
-ghost use Rattle.disk_model.specs.Disk.{Rises, Runs, Stays, In, Torn, Same, IsSettled};
+ghost use Rattle.disk_model.specs.Disk.{Files, Rises, Runs, Stays, In, Torn, Same, IsSettled};
 ghost use Rattle.disk_model.specs.declared.machine.FileNo.TheVariants.{Objects};
 ghost use Rattle.formats.specs.Image.{BeginsStore};
 ghost use Rattle.stable_objects.specs.Making.{IsClosedFile};
@@ -13,7 +13,7 @@ impl Slots {
     /// Whether the objects file begins with an open gate and the magic. It fails where the device does.
     pub fn begins<M: Machine>(machine: &mut M) -> Result<bool, Failed>
         ensures kept { Stays (M.disk machine.old) (M.disk machine.new) }
-        ensures begins { (M.disk machine.old).tells_files → IfOk result (λ b. IsTrue b ↔ BeginsStore ((M.disk machine.old).reads Objects)) }
+        ensures begins { (files : Files) → (M.disk machine.new).agrees files → IfOk result (λ b. IsTrue b ↔ BeginsStore (files Objects)) }
         ensures cause { IsErr result → Rises (M.disk machine.old).disk_faults (M.disk machine.new).disk_faults }
     {
         let mut start = [0; 9];

@@ -1,6 +1,6 @@
 // Reads the value of an object.
 ghost use Rattle.std.specs.Prelude.{◌≡◌, ◌<◌, ◌≤◌, ◌^◌, [], length, OnOk, IfOk, IfErr, IsOk};
-ghost use Rattle.disk_model.specs.Disk.{Rises, Stays};
+ghost use Rattle.disk_model.specs.Disk.{Files, Rises, Stays};
 ghost use Rattle.disk_model.specs.declared.machine.FileNo.TheVariants.{Objects};
 ghost use Rattle.formats.specs.Objects.{slot_place, value_at, cell_of};
 ghost use Rattle.stable_objects.specs.SlotsView.{AreOf, id_in, holder_in};
@@ -22,9 +22,9 @@ fn read_value<M: Machine>(
     requires { place < 2 ^ 32 }
     ensures kept { Stays (M.disk machine.old) (M.disk machine.new) }
     ensures short { OnOk result (length into.new.items ≤ cap) }
-    ensures value { (M.disk machine.old).tells_files → OnOk result (into.new.items ≡ value_at place ((M.disk machine.old).reads Objects)) }
+    ensures value { (files : Files) → (M.disk machine.new).agrees files → OnOk result (into.new.items ≡ value_at place (files Objects)) }
     ensures cause { IfErr result (FailsBy (Rises (M.disk machine.old).disk_faults (M.disk machine.new).disk_faults) ⊥
-        (FailsAt (λ at. (M.disk machine.old).tells_files → IsLongValue cap place ((M.disk machine.old).reads Objects) at))) }
+        (FailsAt (λ at. (files : Files) → (M.disk machine.new).agrees files → IsLongValue cap place (files Objects) at))) }
 {
     let mut bytes = [0; 4];
     read_padded(machine, FileNo::Objects, place + 9, &mut bytes)?;
@@ -60,16 +60,16 @@ impl Slots {
         ensures kept { Stays (M.disk machine.old) (M.disk machine.new) }
         ensures id { IfOk result (λ id. id ≡ id_in self.now object) }
         ensures short { OnOk result (length into.new.items ≤ self.now.params.cap) }
-        ensures value { (M.disk machine.old).tells_files → AreOf self.now ((M.disk machine.old).reads Objects) →
-            OnOk result (into.new.items ≡ (cell_of self.now.params.cap object ((M.disk machine.old).reads Objects)).value) }
+        ensures value { (files : Files) → (M.disk machine.new).agrees files → AreOf self.now (files Objects) →
+            OnOk result (into.new.items ≡ (cell_of self.now.params.cap object (files Objects)).value) }
 
         // An object without an open slot costs no call.
         ensures none { id_in self.now object ≡ 0 → IsOk result × (into.new.items ≡ []) × (machine.new ≡ machine.old) }
 
         ensures cause { IfErr result (FailsBy (Rises (M.disk machine.old).disk_faults (M.disk machine.new).disk_faults) ⊥
-            (FailsAt (λ place. (M.disk machine.old).tells_files →
-            IsLongValue self.now.params.cap (slot_place self.now.params.cap object (holder_in self.now object)) ((M.disk machine.old).reads Objects) place))) }
-        ensures whole { (M.disk machine.old).tells_files → AreOf self.now ((M.disk machine.old).reads Objects) → IfErr result IsNoDamage }
+            (FailsAt (λ place. (files : Files) → (M.disk machine.new).agrees files →
+            IsLongValue self.now.params.cap (slot_place self.now.params.cap object (holder_in self.now object)) (files Objects) place))) }
+        ensures whole { (files : Files) → (M.disk machine.new).agrees files → AreOf self.now (files Objects) → IfErr result IsNoDamage }
     {
         into.clear();
         let id = self.id(object);

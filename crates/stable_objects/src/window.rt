@@ -1,6 +1,6 @@
 // A window on the objects file, so that one read gives the heads of many slots.
 ghost use Rattle.std.specs.Prelude.{◌≡◌, ◌<◌, ◌≤◌, ◌+◌, ◌^◌, length, IfOk, IfErr, IfSome, IsSome, OnOk, IsErr};
-ghost use Rattle.disk_model.specs.Disk.{Rises, Stays};
+ghost use Rattle.disk_model.specs.Disk.{Files, Rises, Stays};
 ghost use Rattle.disk_model.specs.Padded.{padded};
 ghost use Rattle.disk_model.specs.declared.machine.FileNo.TheVariants.{Objects};
 ghost use Rattle.stable_objects.specs.Heads.{ShowsFile};
@@ -65,7 +65,7 @@ impl Window {
         requires small { place < 2 ^ 32 }
         ensures kept { Stays (M.disk machine.old) (M.disk machine.new) }
         ensures shows { OnOk result (ShowsFile (M.disk machine.new) self.new.place self.new.bytes.items) }
-        ensures head { (M.disk machine.old).tells_files → IfOk result (λ head. head ≡ padded ((M.disk machine.old).reads Objects) place 13) }
+        ensures head { (files : Files) → (M.disk machine.new).agrees files → IfOk result (λ head. head ≡ padded (files Objects) place 13) }
         ensures cause { IsErr result → Rises (M.disk machine.old).disk_faults (M.disk machine.new).disk_faults }
     {
         let from = self.reach(machine, place)?;

@@ -1,5 +1,6 @@
 use Rattle.std.proofs.Common.{subst}
 use Rattle.std.proofs.lemmas.Result.{err_from_is_err_and}
+use Rattle.disk_model.specs.Disk.{Files}
 use Rattle.disk_model.specs.declared.machine.FileNo.TheVariants.{Objects}
 use Rattle.stable_objects.specs.Heads.{Head, head_at, IsRead, IsHeadFault}
 use Rattle.stable_objects.specs.Reading.{FailsAt, fails_on}
@@ -8,17 +9,16 @@ use Rattle.stable_objects.proofs.heads.read_head.Goals as goal
 
 pub returns-in_err-id-clause-cause : goal.returns-in_err-id-clause-cause
 returns-in_err-id-clause-cause g c =
-    let old = g.M.Machine.disk c.args.machine.now in
+    let new = g.M.Machine.disk c.head_at.new.machine in
     let a = c.args in
     let head = c.in_ok-head.head in
     let e = err_from_is_err_and c.from_residual-in_err-id.result c.from_residual-in_err-id.ensures.1 in
     rw (e.1, e.2) (fails_on ⊥ _ ⊥ ⊥ (FailsAt (IsHeadFault a.cap a.place a.size (head_at 0 head)))
-    (FailsAt (λ at. old.tells_files → IsHeadFault a.cap a.place a.size (head_at a.place (old.reads Objects)) at)) _ (λ none. absurd none) (λ none. none)
-    (λ file at there. (there.0, λ told. subst (λ (h : Head). IsHeadFault a.cap a.place a.size h at) (head_read (old.reads Objects) head a.place (c.in_ok-head.ensures.head told)) there.1))
+    (FailsAt (λ at. (files : Files) → new.agrees files → IsHeadFault a.cap a.place a.size (head_at a.place (files Objects)) at)) _ (λ none. absurd none) (λ none. none)
+    (λ file at there. (there.0, λ files agree. subst (λ (h : Head). IsHeadFault a.cap a.place a.size h at) (head_read (files Objects) head a.place (c.in_ok-head.ensures.head files agree)) there.1))
     c.in_err-id.ensures.cause)
 
 pub returns-clause-read : goal.returns-clause-read
-returns-clause-read g c told =
-    let old = g.M.Machine.disk c.args.machine.now in
+returns-clause-read g c files agree =
     let a = c.args in
-    subst (λ (h : Head). IsRead a.cap a.place a.size h c.in_ok-id.id) (head_read (old.reads Objects) c.in_ok-head.head a.place (c.in_ok-head.ensures.head told)) c.in_ok-id.ensures.read
+    subst (λ (h : Head). IsRead a.cap a.place a.size h c.in_ok-id.id) (head_read (files Objects) c.in_ok-head.head a.place (c.in_ok-head.ensures.head files agree)) c.in_ok-id.ensures.read

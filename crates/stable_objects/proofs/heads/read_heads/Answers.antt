@@ -1,9 +1,8 @@
-use Rattle.std.proofs.Common.{[], ◌∷◌, length, ap, subst, arith, length-append}
+use Rattle.std.proofs.Common.{rules, [], ◌∷◌, length, ap, arith, length-append}
 use Rattle.std.proofs.lemmas.Result.{err_from_is_err_and}
-use Rattle.disk_model.specs.Disk.{Files}
-use Rattle.disk_model.specs.Moments.{stays_twice}
+use Rattle.disk_model.specs.Moments.{agreed_before, stays_twice}
 use Rattle.disk_model.specs.declared.machine.FileNo.TheVariants.{Objects}
-use Rattle.stable_objects.specs.Heads.{IsPair, IsPairFault, HasPairFault}
+use Rattle.stable_objects.specs.Heads.{IsPairFault, HasPairFault}
 use Rattle.stable_objects.proofs.HeadBytes.{more_pairs}
 use Rattle.stable_objects.proofs.Found.{moved}
 use Rattle.stable_objects.proofs.heads.read_heads.Goals as goal
@@ -22,12 +21,11 @@ returns-in_err-first-clause-cause g c =
     let e = err_from_is_err_and c.from_residual-in_err-first.result c.from_residual-in_err-first.ensures.1 in
     rw (e.1, e.2) (moved (g.M.Machine.disk a.machine.now) (g.M.Machine.disk c.loop-object.machine) (g.M.Machine.disk c.read_pair.new.machine) ⊥ ⊥ (λ file at. IsPairFault a.params.cap x a.size file at) (λ file at. HasPairFault a.params a.size file at) _
     inv.kept (λ none. none)
-    (λ told at fault. record { x = x; below = search; heads = c.loop-object.heads.items; before = inv.pairs told; fault = fault })
+    (λ files agree at fault. record { x = x; below = search; heads = c.loop-object.heads.items; before = inv.pairs files (agreed_before c.read_pair.ensures.kept files agree); fault = fault })
     c.in_err-first.ensures.cause)
 
 pub loop-object-preserved : goal.loop-object-preserved
 loop-object-preserved g c =
-    let old = g.M.Machine.disk c.args.machine.now in
     let p = c.args.params in
     let inv = c.loop-object.invariant in
     let heads = c.loop-object.heads.items in
@@ -41,7 +39,9 @@ loop-object-preserved g c =
       kept = stays_twice _ _ _ inv.kept c.read_pair.ensures.kept;
       shows = c.in_ok-first.ensures.shows;
       count = omega (arith, inv.count, ap length first, ap length second, length-append heads (one ∷ []), length-append half (other ∷ []));
-      pairs = λ told.
-          let pair = subst (λ (f : Files). IsPair p.cap c.loop-object.object c.args.size (f Objects) one other) (inv.kept.reads told) (c.in_ok-first.ensures.read (inv.kept.time.files_told.0 told)) in
-          more_pairs p.cap c.args.size c.loop-object.object (old.reads Objects) heads half whole one other inv.count (inv.pairs told) pair first second;
+      pairs = λ files agree.
+          more_pairs p.cap c.args.size c.loop-object.object (files Objects) heads half whole one other inv.count (inv.pairs files (agreed_before c.read_pair.ensures.kept files agree)) (c.in_ok-first.ensures.read files agree) first second;
     }
+
+pub returns-clause-read : goal.returns-clause-read
+returns-clause-read g c files agree x below = c.loop-object.invariant.pairs files agree x (search rules)

@@ -1,5 +1,5 @@
 use Rattle.std.proofs.Common.{◌≡◌, ◌*◌, ℕ, List, length}
-use Rattle.disk_model.specs.Disk.{Disk, Stays}
+use Rattle.disk_model.specs.Disk.{Files, Disk, Stays}
 use Rattle.disk_model.specs.declared.machine.FileNo.TheVariants.{Objects}
 use Rattle.stable_objects.specs.Heads.{ShowsFile, ArePairs}
 use Rattle.stable_objects.proofs.heads.read_heads.Given as goal
@@ -8,7 +8,7 @@ pub record ReadSo (first now : Disk) (cap size n : ℕ) (heads : List ℕ) (plac
   pub kept : Stays first now
   pub shows : ShowsFile now place bytes
   pub count : length heads ≡ 2 * n
-  pub pairs : first.tells_files → ArePairs cap size (first.reads Objects) n heads
+  pub pairs : (files : Files) → now.agrees files → ArePairs cap size (files Objects) n heads
 
 abbrev pub invariant-loop-object : goal.invariant-loop-object
 invariant-loop-object g l = ReadSo (g.M.Machine.disk l.fn.machine) (g.M.Machine.disk l.machine) l.params.cap l.size l.object l.heads.items l.window.place l.window.bytes.items

@@ -1,4 +1,4 @@
-use Rattle.std.proofs.Common.{◌≡◌, ◌∙◌, ℕ, ap}
+use Rattle.std.proofs.Common.{◌≡◌, ◌∙◌, ℕ, ap, refl}
 use Rattle.std.proofs.lemmas.Result.{err_from_is_err_and}
 use Rattle.disk_model.specs.declared.machine.FileNo.TheVariants.{Objects}
 use Rattle.formats.specs.Objects.{slot_place}
@@ -8,22 +8,22 @@ use Rattle.stable_objects.proofs.ValueBytes.{held_value, held_fails}
 use Rattle.stable_objects.proofs.slots.Slots.read.Goals as goal
 
 pub returns-in_err-read_value-clause-whole : goal.returns-in_err-read_value-clause-whole
-returns-in_err-read_value-clause-whole g c told are =
-    let file = (g.M.Machine.disk c.args.machine.now).reads Objects in
+returns-in_err-read_value-clause-whole g c files agree are =
+    let file = files Objects in
     let slots = c.args.self.now in
     let x = c.args.object in
     let cap = ap (λ (v : SlotsView). v.params.cap) c.self.view_is in
     let here : c.gate_place-place.result ≡ slot_place slots.params.cap x (holder_in slots x) =
     c.gate_place-place.ensures ∙ ap (λ (s : ℕ). slot_gate c.self.inside.params.cap s) c.holder.ensures ∙ ap (λ (n : ℕ). slot_place n x (holder_in slots x)) cap in
     let e = err_from_is_err_and c.from_residual.result c.from_residual.ensures.1 in
-    rw (e.1, e.2) (held_fails slots file x c.gate_place-place.result are c.requires (λ none. c.if-id-eq0.false (c.id-id.ensures ∙ none)) here _ _ c.self.inside.params.cap _ told cap c.in_err-read_value.ensures.cause)
+    rw (e.1, e.2) (held_fails slots file x c.gate_place-place.result are c.requires (λ none. c.if-id-eq0.false (c.id-id.ensures ∙ none)) here _ (g.M.Machine.disk c.read_value.new.machine).agrees files c.self.inside.params.cap _ refl agree cap c.in_err-read_value.ensures.cause)
 
 pub returns-clause-value : goal.returns-clause-value
-returns-clause-value g c told are =
-    let file = (g.M.Machine.disk c.args.machine.now).reads Objects in
+returns-clause-value g c files agree are =
+    let file = files Objects in
     let slots = c.args.self.now in
     let x = c.args.object in
     let cap = ap (λ (v : SlotsView). v.params.cap) c.self.view_is in
     let here : c.gate_place-place.result ≡ slot_place slots.params.cap x (holder_in slots x) =
     c.gate_place-place.ensures ∙ ap (λ (s : ℕ). slot_gate c.self.inside.params.cap s) c.holder.ensures ∙ ap (λ (n : ℕ). slot_place n x (holder_in slots x)) cap in
-    held_value slots file x c.gate_place-place.result are c.requires (λ none. c.if-id-eq0.false (c.id-id.ensures ∙ none)) here c.read_value.new.into.items (c.in_ok-read_value.ensures.value told)
+    held_value slots file x c.gate_place-place.result are c.requires (λ none. c.if-id-eq0.false (c.id-id.ensures ∙ none)) here c.read_value.new.into.items (c.in_ok-read_value.ensures.value files agree)
