@@ -15,9 +15,6 @@ alone_twice old mid new first second = runs_twice old mid new LogsAlone (λ a b 
 pub alone_write : (old new : Disk) (file : FileNo) (change : List ℕ → List ℕ → Type 0) → file ≢ Objects → Runs (In file change) Same old new → Runs LogsAlone Same old new
 alone_write old new file change is_log run = runs_wider old new (In file change) LogsAlone (λ a b is. is.others Objects (λ e. is_log (sym e))) run
 
-pub alone_stays : (old new : Disk) → Stays old new → Runs LogsAlone Same old new
-alone_stays old new stays = runs_wider old new Same LogsAlone (λ a b is i. is i Objects) stays
-
 -- a settled machine stays so over calls that change nothing
 pub all_stay_settled : (old new : Disk) → Stays old new → IsSettled old → IsSettled new
 all_stay_settled old new stays settled file = stays_settled old new file stays (settled file)

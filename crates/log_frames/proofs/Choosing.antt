@@ -3,6 +3,7 @@ use Rattle.std.proofs.Common.{◌≡◌, ◌≢◌, ◌⊎◌, inl, ◌<◌, inr
 use Rattle.std.specs.Prelude.{IfSome}
 use Rattle.std.proofs.lemmas.List.{take_at, drop_more}
 use Rattle.disk_model.specs.Disk.{Files, Disk, Stays, Rises}
+use Rattle.disk_model.specs.Moments.{agreed_before}
 use Rattle.disk_model.specs.Padded.{padded, get_or-padded}
 use Rattle.disk_model.specs.declared.machine.FileNo.{FileNo}
 use Rattle.disk_model.specs.declared.machine.FileNo.TheVariants.{Objects, LogA, LogB}
@@ -16,7 +17,6 @@ use Rattle.log_frames.specs.Laws.{length-header_bytes}
 use Rattle.log_frames.specs.Reading.{FailsBy, fails_on, header_of, EndsBlocks}
 use Rattle.log_frames.specs.declared.log_err.LogErr.{LogErr}
 use Rattle.log_frames.specs.declared.seen.Seen.{Seen}
-use Rattle.log_frames.proofs.Causes.{size_now}
 use Rattle.log_frames.proofs.HeaderBytes.{checks_read, opened_by}
 use Rattle.log_frames.proofs.ReadTo.{whole_log}
 
@@ -69,51 +69,47 @@ pub fine : (file : List ℕ) (found : Option Seen) → SeenIn file found → IsF
 fine file None seen = inl seen
 fine file (Some found) seen = inr (header_of found.header, seen.0)
 
+-- what is read of a header is wrong
+pub by_header : (old now new : Disk) → Stays old now → (e : LogErr) (file : FileNo) (into : List ℕ) → ((files : Files) → new.agrees files → into ≡ padded (files file) 0 33) → IsOpenAt 0 into
+    → FailsBy ⊥ (λ f place. (f ≡ file) × LogChecks into NoMore place) e
+    → FailsBy (Rises old.disk_faults new.disk_faults) (λ f place. (f ≡ file) × ((files : Files) → new.agrees files → IsFirstHeaderFault (files file) place)) e
+by_header old now new kept e file into read is_open fails = fails_on _ _ _ _ e (λ never. absurd never)
+    (λ f place there. (
+      there.0,
+      λ files agree.
+          let same = read files agree in
+          let here = subst (λ (l : List ℕ). LogChecks l NoMore place) same there.1 in
+          opened place (opened_by (files file) into same is_open) (checks_read (files file) _ place here),
+    ))
+    fails
+
 module _ (old now new : Disk) (kept : Stays old now) (e : LogErr) where
   abbrev Fails : Type 0
-  Fails = FailsBy (Rises old.disk_faults new.disk_faults) (λ file place. old.tells_files → IsFirstLogFault old.reads file place) e
+  Fails = FailsBy (Rises old.disk_faults new.disk_faults) (λ file place. (files : Files) → new.agrees files → IsFirstLogFault files file place) e
 
   risen : Rises now.disk_faults new.disk_faults → Rises old.disk_faults new.disk_faults
   risen later below = omega (arith, later below, kept.time.disk_faults)
 
-  -- what is read of a header is wrong
-  pub by_header : (file : FileNo) (into : List ℕ) → (now.tells_files → into ≡ padded (now.reads file) 0 33) → IsOpenAt 0 into
-      → FailsBy ⊥ (λ f place. (f ≡ file) × LogChecks into NoMore place) e
-      → FailsBy (Rises old.disk_faults new.disk_faults) (λ f place. (f ≡ file) × (old.tells_files → IsFirstHeaderFault (old.reads file) place)) e
-  by_header file into read is_open fails = fails_on _ _ _ _ e (λ never. absurd never)
-      (λ f place there. (
-        there.0,
-        λ told.
-            let same = read (kept.time.files_told.0 told) in
-            let here = subst (λ (l : List ℕ). LogChecks l NoMore place) same there.1 in
-            subst (λ (x : Files). IsFirstHeaderFault (x file) place) (kept.reads told)
-            (opened place (opened_by (now.reads file) into same is_open) (checks_read (now.reads file) _ place here)),
-      ))
-      fails
-
   -- the first log shows it
-  pub by_first : FailsBy (Rises now.disk_faults new.disk_faults) (λ f place. (f ≡ LogA) × (now.tells_files → IsFirstHeaderFault (now.reads LogA) place)) e → Fails
+  pub by_first : FailsBy (Rises now.disk_faults new.disk_faults) (λ f place. (f ≡ LogA) × ((files : Files) → new.agrees files → IsFirstHeaderFault (files LogA) place)) e → Fails
   by_first fails = fails_on _ _ _ _ e risen
-      (λ f place there told. subst (λ (x : FileNo). IsFirstLogFault old.reads x place) (sym there.0)
-      (in_log_a place (subst (λ (x : Files). IsFirstHeaderFault (x LogA) place) (kept.reads told) (there.1 (kept.time.files_told.0 told)))))
+      (λ f place there files agree. subst (λ (x : FileNo). IsFirstLogFault files x place) (sym there.0) (in_log_a place (there.1 files agree)))
       fails
 
   -- or the second, beside a first that was seen
-  pub by_second : (a : Option Seen) → (old.tells_files → SeenIn (old.reads LogA) a)
-      → FailsBy (Rises now.disk_faults new.disk_faults) (λ f place. (f ≡ LogB) × (now.tells_files → IsFirstHeaderFault (now.reads LogB) place)) e → Fails
-  by_second a seen fails = fails_on _ _ _ _ e risen
-      (λ f place there told. subst (λ (x : FileNo). IsFirstLogFault old.reads x place) (sym there.0)
-      (in_log_b place (fine (old.reads LogA) a (seen told)) (subst (λ (x : Files). IsFirstHeaderFault (x LogB) place) (kept.reads told) (there.1 (kept.time.files_told.0 told)))))
+  pub by_second : (a : Option Seen) → Stays now new → ((files : Files) → now.agrees files → SeenIn (files LogA) a)
+      → FailsBy (Rises now.disk_faults new.disk_faults) (λ f place. (f ≡ LogB) × ((files : Files) → new.agrees files → IsFirstHeaderFault (files LogB) place)) e → Fails
+  by_second a last seen fails = fails_on _ _ _ _ e risen
+      (λ f place there files agree. subst (λ (x : FileNo). IsFirstLogFault files x place) (sym there.0)
+      (in_log_b place (fine (files LogA) a (seen files (agreed_before last files agree))) (there.1 files agree)))
       fails
 
-  pub by_block : (seen : Seen) → (old.tells_files → IsChosen old.reads seen)
-      → FailsBy (Rises now.disk_faults new.disk_faults) (λ f place. (f ≡ seen.file) × (now.tells_files → seen.size ≡ length (now.reads seen.file) → IsBlockFault (now.reads seen.file) place)) e → Fails
-  by_block seen chosen fails = fails_on _ _ _ _ e risen
-      (λ f place there told.
-      let is = chosen told in
-      let file = seen.file in
-      subst (λ (x : FileNo). IsFirstLogFault old.reads x place) (sym there.0)
-      (at_block file (header_of seen.header) place is.in_force is.header (subst (λ (x : Files). IsBlockFault (x file) place) (kept.reads told) (there.1 (kept.time.files_told.0 told) (size_now old now new kept e seen.size file told is.size)))))
+  pub by_block : (seen : Seen) → Stays now new → ((files : Files) → now.agrees files → IsChosen files seen)
+      → FailsBy (Rises now.disk_faults new.disk_faults) (λ f place. (f ≡ seen.file) × ((files : Files) → new.agrees files → seen.size ≡ length (files seen.file) → IsBlockFault (files seen.file) place)) e → Fails
+  by_block seen last chosen fails = fails_on _ _ _ _ e risen
+      (λ f place there files agree.
+      let is = chosen files (agreed_before last files agree) in
+      subst (λ (x : FileNo). IsFirstLogFault files x place) (sym there.0) (at_block seen.file (header_of seen.header) place is.in_force is.header (there.1 files agree is.size)))
       fails
 
 -- the log that was chosen is whole

@@ -1,17 +1,16 @@
 -- How far the blocks of a log are read.
-use Rattle.std.proofs.Common.{◌≡◌, ◌<◌, ◌+◌, inl, inr, ℕ, List, [], ◌∷◌, ◌++◌, length, take, drop, refl, sym, ◌∙◌, ap, subst, arith, append_assoc, length-append, length-take, take-append-drop}
-use Rattle.std.proofs.lemmas.List.{append-nil, take_at, drop_more, get_or_past, drop-drop}
+use Rattle.std.proofs.Common.{◌≡◌, ◌<◌, ◌+◌, inl, inr, ℕ, List, [], ◌∷◌, ◌++◌, length, take, drop, refl, sym, ◌∙◌, ap, arith, append_assoc, length-append, length-take, take-append-drop}
+use Rattle.std.proofs.lemmas.List.{append-nil, drop_more, get_or_past, drop-drop}
 use Rattle.std.proofs.lemmas.List.Elements.{All-nil}
 use Rattle.std.proofs.Math.Seq.{take-add}
 use Rattle.std.proofs.lemmas.Bool.{cases_lt}
 use Rattle.byteorder.specs.Endian.{little_bytes}
 use Rattle.disk_model.specs.Disk.{read_of}
-use Rattle.formats.specs.Bytes.{byte_at, IsOpenAt, IsClosedAt}
+use Rattle.formats.specs.Bytes.{byte_at, IsOpenAt}
 use Rattle.formats.specs.Log.{Header, header_bytes, block, blocks, IsHeader, IsPayload, IsWholeLog}
 use Rattle.formats.specs.Image.{IsBlockFault}
-use Rattle.log_frames.specs.Reading.{IsReadTo, IsBlockHead, IsBroken, EndsBlocks, placed}
-use Rattle.log_frames.specs.Laws.{blocks-push, all_push, length-block, length-header_bytes, one_log, placed-push}
-use Rattle.log_frames.specs.declared.payload.Payload.{Payload}
+use Rattle.log_frames.specs.Reading.{IsReadTo, IsBlockHead, IsBroken, EndsBlocks}
+use Rattle.log_frames.specs.Laws.{blocks-push, all_push, length-block}
 use Rattle.disk_model.specs.Padded.{length-read_of}
 
 pub read_none : (file : List ℕ) → IsReadTo file 33 []
@@ -72,32 +71,3 @@ block_fault file gate payloads r b =
       here = omega (arith, r.here);
       broken = b.broken;
     }
-
--- these payloads are found before the gate
-pub record Finds (file : List ℕ) (gate : ℕ) (found : List Payload) : Type 0 where
-  pub payloads : List (List ℕ)
-  pub read : IsReadTo file gate payloads
-  pub items : found ≡ placed payloads
-
-pub finds_none : (file : List ℕ) → Finds file 33 []
-finds_none file = record { payloads = []; read = read_none file; items = refl }
-
-pub finds_more : (file : List ℕ) (gate len : ℕ) (found : List Payload) (p : Payload) → Finds file gate found → IsBlockHead gate len file → p.place ≡ gate + 5 → p.bytes ≡ read_of file (gate + 5) len → Finds file (gate + 5 + len) (found ++ p ∷ [])
-finds_more file gate len found p f h at bytes =
-    let payload = read_of file (gate + 5) len in
-    let place : p.place ≡ 33 + length (blocks f.payloads) + 5 = omega (arith, at, f.read.here) in
-    record {
-      payloads = f.payloads ++ payload ∷ [];
-      read = subst (λ (n : ℕ). IsReadTo file n (f.payloads ++ payload ∷ [])) (omega arith) (read_more file gate len f.payloads f.read h);
-      items = ap (λ (l : List Payload). l ++ p ∷ []) f.items ∙ (λ i. placed f.payloads ++ record { place = place i; bytes = bytes i } ∷ []) ∙ sym (placed-push 33 f.payloads payload);
-    }
-
--- what is found up to the first closed gate is what the log holds
-pub finds_all : (h : Header) (payloads : List (List ℕ)) (file : List ℕ) (gate : ℕ) (found : List Payload) → IsWholeLog h payloads file → Finds file gate found → IsClosedAt gate file → found ≡ placed payloads
-finds_all h payloads file gate found is f closed =
-    let front : take 33 file ≡ header_bytes h =
-    ap (λ (l : List ℕ). take 33 l) (is.log.split ∙ append_assoc (header_bytes h) (blocks payloads) (is.log.gate ∷ is.log.rest))
-    ∙ take_at (header_bytes h) (blocks payloads ++ is.log.gate ∷ is.log.rest) 33 (length-header_bytes h) in
-    let first : 33 < length file = omega (arith, ap length is.log.split, length-append (header_bytes h ++ blocks payloads) (is.log.gate ∷ is.log.rest), length-append (header_bytes h) (blocks payloads), length-header_bytes h) in
-    let same = one_log h h f.payloads payloads file (whole_log h file gate is.in_range front first (record { payloads = f.payloads; read = f.read; closed = closed })) is in
-    f.items ∙ ap placed same.1

@@ -14,8 +14,6 @@ use Rattle.disk_model.specs.Disk.{Files, In}
 use Rattle.disk_model.specs.declared.machine.FileNo.{FileNo}
 use Rattle.disk_model.specs.declared.machine.FileNo.TheVariants.{Objects, LogA, LogB}
 use Rattle.log_frames.specs.Forcing.{with_block}
-use Rattle.log_frames.specs.Reading.{placed_from}
-use Rattle.log_frames.specs.declared.payload.Payload.{Payload}
 use Rattle.formats.specs.Image.{IsHeaderFault, magic, epoch, base, commands, short, IsBlockFault, IsLogFault, no_byte, in_header, none_open, one_epoch, in_block}
 use Rattle.formats.specs.FirstFault.{stops, goes_on, one_check, NoMore, HeaderChecks, IsFineLog, IsFirstHeaderFault, no_bytes, opened, IsFirstLogFault, in_log_a, in_log_b, both_closed, same_epoch, at_block}
 
@@ -238,15 +236,6 @@ has_header h (p ∷ ps) file is = record {
 -- a whole log has no fault in its header
 pub no_header_fault : (h : Header) (ps : List (List ℕ)) (file : List ℕ) (place : ℕ) → IsWholeLog h ps file → IsHeaderFault file place → ⊥
 no_header_fault h ps file place is fault = no_fault_of_header h file place (has_header h ps file is) fault
-
--- one payload more is placed after the others
-pub placed-push : (from : ℕ) (payloads : List (List ℕ)) (payload : List ℕ) → placed_from from (payloads ++ payload ∷ []) ≡ placed_from from payloads ++ record { place = from + length (blocks payloads) + 5; bytes = payload } ∷ []
-placed-push from [] payload = let at : from + 5 ≡ from + 0 + 5 = omega arith in λ i. record { place = at i; bytes = payload } ∷ []
-placed-push from (p ∷ payloads) payload =
-    let at : from + 5 + length p + length (blocks payloads) + 5 ≡ from + length (block p ++ blocks payloads) + 5 = omega (arith, length-append (block p) (blocks payloads), length-block p) in
-    let first : Payload = record { place = from + 5; bytes = p } in
-    ap (λ (l : List Payload). first ∷ l) (placed-push (from + 5 + length p) payloads payload)
-    ∙ λ i. first ∷ (placed_from (from + 5 + length p) payloads ++ record { place = at i; bytes = payload } ∷ [])
 
 -- a file with a header has one
 pub same_header : (h k : Header) (file : List ℕ) → HasHeader h file → HasHeader k file → h ≡ k

@@ -1,6 +1,6 @@
 -- How far a reader has come in the payloads of a log.
 use Rattle.std.specs.Prelude.{◌≡◌, ◌<◌, ◌≤◌, ◌+◌, ◌-◌, ◌^◌, ℕ, Bool, true, false, min, max, List, [], ◌∷◌, ◌++◌, length}
-use Rattle.disk_model.specs.Disk.{Disk, read_of}
+use Rattle.disk_model.specs.Disk.{Files, Disk, read_of}
 use Rattle.disk_model.specs.declared.machine.FileNo.{FileNo}
 use Rattle.formats.specs.Log.{Header, IsWholeLog, end_of}
 use Rattle.log_frames.specs.Forcing.{with_block}
@@ -62,7 +62,7 @@ pub record HasPiece (old new : PayloadReaderView) : Type 0 where
 -- the reader's file is reported to be damaged: never where it stands in a whole log
 abbrev pub IsNoLog : Disk → PayloadReaderView → FileNo → ℕ → Type 0
 IsNoLog d it file place =
-    (file ≡ it.file) × (d.tells_files → (payloads passed : List (List ℕ)) (taken : List ℕ) (later : List (List ℕ)) → IsInLog (d.reads it.file) it payloads passed taken later → ⊥)
+    (file ≡ it.file) × ((files : Files) → d.agrees files → (payloads passed : List (List ℕ)) (taken : List ℕ) (later : List (List ℕ)) → IsInLog (files it.file) it payloads passed taken later → ⊥)
 
 -- So many of these bytes were taken. The others, with those after them, are no more than a payload may have; they stand
 -- before a gate, and not before the file's beginning.

@@ -1,5 +1,5 @@
 -- What a reader of a log finds, and why it fails.
-use Rattle.std.specs.Prelude.{◌≡◌, ◌<◌, ◌≤◌, ◌+◌, ◌^◌, ℕ, List, [], ◌∷◌, ◌++◌, length, take, All, Option, Some, None}
+use Rattle.std.specs.Prelude.{◌≡◌, ◌<◌, ◌≤◌, ◌+◌, ◌^◌, ℕ, List, ◌∷◌, ◌++◌, length, take, All, Option, Some, None}
 use Rattle.byteorder.specs.Endian.{little_bytes}
 use Rattle.disk_model.specs.Disk.{read_of}
 use Rattle.disk_model.specs.declared.machine.FileNo.{FileNo}
@@ -9,16 +9,6 @@ use Rattle.formats.specs.Image.{IsWithin}
 use Rattle.log_frames.specs.declared.header.Header.{Header as Read}
 use Rattle.log_frames.specs.declared.log_err.LogErr.{LogErr}
 use Rattle.log_frames.specs.declared.log_err.LogErr.TheVariants.{DiskFault, LogFull, Damaged, Exhausted, Memory}
-use Rattle.log_frames.specs.declared.payload.Payload.{Payload}
-
--- the payloads of blocks, the first of which stands at this gate, each with the place of its first byte
-abbrev pub placed_from : ℕ → List (List ℕ) → List Payload
-placed_from gate [] = []
-placed_from gate (payload ∷ payloads) = record { place = gate + 5; bytes = payload } ∷ placed_from (gate + 5 + length payload) payloads
-
--- the payloads of a log, each with the place of its first byte
-abbrev pub placed : List (List ℕ) → List Payload
-placed payloads = placed_from 33 payloads
 
 -- Why a reading call fails: by a fault of the disk, which then counts it, by a fault in the files, or for lack of
 -- memory.

@@ -17,7 +17,6 @@ mod log_err;
 mod log_file;
 mod payload;
 mod payload_reader;
-mod payloads;
 mod reading;
 mod rewriting;
 mod seen;

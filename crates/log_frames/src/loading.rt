@@ -65,9 +65,9 @@ fn read_header<M: Machine>(machine: &mut M, file: FileNo) -> Result<Option<Seen>
     requires { file ≢ Objects }
     ensures kept { Stays (M.disk machine.old) (M.disk machine.new) }
     ensures inside { IfOk result (λ found. IfSome found (λ seen. (33 < seen.size) × IsHeader (header_of seen.header) × (seen.file ≡ file))) }
-    ensures seen { (M.disk machine.old).tells_files → IfOk result (SeenIn ((M.disk machine.old).reads file)) }
+    ensures seen { (files : Files) → (M.disk machine.new).agrees files → IfOk result (SeenIn (files file)) }
     ensures cause { IfErr result (FailsBy (Rises (M.disk machine.old).disk_faults (M.disk machine.new).disk_faults)
-        (λ f place. (f ≡ file) × ((M.disk machine.old).tells_files → IsFirstHeaderFault ((M.disk machine.old).reads file) place))) }
+        (λ f place. (f ≡ file) × ((files : Files) → (M.disk machine.new).agrees files → IsFirstHeaderFault (files file) place))) }
 {
     let size = machine.size(file)?;
     if size == 0 {
@@ -124,13 +124,13 @@ impl LogFile {
     /// The log in force.
     pub fn load<M: Machine>(alloc: Global, machine: &mut M) -> Result<LogFile, LogErr>
         ensures kept { Stays (M.disk machine.old) (M.disk machine.new) }
-        ensures read { (M.disk machine.old).tells_files → IfOk result (λ log. (payloads : List (List ℕ))
-            × HoldsLog log.active log.header payloads (M.disk machine.old).reads × (log.end ≡ end_of payloads) × (log.pending ≡ [])) }
+        ensures read { (files : Files) → (M.disk machine.new).agrees files → IfOk result (λ log. (payloads : List (List ℕ))
+            × HoldsLog log.active log.header payloads files × (log.end ≡ end_of payloads) × (log.pending ≡ [])) }
         ensures header { IfOk result (λ log. IsHeader log.header) }
-        ensures undamaged { (M.disk machine.old).tells_files → (active : FileNo) (header : Fields) (payloads : List (List ℕ))
-            → HoldsLog active header payloads (M.disk machine.old).reads → IfErr result (λ e. TellsDamage e → ⊥) }
+        ensures undamaged { (files : Files) → (M.disk machine.new).agrees files → (active : FileNo) (header : Fields) (payloads : List (List ℕ))
+            → HoldsLog active header payloads files → IfErr result (λ e. TellsDamage e → ⊥) }
         ensures cause { IfErr result (FailsBy (Rises (M.disk machine.old).disk_faults (M.disk machine.new).disk_faults)
-            (λ file place. (M.disk machine.old).tells_files → IsFirstLogFault (M.disk machine.old).reads file place)) }
+            (λ file place. (files : Files) → (M.disk machine.new).agrees files → IsFirstLogFault files file place)) }
     {
         let a = read_header(machine, FileNo::LogA)?;
         let b = read_header(machine, FileNo::LogB)?;

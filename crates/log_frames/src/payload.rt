@@ -1,8 +1,7 @@
 use oper_core::ByteList;
 
-/// What one block holds, and the place of its first byte in the file.
+/// What one block holds.
 #[derive(Drop)]
 pub struct Payload {
-    pub place: u64,
     pub bytes: ByteList,
 }

@@ -1,6 +1,6 @@
 // Reads the payloads of a log, piece by piece.
 ghost use Rattle.std.specs.Prelude.{◌≡◌, ◌<◌, ◌≤◌, ◌+◌, ◌^◌, ◌++◌, [], List, ℕ, IsTrue, IsFalse, IfErr, IfOk, OnErr, OnOk, length, take, drop};
-ghost use Rattle.disk_model.specs.Disk.{Rises, Stays, read_of};
+ghost use Rattle.disk_model.specs.Disk.{Files, Rises, Stays, read_of};
 ghost use Rattle.formats.specs.Log.{IsWholeLog};
 ghost use Rattle.log_frames.specs.Forcing.{with_block};
 ghost use Rattle.log_frames.specs.Payloads.{IsInLog, remaining, ahead, HasNext, HasMore, HasPiece, IsNoLog};
@@ -54,8 +54,8 @@ fn read_after<M: Machine>(
     count: usize,
 ) -> Result<Vec<u8>, LogErr>
     ensures kept { Stays (M.disk machine.old) (M.disk machine.new) }
-    ensures bytes { (M.disk machine.old).tells_files → place + count ≤ length ((M.disk machine.old).reads file)
-        → IfOk result (λ found. found.items ≡ front.now ++ read_of ((M.disk machine.old).reads file) place count) }
+    ensures bytes { (files : Files) → (M.disk machine.new).agrees files → place + count ≤ length (files file)
+        → IfOk result (λ found. found.items ≡ front.now ++ read_of (files file) place count) }
     ensures long { IfOk result (λ found. length found.items ≡ length front.now + count) }
     ensures cause { IfErr result (FailsBy (Rises (M.disk machine.old).disk_faults (M.disk machine.new).disk_faults) (λ f p. ⊥)) }
 {
@@ -115,13 +115,13 @@ impl PayloadReader {
         requires through { remaining self.old ≡ 0 }
         ensures kept { Stays (M.disk machine.old) (M.disk machine.new) }
         ensures file { self.new.file ≡ self.old.file }
-        ensures next { (M.disk machine.old).tells_files → (payloads passed : List (List ℕ)) (taken : List ℕ) (later : List (List ℕ))
-            → IsInLog ((M.disk machine.old).reads self.old.file) self.old payloads passed taken later
-            → IfOk result (HasNext ((M.disk machine.old).reads self.new.file) self.new payloads (with_block passed taken) later) }
+        ensures next { (files : Files) → (M.disk machine.new).agrees files → (payloads passed : List (List ℕ)) (taken : List ℕ) (later : List (List ℕ))
+            → IsInLog (files self.old.file) self.old payloads passed taken later
+            → IfOk result (HasNext (files self.new.file) self.new payloads (with_block passed taken) later) }
         ensures some { IfOk result (λ more. IsTrue more → (0 < remaining self.new) × (ahead self.new < ahead self.old)) }
         ensures stays { IfOk result (λ more. IsFalse more → self.new ≡ self.old) }
         ensures unmoved { OnErr result (self.new ≡ self.old) }
-        ensures cause { IfErr result (FailsBy (Rises (M.disk machine.old).disk_faults (M.disk machine.new).disk_faults) (IsNoLog (M.disk machine.old) self.old)) }
+        ensures cause { IfErr result (FailsBy (Rises (M.disk machine.old).disk_faults (M.disk machine.new).disk_faults) (IsNoLog (M.disk machine.new) self.old)) }
     {
         let gate = self.place + self.left;
         let Some(len) = open_block(machine, self.file, self.size, gate)? else {
@@ -137,9 +137,9 @@ impl PayloadReader {
     pub fn read_more<M: Machine>(&mut self, machine: &mut M) -> Result<bool, LogErr>
         ensures kept { Stays (M.disk machine.old) (M.disk machine.new) }
         ensures file { self.new.file ≡ self.old.file }
-        ensures read { (M.disk machine.old).tells_files → (payloads passed : List (List ℕ)) (taken : List ℕ) (later : List (List ℕ))
-            → IsInLog ((M.disk machine.old).reads self.old.file) self.old payloads passed taken later
-            → OnOk result (IsInLog ((M.disk machine.old).reads self.new.file) self.new payloads passed taken later) }
+        ensures read { (files : Files) → (M.disk machine.new).agrees files → (payloads passed : List (List ℕ)) (taken : List ℕ) (later : List (List ℕ))
+            → IsInLog (files self.old.file) self.old payloads passed taken later
+            → OnOk result (IsInLog (files self.new.file) self.new payloads passed taken later) }
         ensures further { IfOk result (HasMore self.old self.new) }
         ensures piece { IfOk result (λ more. IsTrue more → HasPiece self.old self.new) }
         ensures all { OnOk result ((remaining self.new ≡ remaining self.old) × (ahead self.new ≡ ahead self.old)) }
@@ -176,8 +176,8 @@ impl LogFile {
         ensures kept { Stays (M.disk machine.old) (M.disk machine.new) }
         ensures through { IfOk result (λ it. remaining it ≡ 0) }
         ensures file { IfOk result (λ it. it.file ≡ self.now.active) }
-        ensures starts { (M.disk machine.old).tells_files → (payloads : List (List ℕ)) → IsWholeLog self.now.header payloads ((M.disk machine.old).reads self.now.active)
-            → IfOk result (λ it. IsInLog ((M.disk machine.old).reads self.now.active) it payloads [] [] payloads) }
+        ensures starts { (files : Files) → (M.disk machine.new).agrees files → (payloads : List (List ℕ)) → IsWholeLog self.now.header payloads (files self.now.active)
+            → IfOk result (λ it. IsInLog (files self.now.active) it payloads [] [] payloads) }
         ensures cause { IfErr result (FailsBy (Rises (M.disk machine.old).disk_faults (M.disk machine.new).disk_faults) (λ f p. ⊥)) }
     {
         Ok(PayloadReader {

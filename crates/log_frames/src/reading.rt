@@ -1,6 +1,6 @@
 // Reads the blocks of a log file.
 ghost use Rattle.std.specs.Prelude.{◌≤◌, ◌≡◌, ◌<◌, ◌+◌, ◌-◌, ◌^◌, length, IfErr, IfOk, IfSome};
-ghost use Rattle.disk_model.specs.Disk.{Rises, Stays};
+ghost use Rattle.disk_model.specs.Disk.{Files, Rises, Stays};
 ghost use Rattle.formats.specs.Image.{IsBlockFault};
 ghost use Rattle.log_frames.specs.Reading.{FailsBy, FoundAt, IsBroken, EndsBlocks};
 
@@ -21,9 +21,9 @@ pub fn open_block<M: Machine>(
     ensures kept { Stays (M.disk machine.old) (M.disk machine.new) }
     ensures within { IfOk result (λ found. IfSome found (λ len. gate + 5 + len < size)) }
     ensures whole { IfOk result (λ found. IfSome found (λ len. (0 < len) × (len ≤ 2 ^ 30))) }
-    ensures found { (M.disk machine.old).tells_files → size ≡ length ((M.disk machine.old).reads file) → IfOk result (FoundAt gate ((M.disk machine.old).reads file)) }
+    ensures found { (files : Files) → (M.disk machine.new).agrees files → size ≡ length (files file) → IfOk result (FoundAt gate (files file)) }
     ensures cause { IfErr result (FailsBy (Rises (M.disk machine.old).disk_faults (M.disk machine.new).disk_faults)
-        (λ f place. (f ≡ file) × (place ≡ gate + 1) × ((M.disk machine.old).tells_files → size ≡ length ((M.disk machine.old).reads file) → IsBroken gate ((M.disk machine.old).reads file)))) }
+        (λ f place. (f ≡ file) × (place ≡ gate + 1) × ((files : Files) → (M.disk machine.new).agrees files → size ≡ length (files file) → IsBroken gate (files file)))) }
 {
     let mut head = [0; BLOCK_HEAD];
     read_padded(machine, file, gate, &mut head)?;
@@ -45,9 +45,9 @@ pub fn open_block<M: Machine>(
 pub fn first_closed<M: Machine>(machine: &mut M, file: FileNo, size: u64) -> Result<u64, LogErr>
     requires { 33 < size }
     ensures kept { Stays (M.disk machine.old) (M.disk machine.new) }
-    ensures end { (M.disk machine.old).tells_files → size ≡ length ((M.disk machine.old).reads file) → IfOk result (EndsBlocks ((M.disk machine.old).reads file)) }
+    ensures end { (files : Files) → (M.disk machine.new).agrees files → size ≡ length (files file) → IfOk result (EndsBlocks (files file)) }
     ensures cause { IfErr result (FailsBy (Rises (M.disk machine.old).disk_faults (M.disk machine.new).disk_faults)
-        (λ f place. (f ≡ file) × ((M.disk machine.old).tells_files → size ≡ length ((M.disk machine.old).reads file) → IsBlockFault ((M.disk machine.old).reads file) place))) }
+        (λ f place. (f ≡ file) × ((files : Files) → (M.disk machine.new).agrees files → size ≡ length (files file) → IsBlockFault (files file) place))) }
 {
     let mut gate = FIRST_BLOCK;
     while let Some(len) = open_block(machine, file, size, gate)? {

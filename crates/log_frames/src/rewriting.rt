@@ -150,8 +150,7 @@ fn end_after(payloads: &[Payload]) -> u64
 
 impl LogFile {
     /// Puts a new log of these payloads, with the next epoch, in the place of this one. It is written into the other
-    /// file, and is in force once its header gate is open. It does not depend on the places of
-    /// the payloads. At `DiskFault`, load the log again.
+    /// file, and is in force once its header gate is open. At `DiskFault`, load the log again.
     pub fn rewrite<M: Machine>(
         &mut self,
         machine: &mut M,

@@ -1,24 +1,19 @@
-use Rattle.std.proofs.Common.{◌≡◌, refl, ◌<◌, ◌∙◌, ap, sym, subst, arith, length, take}
+use Rattle.std.proofs.Common.{◌≡◌, refl, ◌<◌, ◌∙◌, sym, arith, length}
 use Rattle.std.proofs.lemmas.Result.{err_from_is_err_and}
-use Rattle.disk_model.specs.Disk.{Files}
-use Rattle.formats.specs.FirstFault.{stops, IsFirstHeaderFault, no_bytes, opened}
-use Rattle.formats.specs.Log.{IsClosedLog}
+use Rattle.disk_model.specs.Moments.{agreed_before}
+use Rattle.formats.specs.FirstFault.{stops, no_bytes, opened}
 use Rattle.log_frames.specs.Reading.{header_of}
 use Rattle.log_frames.proofs.Choosing.{is_empty, closed_read, header_stands, by_header}
 use Rattle.log_frames.proofs.HeaderBytes.{front_stands, opened_by, behind_header}
 use Rattle.log_frames.proofs.loading.read_header.Goals as goal
 
 pub returns-then-size-eq0-clause-cause : goal.returns-then-size-eq0-clause-cause
-returns-then-size-eq0-clause-cause g c = (refl, λ told. no_bytes (is_empty _ c.in_ok-size.size (c.in_ok-size.ensures.size told) c.if-size-eq0.true))
+returns-then-size-eq0-clause-cause g c = (refl, λ files agree. no_bytes (is_empty _ c.in_ok-size.size (c.in_ok-size.ensures.size files agree) c.if-size-eq0.true))
 
 pub returns-then-head-ne-OPEN-clause-seen : goal.returns-then-head-ne-OPEN-clause-seen
-returns-then-head-ne-OPEN-clause-seen g c told =
-    let old = g.M.Machine.disk c.args.machine.now in
-    let one = g.M.Machine.disk c.size.new.self in
-    let same = c.size.ensures.kept.reads told in
-    subst (λ (f : Files). IsClosedLog (f c.args.file)) same
-    (closed_read (one.reads c.args.file) c.read_padded.new.into c.in_ok-size.size (c.in_ok-read_padded.ensures.bytes (c.size.ensures.kept.time.files_told.0 told)) c.if-head-ne-OPEN.true
-    (c.in_ok-size.ensures.size told ∙ ap (λ (f : Files). length (f c.args.file)) (sym same)) c.if-size-eq0.false)
+returns-then-head-ne-OPEN-clause-seen g c files agree =
+    closed_read (files c.args.file) c.read_padded.new.into c.in_ok-size.size (c.in_ok-read_padded.ensures.bytes files agree) c.if-head-ne-OPEN.true
+    (c.in_ok-size.ensures.size files (agreed_before c.read_padded.ensures.kept files agree)) c.if-size-eq0.false
 
 pub returns-in_err-header-clause-cause : goal.returns-in_err-header-clause-cause
 returns-in_err-header-clause-cause g c =
@@ -31,27 +26,20 @@ returns-in_err-header-clause-cause g c =
 pub returns-then-size-le-FIRST_BLOCK-clause-cause : goal.returns-then-size-le-FIRST_BLOCK-clause-cause
 returns-then-size-le-FIRST_BLOCK-clause-cause g c = (
   refl,
-  λ told.
-      let old = g.M.Machine.disk c.args.machine.now in
-      let one = g.M.Machine.disk c.size.new.self in
-      let read = c.in_ok-read_padded.ensures.bytes (c.size.ensures.kept.time.files_told.0 told) in
-      let same = c.size.ensures.kept.reads told in
-      let is_open = opened_by (one.reads c.args.file) c.read_padded.new.into (c.in_ok-read_padded.ensures.bytes (c.size.ensures.kept.time.files_told.0 told)) c.if-head-ne-OPEN.false in
+  λ files agree.
+      let file = files c.args.file in
+      let read = c.in_ok-read_padded.ensures.bytes files agree in
       let ok = c.in_ok-header.ensures.ok in
-      let long : c.in_ok-size.size ≡ length (one.reads c.args.file) = c.in_ok-size.ensures.size told ∙ ap (λ (f : Files). length (f c.args.file)) (sym same) in
-      subst (λ (f : Files). IsFirstHeaderFault (f c.args.file) 33) same
-      (opened 33 is_open (behind_header (one.reads c.args.file) (header_of c.in_ok-header.header) c.read_padded.new.into _ 33 read ok.0 ok.1 (stops refl (λ within. omega (arith, within, long, c.if-size-le-FIRST_BLOCK.true))))),
+      let long : c.in_ok-size.size ≡ length file = c.in_ok-size.ensures.size files (agreed_before c.read_padded.ensures.kept files agree) in
+      opened 33 (opened_by file c.read_padded.new.into read c.if-head-ne-OPEN.false)
+      (behind_header file (header_of c.in_ok-header.header) c.read_padded.new.into _ 33 read ok.0 ok.1 (stops refl (λ within. omega (arith, within, long, c.if-size-le-FIRST_BLOCK.true)))),
 )
 
 pub returns-clause-seen : goal.returns-clause-seen
-returns-clause-seen g c told =
-    let old = g.M.Machine.disk c.args.machine.now in
-    let one = g.M.Machine.disk c.size.new.self in
-    let file = c.args.file in
-    let same = c.size.ensures.kept.reads told in
-    let header = header_of c.in_ok-header.header in
-    let size = c.in_ok-size.ensures.size told in
+returns-clause-seen g c files agree =
+    let file = files c.args.file in
+    let size = c.in_ok-size.ensures.size files (agreed_before c.read_padded.ensures.kept files agree) in
     let read = c.in_ok-header.ensures.ok in
-    let within : 33 < length (one.reads file) = omega (arith, size, ap (λ (f : Files). length (f file)) same, c.if-size-le-FIRST_BLOCK.false) in
-    let front = sym (front_stands (one.reads file) within) ∙ sym (c.in_ok-read_padded.ensures.bytes (c.size.ensures.kept.time.files_told.0 told)) ∙ read.1 in
-    (header_stands header (old.reads file) read.0 (ap (λ (f : Files). take 33 (f file)) (sym same) ∙ front) (omega (arith, size, c.if-size-le-FIRST_BLOCK.false)), size)
+    let within : 33 < length file = omega (arith, size, c.if-size-le-FIRST_BLOCK.false) in
+    let front = sym (front_stands file within) ∙ sym (c.in_ok-read_padded.ensures.bytes files agree) ∙ read.1 in
+    (header_stands (header_of c.in_ok-header.header) file read.0 front within, size)

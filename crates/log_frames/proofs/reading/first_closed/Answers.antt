@@ -1,9 +1,7 @@
-use Rattle.std.proofs.Common.{◌≡◌, ◌<◌, ◌+◌, ◌∙◌, ℕ, ap, subst, sym, arith, Option, Some, [], length}
-use Rattle.disk_model.specs.Disk.{Files}
-use Rattle.disk_model.specs.Moments.{stays_here, stays_twice}
+use Rattle.std.proofs.Common.{◌≡◌, ◌<◌, ◌+◌, ℕ, subst, arith, Option, Some, []}
+use Rattle.disk_model.specs.Moments.{agreed_before, stays_here, stays_twice}
 use Rattle.std.specs.Prelude.{IfSome}
 use Rattle.std.proofs.lemmas.Result.{err_from_is_err_and}
-use Rattle.formats.specs.Bytes.{IsClosedAt}
 use Rattle.log_frames.specs.Reading.{FoundAt}
 use Rattle.log_frames.proofs.Causes.{at_gate}
 use Rattle.log_frames.proofs.ReadTo.{read_none, read_more}
@@ -13,7 +11,7 @@ pub loop-len-init : goal.loop-len-init
 loop-len-init g c = record {
   kept = stays_here (g.M.Machine.disk c.args.machine.now) (g.met.M.Machine.lawful c.args.machine.now);
   inside = c.requires;
-  so_far = λ told size. ([], read_none ((g.M.Machine.disk c.args.machine.now).reads c.args.file));
+  so_far = λ files agree size. ([], read_none (files c.args.file));
 }
 
 pub loop-len-preserved : goal.loop-len-preserved
@@ -22,32 +20,24 @@ loop-len-preserved g c =
     let mid = g.M.Machine.disk c.loop-len.machine in
     let new = g.M.Machine.disk c.open_block.new.machine in
     let inv = c.loop-len.invariant in
-    let found = subst (λ (o : Option ℕ). FoundAt c.loop-len.gate (mid.reads c.args.file) o) c.in-Some.is in
     let within = λ (is : c.in_ok-len.field-0 ≡ Some c.in-Some.len). subst (λ (o : Option ℕ). IfSome o (λ len. c.loop-len.gate + 5 + len < c.args.size)) is c.in_ok-len.ensures.within in
     record {
       kept = stays_twice old mid new inv.kept c.open_block.ensures.kept;
       inside = omega (arith, within c.in-Some.is);
-      so_far = λ told size.
-          let same = inv.kept.reads told in
-          let read = inv.so_far told size in
-          let mid_size : c.args.size ≡ length (mid.reads c.args.file) = size ∙ ap (λ (f : Files). length (f c.args.file)) (sym same) in
-          let head = found (c.in_ok-len.ensures.found (inv.kept.time.files_told.0 told) mid_size) in
-          (_, read_more (old.reads c.args.file) c.loop-len.gate c.in-Some.len read.0 read.1 (subst (λ (f : Files). FoundAt c.loop-len.gate (f c.args.file) (Some c.in-Some.len)) same head));
+      so_far = λ files agree size.
+          let read = inv.so_far files (agreed_before c.open_block.ensures.kept files agree) size in
+          let head = subst (λ (o : Option ℕ). FoundAt c.loop-len.gate (files c.args.file) o) c.in-Some.is (c.in_ok-len.ensures.found files agree size) in
+          (_, read_more (files c.args.file) c.loop-len.gate c.in-Some.len read.0 read.1 head);
     }
 
 pub returns-in_err-len-clause-cause : goal.returns-in_err-len-clause-cause
 returns-in_err-len-clause-cause g c =
     let inv = c.loop-len.invariant in
     let p = err_from_is_err_and c.from_residual.result c.from_residual.ensures.1 in
-    rw (p.1, p.2) (at_gate (g.M.Machine.disk c.args.machine.now) (g.M.Machine.disk c.loop-len.machine) (g.M.Machine.disk c.open_block.new.machine) c.args.file c.args.size c.loop-len.gate c.in_err-len.field-0.0 inv.kept inv.so_far c.in_err-len.ensures.cause)
+    rw (p.1, p.2) (at_gate (g.M.Machine.disk c.args.machine.now) (g.M.Machine.disk c.loop-len.machine) (g.M.Machine.disk c.open_block.new.machine) c.args.file c.args.size c.loop-len.gate c.in_err-len.field-0.0 inv.kept c.open_block.ensures.kept inv.so_far c.in_err-len.ensures.cause)
 
 pub returns-clause-end : goal.returns-clause-end
-returns-clause-end g c told size =
-    let old = g.M.Machine.disk c.args.machine.now in
-    let mid = g.M.Machine.disk c.loop-len.machine in
-    let inv = c.loop-len.invariant in
-    let same = inv.kept.reads told in
-    let read = inv.so_far told size in
-    let found = c.in_ok-len.ensures.found (inv.kept.time.files_told.0 told) (size ∙ ap (λ (f : Files). length (f c.args.file)) (sym same)) in
-    let closed = subst (λ (o : Option ℕ). FoundAt c.loop-len.gate (mid.reads c.args.file) o) c.in_default.is found in
-    record { payloads = read.0; read = read.1; closed = subst (λ (f : Files). IsClosedAt c.loop-len.gate (f c.args.file)) same closed }
+returns-clause-end g c files agree size =
+    let read = c.loop-len.invariant.so_far files (agreed_before c.open_block.ensures.kept files agree) size in
+    let closed = subst (λ (o : Option ℕ). FoundAt c.loop-len.gate (files c.args.file) o) c.in_default.is (c.in_ok-len.ensures.found files agree size) in
+    record { payloads = read.0; read = read.1; closed = closed }

@@ -1,5 +1,5 @@
 use Rattle.std.proofs.Common.{◌≡◌, ◌<◌, ◌-◌, ℕ, List, length}
-use Rattle.disk_model.specs.Disk.{Disk, Stays}
+use Rattle.disk_model.specs.Disk.{Files, Disk, Stays}
 use Rattle.disk_model.specs.declared.machine.FileNo.{FileNo}
 use Rattle.log_frames.specs.Reading.{IsReadTo}
 use Rattle.log_frames.proofs.reading.first_closed.Given as goal
@@ -7,7 +7,7 @@ use Rattle.log_frames.proofs.reading.first_closed.Given as goal
 pub record Walks (first now : Disk) (file : FileNo) (size gate : ℕ) : Type 0 where
   pub kept : Stays first now
   pub inside : gate < size
-  pub so_far : first.tells_files → size ≡ length (first.reads file) → (payloads : List (List ℕ)) × IsReadTo (first.reads file) gate payloads
+  pub so_far : (files : Files) → now.agrees files → size ≡ length (files file) → (payloads : List (List ℕ)) × IsReadTo (files file) gate payloads
 
 abbrev pub invariant-loop-len : goal.invariant-loop-len
 invariant-loop-len g l = Walks (g.M.Machine.disk l.fn.machine) (g.M.Machine.disk l.machine) l.file l.size l.gate
