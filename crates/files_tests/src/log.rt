@@ -1,6 +1,6 @@
 // A log on a machine in memory: that calls succeed, and worked bytes.
 use disk_model::{Crash, FileNo, Fuse, Machine, MemMachine};
-use log_frames::{LogErr, LogFile};
+use log_frames::{LogErr, LogFile, PayloadReader};
 use std::alloc::{AllocError, Global};
 use std::test::Fail;
 
@@ -64,16 +64,52 @@ fn two_blocks(alloc: Global) -> Result<(MemMachine, [u64; 3]), Fail> {
     Ok((machine, [first, second, third]))
 }
 
+// The place and the bytes of what a block holds.
+type Block = (u64, Vec<u8>);
+
+// The next block, of at most 64 KiB; none where none comes.
+fn next_block(
+    alloc: Global,
+    reader: &mut PayloadReader,
+    machine: &mut MemMachine,
+) -> Result<Option<Block>, Fail> {
+    if reader.remaining() > 0 || !reader.next_payload(machine)? {
+        return Ok(None);
+    }
+    let place = reader.place();
+    reader.read_more(machine)?;
+    let bytes = reader.bytes().to_vec(alloc)?;
+    let count = reader.bytes().len();
+    reader.take(count);
+    Ok(Some((place, bytes)))
+}
+
+// The first blocks of a log, at most three.
+pub fn blocks_of(
+    alloc: Global,
+    log: &LogFile,
+    machine: &mut MemMachine,
+) -> Result<Vec<Block>, Fail> {
+    let mut reader = log.reader(alloc, machine)?;
+    let mut found = Vec::new(alloc);
+    for _ in 0..3 {
+        if let Some(block) = next_block(alloc, &mut reader, machine)? {
+            found.push(block)?;
+        }
+    }
+    Ok(found)
+}
+
 // Whether the two blocks are found again, each at its place.
 fn two_blocks_are_found(alloc: Global) -> Result<bool, Fail> {
     let (mut machine, grown) = two_blocks(alloc)?;
     let log = LogFile::load(alloc, &mut machine)?;
-    let found = log.payloads(alloc, &mut machine)?;
-    let [first, second] = found.as_slice() else {
+    let found = blocks_of(alloc, &log, &mut machine)?;
+    let [(first, abc), (second, d)] = found.as_slice() else {
         return Ok(false);
     };
-    let is_first = first.place == 38 && first.bytes.as_slice() == b"abc".as_slice();
-    let is_second = second.place == 46 && second.bytes.as_slice() == b"d".as_slice();
+    let is_first = *first == 38 && abc.as_slice() == b"abc".as_slice();
+    let is_second = *second == 46 && d.as_slice() == b"d".as_slice();
     Ok(grown == [7, 1, 6] && log.used() == 47 && log.growth(3) == 8 && is_first && is_second)
 }
 
@@ -91,7 +127,8 @@ fn stopped(alloc: Global, calls: u64, how: Crash) -> Result<(bool, usize), Fail>
     let mut fuse = Fuse::new(machine, calls);
     let is_ok = log.force(&mut fuse).is_ok();
     let mut left = fuse.into_inner().crash(how);
-    let found = LogFile::load(alloc, &mut left)?.payloads(alloc, &mut left)?;
+    let log = LogFile::load(alloc, &mut left)?;
+    let found = blocks_of(alloc, &log, &mut left)?;
     Ok((is_ok, found.len()))
 }
 

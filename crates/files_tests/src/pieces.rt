@@ -1,7 +1,7 @@
 // The pieces in which a log is read: records across two of them, records longer than one, and several blocks.
 ghost use Rattle.std.specs.Prelude.{◌≡◌};
 
-use crate::records::loaded;
+use crate::records::{loaded, numbered};
 use disk_model::{FileNo, Machine, MemMachine};
 use formats::Record;
 use log_records::RecordLog;
@@ -115,7 +115,7 @@ fn are_read(alloc: Global, blocks: Blocks) -> Result<[bool; 3], Fail> {
     let log = loaded(alloc, &mut machine, BOUNDS)?;
     let is_loaded = log.accepted() == lengths.len() as u64;
     let all = log.stable(&mut machine)?;
-    let last = log.numbered_from(&mut machine, 2)?;
+    let last = numbered(alloc, &log, &mut machine, 2)?;
     let behind = lengths.get(1..).unwrap_or(&[]);
     Ok([
         is_loaded,

@@ -3,7 +3,7 @@ ghost use Rattle.formats.specs.Log.{IsPayload, end_of};
 ghost use Rattle.log_frames.specs.Rewriting.{bytes_of};
 
 // A rewrite on a machine in memory, stopped after each of its calls.
-use crate::log::{CRASHES, NEW_LOG, add, empty_store, new_store};
+use crate::log::{CRASHES, NEW_LOG, add, blocks_of, empty_store, new_store};
 use disk_model::{Crash, FileNo, Fuse, Machine};
 use log_frames::{LogErr, LogFile, Payload};
 use oper_core::ByteList;
@@ -29,11 +29,9 @@ fn two_payloads(alloc: Global) -> Result<Vec<Payload>, AllocError>
 {
     let mut payloads = Vec::new(alloc);
     payloads.push(Payload {
-        place: 0,
         bytes: ByteList::new(b"vwxyz".to_vec(alloc)?),
     })?;
     payloads.push(Payload {
-        place: 7,
         bytes: ByteList::new(b"q".to_vec(alloc)?),
     })?;
     Ok(payloads)
@@ -65,13 +63,13 @@ fn leaves(alloc: Global, calls: u64, how: Crash, base: u64) -> Result<bool, Fail
     let is_ok = rewritten(alloc, &mut log, &mut fuse, 3)?;
     let mut left = fuse.into_inner().crash(how);
     let found = LogFile::load(alloc, &mut left)?;
-    let payloads = found.payloads(alloc, &mut left)?;
+    let blocks = blocks_of(alloc, &found, &mut left)?;
     let file = if base == 3 {
         FileNo::LogA
     } else {
         FileNo::LogB
     };
-    let is_whole = payloads.len() == 2 && found.used() == 49 && found.active() == file;
+    let is_whole = blocks.len() == 2 && found.used() == 49 && found.active() == file;
     let is_base = found.base() == base && found.commands() == base - 1;
     Ok(is_made && is_whole && is_base && is_ok == (calls == 12))
 }

@@ -1,8 +1,6 @@
 -- What a loaded log holds, and why a load fails.
-use Rattle.std.proofs.Common.{◌≡◌, ℕ, ◌+◌, ◌-◌, ◌^◌, List, [], ◌++◌, length, map, min, refl, sym, ap, ◌∙◌, subst, arith, Result, Ok, Err}
-use Rattle.std.specs.Prelude.{All, IfErr, IfOk}
+use Rattle.std.proofs.Common.{◌≡◌, ℕ, ◌+◌, ◌-◌, ◌^◌, List, [], ◌++◌, length, map, min, refl, sym, ap, ◌∙◌, subst, arith}
 use Rattle.std.proofs.lemmas.List.{append-nil}
-use Rattle.std.proofs.lemmas.List.Elements.{All-filter}
 use Rattle.disk_model.specs.Disk.{Files, Disk, Stays, Rises}
 use Rattle.disk_model.specs.Moments.{stays_settled}
 use Rattle.disk_model.specs.declared.machine.FileNo.{FileNo}
@@ -10,13 +8,12 @@ use Rattle.formats.specs.InForce.{IsInForce, HoldsLog}
 use Rattle.oper_core.specs.Meaning.{Meaning}
 use Rattle.oper_core.specs.declared.bounds.Bounds.{Bounds}
 use Rattle.formats.specs.Log.{Header, end_of, IsWholeLog}
-use Rattle.formats.specs.Records.{payload_of, records_of, commands_of, next_after, IsRecord, AreRecords, IsRecordLog, HoldsRecordLog}
+use Rattle.formats.specs.Records.{payload_of, records_of, commands_of, next_after, AreRecords, IsRecordLog, HoldsRecordLog}
 use Rattle.formats.specs.Image.{IsRecordFault}
 use Rattle.formats.specs.declared.record.Record.{Record}
-use Rattle.log_frames.specs.Laws.{no_first_log_fault, one_place}
-use Rattle.log_frames.specs.declared.log_err.LogErr.{LogErr}
-use Rattle.log_records.specs.RecordLog.{RecordLogView, Keeps, IsLoaded, is_from, from_number}
-use Rattle.log_records.specs.Loading.{IsLoadFault, in_blocks, in_record}
+use Rattle.log_frames.specs.Laws.{has_header, no_first_log_fault, one_place}
+use Rattle.log_records.specs.RecordLog.{RecordLogView, Keeps, IsHeldIn, IsLoaded}
+use Rattle.log_records.specs.Loading.{IsLoadFault, IsTailFault, in_blocks, in_record}
 use Rattle.log_records.specs.RecordReader.{AreGroups, AreAll}
 use Rattle.log_records.specs.CodecLaws.{HasCodes}
 use Rattle.log_records.specs.RecordLaws.{numbers_end, next_rises}
@@ -35,12 +32,26 @@ module _ {O : Type 0} (m : Meaning O) where
       let same = one_place active other header k (map (payload_of m) groups) files (log_of m is) beside has in
       no_record_fault m codes header groups (files active) place is.log (subst (λ (x : FileNo). IsRecordFault m (files x) place) same fault)
 
+  -- a record of the log in force is wrong
+  pub record_fails : (header : Header) (payloads : List (List ℕ)) (files : Files) (active file : FileNo) (place : ℕ) → HoldsLog active header payloads files → file ≡ active → IsRecordFault m (files active) place → IsLoadFault m files file place
+  record_fails header payloads files active file place holds same fault =
+      subst (λ (f : FileNo). IsLoadFault m files f place) (sym same) (in_record active header place holds.in_force (has_header header payloads (files active) holds.log) fault)
+
   -- the groups that were read make the file a log of records
   pub groups_log : (header : Header) (payloads : List (List ℕ)) (file : List ℕ) (found : List (Record O)) → IsWholeLog header payloads file → (so : AreGroups m payloads found) → AreRecords m header.base header.base found
       → IsRecordLog m header so.groups file
   groups_log header payloads file found whole so placed = record {
     log = subst (λ (l : List (List ℕ)). IsWholeLog header l file) so.payloads_are whole;
     placed = subst (λ (l : List (Record O)). AreRecords m header.base header.base l) so.records_are placed;
+  }
+
+  -- files in which the log in force has the records that a pass has read hold it
+  pub is_held : (files : Files) (log : RecordLogView) (ps : List (List ℕ)) (found : List (Record O)) → HoldsLog log.log.active log.log.header ps files → AreGroups m ps found → AreRecords m log.log.header.base log.log.header.base found
+      → log.next ≡ next_after log.log.header.base found → IsHeldIn m files log
+  is_held files log ps found holds so placed next = record {
+    groups = so.groups;
+    file = record { in_force = holds.in_force; log = groups_log log.log.header ps (files log.log.active) found holds.log so placed };
+    next = next ∙ ap (λ (l : List (Record O)). next_after log.log.header.base l) so.records_are;
   }
 
   -- a pass over a log that was loaded has read its records
@@ -79,14 +90,15 @@ module _ {O : Type 0} (m : Meaning O) where
       )
 
   -- the records that a pass over the log reads are those that it keeps
-  pub found_stable : HasCodes m → (d : Disk) (log : RecordLogView) (stable pending found : List (Record O)) (keeps : Keeps m d log stable pending) → d.tells_files → AreAll m d log.log found → found ≡ stable
-  found_stable codes d log stable pending found keeps told all =
+  pub found_stable : HasCodes m → (old new : Disk) (log : RecordLogView) (stable pending found : List (Record O)) → Keeps m old log stable pending → new.agrees old.reads → AreAll m new log.log found → found ≡ stable
+  found_stable codes old new log stable pending found keeps agree all =
       let base = log.log.header.base in
-      let so = all.read told (map (payload_of m) keeps.groups) keeps.file.log in
+      let so = all.read old.reads agree (map (payload_of m) keeps.groups) keeps.file.log in
       so.records_are
       ∙ one_grouping m codes base base base base so.groups keeps.groups (subst (λ (l : List (Record O)). AreRecords m base base l) so.records_are all.placed) keeps.file.placed (sym so.payloads_are)
       ∙ keeps.stable_are
 
-  -- the records from a number on are of the grammar, as all are
-  pub from_in_grammar : (from : ℕ) (found kept : List (Record O)) → kept ≡ from_number from found → All (IsRecord m) found → All (IsRecord m) kept
-  from_in_grammar from found kept is all = subst (λ (l : List (Record O)). All (IsRecord m) l) (sym is) (All-filter (is_from from) (IsRecord m) found all)
+  -- and none of them is damaged
+  pub no_tail_fault : HasCodes m → (old new : Disk) (log : RecordLogView) (stable pending : List (Record O)) → Keeps m old log stable pending → new.agrees old.reads → (file : FileNo) (place : ℕ) → IsTailFault m new log.log file place → ⊥
+  no_tail_fault codes old new log stable pending keeps agree file place there =
+      no_record_fault m codes log.log.header keeps.groups (old.reads log.log.active) place keeps.file (there.1 old.reads agree (map (payload_of m) keeps.groups) keeps.file.log)

@@ -1,5 +1,5 @@
 -- How a reader of numbered records goes on.
-use Rattle.std.proofs.Common.{◌≡◌, ◌≢◌, ◌+◌, ◌<◌, ◌≤◌, ℕ, Option, None, Some, true, false, List, [], ◌∷◌, ◌++◌, refl, sym, ap, ◌∙◌, subst, arith, inl, inr, append_assoc}
+use Rattle.std.proofs.Common.{◌≡◌, ◌≢◌, ◌<◌, ◌≤◌, ℕ, Option, None, Some, true, false, List, [], ◌∷◌, ◌++◌, refl, sym, ap, ◌∙◌, subst, arith, inl, inr, append_assoc}
 use Rattle.std.proofs.lemmas.Bool.{cond-true, cond-false}
 use Rattle.std.proofs.lemmas.List.{append-nil}
 use Rattle.std.proofs.lemmas.List.Elements.{filter-append}
@@ -62,7 +62,7 @@ module _ {O : Type 0} (m : Meaning O) where
     placed = is.placed;
     next_is = is.next_is;
     short = is.short;
-    read = λ told payloads whole. absurd (omega (arith, whole.in_range.epoch_low));
+    read = λ files agree payloads whole. absurd (omega (arith, whole.in_range.epoch_low));
   }
 
   pub past_of : (d : Disk) (log : LogView) (it : RecordReaderView) (records : List (Record O)) → IsReading m d log it records → IsPast m log it records
@@ -89,10 +89,10 @@ module _ {O : Type 0} (m : Meaning O) where
       }
 
   -- why it fails
-  pub search_fails : (old : Disk) (log : RecordLogView) (before : NumberedReaderView) (given : List (Record O)) (cause : LogErr) (rises : Type 0) → IsReadingNumbered m old log before given
-      → ((other : LogView) (all : List (Record O)) → IsReading m old other before.records all → FailsBy rises (IsTailFault m old other) cause)
-      → FailsBy rises (λ f place. log.log.active ≢ Objects → IsTailFault m old log.log f place) cause
-  search_fails old log before given cause rises is fails = elim (same_file log.log.active Objects) [
+  pub search_fails : (old new : Disk) (log : RecordLogView) (before : NumberedReaderView) (given : List (Record O)) (cause : LogErr) (rises : Type 0) → IsReadingNumbered m old log before given
+      → ((other : LogView) (all : List (Record O)) → IsReading m old other before.records all → FailsBy rises (IsTailFault m new other) cause)
+      → FailsBy rises (λ f place. log.log.active ≢ Objects → IsTailFault m new log.log f place) cause
+  search_fails old new log before given cause rises is fails = elim (same_file log.log.active Objects) [
     | inl same ↦ fails_on _ _ _ _ cause (λ risen. risen) (λ f place there apart. absurd (apart same)) (fails (nowhere log.log) is.all (reading_nowhere old log.log before.records is.all is.past))
     | inr other ↦ fails_on _ _ _ _ cause (λ risen. risen) (λ f place there apart. there) (fails log.log is.all (is.reading other))
   ]

@@ -2,7 +2,7 @@
 use Rattle.std.proofs.Common.{◌≡◌, inl, inr, ◌<◌, ◌≤◌, ◌+◌, ℕ, List, [], ◌∷◌, ◌++◌, length, get_or, map, take, sym, ap, ◌∙◌, subst, arith, length-append}
 use Rattle.std.specs.List.Sorted.{IsStrictlyIncreasing}
 use Rattle.std.proofs.lemmas.List.{take_more, get_or-take, get_or-map, length-take-le, map-append, length-map}
-use Rattle.std.proofs.lemmas.List.Elements.{All-push, All-nil}
+use Rattle.std.proofs.lemmas.List.Elements.{All-push}
 use Rattle.std.proofs.Math.ListN.{get_or-append}
 use Rattle.std.proofs.Math.Seq.{drop-append_seam}
 use Rattle.std.proofs.lemmas.List.{get_or-drop}
@@ -19,13 +19,6 @@ pub record AreSeen (objects base next least : ℕ) (starts : List (ℕ × ℕ)) 
   pub lowest : (x : ℕ) → ((k : ℕ) → k + 1 ≡ length starts → get_or (objects_of starts) k 0 < x) → least ≤ x
 
 module _ (objects base next : ℕ) where
-  pub seen_none : AreSeen objects base next 0 []
-  seen_none = record {
-    are = record { rising = λ k less. absurd (omega (arith, less)); there = All-nil _; from_base = All-nil _; before = All-nil _ };
-    above = λ k less. absurd (omega (arith, less));
-    lowest = λ x all. omega arith;
-  }
-
   at_front : (xs : List ℕ) (x k : ℕ) → k < length xs → get_or (xs ++ x ∷ []) k 0 ≡ get_or xs k 0
   at_front xs x k less = get_or-append xs (x ∷ []) 0 k less
 

@@ -1,7 +1,6 @@
 -- No record's code is the beginning of another's, and each record of the grammar has one.
 use Rattle.std.proofs.Common.{◌≡◌, ◌<◌, ◌^◌, ℕ, List, ◌∷◌, ◌++◌, length, get_or, take, drop, refl, sym, ap, ◌∙◌, arith, append_assoc}
 use Rattle.std.proofs.lemmas.List.{take_at}
-use Rattle.std.proofs.lemmas.List.Prefix.{front_rest}
 use Rattle.byteorder.specs.Endian.{little_bytes}
 use Rattle.oper_core.specs.LittleEndian.{little_bytes-split}
 use Rattle.oper_core.specs.Meaning.{IsLawful, IsSmall, HasBounds, Meaning}
@@ -9,7 +8,7 @@ use Rattle.oper_core.specs.declared.bounds.Bounds.{Bounds}
 use Rattle.checkpoint.specs.Codec.{table_code}
 use Rattle.checkpoint.specs.CodecLaws.{same_table}
 use Rattle.checkpoint.specs.declared.table.Table.{Table}
-use Rattle.formats.specs.Records.{IsRecord, record_code}
+use Rattle.formats.specs.Records.{IsRecord}
 use Rattle.formats.specs.declared.record.Record.{Record}
 use Rattle.formats.specs.declared.record.Record.TheVariants.{Command, Identity, Check}
 use Rattle.log_records.specs.Codec.{IsEncodable, StartsWithRecord}
@@ -76,8 +75,3 @@ pub encodable-from_grammar : {O : Type 0} (meaning : Bounds → Meaning O) (b : 
 encodable-from_grammar meaning b codes (Command number op) good = (b, codes.lawful.encodable op good.1)
 encodable-from_grammar meaning b codes (Identity number x value) good = omega (arith, good.2, codes.short)
 encodable-from_grammar meaning b codes (Check table) good = good.few
-
--- what follows its code
-pub rest-from_starts : {O : Type 0} (m : Meaning O) (bytes : List ℕ) (it : Record O) → (starts : StartsWithRecord m bytes it)
-    → starts.rest ≡ drop (length (record_code m it)) bytes
-rest-from_starts m bytes it starts = sym (front_rest bytes (record_code m it) starts.rest starts.split)

@@ -34,7 +34,7 @@ pub data IsLoadFault {O : Type 0} (m : Meaning O) (files : Files) : FileNo → �
 -- with this header, a record of it breaks its format there.
 abbrev pub IsTailFault : {O : Type 0} → Meaning O → Disk → LogView → FileNo → ℕ → Type 0
 IsTailFault m d log file place =
-    (file ≡ log.active) × (d.tells_files → (payloads : List (List ℕ)) → IsWholeLog log.header payloads (d.reads log.active) → IsRecordFault m (d.reads log.active) place)
+    (file ≡ log.active) × ((files : Files) → d.agrees files → (payloads : List (List ℕ)) → IsWholeLog log.header payloads (files log.active) → IsRecordFault m (files log.active) place)
 
 -- what a pass over a log that begins at this base, with these records, keeps of them
 pub record IsCountOf {O : Type 0} (base : ℕ) (records : List (Record O)) (it : Counted) : Type 0 where

@@ -5,7 +5,7 @@ use Rattle.std.proofs.Math.Bool.{and-true}
 use Rattle.std.proofs.lemmas.Bool.{cases_Bool, cond-true, cond-false, and_parts, leb-true, ltb-true, lt-ltb}
 use Rattle.std.proofs.lemmas.List.{append-nil}
 use Rattle.std.proofs.lemmas.List.Elements.{All-cons, All-nil, All-filter, filter-append}
-use Rattle.disk_model.specs.Disk.{Disk, OthersStay}
+use Rattle.disk_model.specs.Disk.{Files, Disk, OthersStay}
 use Rattle.disk_model.specs.declared.machine.FileNo.TheVariants.{Objects}
 use Rattle.oper_core.specs.Meaning.{Meaning}
 use Rattle.formats.specs.Log.{IsWholeLog}
@@ -32,7 +32,7 @@ module _ {O : Type 0} (m : Meaning O) (from end : ℕ) where
   same_test number low = ap (λ (b : Bool). nat_le from number && b) (lt-ltb number end low) ∙ and-true (nat_le from number)
 
   -- of records in their places all are below a number that is not below the next
-  pub between_all : (base next : ℕ) (records : List (Record O)) → AreRecords m base next records → next_after next records ≤ end → numbered_between from end records ≡ numbered_from from records
+  between_all : (base next : ℕ) (records : List (Record O)) → AreRecords m base next records → next_after next records ≤ end → numbered_between from end records ≡ numbered_from from records
   between_all base next [] are within = refl
   between_all base next (Command number op ∷ records) are within =
       let rest = between_all base (next + 1) records are.2 within in
@@ -45,7 +45,7 @@ module _ {O : Type 0} (m : Meaning O) (from end : ℕ) where
   between_all base next (Check table ∷ records) are within = between_all base next records are.2 within
 
   -- the numbers of those between two numbers rise
-  pub rise_between : (base next low last : ℕ) (records : List (Record O)) → AreRecords m base next records → ((k : ℕ) → from ≤ k → next ≤ k → low ≤ k) → end ≤ last → Rise low last (numbered_between from end records)
+  rise_between : (base next low last : ℕ) (records : List (Record O)) → AreRecords m base next records → ((k : ℕ) → from ≤ k → next ≤ k → low ≤ k) → end ≤ last → Rise low last (numbered_between from end records)
   rise_between base next low last [] are above most = tt
   rise_between base next low last (Command number op ∷ records) are above most = elim (cases_Bool (nat_le from number && nat_lt number end)) [
     | inl stays ↦
@@ -104,14 +104,14 @@ module _ {O : Type 0} (m : Meaning O) where
       sym (between_all m from log.next base base stable placed within) ∙ ap (λ (l : List (Record O)). numbered_between from log.next l) split
       ∙ filter-append (is_between from log.next) all more
 
-  -- Where the machine reports its files and the log keeps some records, what a reader has given are the first of those from its
+  -- Where what is read may be the files, and the log keeps some records, what a reader has given are the first of those from its
   -- number on.
-  pub given_first : HasCodes m → (d : Disk) (log : RecordLogView) (it : NumberedReaderView) (given stable pending : List (Record O)) → d.tells_files → Keeps m d log stable pending → IsReadingNumbered m d log it given
+  pub given_first : HasCodes m → (d : Disk) (log : RecordLogView) (it : NumberedReaderView) (given stable pending : List (Record O)) → d.agrees d.reads → Keeps m d log stable pending → IsReadingNumbered m d log it given
       → (later : List (Record O)) × (numbered_from it.from stable ≡ given ++ later)
-  given_first codes d log it given stable pending told keeps is =
+  given_first codes d log it given stable pending agree keeps is =
       let base = log.log.header.base in
       let reading = is.reading keeps.in_force.a_log in
-      let first = reading.read told (map (payload_of m) keeps.groups) keeps.file.log in
+      let first = reading.read d.reads agree (map (payload_of m) keeps.groups) keeps.file.log in
       let placed = subst (λ (l : List (Record O)). AreRecords m base base l) first.records_are reading.placed in
       let front = first_records m codes base base base base keeps.groups first.groups first.part _ first.later keeps.file.placed placed first.stands.payloads_are in
       let split : stable ≡ is.all ++ front.more = sym keeps.stable_are ∙ front.all_are ∙ ap (λ (l : List (Record O)). l ++ front.more) (sym first.records_are) in
@@ -121,38 +121,39 @@ module _ {O : Type 0} (m : Meaning O) where
       )
 
   -- and where it has ended they are all of them
-  pub given_all : HasCodes m → (d : Disk) (log : RecordLogView) (from : ℕ) (given stable pending : List (Record O)) → d.tells_files → Keeps m d log stable pending → AreAllNumbered m d log from given
+  pub given_all : HasCodes m → (d : Disk) (log : RecordLogView) (from : ℕ) (given stable pending : List (Record O)) → d.agrees d.reads → Keeps m d log stable pending → AreAllNumbered m d log from given
       → numbered_from from stable ≡ given
-  given_all codes d log from given stable pending told keeps is =
+  given_all codes d log from given stable pending agree keeps is =
       let base = log.log.header.base in
       let all = is.read keeps.in_force.a_log in
-      let so = all.read told (map (payload_of m) keeps.groups) keeps.file.log in
+      let so = all.read d.reads agree (map (payload_of m) keeps.groups) keeps.file.log in
       let same : is.all ≡ stable = so.records_are
       ∙ one_grouping m codes base base base base so.groups keeps.groups (subst (λ (l : List (Record O)). AreRecords m base base l) so.records_are all.placed) keeps.file.placed (sym so.payloads_are)
       ∙ keeps.stable_are in
       first_numbered d log stable pending is.all [] from keeps (sym same ∙ sym (append-nil is.all)) ∙ append-nil (numbered_between from log.next is.all) ∙ sym is.given_are
 
   -- A reader goes on where the objects alone have changed.
-  reading_beside : (old new : Disk) (log : LogView) (it : RecordReaderView) (records : List (Record O)) → log.active ≢ Objects → (new.tells_files → old.tells_files) → (old.tells_files → OthersStay Objects old.reads new.reads)
+  reading_beside : (old new : Disk) (log : LogView) (it : RecordReaderView) (records : List (Record O)) → log.active ≢ Objects → ((now : Files) → new.agrees now → (was : Files) × old.agrees was × OthersStay Objects was now)
       → IsReading m old log it records → IsReading m new log it records
-  reading_beside old new log it records apart told_old others is = record {
+  reading_beside old new log it records apart beside is = record {
     file = is.file;
     base = is.base;
     placed = is.placed;
     next_is = is.next_is;
     short = is.short;
-    read = λ told payloads whole.
-        let same = others (told_old told) log.active apart in
+    read = λ now agree payloads whole.
+        let was = beside now agree in
+        let same = was.2 log.active apart in
         subst (λ (f : List ℕ). AreFirst m f it payloads records) (sym same)
-        (is.read (told_old told) payloads (subst (λ (f : List ℕ). IsWholeLog log.header payloads f) same whole));
+        (is.read was.0 was.1 payloads (subst (λ (f : List ℕ). IsWholeLog log.header payloads f) same whole));
   }
 
-  pub goes_on_beside : (old new : Disk) (log : RecordLogView) (it : NumberedReaderView) (given : List (Record O)) → (new.tells_files → old.tells_files) → (old.tells_files → OthersStay Objects old.reads new.reads)
+  pub goes_on_beside : (old new : Disk) (log : RecordLogView) (it : NumberedReaderView) (given : List (Record O)) → ((now : Files) → new.agrees now → (was : Files) × old.agrees was × OthersStay Objects was now)
       → IsReadingNumbered m old log it given → IsReadingNumbered m new log it given
-  goes_on_beside old new log it given told_old others is = record {
+  goes_on_beside old new log it given beside is = record {
     end = is.end;
     all = is.all;
     given_are = is.given_are;
     past = is.past;
-    reading = λ apart. reading_beside old new log.log it.records is.all apart told_old others (is.reading apart);
+    reading = λ apart. reading_beside old new log.log it.records is.all apart beside (is.reading apart);
   }

@@ -1,5 +1,5 @@
 -- What a log of records holds, in its files and in the buffer after them.
-use Rattle.std.specs.Prelude.{◌≡◌, ◌⊎◌, ◌<◌, ◌≤◌, ◌^◌, ℕ, ◌+◌, Bool, true, List, [], ◌∷◌, ◌++◌, length, map, filter, nat_le}
+use Rattle.std.specs.Prelude.{◌≡◌, ◌⊎◌, ◌<◌, ◌≤◌, ◌^◌, ℕ, ◌+◌, List, [], ◌∷◌, ◌++◌, length, map}
 use Rattle.disk_model.specs.Disk.{Files, Disk, In, IsSettled}
 use Rattle.oper_core.specs.Meaning.{Meaning, IsSmall}
 use Rattle.oper_core.specs.declared.bounds.Bounds.{Bounds}
@@ -7,7 +7,6 @@ use Rattle.formats.specs.InForce.{IsInForce}
 use Rattle.formats.specs.Log.{Header, IsHeader, end_of}
 use Rattle.formats.specs.Records.{payload_of, records_of, commands_of, next_after, AreRecords, IsRecordLog, HoldsRecordLog}
 use Rattle.formats.specs.declared.record.Record.{Record}
-use Rattle.formats.specs.declared.record.Record.TheVariants.{Command, Identity, Check}
 use Rattle.log_frames.specs.LogView.{LogView}
 
 -- a log of records, as contracts see it
@@ -56,19 +55,15 @@ pub record IsForcedPartly {O : Type 0} (m : Meaning O) (d : Disk) (log : RecordL
   pub each_file : In log.log.active (λ old new. HoldsRecords m log.log.header stable new ⊎ HoldsRecords m log.log.header (stable ++ pending) new) d.reads files
   pub nothing_said : said ≡ d.said
 
--- a record has no number, or one from this one on
-abbrev pub is_from : {O : Type 0} → ℕ → Record O → Bool
-is_from from (Command number op) = nat_le from number
-is_from from (Identity number x value) = nat_le from number
-is_from from (Check table) = true
-
--- the records without the numbered ones below a number
-abbrev pub from_number : {O : Type 0} → ℕ → List (Record O) → List (Record O)
-from_number from records = filter (is_from from) records
-
 -- how many commands a record is
 abbrev pub counts : {O : Type 0} → Record O → ℕ
 counts r = length (commands_of (r ∷ []))
+
+-- these files hold the log, and its next number is the one after their records
+pub record IsHeldIn {O : Type 0} (m : Meaning O) (files : Files) (log : RecordLogView) : Type 0 where
+  pub groups : List (List (Record O))
+  pub file : HoldsRecordLog m log.log.active log.log.header groups files
+  pub next : log.next ≡ next_after log.log.header.base (records_of groups)
 
 -- a log that was loaded: the files hold its records, and nothing waits
 pub record IsLoaded {O : Type 0} (m : Meaning O) (b : Bounds) (old new : Disk) (log : RecordLogView) : Type 0 where

@@ -1,6 +1,6 @@
 -- How far a reader has come in the records of a log.
 use Rattle.std.specs.Prelude.{◌≡◌, ℕ, Bool, true, false, Option, None, Some, List, [], ◌∷◌, ◌++◌, map}
-use Rattle.disk_model.specs.Disk.{Disk}
+use Rattle.disk_model.specs.Disk.{Files, Disk}
 use Rattle.oper_core.specs.Meaning.{Meaning}
 use Rattle.oper_core.specs.declared.bounds.Bounds.{Bounds}
 use Rattle.formats.specs.Log.{IsWholeLog}
@@ -29,14 +29,14 @@ pub record AreFirst {O : Type 0} (m : Meaning O) (file : List ℕ) (it : RecordR
   pub records_are : records ≡ records_of groups ++ part
 
 -- A reader of this log has read these records: they are right in their places, the next number is that after them, and
--- each goes into a block. Where the machine reports its files and the log is whole, they are its first ones.
+-- each goes into a block. In files that agree with what was read and in which the log is whole, they are its first ones.
 pub record IsReading {O : Type 0} (m : Meaning O) (d : Disk) (log : LogView) (it : RecordReaderView) (records : List (Record O)) : Type 0 where
   pub file : it.payloads.file ≡ log.active
   pub base : it.base ≡ log.header.base
   pub placed : AreRecords m log.header.base log.header.base records
   pub next_is : it.next ≡ next_after log.header.base records
   pub short : AreShort m records
-  pub read : d.tells_files → (payloads : List (List ℕ)) → IsWholeLog log.header payloads (d.reads log.active) → AreFirst m (d.reads log.active) it payloads records
+  pub read : (files : Files) → d.agrees files → (payloads : List (List ℕ)) → IsWholeLog log.header payloads (files log.active) → AreFirst m (files log.active) it payloads records
 
 -- the payloads are those of these records, a group for each
 pub record AreGroups {O : Type 0} (m : Meaning O) (payloads : List (List ℕ)) (records : List (Record O)) : Type 0 where
@@ -44,12 +44,12 @@ pub record AreGroups {O : Type 0} (m : Meaning O) (payloads : List (List ℕ)) (
   pub payloads_are : payloads ≡ map (payload_of m) groups
   pub records_are : records ≡ records_of groups
 
--- A pass over this log has read these records: they are right in their places, and each goes into a block. Where the
--- machine reports its files and the log is whole, they are all of its records.
+-- A pass over this log has read these records: they are right in their places, and each goes into a block. In files
+-- that agree with what was read and in which the log is whole, they are all of its records.
 pub record AreAll {O : Type 0} (m : Meaning O) (d : Disk) (log : LogView) (records : List (Record O)) : Type 0 where
   pub placed : AreRecords m log.header.base log.header.base records
   pub short : AreShort m records
-  pub read : d.tells_files → (payloads : List (List ℕ)) → IsWholeLog log.header payloads (d.reads log.active) → AreGroups m payloads records
+  pub read : (files : Files) → d.agrees files → (payloads : List (List ℕ)) → IsWholeLog log.header payloads (files log.active) → AreGroups m payloads records
 
 -- no record that is right where this number is next begins the bytes
 abbrev pub StartsWithNone : {O : Type 0} → Meaning O → ℕ → ℕ → List ℕ → Type 0

@@ -122,12 +122,6 @@ module _ {O : Type 0} (m : Meaning O) (codes : HasCodes m) where
         all_are = (λ i. first i ++ others.all_are i) ∙ sym (append_assoc h (records_of groups ++ part) others.more) ∙ ap (λ (l : List (Record O)). l ++ others.more) (sym (append_assoc h (records_of groups) part));
       }
 
-  -- a file holds one list of records
-  pub one_record_log : (h k : Header) (gs hs : List (List (Record O))) (file : List ℕ) → IsRecordLog m h gs file → IsRecordLog m k hs file → (h ≡ k) × (records_of gs ≡ records_of hs)
-  one_record_log h k gs hs file a b =
-      let same = one_log h k (map (payload_of m) gs) (map (payload_of m) hs) file a.log b.log in
-      (same.0, one_grouping h.base h.base k.base k.base gs hs a.placed b.placed same.1)
-
   -- files hold one list of records in force
   pub one_records : (a b : FileNo) (h k : Header) (gs hs : List (List (Record O))) (files : Files) → HoldsRecordLog m a h gs files → HoldsRecordLog m b k hs files
       → (a ≡ b) × (h ≡ k) × (records_of gs ≡ records_of hs)

@@ -19,7 +19,7 @@ mod placing;
 mod record_log;
 mod record_reader;
 mod rewriting;
-mod tail;
+mod stable;
 
 pub use codec::{decode, encode, one_record};
 pub use encoding::EncodedCommand;

@@ -1,14 +1,14 @@
 // Loads a log of records.
 ghost use Rattle.std.specs.Prelude.{◌≡◌, ◌≤◌, ◌+◌, ◌^◌, ◌∷◌, [], List, IfOk, IfErr, length};
 ghost use Rattle.std.specs.Option.{option_or};
-ghost use Rattle.disk_model.specs.Disk.{Rises, Stays};
+ghost use Rattle.disk_model.specs.Disk.{Files, Rises, Stays};
 ghost use Rattle.disk_model.specs.declared.machine.FileNo.{FileNo};
 ghost use Rattle.formats.specs.Log.{Header};
 ghost use Rattle.formats.specs.Records.{commands_of, next_after, last_check, records_of, HoldsRecordLog};
 ghost use Rattle.formats.specs.declared.record.Record.{Record};
 ghost use Rattle.log_frames.specs.Reading.{FailsBy, TellsDamage};
 ghost use Rattle.log_records.specs.Loading.{IsLoadFault, IsTailFault, IsCountOf};
-ghost use Rattle.log_records.specs.RecordLog.{IsLoaded, counts};
+ghost use Rattle.log_records.specs.RecordLog.{IsHeldIn, IsLoaded, counts};
 ghost use Rattle.log_records.specs.RecordReader.{AreAll};
 
 use crate::RecordLog;
@@ -43,9 +43,9 @@ fn count_records<O: Oper, M: Machine>(
 ) -> Result<Counted, LogErr>
     requires { log.now.header.base ≤ 2 ^ 62 }
     ensures kept { Stays (M.disk m.old) (M.disk m.new) }
-    ensures counted { IfOk result (λ it. (records : List (Record O)) × AreAll (O.meaning b) (M.disk m.old) log.now records × IsCountOf log.now.header.base records it) }
+    ensures counted { IfOk result (λ it. (records : List (Record O)) × AreAll (O.meaning b) (M.disk m.new) log.now records × IsCountOf log.now.header.base records it) }
     ensures cause { IfErr result (FailsBy (Rises (M.disk m.old).disk_faults (M.disk m.new).disk_faults)
-        (IsTailFault (O.meaning b) (M.disk m.old) log.now)) }
+        (IsTailFault (O.meaning b) (M.disk m.new) log.now)) }
 {
     let mut reader = RecordReader::<O>::new(alloc, m, b, log)?;
     let mut commands = 0;
@@ -72,12 +72,13 @@ impl<O: Oper> RecordLog<O> {
         ensures kept { Stays (M.disk m.old) (M.disk m.new) }
         ensures read { (M.disk m.old).tells_files → IfOk result (λ found. (it : IsLoaded (O.meaning b) b (M.disk m.old) (M.disk m.new) found.0)
             × (found.1 ≡ last_check (records_of it.groups))) }
-        ensures counted { IfOk result (λ found. (records : List (Record O)) × AreAll (O.meaning b) (M.disk m.old) found.0.log records
+        ensures held { (files : Files) → (M.disk m.new).agrees files → IfOk result (λ found. IsHeldIn (O.meaning b) files found.0) }
+        ensures counted { IfOk result (λ found. (records : List (Record O)) × AreAll (O.meaning b) (M.disk m.new) found.0.log records
             × (found.0.next ≡ next_after found.0.log.header.base records) × (found.1 ≡ last_check records)) }
         ensures bounds { IfOk result (λ found. found.0.bounds ≡ b) }
         ensures low { IfOk result (λ found. 1 ≤ found.0.next) }
         ensures cause { IfErr result (FailsBy (Rises (M.disk m.old).disk_faults (M.disk m.new).disk_faults)
-            (λ file place. (M.disk m.old).tells_files → IsLoadFault (O.meaning b) (M.disk m.old).reads file place)) }
+            (λ file place. (files : Files) → (M.disk m.new).agrees files → IsLoadFault (O.meaning b) files file place)) }
         ensures whole { (M.disk m.old).tells_files → (active : FileNo) (header : Header) (groups : List (List (Record O)))
             → HoldsRecordLog (O.meaning b) active header groups (M.disk m.old).reads → IfErr result (λ e. TellsDamage e → ⊥) }
     {
@@ -95,19 +96,5 @@ impl<O: Oper> RecordLog<O> {
             of: PhantomData,
         };
         Ok((log, counted.last))
-    }
-
-    /// The log in force, whose records are of the grammar for these bounds and right in their places.
-    pub fn load<M: Machine>(alloc: Global, m: &mut M, b: Bounds) -> Result<RecordLog<O>, LogErr>
-        ensures kept { Stays (M.disk m.old) (M.disk m.new) }
-        ensures read { (M.disk m.old).tells_files → IfOk result (λ log. IsLoaded (O.meaning b) b (M.disk m.old) (M.disk m.new) log) }
-        ensures bounds { IfOk result (λ log. log.bounds ≡ b) }
-        ensures cause { IfErr result (FailsBy (Rises (M.disk m.old).disk_faults (M.disk m.new).disk_faults)
-            (λ file place. (M.disk m.old).tells_files → IsLoadFault (O.meaning b) (M.disk m.old).reads file place)) }
-        ensures whole { (M.disk m.old).tells_files → (active : FileNo) (header : Header) (groups : List (List (Record O)))
-            → HoldsRecordLog (O.meaning b) active header groups (M.disk m.old).reads → IfErr result (λ e. TellsDamage e → ⊥) }
-    {
-        let (log, _) = RecordLog::<O>::load_checked(alloc, m, b)?;
-        Ok(log)
     }
 }

@@ -14,7 +14,6 @@ ghost use Rattle.log_records.specs.Rewriting.{is_between};
 
 use crate::RecordLog;
 use crate::record_reader::RecordReader;
-use crate::tail::is_between;
 use disk_model::Machine;
 use formats::Record;
 use log_frames::LogErr;
@@ -38,6 +37,17 @@ impl<O: Oper> Model for NumberedReader<O> {
     ghost view = { λ r. record { records = r.records; from = r.from; end = r.end } };
 }
 
+// Whether a record has a number, from this one on and below that one.
+fn is_between<O: Oper>(it: &Record<O>, from: u64, end: u64) -> bool
+    ensures { result ≡ is_between from end it.now }
+{
+    match it {
+        Record::Command(number, _) => from <= *number && *number < end,
+        Record::Identity(number, _, _) => from <= *number && *number < end,
+        Record::Check(_) => false,
+    }
+}
+
 // The next record that has a number, from this one on and below that one.
 fn next_between<O: Oper, M: Machine>(
     m: &mut M,
@@ -50,7 +60,7 @@ fn next_between<O: Oper, M: Machine>(
     ensures less { IfOk result (λ found. IfSome found (λ _. ahead records.new.payloads < ahead records.old.payloads)) }
     ensures read { IfOk result (HasSearched (O.meaning records.old.bounds) (M.disk m.old) (M.disk m.new) from end records.old records.new) }
     ensures cause { (log : LogView) (all : List (Record O)) → IsReading (O.meaning records.old.bounds) (M.disk m.old) log records.old all
-        → IfErr result (FailsBy (Rises (M.disk m.old).disk_faults (M.disk m.new).disk_faults) (IsTailFault (O.meaning records.old.bounds) (M.disk m.old) log)) }
+        → IfErr result (FailsBy (Rises (M.disk m.old).disk_faults (M.disk m.new).disk_faults) (IsTailFault (O.meaning records.old.bounds) (M.disk m.new) log)) }
 {
     while let Some(record) = records.next(m)? {
         if is_between(&record, from, end) {
@@ -71,7 +81,7 @@ impl<O: Oper> NumberedReader<O> {
             → IfOk result (HasGiven (O.meaning self.old.records.bounds) (M.disk m.new) log self.new given) }
         ensures cause { (log : RecordLogView) (given : List (Record O)) → IsReadingNumbered (O.meaning self.old.records.bounds) (M.disk m.old) log self.old given
             → IfErr result (FailsBy (Rises (M.disk m.old).disk_faults (M.disk m.new).disk_faults)
-            (λ file place. log.log.active ≢ Objects → IsTailFault (O.meaning self.old.records.bounds) (M.disk m.old) log.log file place)) }
+            (λ file place. log.log.active ≢ Objects → IsTailFault (O.meaning self.old.records.bounds) (M.disk m.new) log.log file place)) }
     {
         let found = next_between(m, &mut self.records, self.from, self.end)?;
         Ok(found)

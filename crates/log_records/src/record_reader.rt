@@ -1,6 +1,6 @@
 // Reads the records of a log, one after the other.
 ghost use Rattle.std.specs.Prelude.{◌≡◌, ◌<◌, ◌≤◌, ◌^◌, [], List, ℕ, IsTrue, IfErr, IfNone, IfOk, IfSome, OnOk, length};
-ghost use Rattle.disk_model.specs.Disk.{Rises, Stays};
+ghost use Rattle.disk_model.specs.Disk.{Files, Rises, Stays};
 ghost use Rattle.formats.specs.Records.{record_code, IsPlaced};
 ghost use Rattle.formats.specs.declared.record.Record.{Record};
 ghost use Rattle.log_frames.specs.LogView.{LogView};
@@ -75,8 +75,8 @@ fn find_record<O: Oper, M: Machine>(
     ensures kept { Stays (M.disk m.old) (M.disk m.new) }
     ensures file { payloads.new.file ≡ payloads.old.file }
     ensures all { OnOk result ((remaining payloads.new ≡ remaining payloads.old) × (ahead payloads.new ≡ ahead payloads.old)) }
-    ensures read { (M.disk m.old).tells_files → (all passed : List (List ℕ)) (taken : List ℕ) (later : List (List ℕ)) → IsInLog ((M.disk m.old).reads payloads.old.file) payloads.old all passed taken later
-        → OnOk result (IsInLog ((M.disk m.old).reads payloads.new.file) payloads.new all passed taken later) }
+    ensures read { (files : Files) → (M.disk m.new).agrees files → (all passed : List (List ℕ)) (taken : List ℕ) (later : List (List ℕ)) → IsInLog (files payloads.old.file) payloads.old all passed taken later
+        → OnOk result (IsInLog (files payloads.new.file) payloads.new all passed taken later) }
     ensures some { IfOk result (λ found. IfSome found (λ pair. StartsWithRecord (O.meaning b) payloads.new.bytes pair.0
         × IsPlaced (O.meaning b) base next pair.0 × (pair.1 ≡ length (record_code (O.meaning b) pair.0)) × (pair.1 ≤ 2 ^ 30))) }
     ensures none { IfOk result (λ found. IfNone found ((payloads.new.left ≡ 0) × StartsWithNone (O.meaning b) base next payloads.new.bytes)) }
@@ -128,9 +128,9 @@ impl<O: Oper> RecordReader<O> {
         ensures same { self.new ≡ record self.old { payloads = self.new.payloads } }
         ensures some { IfOk result (λ more. IsTrue more → (0 < remaining self.new.payloads) × (ahead self.new.payloads ≤ ahead self.old.payloads)) }
         ensures read { (log : LogView) (records : List (Record O)) → IsReading (O.meaning self.old.bounds) (M.disk m.old) log self.old records
-            → IfOk result (HasGoneOn (O.meaning self.old.bounds) (M.disk m.old) log self.new records) }
+            → IfOk result (HasGoneOn (O.meaning self.old.bounds) (M.disk m.new) log self.new records) }
         ensures cause { (log : LogView) (records : List (Record O)) → IsReading (O.meaning self.old.bounds) (M.disk m.old) log self.old records
-            → IfErr result (FailsBy (Rises (M.disk m.old).disk_faults (M.disk m.new).disk_faults) (IsTailFault (O.meaning self.old.bounds) (M.disk m.old) log)) }
+            → IfErr result (FailsBy (Rises (M.disk m.old).disk_faults (M.disk m.new).disk_faults) (IsTailFault (O.meaning self.old.bounds) (M.disk m.new) log)) }
     {
         if self.payloads.remaining() == 0 {
             let more = self.payloads.next_payload(m)?;
@@ -147,7 +147,7 @@ impl<O: Oper> RecordReader<O> {
         ensures read { (log : LogView) (records : List (Record O)) → IsReading (O.meaning self.old.bounds) (M.disk m.old) log self.old records
             → IfOk result (HasFound (O.meaning self.old.bounds) (M.disk m.new) log self.new records) }
         ensures cause { (log : LogView) (records : List (Record O)) → IsReading (O.meaning self.old.bounds) (M.disk m.old) log self.old records
-            → IfErr result (FailsBy (Rises (M.disk m.old).disk_faults (M.disk m.new).disk_faults) (IsTailFault (O.meaning self.old.bounds) (M.disk m.old) log)) }
+            → IfErr result (FailsBy (Rises (M.disk m.old).disk_faults (M.disk m.new).disk_faults) (IsTailFault (O.meaning self.old.bounds) (M.disk m.new) log)) }
     {
         if !self.go_on(m)? {
             return Ok(None);

@@ -59,12 +59,11 @@ fn leave_out<O: Oper>(records: &mut Vec<Record<O>>, from: u64) -> u64
     all - count_commands(records)
 }
 
-// A block's payload, which has no place yet.
+// A block's payload.
 fn block_of(bytes: Vec<u8>) -> Payload
     ensures { result.bytes ≡ bytes.items }
 {
     Payload {
-        place: 0,
         bytes: ByteList::new(bytes),
     }
 }
@@ -129,7 +128,7 @@ impl<O: Oper> RecordLog<O> {
         ensures undamaged { (M.disk m.old).tells_files → (stable : List (Record O)) → Keeps (O.meaning self.now.bounds) (M.disk m.old) self.now stable []
             → IfErr result (λ e. TellsDamage e → ⊥) }
         ensures cause { IfErr result (FailsBy (Rises (M.disk m.old).disk_faults (M.disk m.new).disk_faults)
-            (IsTailFault (O.meaning self.now.bounds) (M.disk m.old) self.now.log)) }
+            (IsTailFault (O.meaning self.now.bounds) (M.disk m.new) self.now.log)) }
     {
         let mut records = self.stable(m)?;
         let before = leave_out(&mut records, base);
@@ -167,7 +166,7 @@ impl<O: Oper> RecordLog<O> {
         ensures undamaged { (M.disk m.old).tells_files → (stable : List (Record O)) → Keeps (O.meaning self.old.bounds) (M.disk m.old) self.old stable []
             → IfErr result (λ e. TellsDamage e → ⊥) }
         ensures cause { IfErr result (RewriteFails (Rises (M.disk m.old).disk_faults (M.disk m.new).disk_faults)
-            (IsTailFault (O.meaning self.old.bounds) (M.disk m.old) self.old.log) (IsNewLength (O.meaning self.old.bounds) (M.disk m.old) self.old base table) self.old.log) }
+            (IsTailFault (O.meaning self.old.bounds) (M.disk m.new) self.old.log) (IsNewLength (O.meaning self.old.bounds) (M.disk m.old) self.old base table) self.old.log) }
     {
         let epoch = self.log.epoch();
         if epoch >= NUMBERS_END {

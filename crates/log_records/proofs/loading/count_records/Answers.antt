@@ -6,7 +6,7 @@ use Rattle.checkpoint.specs.declared.table.Table.{Table}
 use Rattle.formats.specs.Records.{last_check}
 use Rattle.log_records.specs.RecordLaws.{count-append, next_rises, numbers_end}
 use Rattle.log_records.proofs.Lasts.{last_push}
-use Rattle.log_records.proofs.Passing.{all_before, next_found, next_ended, next_fails}
+use Rattle.log_records.proofs.Passing.{next_found, next_ended, next_fails}
 use Rattle.log_records.proofs.loading.count_records.Goals as goal
 
 pub loop-last-init : goal.loop-last-init
@@ -55,13 +55,11 @@ returns-in_err-record-clause-cause g c =
 pub returns-clause-counted : goal.returns-clause-counted
 returns-clause-counted g c =
     let inv = c.loop-last.invariant in
-    let m = g.O.Oper.meaning c.args.b in
-    let first = g.M.Machine.disk c.args.m.now in
     let mid = g.M.Machine.disk c.loop-last.m in
     let new = g.M.Machine.disk c.next.new.m in
     let ended = next_ended g.O.Oper.meaning c.args.b mid new c.args.log.now c.loop-last.reader c.next.new.self inv.records inv.bounds inv.reading c.in_ok-record.field-0 c.in_default.is c.in_ok-record.ensures.read in (
       inv.records,
-      all_before m first new c.args.log.now inv.records (stays_twice first mid new inv.kept c.next.ensures.kept) ended.0,
+      ended.0,
       record { next = c.next_number.ensures ∙ ended.1; commands = inv.commands_are; last = inv.last_is },
     )
 

@@ -1,5 +1,5 @@
 use Rattle.std.proofs.Common.{◌≡◌, ℕ, List}
-use Rattle.disk_model.specs.Disk.{Disk, Stays}
+use Rattle.disk_model.specs.Disk.{Files, Disk, Stays}
 use Rattle.log_frames.specs.Payloads.{PayloadReaderView, IsInLog, remaining, ahead}
 use Rattle.log_records.proofs.record_reader.find_record.Given as goal
 
@@ -8,7 +8,7 @@ pub record IsSearching (first now : Disk) (old it : PayloadReaderView) : Type 0 
   pub kept : Stays first now
   pub file : it.file ≡ old.file
   pub all : (remaining it ≡ remaining old) × (ahead it ≡ ahead old)
-  pub read : first.tells_files → (all passed : List (List ℕ)) (taken : List ℕ) (later : List (List ℕ)) → IsInLog (first.reads old.file) old all passed taken later → IsInLog (first.reads it.file) it all passed taken later
+  pub read : (files : Files) → now.agrees files → (all passed : List (List ℕ)) (taken : List ℕ) (later : List (List ℕ)) → IsInLog (files old.file) old all passed taken later → IsInLog (files it.file) it all passed taken later
 
 abbrev pub invariant-loop-found : goal.invariant-loop-found
 invariant-loop-found g l = IsSearching (g.M.Machine.disk l.fn.m) (g.M.Machine.disk l.m) l.fn.payloads l.payloads

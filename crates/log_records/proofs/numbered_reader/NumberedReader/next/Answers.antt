@@ -28,5 +28,5 @@ returns-in_err-found-clause-cause g c log given is =
     let before : NumberedReaderView = record { records = r.records; from = r.from; end = r.end } in
     let own = subst (λ (v : NumberedReaderView). IsReadingNumbered (g.O.Oper.meaning v.records.bounds) old log v given) (sym c.self.view_is) is in
     let p = err_from_is_err_and c.from_residual.result c.from_residual.ensures.1 in
-    rw (p.1, p.2) (subst (λ (v : NumberedReaderView). FailsBy (Rises old.disk_faults new.disk_faults) (λ f place. log.log.active ≢ Objects → IsTailFault (g.O.Oper.meaning v.records.bounds) old log.log f place) c.in_err-found.field-0.0) c.self.view_is
-    (search_fails (g.O.Oper.meaning r.records.bounds) old log before given c.in_err-found.field-0.0 (Rises old.disk_faults new.disk_faults) own c.in_err-found.ensures.cause))
+    rw (p.1, p.2) (subst (λ (v : NumberedReaderView). FailsBy (Rises old.disk_faults new.disk_faults) (λ f place. log.log.active ≢ Objects → IsTailFault (g.O.Oper.meaning v.records.bounds) new log.log f place) c.in_err-found.field-0.0) c.self.view_is
+    (search_fails (g.O.Oper.meaning r.records.bounds) old new log before given c.in_err-found.field-0.0 (Rises old.disk_faults new.disk_faults) own c.in_err-found.ensures.cause))

@@ -1,51 +1,40 @@
-use Rattle.std.proofs.Common.{◌∙◌, ◌+◌, ◌-◌, ◌^◌, ℕ, List, refl, ap, sym, subst, arith, min}
+use Rattle.std.proofs.Common.{◌∙◌, ◌+◌, ◌-◌, ◌^◌, ℕ, List, refl, ap, arith, min}
 use Rattle.std.proofs.lemmas.Result.{err_from_is_err_and}
-use Rattle.disk_model.specs.Disk.{Files}
-use Rattle.disk_model.specs.Moments.{stays_twice}
-use Rattle.disk_model.specs.declared.machine.FileNo.{FileNo}
+use Rattle.disk_model.specs.Moments.{agreed_before, told_agrees, stays_twice}
 use Rattle.oper_core.specs.Meaning.{IsSmall}
-use Rattle.formats.specs.Log.{IsWholeLog}
 use Rattle.formats.specs.Records.{last_check}
 use Rattle.formats.specs.declared.record.Record.{Record}
-use Rattle.formats.specs.Image.{IsRecordFault}
-use Rattle.log_frames.specs.Laws.{no_first_log_fault, has_header}
+use Rattle.log_frames.specs.Laws.{no_first_log_fault}
 use Rattle.log_frames.specs.Reading.{fails_on, none_told}
-use Rattle.log_records.specs.Loading.{IsLoadFault, in_blocks, in_record}
+use Rattle.log_records.specs.Loading.{in_blocks}
 use Rattle.log_records.specs.CodecLaws.{has_codes}
 use Rattle.log_records.specs.RecordLaws.{next_rises, numbers_end}
 use Rattle.log_records.specs.Uniqueness.{log_of}
-use Rattle.log_records.proofs.Passing.{all_before}
-use Rattle.log_records.proofs.LoadLemmas.{no_load_fault, is_loaded, rises_before}
+use Rattle.log_records.proofs.LoadLemmas.{no_load_fault, record_fails, is_held, is_loaded, rises_before}
 use Rattle.log_records.proofs.record_log.RecordLog.load_checked.Goals as goal
 
 pub returns-in_err-log-clause-cause : goal.returns-in_err-log-clause-cause
 returns-in_err-log-clause-cause g c =
     let p = err_from_is_err_and c.from_residual.result c.from_residual.ensures.1 in
-    rw (p.1, p.2) (fails_on _ _ _ _ c.in_err-log.field-0.0 (λ risen. risen) (λ f place there told. in_blocks f place (there told)) c.in_err-log.ensures.cause)
+    rw (p.1, p.2) (fails_on _ _ _ _ c.in_err-log.field-0.0 (λ risen. risen) (λ f place there files agree. in_blocks f place (there files agree)) c.in_err-log.ensures.cause)
 
 pub returns-in_err-log-clause-whole : goal.returns-in_err-log-clause-whole
 returns-in_err-log-clause-whole g c told active header groups is =
     let old = g.M.Machine.disk c.args.m.now in
     let p = err_from_is_err_and c.from_residual.result c.from_residual.ensures.1 in
-    rw (p.1, p.2) (none_told _ _ c.in_err-log.field-0.0 (λ f place fault. no_first_log_fault active header _ old.reads f place (log_of (g.O.Oper.meaning c.args.b) is) (fault told)) c.in_err-log.ensures.cause)
+    rw (p.1, p.2) (none_told _ _ c.in_err-log.field-0.0 (λ f place fault. no_first_log_fault active header _ old.reads f place (log_of (g.O.Oper.meaning c.args.b) is) (fault old.reads (told_agrees c.load.ensures.kept told))) c.in_err-log.ensures.cause)
 
 pub returns-in_err-counted-clause-cause : goal.returns-in_err-counted-clause-cause
 returns-in_err-counted-clause-cause g c =
     let old = g.M.Machine.disk c.args.m.now in
     let mid = g.M.Machine.disk c.load.new.machine in
     let new = g.M.Machine.disk c.count_records.new.m in
-    let m = g.O.Oper.meaning c.args.b in
+    let log = c.in_ok-log.log in
     let p = err_from_is_err_and c.from_residual-in_err-counted.result c.from_residual-in_err-counted.ensures.1 in
     rw (p.1, p.2) (fails_on _ _ _ _ c.in_err-counted.field-0.0 (rises_before old mid new c.load.ensures.kept)
-    (λ f place there told.
-    let read = c.in_ok-log.ensures.read told in
-    let same = c.load.ensures.kept.reads told in
-    let file = c.in_ok-log.log.active in
-    let whole = subst (λ (fs : Files). IsWholeLog c.in_ok-log.log.header read.0 (fs file)) (sym same) read.1.log in
-    let fault = there.1 (c.load.ensures.kept.time.files_told.0 told) read.0 whole in
-    let here = subst (λ (fs : Files). IsRecordFault m (fs file) place) same fault in
-    let has = has_header c.in_ok-log.log.header read.0 (old.reads file) read.1.log in
-    subst (λ (x : FileNo). IsLoadFault m old.reads x place) (sym there.0) (in_record file c.in_ok-log.log.header place read.1.in_force has here))
+    (λ f place there files agree.
+    let read = c.in_ok-log.ensures.read files (agreed_before c.count_records.ensures.kept files agree) in
+    record_fails (g.O.Oper.meaning c.args.b) log.header read.0 files log.active f place read.1 there.0 (there.1 files agree read.0 read.1.log))
     c.in_err-counted.ensures.cause)
 
 pub returns-in_err-counted-clause-whole : goal.returns-in_err-counted-clause-whole
@@ -54,18 +43,15 @@ returns-in_err-counted-clause-whole g c told active header groups is =
     let mid = g.M.Machine.disk c.load.new.machine in
     let new = g.M.Machine.disk c.count_records.new.m in
     let m = g.O.Oper.meaning c.args.b in
+    let log = c.in_ok-log.log in
     let small : IsSmall c.args.b = record { objects = omega arith; cap = omega arith } in
+    let agree = told_agrees (stays_twice old mid new c.load.ensures.kept c.count_records.ensures.kept) told in
     let p = err_from_is_err_and c.from_residual-in_err-counted.result c.from_residual-in_err-counted.ensures.1 in
     rw (p.1, p.2) (none_told _ _ c.in_err-counted.field-0.0
     (λ f place there.
-    let read = c.in_ok-log.ensures.read told in
-    let same = c.load.ensures.kept.reads told in
-    let file = c.in_ok-log.log.active in
-    let whole = subst (λ (fs : Files). IsWholeLog c.in_ok-log.log.header read.0 (fs file)) (sym same) read.1.log in
-    let fault = there.1 (c.load.ensures.kept.time.files_told.0 told) read.0 whole in
-    let here = subst (λ (fs : Files). IsRecordFault m (fs file) place) same fault in
-    let has = has_header c.in_ok-log.log.header read.0 (old.reads file) read.1.log in
-    no_load_fault m (has_codes m c.args.b small (g.met.O.Oper.bounded c.args.b) (g.met.O.Oper.lawful c.args.b small)) active header groups old.reads file place is (in_record file c.in_ok-log.log.header place read.1.in_force has here))
+    let read = c.in_ok-log.ensures.read old.reads (told_agrees c.load.ensures.kept told) in
+    no_load_fault m (has_codes m c.args.b small (g.met.O.Oper.bounded c.args.b) (g.met.O.Oper.lawful c.args.b small)) active header groups old.reads f place is
+    (record_fails m log.header read.0 old.reads log.active f place read.1 there.0 (there.1 old.reads agree read.0 read.1.log)))
     c.in_err-counted.ensures.cause)
 
 pub returns-clause-read : goal.returns-clause-read
@@ -73,22 +59,24 @@ returns-clause-read g c told =
     let old = g.M.Machine.disk c.args.m.now in
     let mid = g.M.Machine.disk c.load.new.machine in
     let new = g.M.Machine.disk c.count_records.new.m in
-    let m = g.O.Oper.meaning c.args.b in
-    let read = c.in_ok-log.ensures.read told in
-    let same = c.load.ensures.kept.reads told in
-    let file = c.in_ok-log.log.active in
-    let whole = subst (λ (fs : Files). IsWholeLog c.in_ok-log.log.header read.0 (fs file)) (sym same) read.1.log in
+    let kept = stays_twice old mid new c.load.ensures.kept c.count_records.ensures.kept in
+    let read = c.in_ok-log.ensures.read old.reads (told_agrees c.load.ensures.kept told) in
     let counted = c.in_ok-counted.ensures.counted in
-    let groups = counted.1.read (c.load.ensures.kept.time.files_told.0 told) read.0 whole in
-    let loaded = is_loaded m c.args.b old new _ read.0 counted.0 c.in_ok-counted.counted.commands told (stays_twice old mid new c.load.ensures.kept c.count_records.ensures.kept)
-    read.1 read.2 read.3 refl groups counted.1.placed counted.2.next counted.2.commands
+    let groups = counted.1.read old.reads (told_agrees kept told) read.0 read.1.log in
+    let loaded = is_loaded (g.O.Oper.meaning c.args.b) c.args.b old new _ read.0 counted.0 c.in_ok-counted.counted.commands told kept read.1 read.2 read.3 refl groups counted.1.placed counted.2.next counted.2.commands
     (c.saturating_add-accepted.ensures ∙ ap (λ (n : ℕ). min (n + c.in_ok-counted.counted.commands) (2 ^ 64 - 1)) c.commands.ensures) refl in
     (loaded.0, counted.2.last ∙ ap (λ (l : List (Record g.row.O.Denot)). last_check l) loaded.1)
+
+pub returns-clause-held : goal.returns-clause-held
+returns-clause-held g c files agree =
+    let read = c.in_ok-log.ensures.read files (agreed_before c.count_records.ensures.kept files agree) in
+    let counted = c.in_ok-counted.ensures.counted in
+    is_held (g.O.Oper.meaning c.args.b) files _ read.0 counted.0 read.1 (counted.1.read files agree read.0 read.1.log) counted.1.placed counted.2.next
 
 pub returns-clause-counted : goal.returns-clause-counted
 returns-clause-counted g c =
     let counted = c.in_ok-counted.ensures.counted in
-    (counted.0, all_before (g.O.Oper.meaning c.args.b) (g.M.Machine.disk c.args.m.now) (g.M.Machine.disk c.load.new.machine) c.in_ok-log.log counted.0 c.load.ensures.kept counted.1, counted.2.next, counted.2.last)
+    (counted.0, counted.1, counted.2.next, counted.2.last)
 
 pub returns-clause-kept : goal.returns-clause-kept
 returns-clause-kept g c = stays_twice (g.M.Machine.disk c.args.m.now) (g.M.Machine.disk c.load.new.machine) (g.M.Machine.disk c.count_records.new.m) c.load.ensures.kept c.count_records.ensures.kept

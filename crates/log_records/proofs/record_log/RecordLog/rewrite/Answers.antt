@@ -52,7 +52,7 @@ returns-in_err-rewrite-clause-cause g c =
     let m = g.O.Oper.meaning now.bounds in
     let bytes = bytes_of c.as_slice.result.now in
     let p = err_from_is_err_and c.from_residual-in_err-rewrite.result c.from_residual-in_err-rewrite.ensures.1 in
-    rw (p.1, p.2) (rewrite_fails old mid new now.log bytes (IsTailFault m old now.log) (IsNewLength m old now c.args.base c.args.table) c.in_err-rewrite.field-0.0 c.new_blocks.ensures.kept
+    rw (p.1, p.2) (rewrite_fails old mid new now.log bytes (IsTailFault m new now.log) (IsNewLength m old now c.args.base c.args.table) c.in_err-rewrite.field-0.0 c.new_blocks.ensures.kept
     (λ told stable keeps. ap file_length (ap bytes_of c.as_slice.ensures.value ∙ (c.in_ok-payloads.ensures.made told stable keeps).0))
     (subst (λ (v : RecordLogView). Below (Rises mid.disk_faults new.disk_faults) v.log bytes c.in_err-rewrite.field-0.0) c.self.view_is c.in_err-rewrite.ensures.cause))
 

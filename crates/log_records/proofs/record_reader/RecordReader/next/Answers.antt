@@ -3,30 +3,28 @@ use Rattle.oper_core.specs.declared.bounds.Bounds.{Bounds}
 use Rattle.log_frames.specs.Payloads.{remaining}
 use Rattle.log_records.specs.Loading.{IsTailFault}
 use Rattle.log_records.specs.RecordReader.{RecordReaderView, IsReading, HasGoneOn}
-use Rattle.log_records.proofs.Passing.{reading_stays, reading_searched, reading_more, reading_broken, fault_before}
+use Rattle.log_records.proofs.Passing.{reading_searched, reading_more, reading_broken}
 use Rattle.log_records.proofs.record_reader.RecordReader.next.Goals as goal
 
 pub returns-in_default-clause-cause : goal.returns-in_default-clause-cause
 returns-in_default-clause-cause g c log records is =
-    let old = g.M.Machine.disk c.args.m.now in
     let mid = g.M.Machine.disk c.go_on.new.m in
+    let new = g.M.Machine.disk c.find_record.new.m in
     let r = c.self.inside in
     let m = g.O.Oper.meaning r.bounds in
     let it : RecordReaderView = record { bounds = r.bounds; base = r.base; next = r.next; payloads = r.payloads } in
     let searched = c.find_record.new.payloads in
     let bounds : r.bounds ≡ c.args.self.now.bounds = ap (λ (v : RecordReaderView). v.bounds) (c.self.view_is ∙ c.go_on.ensures.same) in
-    let went = subst (λ (more : Bool). HasGoneOn (g.O.Oper.meaning c.args.self.now.bounds) old log c.go_on.new.self records more) c.if-not-branch.false (c.in_ok-go_on.ensures.read log records is) in
-    let found = reading_searched g.O.Oper.meaning c.args.self.now.bounds r.bounds old mid log c.go_on.new.self it searched records c.self.view_is bounds c.go_on.ensures.kept went c.find_record.ensures.file c.in_ok-found.ensures.read in
+    let went = subst (λ (more : Bool). HasGoneOn (g.O.Oper.meaning c.args.self.now.bounds) mid log c.go_on.new.self records more) c.if-not-branch.false (c.in_ok-go_on.ensures.read log records is) in
+    let found = reading_searched g.O.Oper.meaning c.args.self.now.bounds r.bounds mid new log c.go_on.new.self it searched records c.self.view_is bounds c.find_record.ensures.kept went c.find_record.ensures.file c.in_ok-found.ensures.read in
     let none = rw c.in_default.is at c.in_ok-found.ensures.none in
     let more = c.in_ok-go_on.ensures.some c.if-not-branch.false in
     let some : 0 < remaining searched = omega (arith, more.0, c.in_ok-found.ensures.all.0, ap (λ (v : RecordReaderView). remaining v.payloads) c.self.view_is) in
-    subst (λ (b : Bounds). IsTailFault (g.O.Oper.meaning b) old log c.file.result c.place.result) bounds
-    (fault_before m old mid log c.file.result c.place.result c.go_on.ensures.kept
-    (reading_broken m mid log (record it { payloads = searched }) records c.file.result c.place.result found none.0 some none.1 c.file.ensures c.place.ensures))
+    subst (λ (b : Bounds). IsTailFault (g.O.Oper.meaning b) new log c.file.result c.place.result) bounds
+    (reading_broken m new log (record it { payloads = searched }) records c.file.result c.place.result found none.0 some none.1 c.file.ensures c.place.ensures)
 
 pub returns-clause-read : goal.returns-clause-read
 returns-clause-read g c log records is =
-    let old = g.M.Machine.disk c.args.m.now in
     let mid = g.M.Machine.disk c.go_on.new.m in
     let new = g.M.Machine.disk c.find_record.new.m in
     let r = c.self.inside in
@@ -35,12 +33,11 @@ returns-clause-read g c log records is =
     let searched = c.find_record.new.payloads in
     let found = c.in-Some.record in
     let bounds : r.bounds ≡ c.args.self.now.bounds = ap (λ (v : RecordReaderView). v.bounds) (c.self.view_is ∙ c.go_on.ensures.same) in
-    let went = subst (λ (more : Bool). HasGoneOn (g.O.Oper.meaning c.args.self.now.bounds) old log c.go_on.new.self records more) c.if-not-branch.false (c.in_ok-go_on.ensures.read log records is) in
-    let reading = reading_searched g.O.Oper.meaning c.args.self.now.bounds r.bounds old mid log c.go_on.new.self it searched records c.self.view_is bounds c.go_on.ensures.kept went c.find_record.ensures.file c.in_ok-found.ensures.read in
+    let went = subst (λ (more : Bool). HasGoneOn (g.O.Oper.meaning c.args.self.now.bounds) mid log c.go_on.new.self records more) c.if-not-branch.false (c.in_ok-go_on.ensures.read log records is) in
+    let reading = reading_searched g.O.Oper.meaning c.args.self.now.bounds r.bounds mid new log c.go_on.new.self it searched records c.self.view_is bounds c.find_record.ensures.kept went c.find_record.ensures.file c.in_ok-found.ensures.read in
     let some = rw c.in-Some.is at c.in_ok-found.ensures.some in
     let file = ap (λ v. v.file) c.take.ensures.took in
     let behind = c.next_behind-self-inside.ensures m r.base some.1 in
-    let last = reading_more m mid log (record it { payloads = searched }) c.take.new.self records found c.in-Some.length c.next_behind-self-inside.result reading some.0 some.1 some.2 some.3 behind file c.take.ensures.read in
+    let last = reading_more m new log (record it { payloads = searched }) c.take.new.self records found c.in-Some.length c.next_behind-self-inside.result reading some.0 some.1 some.2 some.3 behind file c.take.ensures.read in
     let after : RecordReaderView = record { bounds = r.bounds; base = r.base; next = c.next_behind-self-inside.result; payloads = c.take.new.self } in
-    subst (λ (b : Bounds). IsReading (g.O.Oper.meaning b) new log after (records ++ found ∷ [])) bounds
-    (reading_stays m mid new log after (records ++ found ∷ []) c.find_record.ensures.kept last)
+    subst (λ (b : Bounds). IsReading (g.O.Oper.meaning b) new log after (records ++ found ∷ [])) bounds last

@@ -3,8 +3,8 @@ use Rattle.std.proofs.lemmas.Result.{err_from_is_err_and}
 use Rattle.disk_model.specs.Moments.{stays_twice}
 use Rattle.formats.specs.declared.record.Record.{Record}
 use Rattle.log_records.specs.RecordReader.{IsReading}
-use Rattle.log_records.proofs.Passing.{all_before, next_found, next_ended, next_fails}
-use Rattle.log_records.proofs.tail.stable_records.Goals as goal
+use Rattle.log_records.proofs.Passing.{next_found, next_ended, next_fails}
+use Rattle.log_records.proofs.stable.stable_records.Goals as goal
 
 pub loop-found-init : goal.loop-found-init
 loop-found-init g c = record {
@@ -38,12 +38,8 @@ returns-in_err-record-clause-cause g c =
 pub returns-clause-all : goal.returns-clause-all
 returns-clause-all g c =
     let inv = c.loop-found.invariant in
-    let m = g.O.Oper.meaning c.args.b in
-    let first = g.M.Machine.disk c.args.m.now in
-    let mid = g.M.Machine.disk c.loop-found.m in
-    let new = g.M.Machine.disk c.next.new.m in
-    let ended = next_ended g.O.Oper.meaning c.args.b mid new c.args.log.now c.loop-found.reader c.next.new.self c.loop-found.found.items inv.bounds inv.reading c.in_ok-record.field-0 c.in_default.is c.in_ok-record.ensures.read in
-    all_before m first new c.args.log.now c.loop-found.found.items (stays_twice first mid new inv.kept c.next.ensures.kept) ended.0
+    (next_ended g.O.Oper.meaning c.args.b (g.M.Machine.disk c.loop-found.m) (g.M.Machine.disk c.next.new.m) c.args.log.now c.loop-found.reader c.next.new.self c.loop-found.found.items inv.bounds inv.reading c.in_ok-record.field-0
+    c.in_default.is c.in_ok-record.ensures.read).0
 
 pub returns-in_err-record-clause-kept : goal.returns-in_err-record-clause-kept
 returns-in_err-record-clause-kept g c =

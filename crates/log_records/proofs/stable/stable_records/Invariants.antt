@@ -6,7 +6,7 @@ use Rattle.formats.specs.declared.record.Record.{Record}
 use Rattle.log_frames.specs.LogView.{LogView}
 use Rattle.log_frames.specs.Payloads.{ahead}
 use Rattle.log_records.specs.RecordReader.{RecordReaderView, IsReading}
-use Rattle.log_records.proofs.tail.stable_records.Given as goal
+use Rattle.log_records.proofs.stable.stable_records.Given as goal
 
 -- the records that were read are kept
 pub record IsKeeping {O : Type 0} (m : Meaning O) (b : Bounds) (log : LogView) (first now : Disk) (it : RecordReaderView) (found : List (Record O)) : Type 0 where
