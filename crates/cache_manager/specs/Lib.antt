@@ -1,5 +1,6 @@
 pub mod Laid
 pub mod LaidLaws
+pub mod LongSlot
 pub mod Courses
 pub mod CourseLaws
 pub mod Running

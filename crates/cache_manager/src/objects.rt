@@ -1,16 +1,17 @@
 // The objects of a store in use: a cache, laid over the slots.
 ghost use Rattle.std.specs.Prelude.{◌≡◌, ◌<◌, ◌≤◌, ◌+◌, ◌*◌, ◌&&◌, ◌||◌, ℕ, All, List, length, map, None, Some, IsSome, IfSome, IfNone, OnOk, OnErr, IfOk, IfErr, IsErrOf};
-ghost use Rattle.disk_model.specs.Disk.{Rises, Stays};
+ghost use Rattle.disk_model.specs.Disk.{Files, Rises, Stays};
 ghost use Rattle.disk_model.specs.declared.machine.FileNo.TheVariants.{Objects as ObjectsFile};
 ghost use Rattle.formats.specs.Bytes.{IsOpenAt, IsClosedAt};
 ghost use Rattle.formats.specs.Objects.{IsInRange, IsObjectsFile, bounds_of, slot_place};
 ghost use Rattle.formats.specs.declared.params.Params.{Params as Numbers};
 ghost use Rattle.stable_objects.specs.Reading.{FailsBy, FailsAt, IsDamagedAt, IsNoDamage};
-ghost use Rattle.stable_objects.specs.SlotsView.{AreOf, IsLate, id_in};
+ghost use Rattle.stable_objects.specs.SlotsView.{IsLate, id_in};
 ghost use Rattle.oper_core.specs.State.{is_among};
 ghost use Rattle.dirty_cache.specs.Contents.{held, is_dirty, AreDirty, HasRoom};
 ghost use Rattle.cache_manager.specs.Fetched.{IsFetched};
 ghost use Rattle.cache_manager.specs.Laid.{IsLaidOn, values_in, id_at, KeepsCells, with_chosen, with_entries};
+ghost use Rattle.cache_manager.specs.LongSlot.{IsLongSlot};
 
 use dirty_cache::Cache;
 use disk_model::Machine;
@@ -48,13 +49,13 @@ impl Objects {
     ) -> Result<Objects, SlotErr>
         requires { 0 < clean }
         ensures kept { Stays (M.disk machine.old) (M.disk machine.new) }
-        ensures read { (M.disk machine.old).tells_files → IfOk result (λ o. IsLaidOn o ((M.disk machine.old).reads ObjectsFile)) }
+        ensures read { (files : Files) → (M.disk machine.new).agrees files → IfOk result (λ o. IsLaidOn o (files ObjectsFile)) }
         ensures empty { IfOk result (λ o. (x : ℕ) → held o.cache x ≡ None) }
         ensures cause { IfErr result (FailsBy (Rises (M.disk machine.old).disk_faults (M.disk machine.new).disk_faults)
-            ((M.disk machine.old).tells_files → IsClosedAt 0 ((M.disk machine.old).reads ObjectsFile))
-            (FailsAt (λ place. (M.disk machine.old).tells_files → IsDamagedAt ((M.disk machine.old).reads ObjectsFile) place))) }
-        ensures whole { (M.disk machine.old).tells_files → (p : Numbers) → IsObjectsFile p ((M.disk machine.old).reads ObjectsFile) → IfErr result IsNoDamage }
-        ensures memory { (M.disk machine.old).tells_files → IsErrOf result SlotErr.Memory → IsOpenAt 0 ((M.disk machine.old).reads ObjectsFile) }
+            ((files : Files) → (M.disk machine.new).agrees files → IsClosedAt 0 (files ObjectsFile))
+            (FailsAt (λ place. (files : Files) → (M.disk machine.new).agrees files → IsDamagedAt (files ObjectsFile) place))) }
+        ensures whole { (files : Files) → (M.disk machine.new).agrees files → (p : Numbers) → IsObjectsFile p (files ObjectsFile) → IfErr result IsNoDamage }
+        ensures memory { (files : Files) → (M.disk machine.new).agrees files → IsErrOf result SlotErr.Memory → IsOpenAt 0 (files ObjectsFile) }
     {
         let slots = Slots::load(alloc, machine)?;
         let cache = Cache::new(alloc, clean)?;
@@ -135,7 +136,7 @@ impl Objects {
         ensures known { IsSome (held self.old.cache object) → machine.new ≡ machine.old }
         ensures none { id_in self.old.slots object ≡ 0 → (machine.new ≡ machine.old) × IfErr result (λ e. e ≡ SlotErr.Memory) }
         ensures cause { IfErr result (FailsBy (Rises (M.disk machine.old).disk_faults (M.disk machine.new).disk_faults) ⊥
-            (λ file place. (file ≡ ObjectsFile) × ((M.disk machine.old).tells_files → AreOf self.old.slots ((M.disk machine.old).reads ObjectsFile) → ⊥))) }
+            (IsLongSlot (M.disk machine.new) self.old.slots)) }
     {
         if self.is_cached(object) {
             return Ok(());
@@ -169,7 +170,7 @@ impl Objects {
         ensures none { All (λ x. id_in self.old.slots x ≡ 0) objects.now → (machine.new ≡ machine.old) × IfErr result (λ e. e ≡ SlotErr.Memory) }
         ensures some { OnErr result (0 < length objects.now) }
         ensures cause { IfErr result (FailsBy (Rises (M.disk machine.old).disk_faults (M.disk machine.new).disk_faults) ⊥
-            (λ file place. (file ≡ ObjectsFile) × ((M.disk machine.old).tells_files → AreOf self.old.slots ((M.disk machine.old).reads ObjectsFile) → ⊥))) }
+            (IsLongSlot (M.disk machine.new) self.old.slots)) }
     {
         let mut values = Values::new(self.alloc);
         for object in objects {

@@ -11,15 +11,12 @@ use Rattle.oper_core.specs.declared.bounds.Bounds.{Bounds}
 use Rattle.checkpoint.specs.declared.table.Table.{Table}
 use Rattle.formats.specs.InForce.{other_of}
 use Rattle.formats.specs.Objects.{IsObjectsFile, bounds_of}
-use Rattle.formats.specs.Image.{IsRecordFault}
-use Rattle.formats.specs.Log.{IsWholeLog}
 use Rattle.formats.specs.declared.params.Params.{Params}
 use Rattle.formats.specs.declared.record.Record.{Record}
 use Rattle.log_frames.specs.Rewriting.{file_length}
 use Rattle.log_frames.specs.LogView.{LogView, used_of}
 use Rattle.log_frames.specs.declared.log_err.LogErr.{LogErr}
 use Rattle.log_frames.specs.declared.log_err.LogErr.TheVariants as of_log
-use Rattle.log_records.specs.Loading.{IsTailFault}
 use Rattle.log_records.specs.RecordLog.{RecordLogView, Keeps}
 use Rattle.log_records.specs.Rewriting.{IsNewLength, IsRewritable, IsRewrittenPartly, IsWithinLength, RewriteFails, new_payloads, rewritten_log, rewritten_records}
 use Rattle.explain_core.specs.Sound.{IsSound}
@@ -234,24 +231,13 @@ module _ {O : Type 0} (meaning : Bounds → Meaning O) (epoch : ℕ) (early : ep
       same_course meaning old new before after _ (λ m w used. trim_course m epoch w used) ending (λ m w used. cond-false (nat_le last_epoch epoch) _ _ (not_worn m w used))
       (takes_then meaning (λ m w used. force_course m w used) (λ m v used. rewrite_course m v used) old mid new before here after ending runs first second)
 
--- a fault of the log's records is still there where no file changed
-tail_still : {O : Type 0} (m : Meaning O) (old new : Disk) (log : LogView) (file : FileNo) (place : ℕ) → Stays old new → IsTailFault m old log file place → IsTailFault m new log file place
-tail_still m old new log file place stays fault =
-    let still : new.tells_files → (payloads : List (List ℕ)) → IsWholeLog log.header payloads (new.reads log.active) → IsRecordFault m (new.reads log.active) place =
-    λ told payloads whole.
-    let told_old = stays.time.files_told.1 told in
-    let same = stays.reads told_old in
-    subst (λ (f : Files). IsRecordFault m (f log.active) place) (sym same) (fault.1 told_old payloads (subst (λ (f : Files). IsWholeLog log.header payloads (f log.active)) same whole)) in
-    (fault.0, still)
-
 -- what is reported to be damaged
-pub damage_told : {O : Type 0} (m : Meaning O) (old new : Disk) (log : LogView) (rises : Type 0) (length_is : ℕ → Type 0) (e : LogErr) → RewriteFails rises (IsTailFault m old log) length_is log e
-    → (e ≢ of_log.DiskFault → Stays old new) → DamagedBy (IsTailFault m new log) (from_log e)
-damage_told m old new log rises length_is of_log.DiskFault cause stays = tt
-damage_told m old new log rises length_is (of_log.LogFull len need limit) cause stays = tt
-damage_told m old new log rises length_is (of_log.Damaged file place) cause stays = tail_still m old new log file place (stays (λ e. cc)) cause.0
-damage_told m old new log rises length_is (of_log.Exhausted epoch) cause stays = tt
-damage_told m old new log rises length_is of_log.Memory cause stays = tt
+pub damage_told : (rises : Type 0) (fault : FileNo → ℕ → Type 0) (length_is : ℕ → Type 0) (log : LogView) (e : LogErr) → RewriteFails rises fault length_is log e → DamagedBy fault (from_log e)
+damage_told rises fault length_is log of_log.DiskFault cause = tt
+damage_told rises fault length_is log (of_log.LogFull len need limit) cause = tt
+damage_told rises fault length_is log (of_log.Damaged file place) cause = cause.0
+damage_told rises fault length_is log (of_log.Exhausted epoch) cause = tt
+damage_told rises fault length_is log of_log.Memory cause = tt
 
 -- what is reported to be too long
 pub long_told : (rises : Type 0) (fault : FileNo → ℕ → Type 0) (length_is : ℕ → Type 0) (log : LogView) (e : LogErr) → RewriteFails rises fault length_is log e → IsTooLong (from_log e)

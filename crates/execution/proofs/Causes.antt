@@ -1,7 +1,7 @@
 -- Each answer comes exactly where its cause holds.
 use Rattle.std.proofs.Common.{◌≡◌, ◌∙◌, subst, ℕ, ◌+◌, ◌<◌, length, refl, arith, inl, inr, ⊎_elim}
 use Rattle.std.specs.Prelude.{None, Some, Ok, Err}
-use Rattle.disk_model.specs.Disk.{Disk}
+use Rattle.disk_model.specs.Disk.{Disk, Stays}
 use Rattle.oper_core.specs.Meaning.{Meaning, IsInGrammar}
 use Rattle.oper_core.specs.declared.bounds.Bounds.{Bounds}
 use Rattle.oper_core.specs.declared.refusal.Refusal.{Refusal}
@@ -9,6 +9,7 @@ use Rattle.formats.specs.declared.params.Params.{Params}
 use Rattle.log_frames.specs.LogView.{used_of}
 use Rattle.explain_core.specs.World.{World}
 use Rattle.cache_manager.specs.Appended.{next_number}
+use Rattle.cache_manager.specs.LongSlot.{long_untold}
 use Rattle.cache_manager.specs.Parts.{Parts, Shows, meaning_in}
 use Rattle.execution.specs.Answers.{HasCause}
 use Rattle.execution.specs.Counted.{accepted_shown}
@@ -29,14 +30,14 @@ module _ {O : Type 0} (meaning : Bounds → Meaning O) (p : Params) (d new : Dis
   same = shows.store.params
 
   -- one that is not admitted
-  pub admit_cause : (e : ExecErr) → IsAdmitFailure meaning q op d new it.store.objects e → ((r : Refusal) → e ≡ Refused r → refusal_in m w op ≡ Some r)
+  pub admit_cause : (e : ExecErr) → Stays d new → IsAdmitFailure meaning q op d new it.store.objects e → ((r : Refusal) → e ≡ Refused r → refusal_in m w op ≡ Some r)
       → (e ≡ DiskFault → IsInGrammar (meaning_in meaning q) op × (0 < length ((meaning_in meaning q).reads op))) → HasCause m p.limit w (used_of it.log.log) op (Err e)
-  admit_cause (Refused refusal) fails refused fault = refused refusal refl
-  admit_cause DiskFault fails refused fault = inl (subst (λ (b : Params). IsInGrammar (meaning_in meaning b) op × (0 < length ((meaning_in meaning b).reads op))) same (fault refl))
-  admit_cause (Damaged file place) fails refused fault = fails.1 shows.told shows.store.laid
-  admit_cause (LogFull used need limit) fails refused fault = absurd fails
-  admit_cause (LsnEnd number) fails refused fault = absurd fails
-  admit_cause Memory fails refused fault = tt
+  admit_cause (Refused refusal) stays fails refused fault = refused refusal refl
+  admit_cause DiskFault stays fails refused fault = inl (subst (λ (b : Params). IsInGrammar (meaning_in meaning b) op × (0 < length ((meaning_in meaning b).reads op))) same (fault refl))
+  admit_cause (Damaged file place) stays fails refused fault = long_untold it.store.objects.slots file place stays shows.told shows.store.laid.slots fails
+  admit_cause (LogFull used need limit) stays fails refused fault = absurd fails
+  admit_cause (LsnEnd number) stays fails refused fault = absurd fails
+  admit_cause Memory stays fails refused fault = tt
 
   module _ (accepted : refusal_in m w op ≡ None) where
     -- one that gets no place

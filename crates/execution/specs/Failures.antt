@@ -1,7 +1,6 @@
 -- Why a command is not done, on every machine.
 use Rattle.std.specs.Prelude.{◌≡◌, ◌⊎◌, ◌+◌, ◌<◌, ◌≤◌, ◌^◌, ⊤, ℕ, List, length, None, Some}
 use Rattle.disk_model.specs.Disk.{Disk, Rises}
-use Rattle.disk_model.specs.declared.machine.FileNo.TheVariants.{Objects}
 use Rattle.oper_core.specs.Meaning.{Meaning, FitsReads}
 use Rattle.oper_core.specs.declared.bounds.Bounds.{Bounds}
 use Rattle.oper_core.specs.declared.refusal.Refusal.{Refusal}
@@ -10,7 +9,8 @@ use Rattle.log_frames.specs.LogView.{used_of, growth_of}
 use Rattle.log_records.specs.RecordLog.{RecordLogView}
 use Rattle.stable_objects.specs.declared.slot_err.SlotErr.{SlotErr}
 use Rattle.stable_objects.specs.declared.slot_err.SlotErr.TheVariants as of_slots
-use Rattle.cache_manager.specs.Laid.{Laid, IsLaidOn}
+use Rattle.cache_manager.specs.Laid.{Laid}
+use Rattle.cache_manager.specs.LongSlot.{IsLongSlot}
 use Rattle.cache_manager.specs.Parts.{Parts, meaning_in}
 use Rattle.execution.specs.Courses.{command_length}
 use Rattle.execution.specs.declared.exec_err.ExecErr.{ExecErr}
@@ -41,11 +41,10 @@ LacksPlace limit log n (Refused refusal) = ⊥
 LacksPlace limit log n (Damaged file place) = ⊥
 LacksPlace limit log n Memory = ⊥
 
--- Why a slot is not read: by a fault of the disk, which then counts it, by damage of the objects file, which no file has
--- that the objects are laid on, or out of memory.
+-- Why a slot is not read: by a fault of the disk, which then counts it, by a value that is too long there, or out of memory.
 abbrev pub IsReadFailure : Disk → Disk → Laid → ExecErr → Type 0
 IsReadFailure old new objects DiskFault = Rises old.disk_faults new.disk_faults
-IsReadFailure old new objects (Damaged file place) = (file ≡ Objects) × (old.tells_files → IsLaidOn objects (old.reads Objects) → ⊥)
+IsReadFailure old new objects (Damaged file place) = IsLongSlot new objects.slots file place
 IsReadFailure old new objects Memory = ⊤
 IsReadFailure old new objects (Refused refusal) = ⊥
 IsReadFailure old new objects (LogFull used need limit) = ⊥

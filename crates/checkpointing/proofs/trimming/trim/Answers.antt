@@ -120,7 +120,7 @@ returns-in_err-rewrite-clause-takes g c =
       moments = λ told p w shows. c.force_all.ensures.moments told p it w shows;
     } in
     let rewritten = rewrite_ends meaning g.met.O.Oper.lawful mid log it none table check c.in_ok-table.ensures.now least.result from high each greatest new c.rewrite.ensures.any_moment c.rewrite.ensures.long
-    (IsTailFault (meaning log.bounds) mid log.log) (Rises mid.disk_faults new.disk_faults) e (omega (arith, early, same_epoch)) c.in_err-rewrite.ensures.cause c.in_err-rewrite.ensures.refused in
+    (IsTailFault (meaning log.bounds) new log.log) (Rises mid.disk_faults new.disk_faults) e (omega (arith, early, same_epoch)) c.in_err-rewrite.ensures.cause c.in_err-rewrite.ensures.refused in
     subst (λ (k : Ending). Takes meaning d new before (parts c.rewrite.new.self c.args.objects.now c.args.graph.now.entries) (λ m w used. trim_course m epoch w used) k)
     (ends_by c.from_residual-in_err-rewrite.result (from_log e) c.from_residual-in_err-rewrite.ensures.1)
     (subst (λ (r : RecordLogView). Takes meaning d new before (parts r c.args.objects.now c.args.graph.now.entries) (λ m w used. trim_course m epoch w used) (ending_of {T = Unit {0}} (Err (from_log e)))) (sym c.in_err-rewrite.ensures.kept)
@@ -157,7 +157,7 @@ returns-in_err-rewrite-clause-damage g c =
     let log = c.force_all.new.log in
     let m = g.O.Oper.meaning log.bounds in
     let e = c.in_err-rewrite.field-0.0 in
-    let told = damage_told m mid new log.log (Rises mid.disk_faults new.disk_faults) (IsNewLength m mid log c.least_start-base.result c.in_ok-table.table) e c.in_err-rewrite.ensures.cause c.in_err-rewrite.ensures.refused in
+    let told = damage_told (Rises mid.disk_faults new.disk_faults) (IsTailFault m new log.log) (IsNewLength m mid log c.least_start-base.result c.in_ok-table.table) log.log e c.in_err-rewrite.ensures.cause in
     let p = err_from_is_err_and c.from_residual-in_err-rewrite.result c.from_residual-in_err-rewrite.ensures.1 in
     rw (p.1, p.2) (subst (λ (r : RecordLogView). DamagedBy (IsTailFault (g.O.Oper.meaning r.bounds) new r.log) (from_log e)) (sym c.in_err-rewrite.ensures.kept) told)
 
@@ -221,10 +221,11 @@ returns-clause-kept g c =
 pub returns-in_err-rewrite-clause-long : goal.returns-in_err-rewrite-clause-long
 returns-in_err-rewrite-clause-long g c =
     let mid = g.M.Machine.disk c.force_all.new.machine in
+    let new = g.M.Machine.disk c.rewrite.new.m in
     let log = c.force_all.new.log in
     let m = g.O.Oper.meaning log.bounds in
     let e = c.in_err-rewrite.field-0.0 in
-    let told = long_told (Rises mid.disk_faults (g.M.Machine.disk c.rewrite.new.m).disk_faults) (IsTailFault m mid log.log) (IsNewLength m mid log c.least_start-base.result c.in_ok-table.table) log.log e c.in_err-rewrite.ensures.cause in
+    let told = long_told (Rises mid.disk_faults new.disk_faults) (IsTailFault m new log.log) (IsNewLength m mid log c.least_start-base.result c.in_ok-table.table) log.log e c.in_err-rewrite.ensures.cause in
     let p = err_from_is_err_and c.from_residual-in_err-rewrite.result c.from_residual-in_err-rewrite.ensures.1 in
     rw (p.1, p.2) told
 

@@ -1,8 +1,7 @@
-use Rattle.std.proofs.Common.{◌≡◌, ◌∙◌, ◌<◌, ◌≤◌, ℕ, List, ap, arith, length, rules, subst, sym}
+use Rattle.std.proofs.Common.{◌∙◌, ◌<◌, ◌≤◌, ℕ, List, ap, arith, length, rules, subst, sym}
 use Rattle.std.specs.Prelude.{All}
 use Rattle.formats.specs.Objects.{bounds_of}
 use Rattle.formats.specs.declared.params.Params.{Params}
-use Rattle.oper_core.specs.Meaning.{IsLawful}
 use Rattle.oper_core.specs.declared.bounds.Bounds.{Bounds}
 use Rattle.stable_objects.specs.SlotsView.{SlotsView}
 use Rattle.execution.proofs.appending.append_command.Goals as goal

@@ -57,7 +57,7 @@ returns-in_err-values-clause-exactly g c p w shows =
     let before = parts c.args.log.now c.args.objects.now c.args.graph.now.entries in
     let e = c.in_err-values.field-0.0 in
     subst (λ (r : Result ℕ ExecErr). HasCause (meaning_in g.O.Oper.meaning p) p.limit w (used_of c.args.log.now.log) c.args.op r) (sym (err_is c.from_residual.result e c.from_residual.ensures.1))
-    (admit_cause g.O.Oper.meaning p old new before w shows c.args.op e c.in_err-values.ensures.cause
+    (admit_cause g.O.Oper.meaning p old new before w shows c.args.op e c.admit.ensures.read.stays c.in_err-values.ensures.cause
     (λ r is. admit_refused g.O.Oper.meaning c.args.op old new before c.admit.new.objects c.admit.ensures.read g.met.O.Oper.bounded g.met.O.Oper.lawful r
     (λ told laid. c.in_err-values.ensures.refused told laid r (λ i. Err (is i))) p w shows)
     (λ is. c.in_err-values.ensures.fault (λ i. Err (is i))))

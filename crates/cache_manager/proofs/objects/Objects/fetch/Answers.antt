@@ -1,4 +1,5 @@
 use Rattle.std.proofs.Common.{◌≡◌, ◌<◌, sym, subst, ap, ◌∙◌}
+use Rattle.disk_model.specs.Moments.{told_agrees}
 use Rattle.disk_model.specs.declared.machine.FileNo.TheVariants.{Objects}
 use Rattle.formats.specs.Objects.{cell_of}
 use Rattle.stable_objects.specs.SlotsView.{SlotsView, AreOf, id_in}
@@ -25,7 +26,7 @@ returns-clause-cells g c = λ told laid.
     let slots : c.self.inside.slots ≡ c.is_cached.new.self.slots = ap (λ (l : Laid). l.slots) c.self.view_is in
     let are : AreOf c.self.inside.slots file = subst (λ (l : Laid). AreOf l.slots file) (sym c.self.view_is) looked.slots in
     let below : c.args.object < c.self.inside.slots.params.objects = subst (λ (s : _). c.args.object < s.params.objects) (sym (slots ∙ c.is_cached.ensures.slots)) c.requires in
-    let pair = read_pair c.self.inside.slots file c.args.object c.in_ok-lsn.lsn c.read.new.into.items are below c.in_ok-lsn.ensures.id (c.in_ok-lsn.ensures.value told are) in
+    let pair = read_pair c.self.inside.slots file c.args.object c.in_ok-lsn.lsn c.read.new.into.items are below c.in_ok-lsn.ensures.id (c.in_ok-lsn.ensures.value (g.M.Machine.disk c.args.machine.now).reads (told_agrees c.read.ensures.kept told) are) in
     let pair_there = subst (λ (l : Laid). cell_of l.slots.params.cap c.args.object file ≡ record { id = c.in_ok-lsn.lsn; value = c.read.new.into.items }) c.self.view_is pair in
     let kept = c.keep.ensures.cells file looked pair_there in
     (cells_twice file c.args.self.now c.is_cached.new.self c.keep.new.self c.is_cached.ensures.slots (cells_same file c.args.self.now c.is_cached.new.self c.is_cached.ensures.slots c.is_cached.ensures.entries) kept.0, kept.1)
