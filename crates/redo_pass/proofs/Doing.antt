@@ -1,44 +1,46 @@
 -- How far a redo has come in the log's records, over the calls that read the next one.
-use Rattle.std.proofs.Common.{◌≡◌, ◌≢◌, ◌∙◌, refl, inr, sym, ap, subst, ℕ, ◌+◌, ◌≤◌, Option, None, Some, List, [], ◌∷◌, ◌++◌, arith, append_assoc}
+use Rattle.std.proofs.Common.{◌≡◌, ◌∙◌, refl, sym, ap, subst, ℕ, ◌≤◌, Option, None, Some, List, [], ◌∷◌, ◌++◌, arith, append_assoc}
 use Rattle.std.proofs.lemmas.List.{append-nil, append_cancel_left}
 use Rattle.disk_model.specs.Disk.{Files, Disk, IsDisk, Runs, In, Any, Same, Stays, IsSettled}
-use Rattle.disk_model.specs.Moments.{runs_none, runs_then_stays, stays_settled}
+use Rattle.disk_model.specs.Moments.{agreed_before, runs_none, runs_then_stays, stays_settled}
 use Rattle.disk_model.specs.declared.machine.FileNo.{FileNo}
 use Rattle.disk_model.specs.declared.machine.FileNo.TheVariants.{Objects}
 use Rattle.oper_core.specs.Meaning.{Meaning}
 use Rattle.oper_core.specs.declared.bounds.Bounds.{Bounds}
-use Rattle.formats.specs.Image.{IsRecordFault}
-use Rattle.formats.specs.Log.{IsWholeLog}
 use Rattle.formats.specs.Objects.{bounds_of}
 use Rattle.formats.specs.Records.{IsRecord, Rise}
 use Rattle.formats.specs.declared.params.Params.{Params}
 use Rattle.formats.specs.declared.record.Record.{Record}
 use Rattle.log_frames.specs.Reading as frames
-use Rattle.log_frames.specs.LogView.{LogView}
 use Rattle.log_frames.specs.declared.log_err.LogErr.{LogErr}
 use Rattle.log_frames.specs.declared.log_err.LogErr.TheVariants as of_log
 use Rattle.log_records.specs.CodecLaws.{HasCodes}
-use Rattle.log_records.specs.Loading.{IsTailFault}
 use Rattle.log_records.specs.NumberedLaws.{given_first, given_all, given_rise, last_in_grammar, goes_on_beside}
 use Rattle.log_records.specs.NumberedReader.{NumberedReaderView, IsReadingNumbered, AreAllNumbered, HasGiven}
 use Rattle.log_records.specs.RecordLog.{RecordLogView, Keeps}
 use Rattle.log_records.specs.Rewriting.{numbered_from}
 use Rattle.stable_objects.specs.SlotsView.{SlotsView, AreOf}
 use Rattle.dirty_cache.specs.Contents.{held}
+use Rattle.explain_core.specs.Sound.{IsSound}
 use Rattle.explain_core.specs.Turns.{turns}
-use Rattle.explain_core.specs.World.{World, run}
+use Rattle.explain_core.specs.World.{World, run, step}
+use Rattle.explain_core.specs.World.Step.{Replay}
 use Rattle.standing.specs.Moments.{TakesSome}
+use Rattle.standing.specs.Standing.{FilesShow}
 use Rattle.analysis_pass.specs.Analysis.{PlanView}
 use Rattle.cache_manager.specs.Flushed.{AreEarly}
 use Rattle.cache_manager.specs.Laid.{Laid, IsLaidOn}
-use Rattle.cache_manager.specs.Parts.{Store, AreInUse}
+use Rattle.cache_manager.specs.LongSlot.{IsLongSlot, long_untold}
+use Rattle.cache_manager.specs.Parts.{Store, AreInUse, ShowsStore}
 use Rattle.cache_manager.specs.Stored.{keeps_beside}
-use Rattle.redo_pass.specs.Causes.{FailsBy, IsRedoFault, from_log}
+use Rattle.redo_pass.specs.Causes.{FailsBy, IsSlotFault, from_log}
 use Rattle.redo_pass.specs.Progress.{SoFar}
 use Rattle.redo_pass.specs.Redo.{IsLogDue}
+use Rattle.redo_pass.specs.Replayed.{IsNextRecord, after_record}
+use Rattle.redo_pass.proofs.Ends.{at}
 use Rattle.redo_pass.proofs.Fronts.{due_members, reached, reached_rise}
 use Rattle.redo_pass.proofs.Limits.{takes_none}
-use Rattle.redo_pass.proofs.Loops.{begun, begun_in_use, stays_moments, join_moments}
+use Rattle.redo_pass.proofs.Loops.{IsOn, begun, begun_in_use, next_is, on_record, stays_moments, join_moments}
 
 -- of all records that are due these were done, and the redo of the world has come to the others
 pub record IsLeft {O : Type 0} (m : Meaning O) (p : Params) (files : Files) (it : Store) (limit : ℕ) (w : World O) (all done : List (Record O)) : Type 0 where
@@ -51,6 +53,12 @@ pub record IsLeftWith {O : Type 0} (m : Meaning O) (p : Params) (files : Files) 
   pub rest : List (Record O)
   pub split : all ≡ (done ++ r ∷ []) ++ rest
   pub so_far : SoFar m p files it limit w (r ∷ rest)
+
+-- that one was done, and nothing is installed after it yet
+pub record IsOnWith {O : Type 0} (m : Meaning O) (p : Params) (files : Files) (it : Store) (limit : ℕ) (w : World O) (all done : List (Record O)) (r : Record O) : Type 0 where
+  pub rest : List (Record O)
+  pub split : all ≡ (done ++ r ∷ []) ++ rest
+  pub on : IsOn m p limit w files it rest
 
 -- since the redo of this log began, the objects being these, so many of its records were done
 pub record IsDone {O : Type 0} (meaning : Bounds → Meaning O) (limit : ℕ) (plan : PlanView) (log : RecordLogView) (first : Laid) (old mid : Disk) (now : Store) (given : List (Record O)) : Type 0 where
@@ -137,6 +145,19 @@ module _ {O : Type 0} (meaning : Bounds → Meaning O) (limit : ℕ) (plan : Pla
       moments = λ moments settled p w to. still_moments next kept moments settled p w to;
     }
 
+    -- such a call finds too long a value in a slot
+    pub slot_fault : (next : Disk) (after : SlotsView) (file : FileNo) (place : ℕ) → Stays mid next → after ≡ now.objects.slots → IsLongSlot next now.objects.slots file place
+        → IsSlotFault old next first.slots after file place
+    slot_fault next after file place kept same slot = record {
+      never = λ told is. long_untold now.objects.slots file place kept (done.runs.time.files_told.0 told) (done.of_file told is) slot;
+      params = ap (λ (s : SlotsView). s.params) same ∙ done.in_use.params;
+      long = subst (λ (s : SlotsView). IsLongSlot next s file place) (sym same) slot;
+    }
+
+    -- what is read now may be the files
+    reads_agree : old.tells_files → mid.agrees mid.reads
+    reads_agree told = done.runs.ends.agreeing (done.runs.time.files_told.0 told)
+
     -- the log's records are where they were
     keeps_on : (told : old.tells_files) (settled : IsSettled old) (p : Params) (w : World O) → (to : IsLogDue (meaning (bounds_of p)) p old log first.slots plan w) → Keeps (meaning (bounds_of p)) mid log to.stable []
     keeps_on told settled p w to = keeps_beside (meaning (bounds_of p)) p old mid log to.stable [] (done.runs.reads told).others (done.settled settled) to.keeps
@@ -151,18 +172,38 @@ module _ {O : Type 0} (meaning : Bounds → Meaning O) (limit : ℕ) (plan : Pla
       next_left reader r from reading =
           let m = meaning (bounds_of p) in
           let own = subst (λ (b : Bounds). IsReadingNumbered (meaning b) mid log reader (given ++ r ∷ [])) same_bounds reading in
-          let front = given_first m codes mid log reader (given ++ r ∷ []) to.stable [] (done.runs.time.files_told.0 told) (keeps_on told settled p w to) own in
+          let front = given_first m codes mid log reader (given ++ r ∷ []) to.stable [] (reads_agree told) (keeps_on told settled p w to) own in
           let all : numbered_from plan.start to.stable ≡ (given ++ r ∷ []) ++ front.0 = ap (λ (n : ℕ). numbered_from n to.stable) (sym from) ∙ front.1 in
           let left = done.shown told settled p w to in
           let here : left.later ≡ r ∷ front.0 = append_cancel_left given left.later (r ∷ front.0) (sym left.split ∙ all ∙ append_assoc given (r ∷ []) front.0) in
           record { rest = front.0; split = all; so_far = subst (λ (l : List (Record O)). SoFar m p mid.reads now limit w l) here left.so_far }
 
-      -- or has given all
+      -- which was done by a call that leaves the machine as it is
+      pub next_on : (reader : NumberedReaderView) (r : Record O) → reader.from ≡ plan.start → IsReadingNumbered (meaning log.bounds) mid log reader (given ++ r ∷ [])
+          → (next : Disk) (after : Store) → Stays mid next → ((n : ℕ) → IsSound (meaning (bounds_of p)) (at (meaning (bounds_of p)) limit w n))
+          → ((v : World O) → IsSound (meaning (bounds_of p)) v → FilesShow (meaning (bounds_of p)) p mid.reads v → FilesShow (meaning (bounds_of p)) p mid.reads (step (meaning (bounds_of p)) v Replay))
+          → ((v : World O) → IsSound (meaning (bounds_of p)) v → ShowsStore (meaning (bounds_of p)) p (mid.reads Objects) now v → IsNextRecord v plan.table r
+          → ShowsStore (meaning (bounds_of p)) p (mid.reads Objects) after (after_record (meaning (bounds_of p)) v r))
+          → IsOnWith (meaning (bounds_of p)) p next.reads after limit w (numbered_from plan.start to.stable) given r
+      next_on reader r from reading next after kept sound unseen goes =
+          let m = meaning (bounds_of p) in
+          let left = next_left reader r from reading in
+          let so = left.so_far in
+          let v = at m limit w so.turned in
+          let shows = goes v (sound so.turned) so.shown.store_shows (next_is m p limit w plan.table to.due.table so.turned r left.rest so.members) in
+          let on = on_record m p limit w mid.reads now after r left.rest so (unseen v (sound so.turned) so.shown.files_show) shows in
+          record {
+            rest = left.rest;
+            split = left.split;
+            on = subst (λ (f : Files). IsOn m p limit w f after left.rest) (sym (kept.reads (done.runs.time.files_told.0 told))) on;
+          }
+
+      -- or the reader has given all
       pub none_left : (from : ℕ) → from ≡ plan.start → AreAllNumbered (meaning log.bounds) mid log from given → SoFar (meaning (bounds_of p)) p mid.reads now limit w []
       none_left from is ended =
           let m = meaning (bounds_of p) in
           let own = subst (λ (b : Bounds). AreAllNumbered (meaning b) mid log from given) same_bounds ended in
-          let all : numbered_from plan.start to.stable ≡ given = ap (λ (n : ℕ). numbered_from n to.stable) (sym is) ∙ given_all m codes mid log from given to.stable [] (done.runs.time.files_told.0 told) (keeps_on told settled p w to) own in
+          let all : numbered_from plan.start to.stable ≡ given = ap (λ (n : ℕ). numbered_from n to.stable) (sym is) ∙ given_all m codes mid log from given to.stable [] (reads_agree told) (keeps_on told settled p w to) own in
           let left = done.shown told settled p w to in
           let none : left.later ≡ [] = append_cancel_left given left.later [] (sym left.split ∙ all ∙ sym (append-nil given)) in
           subst (λ (l : List (Record O)). SoFar m p mid.reads now limit w l) none left.so_far
@@ -200,8 +241,8 @@ module _ {O : Type 0} (meaning : Bounds → Meaning O) (limit : ℕ) (plan : Pla
     -- and the reader may go on when the objects have changed
     pub reads_on : (next new : Disk) → Stays mid next → Runs (In Objects Any) Same next new → IsReadingNumbered (meaning log.bounds) new log reader (given ++ r ∷ [])
     reads_on next new kept runs =
-        goes_on_beside (meaning log.bounds) mid new log reader (given ++ r ∷ []) (λ told. kept.time.files_told.1 (runs.time.files_told.1 told))
-        (λ told other ne. (runs.reads (kept.time.files_told.0 told)).others other ne ∙ ap (λ (f : Files). f other) (kept.reads told)) is.reading
+        goes_on_beside (meaning log.bounds) mid new log reader (given ++ r ∷ [])
+        (λ files agrees. let was = runs.agreed files agrees in (was.0, agreed_before kept was.0 was.1, was.2.others)) is.reading
 
 -- the numbers of the records that were given are below the log's next one
 pub given_reach : {O : Type 0} (meaning : Bounds → Meaning O) (mid : Disk) (log : RecordLogView) (reader : NumberedReaderView) (given : List (Record O)) → IsReadingNumbered (meaning log.bounds) mid log reader given → reached 0 given ≤ log.next
@@ -217,15 +258,3 @@ log_fails rises rises' fault fault' (of_log.LogFull used need limit) risen there
 log_fails rises rises' fault fault' (of_log.Damaged file place) risen there fails = there file place fails
 log_fails rises rises' fault fault' (of_log.Exhausted epoch) risen there fails = tt
 log_fails rises rises' fault fault' of_log.Memory risen there fails = tt
-
--- a fault of the log's file was there before the objects changed
-pub fault_beside : {O : Type 0} (m : Meaning O) (old mid : Disk) (log : LogView) (slots : SlotsView) (file : FileNo) (place : ℕ) → Runs (In Objects Any) Same old mid
-    → (log.active ≢ Objects → IsTailFault m mid log file place) → IsRedoFault m old log slots file place
-fault_beside m old mid log slots file place runs there = inr (λ apart.
-    let at = there apart in (
-      at.0,
-      λ told payloads whole.
-          let same = (runs.reads told).others log.active apart in
-          subst (λ (f : List ℕ). IsRecordFault m f place) same
-          (at.1 (runs.time.files_told.0 told) payloads (subst (λ (f : List ℕ). IsWholeLog log.header payloads f) (sym same) whole)),
-    ))

@@ -11,6 +11,7 @@ use Rattle.log_records.specs.Loading.{IsTailFault}
 use Rattle.stable_objects.specs.SlotsView.{SlotsView, AreOf}
 use Rattle.stable_objects.specs.declared.slot_err.SlotErr.{SlotErr}
 use Rattle.stable_objects.specs.declared.slot_err.SlotErr.TheVariants as of_slots
+use Rattle.cache_manager.specs.LongSlot.{IsLongSlot}
 use Rattle.cache_manager.specs.declared.install_err.InstallErr.{InstallErr}
 use Rattle.cache_manager.specs.declared.install_err.InstallErr.TheVariants as of_installs
 use Rattle.redo_pass.specs.declared.redo_err.RedoErr.{RedoErr}
@@ -44,10 +45,14 @@ FailsBy rises fault DiskFault = rises
 FailsBy rises fault (Damaged file place) = fault file place
 FailsBy rises fault Memory = ⊤
 
--- the objects file is damaged: never on a machine that reports its files, where the slots are those of the file
-abbrev pub IsNotOf : Disk → SlotsView → FileNo → ℕ → Type 0
-IsNotOf d slots file place = (file ≡ Objects) × (d.tells_files → AreOf slots (d.reads Objects) → ⊥)
+-- A slot is damaged: never on a machine that reports its files, where the slots before were those of the file. On each machine
+-- it is one of the slots after, which has too long a value; the store's numbers are as they were.
+pub record IsSlotFault (old new : Disk) (before after : SlotsView) (file : FileNo) (place : ℕ) : Type 0 where
+  pub never : old.tells_files → AreOf before (old.reads Objects) → ⊥
+  pub params : after.params ≡ before.params
+  pub long : IsLongSlot new after file place
 
--- the objects file is damaged, or the log's records are, as its own file says, which no redo writes
-abbrev pub IsRedoFault : {O : Type 0} → Meaning O → Disk → LogView → SlotsView → FileNo → ℕ → Type 0
-IsRedoFault m d log slots file place = IsNotOf d slots file place ⊎ (log.active ≢ Objects → IsTailFault m d log file place)
+-- A slot is damaged, or the log's records are, as its own file says, which no redo writes.
+abbrev pub IsRedoFault : {O : Type 0} → Meaning O → Disk → Disk → LogView → SlotsView → SlotsView → FileNo → ℕ → Type 0
+IsRedoFault m old new log before after file place =
+    IsSlotFault old new before after file place ⊎ (log.active ≢ Objects → IsTailFault m new log file place)

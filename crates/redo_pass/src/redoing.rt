@@ -1,5 +1,5 @@
 // The redo.
-ghost use Rattle.std.specs.Prelude.{◌≡◌, ℕ, None, IfErr, IfOk, OnOk};
+ghost use Rattle.std.specs.Prelude.{◌≡◌, ℕ, None, [], IfErr, IfOk, OnOk};
 ghost use Rattle.disk_model.specs.Disk.{Rises, Runs, Same, Any, In, IsSettled};
 ghost use Rattle.disk_model.specs.declared.machine.FileNo.TheVariants.{Objects as ObjectsFile};
 ghost use Rattle.formats.specs.Objects.{bounds_of};
@@ -58,17 +58,51 @@ pub fn redo<O: Oper, M: Machine>(
         TakesSome (O.meaning (bounds_of p)) p (M.disk machine.old) (M.disk machine.new) w
         (redo_steps (O.meaning (bounds_of p)) tuning.redo_dirty w) }
     ensures cause { IfErr result (FailsBy (Rises (M.disk machine.old).disk_faults (M.disk machine.new).disk_faults)
-        (IsRedoFault (O.meaning log.now.bounds) (M.disk machine.old) log.now.log objects.old.slots)) }
+        (IsRedoFault (O.meaning log.now.bounds) (M.disk machine.old) (M.disk machine.new) log.now.log objects.old.slots objects.new.slots)) }
+{
+    let mut graph = WriteGraph::new(alloc)?;
+    redo_into(alloc, plan, log, objects, &mut graph, machine, tuning)?;
+    Ok(graph)
+}
+
+// The same, into a graph that has no entries yet. Where this fails, its caller drops the graph, at one place.
+fn redo_into<O: Oper, M: Machine>(
+    alloc: Global,
+    plan: &Plan,
+    log: &RecordLog<O>,
+    objects: &mut Objects,
+    graph: &mut WriteGraph,
+    machine: &mut M,
+    tuning: Tuning,
+) -> Result<(), RedoErr>
+    requires empty { (x : ℕ) → held objects.old.cache x ≡ None }
+    requires none { graph.old.entries ≡ [] }
+    requires bounds { log.now.bounds ≡ bounds_of objects.old.slots.params }
+    ensures runs { Runs (In ObjectsFile Any) Same (M.disk machine.old) (M.disk machine.new) }
+    ensures settled { IsSettled (M.disk machine.old) → OnOk result (IsSettled (M.disk machine.new)) }
+    ensures laid { (M.disk machine.old).tells_files → IsLaidOn objects.old ((M.disk machine.old).reads ObjectsFile) →
+        OnOk result (IsLaidOn objects.new ((M.disk machine.new).reads ObjectsFile)) }
+    ensures in_use { OnOk result (AreInUse objects.old.slots.params log.now.next (store objects.new graph.new.entries)) }
+    ensures early { AreEarly log.now.next objects.old → OnOk result (AreEarly log.now.next objects.new) }
+    ensures redone { (M.disk machine.old).tells_files → IsSettled (M.disk machine.old) → (p : Params) (w : World O) →
+        IsLogDue (O.meaning (bounds_of p)) p (M.disk machine.old) log.now objects.old.slots plan.now w →
+        OnOk result (IsRedone (O.meaning (bounds_of p)) p (M.disk machine.new).reads
+        (store objects.new graph.new.entries) tuning.redo_dirty w) }
+    ensures any_moment { (M.disk machine.old).tells_moments → IsSettled (M.disk machine.old) → (p : Params) (w : World O) →
+        IsLogDue (O.meaning (bounds_of p)) p (M.disk machine.old) log.now objects.old.slots plan.now w →
+        TakesSome (O.meaning (bounds_of p)) p (M.disk machine.old) (M.disk machine.new) w
+        (redo_steps (O.meaning (bounds_of p)) tuning.redo_dirty w) }
+    ensures cause { IfErr result (FailsBy (Rises (M.disk machine.old).disk_faults (M.disk machine.new).disk_faults)
+        (IsRedoFault (O.meaning log.now.bounds) (M.disk machine.old) (M.disk machine.new) log.now.log objects.old.slots objects.new.slots)) }
 {
     explain_core::turns_keep::<O>();
     standing::unseen_steps_change_nothing::<O>();
     // Called for its clauses, which bound the numbers of a store.
     let _params = objects.params();
-    let mut graph = WriteGraph::new(alloc)?;
     let mut reader = log.numbered_reader(machine, plan.start())?;
     while let Some(record) = reader.next(machine)? {
-        replay(alloc, plan, objects, &mut graph, machine, &record)?;
-        limit_dirty::<O, M>(objects, &mut graph, machine, tuning.redo_dirty)?;
+        replay(alloc, plan, objects, graph, machine, record)?;
+        limit_dirty::<O, M>(objects, graph, machine, tuning.redo_dirty)?;
     }
-    Ok(graph)
+    Ok(())
 }

@@ -12,8 +12,9 @@ ghost use Rattle.explain_core.specs.Sound.{IsSound};
 ghost use Rattle.explain_core.specs.World.{World, step};
 ghost use Rattle.explain_core.specs.World.Step.{Replay};
 ghost use Rattle.cache_manager.specs.Laid.{IsLaidOn};
+ghost use Rattle.cache_manager.specs.LongSlot.{IsLongSlot};
 ghost use Rattle.cache_manager.specs.Parts.{AreInUse, ShowsStore, store};
-ghost use Rattle.redo_pass.specs.Causes.{FailsBy, IsNotOf};
+ghost use Rattle.redo_pass.specs.Causes.{FailsBy};
 ghost use Rattle.redo_pass.specs.Progress.{IsAbove};
 ghost use Rattle.redo_pass.specs.Replayed.{IsNext, IsNextRecord, after_record};
 ghost use Rattle.redo_pass.specs.Rising.{IsBelow};
@@ -50,7 +51,7 @@ fn replay_command<O: Oper, M: Machine>(
         ShowsStore (O.meaning (bounds_of p)) p ((M.disk machine.old).reads ObjectsFile) (store objects.old graph.old.entries) w →
         IsNext w plan.now.table number (a_command op.now) →
         ShowsStore (O.meaning (bounds_of p)) p ((M.disk machine.old).reads ObjectsFile) (store objects.new graph.new.entries) (step (O.meaning (bounds_of p)) w Replay)) }
-    ensures cause { IfErr result (FailsBy (Rises (M.disk machine.old).disk_faults (M.disk machine.new).disk_faults) (IsNotOf (M.disk machine.old) objects.old.slots)) }
+    ensures cause { IfErr result (FailsBy (Rises (M.disk machine.old).disk_faults (M.disk machine.new).disk_faults) (IsLongSlot (M.disk machine.new) objects.old.slots)) }
 {
     let bounds = objects.bounds();
     // Called for its clauses: the numbers of a store are small.
@@ -119,25 +120,25 @@ pub(crate) fn replay<O: Oper, M: Machine>(
     objects: &mut Objects,
     graph: &mut WriteGraph,
     machine: &mut M,
-    record: &Record<O>,
+    record: Record<O>,
 ) -> Result<(), RedoErr>
-    requires grammar { IsRecord (O.meaning (bounds_of objects.old.slots.params)) «record».now }
-    requires above { IsAbove graph.old.entries «record».now }
+    requires grammar { IsRecord (O.meaning (bounds_of objects.old.slots.params)) «record» }
+    requires above { IsAbove graph.old.entries «record» }
     ensures kept { Stays (M.disk machine.old) (M.disk machine.new) }
     ensures slots { objects.new.slots ≡ objects.old.slots }
     ensures laid { (M.disk machine.old).tells_files → IsLaidOn objects.old ((M.disk machine.old).reads ObjectsFile) → OnOk result (IsLaidOn objects.new ((M.disk machine.old).reads ObjectsFile)) }
-    ensures in_use { OnOk result ((p : Params) (next : ℕ) → IsBelow next «record».now → AreInUse p next (store objects.old graph.old.entries) →
+    ensures in_use { OnOk result ((p : Params) (next : ℕ) → IsBelow next «record» → AreInUse p next (store objects.old graph.old.entries) →
         AreInUse p next (store objects.new graph.new.entries)) }
     ensures shown { (M.disk machine.old).tells_files → OnOk result ((p : Params) (w : World O) → IsSound (O.meaning (bounds_of p)) w →
         ShowsStore (O.meaning (bounds_of p)) p ((M.disk machine.old).reads ObjectsFile) (store objects.old graph.old.entries) w →
-        IsNextRecord w plan.now.table «record».now →
+        IsNextRecord w plan.now.table «record» →
         ShowsStore (O.meaning (bounds_of p)) p ((M.disk machine.old).reads ObjectsFile) (store objects.new graph.new.entries)
-        (after_record (O.meaning (bounds_of p)) w «record».now)) }
-    ensures cause { IfErr result (FailsBy (Rises (M.disk machine.old).disk_faults (M.disk machine.new).disk_faults) (IsNotOf (M.disk machine.old) objects.old.slots)) }
+        (after_record (O.meaning (bounds_of p)) w «record»)) }
+    ensures cause { IfErr result (FailsBy (Rises (M.disk machine.old).disk_faults (M.disk machine.new).disk_faults) (IsLongSlot (M.disk machine.new) objects.old.slots)) }
 {
     match record {
         Record::Command(number, op) => replay_command(
-            alloc, plan, objects, graph, machine, *number, op,
+            alloc, plan, objects, graph, machine, number, &op,
         ),
         Record::Identity(number, object, value) => {
             // Called for its clauses, which bound the numbers of a store.
@@ -147,8 +148,8 @@ pub(crate) fn replay<O: Oper, M: Machine>(
                 plan,
                 objects,
                 graph,
-                *number,
-                *object,
+                number,
+                object,
                 value.as_slice(),
             )?;
             Ok(())

@@ -26,15 +26,15 @@ returns-in-Command-clause-shown g c = λ told.
     subst (λ (r : Record g.row.O.Denot). OnOk c.replay_command.result ((p : Params) (w : World g.row.O.Denot) → IsSound (g.O.Oper.meaning (bounds_of p)) w → ShowsStore (g.O.Oper.meaning (bounds_of p)) p file before w
     → IsNextRecord w c.args.plan.now.table r → ShowsStore (g.O.Oper.meaning (bounds_of p)) p file after (after_record (g.O.Oper.meaning (bounds_of p)) w r))) (sym c.in-Command.is) (c.replay_command.ensures.shown told)
 
-pub returns-in_ok-replay_identity-in-Identity-clause-in_use : goal.returns-in_ok-replay_identity-in-Identity-clause-in_use
-returns-in_ok-replay_identity-in-Identity-clause-in_use g c = λ p next below used.
+pub returns-in-Identity-clause-in_use : goal.returns-in-Identity-clause-in_use
+returns-in-Identity-clause-in_use g c = λ p next below used.
     c.in_ok-replay_identity-in-Identity.ensures.in_use p next (subst (λ (r : Record g.row.O.Denot). IsBelow next r) c.in-Identity.is below) used
 
-pub returns-in_ok-replay_identity-in-Identity-clause-shown : goal.returns-in_ok-replay_identity-in-Identity-clause-shown
-returns-in_ok-replay_identity-in-Identity-clause-shown g c = λ told p w sound shows next.
+pub returns-in-Identity-clause-shown : goal.returns-in-Identity-clause-shown
+returns-in-Identity-clause-shown g c = λ told p w sound shows next.
     let m = g.O.Oper.meaning (bounds_of p) in
     let file = (g.M.Machine.disk c.args.machine.now).reads Objects in
     let after = store c.replay_identity.new.objects c.replay_identity.new.graph.entries in
-    let is : c.args.record.now ≡ Identity c.in-Identity.number c.in-Identity.object c.as_slice.result.now = c.in-Identity.is ∙ ap (λ (v : List ℕ). Identity c.in-Identity.number c.in-Identity.object v) (sym c.as_slice.ensures) in
+    let is : c.args.record ≡ Identity c.in-Identity.number c.in-Identity.object c.as_slice.result.now = c.in-Identity.is ∙ ap (λ (v : List ℕ). Identity c.in-Identity.number c.in-Identity.object v) (sym c.as_slice.ensures) in
     subst (λ (r : Record g.row.O.Denot). ShowsStore m p file after (after_record m w r)) (sym is)
     (c.in_ok-replay_identity-in-Identity.ensures.shown p file w sound shows (subst (λ (r : Record g.row.O.Denot). IsNextRecord w c.args.plan.now.table r) is next))

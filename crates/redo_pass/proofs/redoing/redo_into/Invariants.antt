@@ -1,7 +1,7 @@
 use Rattle.log_records.specs.NumberedReader.{left_of}
 use Rattle.cache_manager.specs.Parts.{Store}
 use Rattle.redo_pass.proofs.Doing.{IsDoing}
-use Rattle.redo_pass.proofs.redoing.redo.Given as goal
+use Rattle.redo_pass.proofs.redoing.redo_into.Given as goal
 
 abbrev pub invariant-loop-reader : goal.invariant-loop-reader
 invariant-loop-reader g l =
