@@ -1,8 +1,9 @@
 -- What a restart says of the files, whatever it answers.
 use Rattle.std.proofs.Common.{◌≡◌, ◌⊎◌, ⊎_elim, inl, inr, ℕ, refl, sym, ap, subst, Result, Ok, Err, arith}
 use Rattle.std.specs.Prelude.{IfErr, IsErrAnd, IsErrOf}
-use Rattle.disk_model.specs.Disk.{Disk, Rises, Runs, Stays, Same, In, Any, IsSettled}
-use Rattle.disk_model.specs.Moments.{runs_wider, runs_twice}
+use Rattle.std.proofs.lemmas.Result.{IfErr-at_err}
+use Rattle.disk_model.specs.Disk.{Files, Disk, Rises, Runs, Stays, Same, In, Any, IsSettled}
+use Rattle.disk_model.specs.Moments.{runs_wider, runs_twice, told_agrees}
 use Rattle.disk_model.specs.declared.machine.FileNo.{FileNo}
 use Rattle.disk_model.specs.declared.machine.FileNo.TheVariants.{Objects}
 use Rattle.oper_core.specs.Meaning.{Meaning, HasBounds, IsSmall, IsLawful}
@@ -16,6 +17,7 @@ use Rattle.cache_manager.specs.Taking.{ArePartsInUse}
 use Rattle.cache_manager.specs.declared.install_err.InstallErr.{InstallErr}
 use Rattle.cache_manager.specs.declared.install_err.InstallErr.TheVariants as of_check
 use Rattle.restart.specs.Causes.{FailsBy, IsNoDamage, from_check}
+use Rattle.restart.specs.Damage.{IsReadAsDamaged}
 use Rattle.restart.specs.DamageLaws.{passes_all, one_first_fault}
 use Rattle.restart.specs.Opening.{IsJudged, IsOpening}
 use Rattle.restart.specs.WellFormed.{IsWellFormed, opens_gate}
@@ -65,6 +67,26 @@ check_harmless (of_check.LogFull used need limit) = tt
 check_harmless (of_check.LsnEnd number) = tt
 check_harmless of_check.DiskFault = tt
 check_harmless of_check.Memory = tt
+
+-- it reports no damage
+pub check_never : {T : Type 0} (e : InstallErr) (file : FileNo) (place : ℕ) → IsErrOf {T = T} (Err (from_check e)) (Damaged file place) → ⊥
+check_never (of_check.LogFull used need limit) file place is = cc
+check_never (of_check.LsnEnd number) file place is = cc
+check_never of_check.DiskFault file place is = cc
+check_never of_check.Memory file place is = cc
+
+-- the damage that a call reports is a fault
+pub fault_of : {T : Type 0} (rises closed : Type 0) (fault : FileNo → ℕ → Type 0) (e : RestartErr) → FailsBy rises closed fault e
+    → (file : FileNo) (place : ℕ) → IsErrOf {T = T} (Err e) (Damaged file place) → fault file place
+fault_of rises closed fault e fails file place is = IfErr-at_err (FailsBy rises closed fault) is fails
+
+-- an error of one call is one of another
+pub same_error : {T U : Type 0} {e why : RestartErr} → IsErrOf {T = T} (Err e) why → IsErrOf {T = U} (Err e) why
+same_error {T} {U} {e} {why} is = let same : e ≡ why = cc in λ i. Err (same i)
+
+-- the damage that an answer reports is in all files that agree with what was read
+abbrev pub IsReportOf : {O : Type 0} → (Bounds → Meaning O) → Disk → Disk → Result Parts RestartErr → Type 0
+IsReportOf meaning old new result = (file : FileNo) (place : ℕ) → IsErrOf result (Damaged file place) → IsReadAsDamaged meaning old new file place
 
 -- what the redo of files that were read reports
 pub redo_harmless : (rises : Type 0) (fault : FileNo → ℕ → Type 0) (e : RestartErr) → FailsBy rises ⊥ fault e → ((file : FileNo) (place : ℕ) → fault file place → ⊥) → IsNoDamage e
@@ -122,7 +144,7 @@ module _ {O : Type 0} (meaning : Bounds → Meaning O) (bounded : (b : Bounds) �
 
   -- files that are not loaded
   pub judged_unread : (rises : Type 0) (e : RestartErr) → old.tells_files → Stays old new → (IsWellFormed meaning old.reads → IsNoDamage e)
-      → FailsBy rises (old.tells_files → IsClosedAt 0 (old.reads Objects)) (λ file place. old.tells_files → IsDamaged meaning old.reads file place) e
+      → FailsBy rises ((files : Files) → new.agrees files → IsClosedAt 0 (files Objects)) (λ file place. (files : Files) → new.agrees files → IsDamaged meaning files file place) e
       → (e ≡ Memory → IsOpenAt 0 (old.reads Objects)) → IsJudged meaning old new (Err e)
   judged_unread rises DiskFault told kept whole fails memory = record {
     read = tt;
@@ -137,9 +159,9 @@ module _ {O : Type 0} (meaning : Bounds → Meaning O) (bounded : (b : Bounds) �
     read = tt;
     whole = whole;
     kept = inr kept;
-    no_store = λ is. fails told;
+    no_store = λ is. fails old.reads (told_agrees kept told);
     damaged = λ file place is. cc;
-    exactly = λ file place damage. absurd (fails told damage.gate);
+    exactly = λ file place damage. absurd (fails old.reads (told_agrees kept told) damage.gate);
     memory = λ is. cc;
   }
   judged_unread rises (Damaged at of) told kept whole fails memory = record {
@@ -147,9 +169,9 @@ module _ {O : Type 0} (meaning : Bounds → Meaning O) (bounded : (b : Bounds) �
     whole = whole;
     kept = inr kept;
     no_store = λ is. cc;
-    damaged = λ file place is. let same : (at, of) ≡ (file, place) = ap damage_in is in subst (λ (d : FileNo × ℕ). IsDamaged meaning old.reads d.0 d.1) same (fails told);
+    damaged = λ file place is. let same : (at, of) ≡ (file, place) = ap damage_in is in subst (λ (d : FileNo × ℕ). IsDamaged meaning old.reads d.0 d.1) same (fails old.reads (told_agrees kept told));
     exactly = λ file place damage.
-        let same = one_first_fault meaning bounded lawful old.reads at file of place (fails told).fault damage.fault in inl (λ i. Err (Damaged (same.0 i) (same.1 i)));
+        let same = one_first_fault meaning bounded lawful old.reads at file of place (fails old.reads (told_agrees kept told)).fault damage.fault in inl (λ i. Err (Damaged (same.0 i) (same.1 i)));
     memory = λ is. cc;
   }
   judged_unread rises Memory told kept whole fails memory = record {

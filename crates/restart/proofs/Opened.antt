@@ -1,10 +1,10 @@
 -- What a load makes of the files, and why it fails.
-use Rattle.std.proofs.Common.{◌≡◌, ◌<◌, ◌≤◌, ◌+◌, ◌*◌, ℕ, Bool, true, false, nat_lt, if◌then◌else◌, inl, inr, List, [], sym, ap, ◌∙◌, subst, arith}
-use Rattle.std.specs.Prelude.{None, Option}
+use Rattle.std.proofs.Common.{◌≡◌, ◌<◌, ◌≤◌, ◌+◌, ◌*◌, ℕ, Bool, true, false, nat_lt, if◌then◌else◌, inl, inr, List, [], map, refl, sym, ap, ◌∙◌, subst, arith, Err}
+use Rattle.std.specs.Prelude.{None, Option, IsErrOf}
 use Rattle.std.proofs.lemmas.List.{append-nil}
 use Rattle.std.proofs.lemmas.Bool.{cases_lt}
 use Rattle.disk_model.specs.Disk.{Files, Disk, Rises, Stays, IsSettled}
-use Rattle.disk_model.specs.Moments.{stays_settled, stays_twice}
+use Rattle.disk_model.specs.Moments.{agreed_before, stays_settled, stays_twice, told_agrees}
 use Rattle.disk_model.specs.declared.machine.FileNo.{FileNo}
 use Rattle.disk_model.specs.declared.machine.FileNo.TheVariants.{Objects}
 use Rattle.checkpoint.specs.declared.table.Table.{Table}
@@ -15,7 +15,7 @@ use Rattle.formats.specs.Log.{Header}
 use Rattle.formats.specs.Objects.{IsInRange, IsObjectsFile, bounds_of, slot_place}
 use Rattle.formats.specs.FirstFault.{IsDamaged, AreObjectsWhole, at_objects, at_logs, at_record, at_late_slot}
 use Rattle.formats.specs.Image.{params_in, IsRecordFault, IsLateSlot}
-use Rattle.formats.specs.Records.{last_check, records_of, next_after, HoldsRecordLog}
+use Rattle.formats.specs.Records.{AreRecords, last_check, payload_of, records_of, next_after, HoldsRecordLog}
 use Rattle.formats.specs.declared.params.Params.{Params}
 use Rattle.formats.specs.declared.record.Record.{Record}
 use Rattle.log_frames.specs.Reading as log
@@ -28,17 +28,20 @@ use Rattle.stable_objects.specs.SlotsView.{SlotsView, IsLate, head, holder_in, i
 use Rattle.stable_objects.specs.declared.slot_err.SlotErr.{SlotErr}
 use Rattle.stable_objects.specs.declared.slot_err.SlotErr.TheVariants as of_slots
 use Rattle.dirty_cache.specs.Contents.{held}
+use Rattle.log_records.specs.CodecLaws.{HasCodes}
 use Rattle.log_records.specs.Loading.{IsLoadFault}
 use Rattle.log_records.specs.Loading as load
-use Rattle.log_records.specs.RecordLog.{RecordLogView, Keeps, IsLoaded}
-use Rattle.log_records.specs.RecordLaws.{keeps_stay}
+use Rattle.log_records.specs.RecordLog.{RecordLogView, Keeps, IsHeldIn, IsLoaded}
+use Rattle.log_records.specs.RecordReader.{AreAll}
+use Rattle.log_records.specs.Uniqueness.{one_grouping}
 use Rattle.analysis_pass.specs.Analysis.{PlanView, table_or, least_start}
 use Rattle.cache_manager.specs.Laid.{Laid, IsLaidOn}
 use Rattle.cache_manager.specs.Parts.{meaning_in}
 use Rattle.restart.specs.Causes.{FailsBy, IsNoDamage, from_log, from_slots}
-use Rattle.restart.specs.DamageLaws.{no_late_slot}
-use Rattle.restart.specs.Loading.{IsRead, IsReady}
+use Rattle.restart.specs.DamageLaws.{codes_in, no_late_slot}
+use Rattle.restart.specs.Loading.{IsFiled, IsRead, IsReady}
 use Rattle.restart.specs.WellFormed.{IsWellFormed}
+use Rattle.restart.specs.declared.restart_err.RestartErr.TheVariants.{Memory}
 
 -- a settled machine stays so over calls that change nothing
 pub all_settled : (old new : Disk) → Stays old new → IsSettled old → IsSettled new
@@ -52,25 +55,34 @@ three_stay old first mid last one two three = stays_twice old mid last (stays_tw
 pub record HasSlots (old d : Disk) (objects : Laid) : Type 0 where
   pub kept : Stays old d
   pub settled : IsSettled d
-  pub laid : old.tells_files → IsLaidOn objects (old.reads Objects)
+  pub laid : (files : Files) → d.agrees files → IsLaidOn objects (files Objects)
   pub empty : (x : ℕ) → held objects.cache x ≡ None
 
-pub has_slots : (old first mid : Disk) (objects : Laid) → Stays old first → IsSettled first → Stays first mid → (first.tells_files → IsLaidOn objects (first.reads Objects))
+pub has_slots : (old first mid : Disk) (objects : Laid) → Stays old first → IsSettled first → Stays first mid → ((files : Files) → mid.agrees files → IsLaidOn objects (files Objects))
     → ((x : ℕ) → held objects.cache x ≡ None) → HasSlots old mid objects
 has_slots old first mid objects kept settled more laid empty = record {
   kept = stays_twice old first mid kept more;
   settled = all_settled first mid more settled;
-  laid = λ told. subst (λ (f : Files). IsLaidOn objects (f Objects)) (kept.reads told) (laid (kept.time.files_told.0 told));
+  laid = laid;
   empty = empty;
 }
 
 -- a call that changes nothing leaves it so
 pub slots_on : (old d new : Disk) (objects : Laid) → HasSlots old d objects → Stays d new → HasSlots old new objects
-slots_on old d new objects has kept = record { kept = stays_twice old d new has.kept kept; settled = all_settled d new kept has.settled; laid = has.laid; empty = has.empty }
+slots_on old d new objects has kept = record {
+  kept = stays_twice old d new has.kept kept;
+  settled = all_settled d new kept has.settled;
+  laid = λ files agrees. has.laid files (agreed_before kept files agrees);
+  empty = has.empty;
+}
+
+-- in what the machine reports
+pub slots_told : (old d : Disk) (objects : Laid) → HasSlots old d objects → old.tells_files → IsLaidOn objects (old.reads Objects)
+slots_told old d objects has told = has.laid old.reads (told_agrees has.kept told)
 
 -- their gate is open
 pub slots_gate : (old d : Disk) (objects : Laid) → HasSlots old d objects → old.tells_files → IsOpenAt 0 (old.reads Objects)
-slots_gate old d objects has told = gate_is_open objects.slots.params (old.reads Objects) (has.laid told).slots.whole
+slots_gate old d objects has told = gate_is_open objects.slots.params (old.reads Objects) (slots_told old d objects has told).slots.whole
 
 -- the objects file is whole with the numbers that stand in it
 pub whole_objects : (q : Params) (files : Files) → IsObjectsFile q (files Objects) → AreObjectsWhole files
@@ -81,7 +93,7 @@ abbrev pub IsLateAt : SlotsView → ℕ → ℕ → Type 0
 IsLateAt slots next place =
     (x : ℕ) × (s : ℕ) × IsLate slots next x s × (place ≡ slot_place slots.params.cap x s + 1) × ((y t : ℕ) → IsLate slots next y t → 2 * x + s ≤ 2 * y + t)
 
-holder_two : (b : Bool) → (if b then 1 else 0) < 2
+pub holder_two : (b : Bool) → (if b then 1 else 0) < 2
 holder_two true = omega arith
 holder_two false = omega arith
 
@@ -94,6 +106,20 @@ early_slots slots next low none x below =
       | inr past ↦ absurd (none x s (omega (arith, low, past), below, holder_two (nat_lt (head slots x 0) (head slots x 1)), past))
     ]
 
+-- slots that are whole report none, and no closed gate
+pub slots_unharmed : (e : SlotErr) → slots.IsNoDamage e → IsNoDamage (from_slots e)
+slots_unharmed of_slots.NotAStore none = absurd none
+slots_unharmed of_slots.DiskFault none = tt
+slots_unharmed (of_slots.Damaged file place) none = absurd none
+slots_unharmed of_slots.Memory none = tt
+
+-- memory was refused to the slots
+pub slots_refused : {T U : Type 0} (e : SlotErr) → IsErrOf {T = T} (Err (from_slots e)) Memory → IsErrOf {T = U} (Err e) of_slots.Memory
+slots_refused of_slots.NotAStore is = cc
+slots_refused of_slots.DiskFault is = cc
+slots_refused (of_slots.Damaged file place) is = cc
+slots_refused of_slots.Memory is = refl
+
 -- a log that is whole reports no damage
 pub unharmed : (e : LogErr) → (log.TellsDamage e → ⊥) → IsNoDamage (from_log e)
 unharmed of_log.DiskFault none = tt
@@ -105,13 +131,15 @@ unharmed of_log.Memory none = tt
 module _ {O : Type 0} (meaning : Bounds → Meaning O) where
   -- the slots are not loaded
   pub slots_fail : (old mid new : Disk) (e : SlotErr) → Stays old mid
-      → slots.FailsBy (Rises mid.disk_faults new.disk_faults) (mid.tells_files → IsClosedAt 0 (mid.reads Objects)) (slots.FailsAt (λ place. mid.tells_files → slots.IsDamagedAt (mid.reads Objects) place)) e
-      → FailsBy (Rises old.disk_faults new.disk_faults) (old.tells_files → IsClosedAt 0 (old.reads Objects)) (λ file place. old.tells_files → IsDamaged meaning old.reads file place) (from_slots e)
-  slots_fail old mid new of_slots.NotAStore kept fails = λ told. subst (λ (f : Files). IsClosedAt 0 (f Objects)) (kept.reads told) (fails (kept.time.files_told.0 told))
+      → slots.FailsBy (Rises mid.disk_faults new.disk_faults) ((files : Files) → new.agrees files → IsClosedAt 0 (files Objects))
+      (slots.FailsAt (λ place. (files : Files) → new.agrees files → slots.IsDamagedAt (files Objects) place)) e
+      → FailsBy (Rises old.disk_faults new.disk_faults) ((files : Files) → new.agrees files → IsClosedAt 0 (files Objects))
+      (λ file place. (files : Files) → new.agrees files → IsDamaged meaning files file place) (from_slots e)
+  slots_fail old mid new of_slots.NotAStore kept fails = fails
   slots_fail old mid new of_slots.DiskFault kept fails = λ small. let risen = fails small in let later = kept.time.disk_faults in omega arith
-  slots_fail old mid new (of_slots.Damaged file place) kept fails = λ told.
-      let at = subst (λ (f : Files). slots.IsDamagedAt (f Objects) place) (kept.reads told) (fails.1 (kept.time.files_told.0 told)) in
-      subst (λ (f : FileNo). IsDamaged meaning old.reads f place) (sym fails.0) (record { gate = at.gate; fault = at_objects place at.fault })
+  slots_fail old mid new (of_slots.Damaged file place) kept fails = λ files agrees.
+      let at = fails.1 files agrees in
+      subst (λ (f : FileNo). IsDamaged meaning files f place) (sym fails.0) (record { gate = at.gate; fault = at_objects place at.fault })
   slots_fail old mid new of_slots.Memory kept fails = tt
 
   -- a fault that a load finds damages the store
@@ -124,17 +152,17 @@ module _ {O : Type 0} (meaning : Bounds → Meaning O) where
   }
 
   -- the log is not loaded
-  pub log_fails : (old mid new : Disk) (objects : Laid) (b : Bounds) (e : LogErr) → HasSlots old mid objects → b ≡ bounds_of objects.slots.params
-      → log.FailsBy (Rises mid.disk_faults new.disk_faults) (λ file place. mid.tells_files → IsLoadFault (meaning b) mid.reads file place) e
-      → FailsBy (Rises old.disk_faults new.disk_faults) (old.tells_files → IsClosedAt 0 (old.reads Objects)) (λ file place. old.tells_files → IsDamaged meaning old.reads file place) (from_log e)
-  log_fails old mid new objects b of_log.DiskFault has bounds fails = λ small. let risen = fails small in let later = has.kept.time.disk_faults in omega arith
-  log_fails old mid new objects b (of_log.LogFull used need limit) has bounds fails = tt
-  log_fails old mid new objects b (of_log.Damaged file place) has bounds fails = λ told.
-      let fault = subst (λ (x : Bounds). IsLoadFault (meaning x) old.reads file place) bounds
-      (subst (λ (f : Files). IsLoadFault (meaning b) f file place) (has.kept.reads told) (fails (has.kept.time.files_told.0 told))) in
-      damage objects.slots.params old.reads file place (has.laid told).slots.whole fault
-  log_fails old mid new objects b (of_log.Exhausted epoch) has bounds fails = tt
-  log_fails old mid new objects b of_log.Memory has bounds fails = tt
+  pub log_fails : (old mid new : Disk) (objects : Laid) (b : Bounds) (e : LogErr) → HasSlots old mid objects → Stays mid new → b ≡ bounds_of objects.slots.params
+      → log.FailsBy (Rises mid.disk_faults new.disk_faults) (λ file place. (files : Files) → new.agrees files → IsLoadFault (meaning b) files file place) e
+      → FailsBy (Rises old.disk_faults new.disk_faults) ((files : Files) → new.agrees files → IsClosedAt 0 (files Objects))
+      (λ file place. (files : Files) → new.agrees files → IsDamaged meaning files file place) (from_log e)
+  log_fails old mid new objects b of_log.DiskFault has more bounds fails = λ small. let risen = fails small in let later = has.kept.time.disk_faults in omega arith
+  log_fails old mid new objects b (of_log.LogFull used need limit) has more bounds fails = tt
+  log_fails old mid new objects b (of_log.Damaged file place) has more bounds fails = λ files agrees.
+      let laid = has.laid files (agreed_before more files agrees) in
+      damage objects.slots.params files file place laid.slots.whole (subst (λ (x : Bounds). IsLoadFault (meaning x) files file place) bounds (fails files agrees))
+  log_fails old mid new objects b (of_log.Exhausted epoch) has more bounds fails = tt
+  log_fails old mid new objects b of_log.Memory has more bounds fails = tt
 
   -- the log of files that meet their format
   pub log_unharmed : (old mid : Disk) (objects : Laid) (b : Bounds) (e : LogErr) → HasSlots old mid objects → b ≡ bounds_of objects.slots.params → old.tells_files → IsWellFormed meaning old.reads
@@ -142,57 +170,76 @@ module _ {O : Type 0} (meaning : Bounds → Meaning O) where
       → IsNoDamage (from_log e)
   log_unharmed old mid objects b e has bounds told image none =
       let files = sym (has.kept.reads told) in
-      let same : image.params ≡ objects.slots.params = one_store image.params objects.slots.params (old.reads Objects) image.objects (has.laid told).slots.whole in
+      let same : image.params ≡ objects.slots.params = one_store image.params objects.slots.params (old.reads Objects) image.objects (slots_told old mid objects has told).slots.whole in
       let records = subst (λ (x : Bounds). HoldsRecordLog (meaning x) image.active image.header image.groups old.reads) (ap (λ (q : Params). bounds_of q) same ∙ sym bounds) image.log in
       unharmed e (none image.active image.header image.groups (subst (HoldsRecordLog (meaning b) image.active image.header image.groups) files records))
 
-  -- what the log of a store in the files is, once loaded, and its last check
-  pub record IsLogOfStore (files : Files) (last : Disk) (p : Params) (view : RecordLogView) (check : Option Table) : Type 0 where
+  -- what the log of a store in these files is, once loaded, and its last check
+  pub record IsLogOfStore (m : Meaning O) (files : Files) (view : RecordLogView) (check : Option Table) : Type 0 where
     pub groups : List (List (Record O))
-    pub file : HoldsRecordLog (meaning_in meaning p) view.log.active view.log.header groups files
+    pub file : HoldsRecordLog m view.log.active view.log.header groups files
+    pub next_is : view.next ≡ next_after view.log.header.base (records_of groups)
     pub check_is : check ≡ last_check (records_of groups)
-    pub keeps : Keeps (meaning_in meaning p) last view (records_of groups) []
+
+  -- the records that a pass over the log met are those of the files
+  pub log_of_store : (m : Meaning O) → HasCodes m → (d : Disk) (files : Files) (view : RecordLogView) (check : Option Table) (records : List (Record O)) → d.agrees files
+      → IsHeldIn m files view → AreAll m d view.log records → check ≡ last_check records → IsLogOfStore m files view check
+  log_of_store m codes d files view check records agrees held all last =
+      let base = view.log.header.base in
+      let met = all.read files agrees (map (payload_of m) held.groups) held.file.log.log in
+      let same = one_grouping m codes base base base base held.groups met.groups held.file.log.placed (subst (λ (l : List (Record O)). AreRecords m base base l) met.records_are all.placed) met.payloads_are in
+      record { groups = held.groups; file = held.file; next_is = held.next; check_is = last ∙ ap (λ (l : List (Record O)). last_check l) (met.records_are ∙ sym same) }
 
   -- Objects and log are loaded.
   pub record HasLog (old last : Disk) (objects : Laid) (view : RecordLogView) (check : Option Table) : Type 0 where
     pub slots : HasSlots old last objects
     pub bounds : view.bounds ≡ bounds_of objects.slots.params
     pub low : 1 ≤ view.next
-    pub read : old.tells_files → IsLogOfStore old.reads last objects.slots.params view check
+    pub log : (files : Files) → last.agrees files → IsLogOfStore (meaning_in meaning objects.slots.params) files view check
+    pub read : old.tells_files → (it : IsLogOfStore (meaning_in meaning objects.slots.params) old.reads view check) × Keeps (meaning_in meaning objects.slots.params) last view (records_of it.groups) []
 
-  pub has_log : (old mid last : Disk) (objects : Laid) (b : Bounds) (view : RecordLogView) (check : Option Table) → HasSlots old mid objects → Stays mid last → b ≡ bounds_of objects.slots.params
-      → view.bounds ≡ b → 1 ≤ view.next → (mid.tells_files → (it : IsLoaded (meaning b) b mid last view) × (check ≡ last_check (records_of it.groups))) → HasLog old last objects view check
-  has_log old mid last objects b view check has kept bounds own low loaded = record {
+  -- a log that is loaded is one of the store
+  loaded_log : (m : Meaning O) (b : Bounds) (mid last : Disk) (files : Files) (view : RecordLogView) (check : Option Table) → mid.reads ≡ files → IsSettled mid
+      → (it : IsLoaded m b mid last view) × (check ≡ last_check (records_of it.groups)) → (it : IsLogOfStore m files view check) × Keeps m last view (records_of it.groups) []
+  loaded_log m b mid last files view check same settled found =
+      let is = found.0 in
+      let keeps = is.keeps settled in (
+        record {
+          groups = is.groups;
+          file = subst (HoldsRecordLog m view.log.active view.log.header is.groups) same is.file;
+          next_is = keeps.next_is ∙ ap (λ (l : List (Record O)). next_after view.log.header.base l) (append-nil (records_of is.groups));
+          check_is = found.1;
+        },
+        keeps,
+      )
+
+  pub has_log : ((b : Bounds) → HasBounds b (meaning b)) → ((b : Bounds) → IsSmall b → IsLawful (meaning b)) → (old mid last : Disk) (objects : Laid) (b : Bounds) (view : RecordLogView) (check : Option Table)
+      → HasSlots old mid objects → Stays mid last → b ≡ bounds_of objects.slots.params → view.bounds ≡ b → 1 ≤ view.next
+      → (mid.tells_files → (it : IsLoaded (meaning b) b mid last view) × (check ≡ last_check (records_of it.groups)))
+      → ((files : Files) → last.agrees files → IsHeldIn (meaning b) files view)
+      → (records : List (Record O)) × AreAll (meaning b) last view.log records × (view.next ≡ next_after view.log.header.base records) × (check ≡ last_check records)
+      → HasLog old last objects view check
+  has_log bounded lawful old mid last objects b view check has kept bounds own low loaded held counted = record {
     slots = slots_on old mid last objects has kept;
     bounds = own ∙ bounds;
     low = low;
-    read = λ told.
-        let found = loaded (has.kept.time.files_told.0 told) in
-        let is = found.0 in
-        let files = has.kept.reads told in
-        record {
-          groups = is.groups;
-          file = subst (λ (x : Bounds). HoldsRecordLog (meaning x) view.log.active view.log.header is.groups old.reads) bounds
-              (subst (HoldsRecordLog (meaning b) view.log.active view.log.header is.groups) files is.file);
-          check_is = found.1;
-          keeps = subst (λ (x : Bounds). Keeps (meaning x) last view (records_of is.groups) []) bounds (is.keeps has.settled);
-        };
+    log = λ files agrees.
+        let laid = has.laid files (agreed_before kept files agrees) in
+        let codes = subst (λ (x : Bounds). HasCodes (meaning x)) (sym bounds) (codes_in meaning bounded lawful objects.slots.params laid.slots.whole.in_range) in
+        subst (λ (x : Bounds). IsLogOfStore (meaning x) files view check) bounds
+        (log_of_store (meaning b) codes last files view check counted.0 agrees (held files agrees) counted.1 counted.3);
+    read = λ told. subst (λ (x : Bounds). (it : IsLogOfStore (meaning x) old.reads view check) × Keeps (meaning x) last view (records_of it.groups) []) bounds
+        (loaded_log (meaning b) b mid last old.reads view check (has.kept.reads told) has.settled (loaded (has.kept.time.files_told.0 told)));
   }
 
   module _ (old last : Disk) (objects : Laid) (view : RecordLogView) (check : Option Table) (has : HasLog old last objects view check) where
-    -- the next number is that after its records
-    pub next_is : (told : old.tells_files) → view.next ≡ next_after view.log.header.base (records_of (has.read told).groups)
-    next_is told =
-        let read = has.read told in
-        read.keeps.next_is ∙ ap (λ (l : List (Record O)). next_after view.log.header.base l) (append-nil (records_of read.groups))
-
     -- an open slot with the next number, or a later one, is a fault of the files
-    pub late_fault : (next place : ℕ) → next ≡ view.next → IsLateAt objects.slots next place → old.tells_files
-        → IsLateSlot (meaning (bounds_of (params_in (old.reads Objects)))) old.reads place
-    late_fault next place same at told =
-        let file = old.reads Objects in
-        let laid = has.slots.laid told in
-        let read = has.read told in
+    pub late_fault : (next place : ℕ) → next ≡ view.next → IsLateAt objects.slots next place → (files : Files) → last.agrees files
+        → IsLateSlot (meaning (bounds_of (params_in (files Objects)))) files place
+    late_fault next place same at files agrees =
+        let file = files Objects in
+        let laid = has.slots.laid files agrees in
+        let log = has.log files agrees in
         let params : params_in file ≡ objects.slots.params = params_of_file objects.slots.params file laid.slots.whole in
         let slot = late_slot objects.slots file next at.0 at.1 laid.slots at.2 in
         record {
@@ -204,57 +251,55 @@ module _ {O : Type 0} (meaning : Bounds → Meaning O) where
           next_is = record {
             active = view.log.active;
             header = view.log.header;
-            groups = read.groups;
-            log = subst (λ (q : Params). HoldsRecordLog (meaning_in meaning q) view.log.active view.log.header read.groups old.reads) (sym params) read.file;
-            here = same ∙ next_is told;
+            groups = log.groups;
+            log = subst (λ (q : Params). HoldsRecordLog (meaning_in meaning q) view.log.active view.log.header log.groups files) (sym params) log.file;
+            here = same ∙ log.next_is;
           };
           late = slot.1;
           here = at.3 ∙ ap (λ (q : Params). slot_place q.cap at.0 at.1 + 1) (sym params);
         }
 
-    pub late_fails : (next place : ℕ) → next ≡ view.next → IsLateAt objects.slots next place → old.tells_files → IsDamaged meaning old.reads Objects place
+    pub late_fails : (next place : ℕ) → next ≡ view.next → IsLateAt objects.slots next place → (files : Files) → last.agrees files → IsDamaged meaning files Objects place
     unfolding late_fault
-    late_fails next place same at told = record {
-      gate = gate_is_open objects.slots.params (old.reads Objects) (has.slots.laid told).slots.whole;
-      fault = at_late_slot place (whole_objects objects.slots.params old.reads (has.slots.laid told).slots.whole) (record {
-        late = late_fault next place same at told;
-        first = λ y t slot late. at.4 y t (is_late objects.slots (old.reads Objects) next y t (has.slots.laid told).slots slot late);
-      });
-    }
-
-    -- the log keeps its records on, as the machine stays
-    kept_on : (new : Disk) → Stays last new → (told : old.tells_files) → Keeps (meaning_in meaning objects.slots.params) new view (records_of (has.read told).groups) []
-    kept_on new kept told =
-        let read = has.read told in
-        keeps_stay (meaning_in meaning objects.slots.params) last new view (records_of read.groups) [] (has.slots.kept.time.files_told.0 told) kept read.keeps
-
-    -- what is loaded is what the files hold
-    pub is_read : (new : Disk) (plan : PlanView) (base : ℕ) → Stays last new → old.tells_files → ((x s : ℕ) → IsLate objects.slots view.next x s → ⊥)
-        → base ≡ view.log.header.base → plan.table ≡ table_or base check → plan.start ≡ least_start plan.table.next plan.table.starts
-        → IsRead meaning old.reads new objects view plan
-    is_read new plan base kept told none base_is table start =
-        let q = objects.slots.params in
-        let file = old.reads Objects in
-        let read = has.read told in
-        let next = next_is told in
-        let laid = has.slots.laid told in
+    late_fails next place same at files agrees =
+        let laid = has.slots.laid files agrees in
         record {
-          laid = laid;
-          groups = read.groups;
-          file = read.file;
-          planned = record {
-            table = table ∙ (λ i. table_or (base_is i) (read.check_is i));
-            start = start;
-          };
-          none_late = λ x s below two is_open.
-              let late = none_late objects.slots file view.next laid.slots has.low none x s below two is_open in
-              omega (arith, late, next);
-          keeps = kept_on new kept told;
+          gate = gate_is_open objects.slots.params (files Objects) laid.slots.whole;
+          fault = at_late_slot place (whole_objects objects.slots.params files laid.slots.whole) (record {
+            late = late_fault next place same at files agrees;
+            first = λ y t slot late. at.4 y t (is_late objects.slots (files Objects) next y t laid.slots slot late);
+          });
         }
 
-    pub is_ready : (new : Disk) → Stays last new → ((x s : ℕ) → IsLate objects.slots view.next x s → ⊥) → IsReady new objects view
-    is_ready new kept none = record {
-      settled = all_settled last new kept has.slots.settled;
+    -- what is loaded is what these files hold
+    abbrev pub is_filed : (files : Files) (plan : PlanView) (base : ℕ) → IsLaidOn objects (files Objects) → IsLogOfStore (meaning_in meaning objects.slots.params) files view check
+        → ((x s : ℕ) → IsLate objects.slots view.next x s → ⊥) → base ≡ view.log.header.base → plan.table ≡ table_or base check → plan.start ≡ least_start plan.table.next plan.table.starts
+        → IsFiled meaning files objects view plan
+    is_filed files plan base laid log none base_is table start = record {
+      laid = laid;
+      groups = log.groups;
+      file = log.file;
+      planned = record {
+        table = table ∙ (λ i. table_or (base_is i) (log.check_is i));
+        start = start;
+      };
+      none_late = λ x s below two is_open.
+          let late = none_late objects.slots (files Objects) view.next laid.slots has.low none x s below two is_open in
+          omega (arith, late, log.next_is);
+    }
+
+    -- and where the machine reports its files, they are those
+    pub is_read : (plan : PlanView) (base : ℕ) → old.tells_files → ((x s : ℕ) → IsLate objects.slots view.next x s → ⊥)
+        → base ≡ view.log.header.base → plan.table ≡ table_or base check → plan.start ≡ least_start plan.table.next plan.table.starts
+        → IsRead meaning old.reads last objects view plan
+    is_read plan base told none base_is table start = record {
+      filed = is_filed old.reads plan base (slots_told old last objects has.slots told) (has.read told).0 none base_is table start;
+      keeps = (has.read told).1;
+    }
+
+    pub is_ready : ((x s : ℕ) → IsLate objects.slots view.next x s → ⊥) → IsReady last objects view
+    is_ready none = record {
+      settled = has.slots.settled;
       empty = has.slots.empty;
       bounds = has.bounds;
       early = early_slots objects.slots view.next has.low none;
@@ -263,11 +308,12 @@ module _ {O : Type 0} (meaning : Bounds → Meaning O) where
   -- a late slot is no slot of files that meet their format
   pub late_never : ((b : Bounds) → HasBounds b (meaning b)) → ((b : Bounds) → IsSmall b → IsLawful (meaning b)) → (old last : Disk) (objects : Laid) (view : RecordLogView) (check : Option Table) (next place : ℕ)
       → HasLog old last objects view check → next ≡ view.next → IsLateAt objects.slots next place → old.tells_files → IsWellFormed meaning old.reads → ⊥
-  late_never bounded lawful old last objects view check next place has same at told image = no_late_slot meaning bounded lawful old.reads place image (late_fault old last objects view check has next place same at told)
+  late_never bounded lawful old last objects view check next place has same at told image =
+      no_late_slot meaning bounded lawful old.reads place image (late_fault old last objects view check has next place same at old.reads (told_agrees has.slots.kept told))
 
-  -- files that were read meet their format
-  pub read_well_formed : (files : Files) (d : Disk) (objects : Laid) (view : RecordLogView) (plan : PlanView) → IsRead meaning files d objects view plan → IsWellFormed meaning files
-  read_well_formed files d objects view plan is = record {
+  -- files that hold what was loaded meet their format
+  abbrev pub filed_well_formed : (files : Files) (objects : Laid) (view : RecordLogView) (plan : PlanView) → IsFiled meaning files objects view plan → IsWellFormed meaning files
+  filed_well_formed files objects view plan is = record {
     params = objects.slots.params;
     active = view.log.active;
     header = view.log.header;

@@ -1,22 +1,25 @@
 -- What a redo of what was loaded makes of the world.
-use Rattle.std.proofs.Common.{◌≡◌, ◌∙◌, sym, ap, subst, ℕ, zero, suc, ◌++◌, ◌+◌, ◌-◌, ◌*◌, List, [], ◌∷◌, map, take, drop, refl, arith, ⊎_elim, ◌≢◌}
+use Rattle.std.proofs.Common.{◌≡◌, ◌∙◌, sym, ap, subst, ℕ, zero, suc, ◌++◌, ◌+◌, ◌-◌, ◌*◌, List, [], ◌∷◌, map, take, drop, refl, arith, ⊎_elim, inr, nat_lt, ◌<◌, ◌≢◌, Err, IsErrOf}
 use Rattle.std.proofs.lemmas.List.{drop_all}
-use Rattle.disk_model.specs.Disk.{Files, Disk, IsDisk, Runs, In, Any, Same, IsSettled}
-use Rattle.disk_model.specs.Moments.{started}
+use Rattle.disk_model.specs.Disk.{Files, Disk, IsDisk, Runs, Stays, In, Any, Same, IsSettled}
+use Rattle.disk_model.specs.Moments.{agreed_before, started}
+use Rattle.disk_model.specs.declared.machine.FileNo.{FileNo}
 use Rattle.disk_model.specs.declared.machine.FileNo.TheVariants.{Objects}
 use Rattle.oper_core.specs.Meaning.{Meaning, HasBounds, IsLawful, IsSmall}
 use Rattle.oper_core.specs.declared.bounds.Bounds.{Bounds}
 use Rattle.formats.specs.Log.{Header}
-use Rattle.formats.specs.Objects.{bounds_of}
-use Rattle.formats.specs.Records.{payload_of, records_of}
+use Rattle.formats.specs.Objects.{bounds_of, slot_place}
+use Rattle.formats.specs.Records.{IsRecordLog, payload_of, records_of}
 use Rattle.formats.specs.declared.params.Params.{Params}
 use Rattle.formats.specs.declared.record.Record.{Record}
+use Rattle.log_frames.specs.LogView.{LogView}
 use Rattle.log_records.specs.CodecLaws.{HasCodes}
 use Rattle.log_records.specs.Loading.{IsTailFault}
 use Rattle.log_records.specs.RecordLog.{RecordLogView, Keeps}
 use Rattle.log_records.specs.Rewriting.{numbered_from}
 use Rattle.log_records.specs.Uniqueness.{one_records, no_record_fault}
-use Rattle.stable_objects.specs.SlotsView.{SlotsView, AreOf}
+use Rattle.stable_objects.specs.Reading.{IsLongValue}
+use Rattle.stable_objects.specs.SlotsView.{SlotsView, AreOf, head, holder_in}
 use Rattle.install_order.specs.declared.entry.Entry.{Entry}
 use Rattle.explain_core.specs.KeptLog.{AreQuiet, IsQuiet, quiet_turn, turns_kept, kept_stable}
 use Rattle.explain_core.specs.Sound.{IsSound}
@@ -39,8 +42,13 @@ use Rattle.redo_pass.specs.Causes as again
 use Rattle.redo_pass.specs.declared.redo_err.RedoErr.{RedoErr}
 use Rattle.redo_pass.specs.declared.redo_err.RedoErr.TheVariants as of_redo
 use Rattle.restart.specs.Causes.{FailsBy, from_redo}
+use Rattle.restart.specs.Damage.{IsReadAsDamaged}
 use Rattle.restart.specs.DamageLaws.{codes_in}
+use Rattle.restart.specs.Loading.{IsFiled}
 use Rattle.restart.specs.Redoing.{IsToRedo}
+use Rattle.restart.specs.declared.restart_err.RestartErr.TheVariants.{Damaged}
+use Rattle.restart.proofs.Judged.{fault_of, redo_rises}
+use Rattle.restart.proofs.Opened.{filed_well_formed, holder_two}
 
 -- what is stable of a check that waits, and of the commands before the base, no quiet step changes
 record IsRestKept {O : Type 0} (w v : World O) : Type 0 where
@@ -156,17 +164,70 @@ parts_in_use p log objects entries bounds used early =
     let same : p ≡ objects.slots.params = sym used.params in
     record { bounds = bounds ∙ ap (λ (q : Params). bounds_of q) same; store = subst (λ (q : Params). AreInUse q log.next (store objects entries)) same used; early = early }
 
+-- Where a log's file is as in some files, which hold whole records, none of them is reported to be damaged.
+pub no_tail_fault : {O : Type 0} (m : Meaning O) → HasCodes m → (d : Disk) (log : LogView) (groups : List (List (Record O))) (was now : Files) (file : FileNo) (place : ℕ)
+    → IsRecordLog m log.header groups (was log.active) → now log.active ≡ was log.active → d.agrees now → IsTailFault m d log file place → ⊥
+no_tail_fault m codes d log groups was now file place holds same agrees fault =
+    let here = subst (IsRecordLog m log.header groups) (sym same) holds in
+    no_record_fault m codes log.header groups (now log.active) place here (fault.1 now agrees (map (payload_of m) groups) here.log)
+
 -- why a redo fails
-pub redo_fails : {O : Type 0} (meaning : Bounds → Meaning O) → ((b : Bounds) → HasBounds b (meaning b)) → ((b : Bounds) → IsSmall b → IsLawful (meaning b)) → (rises : Type 0) (d : Disk) (log : RecordLogView) (slots : SlotsView) (e : RedoErr)
-    → log.bounds ≡ bounds_of slots.params → again.FailsBy rises (again.IsRedoFault (meaning log.bounds) d log.log slots) e
-    → FailsBy rises ⊥ (λ file place. d.tells_files → AreOf slots (d.reads Objects) → (stable : List (Record O)) → Keeps (meaning log.bounds) d log stable [] → ⊥) (from_redo e)
-redo_fails meaning bounded lawful rises d log slots of_redo.DiskFault bounds fails = fails
-redo_fails {O} meaning bounded lawful rises d log slots (of_redo.Damaged file place) bounds fails = λ told of stable keeps.
-    let m = meaning log.bounds in
-    let codes = subst (λ (b : Bounds). HasCodes (meaning b)) (sym bounds) (codes_in meaning bounded lawful slots.params of.whole.in_range) in
-    ⊎_elim
-    (λ (not : again.IsNotOf d slots file place). not.1 told of)
-    (λ (there : log.log.active ≢ Objects → IsTailFault m d log.log file place).
-    no_record_fault m codes log.log.header keeps.groups (d.reads log.log.active) place keeps.file ((there keeps.in_force.a_log).1 told (map (payload_of m) keeps.groups) keeps.file.log))
-    fails
-redo_fails meaning bounded lawful rises d log slots of_redo.Memory bounds fails = tt
+redo_fails : (rises : Type 0) (fault : FileNo → ℕ → Type 0) (e : RedoErr) → again.FailsBy rises fault e → FailsBy rises ⊥ fault (from_redo e)
+redo_fails rises fault of_redo.DiskFault fails = fails
+redo_fails rises fault (of_redo.Damaged file place) fails = fails
+redo_fails rises fault of_redo.Memory fails = tt
+
+module _ {O : Type 0} (meaning : Bounds → Meaning O) (bounded : (b : Bounds) → HasBounds b (meaning b)) (lawful : (b : Bounds) → IsSmall b → IsLawful (meaning b)) (d new : Disk) (log : RecordLogView) (runs : Runs (In Objects Any) Same d new) where
+  redo_never : (before after : SlotsView) (file : FileNo) (place : ℕ) → log.bounds ≡ bounds_of before.params → again.IsRedoFault (meaning log.bounds) d new log.log before after file place
+      → d.tells_files → AreOf before (d.reads Objects) → (stable : List (Record O)) → Keeps (meaning log.bounds) d log stable [] → ⊥
+  redo_never before after file place bounds fault told of stable keeps =
+      let codes = subst (λ (b : Bounds). HasCodes (meaning b)) (sym bounds) (codes_in meaning bounded lawful before.params of.whole.in_range) in
+      ⊎_elim
+      (λ (slot : again.IsSlotFault d new before after file place). slot.never told of)
+      (λ (tail : log.log.active ≢ Objects → IsTailFault (meaning log.bounds) new log.log file place).
+      no_tail_fault (meaning log.bounds) codes new log.log keeps.groups d.reads new.reads file place keeps.file ((runs.reads told).others log.log.active keeps.in_force.a_log)
+      (runs.ends.agreeing (runs.time.files_told.0 told)) (tail keeps.in_force.a_log))
+      fault
+
+  -- never by damage, where the machine reports its files and they are those that were loaded
+  pub redo_told : (rises : Type 0) (before after : SlotsView) (e : RedoErr) → log.bounds ≡ bounds_of before.params → again.FailsBy rises (again.IsRedoFault (meaning log.bounds) d new log.log before after) e
+      → FailsBy rises ⊥ (λ file place. d.tells_files → AreOf before (d.reads Objects) → (stable : List (Record O)) → Keeps (meaning log.bounds) d log stable [] → ⊥) (from_redo e)
+  redo_told rises before after e bounds fails =
+      let fault = again.IsRedoFault (meaning log.bounds) d new log.log before after in
+      redo_rises rises rises ⊥ fault _ (from_redo e) (λ risen. risen) (λ file place is. redo_never before after file place bounds is) (redo_fails rises fault e fails)
+
+  -- the damage that it reports is a fault
+  pub redo_reports : {T : Type 0} (rises : Type 0) (before after : SlotsView) (e : RedoErr) → again.FailsBy rises (again.IsRedoFault (meaning log.bounds) d new log.log before after) e
+      → (file : FileNo) (place : ℕ) → IsErrOf {T = T} (Err (from_redo e)) (Damaged file place) → again.IsRedoFault (meaning log.bounds) d new log.log before after file place
+  redo_reports rises before after e fails =
+      let fault = again.IsRedoFault (meaning log.bounds) d new log.log before after in
+      fault_of rises ⊥ fault (from_redo e) (redo_fails rises fault e fails)
+
+  -- In all files that agree at its end, a slot has too long a value, and before the redo they met their format.
+  pub redo_damages : (old : Disk) → Stays old d → (objects after : Laid) (plan : PlanView) (file : FileNo) (place : ℕ) → log.bounds ≡ bounds_of objects.slots.params → ((files : Files) → d.agrees files → IsFiled meaning files objects log plan)
+      → again.IsRedoFault (meaning log.bounds) d new log.log objects.slots after.slots file place → IsReadAsDamaged meaning old new file place
+  redo_damages old kept objects after plan file place bounds filed fault files agrees =
+      let was = runs.agreed files agrees in
+      let is = filed was.0 was.1 in
+      let q = objects.slots.params in
+      let m = meaning (bounds_of q) in
+      ⊎_elim
+      (λ (slot : again.IsSlotFault d new objects.slots after.slots file place).
+      let long = slot.long in
+      let s = holder_in after.slots long.object in
+      inr (record {
+        loaded = was.0;
+        before = agreed_before kept was.0 was.1;
+        formed = filed_well_formed meaning was.0 objects log plan is;
+        others = was.2.others;
+        file_is = long.file_is;
+        object = long.object;
+        below = subst (λ (p : Params). long.object < p.objects) slot.params long.below;
+        slot = s;
+        two = holder_two (nat_lt (head after.slots long.object 0) (head after.slots long.object 1));
+        long = subst (λ (p : Params). IsLongValue p.cap (slot_place p.cap long.object s) (files Objects) place) slot.params (long.long files agrees);
+      }))
+      (λ (tail : log.log.active ≢ Objects → IsTailFault (meaning log.bounds) new log.log file place).
+      absurd (no_tail_fault m (codes_in meaning bounded lawful q is.laid.slots.whole.in_range) new log.log is.groups was.0 files file place is.file.log (was.2.others log.log.active is.file.in_force.a_log) agrees
+      (subst (λ (b : Bounds). IsTailFault (meaning b) new log.log file place) bounds (tail is.file.in_force.a_log))))
+      fault

@@ -58,7 +58,7 @@ module _ {O : Type 0} (m : Meaning O) (p : Params) (old d : Disk) (used : ℕ) (
   pub to_redo : (meaning : Bounds → Meaning O) → meaning (bounds_of p) ≡ m → (objects : Laid) (log : RecordLogView) (plan : PlanView)
       → IsReady d objects log → IsRead meaning old.reads d objects log plan → IsSound m crashed → FilesShow m p old.reads crashed → IsToRedo m p d objects log plan crashed
   to_redo meaning is_m objects log plan ready read sound shows =
-      let same : objects.slots.params ≡ p = one_store objects.slots.params p (old.reads Objects) read.laid.slots.whole opens.shows.objects in
+      let same : objects.slots.params ≡ p = one_store objects.slots.params p (old.reads Objects) read.filed.laid.slots.whole opens.shows.objects in
       let files = sym (kept.reads opens.told) in
       record {
         found = record {
@@ -69,10 +69,10 @@ module _ {O : Type 0} (m : Meaning O) (p : Params) (old d : Disk) (used : ℕ) (
         };
         params = same;
         bounds = ready.bounds ∙ ap (λ (q : Params). bounds_of q) same;
-        of_file = subst (λ (f : Files). AreOf objects.slots (f Objects)) files read.laid.slots;
-        stable = records_of read.groups;
-        keeps = subst (λ (n : Meaning O). Keeps n d log (records_of read.groups) []) (ap (λ (q : Params). meaning (bounds_of q)) same ∙ is_m) read.keeps;
-        planned = read.planned;
+        of_file = subst (λ (f : Files). AreOf objects.slots (f Objects)) files read.filed.laid.slots;
+        stable = records_of read.filed.groups;
+        keeps = subst (λ (n : Meaning O). Keeps n d log (records_of read.filed.groups) []) (ap (λ (q : Params). meaning (bounds_of q)) same ∙ is_m) read.keeps;
+        planned = read.filed.planned;
       }
 
   -- the log that is loaded is as long as that of the files
@@ -140,7 +140,7 @@ attached_again meaning old d mid objects after log plan entries kept read runs s
     let told_d = runs.time.files_told.1 told_mid in
     let told = kept.time.files_told.1 told_d in
     let is = read told in (
-      laid told_d (subst (λ (f : Files). IsLaidOn objects (f Objects)) (sym (kept.reads told)) is.laid),
+      laid told_d (subst (λ (f : Files). IsLaidOn objects (f Objects)) (sym (kept.reads told)) is.filed.laid),
       beside_log (meaning log.bounds) objects.slots.params d mid log told_d runs settled
-          (record { stable = records_of is.groups; pending = []; keeps = subst (λ (b : Bounds). Keeps (meaning b) d log (records_of is.groups) []) (sym bounds) is.keeps }),
+          (record { stable = records_of is.filed.groups; pending = []; keeps = subst (λ (b : Bounds). Keeps (meaning b) d log (records_of is.filed.groups) []) (sym bounds) is.keeps }),
     )

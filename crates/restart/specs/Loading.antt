@@ -27,13 +27,17 @@ pub record IsPlanned {O : Type 0} (base : ℕ) (all : List (Record O)) (plan : P
   pub table : plan.table ≡ plan_table base all
   pub start : plan.start ≡ least_start plan.table.next plan.table.starts
 
--- Where the machine reports its files: the objects are those of the slots, the log in force holds some records, by which the
+-- What is loaded is that of these files: the objects are those of the slots, the log in force holds some records, by which the
 -- plan is, and no open slot has the number of a later one.
-pub record IsRead {O : Type 0} (meaning : Bounds → Meaning O) (files : Files) (d : Disk) (objects : Laid) (log : RecordLogView) (plan : PlanView) : Type 0 where
+pub record IsFiled {O : Type 0} (meaning : Bounds → Meaning O) (files : Files) (objects : Laid) (log : RecordLogView) (plan : PlanView) : Type 0 where
   pub laid : IsLaidOn objects (files Objects)
   pub groups : List (List (Record O))
   pub file : HoldsRecordLog (meaning (bounds_of objects.slots.params)) log.log.active log.log.header groups files
   pub planned : IsPlanned log.log.header.base (records_of groups) plan
   pub none_late : (x s : ℕ) → x < objects.slots.params.objects → s < 2 → IsOpenAt (slot_place objects.slots.params.cap x s) (files Objects)
       → identifier_at (slot_place objects.slots.params.cap x s) (files Objects) < next_after log.log.header.base (records_of groups)
-  pub keeps : Keeps (meaning (bounds_of objects.slots.params)) d log (records_of groups) []
+
+-- where the machine reports its files: what is loaded is that of them, and the log keeps its records
+pub record IsRead {O : Type 0} (meaning : Bounds → Meaning O) (files : Files) (d : Disk) (objects : Laid) (log : RecordLogView) (plan : PlanView) : Type 0 where
+  pub filed : IsFiled meaning files objects log plan
+  pub keeps : Keeps (meaning (bounds_of objects.slots.params)) d log (records_of filed.groups) []

@@ -1,11 +1,11 @@
 // The files of a store are read.
 ghost use Rattle.std.specs.Prelude.{◌≡◌, ◌<◌, ℕ, IfOk, IfErr, IsErrOf};
-ghost use Rattle.disk_model.specs.Disk.{Rises, Stays};
+ghost use Rattle.disk_model.specs.Disk.{Files, Rises, Stays};
 ghost use Rattle.disk_model.specs.declared.machine.FileNo.TheVariants.{Objects as ObjectsFile};
 ghost use Rattle.formats.specs.Bytes.{IsClosedAt, IsOpenAt};
 ghost use Rattle.formats.specs.FirstFault.{IsDamaged};
 ghost use Rattle.restart.specs.Causes.{FailsBy, IsNoDamage};
-ghost use Rattle.restart.specs.Loading.{IsRead, IsReady};
+ghost use Rattle.restart.specs.Loading.{IsFiled, IsRead, IsReady};
 ghost use Rattle.restart.specs.WellFormed.{IsWellFormed};
 
 use crate::RestartErr;
@@ -35,10 +35,11 @@ pub(crate) fn load<O: Oper, M: Machine>(
     ensures kept { Stays (M.disk machine.old) (M.disk machine.new) }
     ensures ready { IfOk result (λ it. IsReady (M.disk machine.new) it.objects it.log) }
     ensures read { (M.disk machine.old).tells_files → IfOk result (λ it. IsRead O.meaning (M.disk machine.old).reads (M.disk machine.new) it.objects it.log it.plan) }
+    ensures formed { (files : Files) → (M.disk machine.new).agrees files → IfOk result (λ it. IsFiled O.meaning files it.objects it.log it.plan) }
     ensures whole { (M.disk machine.old).tells_files → IsWellFormed O.meaning (M.disk machine.old).reads → IfErr result IsNoDamage }
     ensures cause { IfErr result (FailsBy (Rises (M.disk machine.old).disk_faults (M.disk machine.new).disk_faults)
-        ((M.disk machine.old).tells_files → IsClosedAt 0 ((M.disk machine.old).reads ObjectsFile))
-        (λ file place. (M.disk machine.old).tells_files → IsDamaged O.meaning (M.disk machine.old).reads file place)) }
+        ((files : Files) → (M.disk machine.new).agrees files → IsClosedAt 0 (files ObjectsFile))
+        (λ file place. (files : Files) → (M.disk machine.new).agrees files → IsDamaged O.meaning files file place)) }
     ensures memory { (M.disk machine.old).tells_files → IsErrOf result RestartErr.Memory → IsOpenAt 0 ((M.disk machine.old).reads ObjectsFile) }
 {
     settle(machine)?;

@@ -1,6 +1,7 @@
 // What is loaded is done again.
-ghost use Rattle.std.specs.Prelude.{◌≡◌, ℕ, None, [], List, IfOk, IfErr, OnOk};
+ghost use Rattle.std.specs.Prelude.{◌≡◌, ℕ, None, [], List, IfOk, IfErr, IsErrOf, OnOk};
 ghost use Rattle.disk_model.specs.Disk.{Rises, Runs, In, Any, Same, IsSettled};
+ghost use Rattle.disk_model.specs.declared.machine.FileNo.{FileNo};
 ghost use Rattle.disk_model.specs.declared.machine.FileNo.TheVariants.{Objects as ObjectsFile};
 ghost use Rattle.formats.specs.Objects.{bounds_of};
 ghost use Rattle.formats.specs.declared.params.Params.{Params as Numbers};
@@ -13,6 +14,7 @@ ghost use Rattle.standing.specs.Moments.{TakesSome};
 ghost use Rattle.cache_manager.specs.Laid.{IsLaidOn};
 ghost use Rattle.cache_manager.specs.Parts.{Shows, meaning_in, parts};
 ghost use Rattle.cache_manager.specs.Taking.{ArePartsInUse};
+ghost use Rattle.redo_pass.specs.Causes.{IsRedoFault};
 ghost use Rattle.redo_pass.specs.Redo.{redo_steps, redone_world};
 ghost use Rattle.restart.specs.Causes.{FailsBy};
 ghost use Rattle.restart.specs.Loading.{IsReady};
@@ -58,6 +60,8 @@ pub(crate) fn do_again<O: Oper, M: Machine>(
     ensures cause { IfErr result (FailsBy (Rises (M.disk machine.old).disk_faults (M.disk machine.new).disk_faults) ⊥
         (λ file place. (M.disk machine.old).tells_files → AreOf objects.old.slots ((M.disk machine.old).reads ObjectsFile) →
         (stable : List (Record O)) → Keeps (O.meaning log.now.bounds) (M.disk machine.old) log.now stable [] → ⊥)) }
+    ensures damage { (file : FileNo) (place : ℕ) → IsErrOf result (RestartErr.Damaged file place) →
+        IsRedoFault (O.meaning log.now.bounds) (M.disk machine.old) (M.disk machine.new) log.now.log objects.old.slots objects.new.slots file place }
 {
     explain_core::turns_keep::<O>();
     redo_pass::a_found_world_is_due::<O>();

@@ -3,7 +3,7 @@ use Rattle.formats.specs.Objects.{bounds_of}
 use Rattle.standing.specs.OneStable.{small_store}
 use Rattle.standing.specs.Crashed.{crashed-stable}
 use Rattle.restart.specs.DamageLaws.{codes_in}
-use Rattle.restart.proofs.Redone.{is_due, redone_shows, parts_in_use, redo_fails}
+use Rattle.restart.proofs.Redone.{is_due, redone_shows, parts_in_use, redo_reports, redo_told}
 use Rattle.restart.proofs.redoing.do_again.Goals as goal
 
 pub returns-in_err-graph-clause-any_moment : goal.returns-in_err-graph-clause-any_moment
@@ -15,7 +15,14 @@ returns-in_err-graph-clause-any_moment g c told p w to =
 pub returns-in_err-graph-clause-cause : goal.returns-in_err-graph-clause-cause
 returns-in_err-graph-clause-cause g c =
     let p = err_from_is_err_and c.from_residual.result c.from_residual.ensures.1 in
-    rw (p.1, p.2) (redo_fails g.O.Oper.meaning g.met.O.Oper.bounded g.met.O.Oper.lawful _ (g.M.Machine.disk c.args.machine.now) c.args.log.now c.args.objects.now.slots c.in_err-graph.field-0.0 c.requires.bounds c.in_err-graph.ensures.cause)
+    rw (p.1, p.2) (redo_told g.O.Oper.meaning g.met.O.Oper.bounded g.met.O.Oper.lawful (g.M.Machine.disk c.args.machine.now) (g.M.Machine.disk c.redo.new.machine) c.args.log.now c.redo.ensures.runs
+    _ c.args.objects.now.slots c.redo.new.objects.slots c.in_err-graph.field-0.0 c.requires.bounds c.in_err-graph.ensures.cause)
+
+pub returns-in_err-graph-clause-damage : goal.returns-in_err-graph-clause-damage
+returns-in_err-graph-clause-damage g c =
+    let p = err_from_is_err_and c.from_residual.result c.from_residual.ensures.1 in
+    rw (p.1, p.2) (redo_reports g.O.Oper.meaning g.met.O.Oper.bounded g.met.O.Oper.lawful (g.M.Machine.disk c.args.machine.now) (g.M.Machine.disk c.redo.new.machine) c.args.log.now c.redo.ensures.runs
+    _ c.args.objects.now.slots c.redo.new.objects.slots c.in_err-graph.field-0.0 c.in_err-graph.ensures.cause)
 
 pub returns-clause-settled : goal.returns-clause-settled
 returns-clause-settled g c = c.in_ok-graph.ensures.settled c.requires.settled

@@ -1,4 +1,4 @@
-use Rattle.std.proofs.Common.{[], refl, sym, subst, Ok, Err}
+use Rattle.std.proofs.Common.{[], refl, sym, subst, inl, Ok, Err}
 use Rattle.disk_model.specs.Disk.{Files}
 use Rattle.disk_model.specs.declared.machine.FileNo.TheVariants.{Objects}
 use Rattle.formats.specs.Objects.{bounds_of}
@@ -13,8 +13,9 @@ use Rattle.cache_manager.specs.Parts.{parts}
 use Rattle.restart.specs.Causes.{from_check}
 use Rattle.restart.specs.Opening.{IsJudged, IsOpening, opened}
 use Rattle.restart.specs.Starts.{at_start}
-use Rattle.restart.proofs.Judged.{passed_on, quiet_stays, quiet_objects, quiet_then, rises_behind, not_opened, is_opened, check_fails, check_harmless, redo_harmless, redo_rises, judged_whole, judged_unread, unless_failed}
-use Rattle.restart.proofs.Opened.{read_well_formed}
+use Rattle.restart.proofs.Judged.{passed_on, quiet_stays, quiet_objects, quiet_then, rises_behind, not_opened, is_opened, check_fails, check_harmless, check_never, fault_of, same_error, IsReportOf, redo_harmless, redo_rises, judged_whole, judged_unread, unless_failed}
+use Rattle.restart.proofs.Opened.{filed_well_formed}
+use Rattle.restart.proofs.Redone.{redo_damages}
 use Rattle.restart.proofs.Restarts.{to_redo, used_is, opened_after, redo_moments, check_moments, from_start, attached_again}
 use Rattle.restart.proofs.restarting.restart.Goals as goal
 
@@ -30,6 +31,11 @@ returns-in_err-loaded-clause-judged g c told =
 
 pub returns-in_err-loaded-clause-moments : goal.returns-in_err-loaded-clause-moments
 returns-in_err-loaded-clause-moments g c told p used w opens = at_start (g.M.Machine.disk c.args.machine.now) (g.M.Machine.disk c.load.new.machine) _ c.load.ensures.kept told
+
+pub returns-in_err-loaded-clause-damage : goal.returns-in_err-loaded-clause-damage
+returns-in_err-loaded-clause-damage g c =
+    passed_on (λ r. IsReportOf g.O.Oper.meaning (g.M.Machine.disk c.args.machine.now) (g.M.Machine.disk c.load.new.machine) (opened r)) c.from_residual.result c.in_err-loaded.field-0.0 c.from_residual.ensures.1
+    (λ file place is files agrees. inl (fault_of _ _ _ c.in_err-loaded.field-0.0 c.in_err-loaded.ensures.cause file place is files agrees))
 
 pub do_again-requires-clause-settled : goal.do_again-requires-clause-settled
 do_again-requires-clause-settled g c =
@@ -54,11 +60,17 @@ returns-in_err-graph-clause-opening g c =
 pub returns-in_err-graph-clause-judged : goal.returns-in_err-graph-clause-judged
 returns-in_err-graph-clause-judged g c told =
     passed_on (λ r. IsJudged g.O.Oper.meaning (g.M.Machine.disk c.args.machine.now) (g.M.Machine.disk c.do_again.new.machine) (opened r)) c.from_residual-in_err-graph.result c.in_err-graph.field-0.0 c.from_residual-in_err-graph.ensures.1
-    (judged_whole g.O.Oper.meaning g.met.O.Oper.bounded g.met.O.Oper.lawful (g.M.Machine.disk c.args.machine.now) (g.M.Machine.disk c.do_again.new.machine) (read_well_formed g.O.Oper.meaning (g.M.Machine.disk c.args.machine.now).reads (g.M.Machine.disk c.load.new.machine) c.in_ok-loaded.loaded.objects c.in_ok-loaded.loaded.log c.in_ok-loaded.loaded.plan (c.in_ok-loaded.ensures.read told)) (Err c.in_err-graph.field-0.0)
+    (judged_whole g.O.Oper.meaning g.met.O.Oper.bounded g.met.O.Oper.lawful (g.M.Machine.disk c.args.machine.now) (g.M.Machine.disk c.do_again.new.machine) (filed_well_formed g.O.Oper.meaning (g.M.Machine.disk c.args.machine.now).reads c.in_ok-loaded.loaded.objects c.in_ok-loaded.loaded.log c.in_ok-loaded.loaded.plan (c.in_ok-loaded.ensures.read told).filed) (Err c.in_err-graph.field-0.0)
     (redo_harmless _ _ c.in_err-graph.field-0.0 c.in_err-graph.ensures.cause (λ f place none.
     let read = c.in_ok-loaded.ensures.read told in
-    none (c.load.ensures.kept.time.files_told.0 told) (subst (λ (fs : Files). AreOf c.in_ok-loaded.loaded.objects.slots (fs Objects)) (sym (c.load.ensures.kept.reads told)) read.laid.slots)
-    (records_of read.groups) (subst (λ (b : Bounds). Keeps (g.O.Oper.meaning b) (g.M.Machine.disk c.load.new.machine) c.in_ok-loaded.loaded.log (records_of read.groups) []) (sym c.in_ok-loaded.ensures.ready.bounds) read.keeps))))
+    none (c.load.ensures.kept.time.files_told.0 told) (subst (λ (fs : Files). AreOf c.in_ok-loaded.loaded.objects.slots (fs Objects)) (sym (c.load.ensures.kept.reads told)) read.filed.laid.slots)
+    (records_of read.filed.groups) (subst (λ (b : Bounds). Keeps (g.O.Oper.meaning b) (g.M.Machine.disk c.load.new.machine) c.in_ok-loaded.loaded.log (records_of read.filed.groups) []) (sym c.in_ok-loaded.ensures.ready.bounds) read.keeps))))
+
+pub returns-in_err-graph-clause-damage : goal.returns-in_err-graph-clause-damage
+returns-in_err-graph-clause-damage g c =
+    passed_on (λ r. IsReportOf g.O.Oper.meaning (g.M.Machine.disk c.args.machine.now) (g.M.Machine.disk c.do_again.new.machine) (opened r)) c.from_residual-in_err-graph.result c.in_err-graph.field-0.0 c.from_residual-in_err-graph.ensures.1
+    (λ file place is. redo_damages g.O.Oper.meaning g.met.O.Oper.bounded g.met.O.Oper.lawful (g.M.Machine.disk c.load.new.machine) (g.M.Machine.disk c.do_again.new.machine) c.in_ok-loaded.loaded.log
+    c.do_again.ensures.runs (g.M.Machine.disk c.args.machine.now) c.load.ensures.kept c.in_ok-loaded.loaded.objects c.do_again.new.objects c.in_ok-loaded.loaded.plan file place c.in_ok-loaded.ensures.ready.bounds c.in_ok-loaded.ensures.formed (c.in_err-graph.ensures.damage file place (same_error is)))
 
 pub returns-in_err-graph-clause-moments : goal.returns-in_err-graph-clause-moments
 returns-in_err-graph-clause-moments g c told p used w opens =
@@ -85,7 +97,12 @@ returns-in_err-closing_check-clause-opening g c =
 pub returns-in_err-closing_check-clause-judged : goal.returns-in_err-closing_check-clause-judged
 returns-in_err-closing_check-clause-judged g c told =
     passed_on (λ r. IsJudged g.O.Oper.meaning (g.M.Machine.disk c.args.machine.now) (g.M.Machine.disk c.closing_check.new.machine) (opened r)) c.from_residual-in_err-closing_check.result (from_check c.in_err-closing_check.field-0.0) c.from_residual-in_err-closing_check.ensures.1
-    (judged_whole g.O.Oper.meaning g.met.O.Oper.bounded g.met.O.Oper.lawful (g.M.Machine.disk c.args.machine.now) (g.M.Machine.disk c.closing_check.new.machine) (read_well_formed g.O.Oper.meaning (g.M.Machine.disk c.args.machine.now).reads (g.M.Machine.disk c.load.new.machine) c.in_ok-loaded.loaded.objects c.in_ok-loaded.loaded.log c.in_ok-loaded.loaded.plan (c.in_ok-loaded.ensures.read told)) (Err (from_check c.in_err-closing_check.field-0.0)) (check_harmless c.in_err-closing_check.field-0.0))
+    (judged_whole g.O.Oper.meaning g.met.O.Oper.bounded g.met.O.Oper.lawful (g.M.Machine.disk c.args.machine.now) (g.M.Machine.disk c.closing_check.new.machine) (filed_well_formed g.O.Oper.meaning (g.M.Machine.disk c.args.machine.now).reads c.in_ok-loaded.loaded.objects c.in_ok-loaded.loaded.log c.in_ok-loaded.loaded.plan (c.in_ok-loaded.ensures.read told).filed) (Err (from_check c.in_err-closing_check.field-0.0)) (check_harmless c.in_err-closing_check.field-0.0))
+
+pub returns-in_err-closing_check-clause-damage : goal.returns-in_err-closing_check-clause-damage
+returns-in_err-closing_check-clause-damage g c =
+    passed_on (λ r. IsReportOf g.O.Oper.meaning (g.M.Machine.disk c.args.machine.now) (g.M.Machine.disk c.closing_check.new.machine) (opened r)) c.from_residual-in_err-closing_check.result (from_check c.in_err-closing_check.field-0.0) c.from_residual-in_err-closing_check.ensures.1
+    (λ file place is. absurd (check_never c.in_err-closing_check.field-0.0 file place is))
 
 pub returns-in_err-closing_check-clause-moments : goal.returns-in_err-closing_check-clause-moments
 returns-in_err-closing_check-clause-moments g c told p used w opens =
@@ -113,7 +130,7 @@ returns-clause-opening g c =
 
 pub returns-clause-judged : goal.returns-clause-judged
 returns-clause-judged g c told =
-    judged_whole g.O.Oper.meaning g.met.O.Oper.bounded g.met.O.Oper.lawful (g.M.Machine.disk c.args.machine.now) (g.M.Machine.disk c.closing_check.new.machine) (read_well_formed g.O.Oper.meaning (g.M.Machine.disk c.args.machine.now).reads (g.M.Machine.disk c.load.new.machine) c.in_ok-loaded.loaded.objects c.in_ok-loaded.loaded.log c.in_ok-loaded.loaded.plan (c.in_ok-loaded.ensures.read told)) (Ok (parts c.closing_check.new.log c.do_again.new.objects c.in_ok-graph.graph.entries)) tt
+    judged_whole g.O.Oper.meaning g.met.O.Oper.bounded g.met.O.Oper.lawful (g.M.Machine.disk c.args.machine.now) (g.M.Machine.disk c.closing_check.new.machine) (filed_well_formed g.O.Oper.meaning (g.M.Machine.disk c.args.machine.now).reads c.in_ok-loaded.loaded.objects c.in_ok-loaded.loaded.log c.in_ok-loaded.loaded.plan (c.in_ok-loaded.ensures.read told).filed) (Ok (parts c.closing_check.new.log c.do_again.new.objects c.in_ok-graph.graph.entries)) tt
 
 pub returns-clause-follows : goal.returns-clause-follows
 returns-clause-follows g c p used w opens =
