@@ -3,7 +3,7 @@ use Rattle.std.proofs.Common.{◌≡◌, ◌∙◌, subst, ℕ, ◌≤◌, false
 use Rattle.std.specs.Prelude.{◌↔◌, Result, Ok, Err, IfErr, IfSome}
 use Rattle.std.specs.Result.{result_err}
 use Rattle.std.proofs.lemmas.Bool.{both_ways}
-use Rattle.disk_model.specs.Disk.{Disk, IsDisk, Rises}
+use Rattle.disk_model.specs.Disk.{Disk, IsDisk, Rises, Stays}
 use Rattle.disk_model.specs.Moments.{passes_none, passes_twice}
 use Rattle.oper_core.specs.Meaning.{Meaning}
 use Rattle.oper_core.specs.declared.bounds.Bounds.{Bounds}
@@ -16,7 +16,8 @@ use Rattle.cache_manager.specs.Taking.Ending.{Stopped}
 use Rattle.execution.specs.Answers.{ending_of_exec}
 use Rattle.execution.specs.declared.exec_err.ExecErr.{ExecErr}
 use Rattle.execution.specs.declared.exec_err.ExecErr.TheVariants.{Refused, LogFull, LsnEnd, DiskFault, Damaged, Memory}
-use Rattle.store_engine.specs.Engine.{EngineView, IsAttached, IsCall, IsFailed, IsFetch, IsOutcome, ShowsIn, params_of}
+use Rattle.store_engine.specs.Engine.{EngineView, IsAttached, IsCall, IsFailed, IsFetch, ShowsIn, params_of}
+use Rattle.store_engine.specs.FailureLaws.{none_damaged, still_none_damaged}
 use Rattle.store_engine.specs.Failures.{IsFetchFailure}
 use Rattle.command_lists.specs.Lists.{AreCalls, IsUndamaged, ending_of}
 use Rattle.command_lists.specs.Steps.{HasFetched, HasRun}
@@ -54,19 +55,20 @@ module _ {O : Type 0} (meaning : Bounds → Meaning O) (old new : Disk) (before 
   same_ending (Err (Damaged file place)) = refl
   same_ending (Err Memory) = refl
 
-  undamaged_run : (op : O) (r : Result ℕ ExecErr) → IsOutcome meaning old new before.parts after.parts op r → old.tells_files → IsAttached meaning old before → IsUndamaged (result_err r)
-  undamaged_run op (Ok n) outcome told attached = tt
-  undamaged_run op (Err (Refused refusal)) outcome told attached = tt
-  undamaged_run op (Err (LogFull used need limit)) outcome told attached = tt
-  undamaged_run op (Err (LsnEnd number)) outcome told attached = tt
-  undamaged_run op (Err DiskFault) outcome told attached = tt
-  undamaged_run op (Err (Damaged file place)) outcome told attached = absurd (outcome.1.1 told (attached told).0)
-  undamaged_run op (Err Memory) outcome told attached = tt
+  undamaged_run : IsDisk new → (op : O) (r : Result ℕ ExecErr) → HasRun meaning old new before after op r → old.tells_files → IsAttached meaning old before → IsUndamaged (result_err r)
+  undamaged_run lawful op (Ok n) ran told attached = tt
+  undamaged_run lawful op (Err (Refused refusal)) ran told attached = tt
+  undamaged_run lawful op (Err (LogFull used need limit)) ran told attached = tt
+  undamaged_run lawful op (Err (LsnEnd number)) ran told attached = tt
+  undamaged_run lawful op (Err DiskFault) ran told attached = tt
+  undamaged_run lawful op (Err (Damaged file place)) ran told attached =
+      still_none_damaged meaning before.parts after.parts lawful ran.call.time ran.outcome.0.objects.slots (⊎_elim (λ failed. absurd failed) (λ keeps. keeps) ran.call.attached) told attached ran.outcome.1
+  undamaged_run lawful op (Err Memory) ran told attached = tt
 
-  pub calls_run : (op : O) (r : Result ℕ ExecErr) → HasRun meaning old new before after op r → AreCalls meaning old new before after (result_err r)
-  calls_run op r ran = record {
+  pub calls_run : IsDisk new → (op : O) (r : Result ℕ ExecErr) → HasRun meaning old new before after op r → AreCalls meaning old new before after (result_err r)
+  calls_run lawful op r ran = record {
     call = subst (λ (e : Ending). IsCall meaning (params_of before).limit old new before after 0 e) (same_ending r) ran.call;
-    undamaged = undamaged_run op r ran.outcome;
+    undamaged = undamaged_run lawful op r ran;
   }
 
   -- ---- an object
@@ -103,14 +105,14 @@ module _ {O : Type 0} (meaning : Bounds → Meaning O) (old new : Disk) (before 
     fault_of (Some (Damaged file place)) cause failed = absurd failed
     fault_of (Some Memory) cause failed = absurd failed
 
-    undamaged_fetch : (error : Option ExecErr) → Failure error → old.tells_files → IsAttached meaning old before → IsUndamaged error
-    undamaged_fetch None cause told attached = tt
-    undamaged_fetch (Some (Refused refusal)) cause told attached = tt
-    undamaged_fetch (Some (LogFull used need limit)) cause told attached = tt
-    undamaged_fetch (Some (LsnEnd number)) cause told attached = tt
-    undamaged_fetch (Some DiskFault) cause told attached = tt
-    undamaged_fetch (Some (Damaged file place)) cause told attached = absurd (cause.1.1 told (attached told).0)
-    undamaged_fetch (Some Memory) cause told attached = tt
+    undamaged_fetch : Stays old new → (error : Option ExecErr) → Failure error → old.tells_files → IsAttached meaning old before → IsUndamaged error
+    undamaged_fetch stays None cause told attached = tt
+    undamaged_fetch stays (Some (Refused refusal)) cause told attached = tt
+    undamaged_fetch stays (Some (LogFull used need limit)) cause told attached = tt
+    undamaged_fetch stays (Some (LsnEnd number)) cause told attached = tt
+    undamaged_fetch stays (Some DiskFault) cause told attached = tt
+    undamaged_fetch stays (Some (Damaged file place)) cause told attached = none_damaged meaning before.parts stays told attached cause.1
+    undamaged_fetch stays (Some Memory) cause told attached = tt
 
     pub calls_fetched : (error : Option ExecErr) → HasFetched meaning old new before after object error → AreCalls meaning old new before after error
     calls_fetched error fetched = record {
@@ -124,7 +126,7 @@ module _ {O : Type 0} (meaning : Bounds → Meaning O) (old new : Disk) (before 
         broken = ((λ broken. (fails_so error).0 (fetched.call.broken.0 broken)), (λ failed. fetched.call.broken.1 ((fails_so error).1 failed)));
         fault = fault_of error fetched.cause;
       };
-      undamaged = undamaged_fetch error fetched.cause;
+      undamaged = undamaged_fetch fetched.call.kept error fetched.cause;
     }
 
     -- what `fetch` says of its answer, it says of the error

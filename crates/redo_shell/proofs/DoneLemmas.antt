@@ -5,7 +5,7 @@ use Rattle.std.specs.Prelude.{⊤, ◌&&◌, true, nat_lt, nat_le, if◌then◌e
 use Rattle.std.proofs.lemmas.Bool.{cond_both, false_from_ne_true}
 use Rattle.std.proofs.lemmas.List.{append-nil, length-take-le}
 use Rattle.std.proofs.Math.Path.{fun_ext}
-use Rattle.disk_model.specs.Disk.{Files, Disk}
+use Rattle.disk_model.specs.Disk.{Files, Disk, IsDisk}
 use Rattle.disk_model.specs.declared.machine.FileNo.{FileNo}
 use Rattle.oper_core.specs.Meaning.{Meaning, refusal_of, state_after}
 use Rattle.oper_core.specs.State.{State}
@@ -39,7 +39,8 @@ use Rattle.script_lines.specs.Grammar.{Request, AsksFor, force, trim}
 use Rattle.script_lines.specs.Replies.{Reply, ok, ran, value, pairs, forced, bad, refused, bad_tree, tree_full, full, end, object_value, command_count, stat, summary, silence, reply_of}
 use Rattle.script_lines.specs.declared.answer.Answer.{Answer}
 use Rattle.script_lines.specs.declared.answer.Answer.TheVariants as answers
-use Rattle.store_engine.specs.Engine.{EngineView, InEachImage, KeepsCommands, IsFailed, SaysStop, EpochIs, params_of, used_in, forced_in, logged_since}
+use Rattle.store_engine.specs.Engine.{EngineView, InEachImage, IsOutcome, KeepsCommands, IsFailed, SaysStop, EpochIs, params_of, used_in, forced_in, logged_since}
+use Rattle.store_engine.specs.FailureLaws.{still_none_damaged}
 use Rattle.redo_shell.specs.Store.{IsAttached, IsCall}
 use Rattle.store_engine.specs.Engine as of_engine
 use Rattle.redo_shell.specs.Found.{EndsAtLast, IsStopped, IsOfEngine, IsDone, IsAnswerOf, IsShort, MayStop, IsUpkept}
@@ -430,8 +431,9 @@ works_on v is working failed = working (subst (λ (x : ExecErr). IsFailed (endin
 pub fails_so : {e : ExecErr} → e ≡ DiskFault → IsFailed (ending_of_exec (Err e))
 fails_so is = subst (λ (x : ExecErr). IsFailed (ending_of_exec (Err x))) (sym is) tt
 
--- no slot of files that the objects are laid on is damaged
-pub none_damaged : (old new : Disk) (before : EngineView) (op : Command) {e : ExecErr} (file : FileNo) (place : ℕ) → IsExecFailure all_meaning old new before.parts op e → e ≡ Damaged file place → old.tells_files → IsAttached old before → ⊥
-none_damaged old new before op file place failure is told attached =
-    let here = subst (λ (x : ExecErr). IsExecFailure all_meaning old new before.parts op x) is failure in
-    here.1 told (attached told).0
+-- no slot of an engine with its files is damaged
+pub exec_undamaged : {old new : Disk} (before after : EngineView) {most n : ℕ} (op : Command) {e : ExecErr} (file : FileNo) (place : ℕ) → IsDisk new → IsCall most old new before after n (ending_of_exec (Err e))
+    → IsOutcome all_meaning old new before.parts after.parts op (Err e) → e ≡ Damaged file place → old.tells_files → IsAttached old before → ⊥
+exec_undamaged {old} {new} before after op file place disk call outcome is told attached =
+    let here = subst (λ (x : ExecErr). IsExecFailure all_meaning old new before.parts op x) is outcome.1 in
+    still_none_damaged all_meaning before.parts after.parts disk call.time outcome.0.objects.slots (still_attached call (works_on (Damaged file place) is (λ failed. failed))) told attached here

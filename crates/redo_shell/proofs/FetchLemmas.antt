@@ -1,16 +1,21 @@
 -- What a fetch leaves.
-use Rattle.std.proofs.Common.{◌≡◌, ◌≤◌, List, ℕ, ap, sym, arith, Bool, true, false}
+use Rattle.std.proofs.Common.{◌≡◌, ◌≤◌, List, ℕ, ap, subst, sym, arith, Bool, true, false}
 use Rattle.std.proofs.lemmas.Bool.{false_from_ne_true}
-use Rattle.disk_model.specs.Disk.{Disk}
+use Rattle.disk_model.specs.Disk.{Disk, Stays}
+use Rattle.disk_model.specs.declared.machine.FileNo.{FileNo}
 use Rattle.formats.specs.declared.params.Params.{Params}
 use Rattle.op_codec.specs.AllOps.{all_meaning}
 use Rattle.log_frames.specs.LogView.{used_of}
 use Rattle.log_records.specs.RecordLog.{RecordLogView}
 use Rattle.explain_core.specs.World.{World}
+use Rattle.execution.specs.declared.exec_err.ExecErr.{ExecErr}
+use Rattle.execution.specs.declared.exec_err.ExecErr.TheVariants.{Damaged}
 use Rattle.store_engine.specs.Engine.{EngineView, forced_in}
 use Rattle.store_engine.specs.Engine as of_engine
+use Rattle.store_engine.specs.FailureLaws.{none_damaged}
+use Rattle.store_engine.specs.Failures.{IsFetchFailure}
 use Rattle.redo_shell.specs.Stages.{stage_of}
-use Rattle.redo_shell.specs.Store.{Command, ShowsIn, Says, Holds, Kept}
+use Rattle.redo_shell.specs.Store.{Command, IsAttached, ShowsIn, Says, Holds, Kept}
 
 pub not_a_fault : (broken : Bool) → (broken ≡ true → ⊥) → broken ≡ false
 not_a_fault broken none = false_from_ne_true broken none
@@ -31,3 +36,9 @@ fetched_kept {p} {old} {new} {before} {after} {commands} holds shows log identit
   },
   λ i. record { world = holds.world; used = used_of (log i).log; identities = identities i },
 )
+
+-- no slot of an engine with its files is damaged
+pub fetch_undamaged : {old new : Disk} (before : EngineView) (object : ℕ) {e : ExecErr} (file : FileNo) (place : ℕ) → Stays old new → IsFetchFailure old new before object e → e ≡ Damaged file place
+    → old.tells_files → IsAttached old before → ⊥
+fetch_undamaged {old} {new} before object file place stays failure is told attached =
+    none_damaged all_meaning before.parts stays told attached (subst (λ (x : ExecErr). IsFetchFailure old new before object x) is failure).1

@@ -12,7 +12,7 @@ use Rattle.formats.specs.declared.params.Params.{Params}
 use Rattle.log_records.specs.RecordLaws.{keeps_stay}
 use Rattle.log_records.specs.RecordLog.{RecordLogView}
 use Rattle.stable_objects.specs.Reading.{FailsBy}
-use Rattle.stable_objects.specs.SlotsView.{SlotsView, AreOf, id_in}
+use Rattle.stable_objects.specs.SlotsView.{SlotsView, id_in}
 use Rattle.stable_objects.specs.declared.slot_err.SlotErr.{SlotErr}
 use Rattle.stable_objects.specs.declared.slot_err.SlotErr.TheVariants as of_slot
 use Rattle.dirty_cache.specs.Contents.{held}
@@ -23,6 +23,7 @@ use Rattle.cache_manager.specs.Fetched.{IsFetched, fetched-in_use, fetched-shows
 use Rattle.cache_manager.specs.Kept.{IsAttached}
 use Rattle.cache_manager.specs.KeptLaws.{stays_log}
 use Rattle.cache_manager.specs.Laid.{Laid, IsLaidOn, KeepsCells, cell_or, values_in}
+use Rattle.cache_manager.specs.LongSlot.{IsLongSlot}
 use Rattle.cache_manager.specs.Parts.{AreInUse, Shows, ShowsStore, parts, store}
 use Rattle.execution.specs.declared.exec_err.ExecErr.TheVariants.{DiskFault}
 use Rattle.store_engine.specs.Engine.{EngineView, Holds, IsFetch, IsUsable, Kept, ShowsIn, params_of, view_of}
@@ -51,12 +52,12 @@ ok_slots (Err e) P Q so has = tt
 
 -- why a slot is not read is why the object is not fetched
 pub fetch_cause : {T : Type 0} (r : Result T SlotErr) (old new : Disk) (engine : EngineView) (object : ℕ) → object < (params_of engine).objects
-    → IfErr r (FailsBy (Rises old.disk_faults new.disk_faults) ⊥ (λ file place. (file ≡ Objects) × (old.tells_files → AreOf engine.parts.store.objects.slots (old.reads Objects) → ⊥)))
+    → IfErr r (FailsBy (Rises old.disk_faults new.disk_faults) ⊥ (IsLongSlot new engine.parts.store.objects.slots))
     → IfErr (of_slots r) (IsFetchFailure old new engine object)
 fetch_cause (Ok value) old new engine object below cause = tt
 fetch_cause (Err of_slot.NotAStore) old new engine object below cause = absurd cause
 fetch_cause (Err of_slot.DiskFault) old new engine object below cause = (below, cause)
-fetch_cause (Err (of_slot.Damaged file place)) old new engine object below cause = (below, (cause.0, λ told laid. cause.1 told laid.slots))
+fetch_cause (Err (of_slot.Damaged file place)) old new engine object below cause = (below, cause)
 fetch_cause (Err of_slot.Memory) old new engine object below cause = (below, tt)
 
 module _ (old new : Disk) (before : EngineView) (log : RecordLogView) (objects after : Laid) (entries : List Entry) (identities : ℕ) (broken failed : Bool) (is : view_of log objects entries identities broken ≡ before)

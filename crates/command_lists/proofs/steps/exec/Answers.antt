@@ -15,7 +15,7 @@ returns-clause-run g c = record {
 
 pub returns-clause-calls : goal.returns-clause-calls
 returns-clause-calls g c =
-    calls_run g.O.Oper.meaning (g.M.Machine.disk c.args.machine.now) (g.M.Machine.disk c.exec.new.machine) c.args.engine.now c.exec.new.self c.args.op c.exec.result (record {
+    calls_run g.O.Oper.meaning (g.M.Machine.disk c.args.machine.now) (g.M.Machine.disk c.exec.new.machine) c.args.engine.now c.exec.new.self (g.met.M.Machine.lawful c.exec.new.machine) c.args.op c.exec.result (record {
       call = c.exec.ensures.call;
       takes = c.exec.ensures.takes;
       ok = c.exec.ensures.ok;

@@ -2,7 +2,7 @@ use Rattle.std.proofs.Common.{inl, inr, ⊎_elim, sym, subst, Ok, Err}
 use Rattle.execution.specs.declared.exec_err.ExecErr.{ExecErr}
 use Rattle.execution.specs.declared.exec_err.ExecErr.TheVariants.{Refused, LogFull, LsnEnd, DiskFault, Memory, Damaged}
 use Rattle.redo_shell.proofs.HoldLemmas.{in_engine}
-use Rattle.redo_shell.proofs.DoneLemmas.{IsExec, exec_done, exec_refused, exec_full, exec_end, still_attached, still_whole, works_on, fails_so, none_damaged}
+use Rattle.redo_shell.proofs.DoneLemmas.{IsExec, exec_done, exec_refused, exec_full, exec_end, still_attached, still_whole, works_on, fails_so, exec_undamaged}
 use Rattle.redo_shell.proofs.answers.command_answer.Goals as goal
 
 pub returns-in-Ok-clause-done : goal.returns-in-Ok-clause-done
@@ -95,7 +95,7 @@ pub returns-in-Err-LsnEnd-clause-unbroken : goal.returns-in-Err-LsnEnd-clause-un
 returns-in-Err-LsnEnd-clause-unbroken g c = still_whole c.in-Err-LsnEnd.ensures.call (works_on (LsnEnd c.in-Err-LsnEnd.number) c.in-Err-LsnEnd.field-0-is (λ f. f))
 
 pub returns-in-Err-Damaged-clause-undamaged : goal.returns-in-Err-Damaged-clause-undamaged
-returns-in-Err-Damaged-clause-undamaged g c = λ told attached. none_damaged (g.M.Machine.disk c.args.machine.now) (g.M.Machine.disk c.exec.new.machine) c.args.engine.now c.args.op c.in-Err-Damaged.file c.in-Err-Damaged.place c.in-Err-Damaged.ensures.outcome.1 c.in-Err-Damaged.field-0-is told attached
+returns-in-Err-Damaged-clause-undamaged g c = exec_undamaged c.args.engine.now c.exec.new.self c.args.op c.in-Err-Damaged.file c.in-Err-Damaged.place (g.met.M.Machine.lawful c.exec.new.machine) c.in-Err-Damaged.ensures.call c.in-Err-Damaged.ensures.outcome c.in-Err-Damaged.field-0-is
 
 pub returns-in-Err-DiskFault-clause-cause : goal.returns-in-Err-DiskFault-clause-cause
 returns-in-Err-DiskFault-clause-cause g c = c.in-Err-DiskFault.ensures.call.fault (fails_so c.in-Err-DiskFault.field-0-is)

@@ -2,7 +2,7 @@ use Rattle.std.proofs.Common.{◌<◌, ⊎_elim, subst, sym, refl, false, true}
 use Rattle.formats.specs.declared.params.Params.{Params}
 use Rattle.execution.specs.declared.exec_err.ExecErr.{ExecErr}
 use Rattle.execution.specs.declared.exec_err.ExecErr.TheVariants.{Refused, DiskFault}
-use Rattle.redo_shell.proofs.FetchLemmas.{fetched_kept, not_a_fault}
+use Rattle.redo_shell.proofs.FetchLemmas.{fetch_undamaged, fetched_kept, not_a_fault}
 use Rattle.redo_shell.proofs.HoldLemmas.{in_engine}
 use Rattle.redo_shell.proofs.fetching.fetched.Goals as goal
 
@@ -37,3 +37,6 @@ returns-in-Ok-clause-attached g c = c.fetch.ensures.call.attached
 
 pub returns-in-Err-Refused-clause-attached : goal.returns-in-Err-Refused-clause-attached
 returns-in-Err-Refused-clause-attached g c = c.fetch.ensures.call.attached
+
+pub returns-in-Err-Damaged-clause-undamaged : goal.returns-in-Err-Damaged-clause-undamaged
+returns-in-Err-Damaged-clause-undamaged g c = fetch_undamaged c.args.engine.now c.args.object c.in-Err-Damaged.file c.in-Err-Damaged.place c.fetch.ensures.call.kept c.in-Err-Damaged.ensures.cause c.in-Err-Damaged.field-0-is
