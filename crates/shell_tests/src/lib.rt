@@ -12,6 +12,8 @@ mod files;
 #[cfg(test)]
 mod lines;
 #[cfg(test)]
+mod mirror;
+#[cfg(test)]
 mod rows;
 #[cfg(test)]
 mod running;
