@@ -9,11 +9,15 @@ ghost use Rattle.graph_nodes.specs.Into.{IsSettled, IsPutBack, ArePutBack};
 use crate::settling::{is_from_outside, settle};
 use number_lists::{Chains, PackedOption};
 
-/// How many cells may be looked at for each arc that is inserted.
-const SAVED: u64 = 2;
+/// How many arcs have to be inserted for each cell that is looked at: a look is dear where there are many slots, since it
+/// waits for memory.
+const PRICE: u64 = 4;
 
-/// Drops the cells without an arc from another node: all in the node's list, where so many looks were saved up, else those
-/// in front. So the lists stay short, at a cost of a few looks for each call.
+/// With fewer cells a list is short.
+const SHORT: usize = 8;
+
+/// Drops the cells without an arc from another node: all in the node's list, where it is not short and so many looks were
+/// saved up, else those in front. So the lists stay short, at a cost of a look for every few calls.
 pub(crate) fn tidy(
     n: u32,
     arcs: &[PackedOption],
@@ -29,9 +33,10 @@ pub(crate) fn tidy(
     ensures settled { IsSettled arcs.now node.now n into.old into.new }
     ensures capacity { vec_capacity cells.old ≤ vec_capacity cells.new }
 {
-    *saved = saved.saturating_add(SAVED);
-    let cost = into.count(n) as u64;
-    if *saved < cost {
+    *saved = saved.saturating_add(1);
+    let count = into.count(n);
+    let cost = PRICE.saturating_mul(count as u64);
+    if count < SHORT || *saved < cost {
         settle(n, arcs, node, into);
         return;
     }

@@ -2,7 +2,7 @@
 use Rattle.std.proofs.Common.{◌≡◌, ◌∙◌, ap, sym, subst, ℕ, zero, suc, ◌+◌, ◌-◌, ◌<◌, ◌≤◌, ◌^◌, Fits, w32, List, [], ◌∷◌, ◌++◌, append_assoc, length, refl, arith}
 use Rattle.std.specs.Prelude.{IsTrue, ◌==◌, slice_set, slice_index, slice_index_or}
 use Rattle.std.proofs.lemmas.Bool.{or_left, or_right, eq-eqb}
-use Rattle.std.proofs.lemmas.List.{map-set, length-set, get_or_default}
+use Rattle.std.proofs.lemmas.List.{map-set, length-set}
 use Rattle.std.proofs.Math.Facts.{Fits-of_lt}
 use Rattle.oper_core.specs.State.{is_among}
 use Rattle.number_lists.specs.declared.chains.Chain.{Chain}
@@ -52,12 +52,16 @@ pushed next nr cs cr i x c lt below free at =
       same = same-sizes next (slice_set next x c.first) nr cs cr i new (length-set next x c.first);
     }
 
+-- where so many numbers are left after x, the walk goes on at f
+abbrev pub GoesOn : List ℕ → ℕ → ℕ → ℕ → Type 0
+GoesOn next left x f = follow next left f ≡ follow next left (slice_index next x)
+
 front : (next : List ℕ) (k first : ℕ) → (k ≡ 0 → ⊥) → follow next k first ≡ first ∷ follow next (k - 1) (slice_index next first)
 front next zero first ne = absurd (ne refl)
 front next (suc k) first ne = let e : suc k - 1 ≡ k = omega arith in ap (λ (n : ℕ). first ∷ follow next n (slice_index next first)) (sym e)
 
-begins : (next : List ℕ) (cs : List Chain) (i f : ℕ) (c : Chain) → i < length (lists_of next cs) → c ≡ slice_index_or cs i c → (c.count ≡ 0 → ⊥) → f ≡ slice_index next c.first → list_at (lists_of next cs) i ≡ c.first ∷ follow next (c.count - 1) f
-begins next cs i f c lt at some e = listed next cs i c lt at ∙ front next c.count c.first some ∙ ap (λ (n : ℕ). c.first ∷ follow next (c.count - 1) n) (sym e)
+begins : (next : List ℕ) (cs : List Chain) (i f : ℕ) (c : Chain) → i < length (lists_of next cs) → c ≡ slice_index_or cs i c → (c.count ≡ 0 → ⊥) → GoesOn next (c.count - 1) c.first f → list_at (lists_of next cs) i ≡ c.first ∷ follow next (c.count - 1) f
+begins next cs i f c lt at some e = listed next cs i c lt at ∙ front next c.count c.first some ∙ ap (λ (ys : List ℕ). c.first ∷ ys) (sym e)
 
 popped-lists : (next : List ℕ) (cs : List Chain) (i f : ℕ) (c : Chain) → lists_of next (slice_set cs i record { first = f; count = c.count - 1 }) ≡ slice_set (lists_of next cs) i (follow next (c.count - 1) f)
 popped-lists next cs i f c = map-set (chain_list next) cs i record { first = f; count = c.count - 1 }
@@ -67,21 +71,19 @@ first-below next cs i c lt at some are =
     let e = begins next cs i (slice_index next c.first) c lt at some refl in
     are.below i c.first (subst (λ (ys : List ℕ). IsTrue (is_among c.first ys)) (sym e) (or_left (c.first == c.first) _ (eq-eqb c.first c.first refl)))
 
-pub popped-apart : (next : List ℕ) (cs : List Chain) (i f : ℕ) (c : Chain) → i < length (lists_of next cs) → c ≡ slice_index_or cs i c → (c.count ≡ 0 → ⊥) → f ≡ slice_index_or next c.first f → AreApart (lists_of next cs) (length next) →
+pub popped-apart : (next : List ℕ) (cs : List Chain) (i f : ℕ) (c : Chain) → i < length (lists_of next cs) → c ≡ slice_index_or cs i c → (c.count ≡ 0 → ⊥) → GoesOn next (c.count - 1) c.first f → AreApart (lists_of next cs) (length next) →
     AreApart (lists_of next (slice_set cs i record { first = f; count = c.count - 1 })) (length next)
 popped-apart next cs i f c lt at some e are =
-    let link : f ≡ slice_index next c.first = e ∙ get_or_default next c.first f 0 (first-below next cs i c lt at some are) in
-    subst (λ (ls : List (List ℕ)). AreApart ls (length next)) (sym (popped-lists next cs i f c)) (apart-popped (lists_of next cs) (length next) i c.first (follow next (c.count - 1) f) (begins next cs i f c lt at some link) are).0
+    subst (λ (ls : List (List ℕ)). AreApart ls (length next)) (sym (popped-lists next cs i f c)) (apart-popped (lists_of next cs) (length next) i c.first (follow next (c.count - 1) f) (begins next cs i f c lt at some e) are).0
 
-pub popped : (next : List ℕ) (nr : ℕ) (cs : List Chain) (cr i f : ℕ) (c : Chain) → i < length (lists_of next cs) → c ≡ slice_index_or cs i c → (c.count ≡ 0 → ⊥) → f ≡ slice_index_or next c.first f → AreApart (lists_of next cs) (length next) →
+pub popped : (next : List ℕ) (nr : ℕ) (cs : List Chain) (cr i f : ℕ) (c : Chain) → i < length (lists_of next cs) → c ≡ slice_index_or cs i c → (c.count ≡ 0 → ⊥) → GoesOn next (c.count - 1) c.first f → AreApart (lists_of next cs) (length next) →
     IsPopped (view_of next nr cs cr) i c.first (view_of next nr (slice_set cs i record { first = f; count = c.count - 1 }) cr)
 popped next nr cs cr i f c lt at some e are =
     let was = lists_of next cs in
     let new : Chain = record { first = f; count = c.count - 1 } in
     let rest = follow next (c.count - 1) f in
     let moved = popped-lists next cs i f c in
-    let link : f ≡ slice_index next c.first = e ∙ get_or_default next c.first f 0 (first-below next cs i c lt at some are) in
-    let starts = begins next cs i f c lt at some link in
+    let starts = begins next cs i f c lt at some e in
     record {
       here = starts ∙ ap (λ (ys : List ℕ). c.first ∷ ys) (sym (ap (λ (ls : List (List ℕ)). list_at ls i) moved ∙ set-same was i rest lt));
       others = λ j ne. ap (λ (ls : List (List ℕ)). list_at ls j) moved ∙ set-other was i j rest ne;
@@ -126,8 +128,8 @@ walk-start next cs i c lt at = sym (listed next cs i c lt at)
 pub walk-few : (next : List ℕ) (cs : List Chain) (i : ℕ) (c : Chain) → i < length (lists_of next cs) → c ≡ slice_index_or cs i c → AreApart (lists_of next cs) (length next) → c.count ≤ length next
 walk-few next cs i c lt at are = few next cs i c (low next cs i lt) at are
 
-pub walk-on : (next out xs : List ℕ) (k at : ℕ) → (k ≡ 0 → ⊥) → out ++ follow next k at ≡ xs → (out ++ at ∷ []) ++ follow next (k - 1) (slice_index next at) ≡ xs
-walk-on next out xs k at some e = append_assoc out (at ∷ []) (follow next (k - 1) (slice_index next at)) ∙ ap (λ (ys : List ℕ). out ++ ys) (sym (front next k at some)) ∙ e
+pub walk-on : (next out xs : List ℕ) (k at f : ℕ) → (k ≡ 0 → ⊥) → GoesOn next (k - 1) at f → out ++ follow next k at ≡ xs → (out ++ at ∷ []) ++ follow next (k - 1) f ≡ xs
+walk-on next out xs k at f some on e = append_assoc out (at ∷ []) (follow next (k - 1) f) ∙ ap (λ (ys : List ℕ). out ++ at ∷ ys) on ∙ ap (λ (ys : List ℕ). out ++ ys) (sym (front next k at some)) ∙ e
 
 pub walk-in : (next out : List ℕ) (k at : ℕ) → (k ≡ 0 → ⊥) → IsTrue (is_among at (out ++ follow next k at))
 walk-in next out k at some = subst (λ (ys : List ℕ). IsTrue (is_among at (out ++ ys))) (sym (front next k at some)) (among-later out at (follow next (k - 1) (slice_index next at)))

@@ -1,5 +1,5 @@
 -- A number or none, as one number.
-use Rattle.std.proofs.Common.{◌≡◌, ap, sym, ℕ, Bool, true, false, refl}
+use Rattle.std.proofs.Common.{◌≡◌, sym, ℕ, Bool, true, false, refl}
 use Rattle.std.specs.Prelude.{nat_eq, Option, None, Some, if◌then◌else◌}
 use Rattle.std.proofs.lemmas.Bool.{eqb-true}
 use Rattle.number_lists.specs.declared.packed_option.PackedOption.TheInside.{Inside}

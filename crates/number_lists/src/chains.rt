@@ -1,4 +1,4 @@
-ghost use Rattle.std.specs.Prelude.{◌≡◌, ℕ, ◌<◌, ◌≤◌, ◌++◌, ◌∷◌, [], length, nat_eq, IsTrue, OnOk, MatchOption};
+ghost use Rattle.std.specs.Prelude.{◌≡◌, ℕ, ◌<◌, ◌≤◌, ◌++◌, ◌∷◌, [], length, slice_index, nat_eq, IsTrue, OnOk, MatchOption};
 ghost use Rattle.std.specs.List.{IsDistinct};
 ghost use Rattle.oper_core.specs.State.{is_among};
 ghost use Rattle.number_lists.specs.Links.{follow};
@@ -87,8 +87,8 @@ impl Chains {
         if chain.count == 0 {
             return None;
         }
-        let first = self.next[chain.first as usize];
         let count = chain.count - 1;
+        let first = after(chain.first, count as usize, self.next.as_slice());
         self.chains[list as usize] = Chain { first, count };
         Some(chain.first)
     }
@@ -171,6 +171,15 @@ fn walk(next: &[u32], first: u32, count: usize, out: &mut Vec<u32>)
     let mut at = first;
     for done in 0..count {
         push_in_room(out, at);
-        at = next[at as usize];
+        at = after(at, count - done - 1, next);
     }
+}
+
+/// The number after this one in a list, of which so many are left. Where none is, any number, without a look at the table: each
+/// look there may wait for memory.
+fn after(at: u32, left: usize, next: &[u32]) -> u32
+    requires { (left ≡ 0 → ⊥) → at < length next.now }
+    ensures { follow next.now left result ≡ follow next.now left (slice_index next.now at) }
+{
+    if left == 0 { at } else { next[at as usize] }
 }

@@ -1,5 +1,5 @@
 -- An entry more is linked: the graph and the rows are those of all entries.
-use Rattle.std.proofs.Common.{◌≡◌, ◌∙◌, ap, sym, subst, ℕ, zero, suc, ◌+◌, ◌*◌, ◌^◌, ◌/◌, ◌%◌, ◌<◌, ◌≤◌, ◌⊎◌, Bool, true, false, cond, List, [], ◌∷◌, ◌++◌, length, length-append, Option, Some, None, IsSome, refl, arith, inl, inr}
+use Rattle.std.proofs.Common.{◌≡◌, ◌∙◌, ap, sym, subst, ℕ, zero, suc, ◌+◌, ◌*◌, ◌^◌, ◌/◌, ◌%◌, ◌<◌, ◌≤◌, ◌⊎◌, Bool, true, cond, List, [], ◌∷◌, ◌++◌, length, length-append, Option, Some, None, IsSome, refl, arith, inl, inr}
 use Rattle.std.specs.Prelude.{IsTrue, IsFalse, slice_get, MatchOption}
 use Rattle.std.specs.Option.{unwrap_or}
 use Rattle.std.proofs.lemmas.Bool.{cases_Bool, cases_eq, cases_lt, both_ways, and_parts, cond-true}
@@ -15,15 +15,14 @@ use Rattle.graph_nodes.specs.Kept.{no_arcs, IsSlotAdded}
 use Rattle.graph_nodes.specs.Named.{Graph}
 use Rattle.write_graph.specs.Places.{place_in}
 use Rattle.write_graph.specs.Cells.{reads_of, writes_of, slot_access, IsReadCell, IsWriteCell, write_cell, ReadLeads, WriteLeads, CellLeads}
-use Rattle.write_graph.specs.Rows.{Rows, last_of, waiting_of, if_held, last_held, AreCellsAdded}
+use Rattle.write_graph.specs.Rows.{Rows, cell_of, its_slot, last_of, waiting_of, if_held, last_held, AreCellsAdded}
 use Rattle.write_graph.specs.Linked.{AreArcs, AreRows, AreFew, AreLinked}
 use Rattle.write_graph.specs.Steps.{AreWritersLed, version_of, AreAnswered, AreWaiting}
-use Rattle.write_graph.proofs.Place.{read-left}
-use Rattle.write_graph.proofs.Parts.{reads-past}
+use Rattle.write_graph.proofs.Parts.{reads-past, writes-last}
 use Rattle.write_graph.proofs.Loops.{among-none, none-some, some-is}
 use Rattle.write_graph.proofs.Led.{some-value, is-some, held-some, write-slot, answered-below}
 use Rattle.write_graph.proofs.One.{reads-kept, reads-of, write-new, read-version, read-first, last-kept, none-kept, none-was, last-new, write-one, read-one, last-one}
-use Rattle.write_graph.proofs.Adding.{write-cell-is, not-both, held-left, held-last, held-below, added, reads-new, writes-new, read-cell-kept, write-cell-kept, read-cell-new, read-cell-made, leads-kept, reads-at, few-more}
+use Rattle.write_graph.proofs.Adding.{write-cell-is, not-both, held-left, held-last, held-below, added, reads-new, writes-new, read-cell-kept, write-cell-kept, read-cell-new, read-cell-made, leads-kept, write-cell-same, reads-at, few-more}
 
 nones-at : (k c : ℕ) → arc_at (no_arcs k) c ≡ None
 nones-at zero c = refl
@@ -44,16 +43,6 @@ read-cell-below entries c x is = elim (cases_lt (c / 8) (length entries)) [
 pub waits-below : (entries : List Entry) (held : List Bool) (rows : Rows) (x c : ℕ) → AreRows (slot_access entries held) entries held rows → IsTrue (is_among c (waiting_of rows x)) → c / 8 < length entries
 waits-below entries held rows x c are t = read-cell-below entries c x (are.only x c t).0
 
--- the last writer of x, if it is held, writes x
-pub last-writes : (earlier : List Entry) (held more : List Bool) (old rows : Rows) (x w : ℕ) → length held ≡ length earlier → AreRows (slot_access earlier held) earlier held old → more ≡ held ++ true ∷ [] → last_of rows x ≡ last_of old x → last_held more rows x ≡ Some w →
-    IsTrue (is_among x (writes_of earlier w))
-last-writes earlier held more old rows x w len are e same last =
-    let s = held-some more (last_of rows x) w last in
-    let at : last_of old x ≡ Some w = sym same ∙ s.0 in
-    let h : IsTrue (held_at held w) = sym (read-left held (true ∷ []) w false (omega (arith, len, are.below x w at))) ∙ ap (λ (hs : List Bool). held_at hs w) (sym e) ∙ s.1 in
-    let there : last_held held old x ≡ Some w = ap (if_held held) at ∙ cond-true (held_at held w) (Some w) None h in
-    (and_parts (held_at held w) (is_among x (writes_of earlier w)) (subst (λ (o : Option ℕ). MatchOption o (NoWriter (slot_access earlier held) x) (λ v. IsLastWriter (slot_access earlier held) x v)) there (are.last x)).0).1
-
 -- the steps that link an entry
 pub record AreSteps (earlier : List Entry) (e : Entry) (g0 g1 g2 g3 : Graph) (r0 r1 r2 r3 : Rows) : Type 0 where
   pub linked : AreLinked earlier g0 r0
@@ -64,8 +53,8 @@ pub record AreSteps (earlier : List Entry) (e : Entry) (g0 g1 g2 g3 : Graph) (r0
   pub slot : IsSlotAdded g0 g1
   pub cells : AreCellsAdded r0 r1
   pub waits : AreWaiting e.reads (length earlier) r1 r2
-  pub led : AreWritersLed earlier r2 e.writes (length earlier) g1 g2
-  pub answered : AreAnswered e.writes (length earlier) g2 r2 g3 r3
+  pub led : AreWritersLed r2 e.writes (length earlier) g1 g2
+  pub answered : AreAnswered e.writes e.writes (length earlier) g2 r2 g3 r3
   pub arcs : (o p : ℕ) → Arc (slot_access (earlier ++ e ∷ []) (g0.held ++ true ∷ [])) o p → Arc (slot_access earlier g0.held) o p ⊎ NewArc (slot_access earlier g0.held) (slot_access (earlier ++ e ∷ []) (g0.held ++ true ∷ [])) (length earlier) o p
 
 module _ (earlier : List Entry) (e : Entry) (g0 g1 g2 g3 : Graph) (r0 r1 r2 r3 : Rows) (s : AreSteps earlier e g0 g1 g2 g3 r0 r1 r2 r3) where
@@ -98,7 +87,7 @@ module _ (earlier : List Entry) (e : Entry) (g0 g1 g2 g3 : Graph) (r0 r1 r2 r3 :
 
   -- the last writers are the same
   last-same : (x : ℕ) → last_of r2 x ≡ last_of r0 x
-  last-same x = s.waits.last x ∙ s.cells.last x
+  last-same x = ap its_slot (s.waits.last x ∙ s.cells.last x)
 
   if-same : (o : Option ℕ) → ((w : ℕ) → o ≡ Some w → w < n) → if_held more o ≡ if_held g0.held o
   if-same None below = refl
@@ -167,20 +156,24 @@ module _ (earlier : List Entry) (e : Entry) (g0 g1 g2 g3 : Graph) (r0 r1 r2 r3 :
       let few_w = (s.linked.few w).1 in
       (write-slot earlier w x there few_w, write-cell-kept earlier e g0.held s.linked.held (write_cell earlier w x) x (write-cell-is earlier w x there few_w))
 
+  -- the cell of the last write, where the entry is not there yet
+  cell-was : (x c : ℕ) → cell_of r2 x ≡ Some c → c ≡ write_cell earlier (c / 8) x
+  cell-was x c q = s.linked.rows_are.cells x c (sym (s.waits.last x ∙ s.cells.last x) ∙ q)
+
   -- each arc is one that the definitions have
   leads2 : (c p : ℕ) → arc_at g2.arcs c ≡ Some p → CellLeads b all c p
   leads2 c p q = elim (s.led.only c p q) [
     | inl yet ↦ leads-kept earlier e g0.held s.linked.held c p (s.linked.arcs.only c p (sym (arc-before c) ∙ yet))
     | inr new ↦
         let x = new.0.0 in
-        let w = new.0.2 in
-        let last = last-some x w.0 (ap (λ (h : List Bool). last_held h r2 x) (sym s.slot.held) ∙ w.1) in
-        let cell = written-cell x w.0 last in
-        let leads = write-new a b n is x w.0 last (writes-b x new.0.1) in (
+        let at = new.0.2 in
+        let h : IsTrue (held_at more (c / 8)) = subst (λ (hs : List Bool). IsTrue (held_at hs (c / 8))) s.slot.held at.1 in
+        let last = last-some x (c / 8) (ap (λ (o : Option ℕ). if_held more (its_slot o)) at.0 ∙ cond-true (held_at more (c / 8)) (Some (c / 8)) None h) in
+        let leads = write-new a b n is x (c / 8) last (writes-b x new.0.1) in (
           x,
           inr (
-            subst (λ (k : ℕ). IsWriteCell all k x) (sym w.2) cell.1,
-            subst (λ (k : ℕ). WriteLeads b x k p) (sym (ap (λ (k : ℕ). k / 8) w.2 ∙ cell.0)) (subst (λ (k : ℕ). WriteLeads b x w.0 k) (sym new.1) leads),
+            subst (λ (k : ℕ). IsWriteCell all k x) (sym (cell-was x c at.0)) (written-cell x (c / 8) last).1,
+            subst (λ (k : ℕ). WriteLeads b x (c / 8) k) (sym new.1) leads,
           ),
         )
   ]
@@ -231,11 +224,18 @@ module _ (earlier : List Entry) (e : Entry) (g0 g1 g2 g3 : Graph) (r0 r1 r2 r3 :
         | inr w ↦ absurd (not-both all c x l.0 (few (c / 8)).0 cell w.0)
       ]
 
+  last-cell : (x w : ℕ) (o : Option ℕ) → cell_of r2 x ≡ o → its_slot o ≡ Some w → cell_of r2 x ≡ Some (write_cell earlier w x)
+  last-cell x w None q slot = absurd (none-some w slot)
+  last-cell x w (Some c) q slot = q ∙ ap (λ (k : ℕ). Some k) (cell-was x c q ∙ ap (λ (k : ℕ). write_cell earlier k x) (some-is (c / 8) w slot))
+
   -- the last writer's cell has an arc
   last-led : (x w : ℕ) → IsTrue (is_among x e.writes) → IsLastWriter a x w → IsSome (arc_at g3.arcs (write_cell earlier w x))
   last-led x w there last =
       let at = some-last x w (last_held more r2 x) refl last in
-      let some = s.led.here (write_cell earlier w x) n ((x, there, (w, ap (λ (h : List Bool). last_held h r2 x) s.slot.held ∙ at, refl)), refl) in
+      let h = held-some more (last_of r2 x) w at in
+      let c = last-cell x w (cell_of r2 x) refl h.0 in
+      let held : IsTrue (held_at g1.held (write_cell earlier w x / 8)) = subst (λ (hs : List Bool). IsTrue (held_at hs (write_cell earlier w x / 8))) (sym s.slot.held) (subst (λ (k : ℕ). IsTrue (held_at more k)) (sym (written-cell x w last).0) h.1) in
+      let some = s.led.here (write_cell earlier w x) n ((x, there, (c, held)), refl) in
       let v = some-value (arc_at g2.arcs (write_cell earlier w x)) some in
       is-some (arc_at g3.arcs (write_cell earlier w x)) v.0 (s.answered.led.grown.arcs (write_cell earlier w x) v.0 v.1)
 
@@ -284,10 +284,11 @@ module _ (earlier : List Entry) (e : Entry) (g0 g1 g2 g3 : Graph) (r0 r1 r2 r3 :
   rows-last : (x : ℕ) → MatchOption (last_held more r3 x) (NoWriter b x) (λ w. IsLastWriter b x w)
   rows-last x = elim (cases_Bool (is_among x e.writes)) [
     | inl there ↦
-        let at : last_held more r3 x ≡ Some n = ap (if_held more) (s.answered.written x there).1 ∙ cond-true (held_at more n) (Some n) None (held-last earlier e g0.held s.linked.held) in
+        let c = (s.answered.written x there).1 in
+        let at : last_held more r3 x ≡ Some n = ap (λ (o : Option ℕ). if_held more (its_slot o)) c.last ∙ ap (λ (k : ℕ). if_held more (Some k)) c.own.1 ∙ cond-true (held_at more n) (Some n) None (held-last earlier e g0.held s.linked.held) in
         subst (λ (o : Option ℕ). MatchOption o (NoWriter b x) (λ w. IsLastWriter b x w)) (sym at) (last-new a b n is x (writes-b x there))
     | inr off ↦
-        let at : last_held more r3 x ≡ last_held more r2 x = ap (if_held more) (s.answered.others x (both_ways _ off)).1 in
+        let at : last_held more r3 x ≡ last_held more r2 x = ap (λ (o : Option ℕ). if_held more (its_slot o)) (s.answered.others x (both_ways _ off)).1 in
         let none : IsFalse (b.writes n x) = writes-new earlier e g0.held s.linked.held x ∙ off in
         subst (λ (o : Option ℕ). MatchOption o (NoWriter b x) (λ w. IsLastWriter b x w)) (sym at) (last-match x none (last_held more r2 x) refl)
   ]
@@ -313,10 +314,22 @@ module _ (earlier : List Entry) (e : Entry) (g0 g1 g2 g3 : Graph) (r0 r1 r2 r3 :
   rows-below : (x w : ℕ) → last_of r3 x ≡ Some w → w < length all
   rows-below x w q =
       let size = length-append earlier (e ∷ []) in
-      answered-below e.writes n (length all) g2 g3 r2 r3 s.answered (omega (arith, size)) (λ y v at. omega (arith, size, s.linked.rows_are.below y v (sym (last-same y) ∙ at))) x w q
+      answered-below e.writes e.writes n (length all) g2 g3 r2 r3 s.answered (omega (arith, size)) (λ y v at. omega (arith, size, s.linked.rows_are.below y v (sym (last-same y) ∙ at))) x w q
+
+  rows-cells : (x c : ℕ) → cell_of r3 x ≡ Some c → c ≡ write_cell all (c / 8) x
+  rows-cells x c q = elim (cases_Bool (is_among x e.writes)) [
+    | inl there ↦
+        let d = (s.answered.written x there).1 in
+        let same : d.cell ≡ c = some-is d.cell c (sym d.last ∙ q) in
+        subst (λ (k : ℕ). k ≡ write_cell all (k / 8) x) same (d.own.0 ∙ ap (λ (xs : List ℕ). 8 * n + 4 + place_in x xs) (sym (writes-last earlier e)) ∙ ap (λ (k : ℕ). write_cell all k x) (sym d.own.1))
+    | inr off ↦
+        let was : cell_of r2 x ≡ Some c = sym (s.answered.others x (both_ways _ off)).1 ∙ q in
+        let low = s.linked.rows_are.below x (c / 8) (sym (last-same x) ∙ ap its_slot was) in
+        cell-was x c was ∙ sym (write-cell-same earlier e g0.held s.linked.held (c / 8) x low)
+  ]
 
   pub rows-are : AreRows b all more r3
-  rows-are = record { below = rows-below; last = rows-last; all = rows-all; only = rows-only }
+  rows-are = record { below = rows-below; cells = rows-cells; last = rows-last; all = rows-all; only = rows-only }
 
   pub linked-more : AreLinked all g3 r3
   linked-more =

@@ -9,8 +9,8 @@ use Rattle.install_order.specs.declared.entry.Entry.{Entry}
 use Rattle.graph_nodes.specs.Arcs.{arc_at, held_at}
 use Rattle.graph_nodes.specs.Named.{Graph}
 use Rattle.write_graph.specs.Cells.{writes_of, write_cell}
-use Rattle.write_graph.specs.Rows.{Rows, last_of, waiting_of, if_held, last_held, AreSameLast, IsWaiting, IsTaken, IsLastSet}
-use Rattle.write_graph.specs.Steps.{IsGrown, AreLed, IsOverwritten, IsWriterLed, AreWritersLed, IsReaderLed, WaitsFor, OthersStay, IsAnswered, version_of, IsReader, AreAnswered, IsCellOf, AreWaiting}
+use Rattle.write_graph.specs.Rows.{Rows, its_slot, last_of, waiting_of, if_held, last_held, AreSameLast, IsWaiting, IsTaken, IsLastSet}
+use Rattle.write_graph.specs.Steps.{IsGrown, AreLed, IsOverwritten, IsWriterLed, AreWritersLed, IsReaderLed, WaitsFor, OthersStay, IsAnswered, version_of, IsReader, IsCellFor, IsLastCell, AreAnswered, IsCellOf, AreWaiting}
 use Rattle.write_graph.proofs.Place.{place-among}
 use Rattle.write_graph.proofs.Loops.{among-none, among-taken, among-before, among-next, none-some, some-is}
 
@@ -79,21 +79,21 @@ pub write-slot : (entries : List Entry) (w x : ℕ) → IsTrue (is_among x (writ
 write-slot entries w x there few = omega (arith, few, place-among x (writes_of entries w) there)
 
 -- one object more
-pub writers-on : (entries : List Entry) (rows : Rows) (objects : List ℕ) (slot i x : ℕ) (old mid new : Graph) → AreWritersLed entries rows (take i objects) slot old mid → slice_get objects i ≡ Some x → IsWriterLed entries rows x slot mid new →
-    AreWritersLed entries rows (take (i + 1) objects) slot old new
-writers-on entries rows objects slot i x old mid new was at led =
-    let P : ℕ → ℕ → ℕ → Type 0 = λ n c p. ((y : ℕ) × IsTrue (is_among y (take n objects)) × IsOverwritten entries old.held rows y c) × (p ≡ slot) in
-    let Q : ℕ → ℕ → Type 0 = λ c p. IsOverwritten entries mid.held rows x c × (p ≡ slot) in
+pub writers-on : (rows : Rows) (objects : List ℕ) (slot i x : ℕ) (old mid new : Graph) → AreWritersLed rows (take i objects) slot old mid → slice_get objects i ≡ Some x → IsWriterLed rows x slot mid new →
+    AreWritersLed rows (take (i + 1) objects) slot old new
+writers-on rows objects slot i x old mid new was at led =
+    let P : ℕ → ℕ → ℕ → Type 0 = λ n c p. ((y : ℕ) × IsTrue (is_among y (take n objects)) × IsOverwritten old.held rows y c) × (p ≡ slot) in
+    let Q : ℕ → ℕ → Type 0 = λ c p. IsOverwritten mid.held rows x c × (p ≡ slot) in
     led-then (P i) Q (P (i + 1)) old mid new was led
     (λ c p r. elim (among-taken r.0.0 x i objects at r.0.1) [
       | inl yet ↦ inl ((r.0.0, yet, r.0.2), r.1)
-      | inr same ↦ inr (subst (λ (held : List Bool). IsOverwritten entries held rows x c) (sym was.grown.held) (subst (λ (y : ℕ). IsOverwritten entries old.held rows y c) same r.0.2), r.1)
+      | inr same ↦ inr (subst (λ (held : List Bool). IsOverwritten held rows x c) (sym was.grown.held) (subst (λ (y : ℕ). IsOverwritten old.held rows y c) same r.0.2), r.1)
     ])
     (λ c p r. ((r.0.0, among-before r.0.0 i objects r.0.1, r.0.2), r.1))
-    (λ c p r. ((x, among-next x i objects at, subst (λ (held : List Bool). IsOverwritten entries held rows x c) was.grown.held r.0), r.1))
+    (λ c p r. ((x, among-next x i objects at, subst (λ (held : List Bool). IsOverwritten held rows x c) was.grown.held r.0), r.1))
 
-pub writers-start : (entries : List Entry) (rows : Rows) (objects : List ℕ) (slot : ℕ) (g : Graph) → AreWritersLed entries rows (take zero objects) slot g g
-writers-start entries rows objects slot g = led-none (λ c p. ((y : ℕ) × IsTrue (is_among y (take zero objects)) × IsOverwritten entries g.held rows y c) × (p ≡ slot)) g (λ c p r. among-none r.0.0 r.0.1)
+pub writers-start : (rows : Rows) (objects : List ℕ) (slot : ℕ) (g : Graph) → AreWritersLed rows (take zero objects) slot g g
+writers-start rows objects slot g = led-none (λ c p. ((y : ℕ) × IsTrue (is_among y (take zero objects)) × IsOverwritten g.held rows y c) × (p ≡ slot)) g (λ c p r. among-none r.0.0 r.0.1)
 
 -- the first i of the slot's cells wait
 pub record AreWaitingTo (objects : List ℕ) (slot i : ℕ) (old new : Rows) : Type 0 where
@@ -259,8 +259,8 @@ answering-end x to old new old_rows rows is end =
     }
 
 -- no object yet
-pub answered-start : (objects : List ℕ) (slot : ℕ) (g : Graph) (rows : Rows) → AreAnswered (take zero objects) slot g rows g rows
-answered-start objects slot g rows = record {
+pub answered-start : (all objects : List ℕ) (slot : ℕ) (g : Graph) (rows : Rows) → AreAnswered all (take zero objects) slot g rows g rows
+answered-start all objects slot g rows = record {
   led = led-none (IsReader g.held rows (take zero objects) slot) g (λ c p r. among-none r.0 r.1);
   written = λ x t. absurd (among-none x t);
   others = λ x out. (refl, refl);
@@ -274,27 +274,27 @@ pub version-cases : (held : List Bool) (rows : Rows) (slot x : ℕ) (o : Option 
 version-cases held rows slot x None e = inl refl
 version-cases held rows slot x (Some w) e = inr (held-some held (last_of rows x) w e)
 
-pub answered-below : (objects : List ℕ) (slot n : ℕ) (old new : Graph) (old_rows rows : Rows) → AreAnswered objects slot old old_rows new rows → slot < n → ((y w : ℕ) → last_of old_rows y ≡ Some w → w < n) → (y w : ℕ) → last_of rows y ≡ Some w → w < n
-answered-below objects slot n old new old_rows rows is lt below y w e = elim (cases_Bool (is_among y objects)) [
-  | inl there ↦ omega (arith, some-is slot w (sym (is.written y there).1 ∙ e), lt)
-  | inr off ↦ below y w (sym (is.others y (both_ways _ off)).1 ∙ e)
+pub answered-below : (all objects : List ℕ) (slot n : ℕ) (old new : Graph) (old_rows rows : Rows) → AreAnswered all objects slot old old_rows new rows → slot < n → ((y w : ℕ) → last_of old_rows y ≡ Some w → w < n) → (y w : ℕ) → last_of rows y ≡ Some w → w < n
+answered-below all objects slot n old new old_rows rows is lt below y w e = elim (cases_Bool (is_among y objects)) [
+  | inl there ↦ let c = (is.written y there).1 in omega (arith, some-is (c.cell / 8) w (ap its_slot (sym c.last) ∙ e), c.own.1, lt)
+  | inr off ↦ below y w (ap its_slot (sym (is.others y (both_ways _ off)).1) ∙ e)
 ]
 
-pub answered-cells : (objects : List ℕ) (slot n : ℕ) (old new : Graph) (old_rows rows : Rows) → AreAnswered objects slot old old_rows new rows → ((y c : ℕ) → IsTrue (is_among c (waiting_of old_rows y)) → c / 8 < n) → (y c : ℕ) → IsTrue (is_among c (waiting_of rows y)) → c / 8 < n
-answered-cells objects slot n old new old_rows rows is cells y c t = elim (cases_Bool (is_among y objects)) [
+pub answered-cells : (all objects : List ℕ) (slot n : ℕ) (old new : Graph) (old_rows rows : Rows) → AreAnswered all objects slot old old_rows new rows → ((y c : ℕ) → IsTrue (is_among c (waiting_of old_rows y)) → c / 8 < n) → (y c : ℕ) → IsTrue (is_among c (waiting_of rows y)) → c / 8 < n
+answered-cells all objects slot n old new old_rows rows is cells y c t = elim (cases_Bool (is_among y objects)) [
   | inl there ↦ absurd (among-none c (subst (λ (xs : List ℕ). IsTrue (is_among c xs)) (is.written y there).0 t))
   | inr off ↦ cells y c (subst (λ (xs : List ℕ). IsTrue (is_among c xs)) (is.others y (both_ways _ off)).0 t)
 ]
 
 -- one object more
-pub answered-on : (objects : List ℕ) (slot i x v : ℕ) (old mid new : Graph) (old_rows mid_rows answered rows : Rows) → i < length objects → AreAnswered (take i objects) slot old old_rows mid mid_rows → slice_get objects i ≡ Some x → v ≡ version_of mid.held mid_rows slot x →
-    IsAnswered x v mid mid_rows new answered → IsLastSet answered x slot rows → AreAnswered (take (i + 1) objects) slot old old_rows new rows
-answered-on objects slot i x v old mid new old_rows mid_rows answered rows lt was at ver is set =
+pub answered-on : (all objects : List ℕ) (slot i x v cell : ℕ) (old mid new : Graph) (old_rows mid_rows answered rows : Rows) → i < length objects → AreAnswered all (take i objects) slot old old_rows mid mid_rows → slice_get objects i ≡ Some x → v ≡ version_of mid.held mid_rows slot x →
+    IsAnswered x v mid mid_rows new answered → IsCellFor all slot x cell → IsLastSet answered x cell rows → AreAnswered all (take (i + 1) objects) slot old old_rows new rows
+answered-on all objects slot i x v cell old mid new old_rows mid_rows answered rows lt was at ver is own set =
     let P : ℕ → ℕ → ℕ → Type 0 = λ n c p. IsReader old.held old_rows (take n objects) slot c p in
     let Q : ℕ → ℕ → Type 0 = λ c p. WaitsFor mid.held mid_rows x v c × (p ≡ v) in
     -- what x's row reported before, where x comes for the first time
     let same : IsFalse (is_among x (take i objects)) → v ≡ version_of old.held old_rows slot x = λ off.
-    ver ∙ ap (λ (o : Option ℕ). unwrap_or (if_held mid.held o) slot) (was.others x (both_ways _ off)).1 ∙ ap (λ (held : List Bool). version_of held old_rows slot x) was.led.grown.held in
+    ver ∙ ap (λ (o : Option ℕ). unwrap_or (if_held mid.held (its_slot o)) slot) (was.others x (both_ways _ off)).1 ∙ ap (λ (held : List Bool). version_of held old_rows slot x) was.led.grown.held in
     let first : (c : ℕ) → IsFalse (is_among x (take i objects)) → WaitsFor mid.held mid_rows x v c → WaitsFor old.held old_rows x (version_of old.held old_rows slot x) c = λ c off w. (
       subst (λ (xs : List ℕ). IsTrue (is_among c xs)) (was.others x (both_ways _ off)).0 w.0,
       subst (λ (held : List Bool). IsTrue (held_at held (c / 8))) was.led.grown.held w.1,
@@ -305,7 +305,7 @@ answered-on objects slot i x v old mid new old_rows mid_rows answered rows lt wa
       subst (λ (held : List Bool). IsTrue (held_at held (c / 8))) (sym was.led.grown.held) w.1,
       subst (λ (k : ℕ). c / 8 ≡ k → ⊥) (sym (same off)) w.2,
     ) in
-    let here : (waiting_of rows x ≡ []) × (last_of rows x ≡ Some slot) = (set.waiting x ∙ is.empty, set.here) in
+    let here : (waiting_of rows x ≡ []) × IsLastCell all slot x rows = (set.waiting x ∙ is.empty, record { cell = cell; last = set.here; own = own }) in
     record {
       led = led-then (P i) Q (P (i + 1)) old mid new was.led is.led
           (λ c p r. elim (among-taken r.0 x i objects at r.1) [
@@ -324,10 +324,10 @@ answered-on objects slot i x v old mid new old_rows mid_rows answered rows lt wa
             | inr off ↦ (x, among-next x i objects at, first c off r.0, r.1 ∙ same off)
           ]);
       written = λ y t. elim (cases_eq y x) [
-        | inl e ↦ subst (λ (z : ℕ). (waiting_of rows z ≡ []) × (last_of rows z ≡ Some slot)) (sym e) here
+        | inl e ↦ subst (λ (z : ℕ). (waiting_of rows z ≡ []) × IsLastCell all slot z rows) (sym e) here
         | inr ne ↦ elim (among-taken y x i objects at t) [
           | inr e ↦ absurd (ne e)
-          | inl yet ↦ let w = was.written y yet in (set.waiting y ∙ is.others.waiting y ne ∙ w.0, set.others y ne ∙ is.others.last y ∙ w.1)
+          | inl yet ↦ let w = was.written y yet in (set.waiting y ∙ is.others.waiting y ne ∙ w.0, record { cell = w.1.cell; last = set.others y ne ∙ is.others.last y ∙ w.1.last; own = w.1.own })
         ]
       ];
       others = λ y out.

@@ -196,6 +196,7 @@ module _ (entries : List Entry) (old new : Graph) (rows : Rows) (m : ℕ) (linke
     arcs = record { only = leads; all = arcs-all };
     rows_are = record {
       below = linked.rows_are.below;
+      cells = linked.rows_are.cells;
       last = λ x. last-match x (last_of rows x) refl;
       all = rows-all;
       only = λ x c t.

@@ -1,10 +1,10 @@
 -- By object: who wrote it last, and which cells wait for its next write.
-use Rattle.std.specs.Prelude.{◌≡◌, ℕ, ◌+◌, ◌≤◌, Bool, slice_index_or, if◌then◌else◌, List, [], ◌∷◌, Option, None, Some}
+use Rattle.std.specs.Prelude.{◌≡◌, ℕ, ◌+◌, ◌/◌, ◌≤◌, Bool, slice_index_or, if◌then◌else◌, List, [], ◌∷◌, Option, None, Some}
 use Rattle.number_lists.specs.Lists.{list_at}
 use Rattle.graph_nodes.specs.Arcs.{held_at}
 use Rattle.write_graph.specs.Places.{place_in}
 
--- what contracts see: the objects, in the order of their rows; by row the last writer and the waiting cells; how many cells there are;
+-- what contracts see: the objects, in the order of their rows; by row the cell of the last write and the waiting cells; how many cells there are;
 -- and for how many more objects and cells there is memory
 pub record Rows : Type 0 where
   pub objects : List ℕ
@@ -14,9 +14,18 @@ pub record Rows : Type 0 where
   pub row_room : ℕ
   pub cell_room : ℕ
 
+-- the cell of the last write of x
+abbrev pub cell_of : Rows → ℕ → Option ℕ
+cell_of rows x = slice_index_or rows.last (place_in x rows.objects) None
+
+-- the slot of a cell
+abbrev pub its_slot : Option ℕ → Option ℕ
+its_slot None = None
+its_slot (Some c) = Some (c / 8)
+
 -- the last writer of x
 abbrev pub last_of : Rows → ℕ → Option ℕ
-last_of rows x = slice_index_or rows.last (place_in x rows.objects) None
+last_of rows x = its_slot (cell_of rows x)
 
 -- the cells that wait for the next write of x
 abbrev pub waiting_of : Rows → ℕ → List ℕ
@@ -24,22 +33,22 @@ waiting_of rows x = list_at rows.waiting (place_in x rows.objects)
 
 -- no cell waits for the write of any object, and there is no last writer
 pub record AreEmpty (rows : Rows) : Type 0 where
-  pub last : (x : ℕ) → last_of rows x ≡ None
+  pub last : (x : ℕ) → cell_of rows x ≡ None
   pub waiting : (x : ℕ) → waiting_of rows x ≡ []
   pub cells : rows.cells ≡ 0
 
--- the last writers are the same
+-- the cells of the last writes are the same
 abbrev pub AreSameLast : Rows → Rows → Type 0
-AreSameLast old new = (x : ℕ) → last_of new x ≡ last_of old x
+AreSameLast old new = (x : ℕ) → cell_of new x ≡ cell_of old x
 
 -- the waiting cells are the same
 abbrev pub AreSameWaiting : Rows → Rows → Type 0
 AreSameWaiting old new = (x : ℕ) → waiting_of new x ≡ waiting_of old x
 
--- the slot is the last writer of x
-pub record IsLastSet (old : Rows) (x slot : ℕ) (new : Rows) : Type 0 where
-  pub here : last_of new x ≡ Some slot
-  pub others : (y : ℕ) → (y ≡ x → ⊥) → last_of new y ≡ last_of old y
+-- the cell is that of the last write of x
+pub record IsLastSet (old : Rows) (x cell : ℕ) (new : Rows) : Type 0 where
+  pub here : cell_of new x ≡ Some cell
+  pub others : (y : ℕ) → (y ≡ x → ⊥) → cell_of new y ≡ cell_of old y
   pub waiting : AreSameWaiting old new
   pub cells : new.cells ≡ old.cells
   pub row_room : old.row_room ≤ new.row_room + 1

@@ -2,11 +2,10 @@
 use Rattle.std.specs.Prelude.{◌≡◌, ℕ, ◌+◌, ◌*◌, ◌/◌, ◌≤◌, ◌⊎◌, Bool, IsTrue, List, [], length, Some, IsSome, slice_get}
 use Rattle.std.specs.Option.{unwrap_or}
 use Rattle.oper_core.specs.State.{is_among}
-use Rattle.install_order.specs.declared.entry.Entry.{Entry}
 use Rattle.graph_nodes.specs.Arcs.{arc_at, held_at}
 use Rattle.graph_nodes.specs.Named.{Graph}
-use Rattle.write_graph.specs.Cells.{write_cell}
-use Rattle.write_graph.specs.Rows.{last_of, waiting_of, Rows, AreSameLast, last_held}
+use Rattle.write_graph.specs.Places.{place_in}
+use Rattle.write_graph.specs.Rows.{cell_of, waiting_of, Rows, AreSameLast, last_held}
 
 -- as many slots and cells, the same of them held, and all arcs that were there
 pub record IsGrown (old new : Graph) : Type 0 where
@@ -30,17 +29,17 @@ pub record AreLed (P : ℕ → ℕ → Type 0) (old new : Graph) : Type 0 where
 abbrev pub IsLed : Graph → ℕ → ℕ → Graph → Type 0
 IsLed old cell to new = AreLed (λ c p. (c ≡ cell) × (p ≡ to)) old new
 
--- the cell is that of the last writer of x, which is held
-abbrev pub IsOverwritten : List Entry → List Bool → Rows → ℕ → ℕ → Type 0
-IsOverwritten entries held rows x c = (w : ℕ) × (last_held held rows x ≡ Some w) × (c ≡ write_cell entries w x)
+-- the cell is that of the last write of x, and its slot is held
+abbrev pub IsOverwritten : List Bool → Rows → ℕ → ℕ → Type 0
+IsOverwritten held rows x c = (cell_of rows x ≡ Some c) × IsTrue (held_at held (c / 8))
 
--- the cell of the last writer of x has an arc: to the slot, if it had none
-abbrev pub IsWriterLed : List Entry → Rows → ℕ → ℕ → Graph → Graph → Type 0
-IsWriterLed entries rows x slot old new = AreLed (λ c p. IsOverwritten entries old.held rows x c × (p ≡ slot)) old new
+-- the cell of the last write of x has an arc: to the slot, if it had none
+abbrev pub IsWriterLed : Rows → ℕ → ℕ → Graph → Graph → Type 0
+IsWriterLed rows x slot old new = AreLed (λ c p. IsOverwritten old.held rows x c × (p ≡ slot)) old new
 
 -- the same for each of the objects
-abbrev pub AreWritersLed : List Entry → Rows → List ℕ → ℕ → Graph → Graph → Type 0
-AreWritersLed entries rows objects slot old new = AreLed (λ c p. ((x : ℕ) × IsTrue (is_among x objects) × IsOverwritten entries old.held rows x c) × (p ≡ slot)) old new
+abbrev pub AreWritersLed : Rows → List ℕ → ℕ → Graph → Graph → Type 0
+AreWritersLed rows objects slot old new = AreLed (λ c p. ((x : ℕ) × IsTrue (is_among x objects) × IsOverwritten old.held rows x c) × (p ≡ slot)) old new
 
 -- the cell has an arc to the slot, if it had none, and its own slot is held and not this one
 abbrev pub IsReaderLed : Graph → ℕ → ℕ → Graph → Type 0
@@ -72,11 +71,22 @@ version_of held rows slot x = unwrap_or (last_held held rows x) slot
 abbrev pub IsReader : List Bool → Rows → List ℕ → ℕ → ℕ → ℕ → Type 0
 IsReader held rows objects slot c p = (x : ℕ) × IsTrue (is_among x objects) × WaitsFor held rows x (version_of held rows slot x) c × (p ≡ version_of held rows slot x)
 
--- what waited for the write of one of the objects has an arc, nothing waits for one, and the slot is their last writer
-pub record AreAnswered (objects : List ℕ) (slot : ℕ) (old : Graph) (old_rows : Rows) (new : Graph) (rows : Rows) : Type 0 where
+-- the cell is that of the slot for x, which is one of all that it writes
+abbrev pub IsCellFor : List ℕ → ℕ → ℕ → ℕ → Type 0
+IsCellFor all slot x c = (c ≡ 8 * slot + 4 + place_in x all) × (c / 8 ≡ slot)
+
+-- the cell of the last write of x is that of the slot
+pub record IsLastCell (all : List ℕ) (slot x : ℕ) (rows : Rows) : Type 0 where
+  pub cell : ℕ
+  pub last : cell_of rows x ≡ Some cell
+  pub own : IsCellFor all slot x cell
+
+-- what waited for the write of one of the objects has an arc, nothing waits for one, and the slot, which writes all these and maybe
+-- more, is their last writer
+pub record AreAnswered (all objects : List ℕ) (slot : ℕ) (old : Graph) (old_rows : Rows) (new : Graph) (rows : Rows) : Type 0 where
   pub led : AreLed (IsReader old.held old_rows objects slot) old new
-  pub written : (x : ℕ) → IsTrue (is_among x objects) → (waiting_of rows x ≡ []) × (last_of rows x ≡ Some slot)
-  pub others : (x : ℕ) → (IsTrue (is_among x objects) → ⊥) → (waiting_of rows x ≡ waiting_of old_rows x) × (last_of rows x ≡ last_of old_rows x)
+  pub written : (x : ℕ) → IsTrue (is_among x objects) → (waiting_of rows x ≡ []) × IsLastCell all slot x rows
+  pub others : (x : ℕ) → (IsTrue (is_among x objects) → ⊥) → (waiting_of rows x ≡ waiting_of old_rows x) × (cell_of rows x ≡ cell_of old_rows x)
   pub cells : rows.cells ≡ old_rows.cells
   pub row_room : old_rows.row_room ≤ rows.row_room + length objects
   pub cell_room : rows.cell_room ≡ old_rows.cell_room

@@ -1,14 +1,12 @@
 ghost use Rattle.std.specs.Prelude.{◌≡◌, ℕ, ◌<◌, ◌≤◌, ◌+◌, ◌*◌, ◌/◌, ◌^◌, IsTrue, Some, length};
 ghost use Rattle.oper_core.specs.State.{is_among};
 ghost use Rattle.graph_nodes.specs.Arcs.{held_at};
-ghost use Rattle.write_graph.specs.Cells.{writes_of};
-ghost use Rattle.write_graph.specs.Rows.{last_of, waiting_of, last_held};
+ghost use Rattle.write_graph.specs.Rows.{cell_of, last_of, waiting_of, last_held};
 ghost use Rattle.write_graph.specs.Steps.{IsLed, IsWriterLed, AreWritersLed, IsReaderLed, IsAnswered, AreAnswered, AreWaiting};
 
-use crate::cells::{CELLS, write_cell};
+use crate::cells::{CELLS, own_cell};
 use crate::rows::Rows;
 use graph_nodes::SlotGraph;
-use install_order::Entry;
 
 /// Lets the cells of a new slot, which reads these objects, wait for their next writes.
 pub(crate) fn wait_all(slot: u32, objects: &[u32], rows: &mut Rows)
@@ -27,42 +25,31 @@ pub(crate) fn wait_all(slot: u32, objects: &[u32], rows: &mut Rows)
 }
 
 /// Leads the last writers of the objects to the slot that overwrites them.
-pub(crate) fn lead_writers(
-    slot: u32,
-    objects: &[u32],
-    earlier: &[Entry],
-    graph: &mut SlotGraph,
-    rows: &Rows,
-)
+pub(crate) fn lead_writers(slot: u32, objects: &[u32], graph: &mut SlotGraph, rows: &Rows)
     requires slot { slot < length graph.old.node }
     requires held { IsTrue (held_at graph.old.held slot) }
-    requires small { length graph.old.node ≤ 2 ^ 28 }
-    requires earlier { length earlier.now ≤ length graph.old.node }
-    requires below { (x w : ℕ) → last_of rows.now x ≡ Some w → w < length earlier.now }
-    requires writes { (x w : ℕ) → last_held graph.old.held rows.now x ≡ Some w → IsTrue (is_among x (writes_of earlier.now w)) }
-    requires few { (i : ℕ) → length (writes_of earlier.now i) ≤ 4 }
-    ensures { AreWritersLed earlier.now rows.now objects.now slot graph.old graph.new }
+    requires below { (x w : ℕ) → last_of rows.now x ≡ Some w → w < length graph.old.node }
+    ensures { AreWritersLed rows.now objects.now slot graph.old graph.new }
 {
     for x in objects {
-        lead_writer(slot, *x, earlier, graph, rows);
+        lead_writer(slot, *x, graph, rows);
     }
 }
 
 /// Leads the last writer of the object to the slot that overwrites it.
-fn lead_writer(slot: u32, x: u32, earlier: &[Entry], graph: &mut SlotGraph, rows: &Rows)
+fn lead_writer(slot: u32, x: u32, graph: &mut SlotGraph, rows: &Rows)
     requires slot { slot < length graph.old.node }
     requires held { IsTrue (held_at graph.old.held slot) }
-    requires small { length graph.old.node ≤ 2 ^ 28 }
-    requires earlier { length earlier.now ≤ length graph.old.node }
-    requires below { (w : ℕ) → last_of rows.now x ≡ Some w → w < length earlier.now }
-    requires writes { (w : ℕ) → last_held graph.old.held rows.now x ≡ Some w → IsTrue (is_among x (writes_of earlier.now w)) }
-    requires few { (i : ℕ) → length (writes_of earlier.now i) ≤ 4 }
-    ensures { IsWriterLed earlier.now rows.now x slot graph.old graph.new }
+    requires below { (w : ℕ) → last_of rows.now x ≡ Some w → w < length graph.old.node }
+    ensures { IsWriterLed rows.now x slot graph.old graph.new }
 {
-    let Some(w) = last_held(x, graph, rows) else {
+    let Some(cell) = rows.last(x) else {
         return;
     };
-    lead(graph, write_cell(w, x, earlier), slot);
+    if !graph.is_held(cell / CELLS) {
+        return;
+    }
+    lead(graph, cell, slot);
 }
 
 /// Gives the cells that wait for the writes of the objects their arcs, and sets the objects' last writer.
@@ -72,13 +59,14 @@ pub(crate) fn answer_all(slot: u32, objects: &[u32], graph: &mut SlotGraph, rows
     requires small { length graph.old.node ≤ 2 ^ 28 }
     requires below { (x w : ℕ) → last_of rows.old x ≡ Some w → w < length graph.old.node }
     requires cells { (x c : ℕ) → IsTrue (is_among c (waiting_of rows.old x)) → c / 8 < length graph.old.node }
+    requires few { length objects.now ≤ 4 }
     requires room { length objects.now ≤ rows.old.row_room }
-    ensures { AreAnswered objects.now slot graph.old rows.old graph.new rows.new }
+    ensures { AreAnswered objects.now objects.now slot graph.old rows.old graph.new rows.new }
 {
     for x in objects {
         let version = last_held(*x, graph, rows).unwrap_or(slot);
         answer(*x, version, graph, rows);
-        rows.set_last(*x, slot);
+        rows.set_last(*x, own_cell(slot, *x, objects));
     }
 }
 
@@ -127,6 +115,6 @@ pub(crate) fn last_held(x: u32, graph: &SlotGraph, rows: &Rows) -> Option<u32>
     requires below { (w : ℕ) → last_of rows.now x ≡ Some w → w < length graph.now.node }
     ensures { result ≡ last_held graph.now.held rows.now x }
 {
-    let w = rows.last(x)?;
+    let w = rows.last(x)? / CELLS;
     if graph.is_held(w) { Some(w) } else { None }
 }

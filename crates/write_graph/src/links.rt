@@ -66,7 +66,7 @@ impl Links {
         self.rows.add_cells();
         wait_all(slot, entry.reads.as_slice(), &mut self.rows);
         let writes = entry.writes.as_slice();
-        lead_writers(slot, writes, earlier, &mut self.graph, &self.rows);
+        lead_writers(slot, writes, &mut self.graph, &self.rows);
         answer_all(slot, writes, &mut self.graph, &mut self.rows);
         let _node = self.graph.node(slot);
     }

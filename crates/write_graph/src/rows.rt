@@ -2,7 +2,7 @@ ghost use Rattle.std.specs.Prelude.{◌≡◌, ℕ, ◌<◌, ◌≤◌, ◌+◌,
 ghost use Rattle.oper_core.specs.State.{is_among};
 ghost use Rattle.write_graph.specs.Places.{place_in};
 ghost use Rattle.write_graph.specs.RowTables.{IsRow};
-ghost use Rattle.write_graph.specs.Rows.{last_of, waiting_of, AreEmpty, AreSameLast, AreSameWaiting, IsLastSet, IsWaiting, IsTaken, AreCellsAdded};
+ghost use Rattle.write_graph.specs.Rows.{cell_of, waiting_of, AreEmpty, AreSameLast, AreSameWaiting, IsLastSet, IsWaiting, IsTaken, AreCellsAdded};
 
 use indexmap::IndexSet;
 use number_lists::{Chains, PackedOption, push_in_room};
@@ -13,7 +13,7 @@ use std::marker::Model;
 /// How many objects there are at most.
 const MOST: usize = 1 << 32;
 
-/// By object: the slot that wrote it last, and the cells of the reads that wait for its next write.
+/// By object: the cell of its last write, and the cells of the reads that wait for its next write.
 #[derive(Drop)]
 pub(crate) struct Rows {
     objects: IndexSet<u32>,
@@ -74,23 +74,23 @@ impl Rows {
         }
     }
 
-    /// The slot that wrote the object last.
+    /// The cell of the last write of the object.
     pub(crate) fn last(&self, x: u32) -> Option<u32>
-        ensures { result ≡ last_of self.now x }
+        ensures { result ≡ cell_of self.now x }
     {
         let last = self.last.as_slice();
         let row = self.find(x)?;
         last[row].get()
     }
 
-    /// Sets the slot that wrote the object last.
-    pub(crate) fn set_last(&mut self, x: u32, slot: u32)
+    /// Sets the cell of the last write of the object.
+    pub(crate) fn set_last(&mut self, x: u32, cell: u32)
         requires room { 0 < self.old.row_room }
-        requires slot { slot < 4294967295 }
-        ensures { IsLastSet self.old x slot self.new }
+        requires cell { cell < 4294967295 }
+        ensures { IsLastSet self.old x cell self.new }
     {
         let row = self.row(x);
-        self.last[row] = PackedOption::some(slot);
+        self.last[row] = PackedOption::some(cell);
     }
 
     /// Lets a cell that doesn't wait yet wait for the next write of the object.

@@ -15,8 +15,8 @@ loop-done-init c = record {
 pub push_in_room-requires : goal.push_in_room-requires
 push_in_room-requires c = omega (arith, c.loop-done.invariant.count, c.loop-done.invariant.room, c.loop-done.out.ok.0, c.requires.room)
 
-pub bounds-next-at : goal.bounds-next-at
-bounds-next-at c =
+pub after-at-requires : goal.after-at-requires
+after-at-requires c left =
     let some : c.args.count - c.loop-done.done ≡ 0 → ⊥ = λ e. omega arith in
     c.requires.below c.loop-done.at (subst (λ (ys : List ℕ). IsTrue (is_among c.loop-done.at ys)) c.loop-done.invariant.so_far (walk-in c.args.next.now c.loop-done.out.items (c.args.count - c.loop-done.done) c.loop-done.at some))
 
@@ -25,7 +25,7 @@ loop-done-preserved c =
     let some : c.args.count - c.loop-done.done ≡ 0 → ⊥ = λ e. omega arith in
     let less : c.args.count - (c.loop-done.done + 1) ≡ (c.args.count - c.loop-done.done) - 1 = omega arith in
     record {
-      so_far = rw (c.push_in_room.ensures.items, less) (walk-on c.args.next.now c.loop-done.out.items (follow c.args.next.now c.args.count c.args.first) (c.args.count - c.loop-done.done) c.loop-done.at some c.loop-done.invariant.so_far);
+      so_far = rw (c.push_in_room.ensures.items, less) (walk-on c.args.next.now c.loop-done.out.items (follow c.args.next.now c.args.count c.args.first) (c.args.count - c.loop-done.done) c.loop-done.at c.after-at.result some c.after-at.ensures c.loop-done.invariant.so_far);
       count = rw c.push_in_room.ensures.items (length-append c.loop-done.out.items (c.loop-done.at ∷ []) ∙ ap (λ (n : ℕ). n + 1) c.loop-done.invariant.count);
       room = omega (arith, c.loop-done.invariant.room, c.push_in_room.ensures.capacity);
     }

@@ -1,5 +1,5 @@
 use Rattle.std.proofs.Common.{◌≡◌, ◌∙◌, ap, sym, subst, ℕ, suc, ◌+◌, ◌<◌, List, [], ◌∷◌, ◌++◌, length, take, All, arith}
-use Rattle.std.specs.Prelude.{IsTrue, IsFalse, slice_index}
+use Rattle.std.specs.Prelude.{slice_index}
 use Rattle.install_order.specs.declared.entry.Entry.{Entry}
 use Rattle.graph_nodes.specs.Arcs.{held_at}
 use Rattle.write_graph.specs.Graph.{Graph, numbers}

@@ -1,10 +1,11 @@
 use Rattle.std.proofs.Common.{◌≡◌, ◌∙◌, ap, sym, subst, ℕ, List, [], ◌∷◌, length, length-append, arith, inl, inr}
 use Rattle.std.specs.Prelude.{IsTrue}
 use Rattle.oper_core.specs.State.{is_among}
+use Rattle.write_graph.specs.Rows.{its_slot}
 use Rattle.write_graph.specs.Steps.{AreWritersLed, AreAnswered, AreWaiting}
 use Rattle.write_graph.proofs.Led.{cell-of-slot}
 use Rattle.write_graph.proofs.Adding.{added}
-use Rattle.write_graph.proofs.Added.{waits-below, last-writes, linked-more}
+use Rattle.write_graph.proofs.Added.{waits-below, linked-more}
 use Rattle.write_graph.proofs.links.Links.add.Goals as goal
 
 pub wait_all-requires-clause-free : goal.wait_all-requires-clause-free
@@ -12,13 +13,13 @@ wait_all-requires-clause-free c x k t =
     let below = waits-below c.args.earlier.now c.args.self.now.graph.held c.args.self.now.rows x k c.requires.linked.rows_are (subst (λ (xs : List ℕ). IsTrue (is_among k xs)) (c.add_cells.ensures.waiting x) t) in
     omega (arith, below, c.len-slot.ensures.count, c.requires.linked.slots)
 
-pub lead_writers-requires-clause-writes : goal.lead_writers-requires-clause-writes
-lead_writers-requires-clause-writes c x w last =
-    last-writes c.args.earlier.now c.args.self.now.graph.held c.add_slot.new.self.held c.args.self.now.rows c.wait_all.new.rows x w c.requires.linked.held c.requires.linked.rows_are c.add_slot.ensures.added.held (c.wait_all.ensures.last x ∙ c.add_cells.ensures.last x) last
+pub lead_writers-requires-clause-below : goal.lead_writers-requires-clause-below
+lead_writers-requires-clause-below c x w last =
+    omega (arith, c.requires.linked.rows_are.below x w (ap its_slot (sym (c.wait_all.ensures.last x ∙ c.add_cells.ensures.last x)) ∙ last), ap length c.add_slot.ensures.added.node, length-append c.args.self.now.graph.node (length c.args.self.now.graph.node ∷ []), c.requires.linked.slots)
 
 pub answer_all-requires-clause-below : goal.answer_all-requires-clause-below
 answer_all-requires-clause-below c x w last =
-    omega (arith, c.requires.linked.rows_are.below x w (sym (c.wait_all.ensures.last x ∙ c.add_cells.ensures.last x) ∙ last), c.lead_writers.ensures.grown.slots, ap length c.add_slot.ensures.added.node, length-append c.args.self.now.graph.node (length c.args.self.now.graph.node ∷ []), c.requires.linked.slots)
+    omega (arith, c.requires.linked.rows_are.below x w (ap its_slot (sym (c.wait_all.ensures.last x ∙ c.add_cells.ensures.last x)) ∙ last), c.lead_writers.ensures.grown.slots, ap length c.add_slot.ensures.added.node, length-append c.args.self.now.graph.node (length c.args.self.now.graph.node ∷ []), c.requires.linked.slots)
 
 pub answer_all-requires-clause-cells : goal.answer_all-requires-clause-cells
 answer_all-requires-clause-cells c x k t =
@@ -45,7 +46,7 @@ returns-clause-linked c =
       slot = c.add_slot.ensures.added;
       cells = c.add_cells.ensures;
       waits = subst (λ (n : ℕ). AreWaiting e.reads n c.add_cells.new.self c.wait_all.new.rows) len (subst (λ (xs : List ℕ). AreWaiting xs c.len-slot.result c.add_cells.new.self c.wait_all.new.rows) c.as_slice.ensures.value c.wait_all.ensures);
-      led = subst (λ (n : ℕ). AreWritersLed earlier c.wait_all.new.rows e.writes n c.add_slot.new.self c.lead_writers.new.graph) len (subst (λ (xs : List ℕ). AreWritersLed earlier c.wait_all.new.rows xs c.len-slot.result c.add_slot.new.self c.lead_writers.new.graph) c.as_slice-writes.ensures.value c.lead_writers.ensures);
-      answered = subst (λ (n : ℕ). AreAnswered e.writes n c.lead_writers.new.graph c.wait_all.new.rows c.answer_all.new.graph c.answer_all.new.rows) len (subst (λ (xs : List ℕ). AreAnswered xs c.len-slot.result c.lead_writers.new.graph c.wait_all.new.rows c.answer_all.new.graph c.answer_all.new.rows) c.as_slice-writes.ensures.value c.answer_all.ensures);
+      led = subst (λ (n : ℕ). AreWritersLed c.wait_all.new.rows e.writes n c.add_slot.new.self c.lead_writers.new.graph) len (subst (λ (xs : List ℕ). AreWritersLed c.wait_all.new.rows xs c.len-slot.result c.add_slot.new.self c.lead_writers.new.graph) c.as_slice-writes.ensures.value c.lead_writers.ensures);
+      answered = subst (λ (n : ℕ). AreAnswered e.writes e.writes n c.lead_writers.new.graph c.wait_all.new.rows c.answer_all.new.graph c.answer_all.new.rows) len (subst (λ (xs : List ℕ). AreAnswered xs xs c.len-slot.result c.lead_writers.new.graph c.wait_all.new.rows c.answer_all.new.graph c.answer_all.new.rows) c.as_slice-writes.ensures.value c.answer_all.ensures);
       arcs = λ o p. (c.arcs_of_one_more.ensures _ _ (length earlier) o p is).0;
     }
