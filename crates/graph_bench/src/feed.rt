@@ -1,5 +1,5 @@
 use crate::dice::Dice;
-use crate::works::{Plan, Work, accesses};
+use crate::works::{Plan, Removal, Work, accesses};
 use install_order::Entry;
 use oper_core::{Memory, Objs};
 use std::alloc::Global;
@@ -41,15 +41,20 @@ impl Feed {
         self.calls
     }
 
-    /// Adds the operations, takes nodes out where there are more entries than are to be held, and at the end all of them.
+    /// Adds the operations, and takes nodes out when the plan says.
     pub fn run(&mut self, work: Work, plan: Plan) -> Result<(), Memory> {
         let mut dice = Dice::new();
         for k in 0..plan.count {
             let (reads, writes) = accesses(work, k, plan.count, &mut dice);
             self.add(reads, writes)?;
-            self.take(plan.held);
+            if let Removal::Beyond(held) = plan.removal {
+                self.take(held);
+            }
         }
-        self.take(0);
+        match plan.removal {
+            Removal::Never => {}
+            Removal::AtEnd | Removal::Beyond(_) => self.take(0),
+        }
         Ok(())
     }
 

@@ -1,5 +1,5 @@
-//! The program `graph_bench`: it adds so many operations of one kind to a write graph, takes all nodes out again, and prints
-//! how many calls that were. `bench/graph` measures it.
+//! The program `graph_bench`: it adds so many operations of one kind to a write graph, takes nodes out, and prints how many calls
+//! that were. `bench/graph` measures it.
 //!
 //! The one contract: each entry that it adds has a number above all others, and there is room for it. It depends on
 //! `write_graph`, `install_order` and `oper_core`.
@@ -30,10 +30,10 @@ fn asked(words: &[String]) -> Option<(Work, Plan, u32)> {
     let [_, name, count, times] = words else {
         return None;
     };
-    let (work, held) = works(name.as_str())?;
+    let (work, removal) = works(name.as_str())?;
     let count = count.parse::<u32>().ok()?;
     let times = times.parse::<u32>().ok()?;
-    Some((work, Plan { count, held }, times))
+    Some((work, Plan { count, removal }, times))
 }
 
 /// Does the work so often, and answers how many entries were added and nodes taken out.

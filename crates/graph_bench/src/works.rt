@@ -20,29 +20,42 @@ pub enum Work {
     Readers,
 }
 
-/// How many operations a run has, and how many entries it holds at most until it takes all nodes out.
+/// When nodes are taken out.
+#[derive(Clone, Copy)]
+pub enum Removal {
+    /// Never.
+    Never,
+    /// All of them at the end.
+    AtEnd,
+    /// As soon as there are more entries than so many, and all of them at the end.
+    Beyond(u64),
+}
+
+/// How many operations a run has, and when nodes are taken out.
 #[derive(Clone, Copy)]
 pub struct Plan {
     pub count: u32,
-    pub held: u64,
+    pub removal: Removal,
 }
 
-/// The kind of work of the name, and how many entries are held in it.
-pub fn works(name: &str) -> Option<(Work, u64)> {
-    const ALL: u64 = u64::MAX;
+/// The kind of work of the name, and when nodes are taken out in it.
+pub fn works(name: &str) -> Option<(Work, Removal)> {
     match name {
-        "independent" => Some((Work::Independent, ALL)),
-        "put" => Some((Work::Put, ALL)),
-        "append" => Some((Work::Append, ALL)),
-        "chain" => Some((Work::Chain, ALL)),
-        "random_16_held_64" => Some((Work::Random(15), 64)),
-        "random_4096_held_64" => Some((Work::Random(4095), 64)),
-        "random_65536_held_64" => Some((Work::Random(65535), 64)),
-        "random_16" => Some((Work::Random(15), ALL)),
-        "random_4096" => Some((Work::Random(4095), ALL)),
-        "random_65536" => Some((Work::Random(65535), ALL)),
-        "close" => Some((Work::Close, ALL)),
-        "readers" => Some((Work::Readers, ALL)),
+        "independent" => Some((Work::Independent, Removal::AtEnd)),
+        "put" => Some((Work::Put, Removal::AtEnd)),
+        "append" => Some((Work::Append, Removal::AtEnd)),
+        "chain" => Some((Work::Chain, Removal::AtEnd)),
+        "random_16_held_64" => Some((Work::Random(15), Removal::Beyond(64))),
+        "random_4096_held_64" => Some((Work::Random(4095), Removal::Beyond(64))),
+        "random_65536_held_64" => Some((Work::Random(65535), Removal::Beyond(64))),
+        "random_16" => Some((Work::Random(15), Removal::Never)),
+        "random_4096" => Some((Work::Random(4095), Removal::Never)),
+        "random_65536" => Some((Work::Random(65535), Removal::Never)),
+        "random_16_emptied" => Some((Work::Random(15), Removal::AtEnd)),
+        "random_4096_emptied" => Some((Work::Random(4095), Removal::AtEnd)),
+        "random_65536_emptied" => Some((Work::Random(65535), Removal::AtEnd)),
+        "close" => Some((Work::Close, Removal::AtEnd)),
+        "readers" => Some((Work::Readers, Removal::AtEnd)),
         _ => None,
     }
 }
