@@ -1,7 +1,7 @@
 -- A machine that reports nothing, and claims what its reads agree with.
 use Rattle.std.proofs.Common.{◌≡◌, ◌≤◌, ℕ, List, arith, refl, sym, subst}
 use Rattle.disk_model.specs.Disk.{Files, Disk, IsDisk, Runs}
-use Rattle.disk_model.specs.Untold.{untold, lawful_untold}
+use Rattle.disk_model.specs.Untold.{untold}
 
 -- where this holds, its files are these, by all that its reads gave
 abbrev pub mirrored : Type 0 → Files → ℕ → ℕ → Disk

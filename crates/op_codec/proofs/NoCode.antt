@@ -1,5 +1,5 @@
 -- Bytes that begin with no code of the type of their tag begin with no code.
-use Rattle.std.proofs.Common.{◌≡◌, ◌≤◌, ℕ, Option, None, Some, unwrap_or, List, [], ◌∷◌, slice_index, refl, sym, ap, ◌∙◌, arith}
+use Rattle.std.proofs.Common.{◌≡◌, ◌≤◌, ℕ, Option, Some, unwrap_or, List, [], ◌∷◌, slice_index, refl, sym, ap, ◌∙◌, arith}
 use Rattle.std.specs.Prelude.{slice_get}
 use Rattle.std.proofs.lemmas.Bool.{le-leb, le-ltb}
 use Rattle.oper_core.specs.Meaning.{Meaning, StartsWithCode}

@@ -1,5 +1,5 @@
 -- Every operation meets the laws, since each type does, and no two types share a tag.
-use Rattle.std.proofs.Common.{◌≡◌, ◌≤◌, ◌<◌, ◌+◌, ℕ, Option, None, List, ◌++◌, if◌then◌else◌, length, slice_index, refl, sym, ap, ◌∙◌, arith}
+use Rattle.std.proofs.Common.{◌≡◌, ◌≤◌, ◌<◌, ℕ, None, List, ◌++◌, if◌then◌else◌, length, slice_index, refl, sym, ap, ◌∙◌, arith}
 use Rattle.std.specs.Prelude.{IsTrue, nat_eq, nat_le, nat_lt, All}
 use Rattle.std.specs.List.{IsDistinct}
 use Rattle.oper_core.specs.Meaning.{Meaning, AreWithin, FitsReads, HasBounds, IsInGrammar, IsLawful, IsSmall, StartsWithCode, Widens}

@@ -1,8 +1,7 @@
-use Rattle.std.proofs.Common.{◌≡◌, ◌∙◌, ℕ, ◌+◌, ◌-◌, ◌≤◌, List, length, take, drop, ap, sym, arith}
+use Rattle.std.proofs.Common.{◌∙◌, ℕ, take, drop, ap, arith}
 use Rattle.std.proofs.lemmas.Bool.Decides.{Decides-eqb}
 use Rattle.std.proofs.lemmas.List.{take_min, length-drop}
 use Rattle.std.proofs.lemmas.Slice.Eq.{slice_eq-Decides}
-use Rattle.disk_model.specs.Disk.{read_of}
 use Rattle.disk_model.proofs.mirrored.is_read_of.Goals as goal
 
 pub returns : goal.returns
