@@ -71,12 +71,16 @@ module _ {O : Type 0} (m : Meaning O) where
   -- by what the search for the next one found
   pub given_more : (old new : Disk) (log : RecordLogView) (before after : NumberedReaderView) (given : List (Record O)) (found : Option (Record O)) → after.from ≡ before.from → after.end ≡ before.end
       → HasSearched m old new before.from before.end before.records after.records found → IsReadingNumbered m old log before given → HasGiven m new log after given found
-  given_more old new log before after given None from end search is = record {
-    all = is.all ++ search.more;
-    given_are = is.given_are ∙ sym (filter-append (is_between before.from before.end) is.all search.more ∙ ap (λ (l : List (Record O)). numbered_between before.from before.end is.all ++ l) search.found_is ∙ append-nil (numbered_between before.from before.end is.all))
-        ∙ (λ i. numbered_between (sym from i) (is.end i) (is.all ++ search.more));
-    read = λ apart. (search.reading log.log is.all (is.reading apart)).0;
-  }
+  given_more old new log before after given None from end search is =
+      let ended = (search.reading (nowhere log.log) is.all (reading_nowhere old log.log before.records is.all is.past)).0 in
+      record {
+        all = is.all ++ search.more;
+        given_are = is.given_are ∙ sym (filter-append (is_between before.from before.end) is.all search.more ∙ ap (λ (l : List (Record O)). numbered_between before.from before.end is.all ++ l) search.found_is ∙ append-nil (numbered_between before.from before.end is.all))
+            ∙ (λ i. numbered_between (sym from i) (is.end i) (is.all ++ search.more));
+        placed = ended.placed;
+        short = ended.short;
+        read = λ apart. (search.reading log.log is.all (is.reading apart)).0;
+      }
   given_more old new log before after given (Some r) from end search is =
       let past = past_of new (nowhere log.log) after.records (is.all ++ search.more) (search.reading (nowhere log.log) is.all (reading_nowhere old log.log before.records is.all is.past)) in
       record {

@@ -42,10 +42,13 @@ pub record IsReadingNumbered {O : Type 0} (m : Meaning O) (d : Disk) (log : Reco
   pub past : IsPast m log.log it.records all
   pub reading : log.log.active ≢ Objects → IsReading m d log.log it.records all
 
--- these are the numbered records from this number on of all that the log has
+-- Of some records that are right in their places, and each of which goes into a block, these are the numbered ones from this
+-- number on and below the log's next one. Where the log is not in the objects file, those records are all that it has.
 pub record AreAllNumbered {O : Type 0} (m : Meaning O) (d : Disk) (log : RecordLogView) (from : ℕ) (given : List (Record O)) : Type 0 where
   pub all : List (Record O)
   pub given_are : given ≡ numbered_between from log.next all
+  pub placed : AreRecords m log.log.header.base log.log.header.base all
+  pub short : AreShort m all
   pub read : log.log.active ≢ Objects → AreAll m d log.log all
 
 -- what a reader that had given these records found: one more, or that these are all

@@ -32,10 +32,10 @@ const MAX_BLOCK: usize = 1 << 30;
 const MAX_BLOCKS: usize = 1 << 32;
 
 // Whether a record has a number, from this one on.
-fn is_numbered_from<O: Oper>(record: &Record<O>, from: u64) -> bool
-    ensures { result ≡ is_numbered_from from «record».now }
+fn is_numbered_from<O: Oper>(it: &Record<O>, from: u64) -> bool
+    ensures { result ≡ is_numbered_from from it.now }
 {
-    match record {
+    match it {
         Record::Command(number, _) => from <= *number,
         Record::Identity(number, _, _) => from <= *number,
         Record::Check(_) => false,
@@ -72,17 +72,17 @@ fn block_of(bytes: Vec<u8>) -> Payload
 // found.
 fn add_record<O: Oper>(
     alloc: Global,
-    record: &Record<O>,
+    it: &Record<O>,
     hand: &mut Vec<u8>,
     found: &mut Vec<Payload>,
 ) -> Result<(), Memory>
-    requires code { IsEncodable O.meaning «record».now }
+    requires code { IsEncodable O.meaning it.now }
     requires few { length found.old.items ≤ 2 ^ 32 }
-    ensures added { (b : Bounds) → OnOk result (IsAdded (record_code (O.meaning b) «record».now) hand.old.items hand.new.items (bytes_of found.old.items) (bytes_of found.new.items)) }
+    ensures added { (b : Bounds) → OnOk result (IsAdded (record_code (O.meaning b) it.now) hand.old.items hand.new.items (bytes_of found.old.items) (bytes_of found.new.items)) }
     ensures few { OnOk result (length found.new.items ≤ 2 ^ 32) }
 {
     let mut code = Vec::new(alloc);
-    encode(record, &mut code)?;
+    encode(it, &mut code)?;
     if hand.len() + code.len() <= MAX_BLOCK {
         hand.extend_from_slice(&code)?;
         return Ok(());
