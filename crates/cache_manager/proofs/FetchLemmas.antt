@@ -1,16 +1,19 @@
--- Objects that are fetched keep their pairs, and report them.
+-- Objects that are fetched keep their pairs, and report them; and why one is not fetched.
 use Rattle.std.proofs.Common.{◌≡◌, ℕ, ◌<◌, ◌≤◌, ◌+◌, List, [], ◌∷◌, ◌++◌, length, map, take, slice_index, refl, sym, ap, ◌∙◌, subst, arith}
 use Rattle.std.specs.Prelude.{All}
 use Rattle.std.proofs.lemmas.List.{take_more}
-use Rattle.std.proofs.lemmas.List.Elements.{All-append, All-cons}
-use Rattle.disk_model.specs.Disk.{Disk, Stays}
+use Rattle.std.proofs.lemmas.List.Elements.{All-append, All-cons, Contains-get_or}
+use Rattle.disk_model.specs.Disk.{Files, Disk, Rises, Stays}
 use Rattle.disk_model.specs.declared.machine.FileNo.TheVariants.{Objects}
 use Rattle.oper_core.specs.Cell.{Cell}
-use Rattle.formats.specs.Objects.{cell_of}
-use Rattle.stable_objects.specs.SlotsView.{SlotsView, AreOf, id_in}
+use Rattle.formats.specs.Objects.{cell_of, slot_place}
+use Rattle.stable_objects.specs.Reading.{FailsBy, FailsAt, IsLongValue, fails_on}
+use Rattle.stable_objects.specs.SlotsView.{SlotsView, AreOf, holder_in, id_in}
 use Rattle.stable_objects.specs.SlotLaws.{id_is}
+use Rattle.stable_objects.specs.declared.slot_err.SlotErr.{SlotErr}
 use Rattle.cache_manager.specs.Laid.{Laid, IsLaidOn, KeepsCells, values_in}
 use Rattle.cache_manager.specs.LaidLaws.{cells_twice}
+use Rattle.cache_manager.specs.LongSlot.{HasLongSlot, IsLongSlot}
 
 -- where the machine reports its files, objects that are laid on the objects file keep their pairs and are still
 abbrev pub Keeps : Disk → Laid → Laid → Type 0
@@ -47,3 +50,30 @@ values_next file old new objects values v i within below so_far is keeps =
 pub short_next : (cap : ℕ) (values : List (List ℕ)) (v : List ℕ) → All (λ w. length w ≤ cap) values → length v ≤ cap → All (λ w. length w ≤ cap) (values ++ v ∷ [])
 short_next cap values v all short =
     All-append (λ w. length w ≤ cap) values (v ∷ []) all (All-cons (λ w. length w ≤ cap) v [] short (λ k d below. absurd (omega (arith, below))))
+
+-- why the slot of an object is not read is why the object is not fetched
+pub read_fails : (rises : Type 0) (new : Disk) (slots now : SlotsView) (object : ℕ) (e : SlotErr) → now ≡ slots → object < slots.params.objects → (id_in now object ≡ 0 → ⊥)
+    → FailsBy rises ⊥ (FailsAt (λ place. (files : Files) → new.agrees files → IsLongValue now.params.cap (slot_place now.params.cap object (holder_in now object)) (files Objects) place)) e
+    → FailsBy rises ⊥ (IsLongSlot new slots object) e
+read_fails rises new slots now object e same below there fails =
+    fails_on rises rises ⊥ ⊥ (FailsAt (λ place. (files : Files) → new.agrees files → IsLongValue now.params.cap (slot_place now.params.cap object (holder_in now object)) (files Objects) place)) (IsLongSlot new slots object) e
+    (λ risen. risen) (λ none. none)
+    (λ file place long. subst (λ (s : SlotsView). IsLongSlot new s object file place) same (record {
+      file_is = long.0;
+      below = subst (λ (s : SlotsView). object < s.params.objects) (sym same) below;
+      there = there;
+      long = long.1;
+    }))
+    fails
+
+-- where one of the objects is not fetched, after calls that change nothing, they are not read for the same cause
+pub one_fails : (first second new : Disk) (slots mid : SlotsView) (objects : List ℕ) (i : ℕ) (e : SlotErr) → i < length objects → Stays first second → mid ≡ slots
+    → FailsBy (Rises second.disk_faults new.disk_faults) ⊥ (IsLongSlot new mid (slice_index objects i)) e → FailsBy (Rises first.disk_faults new.disk_faults) ⊥ (HasLongSlot new slots objects) e
+one_fails first second new slots mid objects i e within stays same =
+    fails_on (Rises second.disk_faults new.disk_faults) (Rises first.disk_faults new.disk_faults) ⊥ ⊥ (IsLongSlot new mid (slice_index objects i)) (HasLongSlot new slots objects) e
+    (λ risen below. let rose = risen below in omega (arith, rose, stays.time.disk_faults)) (λ none. none)
+    (λ file place slot. record {
+      object = slice_index objects i;
+      among = Contains-get_or objects i 0 within;
+      slot = subst (λ (s : SlotsView). IsLongSlot new s (slice_index objects i) file place) same slot;
+    })

@@ -1,5 +1,5 @@
 -- Where no slot is late, all of them are below the next number.
-use Rattle.std.proofs.Common.{ℕ, ◌<◌, ◌≤◌, Bool, true, false, arith, inl, inr}
+use Rattle.std.proofs.Common.{ℕ, ◌<◌, Bool, true, false, arith, inl, inr}
 use Rattle.std.specs.Prelude.{if◌then◌else◌, nat_lt}
 use Rattle.std.proofs.lemmas.Bool.{cases_lt}
 use Rattle.stable_objects.specs.SlotsView.{IsLate, head, holder_in}

@@ -46,8 +46,8 @@ pub record IsLonger (n : ℕ) (before after : Parts) : Type 0 where
   pub entries : length after.store.entries ≡ length before.store.entries + n
   pub dirty : (y : ℕ) → is_dirty after.store.objects.cache y ≡ is_dirty before.store.objects.cache y
 
--- Why a call is stopped whose log may have so many bytes, by the log that it leaves, in which nothing waits: a record has no
--- room after it, or no number is left for one, or no epoch for another log.
+-- Why a call is stopped whose log may have so many bytes, by the log that it leaves: nothing waits in it, and a record has no
+-- room after it, or no number is left for one; or no epoch is left for another log.
 abbrev pub StopsAt : ℕ → RecordLogView → Stop → Type 0
 StopsAt most log Through = ⊥
 StopsAt most log (Full used need limit) = (used ≡ used_of log.log) × (log.log.pending ≡ []) × (limit < used + need) × (limit ≡ most)

@@ -11,7 +11,7 @@ ghost use Rattle.oper_core.specs.State.{is_among};
 ghost use Rattle.dirty_cache.specs.Contents.{held, is_dirty, AreDirty, HasRoom};
 ghost use Rattle.cache_manager.specs.Fetched.{IsFetched};
 ghost use Rattle.cache_manager.specs.Laid.{IsLaidOn, values_in, id_at, KeepsCells, with_chosen, with_entries};
-ghost use Rattle.cache_manager.specs.LongSlot.{IsLongSlot};
+ghost use Rattle.cache_manager.specs.LongSlot.{HasLongSlot, IsLongSlot};
 
 use dirty_cache::Cache;
 use disk_model::Machine;
@@ -136,7 +136,7 @@ impl Objects {
         ensures known { IsSome (held self.old.cache object) → machine.new ≡ machine.old }
         ensures none { id_in self.old.slots object ≡ 0 → (machine.new ≡ machine.old) × IfErr result (λ e. e ≡ SlotErr.Memory) }
         ensures cause { IfErr result (FailsBy (Rises (M.disk machine.old).disk_faults (M.disk machine.new).disk_faults) ⊥
-            (IsLongSlot (M.disk machine.new) self.old.slots)) }
+            (IsLongSlot (M.disk machine.new) self.old.slots object)) }
     {
         if self.is_cached(object) {
             return Ok(());
@@ -170,7 +170,7 @@ impl Objects {
         ensures none { All (λ x. id_in self.old.slots x ≡ 0) objects.now → (machine.new ≡ machine.old) × IfErr result (λ e. e ≡ SlotErr.Memory) }
         ensures some { OnErr result (0 < length objects.now) }
         ensures cause { IfErr result (FailsBy (Rises (M.disk machine.old).disk_faults (M.disk machine.new).disk_faults) ⊥
-            (IsLongSlot (M.disk machine.new) self.old.slots)) }
+            (HasLongSlot (M.disk machine.new) self.old.slots objects.now)) }
     {
         let mut values = Values::new(self.alloc);
         for object in objects {

@@ -34,7 +34,7 @@ module _ {O : Type 0} (meaning : Bounds → Meaning O) (p : Params) (d new : Dis
       → (e ≡ DiskFault → IsInGrammar (meaning_in meaning q) op × (0 < length ((meaning_in meaning q).reads op))) → HasCause m p.limit w (used_of it.log.log) op (Err e)
   admit_cause (Refused refusal) stays fails refused fault = refused refusal refl
   admit_cause DiskFault stays fails refused fault = inl (subst (λ (b : Params). IsInGrammar (meaning_in meaning b) op × (0 < length ((meaning_in meaning b).reads op))) same (fault refl))
-  admit_cause (Damaged file place) stays fails refused fault = long_untold it.store.objects.slots file place stays shows.told shows.store.laid.slots fails
+  admit_cause (Damaged file place) stays fails refused fault = long_untold it.store.objects.slots fails.object file place stays shows.told shows.store.laid.slots fails.slot
   admit_cause (LogFull used need limit) stays fails refused fault = absurd fails
   admit_cause (LsnEnd number) stays fails refused fault = absurd fails
   admit_cause Memory stays fails refused fault = tt

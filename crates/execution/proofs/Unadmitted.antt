@@ -1,5 +1,5 @@
 -- What holds of a command that is not admitted.
-use Rattle.std.proofs.Common.{◌≡◌, ◌∙◌, sym, inl, refl, ℕ}
+use Rattle.std.proofs.Common.{◌≡◌, ◌∙◌, ◌<◌, sym, subst, inl, refl, ℕ, List, length}
 use Rattle.std.specs.Prelude.{Some, Err}
 use Rattle.disk_model.specs.Disk.{Disk, Stays, Rises}
 use Rattle.disk_model.specs.Moments.{runs_wider}
@@ -9,9 +9,13 @@ use Rattle.oper_core.specs.declared.bounds.Bounds.{Bounds}
 use Rattle.oper_core.specs.declared.refusal.Refusal.{Refusal}
 use Rattle.formats.specs.declared.params.Params.{Params}
 use Rattle.log_records.specs.RecordLog.{RecordLogView}
+use Rattle.stable_objects.specs.Reading.{FailsBy}
+use Rattle.stable_objects.specs.declared.slot_err.SlotErr.{SlotErr}
+use Rattle.stable_objects.specs.declared.slot_err.SlotErr.TheVariants as of_slots
 use Rattle.cache_manager.specs.Courses.{Stop}
 use Rattle.cache_manager.specs.Finished.{IsQuiet}
 use Rattle.cache_manager.specs.Laid.{Laid, IsLaidOn, values_in}
+use Rattle.cache_manager.specs.LongSlot.{HasLongSlot}
 use Rattle.cache_manager.specs.Parts.{Parts, Shows, meaning_in}
 use Rattle.cache_manager.specs.Taking.{Ending, Takes}
 use Rattle.explain_core.specs.World.{World}
@@ -19,7 +23,7 @@ use Rattle.cache_manager.specs.Kept.{StopsAt}
 use Rattle.execution.specs.Answers.{ending_of_exec}
 use Rattle.execution.specs.Courses.{exec_course, refusal_in}
 use Rattle.execution.specs.Done.{IsUndone, LogWithout}
-use Rattle.execution.specs.Failures.{IsAdmitFailure, IsExecFailure}
+use Rattle.execution.specs.Failures.{IsAdmitFailure, IsExecFailure, exec_from_slots}
 use Rattle.execution.specs.Unchanged.{HasRead}
 use Rattle.execution.specs.declared.exec_err.ExecErr.{ExecErr}
 use Rattle.execution.specs.declared.exec_err.ExecErr.TheVariants.{Refused, DiskFault, Damaged, LogFull, LsnEnd, Memory}
@@ -30,6 +34,14 @@ use Rattle.execution.proofs.Takes.{takes_failed, takes_refused, takes_short}
 -- reads of slots say nothing
 pub stays_quiet : (old new : Disk) → Stays old new → IsQuiet old new
 stays_quiet old new stays = runs_wider old new (λ a b. b ≡ a) (λ a b. Unit {0}) (λ a b same. tt) stays
+
+-- why the objects that a command reads are not read is why it is not admitted
+pub unread : {O : Type 0} (meaning : Bounds → Meaning O) (p : Params) (op : O) (old new : Disk) (objects : Laid) (reads : List ℕ) (e : SlotErr) → reads ≡ (meaning_in meaning p).reads op → 0 < length reads
+    → FailsBy (Rises old.disk_faults new.disk_faults) ⊥ (HasLongSlot new objects.slots reads) e → IsAdmitFailure meaning p op old new objects (exec_from_slots e)
+unread meaning p op old new objects reads of_slots.NotAStore are some fails = absurd fails
+unread meaning p op old new objects reads of_slots.DiskFault are some fails = fails
+unread meaning p op old new objects reads (of_slots.Damaged file place) are some fails = subst (λ (l : List ℕ). HasLongSlot new objects.slots l file place) are fails
+unread meaning p op old new objects reads of_slots.Memory are some fails = inl (subst (λ (l : List ℕ). 0 < length l) are some)
 
 module _ {O : Type 0} (meaning : Bounds → Meaning O) (op : O) (old new : Disk) (before : Parts) where
   abbrev p : Params

@@ -1,6 +1,7 @@
 -- Why a command is not done, on every machine.
 use Rattle.std.specs.Prelude.{◌≡◌, ◌⊎◌, ◌+◌, ◌<◌, ◌≤◌, ◌^◌, ⊤, ℕ, List, length, None, Some}
 use Rattle.disk_model.specs.Disk.{Disk, Rises}
+use Rattle.disk_model.specs.declared.machine.FileNo.{FileNo}
 use Rattle.oper_core.specs.Meaning.{Meaning, FitsReads}
 use Rattle.oper_core.specs.declared.bounds.Bounds.{Bounds}
 use Rattle.oper_core.specs.declared.refusal.Refusal.{Refusal}
@@ -10,7 +11,7 @@ use Rattle.log_records.specs.RecordLog.{RecordLogView}
 use Rattle.stable_objects.specs.declared.slot_err.SlotErr.{SlotErr}
 use Rattle.stable_objects.specs.declared.slot_err.SlotErr.TheVariants as of_slots
 use Rattle.cache_manager.specs.Laid.{Laid}
-use Rattle.cache_manager.specs.LongSlot.{IsLongSlot}
+use Rattle.cache_manager.specs.LongSlot.{HasLongSlot}
 use Rattle.cache_manager.specs.Parts.{Parts, meaning_in}
 use Rattle.execution.specs.Courses.{command_length}
 use Rattle.execution.specs.declared.exec_err.ExecErr.{ExecErr}
@@ -41,14 +42,15 @@ LacksPlace limit log n (Refused refusal) = ⊥
 LacksPlace limit log n (Damaged file place) = ⊥
 LacksPlace limit log n Memory = ⊥
 
--- Why a slot is not read: by a fault of the disk, which then counts it, by a value that is too long there, or out of memory.
-abbrev pub IsReadFailure : Disk → Disk → Laid → ExecErr → Type 0
-IsReadFailure old new objects DiskFault = Rises old.disk_faults new.disk_faults
-IsReadFailure old new objects (Damaged file place) = IsLongSlot new objects.slots file place
-IsReadFailure old new objects Memory = ⊤
-IsReadFailure old new objects (Refused refusal) = ⊥
-IsReadFailure old new objects (LogFull used need limit) = ⊥
-IsReadFailure old new objects (LsnEnd number) = ⊥
+-- Why slots are not read: the disk fails, and counts that; or a file is damaged at a place, and this holds of the two; or memory
+-- runs out.
+abbrev pub IsReadFailure : Disk → Disk → (FileNo → ℕ → Type 0) → ExecErr → Type 0
+IsReadFailure old new damage DiskFault = Rises old.disk_faults new.disk_faults
+IsReadFailure old new damage (Damaged file place) = damage file place
+IsReadFailure old new damage Memory = ⊤
+IsReadFailure old new damage (Refused refusal) = ⊥
+IsReadFailure old new damage (LogFull used need limit) = ⊥
+IsReadFailure old new damage (LsnEnd number) = ⊥
 
 module _ {O : Type 0} (meaning : Bounds → Meaning O) (p : Params) (op : O) where
   abbrev m : Meaning O
@@ -73,11 +75,12 @@ module _ {O : Type 0} (meaning : Bounds → Meaning O) (p : Params) (op : O) whe
   abbrev pub NeedsMemory : Type 0
   NeedsMemory = (0 < length (m.reads op)) ⊎ (2 ^ 63 ≤ length (m.code op))
 
-  -- Why a command is not admitted: it is refused, or a read of a slot fails, or memory runs out.
+  -- Why a command is not admitted: it is refused, or memory runs out, or the slots of the objects that it reads are not read:
+  -- the disk fails, or the value in one of them is too long.
   abbrev pub IsAdmitFailure : Disk → Disk → Laid → ExecErr → Type 0
   IsAdmitFailure old new objects (Refused refusal) = IsRefused refusal
   IsAdmitFailure old new objects Memory = NeedsMemory
-  IsAdmitFailure old new objects e = IsReadFailure old new objects e
+  IsAdmitFailure old new objects e = IsReadFailure old new (HasLongSlot new objects.slots (m.reads op)) e
 
 module _ {O : Type 0} (meaning : Bounds → Meaning O) (old new : Disk) (before : Parts) (op : O) where
   abbrev p : Params

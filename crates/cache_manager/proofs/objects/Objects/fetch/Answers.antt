@@ -1,4 +1,6 @@
 use Rattle.std.proofs.Common.{◌≡◌, ◌<◌, sym, subst, ap, ◌∙◌}
+use Rattle.std.proofs.lemmas.Result.{err_from_is_err_and}
+use Rattle.disk_model.specs.Disk.{Rises}
 use Rattle.disk_model.specs.Moments.{told_agrees}
 use Rattle.disk_model.specs.declared.machine.FileNo.TheVariants.{Objects}
 use Rattle.formats.specs.Objects.{cell_of}
@@ -6,7 +8,7 @@ use Rattle.stable_objects.specs.SlotsView.{SlotsView, AreOf, id_in}
 use Rattle.cache_manager.specs.Fetched.{fetched-twice}
 use Rattle.cache_manager.specs.Laid.{Laid, IsLaidOn}
 use Rattle.cache_manager.specs.LaidLaws.{cells_same, cells_twice}
-use Rattle.cache_manager.proofs.FetchLemmas.{read_pair}
+use Rattle.cache_manager.proofs.FetchLemmas.{read_fails, read_pair}
 use Rattle.cache_manager.proofs.objects.Objects.fetch.Goals as goal
 
 pub returns-then-is_cached-clause-cells : goal.returns-then-is_cached-clause-cells
@@ -36,3 +38,11 @@ returns-clause-fetched g c =
     let slots : c.self.inside.slots ≡ c.is_cached.new.self.slots = ap (λ (l : Laid). l.slots) c.self.view_is in
     fetched-twice c.args.self.now c.is_cached.new.self c.keep.new.self c.is_cached.ensures.fetched
     (c.keep.ensures.fetched (c.in_ok-lsn.ensures.id ∙ ap (λ (s : SlotsView). id_in s c.args.object) slots))
+
+pub returns-in_err-lsn-clause-cause : goal.returns-in_err-lsn-clause-cause
+returns-in_err-lsn-clause-cause g c =
+    let rises = Rises (g.M.Machine.disk c.args.machine.now).disk_faults (g.M.Machine.disk c.read.new.machine).disk_faults in
+    let slots : c.self.inside.slots ≡ c.is_cached.new.self.slots = ap (λ (l : Laid). l.slots) c.self.view_is in
+    let e = err_from_is_err_and c.from_residual.result c.from_residual.ensures.1 in
+    rw (e.1, e.2) (read_fails rises (g.M.Machine.disk c.read.new.machine) c.args.self.now.slots c.self.inside.slots c.args.object c.in_err-lsn.field-0.0 (slots ∙ c.is_cached.ensures.slots) c.requires
+    (λ none. let no = (c.in_err-lsn.ensures.none none).0 in cc) c.in_err-lsn.ensures.cause)

@@ -1,11 +1,12 @@
 use Rattle.std.proofs.Common.{◌≡◌, ◌<◌, ◌≤◌, ◌+◌, ◌∙◌, All, ap, sym, subst, length, map, take, slice_index, ℕ, List, [], ◌∷◌, length-append}
 use Rattle.std.proofs.lemmas.List.{take_all}
+use Rattle.std.proofs.lemmas.Result.{err_from_is_err_and}
 use Rattle.disk_model.specs.declared.machine.FileNo.TheVariants.{Objects}
 use Rattle.disk_model.specs.Moments.{stays_twice}
 use Rattle.stable_objects.specs.SlotsView.{SlotsView, id_in}
 use Rattle.cache_manager.specs.Fetched.{fetched-twice}
 use Rattle.cache_manager.specs.Laid.{values_in}
-use Rattle.cache_manager.proofs.FetchLemmas.{Keeps, keeps_twice, values_next, short_next}
+use Rattle.cache_manager.proofs.FetchLemmas.{Keeps, keeps_twice, one_fails, values_next, short_next}
 use Rattle.cache_manager.proofs.objects.Objects.values_of.Goals as goal
 
 pub returns-in_err-fetch-clause-cells : goal.returns-in_err-fetch-clause-cells
@@ -28,6 +29,13 @@ returns-in_err-fetch-clause-fetched g c = fetched-twice c.args.self.now c.loop-o
 
 pub returns-in_err-push-clause-fetched : goal.returns-in_err-push-clause-fetched
 returns-in_err-push-clause-fetched g c = fetched-twice c.args.self.now c.loop-object.self c.fetch.new.self c.loop-object.invariant.fetched c.fetch.ensures.fetched
+
+pub returns-in_err-fetch-clause-cause : goal.returns-in_err-fetch-clause-cause
+returns-in_err-fetch-clause-cause g c =
+    let so_far = c.loop-object.invariant in
+    let e = err_from_is_err_and c.from_residual.result c.from_residual.ensures.1 in
+    rw (e.1, e.2) (one_fails (g.M.Machine.disk c.args.machine.now) (g.M.Machine.disk c.loop-object.machine) (g.M.Machine.disk c.fetch.new.machine) c.args.self.now.slots c.loop-object.self.slots c.args.objects.now c.loop-object.object-index _
+    c.loop-object-test.true so_far.kept so_far.slots c.in_err-fetch.ensures.cause)
 
 pub loop-object-preserved : goal.loop-object-preserved
 loop-object-preserved g c =
