@@ -30,7 +30,7 @@ use Rattle.standing.specs.Standing.{FilesShow}
 use Rattle.analysis_pass.specs.Analysis.{PlanView}
 use Rattle.cache_manager.specs.Flushed.{AreEarly}
 use Rattle.cache_manager.specs.Laid.{Laid, IsLaidOn}
-use Rattle.cache_manager.specs.LongSlot.{IsLongSlot, long_untold}
+use Rattle.cache_manager.specs.LongSlot.{HasLongSlot, IsLongSlot, long_untold}
 use Rattle.cache_manager.specs.Parts.{Store, AreInUse, ShowsStore}
 use Rattle.cache_manager.specs.Stored.{keeps_beside}
 use Rattle.redo_pass.specs.Causes.{FailsBy, IsSlotFault, from_log}
@@ -145,13 +145,14 @@ module _ {O : Type 0} (meaning : Bounds → Meaning O) (limit : ℕ) (plan : Pla
       moments = λ moments settled p w to. still_moments next kept moments settled p w to;
     }
 
-    -- such a call finds too long a value in a slot
-    pub slot_fault : (next : Disk) (after : SlotsView) (file : FileNo) (place : ℕ) → Stays mid next → after ≡ now.objects.slots → IsLongSlot next now.objects.slots file place
+    -- such a call finds too long a value in the slot of one of these objects
+    pub slot_fault : (next : Disk) (after : SlotsView) (objects : List ℕ) (file : FileNo) (place : ℕ) → Stays mid next → after ≡ now.objects.slots → HasLongSlot next now.objects.slots objects file place
         → IsSlotFault old next first.slots after file place
-    slot_fault next after file place kept same slot = record {
-      never = λ told is. long_untold now.objects.slots file place kept (done.runs.time.files_told.0 told) (done.of_file told is) slot;
+    slot_fault next after objects file place kept same long = record {
+      never = λ told is. long_untold now.objects.slots long.object file place kept (done.runs.time.files_told.0 told) (done.of_file told is) long.slot;
       params = ap (λ (s : SlotsView). s.params) same ∙ done.in_use.params;
-      long = subst (λ (s : SlotsView). IsLongSlot next s file place) (sym same) slot;
+      object = long.object;
+      long = subst (λ (s : SlotsView). IsLongSlot next s long.object file place) (sym same) long.slot;
     }
 
     -- what is read now may be the files

@@ -46,13 +46,16 @@ FailsBy rises fault (Damaged file place) = fault file place
 FailsBy rises fault Memory = ⊤
 
 -- A slot is damaged: never on a machine that reports its files, where the slots before were those of the file. On each machine
--- it is one of the slots after, which has too long a value; the store's numbers are as they were.
+-- it is the slot of some object, by the slots after, and its value is too long; the store's numbers are as they were.
 pub record IsSlotFault (old new : Disk) (before after : SlotsView) (file : FileNo) (place : ℕ) : Type 0 where
   pub never : old.tells_files → AreOf before (old.reads Objects) → ⊥
   pub params : after.params ≡ before.params
-  pub long : IsLongSlot new after file place
+  pub object : ℕ
+  pub long : IsLongSlot new after object file place
 
--- A slot is damaged, or the log's records are, as its own file says, which no redo writes.
+-- A slot is damaged; or, where the log is not in the objects file, a record of it breaks its format in all files that agree with
+-- what was read and have the log whole. No redo writes that file. Of a log in the objects file the latter says nothing; where
+-- some files agree with what was read, a restart loads no log from there.
 abbrev pub IsRedoFault : {O : Type 0} → Meaning O → Disk → Disk → LogView → SlotsView → SlotsView → FileNo → ℕ → Type 0
 IsRedoFault m old new log before after file place =
     IsSlotFault old new before after file place ⊎ (log.active ≢ Objects → IsTailFault m new log file place)

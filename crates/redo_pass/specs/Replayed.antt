@@ -1,4 +1,4 @@
--- What the replay of one record changes: in memory, and of a world.
+-- What the replay of one record reads, and what it changes: in memory, and of a world.
 use Rattle.std.specs.Prelude.{◌≡◌, ◌&&◌, ◌||◌, ⊤, ℕ, Bool, true, false, nat_lt, nat_le, if◌then◌else◌, Some, List, [], ◌∷◌, ◌++◌}
 use Rattle.oper_core.specs.Meaning.{Meaning}
 use Rattle.oper_core.specs.State.{is_among, value_for}
@@ -16,6 +16,12 @@ use Rattle.explain_core.specs.World.Step.{Replay}
 use Rattle.standing.specs.Members.{table_of}
 use Rattle.cache_manager.specs.Laid.{Laid, id_at, with_chosen}
 use Rattle.cache_manager.specs.Parts.{Store, entry_of}
+
+-- the objects that a record reads: those that its command reads, or none
+abbrev pub read_by : {O : Type 0} → Meaning O → Record O → List ℕ
+read_by m (Command number op) = m.reads op
+read_by m (Identity number x value) = []
+read_by m (Check check) = []
 
 -- A redo of the record with the number n sets x: the record writes x, whose identifier is below n, and the table does not
 -- start x later.

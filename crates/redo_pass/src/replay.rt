@@ -12,11 +12,11 @@ ghost use Rattle.explain_core.specs.Sound.{IsSound};
 ghost use Rattle.explain_core.specs.World.{World, step};
 ghost use Rattle.explain_core.specs.World.Step.{Replay};
 ghost use Rattle.cache_manager.specs.Laid.{IsLaidOn};
-ghost use Rattle.cache_manager.specs.LongSlot.{IsLongSlot};
+ghost use Rattle.cache_manager.specs.LongSlot.{HasLongSlot};
 ghost use Rattle.cache_manager.specs.Parts.{AreInUse, ShowsStore, store};
 ghost use Rattle.redo_pass.specs.Causes.{FailsBy};
 ghost use Rattle.redo_pass.specs.Progress.{IsAbove};
-ghost use Rattle.redo_pass.specs.Replayed.{IsNext, IsNextRecord, after_record};
+ghost use Rattle.redo_pass.specs.Replayed.{IsNext, IsNextRecord, after_record, read_by};
 ghost use Rattle.redo_pass.specs.Rising.{IsBelow};
 
 use crate::RedoErr;
@@ -51,7 +51,8 @@ fn replay_command<O: Oper, M: Machine>(
         ShowsStore (O.meaning (bounds_of p)) p ((M.disk machine.old).reads ObjectsFile) (store objects.old graph.old.entries) w →
         IsNext w plan.now.table number (a_command op.now) →
         ShowsStore (O.meaning (bounds_of p)) p ((M.disk machine.old).reads ObjectsFile) (store objects.new graph.new.entries) (step (O.meaning (bounds_of p)) w Replay)) }
-    ensures cause { IfErr result (FailsBy (Rises (M.disk machine.old).disk_faults (M.disk machine.new).disk_faults) (IsLongSlot (M.disk machine.new) objects.old.slots)) }
+    ensures cause { IfErr result (FailsBy (Rises (M.disk machine.old).disk_faults (M.disk machine.new).disk_faults)
+        (HasLongSlot (M.disk machine.new) objects.old.slots ((O.meaning (bounds_of objects.old.slots.params)).reads op.now))) }
 {
     let bounds = objects.bounds();
     // Called for its clauses: the numbers of a store are small.
@@ -134,7 +135,8 @@ pub(crate) fn replay<O: Oper, M: Machine>(
         IsNextRecord w plan.now.table «record» →
         ShowsStore (O.meaning (bounds_of p)) p ((M.disk machine.old).reads ObjectsFile) (store objects.new graph.new.entries)
         (after_record (O.meaning (bounds_of p)) w «record»)) }
-    ensures cause { IfErr result (FailsBy (Rises (M.disk machine.old).disk_faults (M.disk machine.new).disk_faults) (IsLongSlot (M.disk machine.new) objects.old.slots)) }
+    ensures cause { IfErr result (FailsBy (Rises (M.disk machine.old).disk_faults (M.disk machine.new).disk_faults)
+        (HasLongSlot (M.disk machine.new) objects.old.slots (read_by (O.meaning (bounds_of objects.old.slots.params)) «record»))) }
 {
     match record {
         Record::Command(number, op) => replay_command(

@@ -19,8 +19,10 @@ use Rattle.explain_core.specs.World.Step.{Replay}
 use Rattle.standing.specs.Crashed.{crashed-graph, crashed-stable}
 use Rattle.standing.specs.OneStable.{small_store}
 use Rattle.cache_manager.specs.Laid.{IsLaidOn}
+use Rattle.cache_manager.specs.LongSlot.{HasLongSlot}
 use Rattle.cache_manager.specs.Parts.{Store, AreInUse}
 use Rattle.redo_pass.specs.Causes.{FailsBy, IsRedoFault, from_log}
+use Rattle.redo_pass.specs.Replayed.{read_by}
 use Rattle.redo_pass.proofs.Doing.{done_none, done_still, still_moments, next_given, none_given, next_on, none_left, next_in_grammar, next_rises, given_reach, reads_on, log_fails, slot_fault}
 use Rattle.redo_pass.proofs.Ends.{ended}
 use Rattle.redo_pass.proofs.Failing.{fails_on, passed_on}
@@ -471,10 +473,12 @@ returns-in_err-replay-clause-cause g c =
     let mid2 = g.M.Machine.disk c.replay.new.machine in
     let rises = Rises old.disk_faults mid2.disk_faults in
     let fault = IsRedoFault (meaning log.bounds) old mid2 log.log objects.slots c.replay.new.objects.slots in
+    let slots = c.loop-reader.objects.slots in
+    let reads = read_by (meaning (bounds_of slots.params)) r in
     passed_on c.from_residual-in_err-replay.result c.in_err-replay.field-0.0 (FailsBy rises fault) c.from_residual-in_err-replay.ensures.1
-    (fails_on _ rises _ fault c.in_err-replay.field-0.0
+    (fails_on _ rises (HasLongSlot mid2 slots reads) fault c.in_err-replay.field-0.0
     (λ risen below. let rose = risen below in omega (arith, rose, one.done.runs.time.disk_faults))
-    (λ file place slot. inl (slot_fault meaning limit plan log objects old mid1 now inv.given one.done mid2 c.replay.new.objects.slots file place c.replay.ensures.kept c.replay.ensures.slots slot)) c.in_err-replay.ensures.cause)
+    (λ file place slot. inl (slot_fault meaning limit plan log objects old mid1 now inv.given one.done mid2 c.replay.new.objects.slots reads file place c.replay.ensures.kept c.replay.ensures.slots slot)) c.in_err-replay.ensures.cause)
 
 pub returns-in_err-limit_dirty-clause-cause : goal.returns-in_err-limit_dirty-clause-cause
 returns-in_err-limit_dirty-clause-cause g c =

@@ -1,5 +1,6 @@
 use Rattle.std.proofs.Common.{◌≡◌, ◌∙◌, ap, sym, subst, List, ℕ}
-use Rattle.std.specs.Prelude.{OnOk}
+use Rattle.std.specs.Prelude.{IfErr, OnOk}
+use Rattle.disk_model.specs.Disk.{Rises}
 use Rattle.disk_model.specs.declared.machine.FileNo.TheVariants.{Objects}
 use Rattle.formats.specs.Objects.{bounds_of}
 use Rattle.formats.specs.declared.params.Params.{Params}
@@ -7,8 +8,10 @@ use Rattle.formats.specs.declared.record.Record.{Record}
 use Rattle.formats.specs.declared.record.Record.TheVariants.{Identity}
 use Rattle.explain_core.specs.Sound.{IsSound}
 use Rattle.explain_core.specs.World.{World}
+use Rattle.cache_manager.specs.LongSlot.{HasLongSlot}
 use Rattle.cache_manager.specs.Parts.{AreInUse, ShowsStore, store}
-use Rattle.redo_pass.specs.Replayed.{IsNextRecord, after_record}
+use Rattle.redo_pass.specs.Causes.{FailsBy}
+use Rattle.redo_pass.specs.Replayed.{IsNextRecord, after_record, read_by}
 use Rattle.redo_pass.specs.Rising.{IsBelow}
 use Rattle.redo_pass.proofs.replay.replay.Goals as goal
 
@@ -25,6 +28,14 @@ returns-in-Command-clause-shown g c = λ told.
     let file = (g.M.Machine.disk c.args.machine.now).reads Objects in
     subst (λ (r : Record g.row.O.Denot). OnOk c.replay_command.result ((p : Params) (w : World g.row.O.Denot) → IsSound (g.O.Oper.meaning (bounds_of p)) w → ShowsStore (g.O.Oper.meaning (bounds_of p)) p file before w
     → IsNextRecord w c.args.plan.now.table r → ShowsStore (g.O.Oper.meaning (bounds_of p)) p file after (after_record (g.O.Oper.meaning (bounds_of p)) w r))) (sym c.in-Command.is) (c.replay_command.ensures.shown told)
+
+pub returns-in-Command-clause-cause : goal.returns-in-Command-clause-cause
+returns-in-Command-clause-cause g c =
+    let old = g.M.Machine.disk c.args.machine.now in
+    let new = g.M.Machine.disk c.replay_command.new.machine in
+    let slots = c.args.objects.now.slots in
+    subst (λ (r : Record g.row.O.Denot). IfErr c.replay_command.result (FailsBy (Rises old.disk_faults new.disk_faults) (HasLongSlot new slots (read_by (g.O.Oper.meaning (bounds_of slots.params)) r))))
+    (sym c.in-Command.is) c.replay_command.ensures.cause
 
 pub returns-in-Identity-clause-in_use : goal.returns-in-Identity-clause-in_use
 returns-in-Identity-clause-in_use g c = λ p next below used.

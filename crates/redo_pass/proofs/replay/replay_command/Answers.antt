@@ -1,5 +1,6 @@
 use Rattle.std.proofs.Common.{◌≡◌, ◌∙◌, ◌<◌, ap, sym, subst, length, map, List, ℕ, false}
 use Rattle.std.specs.Prelude.{All}
+use Rattle.disk_model.specs.Disk.{Rises}
 use Rattle.disk_model.specs.declared.machine.FileNo.TheVariants.{Objects}
 use Rattle.oper_core.specs.Meaning.{IsInGrammar}
 use Rattle.oper_core.specs.State.{is_among}
@@ -9,8 +10,11 @@ use Rattle.formats.specs.declared.params.Params.{Params}
 use Rattle.install_order.specs.declared.entry.Entry.{Entry}
 use Rattle.explain_core.specs.History.Member.{Command}
 use Rattle.cache_manager.specs.Laid.{values_in}
+use Rattle.cache_manager.specs.LongSlot.{HasLongSlot}
 use Rattle.cache_manager.specs.Parts.{store, entry_of}
+use Rattle.redo_pass.specs.Causes.{FailsBy, from_slots}
 use Rattle.redo_pass.specs.Replayed.{is_due}
+use Rattle.redo_pass.proofs.Failing.{passed_on, unread}
 use Rattle.redo_pass.proofs.Replaying.{entered_in_use, none_entered, some_entered, nil_if, some_if}
 use Rattle.redo_pass.proofs.Small.{small_bounds}
 use Rattle.redo_pass.proofs.replay.replay_command.Goals as goal
@@ -31,6 +35,17 @@ returns-then-is_empty-clause-shown g c = λ told p w sound shows next.
     let none = sym c.as_slice-2.ensures.value ∙ nil_if c.as_slice-2.result.now (sym c.is_empty.ensures ∙ c.if-is_empty.true) in
     none_entered m p ((g.M.Machine.disk c.args.machine.now).reads Objects) (store objects c.args.graph.now.entries) w table c.args.number (Command op) due sound shows next bounds writes
     (λ x. c.due_among-due.ensures x ∙ ap (λ (l : List ℕ). is_due table objects c.args.number l x) (c.as_slice.ensures.value ∙ c.writes-writes.ensures b)) none
+
+pub returns-in_err-values-clause-cause : goal.returns-in_err-values-clause-cause
+returns-in_err-values-clause-cause g c =
+    let old = g.M.Machine.disk c.args.machine.now in
+    let new = g.M.Machine.disk c.values_of.new.machine in
+    let slots = c.args.objects.now.slots in
+    let b = bounds_of slots.params in
+    let reads = (g.O.Oper.meaning b).reads c.args.op.now in
+    let rises = Rises old.disk_faults new.disk_faults in
+    passed_on c.from_residual.result (from_slots c.in_err-values.field-0.0) (FailsBy rises (HasLongSlot new slots reads)) c.from_residual.ensures.1
+    (unread rises new slots c.as_slice-3.result.now reads c.in_err-values.field-0.0 (c.as_slice-3.ensures.value ∙ c.reads-reads.ensures b) c.in_err-values.ensures.cause)
 
 pub returns-clause-laid : goal.returns-clause-laid
 returns-clause-laid g c = λ told laid. c.enter.ensures.laid ((g.M.Machine.disk c.args.machine.now).reads Objects) (c.values_of.ensures.cells told laid).1
