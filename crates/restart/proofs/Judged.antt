@@ -17,7 +17,7 @@ use Rattle.cache_manager.specs.Taking.{ArePartsInUse}
 use Rattle.cache_manager.specs.declared.install_err.InstallErr.{InstallErr}
 use Rattle.cache_manager.specs.declared.install_err.InstallErr.TheVariants as of_check
 use Rattle.restart.specs.Causes.{FailsBy, IsNoDamage, from_check}
-use Rattle.restart.specs.Damage.{IsReadAsDamaged}
+use Rattle.restart.specs.Damage.{IsReadAsDamaged, IsReported}
 use Rattle.restart.specs.DamageLaws.{passes_all, one_first_fault}
 use Rattle.restart.specs.Opening.{IsJudged, IsOpening}
 use Rattle.restart.specs.WellFormed.{IsWellFormed, opens_gate}
@@ -80,13 +80,22 @@ pub fault_of : {T : Type 0} (rises closed : Type 0) (fault : FileNo → ℕ → 
     → (file : FileNo) (place : ℕ) → IsErrOf {T = T} (Err e) (Damaged file place) → fault file place
 fault_of rises closed fault e fails file place is = IfErr-at_err (FailsBy rises closed fault) is fails
 
+-- and where it finds no store, that is for its cause
+closed_of : {T : Type 0} (rises closed : Type 0) (fault : FileNo → ℕ → Type 0) (e : RestartErr) → FailsBy rises closed fault e → IsErrOf {T = T} (Err e) NotAStore → closed
+closed_of rises closed fault e fails is = IfErr-at_err (FailsBy rises closed fault) is fails
+
 -- an error of one call is one of another
 pub same_error : {T U : Type 0} {e why : RestartErr} → IsErrOf {T = T} (Err e) why → IsErrOf {T = U} (Err e) why
 same_error {T} {U} {e} {why} is = let same : e ≡ why = cc in λ i. Err (same i)
 
--- the damage that an answer reports is in all files that agree with what was read
-abbrev pub IsReportOf : {O : Type 0} → (Bounds → Meaning O) → Disk → Disk → Result Parts RestartErr → Type 0
-IsReportOf meaning old new result = (file : FileNo) (place : ℕ) → IsErrOf result (Damaged file place) → IsReadAsDamaged meaning old new file place
+-- what is reported of files that are opened, which is nothing, and of those that are not
+pub none_reported : {O : Type 0} (meaning : Bounds → Meaning O) (old new : Disk) (it : Parts) → IsReported meaning old new (Ok it)
+none_reported meaning old new it = record { damaged = λ file place is files agrees. cc; no_store = λ is files agrees. cc }
+
+pub is_reported : {O : Type 0} (meaning : Bounds → Meaning O) (old new : Disk) (rises closed : Type 0) (fault : FileNo → ℕ → Type 0) (e : RestartErr) → FailsBy rises closed fault e
+    → (closed → (files : Files) → new.agrees files → IsClosedAt 0 (files Objects)) → ((file : FileNo) (place : ℕ) → IsErrOf {T = Parts} (Err e) (Damaged file place) → IsReadAsDamaged meaning old new file place)
+    → IsReported meaning old new (Err e)
+is_reported meaning old new rises closed fault e fails gate damaged = record { damaged = damaged; no_store = λ is. gate (closed_of rises closed fault e fails is) }
 
 -- what the redo of files that were read reports
 pub redo_harmless : (rises : Type 0) (fault : FileNo → ℕ → Type 0) (e : RestartErr) → FailsBy rises ⊥ fault e → ((file : FileNo) (place : ℕ) → fault file place → ⊥) → IsNoDamage e

@@ -1,5 +1,5 @@
 -- What a redo of what was loaded makes of the world.
-use Rattle.std.proofs.Common.{◌≡◌, ◌∙◌, sym, ap, subst, ℕ, zero, suc, ◌++◌, ◌+◌, ◌-◌, ◌*◌, List, [], ◌∷◌, map, take, drop, refl, arith, ⊎_elim, inr, nat_lt, ◌<◌, ◌≢◌, Err, IsErrOf}
+use Rattle.std.proofs.Common.{◌≡◌, ◌∙◌, sym, ap, subst, ℕ, zero, suc, ◌++◌, ◌-◌, ◌*◌, List, [], ◌∷◌, map, take, drop, refl, arith, ⊎_elim, inr, nat_lt, ◌<◌, ◌≢◌, Err, IsErrOf}
 use Rattle.std.proofs.lemmas.List.{drop_all}
 use Rattle.disk_model.specs.Disk.{Files, Disk, IsDisk, Runs, Stays, In, Any, Same, IsSettled}
 use Rattle.disk_model.specs.Moments.{agreed_before, started}
@@ -213,19 +213,20 @@ module _ {O : Type 0} (meaning : Bounds → Meaning O) (bounded : (b : Bounds) �
       let m = meaning (bounds_of q) in
       ⊎_elim
       (λ (slot : again.IsSlotFault d new objects.slots after.slots file place).
+      let x = slot.object in
       let long = slot.long in
-      let s = holder_in after.slots long.object in
+      let s = holder_in after.slots x in
       inr (record {
         loaded = was.0;
         before = agreed_before kept was.0 was.1;
         formed = filed_well_formed meaning was.0 objects log plan is;
         others = was.2.others;
         file_is = long.file_is;
-        object = long.object;
-        below = subst (λ (p : Params). long.object < p.objects) slot.params long.below;
+        object = x;
+        below = subst (λ (p : Params). x < p.objects) slot.params long.below;
         slot = s;
-        two = holder_two (nat_lt (head after.slots long.object 0) (head after.slots long.object 1));
-        long = subst (λ (p : Params). IsLongValue p.cap (slot_place p.cap long.object s) (files Objects) place) slot.params (long.long files agrees);
+        two = holder_two (nat_lt (head after.slots x 0) (head after.slots x 1));
+        long = subst (λ (p : Params). IsLongValue p.cap (slot_place p.cap x s) (files Objects) place) slot.params (long.long files agrees);
       }))
       (λ (tail : log.log.active ≢ Objects → IsTailFault (meaning log.bounds) new log.log file place).
       absurd (no_tail_fault m (codes_in meaning bounded lawful q is.laid.slots.whole.in_range) new log.log is.groups was.0 files file place is.file.log (was.2.others log.log.active is.file.in_force.a_log) agrees

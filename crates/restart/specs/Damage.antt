@@ -1,17 +1,21 @@
--- What the files are where a restart reports damage, on any machine.
-use Rattle.std.specs.Prelude.{◌≡◌, ◌⊎◌, ◌<◌, ℕ}
+-- What the files are where a restart reports that they are damaged, or no store, on any machine.
+use Rattle.std.specs.Prelude.{◌≡◌, ◌⊎◌, ◌<◌, ℕ, Result, IsErrOf}
 use Rattle.disk_model.specs.Disk.{Files, Disk, OthersStay}
 use Rattle.disk_model.specs.declared.machine.FileNo.{FileNo}
 use Rattle.disk_model.specs.declared.machine.FileNo.TheVariants.{Objects}
 use Rattle.oper_core.specs.Meaning.{Meaning}
 use Rattle.oper_core.specs.declared.bounds.Bounds.{Bounds}
+use Rattle.formats.specs.Bytes.{IsClosedAt}
 use Rattle.formats.specs.FirstFault.{IsDamaged}
 use Rattle.formats.specs.Objects.{slot_place}
 use Rattle.stable_objects.specs.Reading.{IsLongValue}
+use Rattle.cache_manager.specs.Parts.{Parts}
 use Rattle.restart.specs.WellFormed.{IsWellFormed}
+use Rattle.restart.specs.declared.restart_err.RestartErr.{RestartErr}
+use Rattle.restart.specs.declared.restart_err.RestartErr.TheVariants.{NotAStore, Damaged}
 
--- Files that agreed before met their format. These differ from them in the objects file alone, and there the value in a slot
--- is longer at this place than the store allows.
+-- Files that agreed before met their format. These differ from them at most in the objects file, and there a slot of an object,
+-- open or not, has at this place a length that is more than the store allows, or goes past the end of the file.
 pub record IsDamagedSince {O : Type 0} (meaning : Bounds → Meaning O) (old : Disk) (files : Files) (file : FileNo) (place : ℕ) : Type 0 where
   pub loaded : Files
   pub before : old.agrees loaded
@@ -24,6 +28,13 @@ pub record IsDamagedSince {O : Type 0} (meaning : Bounds → Meaning O) (old : D
   pub two : slot < 2
   pub long : IsLongValue formed.params.cap (slot_place formed.params.cap object slot) (files Objects) place
 
--- Of all files that agree with what was read, this is the first check that fails; or the redo found a value too long there.
+-- Each of the files that agree with what was read is damaged so, this being its first check that fails, or has had too great a
+-- length here since files that met their format, which is what a redo finds.
 abbrev pub IsReadAsDamaged : {O : Type 0} → (Bounds → Meaning O) → Disk → Disk → FileNo → ℕ → Type 0
 IsReadAsDamaged meaning old new file place = (files : Files) → new.agrees files → IsDamaged meaning files file place ⊎ IsDamagedSince meaning old files file place
+
+-- Where a restart reports damage, all files that agree with what was read are read as damaged there. Where it finds no store,
+-- the objects gate is closed in all of them.
+pub record IsReported {O : Type 0} (meaning : Bounds → Meaning O) (old new : Disk) (result : Result Parts RestartErr) : Type 0 where
+  pub damaged : (file : FileNo) (place : ℕ) → IsErrOf result (Damaged file place) → IsReadAsDamaged meaning old new file place
+  pub no_store : IsErrOf result NotAStore → (files : Files) → new.agrees files → IsClosedAt 0 (files Objects)

@@ -1,13 +1,12 @@
 // The restart.
-ghost use Rattle.std.specs.Prelude.{◌<◌, ℕ, IfOk, IsErrOf};
-ghost use Rattle.disk_model.specs.declared.machine.FileNo.{FileNo};
+ghost use Rattle.std.specs.Prelude.{◌<◌, ℕ, IfOk};
 ghost use Rattle.formats.specs.Objects.{bounds_of};
 ghost use Rattle.formats.specs.declared.params.Params.{Params as Numbers};
 ghost use Rattle.explain_core.specs.World.{World};
 ghost use Rattle.cache_manager.specs.Parts.{meaning_in, parts};
 ghost use Rattle.cache_manager.specs.Taking.{IsAfter};
 ghost use Rattle.restart.specs.Courses.{restart_course};
-ghost use Rattle.restart.specs.Damage.{IsReadAsDamaged};
+ghost use Rattle.restart.specs.Damage.{IsReported};
 ghost use Rattle.restart.specs.Opening.{IsJudged, IsOpening, OpensOn, OpensThrough, opened};
 
 use crate::loading::load;
@@ -29,7 +28,7 @@ pub fn restart<O: Oper, M: Machine>(
     requires some { 0 < tuning.clean }
     ensures opening { IsOpening O.meaning (M.disk machine.old) (M.disk machine.new) (opened result) }
     ensures judged { (M.disk machine.old).tells_files → IsJudged O.meaning (M.disk machine.old) (M.disk machine.new) (opened result) }
-    ensures damage { (file : FileNo) (place : ℕ) → IsErrOf (opened result) (RestartErr.Damaged file place) → IsReadAsDamaged O.meaning (M.disk machine.old) (M.disk machine.new) file place }
+    ensures reported { IsReported O.meaning (M.disk machine.old) (M.disk machine.new) (opened result) }
 
     // Of each world that the files show the whole course is taken, and the log is as long as that says.
     ensures follows { (p : Numbers) (used : ℕ) (w : World O) → OpensOn (meaning_in O.meaning p) p (M.disk machine.old) used w →

@@ -63,7 +63,7 @@ fn ends(alloc: Global, copied_before: bool) -> Result<(Status, bool), AllocError
 }
 
 // The damage that a restart reports where all that it reads is as in the copy. Whatever the machine is, the copy is damaged
-// then.
+// then, or a slot in it has had too great a length since files that met their format.
 fn damage_of_copy<M: Machine>(alloc: Global, machine: &mut Mirrored<M>) -> Option<(FileNo, u64)>
     ensures { IfSome result (λ it. IsDamaged all_meaning (files_of machine.new.copy) it.0 it.1 ⊎ IsDamagedSince all_meaning (⟦<Mirrored<M> as Machine>⟧.disk machine.old) (files_of machine.new.copy) it.0 it.1) }
 {

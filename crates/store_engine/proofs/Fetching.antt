@@ -52,7 +52,7 @@ ok_slots (Err e) P Q so has = tt
 
 -- why a slot is not read is why the object is not fetched
 pub fetch_cause : {T : Type 0} (r : Result T SlotErr) (old new : Disk) (engine : EngineView) (object : ℕ) → object < (params_of engine).objects
-    → IfErr r (FailsBy (Rises old.disk_faults new.disk_faults) ⊥ (IsLongSlot new engine.parts.store.objects.slots))
+    → IfErr r (FailsBy (Rises old.disk_faults new.disk_faults) ⊥ (IsLongSlot new engine.parts.store.objects.slots object))
     → IfErr (of_slots r) (IsFetchFailure old new engine object)
 fetch_cause (Ok value) old new engine object below cause = tt
 fetch_cause (Err of_slot.NotAStore) old new engine object below cause = absurd cause

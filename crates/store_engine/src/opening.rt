@@ -1,12 +1,11 @@
 // The files are opened, and what is not installed of their commands is done again.
-ghost use Rattle.std.specs.Prelude.{◌≡◌, ◌<◌, false, List, ℕ, length, IfOk, IsErrOf};
+ghost use Rattle.std.specs.Prelude.{◌≡◌, ◌<◌, false, List, ℕ, length, IfOk};
 ghost use Rattle.disk_model.specs.Disk.{LeavesOnly};
-ghost use Rattle.disk_model.specs.declared.machine.FileNo.{FileNo};
 ghost use Rattle.formats.specs.declared.params.Params.{Params};
 ghost use Rattle.explain_core.specs.World.{World};
 ghost use Rattle.cache_manager.specs.Taking.{ArePartsInUse, IsAfter};
 ghost use Rattle.restart.specs.Courses.{restart_course};
-ghost use Rattle.restart.specs.Damage.{IsReadAsDamaged};
+ghost use Rattle.restart.specs.Damage.{IsReported};
 ghost use Rattle.restart.specs.Opening as of_parts;
 ghost use Rattle.restart.specs.Opening.{IsJudged, IsOpening, OpensOn, OpensThrough};
 ghost use Rattle.restart.specs.Starts.{OrAtStart};
@@ -56,7 +55,7 @@ impl<O: Oper> Engine<O> {
         ensures opening { IsOpening O.meaning (M.disk machine.old) (M.disk machine.new) (opened result) }
         ensures judged { (M.disk machine.old).tells_files → IsJudged O.meaning (M.disk machine.old) (M.disk machine.new) (opened result) }
         ensures ready { IfOk result (λ engine. (engine.broken ≡ false) × (engine.identities ≡ 0) × IsAttached O.meaning (M.disk machine.new) engine) }
-        ensures damage { (file : FileNo) (place : ℕ) → IsErrOf (opened result) (RestartErr.Damaged file place) → IsReadAsDamaged O.meaning (M.disk machine.old) (M.disk machine.new) file place }
+        ensures reported { IsReported O.meaning (M.disk machine.old) (M.disk machine.new) (opened result) }
 
         // Of each world that the files show the whole course is taken, and the log is as long as that says.
         ensures follows { (p : Params) (used : ℕ) (w : World O) → OpensOn (meaning_in O.meaning p) p (M.disk machine.old) used w →

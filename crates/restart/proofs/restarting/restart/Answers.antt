@@ -11,9 +11,10 @@ use Rattle.explain_core.specs.World.Step.{Crash}
 use Rattle.standing.specs.OneStable.{small_store}
 use Rattle.cache_manager.specs.Parts.{parts}
 use Rattle.restart.specs.Causes.{from_check}
+use Rattle.restart.specs.Damage.{IsReported}
 use Rattle.restart.specs.Opening.{IsJudged, IsOpening, opened}
 use Rattle.restart.specs.Starts.{at_start}
-use Rattle.restart.proofs.Judged.{passed_on, quiet_stays, quiet_objects, quiet_then, rises_behind, not_opened, is_opened, check_fails, check_harmless, check_never, fault_of, same_error, IsReportOf, redo_harmless, redo_rises, judged_whole, judged_unread, unless_failed}
+use Rattle.restart.proofs.Judged.{passed_on, quiet_stays, quiet_objects, quiet_then, rises_behind, not_opened, is_opened, check_fails, check_harmless, check_never, fault_of, same_error, is_reported, none_reported, redo_harmless, redo_rises, judged_whole, judged_unread, unless_failed}
 use Rattle.restart.proofs.Opened.{filed_well_formed}
 use Rattle.restart.proofs.Redone.{redo_damages}
 use Rattle.restart.proofs.Restarts.{to_redo, used_is, opened_after, redo_moments, check_moments, from_start, attached_again}
@@ -32,10 +33,11 @@ returns-in_err-loaded-clause-judged g c told =
 pub returns-in_err-loaded-clause-moments : goal.returns-in_err-loaded-clause-moments
 returns-in_err-loaded-clause-moments g c told p used w opens = at_start (g.M.Machine.disk c.args.machine.now) (g.M.Machine.disk c.load.new.machine) _ c.load.ensures.kept told
 
-pub returns-in_err-loaded-clause-damage : goal.returns-in_err-loaded-clause-damage
-returns-in_err-loaded-clause-damage g c =
-    passed_on (λ r. IsReportOf g.O.Oper.meaning (g.M.Machine.disk c.args.machine.now) (g.M.Machine.disk c.load.new.machine) (opened r)) c.from_residual.result c.in_err-loaded.field-0.0 c.from_residual.ensures.1
-    (λ file place is files agrees. inl (fault_of _ _ _ c.in_err-loaded.field-0.0 c.in_err-loaded.ensures.cause file place is files agrees))
+pub returns-in_err-loaded-clause-reported : goal.returns-in_err-loaded-clause-reported
+returns-in_err-loaded-clause-reported g c =
+    passed_on (λ r. IsReported g.O.Oper.meaning (g.M.Machine.disk c.args.machine.now) (g.M.Machine.disk c.load.new.machine) (opened r)) c.from_residual.result c.in_err-loaded.field-0.0 c.from_residual.ensures.1
+    (is_reported g.O.Oper.meaning (g.M.Machine.disk c.args.machine.now) (g.M.Machine.disk c.load.new.machine) _ _ _ c.in_err-loaded.field-0.0 c.in_err-loaded.ensures.cause (λ closed. closed)
+    (λ file place is files agrees. inl (fault_of _ _ _ c.in_err-loaded.field-0.0 c.in_err-loaded.ensures.cause file place is files agrees)))
 
 pub do_again-requires-clause-settled : goal.do_again-requires-clause-settled
 do_again-requires-clause-settled g c =
@@ -66,11 +68,12 @@ returns-in_err-graph-clause-judged g c told =
     none (c.load.ensures.kept.time.files_told.0 told) (subst (λ (fs : Files). AreOf c.in_ok-loaded.loaded.objects.slots (fs Objects)) (sym (c.load.ensures.kept.reads told)) read.filed.laid.slots)
     (records_of read.filed.groups) (subst (λ (b : Bounds). Keeps (g.O.Oper.meaning b) (g.M.Machine.disk c.load.new.machine) c.in_ok-loaded.loaded.log (records_of read.filed.groups) []) (sym c.in_ok-loaded.ensures.ready.bounds) read.keeps))))
 
-pub returns-in_err-graph-clause-damage : goal.returns-in_err-graph-clause-damage
-returns-in_err-graph-clause-damage g c =
-    passed_on (λ r. IsReportOf g.O.Oper.meaning (g.M.Machine.disk c.args.machine.now) (g.M.Machine.disk c.do_again.new.machine) (opened r)) c.from_residual-in_err-graph.result c.in_err-graph.field-0.0 c.from_residual-in_err-graph.ensures.1
+pub returns-in_err-graph-clause-reported : goal.returns-in_err-graph-clause-reported
+returns-in_err-graph-clause-reported g c =
+    passed_on (λ r. IsReported g.O.Oper.meaning (g.M.Machine.disk c.args.machine.now) (g.M.Machine.disk c.do_again.new.machine) (opened r)) c.from_residual-in_err-graph.result c.in_err-graph.field-0.0 c.from_residual-in_err-graph.ensures.1
+    (is_reported g.O.Oper.meaning (g.M.Machine.disk c.args.machine.now) (g.M.Machine.disk c.do_again.new.machine) _ ⊥ _ c.in_err-graph.field-0.0 c.in_err-graph.ensures.cause (λ none. absurd none)
     (λ file place is. redo_damages g.O.Oper.meaning g.met.O.Oper.bounded g.met.O.Oper.lawful (g.M.Machine.disk c.load.new.machine) (g.M.Machine.disk c.do_again.new.machine) c.in_ok-loaded.loaded.log
-    c.do_again.ensures.runs (g.M.Machine.disk c.args.machine.now) c.load.ensures.kept c.in_ok-loaded.loaded.objects c.do_again.new.objects c.in_ok-loaded.loaded.plan file place c.in_ok-loaded.ensures.ready.bounds c.in_ok-loaded.ensures.formed (c.in_err-graph.ensures.damage file place (same_error is)))
+    c.do_again.ensures.runs (g.M.Machine.disk c.args.machine.now) c.load.ensures.kept c.in_ok-loaded.loaded.objects c.do_again.new.objects c.in_ok-loaded.loaded.plan file place c.in_ok-loaded.ensures.ready.bounds c.in_ok-loaded.ensures.formed (c.in_err-graph.ensures.damage file place (same_error is))))
 
 pub returns-in_err-graph-clause-moments : goal.returns-in_err-graph-clause-moments
 returns-in_err-graph-clause-moments g c told p used w opens =
@@ -99,10 +102,11 @@ returns-in_err-closing_check-clause-judged g c told =
     passed_on (λ r. IsJudged g.O.Oper.meaning (g.M.Machine.disk c.args.machine.now) (g.M.Machine.disk c.closing_check.new.machine) (opened r)) c.from_residual-in_err-closing_check.result (from_check c.in_err-closing_check.field-0.0) c.from_residual-in_err-closing_check.ensures.1
     (judged_whole g.O.Oper.meaning g.met.O.Oper.bounded g.met.O.Oper.lawful (g.M.Machine.disk c.args.machine.now) (g.M.Machine.disk c.closing_check.new.machine) (filed_well_formed g.O.Oper.meaning (g.M.Machine.disk c.args.machine.now).reads c.in_ok-loaded.loaded.objects c.in_ok-loaded.loaded.log c.in_ok-loaded.loaded.plan (c.in_ok-loaded.ensures.read told).filed) (Err (from_check c.in_err-closing_check.field-0.0)) (check_harmless c.in_err-closing_check.field-0.0))
 
-pub returns-in_err-closing_check-clause-damage : goal.returns-in_err-closing_check-clause-damage
-returns-in_err-closing_check-clause-damage g c =
-    passed_on (λ r. IsReportOf g.O.Oper.meaning (g.M.Machine.disk c.args.machine.now) (g.M.Machine.disk c.closing_check.new.machine) (opened r)) c.from_residual-in_err-closing_check.result (from_check c.in_err-closing_check.field-0.0) c.from_residual-in_err-closing_check.ensures.1
-    (λ file place is. absurd (check_never c.in_err-closing_check.field-0.0 file place is))
+pub returns-in_err-closing_check-clause-reported : goal.returns-in_err-closing_check-clause-reported
+returns-in_err-closing_check-clause-reported g c =
+    passed_on (λ r. IsReported g.O.Oper.meaning (g.M.Machine.disk c.args.machine.now) (g.M.Machine.disk c.closing_check.new.machine) (opened r)) c.from_residual-in_err-closing_check.result (from_check c.in_err-closing_check.field-0.0) c.from_residual-in_err-closing_check.ensures.1
+    (is_reported g.O.Oper.meaning (g.M.Machine.disk c.args.machine.now) (g.M.Machine.disk c.closing_check.new.machine) (Unit {0}) ⊥ (λ f place. ⊥) (from_check c.in_err-closing_check.field-0.0)
+    (check_fails (Unit {0}) ⊥ (λ f place. ⊥) c.in_err-closing_check.field-0.0 (λ is. tt)) (λ none. absurd none) (λ file place is. absurd (check_never c.in_err-closing_check.field-0.0 file place is)))
 
 pub returns-in_err-closing_check-clause-moments : goal.returns-in_err-closing_check-clause-moments
 returns-in_err-closing_check-clause-moments g c told p used w opens =
@@ -131,6 +135,10 @@ returns-clause-opening g c =
 pub returns-clause-judged : goal.returns-clause-judged
 returns-clause-judged g c told =
     judged_whole g.O.Oper.meaning g.met.O.Oper.bounded g.met.O.Oper.lawful (g.M.Machine.disk c.args.machine.now) (g.M.Machine.disk c.closing_check.new.machine) (filed_well_formed g.O.Oper.meaning (g.M.Machine.disk c.args.machine.now).reads c.in_ok-loaded.loaded.objects c.in_ok-loaded.loaded.log c.in_ok-loaded.loaded.plan (c.in_ok-loaded.ensures.read told).filed) (Ok (parts c.closing_check.new.log c.do_again.new.objects c.in_ok-graph.graph.entries)) tt
+
+pub returns-clause-reported : goal.returns-clause-reported
+returns-clause-reported g c =
+    none_reported g.O.Oper.meaning (g.M.Machine.disk c.args.machine.now) (g.M.Machine.disk c.closing_check.new.machine) (parts c.closing_check.new.log c.do_again.new.objects c.in_ok-graph.graph.entries)
 
 pub returns-clause-follows : goal.returns-clause-follows
 returns-clause-follows g c p used w opens =

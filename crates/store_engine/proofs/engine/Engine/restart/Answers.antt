@@ -1,15 +1,13 @@
-use Rattle.std.proofs.Common.{ℕ, sym, subst}
-use Rattle.std.specs.Prelude.{IfOk, IsErrOf, Result}
-use Rattle.disk_model.specs.declared.machine.FileNo.{FileNo}
+use Rattle.std.proofs.Common.{sym, subst}
+use Rattle.std.specs.Prelude.{IfOk, Result}
 use Rattle.formats.specs.Objects.{bounds_of}
 use Rattle.cache_manager.specs.Kept.{IsAttached}
 use Rattle.cache_manager.specs.Parts.{Parts}
 use Rattle.cache_manager.specs.Taking.{IsAfter}
 use Rattle.restart.specs.Courses.{restart_course}
-use Rattle.restart.specs.Damage.{IsReadAsDamaged}
+use Rattle.restart.specs.Damage.{IsReported}
 use Rattle.restart.specs.Opening.{IsJudged, IsOpening, OpensOn}
 use Rattle.restart.specs.declared.restart_err.RestartErr.{RestartErr}
-use Rattle.restart.specs.declared.restart_err.RestartErr.TheVariants.{Damaged}
 use Rattle.standing.specs.OneStable.{small_store}
 use Rattle.store_engine.specs.ImageLaws.{stands_end}
 use Rattle.store_engine.specs.Store.{meaning_in}
@@ -28,10 +26,9 @@ pub returns-clause-judged : goal.returns-clause-judged
 returns-clause-judged g c = λ told.
     subst (λ (r : Result Parts RestartErr). IsJudged g.O.Oper.meaning (g.M.Machine.disk c.args.machine.now) (g.M.Machine.disk c.restart-answer.new.machine) r) (sym c.built.ensures.same) (c.restart-answer.ensures.judged told)
 
-pub returns-clause-damage : goal.returns-clause-damage
-returns-clause-damage g c =
-    let new = g.M.Machine.disk c.restart-answer.new.machine in
-    subst (λ (r : Result Parts RestartErr). (file : FileNo) (place : ℕ) → IsErrOf r (Damaged file place) → IsReadAsDamaged g.O.Oper.meaning (g.M.Machine.disk c.args.machine.now) new file place) (sym c.built.ensures.same) c.restart-answer.ensures.damage
+pub returns-clause-reported : goal.returns-clause-reported
+returns-clause-reported g c =
+    subst (λ (r : Result Parts RestartErr). IsReported g.O.Oper.meaning (g.M.Machine.disk c.args.machine.now) (g.M.Machine.disk c.restart-answer.new.machine) r) (sym c.built.ensures.same) c.restart-answer.ensures.reported
 
 pub returns-clause-ready : goal.returns-clause-ready
 returns-clause-ready g c =
