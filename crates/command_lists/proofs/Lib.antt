@@ -1,4 +1,5 @@
 pub mod Courses
+pub mod Endings
 pub mod Fronts
 pub mod Start
 pub mod Runs

@@ -62,7 +62,7 @@ module _ {O : Type 0} (meaning : Bounds → Meaning O) (old new : Disk) (before 
   undamaged_run lawful op (Err (LsnEnd number)) ran told attached = tt
   undamaged_run lawful op (Err DiskFault) ran told attached = tt
   undamaged_run lawful op (Err (Damaged file place)) ran told attached =
-      still_none_damaged meaning before.parts after.parts lawful ran.call.time ran.outcome.0.objects.slots (⊎_elim (λ failed. absurd failed) (λ keeps. keeps) ran.call.attached) told attached ran.outcome.1
+      still_none_damaged meaning before.parts after.parts lawful ran.call.time ran.outcome.0.objects.slots (⊎_elim (λ failed. absurd failed) (λ keeps. keeps) ran.call.attached) told attached ran.outcome.1.slot
   undamaged_run lawful op (Err Memory) ran told attached = tt
 
   pub calls_run : IsDisk new → (op : O) (r : Result ℕ ExecErr) → HasRun meaning old new before after op r → AreCalls meaning old new before after (result_err r)

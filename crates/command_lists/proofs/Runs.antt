@@ -29,6 +29,7 @@ use Rattle.store_engine.specs.Store.{meaning_in, refusal_after}
 use Rattle.command_lists.specs.Lists.{AddsFront, ComesNext, EndsBy, HasReached, IsNeed, IsCutOff, IsStoppedAt, IsUnfinished, commands_course, ending_of}
 use Rattle.command_lists.specs.Steps.{HasRun}
 use Rattle.command_lists.proofs.Courses.{IsSameWhereAsMany, commands_stopped, commands_through, course_of_one, course_stopped, same_commands, same_none}
+use Rattle.command_lists.proofs.Endings.{EndsWithNoFault, IsUnstopped}
 use Rattle.command_lists.proofs.Fronts.{leaves_more}
 
 -- what a call was stopped by
@@ -101,7 +102,7 @@ module _ {O : Type 0} (meaning : Bounds → Meaning O) (p : Params) (old new : D
           ends = subst (λ (c : Course O). EndsBy m w c (run m w one.steps) (used_in after) Done) (sym alone) here;
         });
         rising = inr kept.rising;
-        stopped = λ stop e. cc;
+        stopped = λ stop e. absurd (subst IsUnstopped e tt);
         identities = counted (Ok n) ran;
         images = images_of (Ok n) ran (op ∷ []) (commands ++ op ∷ []) refl;
         takes = λ told.
@@ -118,7 +119,7 @@ module _ {O : Type 0} (meaning : Bounds → Meaning O) (p : Params) (old new : D
   pub ran_refused : (r : Refusal) → HasRun meaning old new before after op (Err (Refused r)) → AddsFront meaning p old new before after w commands [] Done
   unfolding run
   ran_refused r ran =
-      let kept = kept_of (Refused r) (λ e. cc) ran in
+      let kept = kept_of (Refused r) (λ e. subst EndsWithNoFault e tt) ran in
       let f = ran.takes.follows p w shows.shows in
       let is = refused_course r (ran.answers p w shows) in
       let there : IsAfter m p new after.parts w (course [] used Through) = subst (λ (c : Course O). IsAfter m p new after.parts w c) is f.1 in
@@ -134,7 +135,7 @@ module _ {O : Type 0} (meaning : Bounds → Meaning O) (p : Params) (old new : D
           ends = (refl, record { world_is = refl; used_is = there.used });
         });
         rising = inr kept.rising;
-        stopped = λ stop e. cc;
+        stopped = λ stop e. absurd (subst IsUnstopped e tt);
         identities = counted (Err (Refused r)) ran;
         images = images_of (Err (Refused r)) ran [] (commands ++ []) refl;
         takes = takes_of (Err (Refused r)) ran (course [] used Through) is;
@@ -182,24 +183,24 @@ module _ {O : Type 0} (meaning : Bounds → Meaning O) (p : Params) (old new : D
       is ∙ sym (course_stopped m p.limit op w used rest no)
 
   pub ran_stopped : (rest : List O) (e : ExecErr) (stop : Stop) → HasRun meaning old new before after op (Err e) → ending_of (Some e) ≡ Stopped stop → AddsFront meaning p old new before after w commands (op ∷ rest) (Stopped stop)
-  ran_stopped rest (Refused r) stop ran is = cc
+  ran_stopped rest (Refused r) stop ran is = absurd (subst IsUnstopped is tt)
   ran_stopped rest (LogFull held need limit) stop ran is =
-      let kept = kept_of (LogFull held need limit) (λ e. cc) ran in
+      let kept = kept_of (LogFull held need limit) (λ e. subst EndsWithNoFault e tt) ran in
       let cause = ran.answers p w shows in
       subst (λ (s : Stop). AddsFront meaning p old new before after w commands (op ∷ rest) (Stopped s)) (ap stop_of is)
       (adds_none (LogFull held need limit) ran (op ∷ rest) (Stopped (Full held need limit)) tt (inr (stopped_here rest (Full held need limit) refl cause.0 (ran.takes.follows p w shows.shows) kept.holds.shows.unbroken)) (inr kept.rising)
       (λ s at. record { op = op; rest = rest; here = refl; need = subst (λ (t : Stop). IsNeed meaning p op t) (ap stop_of at) (cause.3, cause.4) })
       (takes_of (Err (LogFull held need limit)) ran (commands_course m p.limit (op ∷ rest) w used) (stopped_course rest (Full held need limit) refl cause.0 (ran.takes.follows p w shows.shows))))
   ran_stopped rest (LsnEnd number) stop ran is =
-      let kept = kept_of (LsnEnd number) (λ e. cc) ran in
+      let kept = kept_of (LsnEnd number) (λ e. subst EndsWithNoFault e tt) ran in
       let cause = ran.answers p w shows in
       subst (λ (s : Stop). AddsFront meaning p old new before after w commands (op ∷ rest) (Stopped s)) (ap stop_of is)
       (adds_none (LsnEnd number) ran (op ∷ rest) (Stopped (At_end number)) tt (inr (stopped_here rest (At_end number) refl cause.0 (ran.takes.follows p w shows.shows) kept.holds.shows.unbroken)) (inr kept.rising)
       (λ s at. record { op = op; rest = rest; here = refl; need = subst (λ (t : Stop). IsNeed meaning p op t) (ap stop_of at) tt })
       (takes_of (Err (LsnEnd number)) ran (commands_course m p.limit (op ∷ rest) w used) (stopped_course rest (At_end number) refl cause.0 (ran.takes.follows p w shows.shows))))
-  ran_stopped rest DiskFault stop ran is = cc
-  ran_stopped rest (Damaged file place) stop ran is = cc
-  ran_stopped rest Memory stop ran is = cc
+  ran_stopped rest DiskFault stop ran is = absurd (subst IsUnstopped is tt)
+  ran_stopped rest (Damaged file place) stop ran is = absurd (subst IsUnstopped is tt)
+  ran_stopped rest Memory stop ran is = absurd (subst IsUnstopped is tt)
 
   -- what holds of the steps of its course, and of each longer list, holds of those of the commands that it comes first of
   module _ (P : List (Step O) → Type 0) (longer : (xs ys : List (Step O)) → P xs → P (xs ++ ys)) (has : P (exec_course m (params_of before).limit op w used).steps) where
@@ -258,8 +259,8 @@ module _ {O : Type 0} (meaning : Bounds → Meaning O) (p : Params) (old new : D
     ran_failed ops (Refused r) ran next off = absurd off
     ran_failed ops (LogFull held need limit) ran next off = absurd off
     ran_failed ops (LsnEnd number) ran next off = absurd off
-    ran_failed ops DiskFault ran next off = adds_none DiskFault ran ops Failed tt (inl tt) (inl tt) (λ stop e. cc) (takes_next (Err DiskFault) ran ops next)
+    ran_failed ops DiskFault ran next off = adds_none DiskFault ran ops Failed tt (inl tt) (inl tt) (λ stop e. absurd (subst IsUnstopped e tt)) (takes_next (Err DiskFault) ran ops next)
     ran_failed ops (Damaged file place) ran next off = absurd (ran.answers p w shows)
     ran_failed ops Memory ran next off =
-        let kept = kept_of Memory (λ e. cc) ran in
-        adds_none Memory ran ops Short tt (inr (short_here ops next kept (ran.takes.follows p w shows.shows))) (inr kept.rising) (λ stop e. cc) (takes_next (Err Memory) ran ops next)
+        let kept = kept_of Memory (λ e. subst EndsWithNoFault e tt) ran in
+        adds_none Memory ran ops Short tt (inr (short_here ops next kept (ran.takes.follows p w shows.shows))) (inr kept.rising) (λ stop e. absurd (subst IsUnstopped e tt)) (takes_next (Err Memory) ran ops next)

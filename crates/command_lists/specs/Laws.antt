@@ -1,5 +1,5 @@
 -- How what calls have added goes on over a further call. Here `disk` is what proofs know of a machine.
-use Rattle.std.specs.Prelude.{◌≡◌, ℕ, List, [], ◌∷◌, ◌++◌, length, Option, None, Some, Result, Ok, Err}
+use Rattle.std.specs.Prelude.{◌≡◌, ℕ, List, [], ◌∷◌, ◌++◌, Option, None, Some, Ok, Err}
 use Rattle.disk_model.specs.Disk.{Disk}
 use Rattle.oper_core.specs.Meaning.{Meaning}
 use Rattle.oper_core.specs.declared.bounds.Bounds.{Bounds}

@@ -1,5 +1,5 @@
 -- What follows from the records of calls that add commands.
-use Rattle.std.proofs.Common.{◌≡◌, ◌∙◌, ap, ℕ, List, ◌++◌, take, false, inl, inr, refl, ⊎_elim, Option, None, Some}
+use Rattle.std.proofs.Common.{◌≡◌, ◌∙◌, ap, ℕ, List, ◌++◌, take, false, inl, inr, refl, ⊎_elim, None, Some}
 use Rattle.std.proofs.Math.Seq.{take-length}
 use Rattle.std.proofs.lemmas.Bool.{cases_Bool}
 use Rattle.disk_model.specs.Disk.{Disk}
@@ -9,7 +9,6 @@ use Rattle.oper_core.specs.declared.refusal.Refusal.{Refusal}
 use Rattle.formats.specs.declared.params.Params.{Params}
 use Rattle.explain_core.specs.World.{World}
 use Rattle.cache_manager.specs.Taking.Ending.{Done}
-use Rattle.execution.specs.declared.exec_err.ExecErr.{ExecErr}
 use Rattle.execution.specs.declared.exec_err.ExecErr.TheVariants.{Refused}
 use Rattle.store_engine.specs.Engine.{EngineView, Holds}
 use Rattle.command_lists.specs.Lists.{AddsFront, AreCalls}
