@@ -436,4 +436,4 @@ pub exec_undamaged : {old new : Disk} (before after : EngineView) {most n : ℕ}
     → IsOutcome all_meaning old new before.parts after.parts op (Err e) → e ≡ Damaged file place → old.tells_files → IsAttached old before → ⊥
 exec_undamaged {old} {new} before after op file place disk call outcome is told attached =
     let here = subst (λ (x : ExecErr). IsExecFailure all_meaning old new before.parts op x) is outcome.1 in
-    still_none_damaged all_meaning before.parts after.parts disk call.time outcome.0.objects.slots (still_attached call (works_on (Damaged file place) is (λ failed. failed))) told attached here
+    still_none_damaged all_meaning before.parts after.parts disk call.time outcome.0.objects.slots (still_attached call (works_on (Damaged file place) is (λ failed. failed))) told attached here.slot

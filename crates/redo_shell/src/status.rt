@@ -26,7 +26,7 @@ pub enum Status {
     SayFault,
     /// Out of memory.
     Memory,
-    /// More than 2^40 bytes of input.
+    /// The input has 2^40 bytes or more.
     TooLong,
 }
 

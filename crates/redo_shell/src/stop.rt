@@ -27,7 +27,7 @@ pub enum Stop {
     /// Out of memory.
     #[error("out of memory")]
     Memory,
-    /// More than 2^40 bytes of input.
+    /// The input has 2^40 bytes or more.
     #[error("the input is too long")]
     TooLong,
 }
