@@ -57,7 +57,7 @@ impl Commands {
     pub fn into_dot(self, alloc: Global) -> Result<String, Memory>
         ensures { IfOk result (λ text. IsGraph self (string_bytes text)) }
     {
-        let Commands { entries, graph } = self;
-        dot_of(alloc, entries.as_slice(), graph)
+        let Commands { entries, mut graph } = self;
+        dot_of(alloc, entries.as_slice(), &mut graph)
     }
 }

@@ -21,12 +21,13 @@ fn take_node(text: &mut String, graph: &mut WriteGraph, name: NodeNo) -> Result<
     Ok(())
 }
 
-/// Adds the nodes of the graph to the text, in the order in which they are installed.
-pub fn push_nodes(text: &mut String, mut graph: WriteGraph) -> Result<(), Memory>
-    ensures { OnOk result ((nodes : List Node) × AreNodes graph.entries nodes × (string_bytes text.new ≡ string_bytes text.old ++ flat_map node_text nodes)) }
+/// Adds the nodes of the graph to the text, in the order in which they are installed, and takes them out of
+/// the graph.
+pub fn push_nodes(text: &mut String, graph: &mut WriteGraph) -> Result<(), Memory>
+    ensures { OnOk result ((nodes : List Node) × AreNodes graph.old.entries nodes × (string_bytes text.new ≡ string_bytes text.old ++ flat_map node_text nodes)) }
 {
     while let Some(name) = graph.minimal() {
-        take_node(text, &mut graph, name)?;
+        take_node(text, graph, name)?;
     }
     Ok(())
 }

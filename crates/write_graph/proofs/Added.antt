@@ -15,7 +15,7 @@ use Rattle.graph_nodes.specs.Kept.{no_arcs, IsSlotAdded}
 use Rattle.graph_nodes.specs.Named.{Graph}
 use Rattle.write_graph.specs.Places.{place_in}
 use Rattle.write_graph.specs.Cells.{reads_of, writes_of, slot_access, IsReadCell, IsWriteCell, write_cell, ReadLeads, WriteLeads, CellLeads}
-use Rattle.write_graph.specs.Rows.{Rows, cell_of, its_slot, last_of, waiting_of, if_held, last_held, AreCellsAdded}
+use Rattle.write_graph.specs.Rows.{Rows, last_cell_of, its_slot, last_of, waiting_of, if_held, last_held, AreCellsAdded}
 use Rattle.write_graph.specs.Linked.{AreArcs, AreRows, AreFew, AreLinked}
 use Rattle.write_graph.specs.Steps.{AreWritersLed, version_of, AreAnswered, AreWaiting}
 use Rattle.write_graph.proofs.Parts.{reads-past, writes-last}
@@ -157,7 +157,7 @@ module _ (earlier : List Entry) (e : Entry) (g0 g1 g2 g3 : Graph) (r0 r1 r2 r3 :
       (write-slot earlier w x there few_w, write-cell-kept earlier e g0.held s.linked.held (write_cell earlier w x) x (write-cell-is earlier w x there few_w))
 
   -- the cell of the last write, where the entry is not there yet
-  cell-was : (x c : ℕ) → cell_of r2 x ≡ Some c → c ≡ write_cell earlier (c / 8) x
+  cell-was : (x c : ℕ) → last_cell_of r2 x ≡ Some c → c ≡ write_cell earlier (c / 8) x
   cell-was x c q = s.linked.rows_are.cells x c (sym (s.waits.last x ∙ s.cells.last x) ∙ q)
 
   -- each arc is one that the definitions have
@@ -224,7 +224,7 @@ module _ (earlier : List Entry) (e : Entry) (g0 g1 g2 g3 : Graph) (r0 r1 r2 r3 :
         | inr w ↦ absurd (not-both all c x l.0 (few (c / 8)).0 cell w.0)
       ]
 
-  last-cell : (x w : ℕ) (o : Option ℕ) → cell_of r2 x ≡ o → its_slot o ≡ Some w → cell_of r2 x ≡ Some (write_cell earlier w x)
+  last-cell : (x w : ℕ) (o : Option ℕ) → last_cell_of r2 x ≡ o → its_slot o ≡ Some w → last_cell_of r2 x ≡ Some (write_cell earlier w x)
   last-cell x w None q slot = absurd (none-some w slot)
   last-cell x w (Some c) q slot = q ∙ ap (λ (k : ℕ). Some k) (cell-was x c q ∙ ap (λ (k : ℕ). write_cell earlier k x) (some-is (c / 8) w slot))
 
@@ -233,7 +233,7 @@ module _ (earlier : List Entry) (e : Entry) (g0 g1 g2 g3 : Graph) (r0 r1 r2 r3 :
   last-led x w there last =
       let at = some-last x w (last_held more r2 x) refl last in
       let h = held-some more (last_of r2 x) w at in
-      let c = last-cell x w (cell_of r2 x) refl h.0 in
+      let c = last-cell x w (last_cell_of r2 x) refl h.0 in
       let held : IsTrue (held_at g1.held (write_cell earlier w x / 8)) = subst (λ (hs : List Bool). IsTrue (held_at hs (write_cell earlier w x / 8))) (sym s.slot.held) (subst (λ (k : ℕ). IsTrue (held_at more k)) (sym (written-cell x w last).0) h.1) in
       let some = s.led.here (write_cell earlier w x) n ((x, there, (c, held)), refl) in
       let v = some-value (arc_at g2.arcs (write_cell earlier w x)) some in
@@ -316,14 +316,14 @@ module _ (earlier : List Entry) (e : Entry) (g0 g1 g2 g3 : Graph) (r0 r1 r2 r3 :
       let size = length-append earlier (e ∷ []) in
       answered-below e.writes e.writes n (length all) g2 g3 r2 r3 s.answered (omega (arith, size)) (λ y v at. omega (arith, size, s.linked.rows_are.below y v (sym (last-same y) ∙ at))) x w q
 
-  rows-cells : (x c : ℕ) → cell_of r3 x ≡ Some c → c ≡ write_cell all (c / 8) x
+  rows-cells : (x c : ℕ) → last_cell_of r3 x ≡ Some c → c ≡ write_cell all (c / 8) x
   rows-cells x c q = elim (cases_Bool (is_among x e.writes)) [
     | inl there ↦
         let d = (s.answered.written x there).1 in
         let same : d.cell ≡ c = some-is d.cell c (sym d.last ∙ q) in
         subst (λ (k : ℕ). k ≡ write_cell all (k / 8) x) same (d.own.0 ∙ ap (λ (xs : List ℕ). 8 * n + 4 + place_in x xs) (sym (writes-last earlier e)) ∙ ap (λ (k : ℕ). write_cell all k x) (sym d.own.1))
     | inr off ↦
-        let was : cell_of r2 x ≡ Some c = sym (s.answered.others x (both_ways _ off)).1 ∙ q in
+        let was : last_cell_of r2 x ≡ Some c = sym (s.answered.others x (both_ways _ off)).1 ∙ q in
         let low = s.linked.rows_are.below x (c / 8) (sym (last-same x) ∙ ap its_slot was) in
         cell-was x c was ∙ sym (write-cell-same earlier e g0.held s.linked.held (c / 8) x low)
   ]

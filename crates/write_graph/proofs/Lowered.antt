@@ -12,7 +12,7 @@ use Rattle.graph_nodes.specs.Arcs.{arc_at, held_at, IsArc}
 use Rattle.graph_nodes.specs.Named.{Graph}
 use Rattle.write_graph.specs.Graph.{numbers}
 use Rattle.write_graph.specs.Cells.{reads_of, writes_of, slot_access, chosen_entries, held_entries, ReadLeads, WriteLeads}
-use Rattle.write_graph.specs.Rows.{Rows, cell_of, last_held, waiting_of}
+use Rattle.write_graph.specs.Rows.{Rows, last_cell_of, last_held, waiting_of}
 use Rattle.write_graph.specs.Linked.{AreLinked, AreRows}
 use Rattle.write_graph.specs.Lowered.{lowered}
 use Rattle.write_graph.specs.Places.{place_in}
@@ -104,7 +104,7 @@ module _ (n : ℕ) (entries : List Entry) (g : Graph) (rows : Rows) (linked : Ar
   rows-lowered : AreRows (slot_access after g.held) after g.held rows
   rows-lowered = record {
     below = λ x w last. omega (arith, linked.rows_are.below x w last, size);
-    cells = carried n entries (λ r w. (x c : ℕ) → cell_of rows x ≡ Some c → c ≡ 8 * (c / 8) + 4 + place_in x (w (c / 8))) linked.rows_are.cells;
+    cells = carried n entries (λ r w. (x c : ℕ) → last_cell_of rows x ≡ Some c → c ≡ 8 * (c / 8) + 4 + place_in x (w (c / 8))) linked.rows_are.cells;
     last = carried n entries (λ r w. (x : ℕ) → MatchOption (last_held g.held rows x) (NoWriter (access_by g.held r w) x) (λ k. IsLastWriter (access_by g.held r w) x k)) linked.rows_are.last;
     all = carried n entries (λ r w. (x o : ℕ) → IsTrue ((access_by g.held r w).reads o x) → NoWriterFrom (access_by g.held r w) x o → (c : ℕ) × (c / 8 ≡ o) × IsTrue (is_among c (waiting_of rows x))) linked.rows_are.all;
     only = carried n entries (λ r w. (x c : ℕ) → IsTrue (is_among c (waiting_of rows x)) → (slice_get (r (c / 8)) (c % 8) ≡ Some x) × (IsTrue (held_at g.held (c / 8)) → NoWriterFrom (access_by g.held r w) x (c / 8))) linked.rows_are.only;

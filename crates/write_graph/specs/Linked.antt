@@ -9,7 +9,7 @@ use Rattle.sparse_order.specs.More.{NoWriter, NoWriterFrom}
 use Rattle.graph_nodes.specs.Arcs.{arc_at, node_at, IsArc, held_at}
 use Rattle.graph_nodes.specs.Named.{Graph}
 use Rattle.write_graph.specs.Cells.{reads_of, writes_of, slot_access, IsReadCell, write_cell, CellLeads}
-use Rattle.write_graph.specs.Rows.{cell_of, last_of, waiting_of, Rows, last_held}
+use Rattle.write_graph.specs.Rows.{last_cell_of, last_of, waiting_of, Rows, last_held}
 
 -- the cells report the few edges
 pub record AreArcs (a : Access) (entries : List Entry) (arcs : List (Option ℕ)) : Type 0 where
@@ -19,7 +19,7 @@ pub record AreArcs (a : Access) (entries : List Entry) (arcs : List (Option ℕ)
 -- the rows report the last writers, and who reads the last version
 pub record AreRows (a : Access) (entries : List Entry) (held : List Bool) (rows : Rows) : Type 0 where
   pub below : (x w : ℕ) → last_of rows x ≡ Some w → w < length entries
-  pub cells : (x c : ℕ) → cell_of rows x ≡ Some c → c ≡ write_cell entries (c / 8) x
+  pub cells : (x c : ℕ) → last_cell_of rows x ≡ Some c → c ≡ write_cell entries (c / 8) x
   pub last : (x : ℕ) → MatchOption (last_held held rows x) (NoWriter a x) (λ w. IsLastWriter a x w)
   pub all : (x o : ℕ) → IsTrue (a.reads o x) → NoWriterFrom a x o → (c : ℕ) × (c / 8 ≡ o) × IsTrue (is_among c (waiting_of rows x))
   pub only : (x c : ℕ) → IsTrue (is_among c (waiting_of rows x)) → IsReadCell entries c x × (IsTrue (held_at held (c / 8)) → NoWriterFrom a x (c / 8))

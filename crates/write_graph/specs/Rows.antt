@@ -15,8 +15,8 @@ pub record Rows : Type 0 where
   pub cell_room : ℕ
 
 -- the cell of the last write of x
-abbrev pub cell_of : Rows → ℕ → Option ℕ
-cell_of rows x = slice_index_or rows.last (place_in x rows.objects) None
+abbrev pub last_cell_of : Rows → ℕ → Option ℕ
+last_cell_of rows x = slice_index_or rows.last (place_in x rows.objects) None
 
 -- the slot of a cell
 abbrev pub its_slot : Option ℕ → Option ℕ
@@ -25,7 +25,7 @@ its_slot (Some c) = Some (c / 8)
 
 -- the last writer of x
 abbrev pub last_of : Rows → ℕ → Option ℕ
-last_of rows x = its_slot (cell_of rows x)
+last_of rows x = its_slot (last_cell_of rows x)
 
 -- the cells that wait for the next write of x
 abbrev pub waiting_of : Rows → ℕ → List ℕ
@@ -33,13 +33,13 @@ waiting_of rows x = list_at rows.waiting (place_in x rows.objects)
 
 -- no cell waits for the write of any object, and there is no last writer
 pub record AreEmpty (rows : Rows) : Type 0 where
-  pub last : (x : ℕ) → cell_of rows x ≡ None
+  pub last : (x : ℕ) → last_cell_of rows x ≡ None
   pub waiting : (x : ℕ) → waiting_of rows x ≡ []
   pub cells : rows.cells ≡ 0
 
 -- the cells of the last writes are the same
 abbrev pub AreSameLast : Rows → Rows → Type 0
-AreSameLast old new = (x : ℕ) → cell_of new x ≡ cell_of old x
+AreSameLast old new = (x : ℕ) → last_cell_of new x ≡ last_cell_of old x
 
 -- the waiting cells are the same
 abbrev pub AreSameWaiting : Rows → Rows → Type 0
@@ -47,8 +47,8 @@ AreSameWaiting old new = (x : ℕ) → waiting_of new x ≡ waiting_of old x
 
 -- the cell is that of the last write of x
 pub record IsLastSet (old : Rows) (x cell : ℕ) (new : Rows) : Type 0 where
-  pub here : cell_of new x ≡ Some cell
-  pub others : (y : ℕ) → (y ≡ x → ⊥) → cell_of new y ≡ cell_of old y
+  pub here : last_cell_of new x ≡ Some cell
+  pub others : (y : ℕ) → (y ≡ x → ⊥) → last_cell_of new y ≡ last_cell_of old y
   pub waiting : AreSameWaiting old new
   pub cells : new.cells ≡ old.cells
   pub row_room : old.row_room ≤ new.row_room + 1

@@ -5,7 +5,7 @@ use Rattle.oper_core.specs.State.{is_among}
 use Rattle.graph_nodes.specs.Arcs.{arc_at, held_at}
 use Rattle.graph_nodes.specs.Named.{Graph}
 use Rattle.write_graph.specs.Places.{place_in}
-use Rattle.write_graph.specs.Rows.{cell_of, waiting_of, Rows, AreSameLast, last_held}
+use Rattle.write_graph.specs.Rows.{last_cell_of, waiting_of, Rows, AreSameLast, last_held}
 
 -- as many slots and cells, the same of them held, and all arcs that were there
 pub record IsGrown (old new : Graph) : Type 0 where
@@ -31,7 +31,7 @@ IsLed old cell to new = AreLed (λ c p. (c ≡ cell) × (p ≡ to)) old new
 
 -- the cell is that of the last write of x, and its slot is held
 abbrev pub IsOverwritten : List Bool → Rows → ℕ → ℕ → Type 0
-IsOverwritten held rows x c = (cell_of rows x ≡ Some c) × IsTrue (held_at held (c / 8))
+IsOverwritten held rows x c = (last_cell_of rows x ≡ Some c) × IsTrue (held_at held (c / 8))
 
 -- the cell of the last write of x has an arc: to the slot, if it had none
 abbrev pub IsWriterLed : Rows → ℕ → ℕ → Graph → Graph → Type 0
@@ -78,7 +78,7 @@ IsCellFor all slot x c = (c ≡ 8 * slot + 4 + place_in x all) × (c / 8 ≡ slo
 -- the cell of the last write of x is that of the slot
 pub record IsLastCell (all : List ℕ) (slot x : ℕ) (rows : Rows) : Type 0 where
   pub cell : ℕ
-  pub last : cell_of rows x ≡ Some cell
+  pub last : last_cell_of rows x ≡ Some cell
   pub own : IsCellFor all slot x cell
 
 -- what waited for the write of one of the objects has an arc, nothing waits for one, and the slot, which writes all these and maybe
@@ -86,7 +86,7 @@ pub record IsLastCell (all : List ℕ) (slot x : ℕ) (rows : Rows) : Type 0 whe
 pub record AreAnswered (all objects : List ℕ) (slot : ℕ) (old : Graph) (old_rows : Rows) (new : Graph) (rows : Rows) : Type 0 where
   pub led : AreLed (IsReader old.held old_rows objects slot) old new
   pub written : (x : ℕ) → IsTrue (is_among x objects) → (waiting_of rows x ≡ []) × IsLastCell all slot x rows
-  pub others : (x : ℕ) → (IsTrue (is_among x objects) → ⊥) → (waiting_of rows x ≡ waiting_of old_rows x) × (cell_of rows x ≡ cell_of old_rows x)
+  pub others : (x : ℕ) → (IsTrue (is_among x objects) → ⊥) → (waiting_of rows x ≡ waiting_of old_rows x) × (last_cell_of rows x ≡ last_cell_of old_rows x)
   pub cells : rows.cells ≡ old_rows.cells
   pub row_room : old_rows.row_room ≤ rows.row_room + length objects
   pub cell_room : rows.cell_room ≡ old_rows.cell_room

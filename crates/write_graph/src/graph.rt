@@ -19,6 +19,7 @@ use oper_core::Memory;
 use sparse_order::nodes_stand_for_nodes;
 use std::alloc::Global;
 use std::marker::Model;
+use std::mem;
 
 /// How many more slots may be left of entries that were taken out than there are held ones.
 const SPARE: usize = 16;
@@ -88,8 +89,17 @@ impl WriteGraph {
         ensures { self.new.entries ≡ self.old.entries }
     {
         let mut graph = WriteGraph::new(self.alloc)?;
-        add_held(self.entries.as_slice(), &self.links.graph, &mut graph)?;
-        *self = graph;
+        self.move_to(&mut graph)
+    }
+
+    /// Adds the entries that are held to a graph without entries, and exchanges the two. This graph stays as it is
+    /// where it is out of memory.
+    fn move_to(&mut self, graph: &mut WriteGraph) -> Result<(), Memory>
+        requires { graph.old.entries ≡ [] }
+        ensures { self.new.entries ≡ self.old.entries }
+    {
+        add_held(self.entries.as_slice(), &self.links.graph, graph)?;
+        mem::swap(self, graph);
         Ok(())
     }
 

@@ -2,7 +2,7 @@ ghost use Rattle.std.specs.Prelude.{◌≡◌, ℕ, ◌<◌, ◌≤◌, ◌+◌,
 ghost use Rattle.oper_core.specs.State.{is_among};
 ghost use Rattle.write_graph.specs.Places.{place_in};
 ghost use Rattle.write_graph.specs.RowTables.{IsRow};
-ghost use Rattle.write_graph.specs.Rows.{cell_of, waiting_of, AreEmpty, AreSameLast, AreSameWaiting, IsLastSet, IsWaiting, IsTaken, AreCellsAdded};
+ghost use Rattle.write_graph.specs.Rows.{last_cell_of, waiting_of, AreEmpty, AreSameLast, AreSameWaiting, IsLastSet, IsWaiting, IsTaken, AreCellsAdded};
 
 use indexmap::IndexSet;
 use number_lists::{Chains, PackedOption, push_in_room};
@@ -76,7 +76,7 @@ impl Rows {
 
     /// The cell of the last write of the object.
     pub(crate) fn last(&self, x: u32) -> Option<u32>
-        ensures { result ≡ cell_of self.now x }
+        ensures { result ≡ last_cell_of self.now x }
     {
         let last = self.last.as_slice();
         let row = self.find(x)?;
