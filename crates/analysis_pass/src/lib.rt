@@ -9,8 +9,6 @@
 mod analysing;
 mod laws;
 mod plan;
-#[cfg(test)]
-mod tests;
 
 pub use analysing::analyse;
 pub use laws::a_plan_starts_at_the_least_start;

@@ -11,8 +11,6 @@ mod codec;
 mod redo_starts;
 mod starts;
 mod table;
-#[cfg(test)]
-mod tests;
 
 pub use codec::{decode, encode, one_table};
 pub use redo_starts::{redo_from, starts_at_the_least_writer, take};

@@ -9,8 +9,6 @@ mod kind;
 mod laws;
 mod lines;
 mod script;
-#[cfg(test)]
-mod tests;
 
 pub use laws::scripts_are_short;
 pub use script::generate;

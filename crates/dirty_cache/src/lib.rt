@@ -10,8 +10,6 @@ mod cache;
 mod clean;
 mod entry;
 mod places;
-#[cfg(test)]
-mod tests;
 
 pub use cache::Cache;
 pub use entry::Entry;

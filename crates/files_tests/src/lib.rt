@@ -1,4 +1,4 @@
-//! A test crate: the tests of log_frames and log_records. The library is empty.
+//! A test crate: the tests of checkpoint, log_frames and log_records. The library is empty.
 //!
 //! They stand apart so that the proofs of those crates are made once, and not a second time with their tests.
 #![tactic(auto)]
@@ -13,3 +13,5 @@ mod records;
 mod rewriting;
 #[cfg(test)]
 mod shortening;
+#[cfg(test)]
+mod tables;

@@ -7,8 +7,6 @@
 #![tactic(auto)]
 
 mod object_list;
-#[cfg(test)]
-mod tests;
 mod thinning;
 mod thinning_plan;
 

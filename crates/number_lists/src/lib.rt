@@ -9,8 +9,6 @@ mod number_set;
 mod number_tree;
 mod packed_option;
 mod push;
-#[cfg(test)]
-mod tests;
 
 pub use chains::Chains;
 pub use number_set::NumberSet;

@@ -13,8 +13,6 @@ mod memory;
 mod objs;
 mod oper;
 mod refusal;
-#[cfg(test)]
-mod tests;
 mod values;
 
 pub use bounds::Bounds;

@@ -1,6 +1,6 @@
-//! A test crate: the tests of op_meaning, btree_ops and op_codec. The library is empty.
+//! A test crate: the tests of oper_core, op_meaning, btree_ops and op_codec. The library is empty.
 //!
-//! They stand apart so that the proofs of the three crates are made once, and not a second time with their tests.
+//! They stand apart so that the proofs of those crates are made once, and not a second time with their tests.
 #![tactic(auto)]
 
 #[cfg(test)]
@@ -11,3 +11,5 @@ mod commands;
 mod nodes;
 #[cfg(test)]
 mod rows;
+#[cfg(test)]
+mod values;

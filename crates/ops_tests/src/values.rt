@@ -1,4 +1,5 @@
-use crate::{ByteList, Objs, Refusal, Values};
+// Lists of objects and of values, and the names of the refusals.
+use oper_core::{ByteList, Objs, Refusal, Values};
 use std::alloc::Global;
 use std::test::Fail;
 

@@ -1,4 +1,5 @@
-use crate::{Chains, NumberSet, NumberTree};
+// Lists of numbers, and sets of them.
+use number_lists::{Chains, NumberSet, NumberTree};
 use oper_core::Memory;
 use std::alloc::Global;
 use std::test::Fail;

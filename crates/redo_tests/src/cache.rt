@@ -1,4 +1,5 @@
-use crate::Cache;
+// The cache: what it holds of each object after some calls.
+use dirty_cache::Cache;
 use oper_core::Memory;
 use std::alloc::Global;
 

@@ -1,5 +1,5 @@
 // What no clause says: the worked tables, by the code itself.
-use crate::{Entry, closed, edge, exposed};
+use install_order::{Entry, closed, edge, exposed};
 use oper_core::{Memory, Objs};
 use std::alloc::Global;
 use std::test::Fail;

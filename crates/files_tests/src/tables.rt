@@ -1,6 +1,7 @@
 ghost use Rattle.std.specs.Prelude.{◌<◌, ◌≤◌, ◌^◌, IfOk, length};
 
-use crate::{
+// The codec of a check's table, and where the redo of an object starts by it.
+use checkpoint::{
     Starts, Table, decode, encode, one_table, redo_from, starts_at_the_least_writer, take,
 };
 use oper_core::Memory;

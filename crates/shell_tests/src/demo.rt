@@ -1,4 +1,5 @@
-use crate::generate;
+// The scripts of the demo.
+use demo_script::generate;
 use oper_core::Memory;
 use std::alloc::Global;
 use std::test::Fail;

@@ -1,4 +1,5 @@
-use crate::{Plan, a_plan_starts_at_the_least_start, analyse};
+// Where the redo of a log starts, and that of each object.
+use analysis_pass::{Plan, a_plan_starts_at_the_least_start, analyse};
 use explain_core::ByteOp;
 use oper_core::Memory;
 use std::alloc::Global;
