@@ -1,4 +1,4 @@
--- What endings and answers are not. One with such a property is no other that lacks it, whatever else is known.
+-- Properties that tell one ending, or one answer, from the others: what has one is none that lacks it, whatever else is known.
 use Rattle.std.proofs.Common.{ℕ, Option, None, Some}
 use Rattle.std.specs.Prelude.{⊤, Result, Ok, Err}
 use Rattle.cache_manager.specs.Taking.{Ending}

@@ -105,7 +105,7 @@ fn push_edges(text: &mut String, entries: &[Entry]) -> Result<(), Memory>
     Ok(())
 }
 
-/// The write graph of the entries in the DOT language. Its nodes are taken out of it.
+/// The write graph of the entries in the DOT language. The graph's nodes are taken out of it.
 pub fn dot_of(alloc: Global, entries: &[Entry], graph: &mut WriteGraph) -> Result<String, Memory>
     requires { graph.old.entries ≡ entries.now }
     ensures { IfOk result (λ text. IsGraph entries.now (string_bytes text)) }
