@@ -46,6 +46,7 @@ pub(crate) fn load<O: Oper, M: Machine>(
     let objects = Objects::load(alloc, machine, clean)?;
     let (log, last) = RecordLog::<O>::load_checked(alloc, machine, objects.bounds())?;
     if let Some(place) = objects.first_late(log.next()) {
+        drop((objects, log, last));
         return Err(RestartErr::Damaged {
             file: FileNo::Objects,
             place,

@@ -9,7 +9,7 @@ ghost use Rattle.restart.specs.Courses.{restart_course};
 ghost use Rattle.restart.specs.Damage.{IsReported};
 ghost use Rattle.restart.specs.Opening.{IsJudged, IsOpening, OpensOn, OpensThrough, opened};
 
-use crate::loading::load;
+use crate::loading::{Loaded, load};
 use crate::redoing::do_again;
 use crate::{RestartErr, Restarted, Tuning};
 use checkpointing::closing_check;
@@ -42,18 +42,38 @@ pub fn restart<O: Oper, M: Machine>(
     explain_core::crash_keeps::<O>();
     standing::unseen_steps_change_nothing::<O>();
     let mut loaded = load::<O, M>(alloc, machine, tuning.clean)?;
-    let graph = do_again(
+    let graph = match do_again(
         alloc,
         &loaded.plan,
         &loaded.log,
         &mut loaded.objects,
         machine,
         tuning,
-    )?;
-    closing_check(&mut loaded.log, &loaded.objects, &graph, machine)?;
-    Ok(Restarted {
-        log: loaded.log,
-        objects: loaded.objects,
-        graph,
-    })
+    ) {
+        Ok(graph) => graph,
+        Err(error) => {
+            // A value of many parts is dropped by a call, which the proof passes in one step.
+            drop(loaded);
+            return Err(error);
+        }
+    };
+    let Loaded {
+        mut log,
+        objects,
+        plan,
+    } = loaded;
+    drop(plan);
+    match closing_check(&mut log, &objects, &graph, machine) {
+        Ok(()) => Ok(Restarted {
+            log,
+            objects,
+            graph,
+        }),
+        Err(cause) => {
+            drop(log);
+            drop(objects);
+            drop(graph);
+            Err(RestartErr::from(cause))
+        }
+    }
 }
