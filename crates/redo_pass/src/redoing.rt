@@ -61,8 +61,13 @@ pub fn redo<O: Oper, M: Machine>(
         (IsRedoFault (O.meaning log.now.bounds) (M.disk machine.old) (M.disk machine.new) log.now.log objects.old.slots objects.new.slots)) }
 {
     let mut graph = WriteGraph::new(alloc)?;
-    redo_into(alloc, plan, log, objects, &mut graph, machine, tuning)?;
-    Ok(graph)
+    match redo_into(alloc, plan, log, objects, &mut graph, machine, tuning) {
+        Ok(()) => Ok(graph),
+        Err(error) => {
+            drop(graph);
+            Err(error)
+        }
+    }
 }
 
 // The same, into a graph that has no entries yet. Where this fails, its caller drops the graph, at one place.

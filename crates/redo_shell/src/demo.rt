@@ -45,7 +45,11 @@ fn accepted_count(alloc: Global, machine: &mut GrowMem) -> Result<u64, Memory>
     ensures count { (p : OfStore) (commands : List Command) → Opens p (disk_of machine.old) commands → IfOk result (λ count. count ≡ length commands) }
 {
     match open_store(alloc, machine) {
-        Ok(engine) => Ok(engine.accepted()),
+        Ok(engine) => {
+            let accepted = engine.accepted();
+            drop(engine);
+            Ok(accepted)
+        }
         Err(_) => Err(Memory),
     }
 }

@@ -126,7 +126,11 @@ pub fn dump<M: Machine>(alloc: Global, machine: &mut M) -> Status
 {
     standing_files_meet_their_format::<AllOps>();
     match open_store(alloc, machine) {
-        Ok(mut engine) => dump_open(alloc, &mut engine, machine),
+        Ok(mut engine) => {
+            let status = dump_open(alloc, &mut engine, machine);
+            drop(engine);
+            status
+        }
         Err(status) => status,
     }
 }

@@ -69,7 +69,11 @@ pub fn run<M: Machine, S: Source>(alloc: Global, machine: &mut M, input: &mut S)
 {
     standing_files_meet_their_format::<AllOps>();
     match open_store(alloc, machine) {
-        Ok(mut engine) => run_open(alloc, &mut engine, machine, input),
+        Ok(mut engine) => {
+            let status = run_open(alloc, &mut engine, machine, input);
+            drop(engine);
+            status
+        }
         Err(status) => status,
     }
 }

@@ -8,7 +8,7 @@ pub returns-in-Ok-clause-count : goal.returns-in-Ok-clause-count
 returns-in-Ok-clause-count c = λ p commands opens.
     let files = c.open_store.ensures.opens p commands opens in
     let opened = c.in-Ok.ensures.ok p commands opens in
-    c.accepted.ensures ∙ (opened.shows files.first.0 files.first.1).0.says.accepted
+    c.accepted-accepted.ensures ∙ (opened.shows files.first.0 files.first.1).0.says.accepted
 
 pub returns-in-Err-clause-quiet : goal.returns-in-Err-clause-quiet
 returns-in-Err-clause-quiet c = λ p commands opens. (c.open_store.ensures.opens p commands opens).quiet

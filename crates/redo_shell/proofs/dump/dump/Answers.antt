@@ -10,36 +10,36 @@ use Rattle.redo_shell.proofs.dump.dump.Goals as goal
 
 pub returns-in-Ok-clause-time : goal.returns-in-Ok-clause-time
 returns-in-Ok-clause-time g c =
-    passes_twice (g.M.Machine.disk c.args.machine.now) (g.M.Machine.disk c.open_store.new.machine) (g.M.Machine.disk c.dump_open.new.machine) (g.met.M.Machine.lawful c.dump_open.new.machine)
-    c.open_store.ensures.time c.dump_open.ensures.time
+    passes_twice (g.M.Machine.disk c.args.machine.now) (g.M.Machine.disk c.open_store.new.machine) (g.M.Machine.disk c.dump_open-status.new.machine) (g.met.M.Machine.lawful c.dump_open-status.new.machine)
+    c.open_store.ensures.time c.dump_open-status.ensures.time
 
 pub returns-in-Ok-clause-call : goal.returns-in-Ok-clause-call
 returns-in-Ok-clause-call g c =
     let old = g.M.Machine.disk c.args.machine.now in
     let mid = g.M.Machine.disk c.open_store.new.machine in
-    let new = g.M.Machine.disk c.dump_open.new.machine in
+    let new = g.M.Machine.disk c.dump_open-status.new.machine in
     let attached = c.in-Ok.ensures.ready.1 in
-    let settled = keeps_settled mid new (g.met.M.Machine.lawful c.open_store.new.machine) (g.met.M.Machine.lawful c.dump_open.new.machine) c.dump_open.ensures.time c.dump_open.ensures.keeps c.in-Ok.ensures.settled in
+    let settled = keeps_settled mid new (g.met.M.Machine.lawful c.open_store.new.machine) (g.met.M.Machine.lawful c.dump_open-status.new.machine) c.dump_open-status.ensures.time c.dump_open-status.ensures.keeps c.in-Ok.ensures.settled in
     record {
       table = λ p commands opens.
           let opened = c.in-Ok.ensures.ok p commands opens in
           let files = c.open_store.ensures.opens p commands opens in
           let holds = (opened.shows files.first.0 files.first.1).0 in
-          dump_on p old mid new commands c.dump_open.result
-          (λ first is. (dump_courses p old mid new commands _ opened files c.dump_open.ensures.keeps first is c.in-Ok.ensures.settled (λ telling. c.open_store.ensures.time.moments_told.0 telling), λ done. dump_shows p old mid new commands _ opened files c.dump_open.ensures.keeps first is (c.open_store.ensures.time.files_told.0 opens.told)))
+          dump_on p old mid new commands c.dump_open-status.result
+          (λ first is. (dump_courses p old mid new commands _ opened files c.dump_open-status.ensures.keeps first is c.in-Ok.ensures.settled (λ telling. c.open_store.ensures.time.moments_told.0 telling), λ done. dump_shows p old mid new commands _ opened files c.dump_open-status.ensures.keeps first is (c.open_store.ensures.time.files_told.0 opens.told)))
           (g.met.M.Machine.lawful c.args.machine.now) opens files.images (λ telling. c.open_store.ensures.time.moments_told.0 telling) files.quiet
-          (c.dump_open.ensures.moments p commands holds opened.all) (c.dump_open.ensures.said p commands holds) (c.dump_open.ensures.all p commands holds)
-          (c.dump_open.ensures.store (c.open_store.ensures.time.files_told.0 opens.told) attached) settled
-          (dump_stands p mid new _ commands holds opened.all c.dump_open.ensures.keeps settled);
+          (c.dump_open-status.ensures.moments p commands holds opened.all) (c.dump_open-status.ensures.said p commands holds) (c.dump_open-status.ensures.all p commands holds)
+          (c.dump_open-status.ensures.store (c.open_store.ensures.time.files_told.0 opens.told) attached) settled
+          (dump_stands p mid new _ commands holds opened.all c.dump_open-status.ensures.keeps settled);
       settled = λ done. settled;
-      ends = c.dump_open.ensures.status;
-      judged = λ told. judged_open c.dump_open.result (c.in-Ok.ensures.read told) (c.dump_open.ensures.store (c.open_store.ensures.time.files_told.0 told) attached);
+      ends = c.dump_open-status.ensures.status;
+      judged = λ told. judged_open c.dump_open-status.result (c.in-Ok.ensures.read told) (c.dump_open-status.ensures.store (c.open_store.ensures.time.files_told.0 told) attached);
     }
 
 pub returns-in-Ok-clause-faults : goal.returns-in-Ok-clause-faults
 returns-in-Ok-clause-faults g c = record {
-  disk = λ is. rises_within _ _ _ _ c.open_store.ensures.time.disk_faults (omega arith) (c.dump_open.ensures.disk_fault is);
-  output = λ is. rises_within _ _ _ _ c.open_store.ensures.time.say_faults (omega arith) (c.dump_open.ensures.say_fault is);
+  disk = λ is. rises_within _ _ _ _ c.open_store.ensures.time.disk_faults (omega arith) (c.dump_open-status.ensures.disk_fault is);
+  output = λ is. rises_within _ _ _ _ c.open_store.ensures.time.say_faults (omega arith) (c.dump_open-status.ensures.say_fault is);
 }
 
 pub returns-in-Err-clause-call : goal.returns-in-Err-clause-call

@@ -9,42 +9,42 @@ use Rattle.redo_shell.proofs.run.run.Goals as goal
 
 pub returns-in-Ok-clause-time : goal.returns-in-Ok-clause-time
 returns-in-Ok-clause-time g c =
-    passes_twice (g.M.Machine.disk c.args.machine.now) (g.M.Machine.disk c.open_store.new.machine) (g.M.Machine.disk c.run_open.new.machine) (g.met.M.Machine.lawful c.run_open.new.machine)
-    c.open_store.ensures.time c.run_open.ensures.time
+    passes_twice (g.M.Machine.disk c.args.machine.now) (g.M.Machine.disk c.open_store.new.machine) (g.M.Machine.disk c.run_open-status.new.machine) (g.met.M.Machine.lawful c.run_open-status.new.machine)
+    c.open_store.ensures.time c.run_open-status.ensures.time
 
 pub returns-in-Ok-clause-call : goal.returns-in-Ok-clause-call
 returns-in-Ok-clause-call g c =
     let old = g.M.Machine.disk c.args.machine.now in
     let mid = g.M.Machine.disk c.open_store.new.machine in
-    let new = g.M.Machine.disk c.run_open.new.machine in
+    let new = g.M.Machine.disk c.run_open-status.new.machine in
     let lawful = g.met.M.Machine.lawful c.args.machine.now in
-    let ends = g.met.M.Machine.lawful c.run_open.new.machine in
+    let ends = g.met.M.Machine.lawful c.run_open-status.new.machine in
     let few = c.standing_files_meet_their_format.ensures.few in
     let attached = c.in-Ok.ensures.ready.1 in
     record {
       script = λ p commands opens told.
           let opened = c.in-Ok.ensures.ok p commands opens in
-          run_on few old mid new (lines_of (g.S.Source.left c.args.input.now)) c.run_open.result lawful ends opens (c.open_store.ensures.opens p commands opens) c.open_store.ensures.time c.run_open.ensures.time
-          (runs_from_each (lines_of (g.S.Source.left c.args.input.now)) new c.run_open.result opened (λ holds. (c.run_open.ensures.answers p commands holds opened.all told, c.run_open.ensures.complete p commands holds opened.all told)))
-          (c.run_open.ensures.store (c.open_store.ensures.time.files_told.0 opens.told) attached);
+          run_on few old mid new (lines_of (g.S.Source.left c.args.input.now)) c.run_open-status.result lawful ends opens (c.open_store.ensures.opens p commands opens) c.open_store.ensures.time c.run_open-status.ensures.time
+          (runs_from_each (lines_of (g.S.Source.left c.args.input.now)) new c.run_open-status.result opened (λ holds. (c.run_open-status.ensures.answers p commands holds opened.all told, c.run_open-status.ensures.complete p commands holds opened.all told)))
+          (c.run_open-status.ensures.store (c.open_store.ensures.time.files_told.0 opens.told) attached);
       untold =
-          let (script, each) = c.run_open.ensures.some in (
+          let (script, each) = c.run_open-status.ensures.some in (
             script,
             λ p commands opens.
                 let opened = c.in-Ok.ensures.ok p commands opens in
-                run_on few old mid new script c.run_open.result lawful ends opens (c.open_store.ensures.opens p commands opens) c.open_store.ensures.time c.run_open.ensures.time
-                (runs_from_each script new c.run_open.result opened (λ holds. each p commands holds opened.all))
-                (c.run_open.ensures.store (c.open_store.ensures.time.files_told.0 opens.told) attached),
+                run_on few old mid new script c.run_open-status.result lawful ends opens (c.open_store.ensures.opens p commands opens) c.open_store.ensures.time c.run_open-status.ensures.time
+                (runs_from_each script new c.run_open-status.result opened (λ holds. each p commands holds opened.all))
+                (c.run_open-status.ensures.store (c.open_store.ensures.time.files_told.0 opens.told) attached),
           );
-      input = c.run_open.ensures.input;
-      ends = c.run_open.ensures.status;
-      judged = λ told. judged_open c.run_open.result (c.in-Ok.ensures.read told) (c.run_open.ensures.store (c.open_store.ensures.time.files_told.0 told) attached);
+      input = c.run_open-status.ensures.input;
+      ends = c.run_open-status.ensures.status;
+      judged = λ told. judged_open c.run_open-status.result (c.in-Ok.ensures.read told) (c.run_open-status.ensures.store (c.open_store.ensures.time.files_told.0 told) attached);
     }
 
 pub returns-in-Ok-clause-faults : goal.returns-in-Ok-clause-faults
 returns-in-Ok-clause-faults g c = record {
-  disk = λ is. rises_within _ _ _ _ c.open_store.ensures.time.disk_faults (omega arith) (c.run_open.ensures.disk_fault is);
-  output = λ is. rises_within _ _ _ _ c.open_store.ensures.time.say_faults (omega arith) (c.run_open.ensures.say_fault is);
+  disk = λ is. rises_within _ _ _ _ c.open_store.ensures.time.disk_faults (omega arith) (c.run_open-status.ensures.disk_fault is);
+  output = λ is. rises_within _ _ _ _ c.open_store.ensures.time.say_faults (omega arith) (c.run_open-status.ensures.say_fault is);
 }
 
 pub returns-in-Err-clause-call : goal.returns-in-Err-clause-call
