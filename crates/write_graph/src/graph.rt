@@ -89,7 +89,9 @@ impl WriteGraph {
         ensures { self.new.entries ≡ self.old.entries }
     {
         let mut graph = WriteGraph::new(self.alloc)?;
-        self.move_to(&mut graph)
+        let moved = self.move_to(&mut graph);
+        drop(graph);
+        moved
     }
 
     /// Adds the entries that are held to a graph without entries, and exchanges the two. This graph stays as it is
@@ -112,8 +114,7 @@ impl WriteGraph {
         self.entries.reserve(1)?;
         self.members.clear();
         self.members.reserve(count)?;
-        self.links.make_room(self.entries.as_slice())?;
-        Ok(())
+        self.links.make_room(self.entries.as_slice())
     }
 
     /// Adds an entry, whose number is above all others.
