@@ -36,13 +36,21 @@ fn asked(words: &[String]) -> Option<(Work, Plan, u32)> {
     Some((work, Plan { count, removal }, times))
 }
 
+/// Does the work once, and answers how many entries were added and nodes taken out.
+fn done_once(alloc: Global, work: Work, plan: Plan) -> Result<u64, Memory> {
+    let mut feed = Feed::new(alloc)?;
+    let ran = feed.run(work, plan);
+    let calls = feed.calls();
+    drop(feed);
+    ran?;
+    Ok(calls)
+}
+
 /// Does the work so often, and answers how many entries were added and nodes taken out.
 fn done(alloc: Global, work: Work, plan: Plan, times: u32) -> Result<u64, Memory> {
     let mut calls = 0u64;
     for _ in 0..times {
-        let mut feed = Feed::new(alloc)?;
-        feed.run(work, plan)?;
-        calls = calls.saturating_add(feed.calls());
+        calls = calls.saturating_add(done_once(alloc, work, plan)?);
     }
     Ok(calls)
 }

@@ -58,6 +58,9 @@ impl Commands {
         ensures { IfOk result (λ text. IsGraph self (string_bytes text)) }
     {
         let Commands { entries, mut graph } = self;
-        dot_of(alloc, entries.as_slice(), &mut graph)
+        let dot = dot_of(alloc, entries.as_slice(), &mut graph);
+        drop(graph);
+        drop(entries);
+        dot
     }
 }

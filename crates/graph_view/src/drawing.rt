@@ -57,6 +57,20 @@ fn read_lines<S: Source>(
     Err(DrawError::Read(ReadError::TooLong))
 }
 
+/// Adds the commands of a script.
+fn read_script<S: Source>(
+    alloc: Global,
+    input: &mut S,
+    commands: &mut Commands,
+) -> Result<(), DrawError>
+    requires empty { commands.old ≡ [] }
+    ensures entries { S.tells input.old → OnOk result (AreEntries 1 (lines_of (S.left input.old)) commands.new) }
+    ensures cause { S.tells input.old → IfErr result (IsCause (lines_of (S.left input.old))) }
+{
+    let mut lines = LineReader::new(alloc)?;
+    read_lines(&mut lines, input, commands)
+}
+
 /// The write graph of the commands of a script, in the DOT language. All commands are taken as accepted, and none as
 /// installed. Fails at the first line that is outside the grammar or makes as many commands as values ask for, where
 /// the input is not read, and where it is out of memory.
@@ -66,8 +80,12 @@ pub fn draw_script<S: Source>(alloc: Global, input: &mut S) -> Result<String, Dr
     // Whatever a source that reports nothing gave, the text is the graph of some entries.
     ensures some { IfOk result (λ text. (entries : List Entry) × IsGraph entries (string_bytes text)) }
 {
-    let mut lines = LineReader::new(alloc)?;
     let mut commands = Commands::new(alloc)?;
-    read_lines(&mut lines, input, &mut commands)?;
-    Ok(commands.into_dot(alloc)?)
+    match read_script(alloc, input, &mut commands) {
+        Ok(()) => Ok(commands.into_dot(alloc)?),
+        Err(error) => {
+            drop(commands);
+            Err(error)
+        }
+    }
 }
