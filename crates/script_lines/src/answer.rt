@@ -1,4 +1,4 @@
-ghost use Rattle.std.specs.Prelude.{◌≡◌, ◌++◌, ◌∷◌, codes, OnOk, IfOk};
+ghost use Rattle.std.specs.Prelude.{◌≡◌, ◌++◌, ◌∷◌, [], codes, OnOk, IfOk};
 ghost use Rattle.std.specs.Fmt.{decimal};
 ghost use Rattle.std.specs.List.{flat_map};
 ghost use Rattle.script_lines.specs.Replies.{reply_of, pairs_reply, summary, text_of, said_line, name_of, hex_text, spaced, numbers_of, pair_text, spaced_pair};
@@ -217,42 +217,51 @@ fn push_totals(alloc: Global, text: &mut Vec<u8>, totals: &Totals) -> Result<(),
     Ok(())
 }
 
-/// The text of an answer, without a newline.
+/// Writes the text of an answer into an empty one.
 #[tactic(auto, unfolding(crate::specs::Replies::text_of))]
-pub fn answer_text(alloc: Global, answer: &Answer<'_>) -> Result<Vec<u8>, Memory>
-    ensures { IfOk result (λ text. text.items ≡ text_of (reply_of answer.now)) }
+fn write_answer(alloc: Global, text: &mut Vec<u8>, answer: &Answer<'_>) -> Result<(), Memory>
+    requires { text.old.items ≡ [] }
+    ensures { OnOk result (text.new.items ≡ text_of (reply_of answer.now)) }
 {
-    let mut text = Vec::new(alloc);
     match answer {
         Answer::Done => text.extend_from_slice(b"ok")?,
-        Answer::Value(bytes) => push_value(&mut text, bytes)?,
-        Answer::Forced(count) => push_counted(alloc, &mut text, b"forced", *count)?,
+        Answer::Value(bytes) => push_value(text, bytes)?,
+        Answer::Forced(count) => push_counted(alloc, text, b"forced", *count)?,
         Answer::Bad => text.extend_from_slice(b"bad")?,
         Answer::Refused(refusal) => {
             text.extend_from_slice(b"refused ")?;
             text.extend_from_slice(refusal_name(*refusal))?;
         }
         Answer::Full { used, need, limit } => {
-            push_counted(alloc, &mut text, b"full", *used)?;
+            push_counted(alloc, text, b"full", *used)?;
             text.push(b' ')?;
-            push_number(alloc, &mut text, *need)?;
+            push_number(alloc, text, *need)?;
             text.push(b' ')?;
-            push_number(alloc, &mut text, *limit)?;
+            push_number(alloc, text, *limit)?;
         }
-        Answer::End { number } => push_counted(alloc, &mut text, b"end", *number)?,
+        Answer::End { number } => push_counted(alloc, text, b"end", *number)?,
         Answer::Object { object, value } => {
-            push_number(alloc, &mut text, u64::from(*object))?;
+            push_number(alloc, text, u64::from(*object))?;
             text.push(b' ')?;
-            push_value(&mut text, value)?;
+            push_value(text, value)?;
         }
-        Answer::Commands(count) => push_counted(alloc, &mut text, b"commands", *count)?,
-        Answer::Stat(counts) => push_counts(alloc, &mut text, counts)?,
-        Answer::Ran(count) => push_counted(alloc, &mut text, b"ran", *count)?,
-        Answer::Pairs(pairs) => push_pairs(&mut text, pairs)?,
+        Answer::Commands(count) => push_counted(alloc, text, b"commands", *count)?,
+        Answer::Stat(counts) => push_counts(alloc, text, counts)?,
+        Answer::Ran(count) => push_counted(alloc, text, b"ran", *count)?,
+        Answer::Pairs(pairs) => push_pairs(text, pairs)?,
         Answer::BadTree => text.extend_from_slice(b"refused BadTree")?,
         Answer::TreeFull => text.extend_from_slice(b"refused TreeFull")?,
-        Answer::Summary(totals) => push_totals(alloc, &mut text, totals)?,
+        Answer::Summary(totals) => push_totals(alloc, text, totals)?,
     }
+    Ok(())
+}
+
+/// The text of an answer, without a newline.
+pub fn answer_text(alloc: Global, answer: &Answer<'_>) -> Result<Vec<u8>, Memory>
+    ensures { IfOk result (λ text. text.items ≡ text_of (reply_of answer.now)) }
+{
+    let mut text = Vec::new(alloc);
+    write_answer(alloc, &mut text, answer)?;
     Ok(text)
 }
 
