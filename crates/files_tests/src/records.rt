@@ -217,26 +217,37 @@ pub fn counts(log: &RecordLog<Put>) -> [u64; 4] {
     [log.used(), log.next(), log.accepted(), log.forced()]
 }
 
+// Writes four records in two blocks. It answers the log's counts before each record and at the end.
+fn write_four(
+    alloc: Global,
+    log: &mut RecordLog<Put>,
+    machine: &mut MemMachine,
+    b: Bounds,
+) -> Result<[[u64; 4]; 5], Fail>
+    requires { log.old.bounds ≡ b }
+{
+    let new = counts(log);
+    add(log, b, put(alloc, 2, b"a")?)?;
+    let one = counts(log);
+    add_identity(log, b, ByteList::new(b"ab".to_vec(alloc)?))?;
+    log.force(machine)?;
+    let two = counts(log);
+    let starts = Starts::new(Vec::from_slice(alloc, &[(0, 1)])?);
+    add_check(log, b, starts)?;
+    let three = counts(log);
+    add(log, b, put(alloc, 3, b"abc")?)?;
+    log.force(machine)?;
+    Ok([new, one, two, three, counts(log)])
+}
+
 // A log of two blocks with four records, and its counts before each record and at the end.
 pub fn four_records(alloc: Global) -> Result<(MemMachine, [[u64; 4]; 5]), Fail> {
     let mut machine = new_store(alloc)?;
     let mut log = loaded(alloc, &mut machine, BOUNDS)?;
-    let new = counts(&log);
-    add(&mut log, BOUNDS, put(alloc, 2, b"a")?)?;
-    let one = counts(&log);
-    add_identity(&mut log, BOUNDS, ByteList::new(b"ab".to_vec(alloc)?))?;
-    log.force(&mut machine)?;
-    let two = counts(&log);
-    add_check(
-        &mut log,
-        BOUNDS,
-        Starts::new(Vec::from_slice(alloc, &[(0, 1)])?),
-    )?;
-    let three = counts(&log);
-    add(&mut log, BOUNDS, put(alloc, 3, b"abc")?)?;
-    log.force(&mut machine)?;
-    let all = [new, one, two, three, counts(&log)];
-    Ok((machine.crash(Crash::Old), all))
+    let all = write_four(alloc, &mut log, &mut machine, BOUNDS);
+    drop(log);
+    let left = machine.crash(Crash::Old);
+    Ok((left, all?))
 }
 
 #[test]
@@ -319,15 +330,33 @@ fn are_last(records: &[Record<Put>], count: usize) -> bool {
     are
 }
 
+// Appends a put; whether the four records are found before it, and from a number on the last of the three with numbers,
+// so many.
+fn finds(
+    alloc: Global,
+    log: &mut RecordLog<Put>,
+    machine: &mut MemMachine,
+    b: Bounds,
+    from: u64,
+    count: usize,
+) -> Result<bool, Fail>
+    requires { log.old.bounds ≡ b }
+{
+    add(log, b, put(alloc, 1, b"")?)?;
+    let all = are_four(&log.stable(machine)?);
+    let found = numbered(alloc, log, machine, from)?;
+    Ok(all && are_last(&found, count))
+}
+
 // Whether the four records are found again, and from a number on the last of the three with numbers, so many; what
 // waits is not among them.
 fn are_found(alloc: Global, from: u64, count: usize) -> Result<bool, Fail> {
     let (mut machine, _) = four_records(alloc)?;
     let mut log = loaded(alloc, &mut machine, BOUNDS)?;
-    add(&mut log, BOUNDS, put(alloc, 1, b"")?)?;
-    let all = are_four(&log.stable(&mut machine)?);
-    let found = numbered(alloc, &log, &mut machine, from)?;
-    Ok(all && are_last(&found, count))
+    let found = finds(alloc, &mut log, &mut machine, BOUNDS, from, count);
+    drop(log);
+    drop(machine);
+    found
 }
 
 #[test]
@@ -354,21 +383,37 @@ fn what_is_done_again_begins_at_its_number(rt: HostRuntime) -> Result<(), Fail> 
     Ok(())
 }
 
+// Appends a check with the redo start 1 of object 0, and forces it.
+fn force_check(
+    alloc: Global,
+    log: &mut RecordLog<Put>,
+    machine: &mut MemMachine,
+    b: Bounds,
+) -> Result<(), Fail>
+    requires { log.old.bounds ≡ b }
+{
+    let starts = Starts::new(Vec::from_slice(alloc, &[(0, 1)])?);
+    add_check(log, b, starts)?;
+    log.force(machine)?;
+    Ok(())
+}
+
+// The next number of the last check of a machine's log.
+fn last_next(alloc: Global, mut machine: MemMachine) -> Result<Option<u64>, LogErr> {
+    let (log, last) = RecordLog::<Put>::load_checked(alloc, &mut machine, BOUNDS)?;
+    drop(log);
+    Ok(last.map(|table| table.next))
+}
+
 // Whether the last of two checks is found, by its next number.
 fn last_is_found(alloc: Global) -> Result<bool, Fail> {
     let (mut machine, _) = four_records(alloc)?;
     let mut log = loaded(alloc, &mut machine, BOUNDS)?;
-    add_check(
-        &mut log,
-        BOUNDS,
-        Starts::new(Vec::from_slice(alloc, &[(0, 1)])?),
-    )?;
-    log.force(&mut machine)?;
-    let (_, last) = RecordLog::<Put>::load_checked(alloc, &mut machine, BOUNDS)?;
-    let Some(table) = last else {
-        return Ok(false);
-    };
-    Ok(table.next == 4)
+    let forced = force_check(alloc, &mut log, &mut machine, BOUNDS);
+    drop(log);
+    let next = last_next(alloc, machine);
+    forced?;
+    Ok(next? == Some(4))
 }
 
 #[test]
@@ -377,16 +422,33 @@ fn the_last_check_is_found(rt: HostRuntime) -> Result<(), Fail> {
     Ok(())
 }
 
+// Appends two puts.
+fn add_two(alloc: Global, log: &mut RecordLog<Put>, b: Bounds) -> Result<(), Fail>
+    requires { log.old.bounds ≡ b }
+{
+    add(log, b, put(alloc, 1, b"abc")?)?;
+    add(log, b, put(alloc, 2, b"")?)
+}
+
+// How many commands of a machine's log are stable.
+fn forced_in(alloc: Global, mut machine: MemMachine) -> Result<u64, LogErr> {
+    let log = loaded(alloc, &mut machine, BOUNDS)?;
+    let forced = log.forced();
+    drop(log);
+    Ok(forced)
+}
+
 // Whether a force of two records that is stopped after some calls answers Ok, and how many are stable after a crash.
 fn stopped(alloc: Global, calls: u64, how: Crash) -> Result<(bool, u64), Fail> {
     let mut machine = new_store(alloc)?;
     let mut log = loaded(alloc, &mut machine, BOUNDS)?;
-    add(&mut log, BOUNDS, put(alloc, 1, b"abc")?)?;
-    add(&mut log, BOUNDS, put(alloc, 2, b"")?)?;
+    let added = add_two(alloc, &mut log, BOUNDS);
     let mut fuse = Fuse::new(machine, calls);
     let is_ok = log.force(&mut fuse).is_ok();
-    let mut left = fuse.into_inner().crash(how);
-    Ok((is_ok, loaded(alloc, &mut left, BOUNDS)?.forced()))
+    drop(log);
+    let forced = forced_in(alloc, fuse.into_inner().crash(how));
+    added?;
+    Ok((is_ok, forced?))
 }
 
 // After how many calls a force is stopped, the crash, and how many records are stable.

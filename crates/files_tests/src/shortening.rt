@@ -4,6 +4,7 @@ ghost use Rattle.std.specs.Prelude.{◌≡◌, []};
 use crate::records::{BOUNDS, counts, four_records, loaded};
 use checkpoint::{Starts, Table};
 use disk_model::{Crash, FileNo, MemMachine};
+use log_frames::LogErr;
 use log_records::RecordLog;
 use op_meaning::Put;
 use std::alloc::Global;
@@ -50,16 +51,28 @@ fn shorten(
     Ok(())
 }
 
+// The counts of a machine's log.
+fn counts_in(alloc: Global, machine: &mut MemMachine) -> Result<[u64; 4], LogErr> {
+    let log = loaded(alloc, machine, BOUNDS)?;
+    let found = counts(&log);
+    drop(log);
+    Ok(found)
+}
+
 // Whether a rewrite from a base on makes this file, and its log has these counts, at once and after a crash.
 fn is_as_worked(alloc: Global, row: Row) -> Result<bool, Fail> {
     let (base, file, wanted) = row;
     let (mut machine, _) = four_records(alloc)?;
     let mut log = loaded(alloc, &mut machine, BOUNDS)?;
-    shorten(&mut log, &mut machine, base, Starts::new(Vec::new(alloc)))?;
+    let shortened = shorten(&mut log, &mut machine, base, Starts::new(Vec::new(alloc)));
+    let at_once = counts(&log);
+    drop(log);
     let mut left = machine.crash(Crash::Old);
-    let found = loaded(alloc, &mut left, BOUNDS)?;
     let is_file = left.bytes(FileNo::LogB) == file;
-    Ok(is_file & ([counts(&log), counts(&found)] == [wanted; 2]))
+    let found = counts_in(alloc, &mut left);
+    drop(left);
+    shortened?;
+    Ok(is_file & ([at_once, found?] == [wanted; 2]))
 }
 
 #[test]

@@ -9,7 +9,10 @@ use std::test::Fail;
 // Whether the slots of a machine have these values.
 fn slots_hold(alloc: Global, mut machine: MemMachine, values: &[&[u8]]) -> Result<bool, Fail> {
     let mut objects = Objects::load(alloc, &mut machine, 2)?;
-    Ok(hold(&mut objects, &mut machine, values))
+    let are_held = hold(&mut objects, &mut machine, values);
+    drop(objects);
+    drop(machine);
+    Ok(are_held)
 }
 
 // Where a redo began, and how many entries and dirty objects it left.
@@ -31,12 +34,10 @@ fn gives(
     values: [&[&[u8]]; 2],
 ) -> Result<bool, Fail> {
     let mut it = run_redo(alloc, machine, limit, ALL)?;
-    let answers = [
-        leaves(&it, left),
-        hold(&mut it.objects, &mut it.machine, values[0]),
-        slots_hold(alloc, it.machine.crash(Crash::Old), values[1])?,
-    ];
-    Ok(answers == [true; 3])
+    let is_left = leaves(&it, left);
+    let are_held = hold(&mut it.objects, &mut it.machine, values[0]);
+    let are_stable = slots_hold(alloc, it.into_machine().crash(Crash::Old), values[1])?;
+    Ok(is_left & are_held & are_stable)
 }
 
 // A block of a log, how many objects may be dirty, what a redo leaves, and the values of the objects and in the slots then.
@@ -120,9 +121,11 @@ fn an_identity_write_heals_what_a_redo_got_wrong(rt: HostRuntime) -> Result<(), 
 
 // A store whose three puts are in the slots, and then an identity write of object 1 and a check that starts it there.
 fn with_check(alloc: Global) -> Result<MemMachine, Fail> {
-    let mut machine = run_redo(alloc, with_block(alloc, THREE_PUTS)?, 0, ALL)?.machine;
-    machine.write_at(FileNo::LogA, BEHIND_THREE, CHECKED)?;
-    Ok(machine.crash(Crash::New))
+    let mut machine = run_redo(alloc, with_block(alloc, THREE_PUTS)?, 0, ALL)?.into_machine();
+    let written = machine.write_at(FileNo::LogA, BEHIND_THREE, CHECKED);
+    let left = machine.crash(Crash::New);
+    written?;
+    Ok(left)
 }
 
 // Whether the redo begins at the check's start, and the value of the identity write stands.

@@ -28,6 +28,13 @@ pub struct Redone {
     pub start: u64,
 }
 
+impl Redone {
+    // The machine alone.
+    pub fn into_machine(self) -> MemMachine {
+        self.machine
+    }
+}
+
 // The log of a machine, and its last check.
 fn loaded(
     alloc: Global,

@@ -28,14 +28,16 @@ fn stopped(
     how: Crash,
 ) -> Result<(bool, MemMachine), Fail> {
     let it = run_redo(alloc, machine, limit, calls)?;
-    Ok((it.graph.is_some(), it.machine.crash(how)))
+    let ends = it.graph.is_some();
+    Ok((ends, it.into_machine().crash(how)))
 }
 
 // Whether a redo ends, and gives these values.
 fn gives(alloc: Global, machine: MemMachine, limit: usize, values: &[&[u8]]) -> Result<bool, Fail> {
     let mut it = run_redo(alloc, machine, limit, ALL)?;
-    let ends = it.graph.is_some();
-    Ok(ends & hold(&mut it.objects, &mut it.machine, values))
+    let given = it.graph.is_some() & hold(&mut it.objects, &mut it.machine, values);
+    drop(it);
+    Ok(given)
 }
 
 // Whether the first of three redos of a log ends, of which two are stopped after so many calls, and the last gives the values.
