@@ -19,7 +19,7 @@ ghost use Rattle.cache_manager.specs.Told.{IsInstall, TellsParts, listed};
 use crate::identities::log_others;
 use crate::nodes::install_node;
 use crate::objects::Objects;
-use crate::thin::work_of;
+use crate::thin::{THIN, work_of};
 use crate::{Install, InstallErr};
 use disk_model::Machine;
 use log_records::RecordLog;
@@ -96,7 +96,7 @@ pub fn install_one<O: Oper, M: Machine>(
     let first = log.next();
     while let Some(name) = graph.minimal() {
         let work = work_of(objects, graph, name)?;
-        if work.len() <= 1 {
+        if work.len() <= THIN {
             let due = work.as_slice();
             let flushed = first_of(due);
             let ops = finish_next::<O, M>(log, objects, graph, machine, name, due)?;

@@ -8,7 +8,10 @@ use crate::objects::Objects;
 use oper_core::Memory;
 use write_graph::{NodeNo, WriteGraph};
 
-/// A minimal node that has at most one object to flush, and that object.
+/// A thin node has at most so many objects to flush, which needs no identity writes.
+pub(crate) const THIN: usize = 1;
+
+/// A minimal node that is thin, and what it has to flush.
 #[derive(Drop)]
 pub(crate) struct Thin {
     pub(crate) name: NodeNo,
@@ -35,7 +38,7 @@ pub(crate) fn least_thin(objects: &Objects, graph: &WriteGraph) -> Result<Option
     let mut from = 0;
     while let Some(name) = graph.minimal_from(from) {
         let work = work_of(objects, graph, name)?;
-        if work.len() <= 1 {
+        if work.len() <= THIN {
             return Ok(Some(Thin { name, work }));
         }
         from = name + 1;

@@ -83,7 +83,7 @@ loop-name-preserved g c =
       numbered = numbered_twice before here after so_far.numbered c.log_others.ensures.numbered;
       logged = (so_far.logged.0 + more.0, longer_twice so_far.logged.0 more.0 before here after so_far.logged.1 more.2);
       none = λ e. absurd (both_ways _ (ap (λ (es : List Entry). is_among c.in-Some.name (numbers es)) (so_far.none e)) c.in-Some.ensures.some.0.1.held);
-      under = logged_under meaning g.met.O.Oper.lawful (λ b small v taken sound may. c.every_run_keeps.ensures.from_sound b v taken small sound may) c.last_blind_write_is_alone.ensures now here c.in-Some.name c.in-Some.ensures.some c.in_ok-work.work.items c.in_ok-work.ensures old later before after so_far.under so_far.quiet (omega (arith, c.if-len-le1.false, c.in_ok-work.work.ok.0))
+      under = logged_under meaning g.met.O.Oper.lawful (λ b small v taken sound may. c.every_run_keeps.ensures.from_sound b v taken small sound may) c.last_blind_write_is_alone.ensures now here c.in-Some.name c.in-Some.ensures.some c.in_ok-work.work.items c.in_ok-work.ensures old later before after so_far.under so_far.quiet (omega (arith, c.if-len-le-THIN.false, c.in_ok-work.work.ok.0))
           (takes_same meaning now here (λ m v used. identities m (others m v) v used) later after (λ m v used. identities m (but_longest (cached_length m v) c.as_slice.result.now) v used) Ending.Done c.in_ok-log_others.ensures.takes
           (λ p v shows. ap (λ (l : List ℕ). identities (meaning_in meaning p) (but_longest (cached_length (meaning_in meaning p) v) l) v (used_of here.log.log)) c.as_slice.ensures.value ∙ same_others meaning g.met.O.Oper.lawful (λ b small v taken sound may. c.every_run_keeps.ensures.from_sound b v taken small sound may) c.last_blind_write_is_alone.ensures now here c.in-Some.name c.in-Some.ensures.some c.in_ok-work.work.items c.in_ok-work.ensures p v shows));
     }
@@ -103,7 +103,7 @@ returns-in_err-log_others-clause-takes g c =
     (under_stops meaning old before (λ m w used. install_course m w used) now later here after (λ m whole taken v used. InstallGoesOn m whole taken v used) so_far.under so_far.quiet (λ m v used. identities m (others m v) v used) (Unit {0}) (Unit {0}) e
     (takes_same meaning now here (λ m v used. identities m (others m v) v used) later after (λ m v used. identities m (but_longest (cached_length m v) c.as_slice.result.now) v used) (ending_of {T = Unit {0}} (Err e)) c.in_err-log_others.ensures.takes
     (λ p v shows. ap (λ (l : List ℕ). identities (meaning_in meaning p) (but_longest (cached_length (meaning_in meaning p) v) l) v (used_of here.log.log)) c.as_slice.ensures.value ∙ same_others meaning g.met.O.Oper.lawful (λ b small v taken sound may. c.every_run_keeps.ensures.from_sound b v taken small sound may) c.last_blind_write_is_alone.ensures now here c.in-Some.name c.in-Some.ensures.some c.in_ok-work.work.items c.in_ok-work.ensures p v shows))
-    (λ p v whole taken shows left. logs_next meaning g.met.O.Oper.lawful (λ b small v taken sound may. c.every_run_keeps.ensures.from_sound b v taken small sound may) c.last_blind_write_is_alone.ensures now here c.in-Some.name c.in-Some.ensures.some c.in_ok-work.work.items c.in_ok-work.ensures p v shows whole taken left.0 (omega (arith, c.if-len-le1.false, c.in_ok-work.work.ok.0))))
+    (λ p v whole taken shows left. logs_next meaning g.met.O.Oper.lawful (λ b small v taken sound may. c.every_run_keeps.ensures.from_sound b v taken small sound may) c.last_blind_write_is_alone.ensures now here c.in-Some.name c.in-Some.ensures.some c.in_ok-work.work.items c.in_ok-work.ensures p v shows whole taken left.0 (omega (arith, c.if-len-le-THIN.false, c.in_ok-work.work.ok.0))))
 
 pub returns-in_err-log_others-clause-kept : goal.returns-in_err-log_others-clause-kept
 returns-in_err-log_others-clause-kept g c =
@@ -182,10 +182,10 @@ returns-in_err-ops-clause-takes g c =
     let e = c.in_err-ops.field-0.0 in
     subst (λ (k : Ending). Takes meaning old later before after (λ m w used. install_course m w used) k) (ends_as ℕ c.from_residual-in_err-ops.result e c.from_residual-in_err-ops.ensures.1)
     (under_stops meaning old before (λ m w used. install_course m w used) now later here after (λ m whole taken v used. InstallGoesOn m whole taken v used) so_far.under so_far.quiet (λ m v used. course (finish_steps m v) used Through) ℕ ℕ e c.in_err-ops.ensures.takes
-    (λ p v whole taken shows left. finish_next meaning g.met.O.Oper.lawful (λ b small v taken sound may. c.every_run_keeps.ensures.from_sound b v taken small sound may) c.last_blind_write_is_alone.ensures now here c.in-Some.name c.in-Some.ensures.some c.in_ok-work.work.items c.in_ok-work.ensures p v shows whole taken left.0 (omega (arith, c.if-len-le1.true, c.in_ok-work.work.ok.0))))
+    (λ p v whole taken shows left. finish_next meaning g.met.O.Oper.lawful (λ b small v taken sound may. c.every_run_keeps.ensures.from_sound b v taken small sound may) c.last_blind_write_is_alone.ensures now here c.in-Some.name c.in-Some.ensures.some c.in_ok-work.work.items c.in_ok-work.ensures p v shows whole taken left.0 (omega (arith, c.if-len-le-THIN.true, c.in_ok-work.work.ok.0))))
 
-pub returns-then-len-le1-clause-takes : goal.returns-then-len-le1-clause-takes
-returns-then-len-le1-clause-takes g c =
+pub returns-then-len-le-THIN-clause-takes : goal.returns-then-len-le-THIN-clause-takes
+returns-then-len-le-THIN-clause-takes g c =
     let meaning = g.O.Oper.meaning in
     let old = g.M.Machine.disk c.args.machine.now in
     let now = g.M.Machine.disk c.loop-name.machine in
@@ -195,15 +195,15 @@ returns-then-len-le1-clause-takes g c =
     let later = g.M.Machine.disk c.finish_next.new.machine in
     let after : Parts = parts c.finish_next.new.log c.finish_next.new.objects c.finish_next.new.graph.entries in
     under_ends meaning old before (λ m w used. install_course m w used) later after (λ m whole taken v used. InstallDone c.in_ok-work.work.items m whole taken v used)
-    (finished_under meaning g.met.O.Oper.lawful (λ b small v taken sound may. c.every_run_keeps.ensures.from_sound b v taken small sound may) c.last_blind_write_is_alone.ensures now here c.in-Some.name c.in-Some.ensures.some c.in_ok-work.work.items c.in_ok-work.ensures old later before after so_far.under so_far.quiet (omega (arith, c.if-len-le1.true, c.in_ok-work.work.ok.0)) c.in_ok-ops.ensures.takes)
+    (finished_under meaning g.met.O.Oper.lawful (λ b small v taken sound may. c.every_run_keeps.ensures.from_sound b v taken small sound may) c.last_blind_write_is_alone.ensures now here c.in-Some.name c.in-Some.ensures.some c.in_ok-work.work.items c.in_ok-work.ensures old later before after so_far.under so_far.quiet (omega (arith, c.if-len-le-THIN.true, c.in_ok-work.work.ok.0)) c.in_ok-ops.ensures.takes)
     (λ p v whole taken shows left. left.0)
 
-pub returns-then-len-le1-clause-quiet : goal.returns-then-len-le1-clause-quiet
-returns-then-len-le1-clause-quiet g c =
+pub returns-then-len-le-THIN-clause-quiet : goal.returns-then-len-le-THIN-clause-quiet
+returns-then-len-le-THIN-clause-quiet g c =
     quiet_both (g.M.Machine.disk c.args.machine.now) (g.M.Machine.disk c.loop-name.machine) (g.M.Machine.disk c.finish_next.new.machine) c.loop-name.invariant.quiet c.finish_next.ensures.quiet
 
-pub returns-then-len-le1-clause-kept : goal.returns-then-len-le1-clause-kept
-returns-then-len-le1-clause-kept g c =
+pub returns-then-len-le-THIN-clause-kept : goal.returns-then-len-le-THIN-clause-kept
+returns-then-len-le-THIN-clause-kept g c =
     let meaning = g.O.Oper.meaning in
     let old = g.M.Machine.disk c.args.machine.now in
     let now = g.M.Machine.disk c.loop-name.machine in
@@ -214,8 +214,8 @@ returns-then-len-le1-clause-kept g c =
     let after : Parts = parts c.finish_next.new.log c.finish_next.new.objects c.finish_next.new.graph.entries in
     inr (kept_done old now later before here after so_far.kept c.in_ok-ops.ensures.kept)
 
-pub returns-then-len-le1-clause-numbered : goal.returns-then-len-le1-clause-numbered
-returns-then-len-le1-clause-numbered g c =
+pub returns-then-len-le-THIN-clause-numbered : goal.returns-then-len-le-THIN-clause-numbered
+returns-then-len-le-THIN-clause-numbered g c =
     let meaning = g.O.Oper.meaning in
     let old = g.M.Machine.disk c.args.machine.now in
     let now = g.M.Machine.disk c.loop-name.machine in
@@ -226,8 +226,8 @@ returns-then-len-le1-clause-numbered g c =
     let after : Parts = parts c.finish_next.new.log c.finish_next.new.objects c.finish_next.new.graph.entries in
     numbered_twice before here after so_far.numbered c.finish_next.ensures.numbered
 
-pub returns-then-len-le1-clause-told : goal.returns-then-len-le1-clause-told
-returns-then-len-le1-clause-told g c =
+pub returns-then-len-le-THIN-clause-told : goal.returns-then-len-le-THIN-clause-told
+returns-then-len-le-THIN-clause-told g c =
     let meaning = g.O.Oper.meaning in
     let old = g.M.Machine.disk c.args.machine.now in
     let now = g.M.Machine.disk c.loop-name.machine in
@@ -239,12 +239,12 @@ returns-then-len-le1-clause-told g c =
     let done = c.in_ok-ops.ensures.ops in
     let more = so_far.logged.1 in
     told_done meaning old later before after c.in_ok-work.work.items
-    (finished_under meaning g.met.O.Oper.lawful (λ b small v taken sound may. c.every_run_keeps.ensures.from_sound b v taken small sound may) c.last_blind_write_is_alone.ensures now here c.in-Some.name c.in-Some.ensures.some c.in_ok-work.work.items c.in_ok-work.ensures old later before after so_far.under so_far.quiet (omega (arith, c.if-len-le1.true, c.in_ok-work.work.ok.0)) c.in_ok-ops.ensures.takes)
+    (finished_under meaning g.met.O.Oper.lawful (λ b small v taken sound may. c.every_run_keeps.ensures.from_sound b v taken small sound may) c.last_blind_write_is_alone.ensures now here c.in-Some.name c.in-Some.ensures.some c.in_ok-work.work.items c.in_ok-work.ensures old later before after so_far.under so_far.quiet (omega (arith, c.if-len-le-THIN.true, c.in_ok-work.work.ok.0)) c.in_ok-ops.ensures.takes)
     c.len-held.ensures.rising c.in_ok-ops.ensures.rising c.in_ok-ops.ops c.first_of-flushed.result (c.next.result - c.next-first.result) (c.first_of-flushed.ensures ∙ ap (λ (l : List ℕ). take 1 l) c.as_slice-due.ensures.value)
     (omega (arith, c.next-first.ensures, c.next.ensures, done.1, more.next)) (omega (arith, c.next-first.ensures, c.next.ensures, done.1, more.next, done.2, more.entries))
 
-pub returns-then-len-le1-clause-tells : goal.returns-then-len-le1-clause-tells
-returns-then-len-le1-clause-tells g c =
+pub returns-then-len-le-THIN-clause-tells : goal.returns-then-len-le-THIN-clause-tells
+returns-then-len-le-THIN-clause-tells g c =
     let meaning = g.O.Oper.meaning in
     let old = g.M.Machine.disk c.args.machine.now in
     let now = g.M.Machine.disk c.loop-name.machine in
