@@ -1,4 +1,4 @@
--- Properties that tell one ending, or one answer, from the others: what has one is none that lacks it, whatever else is known.
+-- Properties that tell one ending, or one answer, from the others: a value that has one differs from each that lacks it.
 use Rattle.std.proofs.Common.{ℕ, Option, None, Some}
 use Rattle.std.specs.Prelude.{⊤, Result, Ok, Err}
 use Rattle.cache_manager.specs.Taking.{Ending}

@@ -28,8 +28,9 @@ pub record IsDamagedSince {O : Type 0} (meaning : Bounds → Meaning O) (old : D
   pub two : slot < 2
   pub long : IsLongValue formed.params.cap (slot_place formed.params.cap object slot) (files Objects) place
 
--- All files that agree with what was read fail their first check at this place, or have a length here that is too great, and
--- differ from files that met their format in the objects file alone, which is what a redo finds.
+-- Each of the files that agree with what was read either is damaged at this place, by the first check that fails, or has a
+-- length here that is too great while it differs at most in the objects file from files that met their format. The second is
+-- what a redo finds.
 abbrev pub IsReadAsDamaged : {O : Type 0} → (Bounds → Meaning O) → Disk → Disk → FileNo → ℕ → Type 0
 IsReadAsDamaged meaning old new file place = (files : Files) → new.agrees files → IsDamaged meaning files file place ⊎ IsDamagedSince meaning old files file place
 

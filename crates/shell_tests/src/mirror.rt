@@ -62,9 +62,9 @@ fn ends(alloc: Global, copied_before: bool) -> Result<(Status, bool), AllocError
     Ok((status, machine.is_same()))
 }
 
-// The damage that a restart reports where all that it reads is as in the copy. Whatever the machine is, the copy fails its
-// first check there, or has a length there that is too great, in a slot, and differs in the objects file alone from files
-// that met their format.
+// The damage that a restart reports where all that it reads is as in the copy. Whatever the machine is, the copy is damaged
+// there, by the first check that fails, or has a length there that is too great, in a slot, while it differs at most in the
+// objects file from files that met their format.
 fn damage_of_copy<M: Machine>(alloc: Global, machine: &mut Mirrored<M>) -> Option<(FileNo, u64)>
     ensures { IfSome result (λ it. IsDamaged all_meaning (files_of machine.new.copy) it.0 it.1 ⊎ IsDamagedSince all_meaning (⟦<Mirrored<M> as Machine>⟧.disk machine.old) (files_of machine.new.copy) it.0 it.1) }
 {
