@@ -5,12 +5,12 @@ use Rattle.std.specs.Prelude.{IfSome, filter}
 use Rattle.std.specs.List.{AllByRecursion}
 use Rattle.std.proofs.lemmas.Bool.{cases_Bool, leb-true}
 use Rattle.oper_core.specs.Meaning.{Meaning, IsLawful}
-use Rattle.explain_core.specs.World.{World, Step, step, run, end_of, AreAllowed, new_world}
+use Rattle.explain_core.specs.World.{World, Step, step, run, end_of, AreAllowed}
 use Rattle.explain_core.specs.World.Step.{Begin, End, Append, Block_gate, Check, Slot_gate, Removal, Header_gate, Replay, Crash}
 use Rattle.explain_core.specs.Sound.{IsSound, IsGroup}
 use Rattle.explain_core.specs.Group.{Group, IsUnsplit, with_closed, groups_after, groups_of}
 use Rattle.explain_core.proofs.Groups.{if_some-to}
-use Rattle.explain_core.proofs.Runs.{step_sound, run_sound, new_sound}
+use Rattle.explain_core.proofs.Runs.{step_sound, run_sound}
 
 -- the group is whole in the history, and what is forced does not split it
 pub record IsKept (forced end : ℕ) (g : Group) : Type 0 where
@@ -73,21 +73,21 @@ unfolding run
 kept-run m law w [] groups may sound each = each
 kept-run m law w (s ∷ steps) groups may sound each = kept-run m law (step m w s) steps (groups_after w s groups) may.1 (step_sound m law w s may.0 sound) (kept-step m w s groups sound each)
 
-module _ {O : Type 0} (m : Meaning O) (law : IsLawful m) (steps : List (Step O)) (may : AreAllowed m (new_world O) steps) where
-  abbrev w : World O
-  w = run m (new_world O) steps
+module _ {O : Type 0} (m : Meaning O) (law : IsLawful m) (w : World O) (sound : IsSound m w) (steps : List (Step O)) (may : AreAllowed m w steps) where
+  abbrev now : World O
+  now = run m w steps
 
   abbrev groups : List Group
-  groups = groups_of m (new_world O) [] steps
+  groups = groups_of m w [] steps
 
-  kept : AreKept w groups
-  kept = kept-run m law (new_world O) steps [] may (new_sound m) tt
+  kept : AreKept now groups
+  kept = kept-run m law w steps [] may sound tt
 
-  pub unsplit-open : IfSome w.group (λ begun. w.forced < begun)
-  unsplit-open = if_some-to w.group (IsGroup w.history w.forced) (λ begun. w.forced < begun) (λ begun g. omega (arith, g.stable)) (run_sound m law (new_world O) steps may (new_sound m)).group
+  pub unsplit-open : IfSome now.group (λ begun. now.forced < begun)
+  unsplit-open = if_some-to now.group (IsGroup now.history now.forced) (λ begun. now.forced < begun) (λ begun g. omega (arith, g.stable)) (run_sound m law w steps may sound).group
 
-  pub unsplit-closed : AllByRecursion (IsUnsplit w.forced) groups
-  unsplit-closed = each-to (IsKept w.forced (end_of w)) (IsUnsplit w.forced) (λ g is. is.unsplit) groups kept
+  pub unsplit-closed : AllByRecursion (IsUnsplit now.forced) groups
+  unsplit-closed = each-to (IsKept now.forced (end_of now)) (IsUnsplit now.forced) (λ g is. is.unsplit) groups kept
 
-  pub closed-whole : AllByRecursion (λ g. g.ended ≤ end_of w) groups
-  closed-whole = each-to (IsKept w.forced (end_of w)) (λ g. g.ended ≤ end_of w) (λ g is. is.whole) groups kept
+  pub closed-whole : AllByRecursion (λ g. g.ended ≤ end_of now) groups
+  closed-whole = each-to (IsKept now.forced (end_of now)) (λ g. g.ended ≤ end_of now) (λ g is. is.whole) groups kept

@@ -19,6 +19,7 @@ pub mod GroupRuns
 pub mod TurnRuns
 pub mod CopiedSlots
 pub mod BackupRuns
+pub mod CopyStays
 pub mod Fold
 pub mod Exact
 pub mod ByteCodes

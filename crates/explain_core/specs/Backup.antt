@@ -1,12 +1,12 @@
 -- A copy of the slots, taken object by object while the store goes on.
-use Rattle.std.specs.Prelude.{◌≡◌, ℕ, ◌+◌, ◌-◌, ◌<◌, ◌≤◌, ◌==◌, ◌&&◌, ◌⊎◌, nat_lt, not, Bool, if◌then◌else◌, IsTrue, Some, List, [], drop, take, ⊤}
+use Rattle.std.specs.Prelude.{◌≡◌, ℕ, ◌+◌, ◌-◌, ◌<◌, ◌≤◌, ◌==◌, ◌&&◌, ◌⊎◌, nat_lt, not, Bool, if◌then◌else◌, IsTrue, Some, List, [], ◌∷◌, drop, take, ⊤}
 use Rattle.oper_core.specs.Meaning.{Meaning}
 use Rattle.install_order.specs.Order.{Access}
 use Rattle.install_order.specs.Computed.{some_below}
 use Rattle.explain_core.specs.History.{Member, numbered, accesses_of}
 use Rattle.explain_core.specs.History.Member.{Identity}
 use Rattle.oper_core.specs.Cell.{Cell}
-use Rattle.explain_core.specs.World.{World, Step, Table}
+use Rattle.explain_core.specs.World.{World, Step, Table, step}
 use Rattle.explain_core.specs.World.Step.{Begin, End, Append, Block_gate, Check, Slot_gate, Removal, Header_gate, Replay, Crash}
 use Rattle.explain_core.specs.Stable.{Stable}
 
@@ -52,6 +52,11 @@ MayWhileCopied w copied (Removal node) = ⊤
 MayWhileCopied w copied (Header_gate base) = ⊥
 MayWhileCopied w copied Replay = ⊤
 MayWhileCopied w copied Crash = ⊥
+
+-- the steps of a list may be taken beside the copy, each in its turn
+abbrev pub AreBeside : {O : Type 0} → Meaning O → ℕ → World O → List (Step O) → Type 0
+AreBeside m copied w [] = ⊤
+AreBeside m copied w (s ∷ steps) = MayWhileCopied w copied s × AreBeside m copied (step m w s) steps
 
 -- the next object is copied
 abbrev pub with_next : {O : Type 0} → World O → ℕ → (ℕ → Cell) → ℕ → Cell

@@ -1,12 +1,13 @@
 ghost use Rattle.std.specs.Prelude.{ℕ, ◌+◌, List, [], ◌∷◌, take};
 ghost use Rattle.oper_core.specs.declared.bounds.Bounds.{Bounds};
+ghost use Rattle.oper_core.specs.Meaning.{IsSmall};
 ghost use Rattle.explain_core.specs.History.{accesses_of, value_at};
 ghost use Rattle.oper_core.specs.Cell.{Cell};
 ghost use Rattle.explain_core.specs.Explains.{Explains};
-ghost use Rattle.explain_core.specs.World.{World, Step, step, IsAllowed, plan_of};
+ghost use Rattle.explain_core.specs.World.{World, Step, step, run, IsAllowed, AreAllowed, plan_of};
 ghost use Rattle.explain_core.specs.Sound.{IsSound};
 ghost use Rattle.explain_core.specs.Stable.{IsStableOf};
-ghost use Rattle.explain_core.specs.Backup.{IsCopied, MayWhileCopied, with_next, backup_of, installed_in_copy, copy_of};
+ghost use Rattle.explain_core.specs.Backup.{AreBeside, IsCopied, MayWhileCopied, with_next, backup_of, installed_in_copy, copy_of};
 
 use oper_core::Oper;
 
@@ -40,3 +41,20 @@ pub fn copy_stands<O: Oper>()
         IsStableOf (O.meaning b) (copy_of w copied cells (plan_of [] w.base ∷ [])) (take w.forced w.history)
         (installed_in_copy (O.meaning b) w copied cells) }
 {}
+
+/// The cells that were copied stay a copy under every list of steps that may be taken beside it, and meanwhile they are
+/// explained, with the live slots of the objects that are not copied yet.
+pub fn copy_stays<O: Oper>()
+    ensures steps { (b : Bounds) (copied : ℕ) (cells : ℕ → Cell) (w : World O) (steps : List (Step O)) → IsSmall b →
+        IsSound (O.meaning b) w → IsCopied (O.meaning b) w copied cells → AreAllowed (O.meaning b) w steps → AreBeside (O.meaning b) copied w steps →
+        IsCopied (O.meaning b) (run (O.meaning b) w steps) copied cells }
+    ensures explained { (b : Bounds) (copied : ℕ) (cells : ℕ → Cell) (w : World O) (steps : List (Step O)) → IsSmall b →
+        IsSound (O.meaning b) w → IsCopied (O.meaning b) w copied cells → AreAllowed (O.meaning b) w steps → AreBeside (O.meaning b) copied w steps →
+        Explains (accesses_of (O.meaning b) (take (run (O.meaning b) w steps).forced (run (O.meaning b) w steps).history))
+        (value_at (O.meaning b) (take (run (O.meaning b) w steps).forced (run (O.meaning b) w steps).history))
+        (installed_in_copy (O.meaning b) (run (O.meaning b) w steps) copied cells) (backup_of copied cells (run (O.meaning b) w steps).slots) }
+{
+    copying_goes_on::<O>();
+    copy_stands::<O>();
+    crate::every_run_keeps::<O>();
+}

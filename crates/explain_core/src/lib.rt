@@ -13,7 +13,7 @@ mod recovery;
 mod steps;
 mod worked;
 
-pub use backup::{copy_stands, copying_goes_on};
+pub use backup::{copy_stands, copy_stays, copying_goes_on};
 pub use byte_op::ByteOp;
 pub use flush_order::{
     exactly_no_edge, graph_is_within, minimal_nodes_are_whole, some_node_is_minimal,

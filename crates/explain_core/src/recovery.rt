@@ -3,7 +3,7 @@ ghost use Rattle.std.specs.List.{AllByRecursion};
 ghost use Rattle.oper_core.specs.Meaning.{IsSmall, AreWithin, state_after};
 ghost use Rattle.oper_core.specs.declared.bounds.Bounds.{Bounds};
 ghost use Rattle.explain_core.specs.History.{Member, IsHistory, commands_of, value_at};
-ghost use Rattle.explain_core.specs.World.{World, Step, step, run, AreAllowed, IsLive, IsAllStable, new_world, end_of, redo_of};
+ghost use Rattle.explain_core.specs.World.{World, Step, step, run, AreAllowed, IsLive, IsAllStable, end_of, redo_of};
 ghost use Rattle.explain_core.specs.World.Step.{Crash};
 ghost use Rattle.explain_core.specs.Sound.{IsSound};
 ghost use Rattle.explain_core.specs.Group.{IsUnsplit, groups_of};
@@ -79,21 +79,18 @@ pub fn wider_bounds_keep_stable_parts<O: Oper>()
         AreWithin b c → IsStableOf (O.meaning b) parts h installed → IsStableOf (O.meaning c) parts h installed }
 {}
 
-/// In every run from a new store, what is forced splits no group: none of the open one is forced, and of a closed one all
-/// is or none. A closed group is whole, after a crash too.
+/// In every run from a sound world, a new one or one that a restart finds, what is forced splits no group that the run opens:
+/// none of the open one is forced, and of a closed one all is or none. A closed group is whole, after a crash too.
 pub fn forced_splits_no_group<O: Oper>()
-    ensures opened { (b : Bounds) (steps : List (Step O)) → IsSmall b →
-        AreAllowed (O.meaning b) (new_world O) steps →
-        IfSome (run (O.meaning b) (new_world O) steps).group
-        (λ begun. (run (O.meaning b) (new_world O) steps).forced < begun) }
-    ensures closed { (b : Bounds) (steps : List (Step O)) → IsSmall b →
-        AreAllowed (O.meaning b) (new_world O) steps →
-        AllByRecursion (IsUnsplit (run (O.meaning b) (new_world O) steps).forced)
-        (groups_of (O.meaning b) (new_world O) [] steps) }
-    ensures whole { (b : Bounds) (steps : List (Step O)) → IsSmall b →
-        AreAllowed (O.meaning b) (new_world O) steps →
-        AllByRecursion (λ g. g.ended ≤ end_of (run (O.meaning b) (new_world O) steps))
-        (groups_of (O.meaning b) (new_world O) [] steps) }
+    ensures opened { (b : Bounds) (w : World O) (steps : List (Step O)) → IsSmall b → IsSound (O.meaning b) w →
+        AreAllowed (O.meaning b) w steps →
+        IfSome (run (O.meaning b) w steps).group (λ begun. (run (O.meaning b) w steps).forced < begun) }
+    ensures closed { (b : Bounds) (w : World O) (steps : List (Step O)) → IsSmall b → IsSound (O.meaning b) w →
+        AreAllowed (O.meaning b) w steps →
+        AllByRecursion (IsUnsplit (run (O.meaning b) w steps).forced) (groups_of (O.meaning b) w [] steps) }
+    ensures whole { (b : Bounds) (w : World O) (steps : List (Step O)) → IsSmall b → IsSound (O.meaning b) w →
+        AreAllowed (O.meaning b) w steps →
+        AllByRecursion (λ g. g.ended ≤ end_of (run (O.meaning b) w steps)) (groups_of (O.meaning b) w [] steps) }
 {}
 
 /// A crash takes an open group away whole: what is left is the history before it began. Each of its members is a command.

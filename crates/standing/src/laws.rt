@@ -1,8 +1,9 @@
-ghost use Rattle.std.specs.Prelude.{◌≡◌, ◌<◌, ◌≤◌, ◌+◌, ℕ, Bool, IsTrue, IsFalse, List, [], length, take};
+ghost use Rattle.std.specs.Prelude.{◌≡◌, ◌<◌, ◌≤◌, ◌+◌, ◌⊎◌, ℕ, Bool, IsTrue, IsFalse, List, [], ◌∷◌, length, take};
 ghost use Rattle.std.specs.List.{AllByRecursion};
 ghost use Rattle.disk_model.specs.Disk.{Files};
 ghost use Rattle.disk_model.specs.declared.machine.FileNo.{FileNo};
 ghost use Rattle.disk_model.specs.declared.machine.FileNo.TheVariants.{Objects};
+ghost use Rattle.oper_core.specs.Cell.{Cell};
 ghost use Rattle.oper_core.specs.Meaning.{AreWithin, state_after};
 ghost use Rattle.formats.specs.Bytes.{IsOpenAt};
 ghost use Rattle.formats.specs.Image.{IsFault};
@@ -11,10 +12,11 @@ ghost use Rattle.formats.specs.declared.params.Params.{Params};
 ghost use Rattle.log_frames.specs.Creating.{IsNewLog};
 ghost use Rattle.stable_objects.specs.Making.{IsNewFile};
 ghost use Rattle.install_order.specs.Order.{Access};
+ghost use Rattle.explain_core.specs.Backup.{IsCopied, copy_of};
 ghost use Rattle.explain_core.specs.History.{commands_of};
 ghost use Rattle.explain_core.specs.Sound.{IsSound, SkipsNothing};
 ghost use Rattle.explain_core.specs.Stable.{Stable};
-ghost use Rattle.explain_core.specs.World.{World, Step, step, new_world};
+ghost use Rattle.explain_core.specs.World.{World, Step, Table, step, new_world, plan_of};
 ghost use Rattle.standing.specs.Shown.{next_held, commands_held, IsUnseen};
 ghost use Rattle.standing.specs.Standing.{HoldsStable, FilesShow, StandsFor, IsFound};
 
@@ -109,3 +111,15 @@ pub fn checks_of_a_log_fit<O: Oper>()
         AllByRecursion (λ t. (n x : ℕ) → IsFalse (installed n) → IsTrue (a.writes n x) → t.redo_from x ≤ n) parts.tables →
         AllByRecursion (SkipsNothing a installed parts.base (parts.base + length parts.records)) parts.tables }
 {}
+
+/// Files that hold the copied cells, the live slots of the others, and the live log without its checks, or with one that asks
+/// for all records, stand for the commands that are stable in the live store.
+pub fn a_copy_stands<O: Oper>()
+    ensures { (p : Params) (files : Files) (w : World O) (copied : ℕ) (cells : ℕ → Cell) (tables : List Table) →
+        IsSound (O.meaning (bounds_of p)) w → IsCopied (O.meaning (bounds_of p)) w copied cells →
+        (tables ≡ []) ⊎ (tables ≡ plan_of [] w.base ∷ []) →
+        HoldsStable (O.meaning (bounds_of p)) p files (copy_of w copied cells tables) →
+        StandsFor O.meaning p files (commands_of (take w.forced w.history)) }
+{
+    explain_core::copy_stands::<O>();
+}

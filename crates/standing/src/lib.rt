@@ -11,9 +11,9 @@ mod laws;
 mod worked;
 
 pub use laws::{
-    checks_of_a_log_fit, files_hold_one_store, files_show_a_world, files_stand_for_one_state,
-    image_stands, new_files_stand_for_nothing, same_parts_stand_for_the_same,
-    standing_files_have_no_fault, unseen_steps_change_nothing,
+    a_copy_stands, checks_of_a_log_fit, files_hold_one_store, files_show_a_world,
+    files_stand_for_one_state, image_stands, new_files_stand_for_nothing,
+    same_parts_stand_for_the_same, standing_files_have_no_fault, unseen_steps_change_nothing,
 };
 pub use worked::{
     a_new_store_stands_for_nothing, a_rewritten_log_stands_for_the_same,
