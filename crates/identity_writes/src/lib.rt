@@ -11,5 +11,5 @@ mod thinning;
 mod thinning_plan;
 
 pub use object_list::ObjectList;
-pub use thinning::plan;
+pub use thinning::{plan, plan_beside};
 pub use thinning_plan::Plan;

@@ -1,5 +1,5 @@
 // Which objects of a node are logged by identity writes, and which one is kept.
-use identity_writes::{ObjectList, plan};
+use identity_writes::{ObjectList, plan, plan_beside};
 use std::alloc::Global;
 use std::test::Fail;
 
@@ -28,6 +28,40 @@ fn the_longest_is_kept(rt: HostRuntime) -> Result<(), Fail> {
         ),
     ] {
         let found = plan(rt.alloc(), objects, lengths)?;
+        assert_eq!(rt; found.keep, keep);
+        assert_eq!(rt; found.log.as_slice(), log);
+    }
+    Ok(())
+}
+
+#[test]
+fn one_that_is_not_copied_is_kept(rt: HostRuntime) -> Result<(), Fail> {
+    for (objects, lengths, copied, keep, log) in [
+        ([].as_slice(), [].as_slice(), 3, None, [].as_slice()),
+        (
+            [0, 1, 2].as_slice(),
+            [5, 3, 3].as_slice(),
+            1,
+            Some(1),
+            [0, 2].as_slice(),
+        ),
+        (
+            [1, 4, 9].as_slice(),
+            [9, 2, 5].as_slice(),
+            2,
+            Some(9),
+            [1, 4].as_slice(),
+        ),
+        (
+            [0, 1].as_slice(),
+            [1, 1].as_slice(),
+            2,
+            None,
+            [0, 1].as_slice(),
+        ),
+        ([3].as_slice(), [7].as_slice(), 4, None, [3].as_slice()),
+    ] {
+        let found = plan_beside(rt.alloc(), objects, lengths, copied)?;
         assert_eq!(rt; found.keep, keep);
         assert_eq!(rt; found.log.as_slice(), log);
     }
