@@ -35,8 +35,8 @@ use Rattle.cache_manager.proofs.Under.{AreUnder, ComesNext, under_next}
 use Rattle.cache_manager.proofs.WorkOf.{AreAlone}
 
 -- installs are left, and so many nodes are removed so far; in the end nothing is left
-abbrev pub DrainGoesOn : {O : Type 0} → ℕ → Meaning O → Course O → List (Step O) → World O → ℕ → Type 0
-DrainGoesOn count m whole taken w used = InstallsLeft m whole taken w used × (removals taken ≡ count)
+abbrev pub DrainGoesOn : {O : Type 0} → ℕ → Meaning O → ℕ → Course O → List (Step O) → World O → ℕ → Type 0
+DrainGoesOn count m copied whole taken w used = InstallsLeft m copied whole taken w used × (removals taken ≡ count)
 
 abbrev pub DrainDone : {O : Type 0} → ℕ → Meaning O → Course O → List (Step O) → World O → ℕ → Type 0
 DrainDone count m whole taken w used = IsLeft whole taken (course [] used Through) × (removals taken ≡ count)
@@ -45,13 +45,13 @@ some_entry : (entries : List Entry) → (entries ≡ [] → ⊥) → (n : ℕ) �
 some_entry [] some = absurd (some refl)
 some_entry (e ∷ entries) some = (e.number, or_left (e.number == e.number) (is_among e.number (numbers entries)) (eq-eqb e.number e.number refl))
 
-module _ {O : Type 0} (meaning : Bounds → Meaning O) (lawful : (b : Bounds) → IsSmall b → IsLawful (meaning b)) (keep : (b : Bounds) → IsSmall b → KeepsSound (meaning b)) (alone : AreAlone) where
+module _ {O : Type 0} (meaning : Bounds → Meaning O) (lawful : (b : Bounds) → IsSmall b → IsLawful (meaning b)) (keep : (b : Bounds) → IsSmall b → KeepsSound (meaning b)) (alone : AreAlone) (copied : ℕ) where
   pub drain_left : (d : Disk) (before : Parts) (p : Params) (w : World O) → Shows (meaning_in meaning p) p d before w
-      → DrainGoesOn 0 (meaning_in meaning p) (drain_course (meaning_in meaning p) w (used_of before.log.log)) [] w (used_of before.log.log)
+      → DrainGoesOn 0 (meaning_in meaning p) copied (drain_course (meaning_in meaning p) copied w (used_of before.log.log)) [] w (used_of before.log.log)
   drain_left d before p w shows =
       let m = meaning_in meaning p in
       let small = store_small m p (d.reads Objects) before.store w shows.store in
-      (drain_begins m (lawful (bounds_of p) small) (keep (bounds_of p) small) alone w (used_of before.log.log) shows.running, refl)
+      (drain_begins m copied (lawful (bounds_of p) small) (keep (bounds_of p) small) alone w (used_of before.log.log) shows.running, refl)
 
   module _ (now : Disk) (here : Parts) where
     module _ (p : Params) (v : World O) (shows : Shows (meaning_in meaning p) p now here v) where
@@ -62,7 +62,7 @@ module _ {O : Type 0} (meaning : Bounds → Meaning O) (lawful : (b : Bounds) �
       used = used_of here.log.log
 
       abbrev one : Course O
-      one = install_course m v used
+      one = install_course m copied v used
 
       small : IsSmall (bounds_of p)
       small = store_small m p (now.reads Objects) here.store v shows.store
@@ -73,33 +73,33 @@ module _ {O : Type 0} (meaning : Bounds → Meaning O) (lawful : (b : Bounds) �
           some_members m v here.store.entries shows.store.members (lawful (bounds_of p) small) shows.running.sound e.0 e.1
 
       nothing_one : IsFalse (has_members m v) → one ≡ course [] used Through
-      nothing_one none = cond-false (has_members m v) (rounds m m.objects v used) (course [] used Through) none
+      nothing_one none = cond-false (has_members m v) (rounds m copied m.objects v used) (course [] used Through) none
 
-      module _ (c : Course O) (taken : List (Step O)) (left : InstallsLeft m c taken v used) where
+      module _ (c : Course O) (taken : List (Step O)) (left : InstallsLeft m copied c taken v used) where
         -- the graph has no member
         last_left : IsFalse (has_members m v) → IsLeft c (taken ++ one.steps) (course [] one.used Through)
         last_left none =
             subst (λ (k : Course O). IsLeft c (taken ++ k.steps) (course [] k.used Through)) (sym (nothing_one none))
-            (subst (λ (l : List (Step O)). IsLeft c l (course [] used Through)) (sym (append-nil taken)) (drain_last m (lawful (bounds_of p) small) (keep (bounds_of p) small) alone c taken v used left none))
+            (subst (λ (l : List (Step O)). IsLeft c l (course [] used Through)) (sym (append-nil taken)) (drain_last m copied (lawful (bounds_of p) small) (keep (bounds_of p) small) alone c taken v used left none))
 
         pub install_next_is : ComesNext c taken one
         install_next_is = record {
           on = λ through. elim (cases_Bool (has_members m v)) [
-            | inl some ↦ let r = drain_next m (lawful (bounds_of p) small) (keep (bounds_of p) small) alone c taken v used left some through in (_, r.left)
+            | inl some ↦ let r = drain_next m copied (lawful (bounds_of p) small) (keep (bounds_of p) small) alone c taken v used left some through in (_, r.left)
             | inr none ↦ (_, last_left none)
           ];
           ends = λ stopped. elim (cases_Bool (has_members m v)) [
-            | inl some ↦ drain_stopped m (lawful (bounds_of p) small) (keep (bounds_of p) small) alone c taken v used left some stopped
+            | inl some ↦ drain_stopped m copied (lawful (bounds_of p) small) (keep (bounds_of p) small) alone c taken v used left some stopped
             | inr none ↦ absurd (both_ways _ stopped (ap (λ (k : Course O). is_through k.stop) (nothing_one none)))
           ];
         }
 
         module _ (count : ℕ) (removed : removals taken ≡ count) where
-          pub next_left : (here.store.entries ≡ [] → ⊥) → one.stop ≡ Through → DrainGoesOn (count + 1) m c (taken ++ one.steps) (run m v one.steps) one.used
+          pub next_left : (here.store.entries ≡ [] → ⊥) → one.stop ≡ Through → DrainGoesOn (count + 1) m copied c (taken ++ one.steps) (run m v one.steps) one.used
           next_left some through =
               let held = has_some some in (
-                drain_next m (lawful (bounds_of p) small) (keep (bounds_of p) small) alone c taken v used left held through,
-                omega (arith, removals-append taken one.steps, install_removes_one m v used held through, removed),
+                drain_next m copied (lawful (bounds_of p) small) (keep (bounds_of p) small) alone c taken v used left held through,
+                omega (arith, removals-append taken one.steps, install_removes_one m copied v used held through, removed),
               )
 
           pub last_done : here.store.entries ≡ [] → DrainDone count m c (taken ++ one.steps) (run m v one.steps) one.used
@@ -110,23 +110,23 @@ module _ {O : Type 0} (meaning : Bounds → Meaning O) (lawful : (b : Bounds) �
 
     -- a call of the drain is done: a node was installed, or there was none
     module _ (old later : Disk) (before after : Parts) (count : ℕ)
-        (under : AreUnder meaning old now before here (λ m w used. drain_course m w used) (λ m whole taken v used. DrainGoesOn count m whole taken v used)) (quiet : IsQuiet old now)
-        (takes : Takes meaning now later here after (λ m v used. install_course m v used) Ending.Done) where
-      pub installed_under : (here.store.entries ≡ [] → ⊥) → AreUnder meaning old later before after (λ m w used. drain_course m w used) (λ m whole taken v used. DrainGoesOn (count + 1) m whole taken v used)
-      installed_under some = under_next meaning old before (λ m w used. drain_course m w used) now later here after (λ m whole taken v used. DrainGoesOn count m whole taken v used) under quiet
-          (λ m v used. install_course m v used) (λ m whole taken v used. DrainGoesOn (count + 1) m whole taken v used) takes
+        (under : AreUnder meaning old now before here (λ m w used. drain_course m copied w used) (λ m whole taken v used. DrainGoesOn count m copied whole taken v used)) (quiet : IsQuiet old now)
+        (takes : Takes meaning now later here after (λ m v used. install_course m copied v used) Ending.Done) where
+      pub installed_under : (here.store.entries ≡ [] → ⊥) → AreUnder meaning old later before after (λ m w used. drain_course m copied w used) (λ m whole taken v used. DrainGoesOn (count + 1) m copied whole taken v used)
+      installed_under some = under_next meaning old before (λ m w used. drain_course m copied w used) now later here after (λ m whole taken v used. DrainGoesOn count m copied whole taken v used) under quiet
+          (λ m v used. install_course m copied v used) (λ m whole taken v used. DrainGoesOn (count + 1) m copied whole taken v used) takes
           (λ p v whole taken shows left through. next_left p v shows whole taken left.0 count left.1 some through)
 
-      pub drained_under : here.store.entries ≡ [] → AreUnder meaning old later before after (λ m w used. drain_course m w used) (λ m whole taken v used. DrainDone count m whole taken v used)
-      drained_under empty = under_next meaning old before (λ m w used. drain_course m w used) now later here after (λ m whole taken v used. DrainGoesOn count m whole taken v used) under quiet
-          (λ m v used. install_course m v used) (λ m whole taken v used. DrainDone count m whole taken v used) takes
+      pub drained_under : here.store.entries ≡ [] → AreUnder meaning old later before after (λ m w used. drain_course m copied w used) (λ m whole taken v used. DrainDone count m whole taken v used)
+      drained_under empty = under_next meaning old before (λ m w used. drain_course m copied w used) now later here after (λ m whole taken v used. DrainGoesOn count m copied whole taken v used) under quiet
+          (λ m v used. install_course m copied v used) (λ m whole taken v used. DrainDone count m whole taken v used) takes
           (λ p v whole taken shows left through. last_done p v shows whole taken left.0 count left.1 empty)
 
   -- what the whole drain removed, and what is dirty after it
   module _ (old new : Disk) (before after : Parts) (count : ℕ)
-      (under : AreUnder meaning old new before after (λ m w used. drain_course m w used) (λ m whole taken v used. DrainDone count m whole taken v used)) (p : Params) (w : World O)
+      (under : AreUnder meaning old new before after (λ m w used. drain_course m copied w used) (λ m whole taken v used. DrainDone count m whole taken v used)) (p : Params) (w : World O)
       (shows : Shows (meaning_in meaning p) p old before w) where
-    pub drained_count : count ≡ removals (drain_course (meaning_in meaning p) w (used_of before.log.log)).steps
+    pub drained_count : count ≡ removals (drain_course (meaning_in meaning p) copied w (used_of before.log.log)).steps
     drained_count =
         let u = under p w shows in
         sym u.left.1 ∙ sym (ap (λ (c : Course O). removals c.steps) u.left.0 ∙ ap (λ (l : List (Step O)). removals l) (append-nil u.taken))

@@ -141,15 +141,15 @@ module _ {O : Type 0} (m : Meaning O) where
         let old = each y (or_right (y == x) (is_among y objects) there) in
         (old.0, logged.others y (λ same. both_ways _ apart.0 (subst (λ (z : ℕ). IsTrue (is_among z objects)) same there)) ∙ old.1)))
 
-    -- all but the longest of two objects or more are fewer than may be logged
-    pub fewer_others : (w : World O) (used : ℕ) (due : List ℕ) → IsRunning m w → AreApart due → 1 ≤ length due → ((y : ℕ) → IsTrue (is_among y due) → (y < m.objects) × IsTrue (is_plain w y))
-        → IsFewer m w (identities m (but_longest (cached_length m w) due) w used).steps
-    fewer_others w used due is apart some each =
-        let kept = one_kept (cached_length m w) due some in
-        let logging = identities m (but_longest (cached_length m w) due) w used in
-        let within : (y : ℕ) → IsTrue (is_among y (logged_in logging.steps)) → IsTrue (is_among y (but_longest (cached_length m w) due)) =
-        of_identities (λ y. IsTrue (is_among y (but_longest (cached_length m w) due))) (but_longest (cached_length m w) due) w used (λ y there. there) in
-        let tally = tally_identities (but_longest (cached_length m w) due) w used is (but_longest_apart (cached_length m w) due apart) (λ y there. each y (but_longest_among (cached_length m w) due y there)) in
+    -- where nothing is copied, all but the longest are fewer than may be logged
+    pub fewer_others : (copied : ℕ) (w : World O) (used : ℕ) (due : List ℕ) → copied ≡ 0 → IsRunning m w → AreApart due → 1 ≤ length due → ((y : ℕ) → IsTrue (is_among y due) → (y < m.objects) × IsTrue (is_plain w y))
+        → IsFewer m w (identities m (but_longest copied (cached_length m w) due) w used).steps
+    fewer_others copied w used due none is apart some each =
+        let kept = one_kept copied (cached_length m w) due none some in
+        let logging = identities m (but_longest copied (cached_length m w) due) w used in
+        let within : (y : ℕ) → IsTrue (is_among y (logged_in logging.steps)) → IsTrue (is_among y (but_longest copied (cached_length m w) due)) =
+        of_identities (λ y. IsTrue (is_among y (but_longest copied (cached_length m w) due))) (but_longest copied (cached_length m w) due) w used (λ y there. there) in
+        let tally = tally_identities (but_longest copied (cached_length m w) due) w used is (but_longest_apart copied (cached_length m w) due apart) (λ y there. each y (but_longest_among copied (cached_length m w) due y there)) in
         let count = counted_apart m.objects (kept.0 ∷ logged_in logging.steps) (λ z. false) (is_plain w)
         (false_from_ne_true _ (λ there. both_ways _ kept.2 (within kept.0 there)), tally.apart)
         (λ z no. absurd (both_ways _ refl no))

@@ -15,6 +15,7 @@ pub mod ThinNodes
 pub mod ThinWorlds
 pub mod Tally
 pub mod FewLogged
+pub mod Copying
 pub mod InstallsLog
 pub mod Removals
 pub mod Loops
@@ -28,6 +29,7 @@ pub mod Keeping
 pub mod Balance
 pub mod Under
 pub mod NextWork
+pub mod Besides
 pub mod RoundsTaken
 pub mod Telling
 pub mod DrainTaken

@@ -1,10 +1,11 @@
 -- Objects of a list: apart from each other, in a filtered list, below a bound.
-use Rattle.std.proofs.Common.{◌≡◌, ◌∙◌, sym, subst, ap, ℕ, zero, suc, ◌+◌, ◌<◌, ◌≤◌, Bool, false, List, [], ◌∷◌, length, refl, arith, inl, inr}
-use Rattle.std.specs.Prelude.{⊤, ◌==◌, not, IsTrue, IsFalse, nat_lt}
+use Rattle.std.proofs.Common.{◌≡◌, ◌∙◌, sym, subst, ap, ℕ, zero, suc, ◌+◌, ◌<◌, ◌≤◌, Bool, false, List, [], ◌∷◌, length, refl, arith, inl, inr, Option, None, Some}
+use Rattle.std.specs.Prelude.{⊤, ◌==◌, not, IsTrue, IsFalse, nat_lt, nat_le, is_some}
 use Rattle.std.specs.List.{filter}
-use Rattle.std.proofs.lemmas.Bool.{cases_Bool, cases_eq, both_ways, or_cases, or_left, or_right, eq-eqb, ne_eqb, eqb-true, not-true, not_from_false, false_from_ne_true, cond-true, cond-false}
+use Rattle.std.proofs.lemmas.Bool.{cases_Bool, cases_eq, both_ways, or_cases, or_left, or_right, eq-eqb, ne_eqb, eqb-true, not-true, not_from_false, false_from_ne_true, cond-true, cond-false, leb-true, le-leb}
 use Rattle.oper_core.specs.State.{is_among}
-use Rattle.cache_manager.specs.Courses.{counted, longest, but_longest}
+use Rattle.identity_writes.specs.Plan.{but_kept}
+use Rattle.cache_manager.specs.Courses.{counted, longest, longest_of, not_copied, but_longest}
 
 -- each object of the list stands in it once
 abbrev pub AreApart : List ℕ → Type 0
@@ -72,26 +73,6 @@ other_among x y z xs apart = elim (cases_eq x z) [
   | inr other ↦ (x, or_left (x == x) (is_among x (y ∷ xs)) (eq-eqb x x refl), other)
 ]
 
--- what is left of the objects without the longest
-pub but_longest_among : (lengths : ℕ → ℕ) (xs : List ℕ) (y : ℕ) → IsTrue (is_among y (but_longest lengths xs)) → IsTrue (is_among y xs)
-but_longest_among lengths [] y there = there
-but_longest_among lengths (x ∷ xs) y there = (among_filter (λ y. not (y == longest lengths x xs)) (x ∷ xs) y there).0
-
-pub but_longest_apart : (lengths : ℕ → ℕ) (xs : List ℕ) → AreApart xs → AreApart (but_longest lengths xs)
-but_longest_apart lengths [] apart = tt
-but_longest_apart lengths (x ∷ xs) apart = apart_filter (λ y. not (y == longest lengths x xs)) (x ∷ xs) apart
-
-some_among : (u : ℕ) (xs : List ℕ) → IsTrue (is_among u xs) → 1 ≤ length xs
-some_among u [] there = absurd (both_ways _ refl there)
-some_among u (x ∷ xs) there = omega arith
-
--- of two or more at least one is logged
-pub but_longest_some : (lengths : ℕ → ℕ) (x y : ℕ) (xs : List ℕ) → AreApart (x ∷ y ∷ xs) → 1 ≤ length (but_longest lengths (x ∷ y ∷ xs))
-but_longest_some lengths x y xs apart =
-    let keep = longest lengths x (y ∷ xs) in
-    let u = other_among x y keep xs apart in
-    some_among u.0 (but_longest lengths (x ∷ y ∷ xs)) (filter_among (λ z. not (z == keep)) (x ∷ y ∷ xs) u.0 u.1 (not_from_false _ (ne_eqb u.0 keep u.2)))
-
 pub longest_among : (lengths : ℕ → ℕ) (x : ℕ) (xs : List ℕ) → IsTrue (is_among (longest lengths x xs) (x ∷ xs))
 longest_among lengths x [] = or_left (x == x) false (eq-eqb x x refl)
 longest_among lengths x (y ∷ xs) = elim (cases_Bool (nat_lt (lengths x) (lengths y))) [
@@ -106,12 +87,75 @@ longest_among lengths x (y ∷ xs) = elim (cases_Bool (nat_lt (lengths x) (lengt
       ])
 ]
 
--- one of the objects is kept
-pub one_kept : (lengths : ℕ → ℕ) (xs : List ℕ) → 1 ≤ length xs → (x : ℕ) × IsTrue (is_among x xs) × IsFalse (is_among x (but_longest lengths xs))
-one_kept lengths [] some = absurd (omega (arith, some))
-one_kept lengths (x ∷ xs) some =
-    let keep = longest lengths x xs in (
-      keep,
-      longest_among lengths x xs,
-      false_from_ne_true _ (λ there. both_ways _ (not-true _ (among_filter (λ y. not (y == keep)) (x ∷ xs) keep there).1) (eq-eqb keep keep refl)),
-    )
+pub longest_of_among : (lengths : ℕ → ℕ) (xs : List ℕ) (k : ℕ) → longest_of lengths xs ≡ Some k → IsTrue (is_among k xs)
+longest_of_among lengths [] k is = absurd (both_ways (is_some {T = ℕ} None) refl (ap (λ (o : Option ℕ). is_some o) is))
+longest_of_among lengths (x ∷ xs) k is = subst (λ (z : ℕ). IsTrue (is_among z (x ∷ xs))) (same_some (longest lengths x xs) k is) (longest_among lengths x xs)
+  where
+    same_some : (a b : ℕ) → Some a ≡ Some b → a ≡ b
+    same_some a b e = ap (λ (o : Option ℕ). value a o) e
+      where
+        value : ℕ → Option ℕ → ℕ
+        value d None = d
+        value d (Some v) = v
+
+-- what is left of objects without one that is kept, if one is
+kept_among : (o : Option ℕ) (xs : List ℕ) (y : ℕ) → IsTrue (is_among y (but_kept o xs)) → IsTrue (is_among y xs)
+kept_among None xs y there = there
+kept_among (Some k) xs y there = (among_filter (λ z. not (z == k)) xs y there).0
+
+kept_apart : (o : Option ℕ) (xs : List ℕ) → AreApart xs → AreApart (but_kept o xs)
+kept_apart None xs apart = apart
+kept_apart (Some k) xs apart = apart_filter (λ z. not (z == k)) xs apart
+
+left_among : (o : Option ℕ) (xs : List ℕ) (y : ℕ) → IsTrue (is_among y xs) → ((k : ℕ) → o ≡ Some k → y ≡ k → ⊥) → IsTrue (is_among y (but_kept o xs))
+left_among None xs y there other = there
+left_among (Some k) xs y there other = filter_among (λ z. not (z == k)) xs y there (not_from_false _ (ne_eqb y k (other k refl)))
+
+pub but_longest_among : (copied : ℕ) (lengths : ℕ → ℕ) (xs : List ℕ) (y : ℕ) → IsTrue (is_among y (but_longest copied lengths xs)) → IsTrue (is_among y xs)
+but_longest_among copied lengths xs y there = kept_among (longest_of lengths (not_copied copied xs)) xs y there
+
+pub but_longest_apart : (copied : ℕ) (lengths : ℕ → ℕ) (xs : List ℕ) → AreApart xs → AreApart (but_longest copied lengths xs)
+but_longest_apart copied lengths xs apart = kept_apart (longest_of lengths (not_copied copied xs)) xs apart
+
+pub some_among : (u : ℕ) (xs : List ℕ) → IsTrue (is_among u xs) → 1 ≤ length xs
+some_among u [] there = absurd (both_ways _ refl there)
+some_among u (x ∷ xs) there = omega arith
+
+-- a copied object is not kept
+pub copied_left : (copied : ℕ) (lengths : ℕ → ℕ) (xs : List ℕ) (y : ℕ) → IsTrue (is_among y xs) → y < copied → IsTrue (is_among y (but_longest copied lengths xs))
+copied_left copied lengths xs y there low = left_among (longest_of lengths (not_copied copied xs)) xs y there (λ k kept same.
+    let held = among_filter (λ x. nat_le copied x) xs k (longest_of_among lengths (not_copied copied xs) k kept) in
+    absurd (omega (arith, low, same, leb-true copied k held.1)))
+
+-- of two or more at least one is logged
+pub but_longest_some : (copied : ℕ) (lengths : ℕ → ℕ) (x y : ℕ) (xs : List ℕ) → AreApart (x ∷ y ∷ xs) → 1 ≤ length (but_longest copied lengths (x ∷ y ∷ xs))
+but_longest_some copied lengths x y xs apart = kept (longest_of lengths (not_copied copied (x ∷ y ∷ xs)))
+  where
+    kept : (o : Option ℕ) → 1 ≤ length (but_kept o (x ∷ y ∷ xs))
+    kept None = omega arith
+    kept (Some k) =
+        let u = other_among x y k xs apart in
+        some_among u.0 (but_kept (Some k) (x ∷ y ∷ xs)) (filter_among (λ z. not (z == k)) (x ∷ y ∷ xs) u.0 u.1 (not_from_false _ (ne_eqb u.0 k u.2)))
+
+-- and so it is where one is copied
+pub copied_some : (copied : ℕ) (lengths : ℕ → ℕ) (xs : List ℕ) (y : ℕ) → IsTrue (is_among y xs) → y < copied → 1 ≤ length (but_longest copied lengths xs)
+copied_some copied lengths xs y there low = some_among y (but_longest copied lengths xs) (copied_left copied lengths xs y there low)
+
+-- where nothing is copied one of the objects is kept
+none_copied : (xs : List ℕ) → not_copied 0 xs ≡ xs
+none_copied [] = refl
+none_copied (x ∷ xs) = cond-true (nat_le 0 x) (x ∷ not_copied 0 xs) (not_copied 0 xs) (le-leb 0 x (omega arith)) ∙ ap (λ (l : List ℕ). x ∷ l) (none_copied xs)
+
+pub one_kept : (copied : ℕ) (lengths : ℕ → ℕ) (xs : List ℕ) → copied ≡ 0 → 1 ≤ length xs → (x : ℕ) × IsTrue (is_among x xs) × IsFalse (is_among x (but_longest copied lengths xs))
+one_kept copied lengths xs none some =
+    let whole : longest_of lengths (not_copied copied xs) ≡ longest_of lengths xs = ap (λ (c : ℕ). longest_of lengths (not_copied c xs)) none ∙ ap (longest_of lengths) (none_copied xs) in
+    subst (λ (o : Option ℕ). (x : ℕ) × IsTrue (is_among x xs) × IsFalse (is_among x (but_kept o xs))) (sym whole) (one xs some)
+  where
+    one : (ys : List ℕ) → 1 ≤ length ys → (x : ℕ) × IsTrue (is_among x ys) × IsFalse (is_among x (but_kept (longest_of lengths ys) ys))
+    one [] some = absurd (omega (arith, some))
+    one (y ∷ ys) some =
+        let keep = longest lengths y ys in (
+          keep,
+          longest_among lengths y ys,
+          false_from_ne_true _ (λ there. both_ways _ (not-true _ (among_filter (λ z. not (z == keep)) (y ∷ ys) keep there).1) (eq-eqb keep keep refl)),
+        )

@@ -14,16 +14,12 @@ use Rattle.explain_core.specs.Sound.{IsSound}
 use Rattle.explain_core.specs.Turns.{count_below, is_dirty_in, dirty_in}
 use Rattle.explain_core.specs.World.{World, step, end_of}
 use Rattle.explain_core.specs.World.Step.{Append, Slot_gate, Removal}
+use Rattle.cache_manager.specs.Courses.{is_identity_some}
 use Rattle.cache_manager.proofs.Counts.{count_le, count_less}
-
-abbrev pub is_identity : {O : Type 0} → Option (Member O) → Bool
-is_identity None = false
-is_identity (Some (Command op)) = false
-is_identity (Some (Identity x value)) = true
 
 -- x is dirty, and the last to write it is no identity write
 abbrev pub is_plain : {O : Type 0} → World O → ℕ → Bool
-is_plain w x = is_dirty_in w x && not (is_identity (numbered w.history (w.cache x).id))
+is_plain w x = is_dirty_in w x && not (is_identity_some (numbered w.history (w.cache x).id))
 
 -- so many objects are so
 abbrev pub plain_in : {O : Type 0} → Meaning O → World O → ℕ
@@ -84,15 +80,15 @@ module _ {O : Type 0} (m : Meaning O) (w : World O) (sound : IsSound m w) (x : �
   pub others_plain : (y : ℕ) → (y ≡ x → ⊥) → is_plain logged y ≡ is_plain w y
   unfolding step
   others_plain y other =
-      ap (λ (c : Cell). not ((w.slots y).id == c.id) && not (is_identity (numbered (w.history ++ member ∷ []) c.id))) (other_cell y other)
-      ∙ ap (λ (o : Option (Member O)). is_dirty_in w y && not (is_identity o)) (numbered_front w.history (member ∷ []) (w.cache y).id (cached_within m w sound y))
+      ap (λ (c : Cell). not ((w.slots y).id == c.id) && not (is_identity_some (numbered (w.history ++ member ∷ []) c.id))) (other_cell y other)
+      ∙ ap (λ (o : Option (Member O)). is_dirty_in w y && not (is_identity_some o)) (numbered_front w.history (member ∷ []) (w.cache y).id (cached_within m w sound y))
 
   -- x is plain no more
   pub not_plain : IsFalse (is_plain logged x)
   unfolding step
   not_plain =
       and_right (is_dirty_in logged x) _
-      (ap (λ (n : ℕ). not (is_identity (numbered (w.history ++ member ∷ []) n))) own_id ∙ ap (λ (o : Option (Member O)). not (is_identity o)) (numbered_last w.history member))
+      (ap (λ (n : ℕ). not (is_identity_some (numbered (w.history ++ member ∷ []) n))) own_id ∙ ap (λ (o : Option (Member O)). not (is_identity_some o)) (numbered_last w.history member))
 
   pub one_plain_less : x < m.objects → IsTrue (is_plain w x) → plain_in m w ≡ suc (plain_in m logged)
   one_plain_less lt was =
@@ -124,7 +120,7 @@ slot_plain m w node x y is =
       | inl here ↦
           let slot : v.slots y ≡ w.cache y = cond-true (y == x) (w.cache x) (w.slots y) (eq-eqb y x here) ∙ sym (ap w.cache here) in
           absurd (both_ways _ (not_from_true _ (eq-eqb _ _ (ap (λ (c : Cell). c.id) slot))) (and_parts (is_dirty_in v y) _ is).0)
-      | inr other ↦ ap (λ (c : Cell). not (c.id == (w.cache y).id) && not (is_identity (numbered w.history (w.cache y).id))) (sym (cond-false (y == x) (w.cache x) (w.slots y) (ne_eqb y x other))) ∙ is
+      | inr other ↦ ap (λ (c : Cell). not (c.id == (w.cache y).id) && not (is_identity_some (numbered w.history (w.cache y).id))) (sym (cond-false (y == x) (w.cache x) (w.slots y) (ne_eqb y x other))) ∙ is
     ]
 
 -- so it leaves no more to do, and a removal leaves less

@@ -1,9 +1,9 @@
 -- The object that a plan keeps is the longest of the work, and what it logs is the rest.
-use Rattle.std.proofs.Common.{◌≡◌, ◌∙◌, sym, subst, ap, ℕ, zero, suc, ◌+◌, ◌<◌, ◌≤◌, Bool, false, List, [], ◌∷◌, length, map, refl, arith, inl, inr, true, Option, None, Some}
-use Rattle.std.specs.Prelude.{⊤, ◌==◌, ◌||◌, All, not, IfSome, IsNone, IsTrue, nat_lt, slice_get, slice_index, is_some}
+use Rattle.std.proofs.Common.{◌≡◌, ◌∙◌, sym, subst, ap, ℕ, zero, suc, ◌+◌, ◌<◌, ◌≤◌, Bool, false, List, [], ◌∷◌, length, map, refl, arith, inl, inr, true, Option, None, Some, ◌⊎◌}
+use Rattle.std.specs.Prelude.{⊤, ◌==◌, ◌||◌, All, not, IfSome, IsNone, IsTrue, nat_lt, nat_le, slice_get, slice_index, is_some}
 use Rattle.std.specs.List.{filter}
 use Rattle.std.specs.List.Sorted.{IsStrictlyIncreasing}
-use Rattle.std.proofs.lemmas.Bool.{cases_Bool, both_ways, false_from_ne_true, lt-ltb, or_cases, or_left, or_right, eq-eqb, eqb-true, ltb-true, ltb-false, cond-true, cond-false}
+use Rattle.std.proofs.lemmas.Bool.{cases_Bool, both_ways, false_from_ne_true, lt-ltb, or_cases, or_left, or_right, eq-eqb, eqb-true, ltb-true, ltb-false, leb-true, le-leb, cond-true, cond-false}
 use Rattle.std.proofs.lemmas.Grind.{get_or_default_zero}
 use Rattle.std.proofs.lemmas.List.Elements.{All-filter, All-head, All-tail}
 use Rattle.disk_model.specs.Disk.{Disk}
@@ -15,17 +15,17 @@ use Rattle.dirty_cache.specs.declared.entry.Entry.{Entry as Pair}
 use Rattle.oper_core.specs.Cell.{Cell}
 use Rattle.oper_core.specs.State.{is_among}
 use Rattle.oper_core.specs.Meaning.{Meaning, IsLawful}
-use Rattle.identity_writes.specs.Plan.{IsKept, without}
+use Rattle.identity_writes.specs.Plan.{IsKeptBeside, but_kept}
 use Rattle.explain_core.specs.Sound.{IsSound}
 use Rattle.explain_core.specs.Turns.{has_work}
 use Rattle.explain_core.specs.World.{World, work_of}
-use Rattle.cache_manager.specs.Courses.{counted, longest, but_longest, cached_length, next_node, work, others}
+use Rattle.cache_manager.specs.Courses.{counted, longest, longest_of, not_copied, but_longest, cached_length, next_node, work}
 use Rattle.cache_manager.specs.Joins.{cached_shown}
 use Rattle.cache_manager.specs.Laid.{cell_or, values_in}
 use Rattle.cache_manager.specs.Parts.{Parts, Shows}
 use Rattle.cache_manager.proofs.InUse.{dirty_held}
-use Rattle.cache_manager.proofs.Installs.{some_logged}
-use Rattle.cache_manager.proofs.Lists.{AreApart, among_filter, among_counted, longest_among}
+use Rattle.cache_manager.proofs.Installs.{many_logged}
+use Rattle.cache_manager.proofs.Lists.{AreApart, among_filter, filter_among, among_counted, longest_among, copied_some}
 use Rattle.cache_manager.proofs.WorkOf.{listed_is, is_listed}
 
 -- each object is above those before it
@@ -111,6 +111,14 @@ rises_same (x ∷ xs) (y ∷ ys) a b to from =
       | inr later ↦ later
     ]
 
+-- where all are copied none is left
+none_left : (copied : ℕ) (objects : List ℕ) → All (λ x. x < copied) objects → not_copied copied objects ≡ []
+none_left copied [] all = refl
+none_left copied (x ∷ objects) all =
+    let low = All-head (λ x. x < copied) x objects all in
+    cond-false (nat_le copied x) (x ∷ not_copied copied objects) (not_copied copied objects) (false_from_ne_true _ (λ late. let high = leb-true copied x late in absurd (omega (arith, low, high))))
+    ∙ none_left copied objects (All-tail (λ x. x < copied) x objects all)
+
 module _ (lengths : ℕ → ℕ) where
   -- no object is longer, and none as long has a lesser number
   record IsLongest (objects : List ℕ) (x : ℕ) : Type 0 where
@@ -192,32 +200,41 @@ module _ (lengths : ℕ → ℕ) where
   mapped_length [] = refl
   mapped_length (x ∷ xs) = ap suc (mapped_length xs)
 
-  kept_is : (objects : List ℕ) (x : ℕ) → IsKept objects (map lengths objects) x → IsTrue (is_among x objects) × IsLongest objects x
-  kept_is objects x kept =
+  kept_is : (copied : ℕ) (objects : List ℕ) (x : ℕ) → IsKeptBeside copied objects (map lengths objects) x → IsTrue (is_among x (not_copied copied objects)) × IsLongest (not_copied copied objects) x
+  kept_is copied objects x kept =
       let found = found_at objects kept.place x kept.here in
       let own : slice_index (map lengths objects) kept.place ≡ lengths x = mapped_at objects kept.place found.0 ∙ ap lengths found.1 in (
-        subst (λ (z : ℕ). IsTrue (is_among z objects)) found.1 (at_among objects kept.place found.0),
+        filter_among (λ y. nat_le copied y) objects x (subst (λ (z : ℕ). IsTrue (is_among z objects)) found.1 (at_among objects kept.place found.0)) (le-leb copied x kept.late),
         record {
           most = λ y there.
-              let p = among_at y objects there in
-              let within : p.0 < length (map lengths objects) = omega (arith, p.1, mapped_length objects) in
-              let top = kept.longest p.0 0 within in
+              let u = among_filter (λ y. nat_le copied y) objects y there in
+              let p = among_at y objects u.0 in
               let here : slice_index (map lengths objects) p.0 ≡ lengths y = mapped_at objects p.0 p.1 ∙ ap lengths p.2 in
-              omega (arith, top, here, own, get_or_default_zero (map lengths objects) p.0 0 within);
+              let top = kept.longest p.0 p.1 (let late = leb-true copied y u.1 in omega (arith, late, p.2)) in
+              omega (arith, top, here, own);
           least = λ y there same.
-              let p = among_at y objects there in
+              let u = among_filter (λ y. nat_le copied y) objects y there in
+              let p = among_at y objects u.0 in
               let here : slice_index (map lengths objects) p.0 ≡ lengths y = mapped_at objects p.0 p.1 ∙ ap lengths p.2 in
-              let low = kept.least p.0 p.1 (here ∙ same ∙ sym own) in
+              let low = kept.least p.0 p.1 (let late = leb-true copied y u.1 in omega (arith, late, p.2)) (here ∙ same ∙ sym own) in
               omega (arith, low, p.2);
         },
       )
 
-  -- what a plan logs of rising objects are all but the longest
-  pub planned_others : (objects : List ℕ) (x : ℕ) → Rises objects → IsKept objects (map lengths objects) x → without x objects ≡ but_longest lengths objects
-  planned_others [] x rises kept = refl
-  planned_others (a ∷ xs) x rises kept =
-      let is = kept_is (a ∷ xs) x kept in
-      ap (λ (k : ℕ). without k (a ∷ xs)) (both_longest x (longest lengths a xs) (a ∷ xs) is.0 (longest_among lengths a xs) is.1 (longest_is a xs rises))
+  longest_kept : (copied : ℕ) (x : ℕ) (objects : List ℕ) → Rises objects → IsTrue (is_among x objects) → IsLongest objects x → Some x ≡ longest_of lengths objects
+  longest_kept copied x [] rises there is = absurd (both_ways _ refl there)
+  longest_kept copied x (a ∷ xs) rises there is = ap (λ (k : ℕ). Some k) (both_longest x (longest lengths a xs) (a ∷ xs) there (longest_among lengths a xs) is (longest_is a xs rises))
+
+  -- what a plan keeps of rising objects is the longest of those that are not copied
+  planned_keep : (copied : ℕ) (objects : List ℕ) (keep : Option ℕ) → Rises objects → IfSome keep (IsKeptBeside copied objects (map lengths objects)) → (IsNone keep → All (λ x. x < copied) objects)
+      → keep ≡ longest_of lengths (not_copied copied objects)
+  planned_keep copied objects None rises kept all = sym (ap (longest_of lengths) (none_left copied objects (all refl)))
+  planned_keep copied objects (Some x) rises kept all = let is = kept_is copied objects x kept in longest_kept copied x (not_copied copied objects) (rises_filter (λ y. nat_le copied y) objects rises) is.0 is.1
+
+  -- so what it logs are all but that one
+  pub planned_others : (copied : ℕ) (objects logged : List ℕ) (keep : Option ℕ) → IsStrictlyIncreasing objects → IfSome keep (IsKeptBeside copied objects (map lengths objects)) → (IsNone keep → All (λ x. x < copied) objects)
+      → logged ≡ but_kept keep objects → logged ≡ but_longest copied lengths objects
+  planned_others copied objects logged keep up kept all is = is ∙ ap (λ (o : Option ℕ). but_kept o objects) (planned_keep copied objects keep (rises_from_increasing objects up) kept all)
 
 -- of the next node's work in a world
 module _ {O : Type 0} (m : Meaning O) (lawful : IsLawful m) (w : World O) (sound : IsSound m w) where
@@ -229,30 +246,26 @@ module _ {O : Type 0} (m : Meaning O) (lawful : IsLawful m) (w : World O) (sound
   work_listed objects up due listed =
       rises_same objects (work m w) (rises_from_increasing objects up) work_rises (λ x there. is_listed m lawful w sound x (due x there)) (λ x there. listed x (listed_is m lawful w sound x there))
 
-  -- and what a plan logs of them is all but the longest
-  pub planned : (objects : List ℕ) (x : ℕ) → objects ≡ work m w → IsKept objects (map (cached_length m w) objects) x → without x objects ≡ others m w
-  planned objects x same kept =
-      planned_others (cached_length m w) objects x (subst Rises (sym same) work_rises) kept ∙ ap (but_longest (cached_length m w)) same
-
 pub rises_apart : (xs : List ℕ) → Rises xs → AreApart xs
 rises_apart [] rises = tt
 rises_apart (x ∷ xs) rises = (false_from_ne_true _ (λ there. let up = rises.0 x there in absurd (omega (arith, up))), rises_apart xs rises.1)
 
--- a plan of two objects or more logs all but the longest, and so one at least
-pub logged_others : (lengths : ℕ → ℕ) (work logged : List ℕ) (keep : Option ℕ) → IsStrictlyIncreasing work → (IsNone keep → ⊥) → IfSome keep (IsKept work (map lengths work)) → IfSome keep (λ x. logged ≡ without x work)
-    → logged ≡ but_longest lengths work
-logged_others lengths work logged None up some kept is = absurd (some refl)
-logged_others lengths work logged (Some x) up some kept is = is ∙ planned_others lengths work x (rises_from_increasing work up) kept
-
-pub logged_some : (lengths : ℕ → ℕ) (work logged : List ℕ) → IsStrictlyIncreasing work → 1 < length work → logged ≡ but_longest lengths work → 1 ≤ length logged
-logged_some lengths work logged up many is =
-    let some = some_logged lengths work (rises_apart work (rises_from_increasing work up)) (lt-ltb 1 (length work) many) in
+-- what is logged of two objects or more, or where the first is copied, is one object at least
+pub logged_some : (copied : ℕ) (lengths : ℕ → ℕ) (work logged : List ℕ) → IsStrictlyIncreasing work → (1 < length work) ⊎ ((x : ℕ) × (slice_get work 0 ≡ Some x) × (x < copied))
+    → logged ≡ but_longest copied lengths work → 1 ≤ length logged
+logged_some copied lengths work logged up (inl many) is =
+    let some = many_logged copied lengths work (rises_apart work (rises_from_increasing work up)) (lt-ltb 1 (length work) many) in
+    omega (arith, some, ap length is)
+logged_some copied lengths work logged up (inr one) is =
+    let found = found_at work 0 one.0 one.1 in
+    let there = subst (λ (z : ℕ). IsTrue (is_among z work)) found.1 (at_among work 0 found.0) in
+    let some = copied_some copied lengths work one.0 there one.2 in
     omega (arith, some, ap length is)
 
--- the others are among the objects
-pub others_all : (P : ℕ → Type 0) (work logged : List ℕ) (keep : Option ℕ) → (IsNone keep → ⊥) → IfSome keep (λ x. logged ≡ without x work) → All P work → All P logged
-others_all P work logged None some is all = absurd (some refl)
-others_all P work logged (Some x) some is all = subst (λ (l : List ℕ). All P l) (sym is) (All-filter (λ (y : ℕ). not (y == x)) P work all)
+-- what is logged is of the objects
+pub others_all : (P : ℕ → Type 0) (work logged : List ℕ) (keep : Option ℕ) → logged ≡ but_kept keep work → All P work → All P logged
+others_all P work logged None is all = subst (λ (l : List ℕ). All P l) (sym is) all
+others_all P work logged (Some x) is all = subst (λ (l : List ℕ). All P l) (sym is) (All-filter (λ (y : ℕ). not (y == x)) P work all)
 
 -- the lengths that are read of dirty objects are those of the world
 pub lengths_shown : {O : Type 0} (m : Meaning O) (p : Params) (d : Disk) (it : Parts) (w : World O) → Shows m p d it w → (work : List ℕ) → All (λ x. is_dirty it.store.objects.cache x ≡ true) work

@@ -6,7 +6,7 @@ use Rattle.oper_core.specs.Meaning.{Meaning}
 use Rattle.explain_core.specs.Turns.{count_below, dirty_in}
 use Rattle.explain_core.specs.World.{World, Step, run, end_of}
 use Rattle.explain_core.specs.World.Step.{Block_gate}
-use Rattle.cache_manager.specs.Courses.{Course, Stop, is_through, course, behind, and_then, waits, buffered, grown, force_steps, room_steps, placed, cached_length, identity_length, identity_steps, identity_course, identities, next_node, work, others, removal_steps, finish_steps, rounds, has_members, install_course, drains, drain_course, flushed_by, flushed_in, removals}
+use Rattle.cache_manager.specs.Courses.{Course, Stop, is_through, course, behind, and_then, waits, buffered, grown, force_steps, room_steps, placed, cached_length, identity_length, identity_steps, identity_course, identities, next_node, work, others, removal_steps, finish_steps, must_log, rounds, has_members, install_course, drains, drain_course, flushed_by, flushed_in, removals}
 use Rattle.cache_manager.specs.Courses.Stop.{Through, Full, At_end}
 use Rattle.cache_manager.specs.CourseLaws.{behind_both}
 
@@ -99,13 +99,13 @@ module _ {O : Type 0} (m : Meaning O) where
       })
       (λ ends. one_stopped first ends none)
 
-  pub rounds_remove : (n : ℕ) (w : World O) (used : ℕ) → RemovesOne (rounds m n w used)
-  rounds_remove zero w used = one_finish w used
-  rounds_remove (suc n) w used =
-      let logging = identities m (others m w) w used in
+  pub rounds_remove : (copied n : ℕ) (w : World O) (used : ℕ) → RemovesOne (rounds m copied n w used)
+  rounds_remove copied zero w used = one_finish w used
+  rounds_remove copied (suc n) w used =
+      let logging = identities m (others m copied w) w used in
       let v = run m w logging.steps in
-      one_either (nat_lt 1 (length (work m w))) (and_then m w logging (λ v used. rounds m n v used)) (course (finish_steps m w) used Through)
-      (one_behind logging (rounds m n v logging.used) (none_identities (others m w) w used) (rounds_remove n v logging.used))
+      one_either (must_log m copied w) (and_then m w logging (λ v used. rounds m copied n v used)) (course (finish_steps m w) used Through)
+      (one_behind logging (rounds m copied n v logging.used) (none_identities (others m copied w) w used) (rounds_remove copied n v logging.used))
       (one_finish w used)
 
   -- what a finish flushes, which is the first of the work
@@ -125,26 +125,26 @@ module _ {O : Type 0} (m : Meaning O) where
   few_if : (b : Bool) (c e : Course O) → RemovesFew c → RemovesFew e → RemovesFew (if b then c else e)
   few_if b c e first second = cond_both b c e (λ (c : Course O). RemovesFew c) (λ is. first) (λ is. second)
 
-  pub install_removes : (w : World O) (used : ℕ) → (removals (install_course m w used).steps ≤ 1) × (length (flushed_in (install_course m w used).steps) ≤ 1)
-  install_removes w used =
-      let one = rounds_remove m.objects w used in
-      few_if (has_members m w) (rounds m m.objects w used) (course [] used Through) (one.removed, one.flushed) (omega arith, omega arith)
+  pub install_removes : (copied : ℕ) (w : World O) (used : ℕ) → (removals (install_course m copied w used).steps ≤ 1) × (length (flushed_in (install_course m copied w used).steps) ≤ 1)
+  install_removes copied w used =
+      let one = rounds_remove copied m.objects w used in
+      few_if (has_members m w) (rounds m copied m.objects w used) (course [] used Through) (one.removed, one.flushed) (omega arith, omega arith)
 
-  pub install_removes_one : (w : World O) (used : ℕ) → IsTrue (has_members m w) → (install_course m w used).stop ≡ Through → removals (install_course m w used).steps ≡ 1
-  install_removes_one w used some =
-      subst (λ (c : Course O). c.stop ≡ Through → removals c.steps ≡ 1) (sym (cond-true (has_members m w) (rounds m m.objects w used) (course [] used Through) some)) (rounds_remove m.objects w used).through
+  pub install_removes_one : (copied : ℕ) (w : World O) (used : ℕ) → IsTrue (has_members m w) → (install_course m copied w used).stop ≡ Through → removals (install_course m copied w used).steps ≡ 1
+  install_removes_one copied w used some =
+      subst (λ (c : Course O). c.stop ≡ Through → removals c.steps ≡ 1) (sym (cond-true (has_members m w) (rounds m copied m.objects w used) (course [] used Through) some)) (rounds_remove copied m.objects w used).through
 
   -- a drain removes at most one node in each of its turns
-  drains_remove : (n : ℕ) (w : World O) (used : ℕ) → removals (drains m n w used).steps ≤ n
-  drains_remove zero w used = omega arith
-  drains_remove (suc n) w used =
-      let first = rounds m m.objects w used in
+  drains_remove : (copied n : ℕ) (w : World O) (used : ℕ) → removals (drains m copied n w used).steps ≤ n
+  drains_remove copied zero w used = omega arith
+  drains_remove copied (suc n) w used =
+      let first = rounds m copied m.objects w used in
       let v = run m w first.steps in
-      let one = (rounds_remove m.objects w used).removed in
-      cond_both (has_members m w) (and_then m w first (λ v used. drains m n v used)) (course [] used Through) (λ (c : Course O). removals c.steps ≤ suc n)
-      (λ some. behind_both (λ (c : Course O). removals c.steps ≤ suc n) first (drains m n v first.used) first.stop
-      (λ on. omega (arith, removals-append first.steps (drains m n v first.used).steps, one, drains_remove n v first.used)) (λ ends. omega (arith, one)))
+      let one = (rounds_remove copied m.objects w used).removed in
+      cond_both (has_members m w) (and_then m w first (λ v used. drains m copied n v used)) (course [] used Through) (λ (c : Course O). removals c.steps ≤ suc n)
+      (λ some. behind_both (λ (c : Course O). removals c.steps ≤ suc n) first (drains m copied n v first.used) first.stop
+      (λ on. omega (arith, removals-append first.steps (drains m copied n v first.used).steps, one, drains_remove copied n v first.used)) (λ ends. omega (arith, one)))
       (λ none. omega arith)
 
-  pub drain_removes : (w : World O) (used : ℕ) → removals (drain_course m w used).steps ≤ count_below (end_of w) w.graph + dirty_in m w
-  drain_removes w used = drains_remove (count_below (end_of w) w.graph + dirty_in m w) w used
+  pub drain_removes : (copied : ℕ) (w : World O) (used : ℕ) → removals (drain_course m copied w used).steps ≤ count_below (end_of w) w.graph + dirty_in m w
+  drain_removes copied w used = drains_remove copied (count_below (end_of w) w.graph + dirty_in m w) w used

@@ -26,19 +26,19 @@ no_items [] none = refl
 no_items (x ∷ xs) none = absurd (omega (arith, none))
 
 -- a node was installed
-pub told_done : {O : Type 0} (meaning : Bounds → Meaning O) (old new : Disk) (before after : Parts) (items : List ℕ)
-    → AreUnder meaning old new before after (λ m w used. install_course m w used) (λ m whole taken v used. InstallDone items m whole taken v used)
+pub told_done : {O : Type 0} (meaning : Bounds → Meaning O) (copied : ℕ) (old new : Disk) (before after : Parts) (items : List ℕ)
+    → AreUnder meaning old new before after (λ m w used. install_course m copied w used) (λ m whole taken v used. InstallDone items m whole taken v used)
     → IsStrictlyIncreasing (numbers before.store.entries) → IsStrictlyIncreasing (numbers after.store.entries) → (ops : ℕ) (flushed : Option ℕ) (identities : ℕ) → listed flushed ≡ take 1 items
     → after.log.next ≡ before.log.next + identities → length after.store.entries + ops ≡ length before.store.entries + identities
     → (p : Params) (w : World O) → Shows (meaning_in meaning p) p old before w
-    → IsInstall (meaning_in meaning p) w (install_course (meaning_in meaning p) w (used_of before.log.log)).steps (Installed ops flushed identities)
-told_done {O} meaning old new before after items under first last ops flushed identities is next entries p w shows =
+    → IsInstall (meaning_in meaning p) w (install_course (meaning_in meaning p) copied w (used_of before.log.log)).steps (Installed ops flushed identities)
+told_done {O} meaning copied old new before after items under first last ops flushed identities is next entries p w shows =
     let m = meaning_in meaning p in
-    let whole = install_course m w (used_of before.log.log) in
+    let whole = install_course m copied w (used_of before.log.log) in
     let u = under p w shows in
     let steps : whole.steps ≡ u.taken = ap (λ (c : Course O). c.steps) u.left.0 ∙ append-nil u.taken in
     let done = subst (λ (l : List (Step O)). Shows m p new after (run m w l)) (sym steps) u.shows in
-    let counts = told_counts m p old new before after w whole.steps shows done (upkeep_install m w (used_of before.log.log)) first last ops identities next entries in
+    let counts = told_counts m p old new before after w whole.steps shows done (upkeep_install m copied w (used_of before.log.log)) first last ops identities next entries in
     (counts.0, ap (λ (l : List (Step O)). flushed_in l) steps ∙ u.left.1 ∙ sym is, counts.1)
 
 -- there was nothing to install

@@ -1,7 +1,7 @@
 -- What a node has to flush, as it is computed; and where it has two objects or more, an install may log each of them: an
 -- object that an identity write was the last to write is all that its node has to flush.
 use Rattle.std.proofs.Common.{◌≡◌, ◌∙◌, sym, subst, ℕ, ◌<◌, Bool, false, refl, arith, inl, inr, Option, Some, None}
-use Rattle.std.specs.Prelude.{IsTrue, IsFalse, ◌==◌, ◌||◌}
+use Rattle.std.specs.Prelude.{IsTrue, IsFalse, ◌==◌, ◌||◌, nat_lt}
 use Rattle.std.proofs.lemmas.Bool.{cases_lt, both_ways, or_cases, and_parts, and_from, and_right, eqb-true, eq-eqb, ne_eqb, not-true, not_from_false, false_from_ne_true}
 use Rattle.oper_core.specs.State.{is_among}
 use Rattle.oper_core.specs.Meaning.{Meaning, IsLawful}
@@ -14,21 +14,21 @@ use Rattle.explain_core.specs.History.Member.{Command, Identity}
 use Rattle.explain_core.specs.Sound.{IsSound}
 use Rattle.explain_core.specs.Turns.{is_dirty_in, has_work}
 use Rattle.explain_core.specs.World.{World, graph_access, end_of, work_of}
-use Rattle.cache_manager.specs.Courses.{counted, next_node, work}
+use Rattle.cache_manager.specs.Courses.{counted, is_identity_some, is_stale, next_node, work}
 use Rattle.cache_manager.proofs.Lists.{AreApart, among_filter, filter_among, counted_among, apart_counted, apart_filter}
-use Rattle.cache_manager.proofs.Plain.{is_identity, is_plain}
+use Rattle.cache_manager.proofs.Plain.{is_plain}
 
 -- the last write of an object is a node of its own where it reads nothing and writes nothing else
 abbrev pub AreAlone : Type 0
 AreAlone = (a : Access) (x n p : ℕ) (node : ℕ → Bool) → IsLastBlindWrite a x n → IsNode a node → IsTrue (node n) → IsTrue (node p) → p ≡ n
 
 -- an identity write reads nothing, and writes one object
-reads_none : {O : Type 0} (m : Meaning O) (o : Option (Member O)) → IsTrue (is_identity o) → (y : ℕ) → IsFalse (reads_some m o y)
+reads_none : {O : Type 0} (m : Meaning O) (o : Option (Member O)) → IsTrue (is_identity_some o) → (y : ℕ) → IsFalse (reads_some m o y)
 reads_none m None is y = refl
 reads_none m (Some (Command op)) is y = absurd (both_ways _ refl is)
 reads_none m (Some (Identity x value)) is y = refl
 
-writes_one : {O : Type 0} (m : Meaning O) (o : Option (Member O)) → IsTrue (is_identity o) → (x y : ℕ) → IsTrue (writes_some m o x) → IsTrue (writes_some m o y) → y ≡ x
+writes_one : {O : Type 0} (m : Meaning O) (o : Option (Member O)) → IsTrue (is_identity_some o) → (x y : ℕ) → IsTrue (writes_some m o x) → IsTrue (writes_some m o y) → y ≡ x
 writes_one m None is x y wrote also = absurd (both_ways _ refl is)
 writes_one m (Some (Command op)) is x y wrote also = absurd (both_ways _ refl is)
 writes_one m (Some (Identity z value)) is x y wrote also = only y also ∙ sym (only x wrote)
@@ -78,27 +78,38 @@ module _ {O : Type 0} (m : Meaning O) (lawful : IsLawful m) (w : World O) (sound
     writes : IsTrue (a.writes n x)
     writes = and_from (w.graph n) _ (sound.dirty x dirty).1 wrote
 
-    blind : IsTrue (is_identity (numbered w.history n)) → IsLastBlindWrite a x n
+    blind : IsTrue (is_identity_some (numbered w.history n)) → IsLastBlindWrite a x n
     blind is = record {
       reads = λ y. and_right (w.graph n) _ (reads_none m (numbered w.history n) is y);
       only = λ y also. writes_one m (numbered w.history n) is x y wrote (and_parts (w.graph n) _ also).1;
       last = λ p later. false_from_ne_true _ (λ also. let u = and_parts (w.graph p) _ also in absurd (omega (arith, later, (sound.dirty x dirty).2 p u.0 u.1)));
     }
 
-    last_is : (node : ℕ → Bool) → IsTrue (is_identity (numbered w.history n)) → (due : work_of m w node x) → due.0.0 ≡ n
-    last_is node is due = elim (cases_lt due.0.0 n) [
+    -- the last of the graph's members to write a dirty object made its version in the cache
+    pub cached_is_last : (node : ℕ → Bool) → (due : work_of m w node x) → due.0.0 ≡ n
+    cached_is_last node due = elim (cases_lt due.0.0 n) [
       | inl before ↦ absurd (both_ways _ (due.0.2.1 n before) writes)
-      | inr from ↦ elim (cases_lt n due.0.0) [
-        | inl after ↦ absurd (both_ways _ ((blind is).last due.0.0 after) due.0.2.0)
-        | inr upto ↦ omega (arith, from, upto)
-      ]
+      | inr from ↦
+          let u = and_parts (w.graph due.0.0) _ due.0.2.0 in
+          let low = (sound.dirty x dirty).2 due.0.0 u.0 u.1 in
+          omega (arith, from, low)
     ]
 
-    all_the_work : (node : ℕ → Bool) → AreAlone → IsNode a node → IsTrue (is_identity (numbered w.history n)) → work_of m w node x → (y : ℕ) → work_of m w node y → y ≡ x
+    pub all_the_work : (node : ℕ → Bool) → AreAlone → IsNode a node → IsTrue (is_identity_some (numbered w.history n)) → work_of m w node x → (y : ℕ) → work_of m w node y → y ≡ x
     all_the_work node alone is_node is due y other =
-        let here : IsTrue (node n) = subst (λ (k : ℕ). IsTrue (node k)) (last_is node is due) due.0.1 in
+        let here : IsTrue (node n) = subst (λ (k : ℕ). IsTrue (node k)) (cached_is_last node due) due.0.1 in
         let same : other.0.0 ≡ n = alone a x n other.0.0 node (blind is) is_node here other.0.1 in
         (blind is).only y (subst (λ (k : ℕ). IsTrue (a.writes k y)) same other.0.2.0)
+
+    -- where an identity write made it, that is all of the node
+    pub all_the_node : (node : ℕ → Bool) → AreAlone → IsNode a node → IsTrue (is_identity_some (numbered w.history n)) → work_of m w node x → (p : ℕ) → IsTrue (node p) → p ≡ n
+    all_the_node node alone is_node is due p there =
+        let here : IsTrue (node n) = subst (λ (k : ℕ). IsTrue (node k)) (cached_is_last node due) due.0.1 in
+        alone a x n p node (blind is) is_node here there
+
+  -- a copied object whose version is of a command
+  pub stale_is_plain : (copied : ℕ) (node : ℕ → Bool) (x : ℕ) → work_of m w node x → IsTrue (is_stale m copied w x) → IsTrue (is_plain w x)
+  stale_is_plain copied node x due stale = and_from (is_dirty_in w x) _ (not_from_false _ (ne_eqb _ _ due.1)) (and_parts (nat_lt x copied) _ stale).1
 
   -- where a node has to flush another object too, the last to write x is no identity write
   pub work_is_plain : (node : ℕ → Bool) → AreAlone → IsNode a node → (x y : ℕ) → work_of m w node x → work_of m w node y → (y ≡ x → ⊥) → IsTrue (is_plain w x)

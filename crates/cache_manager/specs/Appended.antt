@@ -28,8 +28,10 @@ use Rattle.explain_core.specs.World.Step.{Append}
 use Rattle.explain_core.specs.Sound.{IsSound}
 use Rattle.standing.specs.Members.{members_of, tables_in, next-members, members-append, tables-append}
 use Rattle.standing.specs.Standing.{stored}
+use Rattle.std.specs.List.{list_any}
+use Rattle.cache_manager.specs.Courses.{is_identity_some, is_identity_at}
 use Rattle.cache_manager.specs.Laid.{cell_or}
-use Rattle.cache_manager.specs.Parts.{Parts, ShowsStore, ShowsLog, Shows, IsAppended, record_of, entry_of}
+use Rattle.cache_manager.specs.Parts.{Parts, ShowsStore, ShowsLog, Shows, IsAppended, record_of, entry_of, is_identity}
 
 -- a member as a record is one member and no check, and is right in its place
 module _ {O : Type 0} where
@@ -150,6 +152,16 @@ module _ {O : Type 0} (m : Meaning O) (w : World O) (entries : List Entry) (next
       λ n y. list_any-append (λ (e : Entry). (e.number == n) && is_among y e.writes) entries (new ∷ []) ∙ member_at n y (λ o. writes_some m o y) (is_among y (writes_of m member)) (writes_at entries n y) (ap (λ (a : Access). a.writes n y) same) refl in
       λ i. record { reads = λ n y. reads n y i; writes = λ n y. writes n y i }
 
+  pub graph_identities : ((n : ℕ) → list_any (λ e. (e.number == n) && e.identity) entries ≡ (w.graph n && is_identity_at w.history n))
+      → (n : ℕ) → list_any (λ e. (e.number == n) && e.identity) (entries ++ new ∷ []) ≡ (((n == end_of w) || w.graph n) && is_identity_at (w.history ++ member ∷ []) n)
+  graph_identities known n =
+      list_any-append (λ (e : Entry). (e.number == n) && e.identity) entries (new ∷ [])
+      ∙ member_at n 0 (λ o. is_identity_some o) (is_identity member) (list_any (λ e. (e.number == n) && e.identity) entries) (known n) (of_member member)
+    where
+      of_member : (member : Member O) → is_identity_some (Some member) ≡ is_identity member
+      of_member (Command op) = refl
+      of_member (Identity x value) = refl
+
 -- what is appended, and that it is
 module _ {O : Type 0} (m : Meaning O) (p : Params) (d : Disk) (before after : Parts) (member : Member O) (made : List (List ℕ)) (w : World O) (shows : Shows m p d before w) (it : IsAppended m before after member made)
     (values : made ≡ effect_of m member (map (λ (x : ℕ). (w.cache x).value) (reads_of m member))) (there : (x : ℕ) → IsTrue (is_among x (writes_of m member)) → x < p.objects) where
@@ -215,6 +227,8 @@ module _ {O : Type 0} (m : Meaning O) (p : Params) (d : Disk) (before after : Pa
     ];
     members = λ n. ap (λ (l : List Entry). is_among n (numbers l)) it.entries ∙ graph_members m w before.store.entries before.log.next member shows.running.sound shows.store.members shows.store.accesses number n;
     accesses = ap accesses it.entries ∙ graph_accesses m w before.store.entries before.log.next member shows.running.sound shows.store.members shows.store.accesses number;
+    identities = λ n. ap (λ (l : List Entry). list_any (λ e. (e.number == n) && e.identity) l) it.entries
+        ∙ graph_identities m w before.store.entries before.log.next member shows.running.sound shows.store.members shows.store.accesses number shows.store.identities n;
   }
 
   log_appended : IsRecord m (record_of before.log.next member) → before.log.next < 2 ^ 62 → ShowsLog m d after.log (step m w (Append member))

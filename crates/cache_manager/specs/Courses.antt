@@ -1,11 +1,11 @@
 -- What a call does, as a function of the world and of the log's length: the steps that it takes, the length after them, and
 -- what stops them. Nothing in it is chosen. No group is open in the world.
-use Rattle.std.specs.Prelude.{◌+◌, ◌*◌, ◌^◌, ℕ, zero, suc, nat_lt, nat_le, Bool, true, false, not, ◌&&◌, ◌||◌, if◌then◌else◌, List, [], ◌∷◌, ◌++◌, length, drop}
-use Rattle.std.specs.List.{filter}
+use Rattle.std.specs.Prelude.{◌+◌, ◌*◌, ◌^◌, ℕ, zero, suc, nat_lt, nat_le, Bool, true, false, not, ◌&&◌, ◌||◌, if◌then◌else◌, Option, None, Some, List, [], ◌∷◌, ◌++◌, length, drop}
+use Rattle.std.specs.List.{filter, list_any}
 use Rattle.oper_core.specs.Meaning.{Meaning}
 use Rattle.install_order.specs.Computed.{some_below, least_below}
-use Rattle.identity_writes.specs.Plan.{without}
-use Rattle.explain_core.specs.History.{Member}
+use Rattle.identity_writes.specs.Plan.{but_kept}
+use Rattle.explain_core.specs.History.{Member, numbered}
 use Rattle.explain_core.specs.History.Member.{Command, Identity}
 use Rattle.explain_core.specs.Turns.{count_below, dirty_in, has_work, is_entered}
 use Rattle.explain_core.specs.World.{World, Table, Step, step, run, end_of, node_named}
@@ -55,10 +55,28 @@ abbrev pub longest : (ℕ → ℕ) → ℕ → List ℕ → ℕ
 longest lengths so_far [] = so_far
 longest lengths so_far (y ∷ objects) = longest lengths (if nat_lt (lengths so_far) (lengths y) then y else so_far) objects
 
--- all but that one
-abbrev pub but_longest : (ℕ → ℕ) → List ℕ → List ℕ
-but_longest lengths [] = []
-but_longest lengths (x ∷ objects) = without (longest lengths x objects) (x ∷ objects)
+-- and none where there is none
+abbrev pub longest_of : (ℕ → ℕ) → List ℕ → Option ℕ
+longest_of lengths [] = None
+longest_of lengths (x ∷ objects) = Some (longest lengths x objects)
+
+-- the objects that a copy of the slots does not have yet, which are those from a number on; where none is taken it is 0
+abbrev pub not_copied : ℕ → List ℕ → List ℕ
+not_copied copied objects = filter (λ x. nat_le copied x) objects
+
+-- all but the longest of those that are not copied
+abbrev pub but_longest : ℕ → (ℕ → ℕ) → List ℕ → List ℕ
+but_longest copied lengths objects = but_kept (longest_of lengths (not_copied copied objects)) objects
+
+-- the member, if there is one, is an identity write
+abbrev pub is_identity_some : {O : Type 0} → Option (Member O) → Bool
+is_identity_some None = false
+is_identity_some (Some (Command op)) = false
+is_identity_some (Some (Identity x value)) = true
+
+-- that with the number n is one
+abbrev pub is_identity_at : {O : Type 0} → List (Member O) → ℕ → Bool
+is_identity_at history n = is_identity_some (numbered history n)
 
 -- a member's record has so many bytes, an identity write's with a value of n bytes
 abbrev pub identity_length : ℕ → ℕ
@@ -140,10 +158,6 @@ module _ {O : Type 0} (m : Meaning O) where
   abbrev pub work : World O → List ℕ
   work w = filter (has_work m w (next_node w)) (counted 0 m.objects)
 
-  -- of that all but the longest
-  abbrev pub others : World O → List ℕ
-  others w = but_longest (cached_length w) (work w)
-
   -- the one object of the work is flushed, if there is one
   abbrev pub flush_steps : (ℕ → Bool) → List ℕ → List (Step O)
   flush_steps node [] = []
@@ -157,29 +171,42 @@ module _ {O : Type 0} (m : Meaning O) where
   abbrev pub finish_steps : World O → List (Step O)
   finish_steps w = force_steps w ++ removal_steps (next_node w) (work w)
 
-  -- while the node has two or more objects to flush, all but the longest are logged; so many rounds at most
-  abbrev pub rounds : ℕ → World O → ℕ → Course O
-  rounds zero w used = course (finish_steps w) used Through
-  rounds (suc n) w used =
-      if nat_lt 1 (length (work w)) then and_then m w (identities (others w) w used) (λ v used. rounds n v used)
-      else course (finish_steps w) used Through
-
   -- some member is in the graph
   abbrev pub has_members : World O → Bool
   has_members w = some_below (end_of w) w.graph
 
-  -- An install. Each object is logged at most once, so there are at most as many rounds as objects.
-  abbrev pub install_course : World O → ℕ → Course O
-  install_course w used = if has_members w then rounds m.objects w used else course [] used Through
+  -- Beside a copy of the slots that has the objects below a number.
+  module _ (copied : ℕ) where
+    -- an object is copied, and its version in the cache is of a command
+    abbrev pub is_stale : World O → ℕ → Bool
+    is_stale w x = nat_lt x copied && not (is_identity_at w.history (w.cache x).id)
 
-  -- installs until nothing is left: so many at most
-  abbrev pub drains : ℕ → World O → ℕ → Course O
-  drains zero w used = course [] used Through
-  drains (suc n) w used = if has_members w then and_then m w (rounds m.objects w used) (λ v used. drains n v used) else course [] used Through
+    -- the next node may not be finished yet: it has two or more objects to flush, or one that is copied, whose version is of
+    -- a command
+    abbrev pub must_log : World O → Bool
+    must_log w = nat_lt 1 (length (work w)) || list_any (is_stale w) (work w)
 
-  -- each install takes a member out, and the identity writes are of different dirty objects
-  abbrev pub drain_course : World O → ℕ → Course O
-  drain_course w used = drains (count_below (end_of w) w.graph + dirty_in m w) w used
+    -- what is logged then: of the work all but the longest of those that are not copied
+    abbrev pub others : World O → List ℕ
+    others w = but_longest copied (cached_length w) (work w)
+
+    -- while the node may not be finished, these are logged; so many rounds at most
+    abbrev pub rounds : ℕ → World O → ℕ → Course O
+    rounds zero w used = course (finish_steps w) used Through
+    rounds (suc n) w used = if must_log w then and_then m w (identities (others w) w used) (λ v used. rounds n v used) else course (finish_steps w) used Through
+
+    -- An install. Each object is logged at most once, so there are at most as many rounds as objects.
+    abbrev pub install_course : World O → ℕ → Course O
+    install_course w used = if has_members w then rounds m.objects w used else course [] used Through
+
+    -- installs until nothing is left: so many at most
+    abbrev pub drains : ℕ → World O → ℕ → Course O
+    drains zero w used = course [] used Through
+    drains (suc n) w used = if has_members w then and_then m w (rounds m.objects w used) (λ v used. drains n v used) else course [] used Through
+
+    -- each install takes a member out, and the identity writes are of different dirty objects
+    abbrev pub drain_course : World O → ℕ → Course O
+    drain_course w used = drains (count_below (end_of w) w.graph + dirty_in m w) w used
 
 -- the objects that a step logs by an identity write, and that the steps of a list log
 abbrev pub logged_by : {O : Type 0} → Step O → List ℕ

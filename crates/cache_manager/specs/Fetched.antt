@@ -106,4 +106,5 @@ module _ {O : Type 0} (m : Meaning O) (p : Params) (file : List ℕ) (it : Store
     dirty = λ x dirty. shows.dirty x (sym (is.dirty x) ∙ dirty);
     members = shows.members;
     accesses = shows.accesses;
+    identities = shows.identities;
   }

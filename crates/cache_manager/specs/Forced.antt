@@ -118,6 +118,7 @@ module _ {O : Type 0} (m : Meaning O) (p : Params) (d : Disk) (it : Parts) (w : 
       dirty = shows.store.dirty;
       members = shows.store.members;
       accesses = shows.store.accesses;
+      identities = shows.store.identities;
     });
     log = record {
       stable = shows.log.stable ++ shows.log.pending;

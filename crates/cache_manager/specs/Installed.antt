@@ -21,6 +21,7 @@ use Rattle.explain_core.specs.History.{accesses_of}
 use Rattle.explain_core.specs.World.{World, step}
 use Rattle.explain_core.specs.World.Step.{Slot_gate, Removal}
 use Rattle.standing.specs.Standing.{stored}
+use Rattle.cache_manager.specs.Courses.{is_identity_at}
 use Rattle.cache_manager.specs.Laid.{Laid, cell_or}
 use Rattle.cache_manager.specs.Joins.{cached_shown, clean_shown, stored_here}
 use Rattle.cache_manager.specs.Flushed.{IsFlushed}
@@ -107,6 +108,7 @@ module _ {O : Type 0} (m : Meaning O) (p : Params) (old new : List ℕ) (it : St
         ];
         members = shows.members;
         accesses = shows.accesses;
+        identities = shows.identities;
       }
 
 and_false : (b : Bool) → (b && false) ≡ false
@@ -164,4 +166,6 @@ removed_store m p file it entries w node shows same = record {
     reads = λ n y. (left_over (λ k. not (node k)) (λ e. is_among y e.reads) n it.entries ∙ ap (λ (a : Access). a.reads n y && not (node n)) shows.accesses ∙ turned (w.graph n) ((accesses_of m w.history).reads n y) (not (node n))) i;
     writes = λ n y. (left_over (λ k. not (node k)) (λ e. is_among y e.writes) n it.entries ∙ ap (λ (a : Access). a.writes n y && not (node n)) shows.accesses ∙ turned (w.graph n) ((accesses_of m w.history).writes n y) (not (node n))) i;
   });
+  identities = λ n. ap (λ (l : List Entry). list_any (λ e. (e.number == n) && e.identity) l) same ∙ left_over (λ k. not (node k)) (λ e. e.identity) n it.entries
+      ∙ ap (λ (b : Bool). b && not (node n)) (shows.identities n) ∙ turned (w.graph n) (is_identity_at w.history n) (not (node n));
 }

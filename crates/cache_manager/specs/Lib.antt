@@ -2,6 +2,7 @@ pub mod Laid
 pub mod LaidLaws
 pub mod LongSlot
 pub mod Courses
+pub mod Beside
 pub mod CourseLaws
 pub mod Running
 pub mod Parts

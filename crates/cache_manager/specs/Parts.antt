@@ -1,5 +1,6 @@
 -- Which world the parts of a running store show.
-use Rattle.std.specs.Prelude.{◌≡◌, ◌≢◌, ◌+◌, ◌-◌, ◌<◌, ◌≤◌, ◌^◌, ◌||◌, ℕ, Bool, true, false, All, Some, List, [], ◌∷◌, ◌++◌, take, drop}
+use Rattle.std.specs.Prelude.{◌≡◌, ◌≢◌, ◌+◌, ◌-◌, ◌<◌, ◌≤◌, ◌^◌, ◌||◌, ◌&&◌, ◌==◌, ℕ, Bool, true, false, All, Some, List, [], ◌∷◌, ◌++◌, take, drop}
+use Rattle.std.specs.List.{list_any}
 use Rattle.disk_model.specs.Disk.{Disk, IsSettled}
 use Rattle.disk_model.specs.declared.machine.FileNo.TheVariants.{Objects}
 use Rattle.oper_core.specs.Cell.{Cell}
@@ -24,6 +25,7 @@ use Rattle.explain_core.specs.World.{World, NoGroup, graph_access}
 use Rattle.explain_core.specs.Sound.{IsSound}
 use Rattle.standing.specs.Members.{members_of, tables_in}
 use Rattle.standing.specs.Standing.{stored, FilesShow}
+use Rattle.cache_manager.specs.Courses.{is_identity_at}
 use Rattle.cache_manager.specs.Running.{IsRunning}
 use Rattle.cache_manager.specs.Laid.{Laid, IsLaidOn, cell_or, with_entries}
 
@@ -53,7 +55,7 @@ cell_at p objects file x = cell_or (held objects.cache x) (stored p file x)
 
 -- The objects are laid on the file, whose slots have the world's cells, and are in all the world's cache; what is cached
 -- is of objects that there are, and is dirty exactly where the world's two identifiers differ. The entries are the members
--- of the world's graph, with what these read and write. Whether anything is left to replay is not said, nor is anything of
+-- of the world's graph, with what these read and write, and which of them are identity writes. Whether anything is left to replay is not said, nor is anything of
 -- the log.
 pub record ShowsStore {O : Type 0} (m : Meaning O) (p : Params) (file : List ℕ) (it : Store) (w : World O) : Type 0 where
   pub params : it.objects.slots.params ≡ p
@@ -64,6 +66,7 @@ pub record ShowsStore {O : Type 0} (m : Meaning O) (p : Params) (file : List ℕ
   pub dirty : (x : ℕ) → is_dirty it.objects.cache x ≡ true → (w.slots x).id ≢ (w.cache x).id
   pub members : (n : ℕ) → is_among n (numbers it.entries) ≡ w.graph n
   pub accesses : accesses it.entries ≡ graph_access m w
+  pub identities : (n : ℕ) → list_any (λ e. (e.number == n) && e.identity) it.entries ≡ (w.graph n && is_identity_at w.history n)
 
 -- The log in force has the stable members from the base on and the stable checks, and the others wait in its buffer.
 pub record ShowsLog {O : Type 0} (m : Meaning O) (d : Disk) (log : RecordLogView) (w : World O) : Type 0 where

@@ -6,7 +6,7 @@ use Rattle.oper_core.specs.Meaning.{Meaning}
 use Rattle.explain_core.specs.Turns.{count_below, dirty_in}
 use Rattle.explain_core.specs.World.{World, Step, run, end_of}
 use Rattle.explain_core.specs.World.Step.{Block_gate, Removal}
-use Rattle.cache_manager.specs.Courses.{Course, course, and_then, waits, buffered, grown, force_steps, room_steps, placed, cached_length, identity_length, identity_steps, identity_course, identities, next_node, work, others, flush_steps, removal_steps, finish_steps, rounds, has_members, install_course, drains, drain_course}
+use Rattle.cache_manager.specs.Courses.{Course, course, and_then, waits, buffered, grown, force_steps, room_steps, placed, cached_length, identity_length, identity_steps, identity_course, identities, next_node, work, must_log, others, flush_steps, removal_steps, finish_steps, rounds, has_members, install_course, drains, drain_course}
 use Rattle.cache_manager.specs.Courses.Stop.{Through, Full, At_end}
 use Rattle.cache_manager.specs.CourseLaws.{behind_both}
 use Rattle.cache_manager.specs.Running.{AreUpkeep}
@@ -58,21 +58,21 @@ module _ {O : Type 0} (m : Meaning O) where
   pub upkeep_finish : (w : World O) → AreUpkeep (finish_steps m w)
   upkeep_finish w = upkeep_append (force_steps m w) (removal_steps m (next_node m w) (work m w)) (upkeep_force w) (upkeep_removal (next_node m w) (work m w))
 
-  pub upkeep_rounds : (n : ℕ) (w : World O) (used : ℕ) → AreUpkeep (rounds m n w used).steps
-  upkeep_rounds zero w used = upkeep_finish w
-  upkeep_rounds (suc n) w used =
-      upkeep_either (nat_lt 1 (length (work m w))) (and_then m w (identities m (others m w) w used) (λ v used. rounds m n v used)) (course (finish_steps m w) used Through)
-      (upkeep_then w (identities m (others m w) w used) (λ v used. rounds m n v used) (upkeep_identities (others m w) w used) (λ v used. upkeep_rounds n v used))
+  pub upkeep_rounds : (copied n : ℕ) (w : World O) (used : ℕ) → AreUpkeep (rounds m copied n w used).steps
+  upkeep_rounds copied zero w used = upkeep_finish w
+  upkeep_rounds copied (suc n) w used =
+      upkeep_either (must_log m copied w) (and_then m w (identities m (others m copied w) w used) (λ v used. rounds m copied n v used)) (course (finish_steps m w) used Through)
+      (upkeep_then w (identities m (others m copied w) w used) (λ v used. rounds m copied n v used) (upkeep_identities (others m copied w) w used) (λ v used. upkeep_rounds copied n v used))
       (upkeep_finish w)
 
-  pub upkeep_install : (w : World O) (used : ℕ) → AreUpkeep (install_course m w used).steps
-  upkeep_install w used = upkeep_either (has_members m w) (rounds m m.objects w used) (course [] used Through) (upkeep_rounds m.objects w used) tt
+  pub upkeep_install : (copied : ℕ) (w : World O) (used : ℕ) → AreUpkeep (install_course m copied w used).steps
+  upkeep_install copied w used = upkeep_either (has_members m w) (rounds m copied m.objects w used) (course [] used Through) (upkeep_rounds copied m.objects w used) tt
 
-  pub upkeep_drains : (n : ℕ) (w : World O) (used : ℕ) → AreUpkeep (drains m n w used).steps
-  upkeep_drains zero w used = tt
-  upkeep_drains (suc n) w used =
-      upkeep_either (has_members m w) (and_then m w (rounds m m.objects w used) (λ v used. drains m n v used)) (course [] used Through)
-      (upkeep_then w (rounds m m.objects w used) (λ v used. drains m n v used) (upkeep_rounds m.objects w used) (λ v used. upkeep_drains n v used)) tt
+  pub upkeep_drains : (copied n : ℕ) (w : World O) (used : ℕ) → AreUpkeep (drains m copied n w used).steps
+  upkeep_drains copied zero w used = tt
+  upkeep_drains copied (suc n) w used =
+      upkeep_either (has_members m w) (and_then m w (rounds m copied m.objects w used) (λ v used. drains m copied n v used)) (course [] used Through)
+      (upkeep_then w (rounds m copied m.objects w used) (λ v used. drains m copied n v used) (upkeep_rounds copied m.objects w used) (λ v used. upkeep_drains copied n v used)) tt
 
-  pub upkeep_drain : (w : World O) (used : ℕ) → AreUpkeep (drain_course m w used).steps
-  upkeep_drain w used = upkeep_drains (count_below (end_of w) w.graph + dirty_in m w) w used
+  pub upkeep_drain : (copied : ℕ) (w : World O) (used : ℕ) → AreUpkeep (drain_course m copied w used).steps
+  upkeep_drain copied w used = upkeep_drains copied (count_below (end_of w) w.graph + dirty_in m w) w used

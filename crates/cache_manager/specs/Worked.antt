@@ -22,10 +22,10 @@ abbrev pub both_put : World ByteOp
 both_put = after_steps put_both
 
 abbrev pub install_both : ℕ → Course ByteOp
-install_both used = install_course two_objects both_put used
+install_both used = install_course two_objects 0 both_put used
 
 abbrev pub drain_both : Course ByteOp
-drain_both = drain_course two_objects both_put 74
+drain_both = drain_course two_objects 0 both_put 74
 
 -- the node that is next after the identity write of 1
 abbrev pub swap_node : ℕ → Bool
@@ -36,11 +36,11 @@ abbrev pub one_put : World ByteOp
 one_put = after_steps (Append (Command (Put 0 170)) ∷ Append (Command (Swap 0 1)) ∷ [])
 
 abbrev pub install_one_put : Course ByteOp
-install_one_put = install_course two_objects one_put 62
+install_one_put = install_course two_objects 0 one_put 62
 
 -- the two are put alone
 abbrev pub apart_put : World ByteOp
 apart_put = after_steps (Append (Command (Put 0 170)) ∷ Append (Command (Put 1 187)) ∷ [])
 
 abbrev pub drain_apart : Course ByteOp
-drain_apart = drain_course two_objects apart_put 62
+drain_apart = drain_course two_objects 0 apart_put 62

@@ -5,6 +5,7 @@ ghost use Rattle.explain_core.specs.Turns.{count_below, dirty_in};
 ghost use Rattle.explain_core.specs.World.{World, run, end_of};
 ghost use Rattle.cache_manager.specs.Courses.{force_course, identities, has_members, install_course, drain_course, logged_in, flushed_in, removals};
 ghost use Rattle.cache_manager.specs.Courses.Stop.{Through};
+ghost use Rattle.explain_core.specs.Backup.{AreBeside};
 ghost use Rattle.cache_manager.specs.FewLogged.{AreFewLogged};
 ghost use Rattle.cache_manager.specs.Running.{IsRunning, MayBeTaken, IsDrained};
 
@@ -27,11 +28,11 @@ pub fn identities_may_be_taken<O: Oper>()
     explain_core::every_run_keeps::<O>();
 }
 
-/// An install may be made, also where it is stopped. No object is logged twice in it, so its rounds end with a node that has
-/// one object to flush at most.
+/// An install may be made, also where it is stopped, and beside a copy of the slots, which has the objects below a number. No
+/// object is logged twice in it, so its rounds end with a node that may be finished.
 pub fn install_may_be_taken<O: Oper>()
-    ensures { (b : Bounds) (w : World O) (used : ℕ) → IsSmall b → IsRunning (O.meaning b) w →
-        MayBeTaken (O.meaning b) w (install_course (O.meaning b) w used).steps }
+    ensures { (b : Bounds) (copied : ℕ) (w : World O) (used : ℕ) → IsSmall b → IsRunning (O.meaning b) w →
+        MayBeTaken (O.meaning b) w (install_course (O.meaning b) copied w used).steps }
 {
     explain_core::every_run_keeps::<O>();
     install_order::last_blind_write_is_alone();
@@ -40,26 +41,26 @@ pub fn install_may_be_taken<O: Oper>()
 /// A drain may be made, also where it is stopped. Where nothing stops it, nothing is left in the graph, and no object is
 /// dirty.
 pub fn drain_may_be_taken<O: Oper>()
-    ensures taken { (b : Bounds) (w : World O) (used : ℕ) → IsSmall b → IsRunning (O.meaning b) w →
-        MayBeTaken (O.meaning b) w (drain_course (O.meaning b) w used).steps }
-    ensures drained { (b : Bounds) (w : World O) (used : ℕ) → IsSmall b → IsRunning (O.meaning b) w →
-        (drain_course (O.meaning b) w used).stop ≡ Through →
-        IsDrained (run (O.meaning b) w (drain_course (O.meaning b) w used).steps) }
+    ensures taken { (b : Bounds) (copied : ℕ) (w : World O) (used : ℕ) → IsSmall b → IsRunning (O.meaning b) w →
+        MayBeTaken (O.meaning b) w (drain_course (O.meaning b) copied w used).steps }
+    ensures drained { (b : Bounds) (copied : ℕ) (w : World O) (used : ℕ) → IsSmall b → IsRunning (O.meaning b) w →
+        (drain_course (O.meaning b) copied w used).stop ≡ Through →
+        IsDrained (run (O.meaning b) w (drain_course (O.meaning b) copied w used).steps) }
 {
     explain_core::every_run_keeps::<O>();
     install_order::last_blind_write_is_alone();
 }
 
-/// An install logs different objects that are dirty, none of them or fewer than there are; it flushes one object at most,
+/// An install logs different objects that are dirty, and where nothing is copied none or not all of them; it flushes one object at most,
 /// and it removes one node, unless it is stopped or the graph has no member.
 pub fn install_is_bounded<O: Oper>()
-    ensures logged { (b : Bounds) (w : World O) (used : ℕ) → IsSmall b → IsRunning (O.meaning b) w →
-        AreFewLogged (O.meaning b) w (logged_in (install_course (O.meaning b) w used).steps) }
-    ensures flushed { (b : Bounds) (w : World O) (used : ℕ) →
-        length (flushed_in (install_course (O.meaning b) w used).steps) ≤ 1 }
-    ensures removed { (b : Bounds) (w : World O) (used : ℕ) → removals (install_course (O.meaning b) w used).steps ≤ 1 }
-    ensures one { (b : Bounds) (w : World O) (used : ℕ) → IsTrue (has_members (O.meaning b) w) →
-        (install_course (O.meaning b) w used).stop ≡ Through → removals (install_course (O.meaning b) w used).steps ≡ 1 }
+    ensures logged { (b : Bounds) (copied : ℕ) (w : World O) (used : ℕ) → IsSmall b → IsRunning (O.meaning b) w →
+        AreFewLogged (O.meaning b) copied w (logged_in (install_course (O.meaning b) copied w used).steps) }
+    ensures flushed { (b : Bounds) (copied : ℕ) (w : World O) (used : ℕ) →
+        length (flushed_in (install_course (O.meaning b) copied w used).steps) ≤ 1 }
+    ensures removed { (b : Bounds) (copied : ℕ) (w : World O) (used : ℕ) → removals (install_course (O.meaning b) copied w used).steps ≤ 1 }
+    ensures one { (b : Bounds) (copied : ℕ) (w : World O) (used : ℕ) → IsTrue (has_members (O.meaning b) w) →
+        (install_course (O.meaning b) copied w used).stop ≡ Through → removals (install_course (O.meaning b) copied w used).steps ≡ 1 }
 {
     explain_core::every_run_keeps::<O>();
     install_order::last_blind_write_is_alone();
@@ -68,11 +69,23 @@ pub fn install_is_bounded<O: Oper>()
 /// The same bound holds for all that a drain logs, and it removes at most as many nodes as the graph has members and there
 /// are dirty objects together.
 pub fn drain_is_bounded<O: Oper>()
-    ensures logged { (b : Bounds) (w : World O) (used : ℕ) → IsSmall b → IsRunning (O.meaning b) w →
-        AreFewLogged (O.meaning b) w (logged_in (drain_course (O.meaning b) w used).steps) }
-    ensures removed { (b : Bounds) (w : World O) (used : ℕ) →
-        removals (drain_course (O.meaning b) w used).steps
+    ensures logged { (b : Bounds) (copied : ℕ) (w : World O) (used : ℕ) → IsSmall b → IsRunning (O.meaning b) w →
+        AreFewLogged (O.meaning b) copied w (logged_in (drain_course (O.meaning b) copied w used).steps) }
+    ensures removed { (b : Bounds) (copied : ℕ) (w : World O) (used : ℕ) →
+        removals (drain_course (O.meaning b) copied w used).steps
         ≤ count_below (end_of w) w.graph + dirty_in (O.meaning b) w }
+{
+    explain_core::every_run_keeps::<O>();
+    install_order::last_blind_write_is_alone();
+}
+
+/// The steps of an install and of a drain beside a copy of the slots, which has the objects below a number, may be taken while
+/// it is made: the slot of a copied object is set by a node of one identity write alone.
+pub fn installs_go_beside_a_copy<O: Oper>()
+    ensures install { (b : Bounds) (copied : ℕ) (w : World O) (used : ℕ) → IsSmall b → IsRunning (O.meaning b) w →
+        AreBeside (O.meaning b) copied w (install_course (O.meaning b) copied w used).steps }
+    ensures drain { (b : Bounds) (copied : ℕ) (w : World O) (used : ℕ) → IsSmall b → IsRunning (O.meaning b) w →
+        AreBeside (O.meaning b) copied w (drain_course (O.meaning b) copied w used).steps }
 {
     explain_core::every_run_keeps::<O>();
     install_order::last_blind_write_is_alone();

@@ -20,23 +20,25 @@ use log_records::RecordLog;
 use oper_core::Oper;
 use write_graph::WriteGraph;
 
-/// Installs the minimal node of the least name until no node is left. It answers how many were installed.
+/// Installs the minimal node of the least name until no node is left, beside a copy of the slots as [`install_one`] does. It
+/// answers how many were installed.
 pub fn drain<O: Oper, M: Machine>(
     log: &mut RecordLog<O>,
     objects: &mut Objects,
     graph: &mut WriteGraph,
     machine: &mut M,
+    copied: u32,
 ) -> Result<u64, InstallErr>
     requires in_use { ArePartsInUse (parts log.old objects.old graph.old.entries) }
     ensures takes { Takes O.meaning (M.disk machine.old) (M.disk machine.new) (parts log.old objects.old graph.old.entries)
-        (parts log.new objects.new graph.new.entries) (λ m w used. drain_course m w used) (ending_of result) }
+        (parts log.new objects.new graph.new.entries) (λ m w used. drain_course m copied w used) (ending_of result) }
     ensures quiet { IsQuiet (M.disk machine.old) (M.disk machine.new) }
     ensures kept { IsErrOf result InstallErr.DiskFault ⊎ AreKept O.meaning (M.disk machine.old) (M.disk machine.new)
         (parts log.old objects.old graph.old.entries) (parts log.new objects.new graph.new.entries) }
     ensures numbered { AreNumbered (parts log.old objects.old graph.old.entries) (parts log.new objects.new graph.new.entries) }
     ensures stops { StopsOnly log_limit log.new (ending_of result) }
     ensures count { (p : Numbers) (w : World O) → Shows (meaning_in O.meaning p) p (M.disk machine.old) (parts log.old objects.old graph.old.entries) w →
-        IfOk result (λ n. n ≡ removals (drain_course (meaning_in O.meaning p) w (used_of log.old.log)).steps) }
+        IfOk result (λ n. n ≡ removals (drain_course (meaning_in O.meaning p) copied w (used_of log.old.log)).steps) }
     // Each install takes an entry out of the graph at least, and each identity write puts one in.
     ensures bounded { IfOk result (λ n. n + log.old.next ≤ length graph.old.entries + log.new.next) }
     ensures drained { OnOk result (graph.new.entries ≡ []) }
@@ -48,7 +50,9 @@ pub fn drain<O: Oper, M: Machine>(
     install_order::last_blind_write_is_alone();
     let _held = graph.len();
     let mut count = 0;
-    while let Install::Installed { .. } = install_one::<O, M>(log, objects, graph, machine)? {
+    while let Install::Installed { .. } = install_one::<O, M>(
+        log, objects, graph, machine, copied,
+    )? {
         count += 1;
     }
     Ok(count)

@@ -1,5 +1,5 @@
 // Identity writes of several objects, one after the other.
-ghost use Rattle.std.specs.Prelude.{◌≡◌, ◌⊎◌, ◌<◌, ℕ, true, All, List, length, map, OnOk, IfOk, IsErrOf};
+ghost use Rattle.std.specs.Prelude.{◌≡◌, ◌⊎◌, ◌<◌, ℕ, true, All, List, Some, slice_get, length, map, OnOk, IfOk, IsErrOf};
 ghost use Rattle.std.specs.List.Sorted.{IsStrictlyIncreasing};
 ghost use Rattle.disk_model.specs.Disk.{Rises};
 ghost use Rattle.dirty_cache.specs.Contents.{is_dirty};
@@ -15,7 +15,7 @@ use crate::InstallErr;
 use crate::identity::log_identity;
 use crate::objects::Objects;
 use disk_model::Machine;
-use identity_writes::{Plan, plan};
+use identity_writes::plan_beside;
 use log_records::RecordLog;
 use oper_core::{Memory, Oper};
 use std::alloc::Global;
@@ -61,7 +61,8 @@ fn lengths_of(alloc: Global, objects: &Objects, xs: &[u32]) -> Result<Vec<u32>, 
     Ok(lengths)
 }
 
-/// Logs an identity write of each of these objects but the one with the longest value. They are dirty, and two at least.
+/// Logs an identity write of each of these objects but the one with the longest value of those that are not copied, which
+/// are those from a number on. They are dirty, and two at least, or one that is copied.
 pub(crate) fn log_others<O: Oper, M: Machine>(
     alloc: Global,
     log: &mut RecordLog<O>,
@@ -69,13 +70,14 @@ pub(crate) fn log_others<O: Oper, M: Machine>(
     graph: &mut WriteGraph,
     machine: &mut M,
     work: &[u32],
+    copied: u32,
 ) -> Result<(), InstallErr>
     requires in_use { ArePartsInUse (parts log.old objects.old graph.old.entries) }
     requires dirty { All (λ x. is_dirty objects.old.cache x ≡ true) work.now }
     requires rising { IsStrictlyIncreasing work.now }
-    requires many { 1 < length work.now }
+    requires some { (1 < length work.now) ⊎ ((x : ℕ) × (slice_get work.now 0 ≡ Some x) × (x < copied)) }
     ensures takes { Takes O.meaning (M.disk machine.old) (M.disk machine.new) (parts log.old objects.old graph.old.entries)
-        (parts log.new objects.new graph.new.entries) (λ m w used. identities m (but_longest (cached_length m w) work.now) w used) (ending_of result) }
+        (parts log.new objects.new graph.new.entries) (λ m w used. identities m (but_longest copied (cached_length m w) work.now) w used) (ending_of result) }
     ensures quiet { IsQuiet (M.disk machine.old) (M.disk machine.new) }
     ensures kept { IsErrOf result InstallErr.DiskFault ⊎ AreKept O.meaning (M.disk machine.old) (M.disk machine.new)
         (parts log.old objects.old graph.old.entries) (parts log.new objects.new graph.new.entries) }
@@ -85,10 +87,7 @@ pub(crate) fn log_others<O: Oper, M: Machine>(
     ensures cause { IsErrOf result InstallErr.DiskFault → Rises (M.disk machine.old).disk_faults (M.disk machine.new).disk_faults }
 {
     let lengths = lengths_of(alloc, objects, work)?;
-    let Plan { keep, log: others } = plan(alloc, work, lengths.as_slice())?;
-    if keep.is_none() {
-        return Ok(());
-    }
-    log_all::<O, M>(alloc, log, objects, graph, machine, others.as_slice())?;
+    let planned = plan_beside(alloc, work, lengths.as_slice(), copied)?;
+    log_all::<O, M>(alloc, log, objects, graph, machine, planned.log.as_slice())?;
     Ok(())
 }

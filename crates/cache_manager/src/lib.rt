@@ -16,6 +16,7 @@
 //! machine.
 #![tactic(auto)]
 
+mod beside;
 mod cached;
 mod courses;
 mod draining;
@@ -35,7 +36,7 @@ mod worked;
 
 pub use courses::{
     drain_is_bounded, drain_may_be_taken, force_may_be_taken, identities_may_be_taken,
-    install_is_bounded, install_may_be_taken,
+    install_is_bounded, install_may_be_taken, installs_go_beside_a_copy,
 };
 pub use draining::drain;
 pub use forcing::{force_all, make_block_room};

@@ -16,10 +16,11 @@ ghost use Rattle.cache_manager.specs.Taking.{ArePartsInUse, Takes, ending_of};
 ghost use Rattle.cache_manager.specs.Thin.{IsWork};
 ghost use Rattle.cache_manager.specs.Told.{IsInstall, TellsParts, listed};
 
+use crate::beside::may_finish;
 use crate::identities::log_others;
 use crate::nodes::install_node;
 use crate::objects::Objects;
-use crate::thin::{THIN, work_of};
+use crate::thin::work_of;
 use crate::{Install, InstallErr};
 use disk_model::Machine;
 use log_records::RecordLog;
@@ -70,22 +71,26 @@ fn first_of(work: &[u32]) -> Option<u32>
 /// Installs the minimal node of the least name. While it has two objects or more to flush, identity writes of all but the
 /// longest are logged; then all that waits is forced, the one object, if there is one, is flushed, and the node leaves the
 /// graph. At `LogFull` and `LsnEnd` an identity write has no place, and all that waited is forced.
+///
+/// Beside a copy of the slots, which has the objects below a number, a copied object is flushed from a node of one identity
+/// write alone: of the others it is logged. Where none is taken the number is 0.
 pub fn install_one<O: Oper, M: Machine>(
     log: &mut RecordLog<O>,
     objects: &mut Objects,
     graph: &mut WriteGraph,
     machine: &mut M,
+    copied: u32,
 ) -> Result<Install, InstallErr>
     requires in_use { ArePartsInUse (parts log.old objects.old graph.old.entries) }
     ensures takes { Takes O.meaning (M.disk machine.old) (M.disk machine.new) (parts log.old objects.old graph.old.entries)
-        (parts log.new objects.new graph.new.entries) (λ m w used. install_course m w used) (ending_of result) }
+        (parts log.new objects.new graph.new.entries) (λ m w used. install_course m copied w used) (ending_of result) }
     ensures quiet { IsQuiet (M.disk machine.old) (M.disk machine.new) }
     ensures kept { IsErrOf result InstallErr.DiskFault ⊎ AreKept O.meaning (M.disk machine.old) (M.disk machine.new)
         (parts log.old objects.old graph.old.entries) (parts log.new objects.new graph.new.entries) }
     ensures numbered { AreNumbered (parts log.old objects.old graph.old.entries) (parts log.new objects.new graph.new.entries) }
     ensures stops { StopsOnly log_limit log.new (ending_of result) }
     ensures told { (p : Numbers) (w : World O) → Shows (meaning_in O.meaning p) p (M.disk machine.old) (parts log.old objects.old graph.old.entries) w →
-        IfOk result (IsInstall (meaning_in O.meaning p) w (install_course (meaning_in O.meaning p) w (used_of log.old.log)).steps) }
+        IfOk result (IsInstall (meaning_in O.meaning p) w (install_course (meaning_in O.meaning p) copied w (used_of log.old.log)).steps) }
     ensures tells { IfOk result (TellsParts (parts log.old objects.old graph.old.entries) (parts log.new objects.new graph.new.entries)) }
     ensures cause { IsErrOf result InstallErr.DiskFault → Rises (M.disk machine.old).disk_faults (M.disk machine.new).disk_faults }
 {
@@ -96,8 +101,9 @@ pub fn install_one<O: Oper, M: Machine>(
     let first = log.next();
     while let Some(name) = graph.minimal() {
         let work = work_of(objects, graph, name)?;
-        if work.len() <= THIN {
-            let due = work.as_slice();
+        let due = work.as_slice();
+        let may = may_finish(graph, name, due, copied);
+        if may {
             let flushed = first_of(due);
             let ops = finish_next::<O, M>(log, objects, graph, machine, name, due)?;
             let identities = log.next() - first;
@@ -107,7 +113,7 @@ pub fn install_one<O: Oper, M: Machine>(
                 identities,
             });
         }
-        log_others::<O, M>(alloc, log, objects, graph, machine, work.as_slice())?;
+        log_others::<O, M>(alloc, log, objects, graph, machine, due, copied)?;
     }
     Ok(Install::Clean)
 }

@@ -124,6 +124,7 @@ module _ {O : Type 0} (m : Meaning O) (log : RecordLogView) (table : Logged_tabl
               dirty = shows.store.dirty;
               members = shows.store.members;
               accesses = shows.store.accesses;
+              identities = shows.store.identities;
             };
             log = record {
               stable = l.stable;

@@ -143,6 +143,7 @@ module _ {O : Type 0} (m : Meaning O) (p : Params) (d : Disk) (log : RecordLogVi
         dirty = shows.store.dirty;
         members = shows.store.members;
         accesses = shows.store.accesses;
+        identities = shows.store.identities;
       });
       log = record {
         stable = rewritten_records base table stable;

@@ -8,7 +8,7 @@ use Rattle.checkpointing.specs.Courses.{checkpoint_course, closing_course, trim_
 
 -- the first of the two puts is installed; the log has a header of 33 bytes, a block's head of 5, and two records of 12
 abbrev pub one_installed : World ByteOp
-one_installed = run two_objects apart_put (install_course two_objects apart_put 62).steps
+one_installed = run two_objects apart_put (install_course two_objects 0 apart_put 62).steps
 
 abbrev pub checkpoint_both : ℕ → Course ByteOp
 checkpoint_both used = checkpoint_course two_objects apart_put used

@@ -1,6 +1,7 @@
 -- A store in which nothing is cached shows the world that a restart finds, and what is due in a store that shows a world.
 use Rattle.std.proofs.Common.{◌≡◌, ◌∙◌, sym, ap, subst, ℕ, ◌<◌, ◌&&◌, nat_lt, nat_le, Bool, true, Option, None, Some, List, [], refl}
-use Rattle.std.specs.Prelude.{is_some}
+use Rattle.std.specs.Prelude.{is_some, ◌==◌}
+use Rattle.std.specs.List.{list_any}
 use Rattle.std.specs.Option.{option_or}
 use Rattle.std.proofs.lemmas.Bool.{both_ways, cond-true, lt-ltb}
 use Rattle.disk_model.specs.Disk.{Files}
@@ -25,6 +26,7 @@ use Rattle.explain_core.specs.World as core
 use Rattle.standing.specs.Crashed.{crashed-cache, crashed-graph}
 use Rattle.standing.specs.Standing.{stored}
 use Rattle.analysis_pass.specs.Analysis.{PlanView}
+use Rattle.cache_manager.specs.Courses.{is_identity_at}
 use Rattle.cache_manager.specs.Laid.{cell_or, id_at}
 use Rattle.cache_manager.specs.LaidLaws.{id_told}
 use Rattle.cache_manager.specs.Parts.{Store, ShowsStore}
@@ -50,6 +52,7 @@ empty_shows m p files slots plan records w due it same none empty = record {
   dirty = λ x is. absurd (some_held _ _ is (none x));
   members = λ n. ap (λ (es : List Entry). is_among n (numbers es)) empty ∙ ap (λ (g : ℕ → Bool). g n) (sym (crashed-graph m w due.found.crashed));
   accesses = ap accesses empty ∙ ap (λ (g : ℕ → Bool). within g (accesses_of m w.history)) (sym (crashed-graph m w due.found.crashed));
+  identities = λ n. ap (λ (es : List Entry). list_any (λ e. (e.number == n) && e.identity) es) empty ∙ ap (λ (g : ℕ → Bool). g n && is_identity_at w.history n) (sym (crashed-graph m w due.found.crashed));
 }
 
 module _ {O : Type 0} (m : Meaning O) (p : Params) (file : List ℕ) (it : Store) (w : World O) (shows : ShowsStore m p file it w) where

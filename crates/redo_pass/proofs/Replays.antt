@@ -4,6 +4,8 @@ use Rattle.std.specs.Prelude.{◌||◌, ◌&&◌, ◌==◌, nat_lt, nat_le}
 use Rattle.std.proofs.lemmas.Bool.{cases_eq, cases_Bool, both_ways, eq-eqb, ne_eqb, cond-true, cond-false, and_parts, ltb-true}
 use Rattle.std.proofs.lemmas.List.{map-append}
 use Rattle.std.proofs.lemmas.List.Folds.{list_any-append}
+use Rattle.std.specs.List.{list_any}
+use Rattle.explain_core.specs.History.Member.{Command, Identity}
 use Rattle.oper_core.specs.Cell.{Cell}
 use Rattle.oper_core.specs.State.{is_among, value_for}
 use Rattle.oper_core.specs.Meaning.{Meaning}
@@ -23,7 +25,8 @@ use Rattle.explain_core.specs.World.{World, step, graph_access, is_redone, plan_
 use Rattle.explain_core.specs.World.Step.{Replay}
 use Rattle.standing.specs.Standing.{stored}
 use Rattle.cache_manager.specs.Laid.{cell_or}
-use Rattle.cache_manager.specs.Parts.{Store, ShowsStore, entry_of}
+use Rattle.cache_manager.specs.Courses.{is_identity_at, is_identity_some}
+use Rattle.cache_manager.specs.Parts.{Store, ShowsStore, entry_of, is_identity}
 use Rattle.redo_pass.specs.Replayed.{IsReplayed, with_entry}
 
 or_false : (b : Bool) → (b || false) ≡ b
@@ -87,6 +90,16 @@ module _ {O : Type 0} (m : Meaning O) (w : World O) (entries : List Entry) (memb
   writes_after : (some : Bool) (n y : ℕ) → writes_at (with_entry some entries new) n y ≡ ((((n == w.next) && some) || w.graph n) && writes_some m (numbered w.history n) y)
   writes_after true n y = list_any-append (λ (e : Entry). (e.number == n) && is_among y e.writes) entries (new ∷ []) ∙ side_at n (λ o. writes_some m o y) (is_among y (writes_of m member)) (writes_at entries n y) (ap (λ (a : Access). a.writes n y) same) refl
   writes_after false n y = unjoined (n == w.next) (w.graph n) (writes_at entries n y) (writes_some m (numbered w.history n) y) (ap (λ (a : Access). a.writes n y) same)
+
+  identities_after : ((n : ℕ) → list_any (λ e. (e.number == n) && e.identity) entries ≡ (w.graph n && is_identity_at w.history n))
+      → (some : Bool) (n : ℕ) → list_any (λ e. (e.number == n) && e.identity) (with_entry some entries new) ≡ ((((n == w.next) && some) || w.graph n) && is_identity_at w.history n)
+  identities_after known true n = list_any-append (λ (e : Entry). (e.number == n) && e.identity) entries (new ∷ [])
+      ∙ side_at n (λ o. is_identity_some o) (is_identity member) (list_any (λ e. (e.number == n) && e.identity) entries) (known n) (of_member member)
+    where
+      of_member : (it : Member O) → is_identity_some (Some it) ≡ is_identity it
+      of_member (Command op) = refl
+      of_member (Identity x value) = refl
+  identities_after known false n = unjoined (n == w.next) (w.graph n) (list_any (λ e. (e.number == n) && e.identity) entries) (is_identity_at w.history n) (known n)
 
 module _ {O : Type 0} (m : Meaning O) (p : Params) (file : List ℕ) (before after : Store) (w : World O) (member : Member O) (made : List (List ℕ)) (sound : IsSound m w) (shows : ShowsStore m p file before w) (it : IsReplayed m w member made before after)
     (member_is : numbered w.history w.next ≡ Some member) (values : made ≡ effect_of m member (map (λ (x : ℕ). (w.cache x).value) (reads_of m member))) (there : (x : ℕ) → is_among x (writes_of m member) ≡ true → x < p.objects) where
@@ -160,4 +173,6 @@ module _ {O : Type 0} (m : Meaning O) (p : Params) (file : List ℕ) (before aft
       reads = λ n y. reads_after m w before.entries member sound member_is shows.members shows.accesses (some_below m.objects (is_redone m w)) n y i;
       writes = λ n y. writes_after m w before.entries member sound member_is shows.members shows.accesses (some_below m.objects (is_redone m w)) n y i;
     });
+    identities = λ n. ap (λ (l : List Entry). list_any (λ e. (e.number == n) && e.identity) l) it.entries
+        ∙ identities_after m w before.entries member sound member_is shows.members shows.accesses shows.identities (some_below m.objects (is_redone m w)) n;
   }

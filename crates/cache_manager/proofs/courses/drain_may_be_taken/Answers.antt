@@ -6,13 +6,13 @@ use Rattle.cache_manager.proofs.courses.drain_may_be_taken.Goals as goal
 
 pub returns : goal.returns
 returns g c = record {
-  taken = λ b w used small is.
+  taken = λ b copied w used small is.
       let m = g.O.Oper.meaning b in
       let keeps : KeepsSound m = λ v taken sound may. c.every_run_keeps.ensures.from_sound b v taken small sound may in
-      may_be_taken m w (drain_course m w used).steps keeps is (upkeep_drain m w used)
-      (drain_goes m (g.met.O.Oper.lawful b small) keeps c.last_blind_write_is_alone.ensures w used is).allowed;
-  drained = λ b w used small is through.
+      may_be_taken m w (drain_course m copied w used).steps keeps is (upkeep_drain m copied w used)
+      (drain_goes m copied (g.met.O.Oper.lawful b small) keeps c.last_blind_write_is_alone.ensures w used is).allowed;
+  drained = λ b copied w used small is through.
       let m = g.O.Oper.meaning b in
       let keeps : KeepsSound m = λ v taken sound may. c.every_run_keeps.ensures.from_sound b v taken small sound may in
-      (drain_goes m (g.met.O.Oper.lawful b small) keeps c.last_blind_write_is_alone.ensures w used is).through through;
+      (drain_goes m copied (g.met.O.Oper.lawful b small) keeps c.last_blind_write_is_alone.ensures w used is).through through;
 }

@@ -39,8 +39,8 @@ loop-count-init g c =
       numbered = numbered_here before;
       bounded = omega arith;
       counted = omega (arith, few, c.requires.in_use.store.low);
-      under = under_begins meaning old before (λ m w used. drain_course m w used) (λ m whole taken v used. DrainGoesOn 0 m whole taken v used) lawful
-          (λ p w shows. drain_left meaning g.met.O.Oper.lawful (λ b small v taken sound may. c.every_run_keeps.ensures.from_sound b v taken small sound may) c.last_blind_write_is_alone.ensures old before p w shows);
+      under = under_begins meaning old before (λ m w used. drain_course m c.args.copied w used) (λ m whole taken v used. DrainGoesOn 0 m c.args.copied whole taken v used) lawful
+          (λ p w shows. drain_left meaning g.met.O.Oper.lawful (λ b small v taken sound may. c.every_run_keeps.ensures.from_sound b v taken small sound may) c.last_blind_write_is_alone.ensures c.args.copied old before p w shows);
     }
 
 pub loop-count-preserved : goal.loop-count-preserved
@@ -62,7 +62,7 @@ loop-count-preserved g c =
       numbered = numbered_twice before here after so_far.numbered c.in_ok-install_one.ensures.numbered;
       bounded = omega (arith, so_far.bounded, tells.some some, tells.numbered, tells.entries);
       counted = omega (arith, so_far.counted, tells.some some, tells.numbered, tells.entries, kept.in_use.store.low);
-      under = installed_under meaning g.met.O.Oper.lawful (λ b small v taken sound may. c.every_run_keeps.ensures.from_sound b v taken small sound may) c.last_blind_write_is_alone.ensures now here old later before after c.loop-count.count so_far.under so_far.quiet c.in_ok-install_one.ensures.takes (λ none. some (tells.clean.1 none));
+      under = installed_under meaning g.met.O.Oper.lawful (λ b small v taken sound may. c.every_run_keeps.ensures.from_sound b v taken small sound may) c.last_blind_write_is_alone.ensures c.args.copied now here old later before after c.loop-count.count so_far.under so_far.quiet c.in_ok-install_one.ensures.takes (λ none. some (tells.clean.1 none));
     }
 
 pub install_one-requires : goal.install_one-requires
@@ -79,10 +79,10 @@ returns-in_err-install_one-clause-takes g c =
     let after : Parts = parts c.install_one.new.log c.install_one.new.objects c.install_one.new.graph.entries in
     let so_far = c.loop-count.invariant in
     let e = c.in_err-install_one.field-0.0 in
-    subst (λ (k : Ending). Takes meaning old later before after (λ m w used. drain_course m w used) k) (ends_as Install c.from_residual.result e c.from_residual.ensures.1)
-    (under_stops meaning old before (λ m w used. drain_course m w used) now later here after (λ m whole taken v used. DrainGoesOn c.loop-count.count m whole taken v used) so_far.under so_far.quiet
-    (λ m v used. install_course m v used) Install Install e c.in_err-install_one.ensures.takes
-    (λ p v whole taken shows left. install_next_is meaning g.met.O.Oper.lawful (λ b small v taken sound may. c.every_run_keeps.ensures.from_sound b v taken small sound may) c.last_blind_write_is_alone.ensures now here p v shows whole taken left.0))
+    subst (λ (k : Ending). Takes meaning old later before after (λ m w used. drain_course m c.args.copied w used) k) (ends_as Install c.from_residual.result e c.from_residual.ensures.1)
+    (under_stops meaning old before (λ m w used. drain_course m c.args.copied w used) now later here after (λ m whole taken v used. DrainGoesOn c.loop-count.count m c.args.copied whole taken v used) so_far.under so_far.quiet
+    (λ m v used. install_course m c.args.copied v used) Install Install e c.in_err-install_one.ensures.takes
+    (λ p v whole taken shows left. install_next_is meaning g.met.O.Oper.lawful (λ b small v taken sound may. c.every_run_keeps.ensures.from_sound b v taken small sound may) c.last_blind_write_is_alone.ensures c.args.copied now here p v shows whole taken left.0))
 
 pub returns-in_err-install_one-clause-quiet : goal.returns-in_err-install_one-clause-quiet
 returns-in_err-install_one-clause-quiet g c =
@@ -135,8 +135,8 @@ returns-clause-takes g c =
     let here : Parts = parts c.loop-count.log c.loop-count.objects c.loop-count.graph.entries in
     let after : Parts = parts c.install_one.new.log c.install_one.new.objects c.install_one.new.graph.entries in
     let so_far = c.loop-count.invariant in
-    under_ends meaning old before (λ m w used. drain_course m w used) later after (λ m whole taken v used. DrainDone c.loop-count.count m whole taken v used)
-    (drained_under meaning g.met.O.Oper.lawful (λ b small v taken sound may. c.every_run_keeps.ensures.from_sound b v taken small sound may) c.last_blind_write_is_alone.ensures now here old later before after c.loop-count.count so_far.under so_far.quiet c.in_ok-install_one.ensures.takes (c.in_ok-install_one.ensures.tells.clean.0 c.in_default.is))
+    under_ends meaning old before (λ m w used. drain_course m c.args.copied w used) later after (λ m whole taken v used. DrainDone c.loop-count.count m whole taken v used)
+    (drained_under meaning g.met.O.Oper.lawful (λ b small v taken sound may. c.every_run_keeps.ensures.from_sound b v taken small sound may) c.last_blind_write_is_alone.ensures c.args.copied now here old later before after c.loop-count.count so_far.under so_far.quiet c.in_ok-install_one.ensures.takes (c.in_ok-install_one.ensures.tells.clean.0 c.in_default.is))
     (λ p v whole taken shows left. left.0)
 
 pub returns-clause-quiet : goal.returns-clause-quiet
@@ -186,8 +186,8 @@ returns-clause-count g c =
     let after : Parts = parts c.install_one.new.log c.install_one.new.objects c.install_one.new.graph.entries in
     let so_far = c.loop-count.invariant in
     λ p w shows.
-    drained_count meaning g.met.O.Oper.lawful (λ b small v taken sound may. c.every_run_keeps.ensures.from_sound b v taken small sound may) c.last_blind_write_is_alone.ensures old later before after c.loop-count.count
-    (drained_under meaning g.met.O.Oper.lawful (λ b small v taken sound may. c.every_run_keeps.ensures.from_sound b v taken small sound may) c.last_blind_write_is_alone.ensures now here old later before after c.loop-count.count so_far.under so_far.quiet c.in_ok-install_one.ensures.takes (c.in_ok-install_one.ensures.tells.clean.0 c.in_default.is))
+    drained_count meaning g.met.O.Oper.lawful (λ b small v taken sound may. c.every_run_keeps.ensures.from_sound b v taken small sound may) c.last_blind_write_is_alone.ensures c.args.copied old later before after c.loop-count.count
+    (drained_under meaning g.met.O.Oper.lawful (λ b small v taken sound may. c.every_run_keeps.ensures.from_sound b v taken small sound may) c.last_blind_write_is_alone.ensures c.args.copied now here old later before after c.loop-count.count so_far.under so_far.quiet c.in_ok-install_one.ensures.takes (c.in_ok-install_one.ensures.tells.clean.0 c.in_default.is))
     p w shows
 
 pub returns-clause-drained : goal.returns-clause-drained
@@ -219,6 +219,6 @@ returns-clause-clean g c =
     let after : Parts = parts c.install_one.new.log c.install_one.new.objects c.install_one.new.graph.entries in
     let so_far = c.loop-count.invariant in
     λ p w shows.
-    drained_clean meaning g.met.O.Oper.lawful (λ b small v taken sound may. c.every_run_keeps.ensures.from_sound b v taken small sound may) c.last_blind_write_is_alone.ensures old later before after c.loop-count.count
-    (drained_under meaning g.met.O.Oper.lawful (λ b small v taken sound may. c.every_run_keeps.ensures.from_sound b v taken small sound may) c.last_blind_write_is_alone.ensures now here old later before after c.loop-count.count so_far.under so_far.quiet c.in_ok-install_one.ensures.takes (c.in_ok-install_one.ensures.tells.clean.0 c.in_default.is))
+    drained_clean meaning g.met.O.Oper.lawful (λ b small v taken sound may. c.every_run_keeps.ensures.from_sound b v taken small sound may) c.last_blind_write_is_alone.ensures c.args.copied old later before after c.loop-count.count
+    (drained_under meaning g.met.O.Oper.lawful (λ b small v taken sound may. c.every_run_keeps.ensures.from_sound b v taken small sound may) c.last_blind_write_is_alone.ensures c.args.copied now here old later before after c.loop-count.count so_far.under so_far.quiet c.in_ok-install_one.ensures.takes (c.in_ok-install_one.ensures.tells.clean.0 c.in_default.is))
     p w shows (none_left here after c.in_ok-install_one.field-0 c.in_ok-install_one.ensures.tells c.in_default.is)

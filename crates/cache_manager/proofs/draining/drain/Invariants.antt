@@ -19,7 +19,7 @@ invariant-loop-count g l =
       numbered : AreNumbered before here;
       bounded : l.count + l.fn.log.next + length l.graph.entries ≤ length l.fn.graph.entries + l.log.next;
       counted : l.count + (2 * (2 ^ 62 - l.log.next) + length l.graph.entries) ≤ 2 ^ 63;
-      under : AreUnder g.O.Oper.meaning old now before here (λ m w used. drain_course m w used) (λ m whole taken v used. DrainGoesOn l.count m whole taken v used);
+      under : AreUnder g.O.Oper.meaning old now before here (λ m w used. drain_course m l.fn.copied w used) (λ m whole taken v used. DrainGoesOn l.count m l.fn.copied whole taken v used);
     }
 
 abbrev pub decreases-loop-count : goal.decreases-loop-count

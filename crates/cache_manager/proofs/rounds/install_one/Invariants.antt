@@ -19,7 +19,7 @@ invariant-loop-name g l =
       numbered : AreNumbered before here;
       logged : (n : ℕ) × IsLonger n before here;
       none : l.fn.graph.entries ≡ [] → l.graph.entries ≡ [];
-      under : AreUnder g.O.Oper.meaning old now before here (λ m w used. install_course m w used) (λ m whole taken v used. InstallGoesOn m whole taken v used);
+      under : AreUnder g.O.Oper.meaning old now before here (λ m w used. install_course m l.fn.copied w used) (λ m whole taken v used. InstallGoesOn m l.fn.copied whole taken v used);
     }
 
 abbrev pub decreases-loop-name : goal.decreases-loop-name

@@ -24,7 +24,7 @@ returns c =
     } in
     record {
       running = running;
-      taken = c.install_may_be_taken.ensures two both_put 74 are_small running;
+      taken = c.install_may_be_taken.ensures two 0 both_put 74 are_small running;
       install = refl;
       node = (refl, refl, refl, refl);
       members = refl;

@@ -1,0 +1,15 @@
+use Rattle.cache_manager.specs.Running.{KeepsSound}
+use Rattle.cache_manager.proofs.Copying.{install_beside, drain_beside}
+use Rattle.cache_manager.proofs.courses.installs_go_beside_a_copy.Goals as goal
+
+pub returns : goal.returns
+returns g c = record {
+  install = λ b copied w used small is.
+      let m = g.O.Oper.meaning b in
+      let keeps : KeepsSound m = λ v taken sound may. c.every_run_keeps.ensures.from_sound b v taken small sound may in
+      install_beside m copied (g.met.O.Oper.lawful b small) keeps c.last_blind_write_is_alone.ensures w used is;
+  drain = λ b copied w used small is.
+      let m = g.O.Oper.meaning b in
+      let keeps : KeepsSound m = λ v taken sound may. c.every_run_keeps.ensures.from_sound b v taken small sound may in
+      drain_beside m copied (g.met.O.Oper.lawful b small) keeps c.last_blind_write_is_alone.ensures w used is;
+}
