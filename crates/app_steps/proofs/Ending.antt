@@ -15,7 +15,7 @@ use Rattle.cache_manager.specs.Courses.Stop.{Full, At_end}
 use Rattle.cache_manager.specs.Taking.Ending.{Done, Stopped}
 use Rattle.execution.specs.declared.exec_err.ExecErr.{ExecErr}
 use Rattle.execution.specs.declared.exec_err.ExecErr.TheVariants.{Refused, LogFull, LsnEnd, DiskFault, Damaged, Memory}
-use Rattle.store_engine.specs.Engine.{EngineView, HasCause, Holds}
+use Rattle.store_engine.specs.Engine.{EngineView, HasCause, Holds, group_size}
 use Rattle.store_engine.specs.Store.{refusal_after}
 use Rattle.command_lists.specs.Laws.{CallsBehind, ExecDone, ExecFailed, ExecRefused, ExecStopped}
 use Rattle.command_lists.specs.Lists.{AddsFront, AreCalls, IsCutOff, ending_of}
@@ -44,7 +44,7 @@ module _ {T : Type 0} (disk : T → Disk) (old mid new : T) (before between now 
     op = step_of app
 
     -- why the next step gets its answer, on the map after those that are done
-    cause : (r : Result ℕ ExecErr) → HasRun all_meaning (disk mid) (disk new) between now op r → HasCause all_meaning p (after p commands app n done) op r
+    cause : (r : Result ℕ ExecErr) → HasRun all_meaning (disk mid) (disk new) between now op r → HasCause all_meaning (group_size between) p (after p commands app n done) op r
     cause r ran = ran.exactly p (commands ++ replicate done op) (all_hold all_meaning (disk old) (disk mid) before between p holds.world commands (replicate done op) made.front)
 
     pub one_more : ExecDone all_meaning disk → done < n → (k : ℕ) → HasRun all_meaning (disk mid) (disk new) between now op (Ok k) → IsMade p (disk old) (disk new) before now commands holds app n (done + 1)

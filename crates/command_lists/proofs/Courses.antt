@@ -1,6 +1,7 @@
 -- Courses of commands: one of them, two lists, and the objects that they log.
-use Rattle.std.proofs.Common.{◌≡◌, ◌∙◌, sym, subst, ap, ℕ, ◌+◌, ◌⊎◌, inl, inr, true, List, [], ◌∷◌, ◌++◌, length, length-append, take, refl, append_assoc, arith}
-use Rattle.std.specs.Prelude.{◌^◌, ◌&&◌, nat_le, nat_lt, IsTrue, IsFalse}
+use Rattle.std.proofs.Common.{◌≡◌, ◌∙◌, sym, subst, ap, ℕ, ◌⊎◌, inl, inr, Bool, true, false, Option, None, Some, List, [], ◌∷◌, ◌++◌, length, length-append, take, refl, append_assoc, arith}
+use Rattle.std.specs.Prelude.{◌^◌, nat_le, nat_lt, IsTrue, IsFalse}
+use Rattle.std.specs.Option.{is_some}
 use Rattle.std.proofs.lemmas.Bool.{both_ways, cond_both}
 use Rattle.oper_core.specs.Meaning.{Meaning}
 use Rattle.explain_core.specs.History.{commands_of}
@@ -8,16 +9,16 @@ use Rattle.explain_core.specs.History.Member.{Command}
 use Rattle.explain_core.specs.RunLaws.{Begins, run-append}
 use Rattle.explain_core.specs.StableLaws.{commands_of-append}
 use Rattle.explain_core.specs.Taken.{IsAfterSome, after_all, after_behind, after_longer}
-use Rattle.explain_core.specs.World.{World, Step, run, step, end_of}
+use Rattle.explain_core.specs.World.{World, Step, run, step, end_of, IsLive}
 use Rattle.explain_core.specs.World.Step.{Append, Block_gate}
 use Rattle.cache_manager.specs.CourseLaws.{behind_both, behind_stopped, behind_through, joined}
 use Rattle.cache_manager.specs.Courses.{Course, behind, course, force_steps, grown, is_through, logged_by, logged_in, waits}
 use Rattle.cache_manager.specs.Courses.Stop.{Through, Full, At_end}
-use Rattle.cache_manager.specs.Running.{IsRunning, run_upkept}
+use Rattle.cache_manager.specs.Running.{run_upkept}
 use Rattle.cache_manager.specs.Taking.{Ending}
 use Rattle.cache_manager.specs.Taking.Ending.{Done, Stopped, Short, Failed}
 use Rattle.cache_manager.specs.Upkeep.{upkeep_force}
-use Rattle.execution.specs.Courses.{append_course, command_length}
+use Rattle.execution.specs.Courses.{append_course, command_length, needed, unplaced_steps}
 use Rattle.command_lists.specs.Lists.{EndsBy, IsBehind, commands_course}
 
 logged-append : {O : Type 0} (xs ys : List (Step O)) → logged_in (xs ++ ys) ≡ logged_in xs ++ logged_in ys
@@ -36,20 +37,24 @@ one_begins {O} s (t ∷ u ∷ rest) begins = absurd (omega (arith, ap (λ (l : L
 
 module _ {O : Type 0} (m : Meaning O) (limit : ℕ) (op : O) (w : World O) (used : ℕ) where
   abbrev one : Course O
-  one = append_course m limit op w used
+  one = append_course m (is_some w.group) limit op w used
 
-  -- it is a force, where the log has no room or no number is left, or the append
-  by_placed : (P : Course O → Type 0) → ((need : ℕ) → P (course (force_steps m w) used (Full used need limit))) → ((number : ℕ) → P (course (force_steps m w) used (At_end number)))
+  -- what is done without a place
+  abbrev unplaced : List (Step O)
+  unplaced = unplaced_steps m (is_some w.group) w
+
+  -- it is that, where the log has no room or no number is left, or the append
+  by_placed : (P : Course O → Type 0) → ((need : ℕ) → P (course unplaced used (Full used need limit))) → ((number : ℕ) → P (course unplaced used (At_end number)))
       → ((longer : ℕ) → P (course (Append (Command op) ∷ []) longer Through)) → P one
   by_placed P full ends fits =
-      cond_both (nat_lt limit (grown m w used (command_length m op))) _ _ P (λ over. full (command_length m op + 5))
-      (λ not_over. cond_both (true && nat_le (2 ^ 62) (end_of w)) _ _ P (λ last. ends (end_of w)) (λ low. fits (grown m w used (command_length m op))))
+      cond_both (nat_lt limit (grown m w used (command_length m op))) _ _ P (λ over. full (needed m (is_some w.group) w (command_length m op)))
+      (λ not_over. cond_both (nat_le (2 ^ 62) (end_of w)) _ _ P (λ last. ends (end_of w)) (λ low. fits (grown m w used (command_length m op))))
 
   steps_through : one.stop ≡ Through → one.steps ≡ Append (Command op) ∷ []
   steps_through = by_placed (λ (c : Course O). c.stop ≡ Through → c.steps ≡ Append (Command op) ∷ []) (λ need e. cc) (λ number e. cc) (λ longer e. refl)
 
-  steps_stopped : IsFalse (is_through one.stop) → one.steps ≡ force_steps m w
-  steps_stopped = by_placed (λ (c : Course O). IsFalse (is_through c.stop) → c.steps ≡ force_steps m w) (λ need no. refl) (λ number no. refl) (λ longer no. absurd (both_ways _ no refl))
+  steps_stopped : IsFalse (is_through one.stop) → one.steps ≡ unplaced
+  steps_stopped = by_placed (λ (c : Course O). IsFalse (is_through c.stop) → c.steps ≡ unplaced) (λ need no. refl) (λ number no. refl) (λ longer no. absurd (both_ways _ no refl))
 
   -- done, it adds the command
   command_added : commands_of (run m w (Append (Command op) ∷ [])).history ≡ commands_of w.history ++ op ∷ []
@@ -60,10 +65,13 @@ module _ {O : Type 0} (m : Meaning O) (limit : ℕ) (op : O) (w : World O) (used
   commands_through through = ap (λ (l : List (Step O)). commands_of (run m w l).history) (steps_through through) ∙ command_added
 
   -- stopped, it adds none
-  pub commands_stopped : IsRunning m w → IsFalse (is_through one.stop) → commands_of (run m w one.steps).history ≡ commands_of w.history
-  commands_stopped running stopped =
-      ap (λ (l : List (Step O)). commands_of (run m w l).history) (steps_stopped stopped)
-      ∙ (run_upkept m w (force_steps m w) (upkeep_force m w) running.live running.alone).commands
+  unplaced_same : (group : Option ℕ) → w.group ≡ group → IsLive w → commands_of (run m w (unplaced_steps m (is_some group) w)).history ≡ commands_of w.history
+  unfolding run
+  unplaced_same (Some begun) inside live = refl
+  unplaced_same None none live = (run_upkept m w (force_steps m w) (upkeep_force m w) live none).commands
+
+  pub commands_stopped : IsLive w → IsFalse (is_through one.stop) → commands_of (run m w one.steps).history ≡ commands_of w.history
+  commands_stopped live stopped = ap (λ (l : List (Step O)). commands_of (run m w l).history) (steps_stopped stopped) ∙ unplaced_same w.group refl live
 
   -- some first steps of these after which there are as many commands as before: there are the same ones
   abbrev pub IsSameWhereAsMany : List (Step O) → Type 0
@@ -83,6 +91,10 @@ module _ {O : Type 0} (m : Meaning O) (limit : ℕ) (op : O) (w : World O) (used
   same_force : IsSameWhereAsMany (force_steps m w)
   same_force = cond_both (waits m w) _ _ (λ (l : List (Step O)). IsSameWhereAsMany l) (λ some. same_gate) (λ none. same_none)
 
+  same_unplaced : (grouped : Bool) → IsSameWhereAsMany (unplaced_steps m grouped w)
+  same_unplaced true = same_none
+  same_unplaced false = same_force
+
   same_append : IsSameWhereAsMany (Append (Command op) ∷ [])
   unfolding run
   same_append taken begins as_many = elim (one_begins (Append (Command op)) taken begins) [
@@ -91,14 +103,18 @@ module _ {O : Type 0} (m : Meaning O) (limit : ℕ) (op : O) (w : World O) (used
   ]
 
   pub same_commands : IsSameWhereAsMany one.steps
-  same_commands = by_placed (λ (c : Course O). IsSameWhereAsMany c.steps) (λ need. same_force) (λ number. same_force) (λ longer. same_append)
+  same_commands = by_placed (λ (c : Course O). IsSameWhereAsMany c.steps) (λ need. same_unplaced (is_some w.group)) (λ number. same_unplaced (is_some w.group)) (λ longer. same_append)
 
   -- it logs no object
   none_forced : logged_in (force_steps m w) ≡ []
   none_forced = cond_both (waits m w) _ _ (λ (l : List (Step O)). logged_in l ≡ []) (λ some. refl) (λ none. refl)
 
+  none_unplaced : (grouped : Bool) → logged_in (unplaced_steps m grouped w) ≡ []
+  none_unplaced true = refl
+  none_unplaced false = none_forced
+
   pub none_logged : logged_in one.steps ≡ []
-  none_logged = by_placed (λ (c : Course O). logged_in c.steps ≡ []) (λ need. none_forced) (λ number. none_forced) (λ longer. refl)
+  none_logged = by_placed (λ (c : Course O). logged_in c.steps ≡ []) (λ need. none_unplaced (is_some w.group)) (λ number. none_unplaced (is_some w.group)) (λ longer. refl)
 
   -- alone it is the list of one
   pub course_of_one : one.stop ≡ Through → commands_course m limit (op ∷ []) w used ≡ course (one.steps ++ []) one.used Through
@@ -123,7 +139,7 @@ module _ {O : Type 0} (m : Meaning O) (limit : ℕ) where
   unfolding run
   course_joined [] ys w used through = refl
   course_joined (op ∷ xs) ys w used through =
-      let one = append_course m limit op w used in
+      let one = append_course m (is_some w.group) limit op w used in
       let v = run m w one.steps in
       let rest = whole xs v one.used in
       let goes = first_through one rest through in
@@ -141,7 +157,7 @@ module _ {O : Type 0} (m : Meaning O) (limit : ℕ) where
   pub none_logged_in : (ops : List O) (w : World O) (used : ℕ) → logged_in (whole ops w used).steps ≡ []
   none_logged_in [] w used = refl
   none_logged_in (op ∷ ops) w used =
-      let one = append_course m limit op w used in
+      let one = append_course m (is_some w.group) limit op w used in
       let rest = whole ops (run m w one.steps) one.used in
       behind_both (λ (c : Course O). logged_in c.steps ≡ []) one rest one.stop
       (λ yes_through. logged-append one.steps rest.steps ∙ (λ i. none_logged m limit op w used i ++ none_logged_in ops (run m w one.steps) one.used i))

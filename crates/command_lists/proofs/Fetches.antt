@@ -19,7 +19,7 @@ module _ {O : Type 0} (meaning : Bounds → Meaning O) (p : Params) (old mid new
   -- unless the disk fails, nothing is added
   read : (error : Option ExecErr) → HasFetched meaning mid new between after object error → (error ≡ Some DiskFault → ⊥) → AddsFront meaning p old new before after w commands front Done
   read error fetched fine =
-      front_still meaning p old mid new before between after w commands front lawful_mid lawful_new first fetched.call.kept fetched.call.log fetched.call.identities
+      front_still meaning p old mid new before between after w commands front lawful_mid lawful_new first fetched.call.kept fetched.call.log fetched.call.group fetched.call.identities
       (λ v shows. ⊎_elim (λ failed. absurd (fine failed)) (λ there. there) (fetched.shows p v shows))
 
   pub fetch_done : (error : Option ExecErr) → HasFetched meaning mid new between after object error → ending_of error ≡ Done → AddsFront meaning p old new before after w commands front Done
@@ -41,6 +41,6 @@ module _ {O : Type 0} (meaning : Bounds → Meaning O) (p : Params) (old mid new
   fetch_failed (Some (LogFull used need limit)) fetched rest off = absurd off
   fetch_failed (Some (LsnEnd number)) fetched rest off = absurd off
   fetch_failed (Some DiskFault) fetched rest off =
-      front_failed meaning p old mid new before between after w commands front lawful_mid lawful_new first fetched.call.kept fetched.call.identities rest
+      front_failed meaning p old mid new before between after w commands front lawful_mid lawful_new first fetched.call.kept fetched.call.log fetched.call.group fetched.call.identities rest
   fetch_failed (Some (Damaged file place)) fetched rest off = short (Some (Damaged file place)) fetched (λ e. subst HasNoFault e tt) rest
   fetch_failed (Some Memory) fetched rest off = short (Some Memory) fetched (λ e. subst HasNoFault e tt) rest

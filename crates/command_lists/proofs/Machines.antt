@@ -1,6 +1,7 @@
 -- What holds on every machine of commands that are run and objects that are fetched.
 use Rattle.std.proofs.Common.{◌≡◌, ◌∙◌, subst, ℕ, ◌≤◌, false, refl, inl, inr, ◌⊎◌, ⊎_elim, Option, None, Some, arith}
 use Rattle.std.specs.Prelude.{◌↔◌, Result, Ok, Err, IfErr, IfSome}
+use Rattle.std.specs.Option.{is_some}
 use Rattle.std.specs.Result.{result_err}
 use Rattle.std.proofs.lemmas.Bool.{both_ways}
 use Rattle.disk_model.specs.Disk.{Disk, IsDisk, Rises, Stays}
@@ -10,10 +11,10 @@ use Rattle.oper_core.specs.declared.bounds.Bounds.{Bounds}
 use Rattle.formats.specs.declared.params.Params.{Params}
 use Rattle.explain_core.specs.World.{World}
 use Rattle.cache_manager.specs.Courses.{Stop}
-use Rattle.cache_manager.specs.Kept.{StopsAt}
 use Rattle.cache_manager.specs.Taking.{Ending}
 use Rattle.cache_manager.specs.Taking.Ending.{Stopped}
 use Rattle.execution.specs.Answers.{ending_of_exec}
+use Rattle.execution.specs.Stops.{StopsCommand}
 use Rattle.execution.specs.declared.exec_err.ExecErr.{ExecErr}
 use Rattle.execution.specs.declared.exec_err.ExecErr.TheVariants.{Refused, LogFull, LsnEnd, DiskFault, Damaged, Memory}
 use Rattle.store_engine.specs.Engine.{EngineView, IsAttached, IsCall, IsFailed, IsFetch, ShowsIn, params_of}
@@ -34,6 +35,7 @@ calls_none meaning d e fine = record {
     time = passes_none d;
     quiet = λ told. refl;
     params = refl;
+    group = refl;
     attached = inr (λ attached. attached);
     identities = omega arith;
     stopped = λ stop is. cc;
@@ -77,7 +79,7 @@ module _ {O : Type 0} (meaning : Bounds → Meaning O) (old new : Disk) (before 
     abbrev Failure : Option ExecErr → Type 0
     Failure error = IfSome error (IsFetchFailure old new before object)
 
-    not_stopped : (error : Option ExecErr) → Failure error → (most : ℕ) (stop : Stop) → ending_of error ≡ Stopped stop → StopsAt most after.parts.log stop
+    not_stopped : (error : Option ExecErr) → Failure error → (most : ℕ) (stop : Stop) → ending_of error ≡ Stopped stop → StopsCommand (is_some before.group) most after.parts.log stop
     not_stopped None cause most stop is = cc
     not_stopped (Some (Refused refusal)) cause most stop is = cc
     not_stopped (Some (LogFull used need limit)) cause most stop is = absurd cause.1
@@ -120,6 +122,7 @@ module _ {O : Type 0} (meaning : Bounds → Meaning O) (old new : Disk) (before 
         time = fetched.call.kept.time;
         quiet = fetched.call.kept.said;
         params = fetched.params;
+        group = fetched.call.group;
         attached = inr fetched.call.attached;
         identities = omega (arith, fetched.call.identities);
         stopped = not_stopped error fetched.cause (params_of before).limit;
@@ -148,6 +151,7 @@ module _ {O : Type 0} (meaning : Bounds → Meaning O) (old new : Disk) (before 
             kept = call.kept;
             log = call.log;
             identities = call.identities;
+            group = call.group;
             attached = call.attached;
             broken = ((λ broken. same.0 (call.broken.0 broken)), (λ failed. call.broken.1 (same.1 failed)));
           };
@@ -169,9 +173,12 @@ module _ {O : Type 0} (meaning : Bounds → Meaning O) (old mid new : Disk) (bef
       time = passes_twice old mid new lawful first.call.time second.call.time;
       quiet = λ told. second.call.quiet (first.call.time.files_told.0 told) ∙ first.call.quiet told;
       params = second.call.params ∙ first.call.params;
+      group = second.call.group ∙ first.call.group;
       attached = ⊎_elim (λ failed. inl failed) (λ keeps. inr (λ attached. keeps (still_attached attached))) second.call.attached;
       identities = omega (arith, first.call.identities, second.call.identities);
-      stopped = λ stop is. subst (λ (q : Params). StopsAt q.limit after.parts.log stop) first.call.params (second.call.stopped stop is);
+      stopped = λ stop is.
+          subst (λ (o : Option ℕ). StopsCommand (is_some o) (params_of before).limit after.parts.log stop) first.call.group
+          (subst (λ (q : Params). StopsCommand (is_some between.group) q.limit after.parts.log stop) first.call.params (second.call.stopped stop is));
       broken = second.call.broken;
       fault = λ failed. rises_later old.disk_faults mid.disk_faults new.disk_faults first.call.time.disk_faults (second.call.fault failed);
     };

@@ -1,5 +1,6 @@
 -- Several commands, one after the other, on an engine that stands for commands.
 use Rattle.std.specs.Prelude.{◌≡◌, ◌⊎◌, ◌+◌, ◌≤◌, ⊤, ℕ, List, [], ◌∷◌, ◌++◌, length, take, drop, Option, None, Some}
+use Rattle.std.specs.Option.{is_some}
 use Rattle.disk_model.specs.Disk.{Disk, LeavesOnly, Passes}
 use Rattle.oper_core.specs.Meaning.{Meaning}
 use Rattle.oper_core.specs.declared.bounds.Bounds.{Bounds}
@@ -16,7 +17,7 @@ use Rattle.cache_manager.specs.Taking.Ending.{Done, Stopped, Short, Failed}
 use Rattle.execution.specs.Courses.{append_course}
 use Rattle.execution.specs.declared.exec_err.ExecErr.{ExecErr}
 use Rattle.execution.specs.declared.exec_err.ExecErr.TheVariants.{Refused, LogFull, LsnEnd, DiskFault, Damaged, Memory}
-use Rattle.store_engine.specs.Engine.{EngineView, Between, IsAttached, IsCall, IsFailed, ShowsIn, forced_in, params_of, used_in}
+use Rattle.store_engine.specs.Engine.{EngineView, Between, IsAttached, IsCall, IsFailed, ShowsIn, forced_in, group_size, needed_in, params_of, used_in}
 use Rattle.store_engine.specs.Store.{meaning_in, record_length, refusal_after}
 
 -- how a call ends that answers this error, or none: one that is refused has done all that it does
@@ -28,6 +29,11 @@ ending_of (Some (LsnEnd number)) = Stopped (At_end number)
 ending_of (Some DiskFault) = Failed
 ending_of (Some (Damaged file place)) = Short
 ending_of (Some Memory) = Short
+
+-- the number of commands of the open group with some more
+abbrev pub larger : Option ℕ → ℕ → Option ℕ
+larger None more = None
+larger (Some size) more = Some (size + more)
 
 -- it ended before all was done
 abbrev pub IsUnfinished : Ending → Type 0
@@ -55,10 +61,10 @@ IsUndamaged (Some Memory) = ⊤
 
 module _ {O : Type 0} (m : Meaning O) where
   -- the course of commands that nothing refuses, one after the other, in a log with this limit: it ends where one of them
-  -- is stopped
+  -- is stopped; within a group nothing is forced then
   abbrev pub commands_course : ℕ → List O → World O → ℕ → Course O
   commands_course limit [] w used = course [] used Through
-  commands_course limit (op ∷ ops) w used = and_then m w (append_course m limit op w used) (λ v used. commands_course limit ops v used)
+  commands_course limit (op ∷ ops) w used = and_then m w (append_course m (is_some w.group) limit op w used) (λ v used. commands_course limit ops v used)
 
   -- this is the world after the whole course, and this is how long the log is then
   pub record IsBehind (w : World O) (c : Course O) (now : World O) (used : ℕ) : Type 0 where
@@ -81,19 +87,20 @@ pub record AreCalls {O : Type 0} (meaning : Bounds → Meaning O) (old new : Dis
   pub undamaged : old.tells_files → IsAttached meaning old before → IsUndamaged error
 
 module _ {O : Type 0} (meaning : Bounds → Meaning O) (p : Params) where
-  -- what is said of a command for which the log has no room: how many bytes it needs, and the limit
-  abbrev pub IsNeed : O → Stop → Type 0
-  IsNeed op Through = ⊥
-  IsNeed op (Full used need limit) = (need ≡ record_length meaning p op + 5) × (limit ≡ p.limit)
-  IsNeed op (At_end number) = ⊤
-  IsNeed op (Worn epoch) = ⊥
+  -- what is said of a command for which the log has no room: how many bytes it needs, with so many commands in the open
+  -- group, and the limit
+  abbrev pub IsNeed : Option ℕ → O → Stop → Type 0
+  IsNeed size op Through = ⊥
+  IsNeed size op (Full used need limit) = (need ≡ needed_in size (record_length meaning p op)) × (limit ≡ p.limit)
+  IsNeed size op (At_end number) = ⊤
+  IsNeed size op (Worn epoch) = ⊥
 
-  -- of these commands the one after the first `done` was stopped so
-  pub record IsStoppedAt (ops : List O) (done : ℕ) (stop : Stop) : Type 0 where
+  -- of these commands the one after the first `done` was stopped so; before the first the open group had so many
+  pub record IsStoppedAt (size : Option ℕ) (ops : List O) (done : ℕ) (stop : Stop) : Type 0 where
     pub op : O
     pub rest : List O
     pub here : drop done ops ≡ op ∷ rest
-    pub need : IsNeed op stop
+    pub need : IsNeed (larger size done) op stop
 
   -- After the commands this command comes next of those that are to come, unless it is refused there.
   abbrev pub ComesNext : List O → O → List O → Type 0
@@ -108,8 +115,9 @@ module _ {O : Type 0} (meaning : Bounds → Meaning O) (p : Params) where
 
   -- A call on an engine and files that show the world, which has these commands, was to add the operations to them, one
   -- after the other, and has added the first `done`: all of them where it is done. Unless the disk failed, engine and files
-  -- then show a world that has these too, and no fewer commands are forced. A crash at any moment of it leaves a front of
-  -- them, with at least those that were forced, and the world after some first steps of their course.
+  -- then show a world that has these too, in the same group or none, and no fewer commands are forced: as many, or, where no
+  -- group is open, at least those before it. A crash at any moment of it leaves such a front of them, and the world after some
+  -- first steps of their course.
   pub record AddsFront (old new : Disk) (before after : EngineView) (w : World O) (commands ops : List O) (ending : Ending) : Type 0 where
     pub time : Passes old new
     pub done : ℕ
@@ -117,7 +125,10 @@ module _ {O : Type 0} (meaning : Bounds → Meaning O) (p : Params) where
     pub all : ending ≡ Done → done ≡ length ops
     pub kept : IsFailed ending ⊎ HasReached new after w (used_in before) ops (commands ++ take done ops) ending
     pub rising : IsFailed ending ⊎ (forced_in before ≤ forced_in after)
-    pub stopped : (stop : Stop) → ending ≡ Stopped stop → IsStoppedAt ops done stop
+    pub which : IsFailed ending ⊎ ((forced_in after ≡ forced_in before) ⊎ ((before.group ≡ None) × (length commands ≤ forced_in after)))
+    pub group : after.group ≡ before.group
+    pub size : group_size after ≡ larger (group_size before) done
+    pub stopped : (stop : Stop) → ending ≡ Stopped stop → IsStoppedAt (group_size before) ops done stop
     pub identities : after.identities ≡ before.identities
-    pub images : old.tells_moments → LeavesOnly old new (Between meaning p old (forced_in before) (commands ++ take done ops))
+    pub images : old.tells_moments → LeavesOnly old new (Between meaning p old before.group (forced_in before) (length commands) (commands ++ take done ops))
     pub takes : old.tells_moments → TakesSome (meaning_in meaning p) p old new w (commands_course (meaning_in meaning p) p.limit ops w (used_in before)).steps

@@ -1,6 +1,6 @@
 -- What holds of a command that has its place: it is done, or short of memory.
 use Rattle.std.proofs.Common.{◌≡◌, ◌∙◌, sym, subst, ap, ℕ, ◌<◌, List, [], ◌∷◌, map, refl, arith, inl, inr}
-use Rattle.std.specs.Prelude.{All, IsTrue, None, Ok, ◌==◌}
+use Rattle.std.specs.Prelude.{All, Bool, IsTrue, None, Ok, ◌==◌}
 use Rattle.std.proofs.lemmas.Bool.{both_ways, eqb-true, or_cases}
 use Rattle.std.proofs.lemmas.List.Elements.{All-head, All-tail}
 use Rattle.disk_model.specs.Disk.{Disk}
@@ -47,7 +47,7 @@ among_below n (y ∷ xs) x below there = elim (or_cases (x == y) _ there) [
   | inr more ↦ among_below n xs x (All-tail (λ x. x < n) y xs below) more
 ]
 
-module _ {O : Type 0} (meaning : Bounds → Meaning O) (op : O) (old mid : Disk) (before : Parts) (objects : Laid) (read : HasRead old mid before.store.objects objects) (after : Parts) where
+module _ {O : Type 0} (meaning : Bounds → Meaning O) (grouped : Bool) (op : O) (old mid : Disk) (before : Parts) (objects : Laid) (read : HasRead old mid before.store.objects objects) (after : Parts) where
   abbrev p : Params
   p = before.store.objects.slots.params
 
@@ -59,8 +59,8 @@ module _ {O : Type 0} (meaning : Bounds → Meaning O) (op : O) (old mid : Disk)
 
   -- it lacks memory
   module _ (untaken : IsUntaken here after) where
-    pub short_takes : Takes meaning old mid before after (λ m w used. exec_course m p.limit op w used) Ending.Short
-    short_takes = takes_short meaning op old before mid after read.stays (λ q w shows. untaken_shows here after untaken (meaning_in meaning q) q mid w (kept q w shows))
+    pub short_takes : Takes meaning old mid before after (λ m w used. exec_course m grouped p.limit op w used) Ending.Short
+    short_takes = takes_short meaning grouped op old before mid after read.stays (λ q w shows. untaken_shows here after untaken (meaning_in meaning q) q mid w (kept q w shows))
 
     pub short_in_use : ArePartsInUse before → ArePartsInUse after
     short_in_use used = untaken_in_use here after untaken (read_in_use old mid before objects read used)
@@ -68,7 +68,7 @@ module _ {O : Type 0} (meaning : Bounds → Meaning O) (op : O) (old mid : Disk)
     pub short_attached : IsAttached meaning old before → IsAttached meaning mid after
     short_attached attached = untaken_attached here after untaken meaning mid (read_attached meaning old mid before objects read attached)
 
-    pub short_undone : IsUndone before after Memory
+    pub short_undone : IsUndone grouped before after Memory
     short_undone = record {
       log = untaken.log;
       objects = fetched-twice before.store.objects objects after.store.objects read.fetched (untaken_fetched here after untaken);
@@ -144,9 +144,9 @@ module _ {O : Type 0} (meaning : Bounds → Meaning O) (op : O) (old mid : Disk)
               (writes_below q (range_shown meaning bounded lawful q old before w shows) ready_there) (omega (arith, low), ready_there.shape) low
               (keeps (bounds_of q) w op shows.running.sound shows.running.live not_refused)
 
-          finished_follows : Follows m q mid after w (exec_course m p.limit op w (used_of before.log.log)) Ending.Done
+          finished_follows : Follows m q mid after w (exec_course m grouped p.limit op w (used_of before.log.log)) Ending.Done
           finished_follows =
-              subst (λ (c : Course O). Follows m q mid after w c Ending.Done) (sym (done_is m q old before w shows p.limit op not_refused place_there)) (
+              subst (λ (c : Course O). Follows m q mid after w c Ending.Done) (sym (done_is m q old before w shows grouped p.limit op not_refused place_there)) (
                 refl,
                 record {
                   shows = subst (λ (u : World O). Shows m q mid after u) (sym (run_one m w (Append (Command op)))) finished_shows;
@@ -154,12 +154,12 @@ module _ {O : Type 0} (meaning : Bounds → Meaning O) (op : O) (old mid : Disk)
                 },
               )
 
-          pub finished_cause : (n : ℕ) → n ≡ after.log.accepted → HasCause m q.limit w (used_of before.log.log) op (Ok n)
+          pub finished_cause : (n : ℕ) → n ≡ after.log.accepted → HasCause grouped m q.limit w (used_of before.log.log) op (Ok n)
           finished_cause n nth =
-              done_cause meaning q old mid before w shows op not_refused n (subst (λ (r : Params). HasPlace r.limit before.log (command_length m op)) shows.store.params place_there) (nth ∙ ap (λ (r : RecordLogView). r.accepted) done_here.log)
+              done_cause meaning grouped q old mid before w shows op not_refused n (subst (λ (r : Params). HasPlace r.limit before.log (command_length m op)) shows.store.params place_there) (nth ∙ ap (λ (r : RecordLogView). r.accepted) done_here.log)
 
-        pub finished_takes : Takes meaning old mid before after (λ m w used. exec_course m p.limit op w used) Ending.Done
+        pub finished_takes : Takes meaning old mid before after (λ m w used. exec_course m grouped p.limit op w used) Ending.Done
         finished_takes = record {
           follows = λ q w shows. finished_follows q w shows;
-          moments = λ told q w shows. still_moments (meaning_in meaning q) q old mid before w (exec_course (meaning_in meaning q) p.limit op w (used_of before.log.log)).steps shows read.stays told;
+          moments = λ told q w shows. still_moments (meaning_in meaning q) q old mid before w (exec_course (meaning_in meaning q) grouped p.limit op w (used_of before.log.log)).steps shows read.stays told;
         }

@@ -1,23 +1,48 @@
--- The course of a command may be taken.
-use Rattle.std.proofs.Common.{◌≡◌, ◌∙◌, sym, subst, ap, ℕ, false, List, [], ◌∷◌, ◌++◌, refl, arith, length-append, inl, inr, ◌⊎◌, ⊎_elim, Option, None, Some}
+-- The course of a command may be taken, also while a group is open.
+use Rattle.std.proofs.Common.{◌≡◌, ◌∙◌, sym, subst, ap, ℕ, Bool, false, List, [], ◌∷◌, ◌++◌, refl, arith, length-append, inl, inr, ◌⊎◌, ⊎_elim, Option, None, Some}
 use Rattle.std.specs.Prelude.{◌^◌, nat_lt, nat_le}
+use Rattle.std.specs.Option.{is_some}
 use Rattle.std.proofs.lemmas.Bool.{both_ways, cases_Bool, cond-true, cond-false}
 use Rattle.oper_core.specs.Meaning.{Meaning}
 use Rattle.oper_core.specs.declared.refusal.Refusal.{Refusal}
 use Rattle.explain_core.specs.History.{commands_of}
 use Rattle.explain_core.specs.History.Member.{Command}
+use Rattle.explain_core.specs.Sound.{IsSound}
 use Rattle.explain_core.specs.StableLaws.{commands_of-append}
-use Rattle.explain_core.specs.World.{World, Step, step, run, end_of, AreAllowed}
+use Rattle.explain_core.specs.World.{World, Step, step, run, end_of, AreAllowed, IsLive}
 use Rattle.explain_core.specs.World.Step.{Append}
 use Rattle.cache_manager.specs.Courses.{Course, course, force_steps, grown, is_through}
 use Rattle.cache_manager.specs.Courses.Stop.{Through}
 use Rattle.cache_manager.specs.Running.{IsRunning, KeepsSound, MayBeTaken}
-use Rattle.execution.specs.Courses.{append_course, command_length, exec_course, refusal_in, unless_refused}
+use Rattle.execution.specs.Courses.{append_course, command_length, exec_course, refusal_in, unless_refused, unplaced_steps}
 use Rattle.execution.specs.Taken.{MayExec}
 
+-- steps that may be taken, and after which the world is sound and live, with the group and the commands that it had
+record MayHalt {O : Type 0} (m : Meaning O) (w : World O) (steps : List (Step O)) : Type 0 where
+  pub allowed : AreAllowed m w steps
+  pub sound : IsSound m (run m w steps)
+  pub live : IsLive (run m w steps)
+  pub group : (run m w steps).group ≡ w.group
+  pub commands : commands_of (run m w steps).history ≡ commands_of w.history
+
+no_steps : {O : Type 0} (m : Meaning O) (w : World O) → IsSound m w → IsLive w → MayHalt m w []
+unfolding run
+no_steps m w sound live = record { allowed = tt; sound = sound; live = live; group = refl; commands = refl }
+
+-- what is done for a record without a place is such
+unplaced_may : {O : Type 0} (m : Meaning O) (w : World O) (group : Option ℕ) → w.group ≡ group → IsSound m w → IsLive w → (IsRunning m w → MayBeTaken m w (force_steps m w))
+    → MayHalt m w (unplaced_steps m (is_some group) w)
+unplaced_may m w (Some begun) is sound live force = no_steps m w sound live
+unplaced_may m w None is sound live force =
+    let may = force (record { sound = sound; live = live; alone = is }) in
+    record { allowed = may.allowed; sound = may.running.sound; live = may.running.live; group = may.running.alone ∙ sym is; commands = may.commands }
+
 module _ {O : Type 0} (m : Meaning O) (limit : ℕ) (op : O) (w : World O) (used : ℕ) where
+  abbrev grouped : Bool
+  grouped = is_some w.group
+
   abbrev whole : Course O
-  whole = exec_course m limit op w used
+  whole = exec_course m grouped limit op w used
 
   abbrev appends : List (Step O)
   appends = Append (Command op) ∷ []
@@ -25,7 +50,7 @@ module _ {O : Type 0} (m : Meaning O) (limit : ℕ) (op : O) (w : World O) (used
   -- nothing refuses it, and it is stopped
   record IsHalted : Type 0 where
     pub accepted : refusal_in m w op ≡ None
-    pub steps : whole.steps ≡ force_steps m w
+    pub steps : whole.steps ≡ unplaced_steps m grouped w
     pub stop : is_through whole.stop ≡ false
 
   -- or it is appended
@@ -41,7 +66,7 @@ module _ {O : Type 0} (m : Meaning O) (limit : ℕ) (op : O) (w : World O) (used
 
   accepted_ways : refusal_in m w op ≡ None → IsHalted ⊎ IsAppending
   accepted_ways none =
-      let is : whole ≡ append_course m limit op w used = ap (λ (o : Option Refusal). unless_refused used (append_course m limit op w used) o) none in
+      let is : whole ≡ append_course m grouped limit op w used = ap (λ (o : Option Refusal). unless_refused used (append_course m grouped limit op w used) o) none in
       let n = command_length m op in
       elim (cases_Bool (nat_lt limit (grown m w used n))) [
         | inl over ↦
@@ -59,7 +84,7 @@ module _ {O : Type 0} (m : Meaning O) (limit : ℕ) (op : O) (w : World O) (used
 
   ways : (o : Option Refusal) → refusal_in m w op ≡ o → IsNone ⊎ (IsHalted ⊎ IsAppending)
   ways None none = inr (accepted_ways none)
-  ways (Some r) some = inl (record { refusal = r; refused = some; course = ap (λ (o : Option Refusal). unless_refused used (append_course m limit op w used) o) some })
+  ways (Some r) some = inl (record { refusal = r; refused = some; course = ap (λ (o : Option Refusal). unless_refused used (append_course m grouped limit op w used) o) some })
 
   not_both : {B : Type 0} (r : Refusal) → refusal_in m w op ≡ None → refusal_in m w op ≡ Some r → B
   not_both r none some = let h : None ≡ Some r = sym none ∙ some in cc
@@ -67,44 +92,49 @@ module _ {O : Type 0} (m : Meaning O) (limit : ℕ) (op : O) (w : World O) (used
   not_stopped : {B : Type 0} → whole.stop ≡ Through → is_through whole.stop ≡ false → B
   not_stopped through stopped = absurd (both_ways (is_through whole.stop) stopped (ap is_through through))
 
-  module _ (keeps : KeepsSound m) (is : IsRunning m w) (force : MayBeTaken m w (force_steps m w)) where
+  module _ (keeps : KeepsSound m) (sound : IsSound m w) (live : IsLive w) (unplaced : MayHalt m w (unplaced_steps m grouped w)) where
     none_may : IsNone → MayExec m limit op w used
-    unfolding run
     none_may none =
         let steps : whole.steps ≡ [] = ap (λ (c : Course O). c.steps) none.course in
+        let may = subst (λ (l : List (Step O)). MayHalt m w l) (sym steps) (no_steps m w sound live) in
         record {
-          allowed = subst (λ (l : List (Step O)). AreAllowed m w l) (sym steps) tt;
-          running = subst (λ (l : List (Step O)). IsRunning m (run m w l)) (sym steps) is;
+          allowed = may.allowed;
+          sound = may.sound;
+          live = may.live;
+          group = may.group;
           refused = λ r some. steps;
           stopped = λ stop. not_stopped (ap (λ (c : Course O). c.stop) none.course) stop;
           done = λ accepted through. not_both none.refusal accepted none.refused;
         }
 
     halted_may : IsHalted → MayExec m limit op w used
-    halted_may halted = record {
-      allowed = subst (λ (l : List (Step O)). AreAllowed m w l) (sym halted.steps) force.allowed;
-      running = subst (λ (l : List (Step O)). IsRunning m (run m w l)) (sym halted.steps) force.running;
-      refused = λ r some. not_both r halted.accepted some;
-      stopped = λ stop. subst (λ (l : List (Step O)). commands_of (run m w l).history ≡ commands_of w.history) (sym halted.steps) force.commands;
-      done = λ accepted through. not_stopped through halted.stop;
-    }
+    halted_may halted =
+        let may = subst (λ (l : List (Step O)). MayHalt m w l) (sym halted.steps) unplaced in
+        record {
+          allowed = may.allowed;
+          sound = may.sound;
+          live = may.live;
+          group = may.group;
+          refused = λ r some. not_both r halted.accepted some;
+          stopped = λ stop. may.commands;
+          done = λ accepted through. not_stopped through halted.stop;
+        }
 
     appending_may : IsAppending → MayExec m limit op w used
     unfolding run step
     appending_may goes =
-        let may : AreAllowed m w appends = ((is.live, goes.accepted), tt) in
-        let running : IsRunning m (run m w appends) = record {
-          sound = keeps w appends is.sound may;
-          live = omega (arith, is.live, length-append w.history (Command op ∷ []));
-          alone = is.alone;
-        } in
+        let may : AreAllowed m w appends = ((live, goes.accepted), tt) in
         record {
           allowed = subst (λ (l : List (Step O)). AreAllowed m w l) (sym goes.steps) may;
-          running = subst (λ (l : List (Step O)). IsRunning m (run m w l)) (sym goes.steps) running;
+          sound = subst (λ (l : List (Step O)). IsSound m (run m w l)) (sym goes.steps) (keeps w appends sound may);
+          live = subst (λ (l : List (Step O)). IsLive (run m w l)) (sym goes.steps) (omega (arith, live, length-append w.history (Command op ∷ [])));
+          group = ap (λ (l : List (Step O)). (run m w l).group) goes.steps;
           refused = λ r some. not_both r goes.accepted some;
           stopped = λ stop. not_stopped goes.stop stop;
           done = λ accepted through. subst (λ (l : List (Step O)). commands_of (run m w l).history ≡ commands_of w.history ++ op ∷ []) (sym goes.steps) (commands_of-append w.history (Command op ∷ []));
         }
 
-    pub may_exec : MayExec m limit op w used
-    may_exec = ⊎_elim none_may (λ rest. ⊎_elim halted_may appending_may rest) (ways (refusal_in m w op) refl)
+  pub may_exec : KeepsSound m → IsSound m w → IsLive w → (IsRunning m w → MayBeTaken m w (force_steps m w)) → MayExec m limit op w used
+  may_exec keeps sound live force =
+      let unplaced = unplaced_may m w w.group refl sound live force in
+      ⊎_elim (none_may keeps sound live unplaced) (λ rest. ⊎_elim (halted_may keeps sound live unplaced) (appending_may keeps sound live unplaced) rest) (ways (refusal_in m w op) refl)

@@ -1,5 +1,5 @@
 -- The course of a command that nothing refuses, by the log in memory.
-use Rattle.std.proofs.Common.{◌≡◌, ◌∙◌, sym, ap, ℕ, ◌+◌, ◌<◌, ◌≤◌, false, [], ◌∷◌, arith, refl, inl, inr, ⊎_elim, Option, None, Some, Err}
+use Rattle.std.proofs.Common.{◌≡◌, ◌∙◌, sym, ap, ℕ, ◌<◌, ◌≤◌, Bool, true, false, [], ◌∷◌, arith, refl, inl, inr, ⊎_elim, Option, None, Some, Err}
 use Rattle.std.specs.Prelude.{◌^◌, nat_lt, nat_le}
 use Rattle.std.proofs.lemmas.Bool.{lt-ltb, le-ltb, le-leb, lt-leb, cond-true, cond-false, cases_lt}
 use Rattle.disk_model.specs.Disk.{Disk}
@@ -11,26 +11,26 @@ use Rattle.explain_core.specs.History.Member.{Command}
 use Rattle.explain_core.specs.World.{World, end_of}
 use Rattle.explain_core.specs.World.Step.{Append}
 use Rattle.cache_manager.specs.Appended.{next_number}
-use Rattle.cache_manager.specs.Courses.{Course, course, force_steps, grown}
+use Rattle.cache_manager.specs.Courses.{Course, course, grown}
 use Rattle.cache_manager.specs.Courses.Stop.{Through, Full, At_end}
 use Rattle.cache_manager.specs.Growth.{growth_shown}
 use Rattle.cache_manager.specs.Parts.{Parts, Shows}
 use Rattle.cache_manager.specs.Taking.{Ending}
 use Rattle.execution.specs.Answers.{ending_of_exec}
-use Rattle.execution.specs.Courses.{append_course, command_length, exec_course, refusal_in, unless_refused}
-use Rattle.execution.specs.Failures.{HasPlace, LacksPlace, length_with}
+use Rattle.execution.specs.Courses.{append_course, command_length, exec_course, needed, refusal_in, unless_refused, unplaced_steps}
+use Rattle.execution.specs.Failures.{HasPlace, LacksPlace, length_with, needed_by}
 use Rattle.execution.specs.declared.exec_err.ExecErr.{ExecErr}
 use Rattle.execution.specs.declared.exec_err.ExecErr.TheVariants.{Refused, DiskFault, Damaged, LogFull, LsnEnd, Memory}
 
-module _ {O : Type 0} (m : Meaning O) (limit : ℕ) (op : O) (w : World O) (used : ℕ) where
+module _ {O : Type 0} (m : Meaning O) (grouped : Bool) (limit : ℕ) (op : O) (w : World O) (used : ℕ) where
   -- a command that is refused takes no step
-  pub exec_refused : (r : Refusal) → refusal_in m w op ≡ Some r → exec_course m limit op w used ≡ course [] used Through
-  exec_refused r is = ap (λ (o : Option Refusal). unless_refused used (append_course m limit op w used) o) is
+  pub exec_refused : (r : Refusal) → refusal_in m w op ≡ Some r → exec_course m grouped limit op w used ≡ course [] used Through
+  exec_refused r is = ap (λ (o : Option Refusal). unless_refused used (append_course m grouped limit op w used) o) is
 
-  pub exec_accepted : refusal_in m w op ≡ None → exec_course m limit op w used ≡ append_course m limit op w used
-  exec_accepted is = ap (λ (o : Option Refusal). unless_refused used (append_course m limit op w used) o) is
+  pub exec_accepted : refusal_in m w op ≡ None → exec_course m grouped limit op w used ≡ append_course m grouped limit op w used
+  exec_accepted is = ap (λ (o : Option Refusal). unless_refused used (append_course m grouped limit op w used) o) is
 
-module _ {O : Type 0} (m : Meaning O) (p : Params) (d : Disk) (it : Parts) (w : World O) (shows : Shows m p d it w) (limit : ℕ) (op : O) (accepted : refusal_in m w op ≡ None) where
+module _ {O : Type 0} (m : Meaning O) (p : Params) (d : Disk) (it : Parts) (w : World O) (shows : Shows m p d it w) (grouped : Bool) (limit : ℕ) (op : O) (accepted : refusal_in m w op ≡ None) where
   abbrev used : ℕ
   used = used_of it.log.log
 
@@ -38,10 +38,15 @@ module _ {O : Type 0} (m : Meaning O) (p : Params) (d : Disk) (it : Parts) (w : 
   n = command_length m op
 
   abbrev whole : Course O
-  whole = exec_course m limit op w used
+  whole = exec_course m grouped limit op w used
 
   pub long_is : length_with it.log n ≡ grown m w used n
   long_is = growth_shown m d it.log w n shows.log
+
+  -- such a record needs as many bytes as the courses say
+  pub needed_is : (g : Bool) → needed_by g it.log n ≡ needed m g w n
+  needed_is true = omega (arith, long_is)
+  needed_is false = refl
 
   number_is : it.log.next ≡ end_of w
   number_is = next_number m p d it w shows
@@ -52,29 +57,29 @@ module _ {O : Type 0} (m : Meaning O) (p : Params) (d : Disk) (it : Parts) (w : 
       let low = place.number in
       let over : nat_lt limit (grown m w used n) ≡ false = le-ltb limit (grown m w used n) (omega (arith, fits, long_is)) in
       let past : nat_le (2 ^ 62) (end_of w) ≡ false = lt-leb (2 ^ 62) (end_of w) (omega (arith, low, number_is)) in
-      exec_accepted m limit op w used accepted
+      exec_accepted m grouped limit op w used accepted
       ∙ cond-false (nat_lt limit (grown m w used n)) _ _ over
       ∙ cond-false (nat_le (2 ^ 62) (end_of w)) _ _ past
       ∙ ap (λ (k : ℕ). course (Append (Command op) ∷ []) k Through) (sym long_is)
 
-  full_is : limit < length_with it.log n → whole ≡ course (force_steps m w) used (Full used (n + 5) limit)
-  full_is over = exec_accepted m limit op w used accepted ∙ cond-true (nat_lt limit (grown m w used n)) _ _ (lt-ltb limit (grown m w used n) (omega (arith, over, long_is)))
+  full_is : limit < length_with it.log n → whole ≡ course (unplaced_steps m grouped w) used (Full used (needed m grouped w n) limit)
+  full_is over = exec_accepted m grouped limit op w used accepted ∙ cond-true (nat_lt limit (grown m w used n)) _ _ (lt-ltb limit (grown m w used n) (omega (arith, over, long_is)))
 
-  end_is : length_with it.log n ≤ limit → 2 ^ 62 ≤ it.log.next → whole ≡ course (force_steps m w) used (At_end it.log.next)
+  end_is : length_with it.log n ≤ limit → 2 ^ 62 ≤ it.log.next → whole ≡ course (unplaced_steps m grouped w) used (At_end it.log.next)
   end_is fits last =
       let over : nat_lt limit (grown m w used n) ≡ false = le-ltb limit (grown m w used n) (omega (arith, fits, long_is)) in
-      exec_accepted m limit op w used accepted
+      exec_accepted m grouped limit op w used accepted
       ∙ cond-false (nat_lt limit (grown m w used n)) _ _ over
       ∙ cond-true (nat_le (2 ^ 62) (end_of w)) _ _ (le-leb (2 ^ 62) (end_of w) (omega (arith, last, number_is)))
-      ∙ ap (λ (k : ℕ). course (force_steps m w) used (At_end k)) (sym number_is)
+      ∙ ap (λ (k : ℕ). course (unplaced_steps m grouped w) used (At_end k)) (sym number_is)
 
   -- the steps and the length where the command gets no place
   pub record IsStopped (e : ExecErr) : Type 0 where
-    pub steps : whole.steps ≡ force_steps m w
+    pub steps : whole.steps ≡ unplaced_steps m grouped w
     pub used : whole.used ≡ used_of it.log.log
     pub ending : ((e ≡ DiskFault) → ⊥) → ending_of_exec (Err e) ≡ Ending.Stopped whole.stop
 
-  end_anyway : 2 ^ 62 ≤ it.log.next → whole.steps ≡ force_steps m w
+  end_anyway : 2 ^ 62 ≤ it.log.next → whole.steps ≡ unplaced_steps m grouped w
   end_anyway last = elim (cases_lt limit (length_with it.log n)) [
     | inl over ↦ ap (λ (c : Course O). c.steps) (full_is over)
     | inr fits ↦ ap (λ (c : Course O). c.steps) (end_is fits last)
@@ -86,14 +91,15 @@ module _ {O : Type 0} (m : Meaning O) (p : Params) (d : Disk) (it : Parts) (w : 
     | inr fits ↦ ap (λ (c : Course O). c.used) (end_is fits last)
   ]
 
-  pub stopped_is : (e : ExecErr) → LacksPlace limit it.log n e → IsStopped e
+  pub stopped_is : (e : ExecErr) → LacksPlace grouped limit it.log n e → IsStopped e
   stopped_is (Refused refusal) lacks = absurd lacks
   stopped_is (LogFull held need most) lacks =
       let is = full_is lacks.0 in
+      let need_is = lacks.2 ∙ needed_is grouped in
       record {
         steps = ap (λ (c : Course O). c.steps) is;
         used = ap (λ (c : Course O). c.used) is;
-        ending = λ other. (λ i. Ending.Stopped (Full (lacks.1 i) (lacks.2 i) (lacks.3 i))) ∙ ap (λ (c : Course O). Ending.Stopped c.stop) (sym is);
+        ending = λ other. (λ i. Ending.Stopped (Full (lacks.1 i) (need_is i) (lacks.3 i))) ∙ ap (λ (c : Course O). Ending.Stopped c.stop) (sym is);
       }
   stopped_is (LsnEnd number) lacks =
       let is = end_is lacks.0 lacks.1 in
@@ -103,8 +109,8 @@ module _ {O : Type 0} (m : Meaning O) (p : Params) (d : Disk) (it : Parts) (w : 
         ending = λ other. (λ i. Ending.Stopped (At_end (lacks.2 i))) ∙ ap (λ (c : Course O). Ending.Stopped c.stop) (sym is);
       }
   stopped_is DiskFault lacks = record {
-    steps = ⊎_elim (λ over. ap (λ (c : Course O). c.steps) (full_is over)) (λ last. end_anyway last) lacks;
-    used = ⊎_elim (λ over. ap (λ (c : Course O). c.used) (full_is over)) (λ last. used_anyway last) lacks;
+    steps = ⊎_elim (λ over. ap (λ (c : Course O). c.steps) (full_is over)) (λ last. end_anyway last) lacks.1;
+    used = ⊎_elim (λ over. ap (λ (c : Course O). c.used) (full_is over)) (λ last. used_anyway last) lacks.1;
     ending = λ other. absurd (other refl);
   }
   stopped_is (Damaged file place) lacks = absurd lacks

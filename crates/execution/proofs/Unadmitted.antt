@@ -1,6 +1,6 @@
 -- What holds of a command that is not admitted.
 use Rattle.std.proofs.Common.{◌≡◌, ◌∙◌, ◌<◌, sym, subst, inl, refl, ℕ, List, length}
-use Rattle.std.specs.Prelude.{Some, Err}
+use Rattle.std.specs.Prelude.{Bool, Some, Err}
 use Rattle.disk_model.specs.Disk.{Disk, Stays, Rises}
 use Rattle.disk_model.specs.Moments.{runs_wider}
 use Rattle.disk_model.specs.declared.machine.FileNo.TheVariants.{Objects}
@@ -19,11 +19,11 @@ use Rattle.cache_manager.specs.LongSlot.{HasLongSlot}
 use Rattle.cache_manager.specs.Parts.{Parts, Shows, meaning_in}
 use Rattle.cache_manager.specs.Taking.{Ending, Takes}
 use Rattle.explain_core.specs.World.{World}
-use Rattle.cache_manager.specs.Kept.{StopsAt}
 use Rattle.execution.specs.Answers.{ending_of_exec}
 use Rattle.execution.specs.Courses.{exec_course, refusal_in}
 use Rattle.execution.specs.Done.{IsUndone, LogWithout}
 use Rattle.execution.specs.Failures.{IsAdmitFailure, IsExecFailure, exec_from_slots}
+use Rattle.execution.specs.Stops.{StopsCommand}
 use Rattle.execution.specs.Unchanged.{HasRead}
 use Rattle.execution.specs.declared.exec_err.ExecErr.{ExecErr}
 use Rattle.execution.specs.declared.exec_err.ExecErr.TheVariants.{Refused, DiskFault, Damaged, LogFull, LsnEnd, Memory}
@@ -43,7 +43,7 @@ unread meaning p op old new objects reads of_slots.DiskFault are some fails = fa
 unread meaning p op old new objects reads (of_slots.Damaged file place) are some fails = subst (λ (l : List ℕ). HasLongSlot new objects.slots l file place) are fails
 unread meaning p op old new objects reads of_slots.Memory are some fails = inl (subst (λ (l : List ℕ). 0 < length l) are some)
 
-module _ {O : Type 0} (meaning : Bounds → Meaning O) (op : O) (old new : Disk) (before : Parts) where
+module _ {O : Type 0} (meaning : Bounds → Meaning O) (grouped : Bool) (op : O) (old new : Disk) (before : Parts) where
   abbrev p : Params
   p = before.store.objects.slots.params
 
@@ -59,7 +59,7 @@ module _ {O : Type 0} (meaning : Bounds → Meaning O) (op : O) (old new : Disk)
   admit_rises (LsnEnd number) fails is = absurd fails
   admit_rises Memory fails is = cc is
 
-  pub admit_failure : (e : ExecErr) → Fails e → IsExecFailure meaning old new before op e
+  pub admit_failure : (e : ExecErr) → Fails e → IsExecFailure meaning grouped old new before op e
   admit_failure (Refused refusal) fails = fails
   admit_failure DiskFault fails = fails
   admit_failure (Damaged file place) fails = fails
@@ -67,7 +67,7 @@ module _ {O : Type 0} (meaning : Bounds → Meaning O) (op : O) (old new : Disk)
   admit_failure (LsnEnd number) fails = absurd fails
   admit_failure Memory fails = inl fails
 
-  pub admit_never_stops : (e : ExecErr) → Fails e → (most : ℕ) (log : RecordLogView) (stop : Stop) → ending_of_exec (Err e) ≡ Ending.Stopped stop → StopsAt most log stop
+  pub admit_never_stops : (e : ExecErr) → Fails e → (most : ℕ) (log : RecordLogView) (stop : Stop) → ending_of_exec (Err e) ≡ Ending.Stopped stop → StopsCommand grouped most log stop
   admit_never_stops (Refused refusal) fails most log stop is = cc is
   admit_never_stops DiskFault fails most log stop is = cc is
   admit_never_stops (Damaged file place) fails most log stop is = cc is
@@ -76,7 +76,7 @@ module _ {O : Type 0} (meaning : Bounds → Meaning O) (op : O) (old new : Disk)
   admit_never_stops Memory fails most log stop is = cc is
 
   module _ (after : Laid) (read : HasRead old new before.store.objects after) where
-    admit_log : (e : ExecErr) → Fails e → LogWithout before.log before.log e
+    admit_log : (e : ExecErr) → Fails e → LogWithout grouped before.log before.log e
     admit_log (Refused refusal) fails = refl
     admit_log DiskFault fails = refl
     admit_log (Damaged file place) fails = refl
@@ -84,7 +84,7 @@ module _ {O : Type 0} (meaning : Bounds → Meaning O) (op : O) (old new : Disk)
     admit_log (LsnEnd number) fails = absurd fails
     admit_log Memory fails = refl
 
-    pub admit_undone : (e : ExecErr) → Fails e → IsUndone before (with_objects before after) e
+    pub admit_undone : (e : ExecErr) → Fails e → IsUndone grouped before (with_objects before after) e
     admit_undone e fails = record { log = admit_log e fails; objects = read.fetched; entries = refl }
 
     module _ (bounded : (b : Bounds) → HasBounds b (meaning b)) (lawful : (b : Bounds) → IsSmall b → IsLawful (meaning b)) where
@@ -97,10 +97,10 @@ module _ {O : Type 0} (meaning : Bounds → Meaning O) (op : O) (old new : Disk)
 
       pub admit_takes : (e : ExecErr) → Fails e
           → (old.tells_files → IsLaidOn before.store.objects (old.reads Objects) → (r : Refusal) → e ≡ Refused r → refusal_of (meaning_in meaning p) (values_in before.store.objects (old.reads Objects)) op ≡ Some r)
-          → Takes meaning old new before (with_objects before after) (λ m w used. exec_course m p.limit op w used) (ending_of_exec (Err e))
-      admit_takes (Refused r) fails refused = takes_refused meaning op old before new (with_objects before after) r read.stays kept (admit_refused r (λ told laid. refused told laid r refl)) refl
-      admit_takes DiskFault fails refused = takes_failed meaning op old before new (with_objects before after) read.stays
-      admit_takes (Damaged file place) fails refused = takes_short meaning op old before new (with_objects before after) read.stays kept
+          → Takes meaning old new before (with_objects before after) (λ m w used. exec_course m grouped p.limit op w used) (ending_of_exec (Err e))
+      admit_takes (Refused r) fails refused = takes_refused meaning grouped op old before new (with_objects before after) r read.stays kept (admit_refused r (λ told laid. refused told laid r refl)) refl
+      admit_takes DiskFault fails refused = takes_failed meaning grouped op old before new (with_objects before after) read.stays
+      admit_takes (Damaged file place) fails refused = takes_short meaning grouped op old before new (with_objects before after) read.stays kept
       admit_takes (LogFull used need limit) fails refused = absurd fails
       admit_takes (LsnEnd number) fails refused = absurd fails
-      admit_takes Memory fails refused = takes_short meaning op old before new (with_objects before after) read.stays kept
+      admit_takes Memory fails refused = takes_short meaning grouped op old before new (with_objects before after) read.stays kept

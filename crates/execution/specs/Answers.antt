@@ -1,5 +1,5 @@
 -- Which answer a command gets, in a world.
-use Rattle.std.specs.Prelude.{◌≡◌, ◌⊎◌, ◌+◌, ◌<◌, ◌≤◌, ◌^◌, ⊤, ℕ, length, Result, Ok, Err, None, Some}
+use Rattle.std.specs.Prelude.{◌≡◌, ◌⊎◌, ◌+◌, ◌<◌, ◌≤◌, ◌^◌, ⊤, ℕ, Bool, false, length, Result, Ok, Err, None, Some}
 use Rattle.oper_core.specs.Meaning.{Meaning, IsInGrammar}
 use Rattle.explain_core.specs.History.{commands_of}
 use Rattle.explain_core.specs.World.{World, end_of}
@@ -7,7 +7,7 @@ use Rattle.cache_manager.specs.Courses.{grown}
 use Rattle.cache_manager.specs.Courses.Stop.{Full, At_end}
 use Rattle.cache_manager.specs.Taking.{Ending}
 use Rattle.cache_manager.specs.Taking.Ending.{Done, Stopped, Short, Failed}
-use Rattle.execution.specs.Courses.{command_length, refusal_in}
+use Rattle.execution.specs.Courses.{command_length, needed, refusal_in}
 use Rattle.execution.specs.declared.exec_err.ExecErr.{ExecErr}
 use Rattle.execution.specs.declared.exec_err.ExecErr.TheVariants.{Refused, DiskFault, Damaged, LogFull, LsnEnd, Memory}
 
@@ -21,7 +21,7 @@ ending_of_exec (Err (LogFull used need limit)) = Stopped (Full used need limit)
 ending_of_exec (Err (LsnEnd number)) = Stopped (At_end number)
 ending_of_exec (Err Memory) = Short
 
-module _ {O : Type 0} (m : Meaning O) (limit : ℕ) (w : World O) (used : ℕ) (op : O) where
+module _ {O : Type 0} (grouped : Bool) (m : Meaning O) (limit : ℕ) (w : World O) (used : ℕ) (op : O) where
   -- its record fits in a log of this length, in which it begins a block where nothing waits
   abbrev pub Fits : Type 0
   Fits = grown m w used (command_length m op) ≤ limit
@@ -32,13 +32,13 @@ module _ {O : Type 0} (m : Meaning O) (limit : ℕ) (w : World O) (used : ℕ) (
 
   -- Why a command gets its answer in this world, with a log of this length: it is refused; or else its record does not fit;
   -- or else no number is left for it; or else it is done, and is the next command. No two of these hold at once, so each
-  -- answer comes exactly where its cause holds, but that a fault may stand in the place of the second and the third, and of
-  -- any for a command that reads objects, and out of memory in that of any. No file is damaged.
+  -- answer comes exactly where its cause holds, but that a fault may stand in the place of the second and the third where no
+  -- group is open, and of any for a command that reads objects, and out of memory in that of any. No file is damaged.
   abbrev pub HasCause : Result ℕ ExecErr → Type 0
   HasCause (Ok n) = (refusal_in m w op ≡ None) × Fits × (end_of w < 2 ^ 62) × (n ≡ length (commands_of w.history) + 1)
   HasCause (Err (Refused refusal)) = refusal_in m w op ≡ Some refusal
-  HasCause (Err (LogFull held need most)) = (refusal_in m w op ≡ None) × IsTooLong × (held ≡ used) × (need ≡ command_length m op + 5) × (most ≡ limit)
+  HasCause (Err (LogFull held need most)) = (refusal_in m w op ≡ None) × IsTooLong × (held ≡ used) × (need ≡ needed m grouped w (command_length m op)) × (most ≡ limit)
   HasCause (Err (LsnEnd number)) = (refusal_in m w op ≡ None) × Fits × (2 ^ 62 ≤ end_of w) × (number ≡ end_of w)
-  HasCause (Err DiskFault) = (IsInGrammar m op × (0 < length (m.reads op))) ⊎ ((refusal_in m w op ≡ None) × (IsTooLong ⊎ (2 ^ 62 ≤ end_of w)))
+  HasCause (Err DiskFault) = (IsInGrammar m op × (0 < length (m.reads op))) ⊎ ((grouped ≡ false) × (refusal_in m w op ≡ None) × (IsTooLong ⊎ (2 ^ 62 ≤ end_of w)))
   HasCause (Err (Damaged file place)) = ⊥
   HasCause (Err Memory) = ⊤

@@ -1,5 +1,5 @@
 -- What a command leaves of the parts, on every machine.
-use Rattle.std.specs.Prelude.{◌≡◌, ◌+◌, ℕ, [], ◌∷◌, ◌++◌}
+use Rattle.std.specs.Prelude.{◌≡◌, ◌+◌, ℕ, Bool, true, false, [], ◌∷◌, ◌++◌}
 use Rattle.oper_core.specs.Meaning.{Meaning}
 use Rattle.oper_core.specs.declared.bounds.Bounds.{Bounds}
 use Rattle.formats.specs.Records.{record_code}
@@ -33,14 +33,19 @@ pub record IsDone {O : Type 0} (meaning : Bounds → Meaning O) (before after : 
   pub slots : after.store.objects.slots ≡ before.store.objects.slots
   pub entries : after.store.entries ≡ before.store.entries ++ entry_of (meaning_in meaning before.store.objects.slots.params) before.log.next (Command op) ∷ []
 
--- the log after a command that was not done: without a place for its record all that waited is forced, else it is as it was
-abbrev pub LogWithout : RecordLogView → RecordLogView → ExecErr → Type 0
-LogWithout before log (LogFull used need limit) = IsForced before log
-LogWithout before log (LsnEnd number) = IsForced before log
-LogWithout before log e = IsSameLog before log
+-- the log after a record that got no place: all that waited is forced, but nothing within a group (`grouped`)
+abbrev pub IsUnplaced : Bool → RecordLogView → RecordLogView → Type 0
+IsUnplaced true before log = IsSameLog before log
+IsUnplaced false before log = IsForced before log
+
+-- the log after a command that was not done: one without the record, else it is as it was
+abbrev pub LogWithout : Bool → RecordLogView → RecordLogView → ExecErr → Type 0
+LogWithout grouped before log (LogFull used need limit) = IsUnplaced grouped before log
+LogWithout grouped before log (LsnEnd number) = IsUnplaced grouped before log
+LogWithout grouped before log e = IsSameLog before log
 
 -- A command was not done: the log has no record of it, nothing but slots was read, and the graph is as it was.
-pub record IsUndone (before after : Parts) (e : ExecErr) : Type 0 where
-  pub log : LogWithout before.log after.log e
+pub record IsUndone (grouped : Bool) (before after : Parts) (e : ExecErr) : Type 0 where
+  pub log : LogWithout grouped before.log after.log e
   pub objects : IsFetched before.store.objects after.store.objects
   pub entries : after.store.entries ≡ before.store.entries

@@ -1,5 +1,5 @@
 -- Why a command is not done, on every machine.
-use Rattle.std.specs.Prelude.{◌≡◌, ◌⊎◌, ◌+◌, ◌<◌, ◌≤◌, ◌^◌, ⊤, ℕ, List, length, None, Some}
+use Rattle.std.specs.Prelude.{◌≡◌, ◌⊎◌, ◌+◌, ◌<◌, ◌≤◌, ◌^◌, ⊤, ℕ, Bool, true, false, List, length, None, Some}
 use Rattle.disk_model.specs.Disk.{Disk, Rises}
 use Rattle.disk_model.specs.declared.machine.FileNo.{FileNo}
 use Rattle.oper_core.specs.Meaning.{Meaning, FitsReads}
@@ -33,14 +33,21 @@ pub record HasPlace (limit : ℕ) (log : RecordLogView) (n : ℕ) : Type 0 where
   pub room : length_with log n ≤ limit
   pub number : log.next < 2 ^ 62
 
--- why a record of n bytes gets no place: no room in the log, or else no number; the force that comes then may fail
-abbrev pub LacksPlace : ℕ → RecordLogView → ℕ → ExecErr → Type 0
-LacksPlace limit log n (LogFull used need most) = (limit < length_with log n) × (used ≡ used_of log.log) × (need ≡ n + 5) × (most ≡ limit)
-LacksPlace limit log n (LsnEnd number) = (length_with log n ≤ limit) × (2 ^ 62 ≤ log.next) × (number ≡ log.next)
-LacksPlace limit log n DiskFault = (limit < length_with log n) ⊎ (2 ^ 62 ≤ log.next)
-LacksPlace limit log n (Refused refusal) = ⊥
-LacksPlace limit log n (Damaged file place) = ⊥
-LacksPlace limit log n Memory = ⊥
+-- so many bytes a record of n bytes needs that gets no place: within a group (`grouped`) nothing is forced, and it goes behind
+-- what waits
+abbrev pub needed_by : Bool → RecordLogView → ℕ → ℕ
+needed_by true log n = growth_of log.log.pending n
+needed_by false log n = n + 5
+
+-- why a record of n bytes gets no place: no room in the log, or else no number; the force that comes then may fail, where no
+-- group is open
+abbrev pub LacksPlace : Bool → ℕ → RecordLogView → ℕ → ExecErr → Type 0
+LacksPlace grouped limit log n (LogFull used need most) = (limit < length_with log n) × (used ≡ used_of log.log) × (need ≡ needed_by grouped log n) × (most ≡ limit)
+LacksPlace grouped limit log n (LsnEnd number) = (length_with log n ≤ limit) × (2 ^ 62 ≤ log.next) × (number ≡ log.next)
+LacksPlace grouped limit log n DiskFault = (grouped ≡ false) × ((limit < length_with log n) ⊎ (2 ^ 62 ≤ log.next))
+LacksPlace grouped limit log n (Refused refusal) = ⊥
+LacksPlace grouped limit log n (Damaged file place) = ⊥
+LacksPlace grouped limit log n Memory = ⊥
 
 -- Why slots are not read: the disk fails, and counts that; or a file is damaged at a place, and this holds of the two; or memory
 -- runs out.
@@ -82,7 +89,7 @@ module _ {O : Type 0} (meaning : Bounds → Meaning O) (p : Params) (op : O) whe
   IsAdmitFailure old new objects Memory = NeedsMemory
   IsAdmitFailure old new objects e = IsReadFailure old new (HasLongSlot new objects.slots (m.reads op)) e
 
-module _ {O : Type 0} (meaning : Bounds → Meaning O) (old new : Disk) (before : Parts) (op : O) where
+module _ {O : Type 0} (meaning : Bounds → Meaning O) (grouped : Bool) (old new : Disk) (before : Parts) (op : O) where
   abbrev p : Params
   p = before.store.objects.slots.params
 
@@ -93,7 +100,7 @@ module _ {O : Type 0} (meaning : Bounds → Meaning O) (old new : Disk) (before 
   -- Where a force fails for it, the disk counts that. For a command that reads no object, and whose code memory can hold,
   -- memory runs out only where it has its place.
   abbrev pub IsExecFailure : ExecErr → Type 0
-  IsExecFailure (LogFull used need limit) = IsAdmissible meaning p op × LacksPlace p.limit before.log n (LogFull used need limit)
-  IsExecFailure (LsnEnd number) = IsAdmissible meaning p op × LacksPlace p.limit before.log n (LsnEnd number)
+  IsExecFailure (LogFull used need limit) = IsAdmissible meaning p op × LacksPlace grouped p.limit before.log n (LogFull used need limit)
+  IsExecFailure (LsnEnd number) = IsAdmissible meaning p op × LacksPlace grouped p.limit before.log n (LsnEnd number)
   IsExecFailure Memory = NeedsMemory meaning p op ⊎ (IsAdmissible meaning p op × HasPlace p.limit before.log n)
   IsExecFailure e = IsAdmitFailure meaning p op old new before.store.objects e

@@ -3,5 +3,6 @@ pub mod Answers
 pub mod Failures
 pub mod Unchanged
 pub mod Done
+pub mod Stops
 pub mod Counted
 pub mod Taken

@@ -1,16 +1,17 @@
 ghost use Rattle.std.specs.Prelude.{ℕ};
 ghost use Rattle.oper_core.specs.Meaning.{IsSmall};
 ghost use Rattle.oper_core.specs.declared.bounds.Bounds.{Bounds};
-ghost use Rattle.explain_core.specs.World.{World};
-ghost use Rattle.cache_manager.specs.Running.{IsRunning};
+ghost use Rattle.explain_core.specs.Sound.{IsSound};
+ghost use Rattle.explain_core.specs.World.{World, IsLive};
 ghost use Rattle.execution.specs.Taken.{MayExec};
 
 use oper_core::Oper;
 
-/// A command's course may be taken in every world in which calls are made, also where it is stopped. Where nothing refuses
-/// the command and nothing stops it, the world has one command more, which is this one; else it has those that it had.
+/// A command's course may be taken in every sound world in which nothing is left to replay, also where it is stopped, and
+/// while a group is open. Where nothing refuses the command and nothing stops it, the world has one command more, which is
+/// this one; else it has those that it had.
 pub fn exec_may_be_taken<O: Oper>()
-    ensures { (b : Bounds) (w : World O) (limit : ℕ) (op : O) (used : ℕ) → IsSmall b → IsRunning (O.meaning b) w →
+    ensures { (b : Bounds) (w : World O) (limit : ℕ) (op : O) (used : ℕ) → IsSmall b → IsSound (O.meaning b) w → IsLive w →
         MayExec (O.meaning b) limit op w used }
 {
     explain_core::every_run_keeps::<O>();

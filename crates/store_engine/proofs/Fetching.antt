@@ -1,6 +1,6 @@
 -- What a fetch leaves: each object has the value that it had, and engine and files show what they showed.
-use Rattle.std.proofs.Common.{◌≡◌, ◌∙◌, sym, subst, ap, ℕ, ◌<◌, List, refl, true, false, Bool, arith, Option, Some, None}
-use Rattle.std.specs.Prelude.{Result, Ok, Err, OnOk, IfErr, IsErrOf, IsSome, ◌↔◌}
+use Rattle.std.proofs.Common.{◌≡◌, ◌∙◌, sym, subst, ap, ℕ, ◌<◌, List, [], refl, inl, true, false, Bool, arith, Option, Some, None}
+use Rattle.std.specs.Prelude.{Result, Ok, Err, OnOk, IfErr, IfSome, IsErrOf, IsSome, ◌↔◌}
 use Rattle.std.proofs.lemmas.Bool.{both_ways}
 use Rattle.disk_model.specs.Disk.{Disk, Files, IsDisk, Rises, Stays}
 use Rattle.disk_model.specs.Moments.{stays_here}
@@ -28,6 +28,7 @@ use Rattle.cache_manager.specs.Parts.{AreInUse, Shows, ShowsStore, parts, store}
 use Rattle.execution.specs.declared.exec_err.ExecErr.TheVariants.{DiskFault}
 use Rattle.store_engine.specs.Engine.{EngineView, Holds, IsFetch, IsUsable, Kept, ShowsIn, params_of, view_of}
 use Rattle.store_engine.specs.Failures.{HasSlotFailed, IsFetchFailure, of_slots}
+use Rattle.store_engine.specs.Grouping.{ungrouped}
 use Rattle.store_engine.specs.Store.{meaning_in, state_of}
 use Rattle.store_engine.proofs.Holding.{IsLiveMap, holds_map}
 
@@ -60,13 +61,13 @@ fetch_cause (Err of_slot.DiskFault) old new engine object below cause = (below, 
 fetch_cause (Err (of_slot.Damaged file place)) old new engine object below cause = (below, cause)
 fetch_cause (Err of_slot.Memory) old new engine object below cause = (below, tt)
 
-module _ (old new : Disk) (before : EngineView) (log : RecordLogView) (objects after : Laid) (entries : List Entry) (identities : ℕ) (broken failed : Bool) (is : view_of log objects entries identities broken ≡ before)
+module _ (old new : Disk) (before : EngineView) (log : RecordLogView) (objects after : Laid) (entries : List Entry) (identities : ℕ) (group : Option ℕ) (broken failed : Bool) (is : view_of log objects entries identities group broken ≡ before)
     (stays : Stays old new) (slots : after.slots ≡ objects.slots) (fetched : IsFetched objects after)
     (cells : old.tells_files → IsLaidOn objects (old.reads Objects) → KeepsCells (old.reads Objects) objects after × IsLaidOn after (old.reads Objects)) where
   abbrev now : EngineView
-  now = view_of log after entries identities failed
+  now = view_of log after entries identities group failed
 
-  pub fetched_usable : IsUsable (parts log objects entries) identities → IsUsable (parts log after entries) identities
+  pub fetched_usable : IsUsable (parts log objects entries) identities group → IsUsable (parts log after entries) identities group
   fetched_usable used =
       let params : after.slots.params ≡ objects.slots.params = ap (λ (s : SlotsView). s.params) slots in
       record {
@@ -76,6 +77,7 @@ module _ (old new : Disk) (before : EngineView) (log : RecordLogView) (objects a
           early = subst (λ (s : SlotsView). (x : ℕ) → x < s.params.objects → id_in s x < log.next) (sym slots) used.in_use.early;
         };
         counted = used.counted;
+        begun = used.begun;
       }
 
   fetched_attached : {O : Type 0} (meaning : Bounds → Meaning O) → IsAttached meaning old (parts log objects entries) → IsAttached meaning new (parts log after entries)
@@ -90,6 +92,7 @@ module _ (old new : Disk) (before : EngineView) (log : RecordLogView) (objects a
     kept = stays;
     log = ap (λ (e : EngineView). e.parts.log) is;
     identities = ap (λ (e : EngineView). e.identities) is;
+    group = ap (λ (e : EngineView). e.group) is;
     attached = subst (λ (e : EngineView). IsAttached meaning old e.parts → IsAttached meaning new now.parts) is (fetched_attached meaning);
     broken = so;
   }
@@ -118,15 +121,21 @@ module _ (old new : Disk) (before : EngineView) (log : RecordLogView) (objects a
 
   module _ {O : Type 0} (meaning : Bounds → Meaning O) (p : Params) where
     pub shows_now : (w : World O) → failed ≡ false → ShowsIn meaning p old before w → ShowsIn meaning p new now w
-    shows_now w fine shows = record {
-      unbroken = fine;
-      shows = subst (λ (e : EngineView). Shows (meaning_in meaning p) p old e.parts w → Shows (meaning_in meaning p) p new now.parts w) is (fetched_world (meaning_in meaning p) p w) shows.shows;
-    }
+    shows_now w fine shows =
+        let same : before.group ≡ group = ap (λ (e : EngineView). e.group) (sym is) in
+        record {
+          unbroken = fine;
+          sound = shows.sound;
+          group = shows.group ∙ same;
+          shows = subst (λ (e : EngineView). Shows (meaning_in meaning p) p old e.parts (ungrouped w) → Shows (meaning_in meaning p) p new now.parts (ungrouped w)) is (fetched_world (meaning_in meaning p) p (ungrouped w)) shows.shows;
+          no_check = subst (λ (o : Option ℕ). IfSome o (λ begun. w.pending ≡ [])) same shows.no_check;
+        }
 
     pub kept_now : (commands : List O) → failed ≡ false → Holds meaning p old before commands → Kept meaning p before new now commands
     kept_now commands fine holds = record {
       holds = record { world = holds.world; shows = shows_now holds.world fine holds.shows; commands_are = holds.commands_are };
       rising = omega (arith, ap (λ (e : EngineView). e.parts.log.forced) is);
+      which = inl (ap (λ (e : EngineView). e.parts.log.forced) is);
     }
 
     -- the value of a cached object needs no file
@@ -150,6 +159,7 @@ fetched_nothing meaning d engine bad lawful fine none = record {
   kept = stays_here d lawful;
   log = refl;
   identities = refl;
+  group = refl;
   attached = λ at. at;
   broken = (λ is. absurd (both_ways _ fine is), λ is. absurd (none is));
 }

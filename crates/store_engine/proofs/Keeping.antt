@@ -1,6 +1,6 @@
 -- A call that takes a course without commands keeps the commands that engine and files stand for.
 use Rattle.std.proofs.Common.{◌≡◌, ◌∙◌, sym, subst, ap, ℕ, ◌≤◌, List, length, take, arith, inl, inr, ◌⊎◌, ⊎_elim}
-use Rattle.std.specs.Prelude.{false}
+use Rattle.std.specs.Prelude.{None, false}
 use Rattle.disk_model.specs.Disk.{Files, Disk}
 use Rattle.disk_model.specs.Moments.{weaker}
 use Rattle.disk_model.specs.declared.machine.FileNo.TheVariants.{Objects}
@@ -10,7 +10,7 @@ use Rattle.oper_core.specs.declared.bounds.Bounds.{Bounds}
 use Rattle.formats.specs.Objects.{bounds_of}
 use Rattle.formats.specs.declared.params.Params.{Params}
 use Rattle.log_frames.specs.LogView.{used_of}
-use Rattle.explain_core.specs.History.{commands_of}
+use Rattle.explain_core.specs.History.{Member, commands_of}
 use Rattle.explain_core.specs.RunLaws.{begins-allowed}
 use Rattle.explain_core.specs.Sound.{IsSound}
 use Rattle.explain_core.specs.Taken.{IsAfterSome}
@@ -22,10 +22,11 @@ use Rattle.cache_manager.specs.Parts.{Parts, Shows}
 use Rattle.cache_manager.specs.Running.{IsRunning, MayBeTaken}
 use Rattle.cache_manager.specs.Taking.{Ending, Follows, Takes}
 use Rattle.cache_manager.specs.Taking.Ending.{Done, Stopped, Short, Failed}
-use Rattle.store_engine.specs.Engine.{EngineView, Between, Holds, IsFailed, Kept, KeepsCommands, forced_in}
+use Rattle.store_engine.specs.Engine.{EngineView, Between, Holds, IsFailed, Kept, KeepsCommands, accepted_in, forced_in}
 use Rattle.store_engine.specs.Store.{meaning_in}
 use Rattle.store_engine.proofs.Counts.{forced_shown}
-use Rattle.store_engine.proofs.Holding.{Stand, holds_forced}
+use Rattle.store_engine.proofs.Grouped.{alone_shown, shown_alone}
+use Rattle.store_engine.proofs.Holding.{Stand, holds_accepted, holds_forced}
 use Rattle.store_engine.proofs.Stats.{small_in}
 use Rattle.store_engine.proofs.Steps.{ArePlain, HasFront, plain_front, steps_extend, same_commands, more_forced, front_extended}
 
@@ -45,10 +46,11 @@ IsPlainCourse {O} course = (m : Meaning O) (w : World O) (used : ℕ) → ArePla
 pub small_shown : {O : Type 0} (m : Meaning O) (p : Params) (d : Disk) (it : Parts) (w : World O) → Shows m p d it w → IsSmall (bounds_of p)
 small_shown m p d it w shows = small_in m p (d.reads Objects) it.store w shows.store
 
--- an image that shows a sound later world, of whose stable members these are first commands
+-- an image that shows a sound later world, of whose stable members these are first commands: within a group the stable ones
 pub between_front : {O : Type 0} (meaning : Bounds → Meaning O) (p : Params) (old : Disk) (before : EngineView) (commands : List O) (holds : Holds meaning p old before commands) (later : World O) (files : Files) (said : List ℕ)
-    → HasFront holds.world later → said ≡ old.said → StandsFor meaning p files (commands_of (take later.forced later.history)) → Between meaning p old (forced_in before) commands files said
-between_front {O} meaning p old before commands holds later files said has quiet stands =
+    → HasFront holds.world later → (before.group ≡ None) ⊎ (take later.forced later.history ≡ take holds.world.forced holds.world.history)
+    → said ≡ old.said → StandsFor meaning p files (commands_of (take later.forced later.history)) → Between meaning p old before.group (forced_in before) (accepted_in before) commands files said
+between_front {O} meaning p old before commands holds later files said has inside quiet stands =
     let n = length (commands_of (take later.forced later.history)) in
     let front : take n commands ≡ commands_of (take later.forced later.history) = ap (λ (l : List O). take n l) (sym holds.commands_are) ∙ has.front in
     record {
@@ -56,15 +58,21 @@ between_front {O} meaning p old before commands holds later files said has quiet
       kept = n;
       enough = omega (arith, has.enough, holds_forced meaning p old before commands holds);
       within = omega (arith, has.within, ap (λ (l : List O). length l) holds.commands_are);
+      which = ⊎_elim
+          (λ none. ⊎_elim (λ same. inl (same ∙ sym (holds_forced meaning p old before commands holds))) (λ all. inr (none, omega (arith, all, ap (λ (l : List O). length l) holds.commands_are, holds_accepted meaning p old before commands holds))) has.which)
+          (λ same. inl (ap (λ (h : List (Member O)). length (commands_of h)) same ∙ sym (holds_forced meaning p old before commands holds))) inside;
       stands = subst (λ (l : List O). StandsFor meaning p files l) (sym front) stands;
     }
 
-module _ {O : Type 0} (meaning : Bounds → Meaning O) (p : Params) (old new : Disk) (before after : EngineView) (commands : List O) (holds : Holds meaning p old before commands) where
+module _ {O : Type 0} (meaning : Bounds → Meaning O) (p : Params) (old new : Disk) (before after : EngineView) (was : before.group ≡ None) (still : after.group ≡ None) (commands : List O) (holds : Holds meaning p old before commands) where
   abbrev m : Meaning O
   m = meaning_in meaning p
 
   within : holds.world.forced ≤ length holds.world.history
-  within = holds.shows.shows.running.sound.forced
+  within = holds.shows.sound.forced
+
+  shown : Shows m p old before.parts holds.world
+  shown = alone_shown meaning p old before holds.world holds.shows was
 
   -- parts that show the world after plain steps stand for the commands
   pub kept_plainly : (steps : List (Step O)) → ArePlain steps → after.broken ≡ false → Shows m p new after.parts (run m holds.world steps) → Kept meaning p before new after commands
@@ -73,8 +81,12 @@ module _ {O : Type 0} (meaning : Bounds → Meaning O) (p : Params) (old new : D
       let later = run m w steps in
       let e = steps_extend m w steps plain within in
       record {
-        holds = record { world = later; shows = record { unbroken = unbroken; shows = shows }; commands_are = same_commands w later e ∙ holds.commands_are };
+        holds = record { world = later; shows = shown_alone meaning p new after later unbroken still shows; commands_are = same_commands w later e ∙ holds.commands_are };
         rising = omega (arith, more_forced w later within e.extends, holds_forced meaning p old before commands holds, forced_shown m p new after.parts later shows);
+        which = ⊎_elim
+            (λ same. inl (forced_shown m p new after.parts later shows ∙ same ∙ sym (holds_forced meaning p old before commands holds)))
+            (λ all. inr (was, omega (arith, all, ap (λ (l : List O). length l) holds.commands_are, holds_accepted meaning p old before commands holds, forced_shown m p new after.parts later shows)))
+            (front_extended w later within e).which;
       }
 
   kept_some : (steps : List (Step O)) → ArePlain steps → after.broken ≡ false → IsAfterSome m (λ v. Shows m p new after.parts v) holds.world steps → Kept meaning p before new after commands
@@ -88,31 +100,31 @@ module _ {O : Type 0} (meaning : Bounds → Meaning O) (p : Params) (old new : D
 
   -- an image within plain steps that may be taken stands for a front of the commands
   pub between_plainly : KeepsRuns meaning → Stand meaning p → (steps : List (Step O)) → ArePlain steps → AreAllowed m holds.world steps → (files : Files) (said : List ℕ)
-      → IsSilent (ShowsSome m p holds.world steps) old.said files said → Between meaning p old (forced_in before) commands files said
+      → IsSilent (ShowsSome m p holds.world steps) old.said files said → Between meaning p old before.group (forced_in before) (accepted_in before) commands files said
   between_plainly keeps stand steps plain may files said is =
       let w = holds.world in
       let some = is.holds in
       let later = run m w some.taken in
       let e = steps_extend m w some.taken (plain_front steps some.taken some.begins plain) within in
-      let small = small_shown m p old before.parts w holds.shows.shows in
-      let sound = keeps (bounds_of p) w some.taken small holds.shows.shows.running.sound (begins-allowed m w steps some.taken some.begins may) in
-      between_front meaning p old before commands holds later files said (front_extended w later within e) is.silent (stand files later sound some.holds)
+      let small = small_shown m p old before.parts w shown in
+      let sound = keeps (bounds_of p) w some.taken small holds.shows.sound (begins-allowed m w steps some.taken some.begins may) in
+      between_front meaning p old before commands holds later files said (front_extended w later within e) (inl was) is.silent (stand files later sound some.holds)
 
 pub takes_keeps : {O : Type 0} (meaning : Bounds → Meaning O) (old new : Disk) (before after : EngineView) (course : Meaning O → World O → ℕ → Course O) (ending : Ending)
-    → Takes meaning old new before.parts after.parts course ending → IsFailed ending ⊎ (after.broken ≡ false)
+    → Takes meaning old new before.parts after.parts course ending → before.group ≡ None → after.group ≡ None → IsFailed ending ⊎ (after.broken ≡ false)
     → KeepsRuns meaning → ((p : Params) → Stand meaning p) → MayTake meaning course → IsPlainCourse course
     → KeepsCommands meaning old new before after ending
-takes_keeps {O} meaning old new before after course ending takes unbroken keeps stand may plain = record {
+takes_keeps {O} meaning old new before after course ending takes was still unbroken keeps stand may plain = record {
   holds = λ p commands holds.
       let m = meaning_in meaning p in
       let c = course m holds.world (used_of before.parts.log.log) in
-      kept_by meaning p old new before after commands holds c (plain m holds.world (used_of before.parts.log.log)) ending unbroken (takes.follows p holds.world holds.shows.shows);
+      kept_by meaning p old new before after was still commands holds c (plain m holds.world (used_of before.parts.log.log)) ending unbroken (takes.follows p holds.world (alone_shown meaning p old before holds.world holds.shows was));
   images = λ told p commands holds.
       let m = meaning_in meaning p in
       let w = holds.world in
       let used = used_of before.parts.log.log in
-      let shows = holds.shows.shows in
+      let shows = alone_shown meaning p old before w holds.shows was in
       let allowed = (may (bounds_of p) w used (small_shown m p old before.parts w shows) shows.running).allowed in
-      weaker old new (IsSilent (ShowsSome m p w (course m w used).steps) old.said) (Between meaning p old (forced_in before) commands) (takes.moments told p w shows)
-      (λ files said is. between_plainly meaning p old new before after commands holds keeps (stand p) (course m w used).steps (plain m w used) allowed files said is);
+      weaker old new (IsSilent (ShowsSome m p w (course m w used).steps) old.said) (Between meaning p old before.group (forced_in before) (accepted_in before) commands) (takes.moments told p w shows)
+      (λ files said is. between_plainly meaning p old new before after was still commands holds keeps (stand p) (course m w used).steps (plain m w used) allowed files said is);
 }

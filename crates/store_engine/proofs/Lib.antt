@@ -1,5 +1,6 @@
 pub mod Counts
 pub mod Steps
+pub mod Grouped
 pub mod PlainCourses
 pub mod Holding
 pub mod Stops
@@ -8,6 +9,7 @@ pub mod Ways
 pub mod Calls
 pub mod Checks
 pub mod Forces
+pub mod Begins
 pub mod Fetching
 pub mod Stats
 pub mod Logged

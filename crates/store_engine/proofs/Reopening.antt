@@ -1,5 +1,5 @@
 -- A restart keeps the commands that the files stand for, and all of them are forced after it.
-use Rattle.std.proofs.Common.{◌≡◌, ◌∙◌, sym, subst, ap, ℕ, ◌≤◌, List, [], ◌∷◌, ◌++◌, length, take, drop, refl, arith}
+use Rattle.std.proofs.Common.{◌≡◌, ◌∙◌, sym, subst, ap, ℕ, ◌≤◌, List, [], ◌∷◌, ◌++◌, length, take, drop, refl, arith, inl, ⊎_elim, None}
 use Rattle.std.specs.Prelude.{Result, Ok, Err, IfOk, false}
 use Rattle.disk_model.specs.Disk.{Files, Disk, LeavesOnly}
 use Rattle.disk_model.specs.Silent.{IsSilent}
@@ -25,6 +25,7 @@ use Rattle.restart.specs.declared.restart_err.RestartErr.{RestartErr}
 use Rattle.store_engine.specs.Engine.{EngineView, Between, Holds, IsAttached as AreAttached, forced_in, opened}
 use Rattle.store_engine.specs.Store.{meaning_in}
 use Rattle.store_engine.proofs.Counts.{commands-fewer, forced_shown}
+use Rattle.store_engine.proofs.Grouped.{shown_alone}
 use Rattle.store_engine.proofs.Holding.{Stand}
 use Rattle.store_engine.proofs.Keeping.{KeepsRuns}
 use Rattle.store_engine.proofs.PlainCourses.{plain_redo, upkeep_closing}
@@ -51,7 +52,7 @@ module _ {O : Type 0} (m : Meaning O) (p : Params) (files : Files) (commands : L
 
   some_extended : (taken : List (Step O)) → Begins (restart_course m dirty w used).steps taken → ExtendsPlainly w (run m w taken)
   unfolding run
-  some_extended [] begins = extends_same w w refl (omega arith) within
+  some_extended [] begins = extends_same w w refl (omega arith) within (inl refl)
   some_extended (s ∷ taken) begins =
       let first : Crash ∷ [] ≡ s ∷ [] = ap (λ (l : List (Step O)). take 1 l) begins.split in
       let later : rest ≡ taken ++ begins.rest = ap (λ (l : List (Step O)). drop 1 l) begins.split in
@@ -89,16 +90,16 @@ module _ {O : Type 0} (meaning : Bounds → Meaning O) (p : Params) (old new : D
   m = meaning_in meaning p
 
   -- engine and files stand for the commands of the files
-  pub restart_holds : (r : Result EngineView RestartErr) → IfOk r (λ (e : EngineView). (e.broken ≡ false) × (e.identities ≡ 0)) → IfOk r (λ (e : EngineView). IsAfter m p new e.parts w (restart_course m dirty w used))
+  pub restart_holds : (r : Result EngineView RestartErr) → IfOk r (λ (e : EngineView). (e.broken ≡ false) × (e.group ≡ None) × (e.identities ≡ 0)) → IfOk r (λ (e : EngineView). IsAfter m p new e.parts w (restart_course m dirty w used))
       → IfOk r (λ (e : EngineView). Holds meaning p new e commands × (forced_in e ≡ length commands))
   restart_holds (Ok e) fresh after = (
-    record { world = run m w (restart_course m dirty w used).steps; shows = record { unbroken = fresh.0; shows = after.shows }; commands_are = restart_keeps m p old.reads commands w found dirty used },
+    record { world = run m w (restart_course m dirty w used).steps; shows = shown_alone meaning p new e (run m w (restart_course m dirty w used).steps) fresh.0 fresh.1 after.shows; commands_are = restart_keeps m p old.reads commands w found dirty used },
     restart_forced m p old.reads commands w found dirty used new e.parts after.shows,
   )
   restart_holds (Err cause) fresh after = tt
 
   restart_between : IsSmall (bounds_of p) → KeepsRuns meaning → Stand meaning p → AreAllowed m w (restart_course m dirty w used).steps → (files : Files) (said : List ℕ)
-      → IsSilent (ShowsSome m p w (restart_course m dirty w used).steps) old.said files said → Between meaning p old (length commands) commands files said
+      → IsSilent (ShowsSome m p w (restart_course m dirty w used).steps) old.said files said → Between meaning p old None (length commands) (length commands) commands files said
   restart_between small keeps stand may files said is =
       let some = is.holds in
       let later = run m w some.taken in
@@ -111,16 +112,17 @@ module _ {O : Type 0} (meaning : Bounds → Meaning O) (p : Params) (old new : D
         kept = n;
         enough = omega (arith, has.enough, all_forced m p old.reads commands w found dirty used);
         within = omega (arith, has.within, ap (λ (l : List O). length l) found.commands_are);
+        which = inl (⊎_elim (λ same. same ∙ all_forced m p old.reads commands w found dirty used) (λ all. all ∙ ap (λ (l : List O). length l) found.commands_are) has.which);
         stands = subst (λ (l : List O). StandsFor meaning p files l) (sym front) (stand files later sound some.holds);
       }
 
   -- and each image within the restart for a front of them
   pub restart_images : IsSmall (bounds_of p) → KeepsRuns meaning → Stand meaning p → AreAllowed m w (restart_course m dirty w used).steps
-      → OpensThrough m p old new w (restart_course m dirty w used).steps → LeavesOnly old new (OrAtStart old (Between meaning p old (length commands) commands))
+      → OpensThrough m p old new w (restart_course m dirty w used).steps → LeavesOnly old new (OrAtStart old (Between meaning p old None (length commands) (length commands) commands))
   restart_images small keeps stand may moments =
-      or_weaker old new (IsSilent (ShowsSome m p w (restart_course m dirty w used).steps) old.said) (Between meaning p old (length commands) commands) moments (restart_between small keeps stand may)
+      or_weaker old new (IsSilent (ShowsSome m p w (restart_course m dirty w used).steps) old.said) (Between meaning p old None (length commands) (length commands) commands) moments (restart_between small keeps stand may)
 
-pub ready_engine : {O : Type 0} (meaning : Bounds → Meaning O) (new : Disk) (r : Result EngineView RestartErr) → IfOk r (λ (e : EngineView). (e.broken ≡ false) × (e.identities ≡ 0)) → IfOk (opened r) (IsAttached meaning new)
-    → IfOk r (λ (e : EngineView). (e.broken ≡ false) × (e.identities ≡ 0) × AreAttached meaning new e)
-ready_engine meaning new (Ok e) fresh attached = (fresh.0, fresh.1, attached)
+pub ready_engine : {O : Type 0} (meaning : Bounds → Meaning O) (new : Disk) (r : Result EngineView RestartErr) → IfOk r (λ (e : EngineView). (e.broken ≡ false) × (e.group ≡ None) × (e.identities ≡ 0)) → IfOk (opened r) (IsAttached meaning new)
+    → IfOk r (λ (e : EngineView). (e.broken ≡ false) × (e.group ≡ None) × (e.identities ≡ 0) × AreAttached meaning new e)
+ready_engine meaning new (Ok e) fresh attached = (fresh.0, fresh.1, fresh.2, attached)
 ready_engine meaning new (Err cause) fresh attached = tt

@@ -1,5 +1,6 @@
 -- What steps do to the commands of a world: those that append none keep them, and no step but a crash makes fewer stable.
-use Rattle.std.proofs.Common.{◌≡◌, ◌∙◌, sym, subst, ap, ◌≤◌, List, [], ◌∷◌, ◌++◌, length, take, refl, arith, length-append, append_assoc}
+use Rattle.std.proofs.Common.{◌≡◌, ◌∙◌, sym, subst, ap, ℕ, ◌≤◌, List, [], ◌∷◌, ◌++◌, length, take, refl, arith, length-append, append_assoc, inl, inr, ◌⊎◌, ⊎_elim, Some}
+use Rattle.std.proofs.Math.Seq.{take-length}
 use Rattle.std.specs.Prelude.{⊤}
 use Rattle.std.proofs.lemmas.List.{append-nil, take-append-le, take-take}
 use Rattle.oper_core.specs.Meaning.{Meaning}
@@ -10,6 +11,7 @@ use Rattle.explain_core.specs.StableLaws.{commands_of-append}
 use Rattle.explain_core.specs.World.{World, Step, step, run}
 use Rattle.explain_core.specs.World.Step.{Begin, End, Append, Block_gate, Check, Slot_gate, Removal, Header_gate, Replay, Crash}
 use Rattle.cache_manager.specs.Running.{IsUpkeep, AreUpkeep}
+use Rattle.store_engine.specs.Grouping.{IsInside, AreInside}
 use Rattle.store_engine.proofs.Counts.{take-commands, commands-fewer}
 
 -- a step that appends no command, and is no crash
@@ -36,6 +38,8 @@ pub record Extends {O : Type 0} (w later : World O) : Type 0 where
   pub history : later.history ≡ w.history ++ more
   pub rising : w.forced ≤ later.forced
   pub within : later.forced ≤ length later.history
+  -- as many members are stable, or those of all commands
+  pub which : (later.forced ≡ w.forced) ⊎ (length (commands_of (take later.forced later.history)) ≡ length (commands_of later.history))
 
 -- the others are identity writes
 pub record ExtendsPlainly {O : Type 0} (w later : World O) : Type 0 where
@@ -47,6 +51,9 @@ pub record HasFront {O : Type 0} (w later : World O) : Type 0 where
   pub enough : length (commands_of (take w.forced w.history)) ≤ length (commands_of (take later.forced later.history))
   pub within : length (commands_of (take later.forced later.history)) ≤ length (commands_of w.history)
   pub front : take (length (commands_of (take later.forced later.history))) (commands_of w.history) ≡ commands_of (take later.forced later.history)
+  -- just these, or all
+  pub which : (length (commands_of (take later.forced later.history)) ≡ length (commands_of (take w.forced w.history)))
+      ⊎ (length (commands_of (take later.forced later.history)) ≡ length (commands_of w.history))
 
 module _ {O : Type 0} where
   upkeep_plain : (s : Step O) → IsUpkeep s → IsPlain s
@@ -78,8 +85,19 @@ module _ {O : Type 0} where
   pub plain_front : (steps taken : List (Step O)) → Begins steps taken → ArePlain steps → ArePlain taken
   plain_front steps taken begins are = plain_part taken begins.rest (subst (λ (l : List (Step O)). ArePlain l) begins.split are)
 
-  pub extends_same : (w later : World O) → later.history ≡ w.history → w.forced ≤ later.forced → later.forced ≤ length later.history → ExtendsPlainly w later
-  extends_same w later same rising within = record { extends = record { more = []; history = same ∙ sym (append-nil w.history); rising = rising; within = within }; silent = refl }
+  pub extends_same : (w later : World O) → later.history ≡ w.history → w.forced ≤ later.forced → later.forced ≤ length later.history
+      → (later.forced ≡ w.forced) ⊎ (length (commands_of (take later.forced later.history)) ≡ length (commands_of later.history)) → ExtendsPlainly w later
+  extends_same w later same rising within which = record { extends = record { more = []; history = same ∙ sym (append-nil w.history); rising = rising; within = within; which = which }; silent = refl }
+
+  -- where all commands are stable they are still, if as many members are
+  all_still : (b c : World O) → ExtendsPlainly b c → b.forced ≤ length b.history → c.forced ≡ b.forced → length (commands_of (take b.forced b.history)) ≡ length (commands_of b.history)
+      → length (commands_of (take c.forced c.history)) ≡ length (commands_of c.history)
+  all_still b c two within same all =
+      let more = two.extends.more in
+      let front : take c.forced c.history ≡ take b.forced b.history = (λ i. take (same i) (two.extends.history i)) ∙ take-append-le b.forced b.history more within in
+      let whole : commands_of c.history ≡ commands_of b.history =
+      ap (λ (h : List (Member O)). commands_of h) two.extends.history ∙ commands_of-append b.history more ∙ ap (λ (l : List O). commands_of b.history ++ l) two.silent ∙ append-nil (commands_of b.history) in
+      ap (λ (h : List (Member O)). length (commands_of h)) front ∙ all ∙ ap (λ (l : List O). length l) (sym whole)
 
   pub extends_on : (a b c : World O) → ExtendsPlainly a b → ExtendsPlainly b c → ExtendsPlainly a c
   extends_on a b c one two =
@@ -91,6 +109,7 @@ module _ {O : Type 0} where
           history = second.history ∙ ap (λ (h : List (Member O)). h ++ second.more) first.history ∙ append_assoc a.history first.more second.more;
           rising = omega (arith, first.rising, second.rising);
           within = second.within;
+          which = ⊎_elim (λ same. ⊎_elim (λ before. inl (same ∙ before)) (λ all. inr (all_still b c two first.within same all)) first.which) (λ all. inr all) second.which;
         };
         silent = commands_of-append first.more second.more ∙ (λ i. one.silent i ++ two.silent i);
       }
@@ -101,20 +120,20 @@ module _ {O : Type 0} where
   one_step m w End plain within = absurd plain
   one_step m w (Append (Command op)) plain within = absurd plain
   one_step m w (Append (Identity x value)) plain within = record {
-    extends = record { more = Identity x value ∷ []; history = refl; rising = omega arith; within = omega (arith, within, length-append w.history (Identity x value ∷ [])) };
+    extends = record { more = Identity x value ∷ []; history = refl; rising = omega arith; within = omega (arith, within, length-append w.history (Identity x value ∷ [])); which = inl refl };
     silent = refl;
   }
-  one_step m w Block_gate plain within = extends_same w _ refl within (omega arith)
-  one_step m w Check plain within = extends_same w _ refl (omega arith) within
-  one_step m w (Slot_gate node x) plain within = extends_same w _ refl (omega arith) within
-  one_step m w (Removal node) plain within = extends_same w _ refl (omega arith) within
-  one_step m w (Header_gate base) plain within = extends_same w _ refl (omega arith) within
-  one_step m w Replay plain within = extends_same w _ refl (omega arith) within
+  one_step m w Block_gate plain within = extends_same w _ refl within (omega arith) (inr (ap (λ (h : List (Member O)). length (commands_of h)) (take-length w.history)))
+  one_step m w Check plain within = extends_same w _ refl (omega arith) within (inl refl)
+  one_step m w (Slot_gate node x) plain within = extends_same w _ refl (omega arith) within (inl refl)
+  one_step m w (Removal node) plain within = extends_same w _ refl (omega arith) within (inl refl)
+  one_step m w (Header_gate base) plain within = extends_same w _ refl (omega arith) within (inl refl)
+  one_step m w Replay plain within = extends_same w _ refl (omega arith) within (inl refl)
   one_step m w Crash plain within = absurd plain
 
   pub steps_extend : (m : Meaning O) (w : World O) (steps : List (Step O)) → ArePlain steps → w.forced ≤ length w.history → ExtendsPlainly w (run m w steps)
   unfolding run
-  steps_extend m w [] plain within = extends_same w w refl (omega arith) within
+  steps_extend m w [] plain within = extends_same w w refl (omega arith) within (inl refl)
   steps_extend m w (s ∷ steps) plain within =
       let first = one_step m w s plain.0 within in
       extends_on w (step m w s) (run m (step m w s) steps) first (steps_extend m (step m w s) steps plain.1 first.extends.within)
@@ -145,6 +164,8 @@ module _ {O : Type 0} where
         enough = more_forced w later within e.extends;
         within = omega (arith, commands-fewer later.forced later.history, ap (λ (l : List O). length l) same);
         front = ap (λ (l : List O). take n l) (sym same) ∙ take-commands later.forced later.history;
+        which = ⊎_elim (λ forced. inl (ap (λ (h : List (Member O)). length (commands_of h)) ((λ i. take (forced i) (e.extends.history i)) ∙ take-append-le w.forced w.history e.extends.more within)))
+            (λ all. inr (all ∙ ap (λ (l : List O). length l) same)) e.extends.which;
       }
 
   -- a command that is appended is not stable yet
@@ -157,4 +178,28 @@ module _ {O : Type 0} where
         enough = omega (arith, n);
         within = omega (arith, n, commands-fewer w.forced w.history);
         front = (λ i. take (n i) (commands_of w.history)) ∙ take-commands w.forced w.history ∙ ap (λ (h : List (Member O)). commands_of h) (sym same);
+        which = inl n;
       }
+
+  -- within a group nothing becomes stable
+  step_inside : (m : Meaning O) (begun : ℕ) (w : World O) (s : Step O) → IsInside (Some begun) s → w.forced ≤ length w.history
+      → (take (step m w s).forced (step m w s).history ≡ take w.forced w.history) × ((step m w s).forced ≤ length (step m w s).history)
+  unfolding step
+  step_inside m begun w Begin is within = absurd is
+  step_inside m begun w End is within = absurd is
+  step_inside m begun w (Append member) is within = (take-append-le w.forced w.history (member ∷ []) within, omega (arith, within, length-append w.history (member ∷ [])))
+  step_inside m begun w Block_gate is within = cc is
+  step_inside m begun w Check is within = cc is
+  step_inside m begun w (Slot_gate node x) is within = cc is
+  step_inside m begun w (Removal node) is within = cc is
+  step_inside m begun w (Header_gate base) is within = cc is
+  step_inside m begun w Replay is within = cc is
+  step_inside m begun w Crash is within = absurd is
+
+  pub stable_inside : (m : Meaning O) (begun : ℕ) (w : World O) (steps : List (Step O)) → AreInside (Some begun) steps → w.forced ≤ length w.history
+      → take (run m w steps).forced (run m w steps).history ≡ take w.forced w.history
+  unfolding run
+  stable_inside m begun w [] are within = refl
+  stable_inside m begun w (s ∷ steps) are within =
+      let one = step_inside m begun w s are.0 within in
+      stable_inside m begun (step m w s) steps are.1 one.1 ∙ one.0

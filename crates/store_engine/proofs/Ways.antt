@@ -1,6 +1,7 @@
 -- What the answers of calls say of how they ended.
-use Rattle.std.proofs.Common.{◌≡◌, subst, sym, ℕ, ◌+◌, ◌-◌, ◌≤◌, arith, inl, inr, ◌⊎◌, refl, Bool, true, false}
+use Rattle.std.proofs.Common.{◌≡◌, subst, sym, ℕ, ◌+◌, ◌-◌, ◌≤◌, arith, inl, inr, ◌⊎◌, refl, Bool, true, false, Option, None}
 use Rattle.std.specs.Prelude.{Result, Ok, Err, IsErrOf, IfOk, IfErr, ◌↔◌}
+use Rattle.std.specs.Option.{is_some}
 use Rattle.std.proofs.lemmas.Bool.{cases_Bool}
 use Rattle.disk_model.specs.declared.machine.FileNo.{FileNo}
 use Rattle.log_records.specs.RecordLog.{RecordLogView}
@@ -17,6 +18,7 @@ use Rattle.checkpointing.specs.declared.trim_err.TrimErr.TheVariants as of_trim
 use Rattle.execution.specs.Answers as of_command
 use Rattle.execution.specs.declared.exec_err.ExecErr.{ExecErr}
 use Rattle.execution.specs.declared.exec_err.ExecErr.TheVariants as of_exec
+use Rattle.execution.specs.Stops.{StopsCommand}
 use Rattle.restart.specs.declared.restart_err.RestartErr.{RestartErr}
 use Rattle.store_engine.specs.Engine.{EngineView, IsFailed, opened}
 
@@ -76,6 +78,10 @@ damaged_by {T} fault r file place told is = subst (λ (x : Result T TrimErr). If
 -- the numbers of a stop, as the calls below say them
 pub stops_so : (most : ℕ) (log : RecordLogView) (ending : Ending) → StopsOnly most log ending → (stop : Stop) → ending ≡ Stopped stop → StopsAt most log stop
 stops_so most log ending says stop is = subst (λ (e : Ending). StopsOnly most log e) is says
+
+-- where no group is open a command is stopped as any call is
+pub stops_alone : (group : Option ℕ) → group ≡ None → (most : ℕ) (log : RecordLogView) (stop : Stop) → StopsAt most log stop → StopsCommand (is_some group) most log stop
+stops_alone group none most log stop at = subst (λ (o : Option ℕ). StopsCommand (is_some o) most log stop) (sym none) at
 
 -- what holds of the parts that are opened holds of those of the engine
 pub opened_ok : (r : Result EngineView RestartErr) (P : Parts → Type 0) → IfOk (opened r) P → IfOk r (λ (e : EngineView). P e.parts)

@@ -1,5 +1,6 @@
 -- What the engine and its files stand for, and what its calls make of them.
-use Rattle.std.specs.Prelude.{◌≡◌, ◌⊎◌, ◌↔◌, ℕ, ◌+◌, ◌-◌, ◌^◌, ◌≤◌, ◌<◌, ◌==◌, ◌&&◌, ⊤, Bool, true, false, List, length, take, [], Some, None, IsSome, Result, Ok, Err}
+use Rattle.std.specs.Prelude.{◌≡◌, ◌⊎◌, ◌↔◌, ℕ, zero, suc, ◌+◌, ◌-◌, ◌^◌, ◌≤◌, ◌<◌, ◌==◌, ◌&&◌, ⊤, Bool, true, false, List, length, take, [], ◌∷◌, Option, Some, None, IsSome, IfSome, Result, Ok, Err}
+use Rattle.std.specs.Option.{is_some}
 use Rattle.disk_model.specs.Disk.{Files, Disk, LeavesOnly, Passes, Rises, Stays}
 use Rattle.disk_model.specs.declared.machine.FileNo.{FileNo}
 use Rattle.disk_model.specs.declared.machine.FileNo.TheVariants.{Objects}
@@ -17,21 +18,25 @@ use Rattle.dirty_cache.specs.Contents.{held}
 use Rattle.install_order.specs.Computed.{least_below}
 use Rattle.install_order.specs.declared.entry.Entry.{Entry}
 use Rattle.explain_core.specs.History.{commands_of}
+use Rattle.explain_core.specs.Sound.{IsSound}
+use Rattle.explain_core.specs.Taken.{IsAfterSome}
 use Rattle.explain_core.specs.Turns.{count_below, dirty_in}
-use Rattle.explain_core.specs.World.{World, end_of, node_named}
-use Rattle.cache_manager.specs.Courses.{Stop}
+use Rattle.explain_core.specs.World.{World, run, end_of, node_named}
+use Rattle.standing.specs.Moments.{TakesSome}
+use Rattle.cache_manager.specs.Courses.{Course, Stop}
 use Rattle.cache_manager.specs.Courses.Stop.{Through, Full, At_end, Worn}
 use Rattle.cache_manager.specs.Kept as of_parts
-use Rattle.cache_manager.specs.Kept.{StopsAt}
 use Rattle.cache_manager.specs.Laid.{Laid, values_in}
 use Rattle.cache_manager.specs.Parts.{Parts, Shows, parts}
 use Rattle.cache_manager.specs.Taking.{ArePartsInUse, Ending}
 use Rattle.cache_manager.specs.Taking.Ending.{Done, Stopped, Short, Failed}
 use Rattle.execution.specs.Done.{IsDone, IsUndone}
 use Rattle.execution.specs.Failures.{IsExecFailure}
+use Rattle.execution.specs.Stops.{StopsCommand}
 use Rattle.execution.specs.declared.exec_err.ExecErr.{ExecErr}
 use Rattle.execution.specs.declared.exec_err.ExecErr.TheVariants.{Refused, LogFull, LsnEnd, DiskFault, Damaged, Memory}
 use Rattle.restart.specs.declared.restart_err.RestartErr.{RestartErr}
+use Rattle.store_engine.specs.Grouping.{ungrouped}
 use Rattle.store_engine.specs.Store.{meaning_in, state_of, refusal_after, record_length, Stands}
 use Rattle.store_engine.specs.declared.stat.Stat.{Stat}
 
@@ -41,12 +46,14 @@ pub record EngineView : Type 0 where
   pub parts : Parts
   -- so many identity writes were logged since the restart
   pub identities : ℕ
+  -- the number at which the open group began
+  pub group : Option ℕ
   -- the disk failed
   pub broken : Bool
 
 -- the engine that these parts make
-abbrev pub view_of : RecordLogView → Laid → List Entry → ℕ → Bool → EngineView
-view_of log objects entries identities broken = record { parts = parts log objects entries; identities = identities; broken = broken }
+abbrev pub view_of : RecordLogView → Laid → List Entry → ℕ → Option ℕ → Bool → EngineView
+view_of log objects entries identities group broken = record { parts = parts log objects entries; identities = identities; group = group; broken = broken }
 
 -- the numbers of its store
 abbrev pub params_of : EngineView → Params
@@ -63,15 +70,32 @@ accepted_in engine = engine.parts.log.accepted
 abbrev pub forced_in : EngineView → ℕ
 forced_in engine = engine.parts.log.forced
 
+-- a group that began with this number has so many commands, where the next number is this one
+abbrev pub commands_since : ℕ → Option ℕ → Option ℕ
+commands_since next None = None
+commands_since next (Some begun) = Some (next - begun)
+
+-- so many commands has the open group
+abbrev pub group_size : EngineView → Option ℕ
+group_size engine = commands_since engine.parts.log.next engine.group
+
+-- so many bytes does a command's record need for which the log has no room: within a group that has commands already its
+-- own, else the head of a block too
+abbrev pub needed_in : Option ℕ → ℕ → ℕ
+needed_in None n = n + 5
+needed_in (Some zero) n = n + 5
+needed_in (Some (suc k)) n = n
+
 -- an object is cached
 abbrev pub IsCached : EngineView → ℕ → Type 0
 IsCached engine x = IsSome (held engine.parts.store.objects.cache x)
 
--- what holds of the parts of an engine that is not broken: they are in use, and no more identity writes were logged than
--- there are numbers below the next
-pub record IsUsable (it : Parts) (identities : ℕ) : Type 0 where
+-- what holds of the parts of an engine that is not broken: they are in use, no more identity writes were logged than there
+-- are numbers below the next, and the open group began with one of these or with the next
+pub record IsUsable (it : Parts) (identities : ℕ) (group : Option ℕ) : Type 0 where
   pub in_use : ArePartsInUse it
   pub counted : identities ≤ it.log.next
+  pub begun : IfSome group (λ n. n ≤ it.log.next)
 
 -- this is true of the files and of whatever a crash now leaves of them
 abbrev pub InEachImage : Disk → (Files → Type 0) → Type 0
@@ -113,38 +137,64 @@ module _ {O : Type 0} (meaning : Bounds → Meaning O) where
   IsAttached d engine = of_parts.IsAttached meaning d engine.parts
 
   -- What holds on every machine of each call that may change the log, which may have `most` bytes: time passes, nothing is
-  -- said, the store's numbers stay; unless the disk failed the engine stays attached; so many identity writes are logged; a
-  -- call that was stopped says the numbers of the log that it leaves; the engine is broken exactly if the disk failed, and
-  -- then the disk counted that.
+  -- said, the store's numbers stay, and the open group; unless the disk failed the engine stays attached; so many identity
+  -- writes are logged; a call that was stopped says the numbers of the log that it leaves; the engine is broken exactly if
+  -- the disk failed, and then the disk counted that.
   pub record IsCall (most : ℕ) (old new : Disk) (before after : EngineView) (logged : ℕ) (ending : Ending) : Type 0 where
     pub time : Passes old new
     pub quiet : old.tells_files → new.said ≡ old.said
     pub params : params_of after ≡ params_of before
+    pub group : after.group ≡ before.group
     pub attached : IsFailed ending ⊎ (IsAttached old before → IsAttached new after)
     pub identities : after.identities ≡ before.identities + logged
-    pub stopped : (stop : Stop) → ending ≡ Stopped stop → StopsAt most after.parts.log stop
+    pub stopped : (stop : Stop) → ending ≡ Stopped stop → StopsCommand (is_some before.group) most after.parts.log stop
     pub broken : (after.broken ≡ true) ↔ IsFailed ending
     pub fault : IsFailed ending → Rises old.disk_faults new.disk_faults
 
-  -- What holds on every machine of a fetch: the files, the log and the counts stay, and nothing is said; the engine stays
-  -- attached; it is broken exactly if the disk failed.
+  -- What holds on every machine of a fetch: the files, the log, the counts and the open group stay, and nothing is said; the
+  -- engine stays attached; it is broken exactly if the disk failed.
   pub record IsFetch (old new : Disk) (before after : EngineView) (failed : Type 0) : Type 0 where
     pub kept : Stays old new
     pub log : after.parts.log ≡ before.parts.log
     pub identities : after.identities ≡ before.identities
+    pub group : after.group ≡ before.group
     pub attached : IsAttached old before → IsAttached new after
     pub broken : (after.broken ≡ true) ↔ failed
 
   -- What holds on every machine of a command: where it is done its record waits, and it has its entry; where it is not the
   -- log has none, and nothing but slots was read. The answer has a cause.
-  abbrev pub IsOutcome : Disk → Disk → Parts → Parts → O → Result ℕ ExecErr → Type 0
-  IsOutcome old new before after op (Ok n) = IsDone meaning before after op n
-  IsOutcome old new before after op (Err e) = IsUndone before after e × IsExecFailure meaning old new before op e
+  abbrev pub IsOutcome : Disk → Disk → EngineView → Parts → O → Result ℕ ExecErr → Type 0
+  IsOutcome old new before after op (Ok n) = IsDone meaning before.parts after op n
+  IsOutcome old new before after op (Err e) = IsUndone (is_some before.group) before.parts after e × IsExecFailure meaning (is_some before.group) old new before.parts op e
 
-  -- engine and files show the world
+  -- Engine and files show the world, which is sound. The same group is open in both, or none; what the parts show is the
+  -- world but for that. Within a group no check waits, since all that waited was forced as it began.
   pub record ShowsIn (p : Params) (d : Disk) (engine : EngineView) (w : World O) : Type 0 where
     pub unbroken : engine.broken ≡ false
-    pub shows : Shows (meaning_in meaning p) p d engine.parts w
+    pub sound : IsSound (meaning_in meaning p) w
+    pub group : w.group ≡ engine.group
+    pub shows : Shows (meaning_in meaning p) p d engine.parts (ungrouped w)
+    pub no_check : IfSome engine.group (λ begun. w.pending ≡ [])
+
+  -- engine and files show the world after the whole course, and the log is as long as the course says
+  pub record IsAfterIn (p : Params) (d : Disk) (engine : EngineView) (w : World O) (course : Course O) : Type 0 where
+    pub shows : ShowsIn p d engine (run (meaning_in meaning p) w course.steps)
+    pub used : used_in engine ≡ course.used
+
+  -- Done, a call took the whole course, which nothing stops; stopped, it took the whole course, which that stops; short of
+  -- memory, it took some first steps of it; after a fault nothing is said.
+  abbrev pub FollowsIn : Params → Disk → EngineView → World O → Course O → Ending → Type 0
+  FollowsIn p d engine w course Done = (course.stop ≡ Through) × IsAfterIn p d engine w course
+  FollowsIn p d engine w course (Stopped stop) = (course.stop ≡ stop) × IsAfterIn p d engine w course
+  FollowsIn p d engine w course Short = IsAfterSome (meaning_in meaning p) (λ v. ShowsIn p d engine v) w course.steps
+  FollowsIn p d engine w course Failed = ⊤
+
+  -- The call takes its course, a function of the world that engine and files show as it begins, the open group among it; a
+  -- crash at any moment of it leaves the world after some first steps of the course.
+  pub record TakesIn (old new : Disk) (before after : EngineView) (course : Meaning O → World O → ℕ → Course O) (ending : Ending) : Type 0 where
+    pub follows : (p : Params) (w : World O) → ShowsIn p old before w → FollowsIn p new after w (course (meaning_in meaning p) w (used_in before)) ending
+    pub moments : old.tells_moments → (p : Params) (w : World O) → ShowsIn p old before w
+        → TakesSome (meaning_in meaning p) p old new w (course (meaning_in meaning p) w (used_in before)).steps
 
   -- Engine and files stand for the commands: they show a sound world whose history has these commands.
   pub record Holds (p : Params) (d : Disk) (engine : EngineView) (commands : List O) : Type 0 where
@@ -165,37 +215,44 @@ module _ {O : Type 0} (meaning : Bounds → Meaning O) where
     pub images : InEachImage d (λ files. Stands meaning p files (take (forced_in engine) commands))
     pub map_is : IsMapOf p d engine commands
     pub none_waits : engine.parts.log.log.pending ≡ [] → (forced_in engine ≡ length commands) × InEachImage d (λ files. EndsAt files (used_in engine))
+    -- the commands of the open group are those that are not forced
+    pub group_waits : IfSome (group_size engine) (λ n. forced_in engine + n ≡ length commands)
 
-  -- an image at a moment of a call on an engine that stands for the commands: nothing more is said, and at least the
-  -- forced ones are there
-  pub record Between (p : Params) (old : Disk) (forced : ℕ) (commands : List O) (files : Files) (said : List ℕ) : Type 0 where
+  -- An image at a moment of calls on an engine that came to stand for the commands, of which so many, `start`, were there at
+  -- first: nothing more is said, and just those are there that were forced, or, where no group was open, at least those of
+  -- the start. So a moment splits no group: neither the open one nor a closed one that waits.
+  pub record Between (p : Params) (old : Disk) (group : Option ℕ) (forced start : ℕ) (commands : List O) (files : Files) (said : List ℕ) : Type 0 where
     pub quiet : said ≡ old.said
     pub kept : ℕ
     pub enough : forced ≤ kept
     pub within : kept ≤ length commands
+    pub which : (kept ≡ forced) ⊎ ((group ≡ None) × (start ≤ kept))
     pub stands : Stands meaning p files (take kept commands)
 
-  -- what engine and files stand for after a call: no fewer are forced
+  -- what engine and files stand for after calls: no fewer are forced; as many, or, where no group was open, at least all that
+  -- were there at first
   pub record Kept (p : Params) (before : EngineView) (d : Disk) (engine : EngineView) (commands : List O) : Type 0 where
     pub holds : Holds p d engine commands
     pub rising : forced_in before ≤ forced_in engine
+    pub which : (forced_in engine ≡ forced_in before) ⊎ ((before.group ≡ None) × (accepted_in before ≤ forced_in engine))
 
   -- The call adds no command: engine and files stand for the same ones after it, unless the disk failed, no fewer are
-  -- forced, and at each moment each image stands for a front of them with at least those that were forced.
+  -- forced, and at each moment each image stands for those that were forced, or for all.
   pub record KeepsCommands (old new : Disk) (before after : EngineView) (ending : Ending) : Type 0 where
     pub holds : (p : Params) (commands : List O) → Holds p old before commands → IsFailed ending ⊎ Kept p before new after commands
-    pub images : old.tells_moments → (p : Params) (commands : List O) → Holds p old before commands → LeavesOnly old new (Between p old (forced_in before) commands)
+    pub images : old.tells_moments → (p : Params) (commands : List O) → Holds p old before commands → LeavesOnly old new (Between p old before.group (forced_in before) (accepted_in before) commands)
 
   -- What an `exec` says of the map: it is done where nothing refuses it, and is the next command; it is refused so; it is
-  -- stopped only where nothing refuses it; it fails with the disk only so, or where it reads objects. No file is damaged.
-  abbrev pub HasCause : Params → List O → O → Result ℕ ExecErr → Type 0
-  HasCause p commands op (Ok n) = (refusal_after meaning p commands op ≡ None) × (length commands + 1 < 2 ^ 62) × (n ≡ length commands + 1)
-  HasCause p commands op (Err (Refused refusal)) = refusal_after meaning p commands op ≡ Some refusal
-  HasCause p commands op (Err (LogFull used need limit)) = (refusal_after meaning p commands op ≡ None) × (need ≡ record_length meaning p op + 5) × (limit ≡ p.limit)
-  HasCause p commands op (Err (LsnEnd number)) = refusal_after meaning p commands op ≡ None
-  HasCause p commands op (Err DiskFault) = (IsInGrammar (meaning_in meaning p) op × (0 < length ((meaning_in meaning p).reads op))) ⊎ (refusal_after meaning p commands op ≡ None)
-  HasCause p commands op (Err (Damaged file place)) = ⊥
-  HasCause p commands op (Err Memory) = ⊤
+  -- stopped only where nothing refuses it; it fails with the disk only so where no group is open, or where it reads objects.
+  -- No file is damaged. `size` is the number of commands of the open group, if there is one.
+  abbrev pub HasCause : Option ℕ → Params → List O → O → Result ℕ ExecErr → Type 0
+  HasCause size p commands op (Ok n) = (refusal_after meaning p commands op ≡ None) × (length commands + 1 < 2 ^ 62) × (n ≡ length commands + 1)
+  HasCause size p commands op (Err (Refused refusal)) = refusal_after meaning p commands op ≡ Some refusal
+  HasCause size p commands op (Err (LogFull used need limit)) = (refusal_after meaning p commands op ≡ None) × (need ≡ needed_in size (record_length meaning p op)) × (limit ≡ p.limit)
+  HasCause size p commands op (Err (LsnEnd number)) = refusal_after meaning p commands op ≡ None
+  HasCause size p commands op (Err DiskFault) = (IsInGrammar (meaning_in meaning p) op × (0 < length ((meaning_in meaning p).reads op))) ⊎ ((size ≡ None) × (refusal_after meaning p commands op ≡ None))
+  HasCause size p commands op (Err (Damaged file place)) = ⊥
+  HasCause size p commands op (Err Memory) = ⊤
 
   -- what the files say of a stop
   abbrev pub SaysStop : Params → Files → Stop → Type 0
@@ -203,6 +260,23 @@ module _ {O : Type 0} (meaning : Bounds → Meaning O) where
   SaysStop p files (Full used need limit) = EndsAt files used
   SaysStop p files (At_end number) = NextIs (meaning_in meaning p) files number
   SaysStop p files (Worn epoch) = EpochIs files epoch
+
+  -- so many bytes do the records of commands have
+  abbrev pub records_of : Params → List O → ℕ
+  records_of p [] = 0
+  records_of p (op ∷ ops) = record_length meaning p op + records_of p ops
+
+  -- so many bytes longer do the commands of an open group, which wait, make the log: one block has them all
+  abbrev pub group_bytes : Params → List O → ℕ
+  group_bytes p [] = 0
+  group_bytes p (op ∷ ops) = 5 + records_of p (op ∷ ops)
+
+  -- what the files say of a stop within a group that has these commands, of which the files have none
+  abbrev pub SaysStopWithin : Params → List O → Files → Stop → Type 0
+  SaysStopWithin p ops files Through = ⊤
+  SaysStopWithin p ops files (Full used need limit) = (place : ℕ) × EndsAt files place × (used ≡ place + group_bytes p ops)
+  SaysStopWithin p ops files (At_end number) = (next : ℕ) × NextIs (meaning_in meaning p) files next × (number ≡ next + length ops)
+  SaysStopWithin p ops files (Worn epoch) = ⊤
 
   -- n is in the graph, and the least of its node
   abbrev pub is_name : Params → World O → ℕ → Bool

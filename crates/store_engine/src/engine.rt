@@ -20,7 +20,8 @@ use write_graph::WriteGraph;
 
 /// A store in use: its objects, the log that makes its commands stable, and the graph of what is not installed.
 ///
-/// The machine is passed to each call. After a `DiskFault` the engine is broken, and only `stat` and `is_broken` may be
+/// The machine is passed to each call. Between `begin` and `end` a group is open: nothing is forced then, and a crash
+/// leaves all of its commands or none. After a `DiskFault` the engine is broken, and only `stat` and `is_broken` may be
 /// called.
 #[derive(Drop)]
 pub struct Engine<O: Oper> {
@@ -29,6 +30,8 @@ pub struct Engine<O: Oper> {
     pub(crate) log: RecordLog<O>,
     pub(crate) graph: WriteGraph,
     pub(crate) identities: u64,
+    // The number at which the open group began.
+    pub(crate) group: Option<u64>,
     pub(crate) broken: bool,
 }
 
@@ -39,9 +42,9 @@ impl<O: Oper> Model for Engine<O> {
 
     ghost Value = { EngineView };
 
-    ghost view = { λ e. view_of e.log e.objects e.graph.entries e.identities e.broken };
+    ghost view = { λ e. view_of e.log e.objects e.graph.entries e.identities e.group e.broken };
 
-    ghost invariant = { λ e. e.broken ≡ false → IsUsable (parts e.log e.objects e.graph.entries) e.identities };
+    ghost invariant = { λ e. e.broken ≡ false → IsUsable (parts e.log e.objects e.graph.entries) e.identities e.group };
 }
 
 // Whether the disk failed.

@@ -1,10 +1,7 @@
 // Every command becomes stable.
-ghost use Rattle.std.specs.Prelude.{◌≡◌, ◌↔◌, [], List, ℕ, true, false, length, OnOk, IfOk};
-ghost use Rattle.formats.specs.declared.params.Params.{Params};
-ghost use Rattle.cache_manager.specs.Courses.{force_course};
-ghost use Rattle.cache_manager.specs.Logged.{log_limit};
-ghost use Rattle.cache_manager.specs.Taking.{Takes};
-ghost use Rattle.store_engine.specs.Engine.{Holds, IsCall, IsFailed, KeepsCommands, ending_of_force, forced_in};
+ghost use Rattle.std.specs.Prelude.{◌≡◌, ◌↔◌, ℕ, true, false, None, IfOk};
+ghost use Rattle.store_engine.specs.Calls.{IsBeginning, IsForcing};
+ghost use Rattle.store_engine.specs.Engine.{IsFailed, ending_of_force};
 
 use crate::Engine;
 use crate::force_err::ForceErr;
@@ -34,16 +31,11 @@ fn stable(answer: Result<(), Failed>, forced: u64) -> Result<u64, ForceErr>
 }
 
 impl<O: Oper> Engine<O> {
-    /// Forces the log. It answers how many commands are stable now.
-    pub fn force<M: Machine>(&mut self, machine: &mut M) -> Result<u64, ForceErr>
+    // Forces the log, where no group is open. It answers how many commands are stable now.
+    pub(crate) fn force_alone<M: Machine>(&mut self, machine: &mut M) -> Result<u64, ForceErr>
         requires unbroken { self.old.broken ≡ false }
-        ensures call { IsCall O.meaning log_limit (M.disk machine.old) (M.disk machine.new) self.old self.new 0 (ending_of_force result) }
-        ensures takes { Takes O.meaning (M.disk machine.old) (M.disk machine.new) self.old.parts self.new.parts (λ m w used. force_course m w used) (ending_of_force result) }
-        ensures commands { KeepsCommands O.meaning (M.disk machine.old) (M.disk machine.new) self.old self.new (ending_of_force result) }
-        ensures forced { (p : Params) (commands : List O) → Holds O.meaning p (M.disk machine.old) self.old commands →
-            IfOk result (λ n. (n ≡ length commands) × (forced_in self.new ≡ length commands)) }
-        ensures empty { OnOk result (self.new.parts.log.log.pending ≡ []) }
-        ensures answer { IfOk result (λ n. n ≡ forced_in self.new) }
+        requires alone { self.old.group ≡ None }
+        ensures { IsForcing O.meaning (M.disk machine.old) (M.disk machine.new) self.old self.new result }
     {
         explain_core::every_run_keeps::<O>();
         standing::image_stands::<O>();
@@ -53,5 +45,18 @@ impl<O: Oper> Engine<O> {
         self.broken = failed;
         let forced = self.log.forced();
         stable(answer, forced)
+    }
+
+    // Forces the log, and opens a group, where none is open.
+    pub(crate) fn open_group<M: Machine>(&mut self, machine: &mut M) -> Result<(), ForceErr>
+        requires unbroken { self.old.broken ≡ false }
+        requires alone { self.old.group ≡ None }
+        ensures { IsBeginning O.meaning (M.disk machine.old) (M.disk machine.new) self.old self.new result }
+    {
+        explain_core::begin_keeps::<O>();
+        self.force_alone(machine)?;
+        let begun = self.log.next();
+        self.group = Some(begun);
+        Ok(())
     }
 }

@@ -1,10 +1,12 @@
 // What engines and images say of commands.
-ghost use Rattle.std.specs.Prelude.{◌≡◌, ◌<◌, ◌^◌, ◌+◌, ℕ, IsFalse, List, length};
+ghost use Rattle.std.specs.Prelude.{◌≡◌, ◌<◌, ◌^◌, ◌+◌, ℕ, IsFalse, IsTrue, List, None, drop, length};
+ghost use Rattle.std.specs.Option.{is_some};
 ghost use Rattle.disk_model.specs.Disk.{Files};
 ghost use Rattle.formats.specs.Image.{EndsAt};
 ghost use Rattle.formats.specs.declared.params.Params.{Params};
 ghost use Rattle.explain_core.specs.History.{commands_of};
-ghost use Rattle.explain_core.specs.World.{World, Step, run};
+ghost use Rattle.explain_core.specs.World.{World, Step, run, step};
+ghost use Rattle.explain_core.specs.World.Step.{End};
 ghost use Rattle.standing.specs.Standing.{IsFound};
 ghost use Rattle.cache_manager.specs.Courses.{Stop, logged_in};
 ghost use Rattle.cache_manager.specs.Courses.Stop.{Through};
@@ -13,7 +15,8 @@ ghost use Rattle.checkpointing.specs.Courses.{trim_course};
 ghost use Rattle.restart.specs.Courses.{restart_course};
 ghost use Rattle.store_engine.specs.Emptied.{IsEmptied};
 ghost use Rattle.cache_manager.specs.Kept.{StopsAt};
-ghost use Rattle.store_engine.specs.Engine.{Holds, InEachImage, Says, SaysStop, ShowsIn};
+ghost use Rattle.execution.specs.Stops.{StopsWithin};
+ghost use Rattle.store_engine.specs.Engine.{Holds, InEachImage, Says, SaysStop, SaysStopWithin, ShowsIn};
 ghost use Rattle.store_engine.specs.Store.{IsWellFormed, Stands, meaning_in};
 
 use crate::Engine;
@@ -28,16 +31,29 @@ pub fn engine_stands<O: Oper, M: Machine>(machine: &M, engine: &Engine<O>)
 {
     standing::image_stands::<O>();
     explain_core::live_cache_is_the_map::<O>();
+    explain_core::crash_takes_the_group::<O>();
     let _ = machine;
     let _ = engine;
 }
 
 /// Why a call was stopped is what each image of the moment says: where the log ends, which number is the next, or which
-/// epoch the log in force has.
+/// epoch the log in force has. Within a group these are less by the commands of the group, which wait.
 pub fn stop_is_said<O: Oper, M: Machine>(machine: &M, engine: &Engine<O>)
-    ensures { (p : Params) (w : World O) (most : ℕ) (stop : Stop) → ShowsIn O.meaning p (M.disk machine.now) engine.now w →
+    ensures alone { (p : Params) (w : World O) (most : ℕ) (stop : Stop) → ShowsIn O.meaning p (M.disk machine.now) engine.now w →
         StopsAt most engine.now.parts.log stop → InEachImage (M.disk machine.now) (λ files. SaysStop O.meaning p files stop) }
+    ensures within { (p : Params) (w : World O) (most : ℕ) (stop : Stop) → ShowsIn O.meaning p (M.disk machine.now) engine.now w → IsTrue (is_some w.group) →
+        StopsWithin most engine.now.parts.log stop → InEachImage (M.disk machine.now) (λ files. SaysStopWithin O.meaning p (commands_of (drop w.forced w.history)) files stop) }
 {
+    let _ = machine;
+    let _ = engine;
+}
+
+/// The end of a group is a step: an engine that shows a world with an open group shows, with none, the world after it.
+pub fn group_is_closed<O: Oper, M: Machine>(machine: &M, engine: &Engine<O>)
+    ensures { (p : Params) (w : World O) → ShowsIn O.meaning p (M.disk machine.now) engine.now w → IsTrue (is_some w.group) →
+        ShowsIn O.meaning p (M.disk machine.now) (record engine.now { group = None }) (step (meaning_in O.meaning p) w End) }
+{
+    explain_core::end_keeps::<O>();
     let _ = machine;
     let _ = engine;
 }

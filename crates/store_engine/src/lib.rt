@@ -15,6 +15,7 @@ mod engine;
 mod executing;
 mod force_err;
 mod forcing;
+mod grouping;
 mod init_err;
 mod installing;
 mod laws;
@@ -22,17 +23,20 @@ mod making;
 mod opening;
 mod stat;
 mod uniqueness;
+mod work_err;
 
 pub use cache_manager::{Install, InstallErr};
 pub use checkpointing::TrimErr;
 pub use engine::Engine;
 pub use execution::ExecErr;
 pub use force_err::ForceErr;
+pub use grouping::NoGroup;
 pub use init_err::InitErr;
 pub use laws::{
-    a_trim_behind_a_drain_leaves_nothing, engine_stands, identities_are_counted, opens_on_a_world,
-    standing_files_meet_their_format, stop_is_said,
+    a_trim_behind_a_drain_leaves_nothing, engine_stands, group_is_closed, identities_are_counted,
+    opens_on_a_world, standing_files_meet_their_format, stop_is_said,
 };
 pub use restart::{RestartErr, Tuning, one_damage};
 pub use stat::Stat;
 pub use uniqueness::one_state;
+pub use work_err::WorkErr;

@@ -1,5 +1,5 @@
 // The files are opened, and what is not installed of their commands is done again.
-ghost use Rattle.std.specs.Prelude.{◌≡◌, ◌<◌, false, List, ℕ, length, IfOk};
+ghost use Rattle.std.specs.Prelude.{◌≡◌, ◌<◌, false, List, ℕ, None, length, IfOk};
 ghost use Rattle.disk_model.specs.Disk.{LeavesOnly};
 ghost use Rattle.formats.specs.declared.params.Params.{Params};
 ghost use Rattle.explain_core.specs.World.{World};
@@ -25,7 +25,7 @@ fn built<O: Oper>(
 ) -> Result<Engine<O>, RestartErr>
     requires { IfOk (of_parts.opened answer) ArePartsInUse }
     ensures same { opened result ≡ of_parts.opened answer }
-    ensures fresh { IfOk result (λ engine. (engine.broken ≡ false) × (engine.identities ≡ 0)) }
+    ensures fresh { IfOk result (λ engine. (engine.broken ≡ false) × (engine.group ≡ None) × (engine.identities ≡ 0)) }
 {
     match answer {
         Ok(it) => Ok(Engine {
@@ -34,6 +34,7 @@ fn built<O: Oper>(
             log: it.log,
             graph: it.graph,
             identities: 0,
+            group: None,
             broken: false,
         }),
         Err(cause) => Err(cause),
@@ -54,7 +55,7 @@ impl<O: Oper> Engine<O> {
         requires { 0 < tuning.clean }
         ensures opening { IsOpening O.meaning (M.disk machine.old) (M.disk machine.new) (opened result) }
         ensures judged { (M.disk machine.old).tells_files → IsJudged O.meaning (M.disk machine.old) (M.disk machine.new) (opened result) }
-        ensures ready { IfOk result (λ engine. (engine.broken ≡ false) × (engine.identities ≡ 0) × IsAttached O.meaning (M.disk machine.new) engine) }
+        ensures ready { IfOk result (λ engine. (engine.broken ≡ false) × (engine.group ≡ None) × (engine.identities ≡ 0) × IsAttached O.meaning (M.disk machine.new) engine) }
         ensures reported { IsReported O.meaning (M.disk machine.old) (M.disk machine.new) (opened result) }
 
         // Of each world that the files show the whole course is taken, and the log is as long as that says.
@@ -67,7 +68,7 @@ impl<O: Oper> Engine<O> {
         ensures holds { (p : Params) (commands : List O) → Opens O.meaning p (M.disk machine.old) commands →
             IfOk result (λ engine. Holds O.meaning p (M.disk machine.new) engine commands × (forced_in engine ≡ length commands)) }
         ensures images { (M.disk machine.old).tells_moments → (p : Params) (commands : List O) → Opens O.meaning p (M.disk machine.old) commands →
-            LeavesOnly (M.disk machine.old) (M.disk machine.new) (OrAtStart (M.disk machine.old) (Between O.meaning p (M.disk machine.old) (length commands) commands)) }
+            LeavesOnly (M.disk machine.old) (M.disk machine.new) (OrAtStart (M.disk machine.old) (Between O.meaning p (M.disk machine.old) None (length commands) (length commands) commands)) }
     {
         explain_core::every_run_keeps::<O>();
         standing::image_stands::<O>();

@@ -53,6 +53,7 @@ reads_short disk short old now before after reads = record {
       time = reads.calls.call.time;
       quiet = reads.calls.call.quiet;
       params = reads.calls.call.params;
+      group = reads.calls.call.group;
       attached = reads.calls.call.attached;
       identities = reads.calls.call.identities;
       stopped = λ stop is. cc;

@@ -35,8 +35,8 @@ returns-in_err-values-clause-takes g c =
     let before = parts c.args.log.now c.args.objects.now c.args.graph.now.entries in
     let after = with_objects before c.admit.new.objects in
     let e = c.in_err-values.field-0.0 in
-    subst (λ (r : Result ℕ ExecErr). Takes g.O.Oper.meaning old new before after (λ m w used. exec_course m c.args.objects.now.slots.params.limit c.args.op w used) (ending_of_exec r)) (sym (err_is c.from_residual.result e c.from_residual.ensures.1))
-    (admit_takes g.O.Oper.meaning c.args.op old new before c.admit.new.objects c.admit.ensures.read g.met.O.Oper.bounded g.met.O.Oper.lawful e c.in_err-values.ensures.cause
+    subst (λ (r : Result ℕ ExecErr). Takes g.O.Oper.meaning old new before after (λ m w used. exec_course m c.args.grouped c.args.objects.now.slots.params.limit c.args.op w used) (ending_of_exec r)) (sym (err_is c.from_residual.result e c.from_residual.ensures.1))
+    (admit_takes g.O.Oper.meaning c.args.grouped c.args.op old new before c.admit.new.objects c.admit.ensures.read g.met.O.Oper.bounded g.met.O.Oper.lawful e c.in_err-values.ensures.cause
     (λ told laid r is. c.in_err-values.ensures.refused told laid r (λ i. Err (is i))))
 
 pub returns-in_err-values-clause-quiet : goal.returns-in_err-values-clause-quiet
@@ -56,9 +56,9 @@ returns-in_err-values-clause-exactly g c p w shows =
     let new = g.M.Machine.disk c.admit.new.machine in
     let before = parts c.args.log.now c.args.objects.now c.args.graph.now.entries in
     let e = c.in_err-values.field-0.0 in
-    subst (λ (r : Result ℕ ExecErr). HasCause (meaning_in g.O.Oper.meaning p) p.limit w (used_of c.args.log.now.log) c.args.op r) (sym (err_is c.from_residual.result e c.from_residual.ensures.1))
-    (admit_cause g.O.Oper.meaning p old new before w shows c.args.op e c.admit.ensures.read.stays c.in_err-values.ensures.cause
-    (λ r is. admit_refused g.O.Oper.meaning c.args.op old new before c.admit.new.objects c.admit.ensures.read g.met.O.Oper.bounded g.met.O.Oper.lawful r
+    subst (λ (r : Result ℕ ExecErr). HasCause c.args.grouped (meaning_in g.O.Oper.meaning p) p.limit w (used_of c.args.log.now.log) c.args.op r) (sym (err_is c.from_residual.result e c.from_residual.ensures.1))
+    (admit_cause g.O.Oper.meaning c.args.grouped p old new before w shows c.args.op e c.admit.ensures.read.stays c.in_err-values.ensures.cause
+    (λ r is. admit_refused g.O.Oper.meaning c.args.grouped c.args.op old new before c.admit.new.objects c.admit.ensures.read g.met.O.Oper.bounded g.met.O.Oper.lawful r
     (λ told laid. c.in_err-values.ensures.refused told laid r (λ i. Err (is i))) p w shows)
     (λ is. c.in_err-values.ensures.fault (λ i. Err (is i))))
 
@@ -68,8 +68,8 @@ returns-in_err-values-clause-undone g c =
     let new = g.M.Machine.disk c.admit.new.machine in
     let before = parts c.args.log.now c.args.objects.now c.args.graph.now.entries in
     let e = c.in_err-values.field-0.0 in
-    subst (λ (r : Result ℕ ExecErr). IfErr r (IsUndone before (with_objects before c.admit.new.objects))) (sym (err_is c.from_residual.result e c.from_residual.ensures.1))
-    (admit_undone g.O.Oper.meaning c.args.op old new before c.admit.new.objects c.admit.ensures.read e c.in_err-values.ensures.cause)
+    subst (λ (r : Result ℕ ExecErr). IfErr r (IsUndone c.args.grouped before (with_objects before c.admit.new.objects))) (sym (err_is c.from_residual.result e c.from_residual.ensures.1))
+    (admit_undone g.O.Oper.meaning c.args.grouped c.args.op old new before c.admit.new.objects c.admit.ensures.read e c.in_err-values.ensures.cause)
 
 pub returns-in_err-values-clause-failure : goal.returns-in_err-values-clause-failure
 returns-in_err-values-clause-failure g c =
@@ -77,8 +77,8 @@ returns-in_err-values-clause-failure g c =
     let new = g.M.Machine.disk c.admit.new.machine in
     let before = parts c.args.log.now c.args.objects.now c.args.graph.now.entries in
     let e = c.in_err-values.field-0.0 in
-    subst (λ (r : Result ℕ ExecErr). IfErr r (IsExecFailure g.O.Oper.meaning old new before c.args.op)) (sym (err_is c.from_residual.result e c.from_residual.ensures.1))
-    (admit_failure g.O.Oper.meaning c.args.op old new before e c.in_err-values.ensures.cause)
+    subst (λ (r : Result ℕ ExecErr). IfErr r (IsExecFailure g.O.Oper.meaning c.args.grouped old new before c.args.op)) (sym (err_is c.from_residual.result e c.from_residual.ensures.1))
+    (admit_failure g.O.Oper.meaning c.args.grouped c.args.op old new before e c.in_err-values.ensures.cause)
 
 pub returns-in_err-values-clause-stops : goal.returns-in_err-values-clause-stops
 returns-in_err-values-clause-stops g c stop is =
@@ -86,7 +86,7 @@ returns-in_err-values-clause-stops g c stop is =
     let new = g.M.Machine.disk c.admit.new.machine in
     let before = parts c.args.log.now c.args.objects.now c.args.graph.now.entries in
     let e = c.in_err-values.field-0.0 in
-    admit_never_stops g.O.Oper.meaning c.args.op old new before e c.in_err-values.ensures.cause c.args.objects.now.slots.params.limit c.args.log.now stop
+    admit_never_stops g.O.Oper.meaning c.args.grouped c.args.op old new before e c.in_err-values.ensures.cause c.args.objects.now.slots.params.limit c.args.log.now stop
     (ap (λ (r : Result ℕ ExecErr). ending_of_exec r) (sym (err_is c.from_residual.result e c.from_residual.ensures.1)) ∙ is)
 
 pub returns-in_err-values-clause-cause : goal.returns-in_err-values-clause-cause
@@ -95,7 +95,7 @@ returns-in_err-values-clause-cause g c is =
     let new = g.M.Machine.disk c.admit.new.machine in
     let before = parts c.args.log.now c.args.objects.now c.args.graph.now.entries in
     let e = c.in_err-values.field-0.0 in
-    admit_rises g.O.Oper.meaning c.args.op old new before e c.in_err-values.ensures.cause (same_err c.from_residual.result e DiskFault (err_is c.from_residual.result e c.from_residual.ensures.1) is)
+    admit_rises g.O.Oper.meaning c.args.grouped c.args.op old new before e c.in_err-values.ensures.cause (same_err c.from_residual.result e DiskFault (err_is c.from_residual.result e c.from_residual.ensures.1) is)
 
 -- after the admission: the parts with the objects of which slots were read, and their log's limit
 module _ (g : Over) (c : In_ok-values g) where
@@ -116,11 +116,11 @@ module _ (g : Over) (c : In_ok-values g) where
 
 -- it gets no place
 module _ (g : Over) (c : After-require_place g) where
-  lacks : (e : ExecErr) → LacksPlace c.params-limit.result.limit c.args.log.now c.in_ok-values.length e → LacksPlace c.args.objects.now.slots.params.limit c.args.log.now (command_length (meaning_in g.O.Oper.meaning c.args.objects.now.slots.params) c.args.op) e
+  lacks : (e : ExecErr) → LacksPlace c.args.grouped c.params-limit.result.limit c.args.log.now c.in_ok-values.length e → LacksPlace c.args.grouped c.args.objects.now.slots.params.limit c.args.log.now (command_length (meaning_in g.O.Oper.meaning c.args.objects.now.slots.params) c.args.op) e
   lacks e why =
       let limit : c.params-limit.result.limit ≡ c.args.objects.now.slots.params.limit = ap (λ (q : Params). q.limit) (c.params-limit.ensures.value ∙ ap (λ (s : SlotsView). s.params) c.admit.ensures.read.fetched.slots) in
-      subst (λ (k : ℕ). LacksPlace k c.args.log.now (command_length (meaning_in g.O.Oper.meaning c.args.objects.now.slots.params) c.args.op) e) limit
-      (subst (λ (k : ℕ). LacksPlace c.params-limit.result.limit c.args.log.now k e) c.in_ok-values.ensures.length why)
+      subst (λ (k : ℕ). LacksPlace c.args.grouped k c.args.log.now (command_length (meaning_in g.O.Oper.meaning c.args.objects.now.slots.params) c.args.op) e) limit
+      (subst (λ (k : ℕ). LacksPlace c.args.grouped c.params-limit.result.limit c.args.log.now k e) c.in_ok-values.ensures.length why)
 
   has : HasPlace c.params-limit.result.limit c.args.log.now c.in_ok-values.length → HasPlace c.args.objects.now.slots.params.limit c.args.log.now (command_length (meaning_in g.O.Oper.meaning c.args.objects.now.slots.params) c.args.op)
   has place =
@@ -138,9 +138,9 @@ returns-in_err-require_place-clause-takes g c =
     let after = parts c.require_place.new.log c.admit.new.objects c.args.graph.now.entries in
     let e = c.in_err-require_place.field-0.0 in
     let it : Store = store c.admit.new.objects c.args.graph.now.entries in
-    subst (λ (r : Result ℕ ExecErr). Takes g.O.Oper.meaning old new start after (λ m w used. exec_course m c.args.objects.now.slots.params.limit c.args.op w used) (ending_of_exec r))
+    subst (λ (r : Result ℕ ExecErr). Takes g.O.Oper.meaning old new start after (λ m w used. exec_course m c.args.grouped c.args.objects.now.slots.params.limit c.args.op w used) (ending_of_exec r))
     (sym (err_is c.from_residual-in_err-require_place.result e c.from_residual-in_err-require_place.ensures.1))
-    (lacks_takes g.O.Oper.meaning c.args.op old mid new start after c.admit.ensures.read.stays (said g at.In_ok-values)
+    (lacks_takes g.O.Oper.meaning c.args.grouped c.args.op old mid new start after c.admit.ensures.read.stays (said g at.In_ok-values)
     (λ told p w shows. c.in_err-require_place.ensures.moments told p it w (there g at.In_ok-values p w shows)) e (lacks g at.After-require_place e c.in_err-require_place.ensures.lacks)
     (λ p w shows other. c.in_err-require_place.ensures.shows p it w (there g at.In_ok-values p w shows) other) c.in_err-require_place.ensures.log)
 
@@ -151,7 +151,7 @@ returns-in_err-require_place-clause-quiet g c =
 pub returns-in_err-require_place-clause-in_use : goal.returns-in_err-require_place-clause-in_use
 returns-in_err-require_place-clause-in_use g c =
     let start = parts c.args.log.now c.args.objects.now c.args.graph.now.entries in
-    alike_in_use (with_objects start c.admit.new.objects) c.require_place.new.log (unlogged_alike c.args.log.now c.require_place.new.log c.in_err-require_place.field-0.0 c.in_err-require_place.ensures.log)
+    alike_in_use (with_objects start c.admit.new.objects) c.require_place.new.log (unlogged_alike c.args.grouped c.args.log.now c.require_place.new.log c.in_err-require_place.field-0.0 c.in_err-require_place.ensures.log)
     (read_in_use (g.M.Machine.disk c.args.machine.now) (g.M.Machine.disk c.admit.new.machine) start c.admit.new.objects c.admit.ensures.read c.requires.in_use)
 
 pub returns-in_err-require_place-clause-attached : goal.returns-in_err-require_place-clause-attached
@@ -159,7 +159,7 @@ returns-in_err-require_place-clause-attached g c =
     let start = parts c.args.log.now c.args.objects.now c.args.graph.now.entries in
     let e = c.in_err-require_place.field-0.0 in
     unless_fault c.from_residual-in_err-require_place.result e (err_is c.from_residual-in_err-require_place.result e c.from_residual-in_err-require_place.ensures.1) (λ other attached.
-    alike_attached (with_objects start c.admit.new.objects) c.require_place.new.log (unlogged_alike c.args.log.now c.require_place.new.log c.in_err-require_place.field-0.0 c.in_err-require_place.ensures.log)
+    alike_attached (with_objects start c.admit.new.objects) c.require_place.new.log (unlogged_alike c.args.grouped c.args.log.now c.require_place.new.log c.in_err-require_place.field-0.0 c.in_err-require_place.ensures.log)
     g.O.Oper.meaning (g.M.Machine.disk c.admit.new.machine) (g.M.Machine.disk c.require_place.new.machine) c.in_err-require_place.ensures.runs (c.in_err-require_place.ensures.keeps other)
     (read_attached g.O.Oper.meaning (g.M.Machine.disk c.args.machine.now) (g.M.Machine.disk c.admit.new.machine) start c.admit.new.objects c.admit.ensures.read attached))
 
@@ -169,16 +169,16 @@ returns-in_err-require_place-clause-exactly g c p w shows =
     let old = g.M.Machine.disk c.args.machine.now in
     let start = first g at.In_ok-values in
     let e = c.in_err-require_place.field-0.0 in
-    subst (λ (r : Result ℕ ExecErr). HasCause (meaning_in g.O.Oper.meaning p) p.limit w (used_of c.args.log.now.log) c.args.op r)
+    subst (λ (r : Result ℕ ExecErr). HasCause c.args.grouped (meaning_in g.O.Oper.meaning p) p.limit w (used_of c.args.log.now.log) c.args.op r)
     (sym (err_is c.from_residual-in_err-require_place.result e c.from_residual-in_err-require_place.ensures.1))
-    (lacks_cause g.O.Oper.meaning p old old start w shows c.args.op (said g at.In_ok-values p w shows) e
-    (subst (λ (q : Params). LacksPlace q.limit c.args.log.now (command_length (meaning_in g.O.Oper.meaning q) c.args.op) e) shows.store.params (lacks g at.After-require_place e c.in_err-require_place.ensures.lacks)))
+    (lacks_cause g.O.Oper.meaning c.args.grouped p old old start w shows c.args.op (said g at.In_ok-values p w shows) e
+    (subst (λ (q : Params). LacksPlace c.args.grouped q.limit c.args.log.now (command_length (meaning_in g.O.Oper.meaning q) c.args.op) e) shows.store.params (lacks g at.After-require_place e c.in_err-require_place.ensures.lacks)))
 
 pub returns-in_err-require_place-clause-undone : goal.returns-in_err-require_place-clause-undone
 returns-in_err-require_place-clause-undone g c =
     let start = parts c.args.log.now c.args.objects.now c.args.graph.now.entries in
     let e = c.in_err-require_place.field-0.0 in
-    subst (λ (r : Result ℕ ExecErr). IfErr r (IsUndone start (parts c.require_place.new.log c.admit.new.objects c.args.graph.now.entries)))
+    subst (λ (r : Result ℕ ExecErr). IfErr r (IsUndone c.args.grouped start (parts c.require_place.new.log c.admit.new.objects c.args.graph.now.entries)))
     (sym (err_is c.from_residual-in_err-require_place.result e c.from_residual-in_err-require_place.ensures.1))
     (record { log = c.in_err-require_place.ensures.log; objects = c.admit.ensures.read.fetched; entries = refl })
 
@@ -190,9 +190,9 @@ returns-in_err-require_place-clause-failure g c =
     let new = g.M.Machine.disk c.require_place.new.machine in
     let start = first g at.In_ok-values in
     let e = c.in_err-require_place.field-0.0 in
-    subst (λ (r : Result ℕ ExecErr). IfErr r (IsExecFailure g.O.Oper.meaning old new start c.args.op))
+    subst (λ (r : Result ℕ ExecErr). IfErr r (IsExecFailure g.O.Oper.meaning c.args.grouped old new start c.args.op))
     (sym (err_is c.from_residual-in_err-require_place.result e c.from_residual-in_err-require_place.ensures.1))
-    (lacks_failure g.O.Oper.meaning c.args.op old mid new start (parts c.require_place.new.log c.admit.new.objects c.args.graph.now.entries) c.admit.ensures.read.stays e
+    (lacks_failure g.O.Oper.meaning c.args.grouped c.args.op old mid new start (parts c.require_place.new.log c.admit.new.objects c.args.graph.now.entries) c.admit.ensures.read.stays e
     (lacks g at.After-require_place e c.in_err-require_place.ensures.lacks) (c.in_ok-values.values, c.in_ok-values.ensures.ready) (λ is. c.in_err-require_place.ensures.fault (λ i. Err (is i))))
 
 pub returns-in_err-require_place-clause-stops : goal.returns-in_err-require_place-clause-stops
@@ -201,7 +201,7 @@ returns-in_err-require_place-clause-stops g c stop is =
     let e = c.in_err-require_place.field-0.0 in
     let used = c.requires.in_use in
     let n = command_length (meaning_in g.O.Oper.meaning c.args.objects.now.slots.params) c.args.op in
-    lacks_stops c.args.objects.now.slots.params.limit c.args.log.now c.require_place.new.log n used.store.low e (lacks g at.After-require_place e c.in_err-require_place.ensures.lacks) c.in_err-require_place.ensures.log stop
+    lacks_stops c.args.objects.now.slots.params.limit c.args.log.now c.require_place.new.log n used.store.low c.args.grouped e (lacks g at.After-require_place e c.in_err-require_place.ensures.lacks) c.in_err-require_place.ensures.log stop
     (ap (λ (r : Result ℕ ExecErr). ending_of_exec r) (sym (err_is c.from_residual-in_err-require_place.result e c.from_residual-in_err-require_place.ensures.1)) ∙ is)
 
 pub returns-in_err-require_place-clause-cause : goal.returns-in_err-require_place-clause-cause
@@ -249,9 +249,9 @@ returns-in_err-append_command-clause-takes g c =
     let mid = g.M.Machine.disk c.require_place.new.machine in
     let start = parts c.args.log.now c.args.objects.now c.args.graph.now.entries in
     let after = parts c.append_command.new.log c.append_command.new.objects c.append_command.new.graph.entries in
-    subst (λ (r : Result ℕ ExecErr). Takes g.O.Oper.meaning old mid start after (λ m w used. exec_course m c.args.objects.now.slots.params.limit c.args.op w used) (ending_of_exec r))
+    subst (λ (r : Result ℕ ExecErr). Takes g.O.Oper.meaning old mid start after (λ m w used. exec_course m c.args.grouped c.args.objects.now.slots.params.limit c.args.op w used) (ending_of_exec r))
     (sym (err_is c.from_residual-in_err-append_command.result Memory c.from_residual-in_err-append_command.ensures.1))
-    (short_takes g.O.Oper.meaning c.args.op old mid start c.admit.new.objects (read g at.In_ok-require_place) after (untaken g at.In_err-append_command))
+    (short_takes g.O.Oper.meaning c.args.grouped c.args.op old mid start c.admit.new.objects (read g at.In_ok-require_place) after (untaken g at.In_err-append_command))
 
 pub returns-in_err-append_command-clause-quiet : goal.returns-in_err-append_command-clause-quiet
 returns-in_err-append_command-clause-quiet g c =
@@ -262,18 +262,18 @@ returns-in_err-append_command-clause-quiet g c =
 pub returns-in_err-append_command-clause-in_use : goal.returns-in_err-append_command-clause-in_use
 returns-in_err-append_command-clause-in_use g c =
     let at = goal.at.returns-in_err-append_command-clause-in_use g c in
-    short_in_use g.O.Oper.meaning c.args.op (g.M.Machine.disk c.args.machine.now) (g.M.Machine.disk c.require_place.new.machine) (parts c.args.log.now c.args.objects.now c.args.graph.now.entries) c.admit.new.objects
+    short_in_use g.O.Oper.meaning c.args.grouped c.args.op (g.M.Machine.disk c.args.machine.now) (g.M.Machine.disk c.require_place.new.machine) (parts c.args.log.now c.args.objects.now c.args.graph.now.entries) c.admit.new.objects
     (read g at.In_ok-require_place) (parts c.append_command.new.log c.append_command.new.objects c.append_command.new.graph.entries) (untaken g at.In_err-append_command) c.requires.in_use
 
 pub returns-in_err-append_command-clause-attached : goal.returns-in_err-append_command-clause-attached
 returns-in_err-append_command-clause-attached g c = inr (λ attached.
     let at = goal.at.returns-in_err-append_command-clause-attached g c in
-    short_attached g.O.Oper.meaning c.args.op (g.M.Machine.disk c.args.machine.now) (g.M.Machine.disk c.require_place.new.machine) (parts c.args.log.now c.args.objects.now c.args.graph.now.entries) c.admit.new.objects
+    short_attached g.O.Oper.meaning c.args.grouped c.args.op (g.M.Machine.disk c.args.machine.now) (g.M.Machine.disk c.require_place.new.machine) (parts c.args.log.now c.args.objects.now c.args.graph.now.entries) c.admit.new.objects
     (read g at.In_ok-require_place) (parts c.append_command.new.log c.append_command.new.objects c.append_command.new.graph.entries) (untaken g at.In_err-append_command) attached)
 
 pub returns-in_err-append_command-clause-exactly : goal.returns-in_err-append_command-clause-exactly
 returns-in_err-append_command-clause-exactly g c p w shows =
-    subst (λ (r : Result ℕ ExecErr). HasCause (meaning_in g.O.Oper.meaning p) p.limit w (used_of c.args.log.now.log) c.args.op r)
+    subst (λ (r : Result ℕ ExecErr). HasCause c.args.grouped (meaning_in g.O.Oper.meaning p) p.limit w (used_of c.args.log.now.log) c.args.op r)
     (sym (err_is c.from_residual-in_err-append_command.result Memory c.from_residual-in_err-append_command.ensures.1)) tt
 
 pub returns-in_err-append_command-clause-undone : goal.returns-in_err-append_command-clause-undone
@@ -281,15 +281,15 @@ returns-in_err-append_command-clause-undone g c =
     let at = goal.at.returns-in_err-append_command-clause-undone g c in
     let start = parts c.args.log.now c.args.objects.now c.args.graph.now.entries in
     let after = parts c.append_command.new.log c.append_command.new.objects c.append_command.new.graph.entries in
-    subst (λ (r : Result ℕ ExecErr). IfErr r (IsUndone start after))
+    subst (λ (r : Result ℕ ExecErr). IfErr r (IsUndone c.args.grouped start after))
     (sym (err_is c.from_residual-in_err-append_command.result Memory c.from_residual-in_err-append_command.ensures.1))
-    (short_undone g.O.Oper.meaning c.args.op (g.M.Machine.disk c.args.machine.now) (g.M.Machine.disk c.require_place.new.machine) start c.admit.new.objects (read g at.In_ok-require_place) after (untaken g at.In_err-append_command))
+    (short_undone g.O.Oper.meaning c.args.grouped c.args.op (g.M.Machine.disk c.args.machine.now) (g.M.Machine.disk c.require_place.new.machine) start c.admit.new.objects (read g at.In_ok-require_place) after (untaken g at.In_err-append_command))
 
 pub returns-in_err-append_command-clause-failure : goal.returns-in_err-append_command-clause-failure
 returns-in_err-append_command-clause-failure g c =
     let at = goal.at.returns-in_err-append_command-clause-failure g c in
     let start = parts c.args.log.now c.args.objects.now c.args.graph.now.entries in
-    subst (λ (r : Result ℕ ExecErr). IfErr r (IsExecFailure g.O.Oper.meaning (g.M.Machine.disk c.args.machine.now) (g.M.Machine.disk c.require_place.new.machine) start c.args.op))
+    subst (λ (r : Result ℕ ExecErr). IfErr r (IsExecFailure g.O.Oper.meaning c.args.grouped (g.M.Machine.disk c.args.machine.now) (g.M.Machine.disk c.require_place.new.machine) start c.args.op))
     (sym (err_is c.from_residual-in_err-append_command.result Memory c.from_residual-in_err-append_command.ensures.1))
     (inr ((c.in_ok-values.values, c.in_ok-values.ensures.ready), has g at.After-require_place c.in_ok-require_place.ensures.has))
 
@@ -313,7 +313,7 @@ module _ (g : Over) (c : In_ok-append_command g) where
 pub returns-clause-takes : goal.returns-clause-takes
 returns-clause-takes g c =
     let at = goal.at.returns-clause-takes g c in
-    finished_takes g.O.Oper.meaning c.args.op (g.M.Machine.disk c.args.machine.now) (g.M.Machine.disk c.require_place.new.machine) (parts c.args.log.now c.args.objects.now c.args.graph.now.entries) c.admit.new.objects
+    finished_takes g.O.Oper.meaning c.args.grouped c.args.op (g.M.Machine.disk c.args.machine.now) (g.M.Machine.disk c.require_place.new.machine) (parts c.args.log.now c.args.objects.now c.args.graph.now.entries) c.admit.new.objects
     (read g at.In_ok-require_place) (parts c.append_command.new.log c.append_command.new.objects c.append_command.new.graph.entries) c.in_ok-values.values c.in_ok-values.ensures.ready (done g at.In_ok-append_command)
     (has g at.After-require_place c.in_ok-require_place.ensures.has) g.met.O.Oper.bounded g.met.O.Oper.lawful c.in_ok-values.ensures.values c.append_keeps.ensures.command
 
@@ -326,7 +326,7 @@ returns-clause-quiet g c =
 pub returns-clause-in_use : goal.returns-clause-in_use
 returns-clause-in_use g c =
     let at = goal.at.returns-clause-in_use g c in
-    finished_in_use g.O.Oper.meaning c.args.op (g.M.Machine.disk c.args.machine.now) (g.M.Machine.disk c.require_place.new.machine) (parts c.args.log.now c.args.objects.now c.args.graph.now.entries) c.admit.new.objects
+    finished_in_use g.O.Oper.meaning c.args.grouped c.args.op (g.M.Machine.disk c.args.machine.now) (g.M.Machine.disk c.require_place.new.machine) (parts c.args.log.now c.args.objects.now c.args.graph.now.entries) c.admit.new.objects
     (read g at.In_ok-require_place) (parts c.append_command.new.log c.append_command.new.objects c.append_command.new.graph.entries) c.in_ok-values.values c.in_ok-values.ensures.ready (done g at.In_ok-append_command)
     (has g at.After-require_place c.in_ok-require_place.ensures.has) g.met.O.Oper.bounded g.met.O.Oper.lawful
     (subst (λ (q : Params). IsInRange q) (params_same g at.In_ok-values) c.params-limit.ensures.range) c.requires.in_use
@@ -334,21 +334,21 @@ returns-clause-in_use g c =
 pub returns-clause-attached : goal.returns-clause-attached
 returns-clause-attached g c = inr (λ attached.
     let at = goal.at.returns-clause-attached g c in
-    finished_attached g.O.Oper.meaning c.args.op (g.M.Machine.disk c.args.machine.now) (g.M.Machine.disk c.require_place.new.machine) (parts c.args.log.now c.args.objects.now c.args.graph.now.entries) c.admit.new.objects
+    finished_attached g.O.Oper.meaning c.args.grouped c.args.op (g.M.Machine.disk c.args.machine.now) (g.M.Machine.disk c.require_place.new.machine) (parts c.args.log.now c.args.objects.now c.args.graph.now.entries) c.admit.new.objects
     (read g at.In_ok-require_place) (parts c.append_command.new.log c.append_command.new.objects c.append_command.new.graph.entries) c.in_ok-values.values c.in_ok-values.ensures.ready (done g at.In_ok-append_command)
     (has g at.After-require_place c.in_ok-require_place.ensures.has) c.requires.in_use c.append_command.ensures.laid attached)
 
 pub returns-clause-exactly : goal.returns-clause-exactly
 returns-clause-exactly g c p w shows =
     let at = goal.at.returns-clause-exactly g c in
-    finished_cause g.O.Oper.meaning c.args.op (g.M.Machine.disk c.args.machine.now) (g.M.Machine.disk c.require_place.new.machine) (parts c.args.log.now c.args.objects.now c.args.graph.now.entries) c.admit.new.objects
+    finished_cause g.O.Oper.meaning c.args.grouped c.args.op (g.M.Machine.disk c.args.machine.now) (g.M.Machine.disk c.require_place.new.machine) (parts c.args.log.now c.args.objects.now c.args.graph.now.entries) c.admit.new.objects
     (read g at.In_ok-require_place) (parts c.append_command.new.log c.append_command.new.objects c.append_command.new.graph.entries) c.in_ok-values.values c.in_ok-values.ensures.ready (done g at.In_ok-append_command)
     (has g at.After-require_place c.in_ok-require_place.ensures.has) g.met.O.Oper.bounded g.met.O.Oper.lawful c.in_ok-values.ensures.values c.append_keeps.ensures.command p w shows c.accepted.result c.accepted.ensures
 
 pub returns-clause-done : goal.returns-clause-done
 returns-clause-done g c =
     let at = goal.at.returns-clause-done g c in
-    is_done g.O.Oper.meaning c.args.op (g.M.Machine.disk c.args.machine.now) (g.M.Machine.disk c.require_place.new.machine) (parts c.args.log.now c.args.objects.now c.args.graph.now.entries) c.admit.new.objects
+    is_done g.O.Oper.meaning c.args.grouped c.args.op (g.M.Machine.disk c.args.machine.now) (g.M.Machine.disk c.require_place.new.machine) (parts c.args.log.now c.args.objects.now c.args.graph.now.entries) c.admit.new.objects
     (read g at.In_ok-require_place) (parts c.append_command.new.log c.append_command.new.objects c.append_command.new.graph.entries) c.in_ok-values.values c.in_ok-values.ensures.ready (done g at.In_ok-append_command)
     (has g at.After-require_place c.in_ok-require_place.ensures.has) c.accepted.result c.accepted.ensures
 

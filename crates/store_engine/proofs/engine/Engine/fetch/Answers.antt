@@ -21,8 +21,8 @@ fetch-answer-requires g c =
 
 pub invariant_of-self : goal.invariant_of-self
 invariant_of-self g c = λ fine.
-    fetched_usable (g.M.Machine.disk c.args.machine.now) (g.M.Machine.disk c.fetch-answer.new.machine) c.args.self.now c.self.inside.log c.self.inside.objects c.fetch-answer.new.self c.self.inside.graph.entries c.self.inside.identities c.self.inside.broken c.is_disk_fault-failed.result c.self.view_is c.fetch-answer.ensures.kept c.fetch-answer.ensures.slots c.fetch-answer.ensures.fetched c.fetch-answer.ensures.cells
-    (parts_in_use c.self.inside.log c.self.inside.objects c.self.inside.graph.entries c.self.inside.identities c.self.inside.broken c.args.self.now c.self.view_is c.self.invariant c.requires.unbroken)
+    fetched_usable (g.M.Machine.disk c.args.machine.now) (g.M.Machine.disk c.fetch-answer.new.machine) c.args.self.now c.self.inside.log c.self.inside.objects c.fetch-answer.new.self c.self.inside.graph.entries c.self.inside.identities c.self.inside.group c.self.inside.broken c.is_disk_fault-failed.result c.self.view_is c.fetch-answer.ensures.kept c.fetch-answer.ensures.slots c.fetch-answer.ensures.fetched c.fetch-answer.ensures.cells
+    (parts_in_use c.self.inside.log c.self.inside.objects c.self.inside.graph.entries c.self.inside.identities c.self.inside.group c.self.inside.broken c.args.self.now c.self.view_is c.self.invariant c.requires.unbroken)
 
 pub returns-clause-params : goal.returns-clause-params
 returns-clause-params g c = ap (λ (s : SlotsView). s.params) c.fetch-answer.ensures.slots ∙ ap (λ (e : EngineView). params_of e) c.self.view_is
@@ -30,13 +30,13 @@ returns-clause-params g c = ap (λ (s : SlotsView). s.params) c.fetch-answer.ens
 pub returns-clause-shows : goal.returns-clause-shows
 returns-clause-shows g c = λ p w shows.
     ⊎_elim (λ bad. inl (c.told.ensures ∙ failed_slots c.fetch-answer.result bad))
-    (λ fine. inr (shows_now (g.M.Machine.disk c.args.machine.now) (g.M.Machine.disk c.fetch-answer.new.machine) c.args.self.now c.self.inside.log c.self.inside.objects c.fetch-answer.new.self c.self.inside.graph.entries c.self.inside.identities c.self.inside.broken c.is_disk_fault-failed.result c.self.view_is c.fetch-answer.ensures.kept c.fetch-answer.ensures.slots c.fetch-answer.ensures.fetched c.fetch-answer.ensures.cells g.O.Oper.meaning p w fine shows))
+    (λ fine. inr (shows_now (g.M.Machine.disk c.args.machine.now) (g.M.Machine.disk c.fetch-answer.new.machine) c.args.self.now c.self.inside.log c.self.inside.objects c.fetch-answer.new.self c.self.inside.graph.entries c.self.inside.identities c.self.inside.group c.self.inside.broken c.is_disk_fault-failed.result c.self.view_is c.fetch-answer.ensures.kept c.fetch-answer.ensures.slots c.fetch-answer.ensures.fetched c.fetch-answer.ensures.cells g.O.Oper.meaning p w fine shows))
     (unbroken_or c.is_disk_fault-failed.result (HasSlotFailed c.fetch-answer.result) c.is_disk_fault-failed.ensures)
 
 pub returns-clause-holds : goal.returns-clause-holds
 returns-clause-holds g c = λ p commands holds.
     ⊎_elim (λ bad. inl (c.told.ensures ∙ failed_slots c.fetch-answer.result bad))
-    (λ fine. inr (kept_now (g.M.Machine.disk c.args.machine.now) (g.M.Machine.disk c.fetch-answer.new.machine) c.args.self.now c.self.inside.log c.self.inside.objects c.fetch-answer.new.self c.self.inside.graph.entries c.self.inside.identities c.self.inside.broken c.is_disk_fault-failed.result c.self.view_is c.fetch-answer.ensures.kept c.fetch-answer.ensures.slots c.fetch-answer.ensures.fetched c.fetch-answer.ensures.cells g.O.Oper.meaning p commands fine holds))
+    (λ fine. inr (kept_now (g.M.Machine.disk c.args.machine.now) (g.M.Machine.disk c.fetch-answer.new.machine) c.args.self.now c.self.inside.log c.self.inside.objects c.fetch-answer.new.self c.self.inside.graph.entries c.self.inside.identities c.self.inside.group c.self.inside.broken c.is_disk_fault-failed.result c.self.view_is c.fetch-answer.ensures.kept c.fetch-answer.ensures.slots c.fetch-answer.ensures.fetched c.fetch-answer.ensures.cells g.O.Oper.meaning p commands fine holds))
     (unbroken_or c.is_disk_fault-failed.result (HasSlotFailed c.fetch-answer.result) c.is_disk_fault-failed.ensures)
 
 pub returns-clause-cached : goal.returns-clause-cached
@@ -54,11 +54,11 @@ returns-clause-value g c = λ p commands holds.
     omega (arith, c.if-object-params.false, ap (λ (q : Params). q.objects) c.params.ensures.value, same, ap (λ (s : SlotsView). s.params.objects) c.fetch-answer.ensures.slots) in
     subst (λ (r : Result _ ExecErr). OnOk r ((file : List ℕ) → values_in c.fetch-answer.new.self file c.args.object ≡ state_of g.O.Oper.meaning p commands c.args.object)) (sym c.told.ensures)
     (ok_slots c.fetch-answer.result (IsSome (held c.fetch-answer.new.self.cache c.args.object)) _ (λ none cached.
-    value_now (g.M.Machine.disk c.args.machine.now) (g.M.Machine.disk c.fetch-answer.new.machine) c.args.self.now c.self.inside.log c.self.inside.objects c.fetch-answer.new.self c.self.inside.graph.entries c.self.inside.identities c.self.inside.broken c.is_disk_fault-failed.result c.self.view_is c.fetch-answer.ensures.kept c.fetch-answer.ensures.slots c.fetch-answer.ensures.fetched c.fetch-answer.ensures.cells g.O.Oper.meaning p (λ w x. c.live_cache_is_the_map.ensures (bounds_of p) w x) commands (⊎_elim (λ bad. absurd (none bad)) (λ fine. fine) (unbroken_or c.is_disk_fault-failed.result (HasSlotFailed c.fetch-answer.result) c.is_disk_fault-failed.ensures)) holds c.args.object below cached) c.fetch-answer.ensures.cached)
+    value_now (g.M.Machine.disk c.args.machine.now) (g.M.Machine.disk c.fetch-answer.new.machine) c.args.self.now c.self.inside.log c.self.inside.objects c.fetch-answer.new.self c.self.inside.graph.entries c.self.inside.identities c.self.inside.group c.self.inside.broken c.is_disk_fault-failed.result c.self.view_is c.fetch-answer.ensures.kept c.fetch-answer.ensures.slots c.fetch-answer.ensures.fetched c.fetch-answer.ensures.cells g.O.Oper.meaning p (λ w x. c.live_cache_is_the_map.ensures (bounds_of p) w x) commands (⊎_elim (λ bad. absurd (none bad)) (λ fine. fine) (unbroken_or c.is_disk_fault-failed.result (HasSlotFailed c.fetch-answer.result) c.is_disk_fault-failed.ensures)) holds c.args.object below cached) c.fetch-answer.ensures.cached)
 
 pub returns-clause-cause : goal.returns-clause-cause
 returns-clause-cause g c =
-    let inside = view_of c.self.inside.log c.self.inside.objects c.self.inside.graph.entries c.self.inside.identities c.self.inside.broken in
+    let inside = view_of c.self.inside.log c.self.inside.objects c.self.inside.graph.entries c.self.inside.identities c.self.inside.group c.self.inside.broken in
     let same = ap (λ (e : EngineView). (params_of e).objects) c.self.view_is in
     let below : c.args.object < c.self.inside.objects.slots.params.objects = omega (arith, c.if-object-params.false, ap (λ (q : Params). q.objects) c.params.ensures.value, same) in
     subst (λ (r : Result _ ExecErr). IfErr r (IsFetchFailure (g.M.Machine.disk c.args.machine.now) (g.M.Machine.disk c.fetch-answer.new.machine) c.args.self.now c.args.object)) (sym c.told.ensures)
@@ -70,7 +70,7 @@ returns-clause-known g c = subst (λ (e : EngineView). IsCached e c.args.object 
 
 pub returns-clause-call : goal.returns-clause-call
 returns-clause-call g c =
-    fetch_call (g.M.Machine.disk c.args.machine.now) (g.M.Machine.disk c.fetch-answer.new.machine) c.args.self.now c.self.inside.log c.self.inside.objects c.fetch-answer.new.self c.self.inside.graph.entries c.self.inside.identities c.self.inside.broken c.is_disk_fault-failed.result c.self.view_is c.fetch-answer.ensures.kept c.fetch-answer.ensures.slots c.fetch-answer.ensures.fetched c.fetch-answer.ensures.cells
+    fetch_call (g.M.Machine.disk c.args.machine.now) (g.M.Machine.disk c.fetch-answer.new.machine) c.args.self.now c.self.inside.log c.self.inside.objects c.fetch-answer.new.self c.self.inside.graph.entries c.self.inside.identities c.self.inside.group c.self.inside.broken c.is_disk_fault-failed.result c.self.view_is c.fetch-answer.ensures.kept c.fetch-answer.ensures.slots c.fetch-answer.ensures.fetched c.fetch-answer.ensures.cells
     g.O.Oper.meaning _ (
       λ is. c.told.ensures ∙ failed_slots c.fetch-answer.result (c.is_disk_fault-failed.ensures.0 is),
       λ is. c.is_disk_fault-failed.ensures.1 (slots_failed c.fetch-answer.result (sym c.told.ensures ∙ is)),

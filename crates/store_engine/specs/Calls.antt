@@ -1,0 +1,120 @@
+-- What the calls say that no group allows: where none is open, and where one is.
+use Rattle.std.specs.Prelude.{◌≡◌, ◌+◌, ◌≤◌, ℕ, false, List, [], ◌∷◌, ◌++◌, length, None, Some, Result, Ok, Err, IfOk, IfErr, OnOk, OnErr, IsErrOf}
+use Rattle.disk_model.specs.Disk.{Disk}
+use Rattle.disk_model.specs.declared.machine.FileNo.{FileNo}
+use Rattle.oper_core.specs.Meaning.{Meaning}
+use Rattle.oper_core.specs.declared.bounds.Bounds.{Bounds}
+use Rattle.formats.specs.declared.params.Params.{Params}
+use Rattle.log_records.specs.Loading.{IsTailFault}
+use Rattle.dirty_cache.specs.Contents.{is_dirty}
+use Rattle.explain_core.specs.World.{World}
+use Rattle.explain_core.specs.World.Step.{Begin, End}
+use Rattle.cache_manager.specs.Courses.{Course, course, force_course, force_steps, install_course, drain_course, removals}
+use Rattle.cache_manager.specs.Courses.Stop.{Through}
+use Rattle.cache_manager.specs.Logged.{log_limit}
+use Rattle.cache_manager.specs.Taking.{ending_of}
+use Rattle.cache_manager.specs.Told.{IsInstall, TellsParts}
+use Rattle.cache_manager.specs.declared.install.Install.{Install}
+use Rattle.cache_manager.specs.declared.install_err.InstallErr.{InstallErr}
+use Rattle.cache_manager.specs.declared.install_err.InstallErr.TheVariants as of_install
+use Rattle.checkpointing.specs.Courses.{checkpoint_course, trim_course}
+use Rattle.checkpointing.specs.Left as of_trim
+use Rattle.checkpointing.specs.Left.{IsTooLong}
+use Rattle.checkpointing.specs.declared.trim_err.TrimErr.{TrimErr}
+use Rattle.checkpointing.specs.declared.trim_err.TrimErr.TheVariants as of_trimming
+use Rattle.store_engine.specs.Engine.{EngineView, Holds, IsAttached, IsCall, KeepsCommands, ShowsIn, TakesIn, ending_of_force, forced_in, logged_since, used_in}
+use Rattle.store_engine.specs.Store.{meaning_in}
+use Rattle.store_engine.specs.declared.force_err.ForceErr.{ForceErr}
+use Rattle.store_engine.specs.declared.work_err.WorkErr.{WorkErr}
+use Rattle.store_engine.specs.declared.work_err.WorkErr.TheVariants.{InGroup, LogFull, LsnEnd, Exhausted, DiskFault, Damaged, Memory}
+
+-- what the calls below answer, as the engine answers it
+abbrev pub work_of_force : {T : Type 0} → Result T ForceErr → Result T WorkErr
+work_of_force (Ok value) = Ok value
+work_of_force (Err e) = Err DiskFault
+
+abbrev pub work_of_install : {T : Type 0} → Result T InstallErr → Result T WorkErr
+work_of_install (Ok value) = Ok value
+work_of_install (Err (of_install.LogFull used need limit)) = Err (LogFull used need limit)
+work_of_install (Err (of_install.LsnEnd number)) = Err (LsnEnd number)
+work_of_install (Err of_install.DiskFault) = Err DiskFault
+work_of_install (Err of_install.Memory) = Err Memory
+
+abbrev pub work_of_trim : {T : Type 0} → Result T TrimErr → Result T WorkErr
+work_of_trim (Ok value) = Ok value
+work_of_trim (Err (of_trimming.Exhausted epoch)) = Err (Exhausted epoch)
+work_of_trim (Err of_trimming.DiskFault) = Err DiskFault
+work_of_trim (Err (of_trimming.Damaged file place)) = Err (Damaged file place)
+work_of_trim (Err (of_trimming.LogFull used need limit)) = Err (LogFull used need limit)
+work_of_trim (Err of_trimming.Memory) = Err Memory
+
+-- the course of the beginning of a group: what waits is forced first
+abbrev pub begin_course : {O : Type 0} → Meaning O → World O → ℕ → Course O
+begin_course m w used = course (force_steps m w ++ Begin ∷ []) used Through
+
+-- that of its end
+abbrev pub end_course : {O : Type 0} → Meaning O → World O → ℕ → Course O
+end_course m w used = course (End ∷ []) used Through
+
+-- Within a group a call is refused with the number of the group's commands, and nothing is done.
+pub record IsRefused {T : Type 0} {M : Type 0} (size : ℕ) (old new : M) (before after : EngineView) (result : Result T WorkErr) : Type 0 where
+  pub answer : result ≡ Err (InGroup size)
+  pub machine : new ≡ old
+  pub engine : after ≡ before
+
+module _ {O : Type 0} (meaning : Bounds → Meaning O) (old new : Disk) (before after : EngineView) where
+  -- the log was forced, or the disk failed
+  pub record IsForcing (answer : Result ℕ ForceErr) : Type 0 where
+    pub call : IsCall meaning log_limit old new before after 0 (ending_of_force answer)
+    pub takes : TakesIn meaning old new before after (λ m w used. force_course m w used) (ending_of_force answer)
+    pub commands : KeepsCommands meaning old new before after (ending_of_force answer)
+    pub forced : (p : Params) (commands : List O) → Holds meaning p old before commands → IfOk answer (λ n. (n ≡ length commands) × (forced_in after ≡ length commands))
+    pub empty : OnOk answer (after.parts.log.log.pending ≡ [])
+    pub count : IfOk answer (λ n. n ≡ forced_in after)
+
+  -- a node was installed, or none was left
+  pub record IsInstalling (answer : Result Install InstallErr) : Type 0 where
+    pub call : IsCall meaning log_limit old new before after (logged_since before after) (ending_of answer)
+    pub takes : TakesIn meaning old new before after (λ m w used. install_course m 0 w used) (ending_of answer)
+    pub commands : KeepsCommands meaning old new before after (ending_of answer)
+    pub told : (p : Params) (w : World O) → ShowsIn meaning p old before w → IfOk answer (IsInstall (meaning_in meaning p) w (install_course (meaning_in meaning p) 0 w (used_in before)).steps)
+    pub tells : IfOk answer (TellsParts before.parts after.parts)
+
+  -- nodes were installed until none was left
+  pub record IsDraining (answer : Result ℕ InstallErr) : Type 0 where
+    pub call : IsCall meaning log_limit old new before after (logged_since before after) (ending_of answer)
+    pub takes : TakesIn meaning old new before after (λ m w used. drain_course m 0 w used) (ending_of answer)
+    pub commands : KeepsCommands meaning old new before after (ending_of answer)
+    pub count : (p : Params) (w : World O) → ShowsIn meaning p old before w → IfOk answer (λ n. n ≡ removals (drain_course (meaning_in meaning p) 0 w (used_in before)).steps)
+    -- each install takes an entry out of the graph at least, and each identity write puts one in
+    pub bounded : IfOk answer (λ n. n ≤ length before.parts.store.entries + logged_since before after)
+    pub drained : OnOk answer (after.parts.store.entries ≡ [])
+    pub clean : (p : Params) (w : World O) → ShowsIn meaning p old before w → OnOk answer ((x : ℕ) → is_dirty after.parts.store.objects.cache x ≡ false)
+
+  -- a check was taken and forced
+  pub record IsChecking {T : Type 0} (answer : Result T InstallErr) : Type 0 where
+    pub call : IsCall meaning log_limit old new before after 0 (ending_of answer)
+    pub takes : TakesIn meaning old new before after (λ m w used. checkpoint_course m w used) (ending_of answer)
+    pub commands : KeepsCommands meaning old new before after (ending_of answer)
+    pub numbered : (number : ℕ) → IsErrOf answer (of_install.LsnEnd number) → ⊥
+
+  -- the log was rewritten
+  pub record IsTrimming {T : Type 0} (answer : Result T TrimErr) : Type 0 where
+    pub call : IsCall meaning log_limit old new before after 0 (of_trim.ending_of answer)
+    pub takes : TakesIn meaning old new before after (λ m w used. trim_course m before.parts.log.log.header.epoch w used) (of_trim.ending_of answer)
+    pub commands : KeepsCommands meaning old new before after (of_trim.ending_of answer)
+    pub epoch : OnOk answer (after.parts.log.log.header.epoch ≡ before.parts.log.log.header.epoch + 1)
+    pub undamaged : old.tells_files → IsAttached meaning old before → (file : FileNo) (place : ℕ) → IsErrOf answer (of_trimming.Damaged file place) → ⊥
+    pub damage : (file : FileNo) (place : ℕ) → IsErrOf answer (of_trimming.Damaged file place) → IsTailFault (meaning after.parts.log.bounds) new after.parts.log.log file place
+    pub long : IfErr answer IsTooLong
+    -- where all is installed the log that is left has no command and no identity write: it begins at the next number
+    pub emptied : before.parts.store.entries ≡ [] → OnOk answer (after.parts.log.log.header.base ≡ after.parts.log.next)
+
+  -- the log was forced, and a group is open that has no command yet; or the disk failed
+  pub record IsBeginning {T : Type 0} (answer : Result T ForceErr) : Type 0 where
+    pub call : IsCall meaning log_limit old new before (record after { group = before.group }) 0 (ending_of_force answer)
+    pub takes : TakesIn meaning old new before after (λ m w used. begin_course m w used) (ending_of_force answer)
+    pub commands : KeepsCommands meaning old new before after (ending_of_force answer)
+    pub opened : OnOk answer (after.group ≡ Some after.parts.log.next)
+    pub unopened : OnErr answer (after.group ≡ None)
+    pub empty : OnOk answer (after.parts.log.log.pending ≡ [])
