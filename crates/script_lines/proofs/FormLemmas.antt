@@ -3,7 +3,7 @@ use Rattle.std.proofs.Common.{◌≡◌, ◌≢◌, ◌^◌, ◌<◌, ◌≤◌,
 use Rattle.std.specs.Option.{MatchOption, IsSomeAnd, IfNone}
 use Rattle.std.specs.Str.{bytes_eq}
 use Rattle.std.specs.Fmt.{decimal}
-use Rattle.script_lines.specs.Grammar.{IsHex, Request, Field, put, copy, append, cut, sort, swap, exec, arun, aread, awrite, tinsert, tget, tdelete, trange, get, force, install, drain, checkpoint, trim, stat, skip, number, hex, short, SayAll, AreOf, IsChange, IsOfApp, IsOfKey, IsOfPair, IsOfStore}
+use Rattle.script_lines.specs.Grammar.{IsHex, Request, Field, put, copy, append, cut, sort, swap, exec, arun, aread, awrite, tinsert, tget, tdelete, trange, get, force, install, drain, checkpoint, trim, begin_group, end_group, stat, skip, number, hex, short, SayAll, AreOf, IsChange, IsOfApp, IsOfKey, IsOfPair, IsOfStore}
 
 -- the forms distinguished by a number
 abbrev pub tag : Request → ℕ
@@ -23,8 +23,10 @@ tag drain = 12
 tag checkpoint = 13
 tag trim = 14
 tag stat = 15
-tag skip = 16
-tag (arun app steps) = 17
+tag begin_group = 16
+tag end_group = 17
+tag skip = 22
+tag (arun app steps) = 23
 tag (tinsert low high key value) = 18
 tag (tget low high key) = 19
 tag (tdelete low high key) = 20
@@ -49,13 +51,15 @@ tag_of word =
     else if bytes_eq word (codes "checkpoint") then 13
     else if bytes_eq word (codes "trim") then 14
     else if bytes_eq word (codes "stat") then 15
-    else if bytes_eq word (codes "arun") then 17
+    else if bytes_eq word (codes "begin") then 16
+    else if bytes_eq word (codes "end") then 17
+    else if bytes_eq word (codes "arun") then 23
     else if bytes_eq word (codes "tinsert") then 18
     else if bytes_eq word (codes "tget") then 19
     else if bytes_eq word (codes "tdelete") then 20
     else if bytes_eq word (codes "trange") then 21
-    else if get_or word 0 0 == 35 then 16
-    else 22
+    else if get_or word 0 0 == 35 then 22
+    else 24
 
 -- the first field reports the form
 pub form_told : (a : Request) (word : List ℕ) (fields : List (List ℕ)) → AreOf a (word ∷ fields) → tag_of word ≡ tag a
@@ -75,6 +79,8 @@ form_told drain word fields is = ap tag_of is.0
 form_told checkpoint word fields is = ap tag_of is.0
 form_told trim word fields is = ap tag_of is.0
 form_told stat word fields is = ap tag_of is.0
+form_told begin_group word fields is = ap tag_of is.0
+form_told end_group word fields is = ap tag_of is.0
 form_told skip word fields is = ap tag_of is.1
 form_told (arun app steps) word fields is = ap tag_of is.0
 form_told (tinsert low high key value) word fields is = ap tag_of is.0
@@ -196,12 +202,14 @@ no_trange word fields is none (trange low high from to) asks = none low high fro
 no_trange word fields is none a asks = omega (arith, form_told a word fields asks, ap tag_of is)
 
 -- nor does a word that stands alone, with a field after it
-pub no_alone : (word : List ℕ) (fields : List (List ℕ)) → 10 ≤ tag_of word → tag_of word ≤ 15 → fields ≢ [] → (a : Request) → AreOf a (word ∷ fields) → ⊥
+pub no_alone : (word : List ℕ) (fields : List (List ℕ)) → 10 ≤ tag_of word → tag_of word ≤ 17 → fields ≢ [] → (a : Request) → AreOf a (word ∷ fields) → ⊥
 no_alone word fields low high some force asks = some (none_are fields asks.1)
 no_alone word fields low high some install asks = some (none_are fields asks.1)
 no_alone word fields low high some drain asks = some (none_are fields asks.1)
 no_alone word fields low high some checkpoint asks = some (none_are fields asks.1)
 no_alone word fields low high some trim asks = some (none_are fields asks.1)
+no_alone word fields low high some begin_group asks = some (none_are fields asks.1)
+no_alone word fields low high some end_group asks = some (none_are fields asks.1)
 no_alone word fields low high some stat asks = some (none_are fields asks.1)
 no_alone word fields low high some a asks = omega (arith, form_told a word fields asks, low, high)
 
@@ -237,5 +245,7 @@ no_kind fields comment change app key pair store install asks = store install tt
 no_kind fields comment change app key pair store drain asks = store drain tt asks
 no_kind fields comment change app key pair store checkpoint asks = store checkpoint tt asks
 no_kind fields comment change app key pair store trim asks = store trim tt asks
+no_kind fields comment change app key pair store begin_group asks = store begin_group tt asks
+no_kind fields comment change app key pair store end_group asks = store end_group tt asks
 no_kind fields comment change app key pair store stat asks = store stat tt asks
 no_kind fields comment change app key pair store skip asks = comment asks

@@ -7,4 +7,3 @@ pub mod OneLemmas
 pub mod PlaceLemmas
 pub mod ReplyLemmas
 pub mod ShortLemmas
-pub mod WordLemmas

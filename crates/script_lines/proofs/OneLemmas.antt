@@ -1,7 +1,7 @@
 -- A line asks for one thing.
 use Rattle.std.proofs.Common.{◌≡◌, ◌+◌, ◌*◌, ◌<◌, List, ℕ, [], ◌∷◌, length, Some, refl, sym, ◌∙◌, ap, subst, arith, codes, ⊎_elim}
 use Rattle.std.proofs.lemmas.Fmt.{decimal_injective}
-use Rattle.script_lines.specs.Grammar.{IsHex, IsHexOf, none, byte, hex_digit, AsksFor, AreOf, Request, put, copy, append, cut, sort, swap, exec, arun, aread, awrite, tinsert, tget, tdelete, trange, get, force, install, drain, checkpoint, trim, stat, skip, number, hex, short, Says, SayAll, fields_of, without_return}
+use Rattle.script_lines.specs.Grammar.{IsHex, IsHexOf, none, byte, hex_digit, AsksFor, AreOf, Request, put, copy, append, cut, sort, swap, exec, arun, aread, awrite, tinsert, tget, tdelete, trange, get, force, install, drain, checkpoint, trim, begin_group, end_group, stat, skip, number, hex, short, Says, SayAll, fields_of, without_return}
 use Rattle.script_lines.proofs.HexLemmas.{one_left}
 use Rattle.script_lines.proofs.FormLemmas.{tag, form_told}
 
@@ -111,6 +111,8 @@ same_one install install word fields same p q = refl
 same_one drain drain word fields same p q = refl
 same_one checkpoint checkpoint word fields same p q = refl
 same_one trim trim word fields same p q = refl
+same_one begin_group begin_group word fields same p q = refl
+same_one end_group end_group word fields same p q = refl
 same_one stat stat word fields same p q = refl
 same_one skip skip word fields same p q = refl
 same_one a b word fields same p q = absurd (omega (arith, same))

@@ -9,11 +9,11 @@ use Rattle.std.specs.Str.{bytes_eq, all_ascii_digits}
 use Rattle.std.specs.Char.{is_ascii_digit}
 use Rattle.oper_core.specs.declared.refusal.Refusal.{Refusal}
 use Rattle.oper_core.specs.declared.refusal.Refusal.TheVariants.{NoObject, Same, BadPlace, BadWidth, NotApp, NoInput, NotNode, NoKey, NodeFull, TooLarge}
-use Rattle.script_lines.specs.Replies.{Reply, ok, value, forced, bad, refused, full, end, object_value, command_count, stat, ran, pairs, bad_tree, tree_full, summary, silence, Pair, pair_text, spaced_pair, pairs_reply, spaced, numbers_of, AreSmall, HasSmallNumbers, hex_glyph, hex_pair, hex_text, name_of, text_of, reply_of, said_line}
+use Rattle.script_lines.specs.Replies.{Reply, ok, value, forced, bad, refused, full, end, object_value, command_count, stat, ran, pairs, bad_tree, tree_full, in_group, no_group, summary, silence, Pair, pair_text, spaced_pair, pairs_reply, spaced, numbers_of, AreSmall, HasSmallNumbers, hex_glyph, hex_pair, hex_text, name_of, text_of, reply_of, said_line}
 use Rattle.script_lines.specs.declared.answer.Answer.{Answer}
 use Rattle.script_lines.specs.declared.answer.Counts.{Counts}
 use Rattle.script_lines.specs.declared.answer.Totals.{Totals}
-use Rattle.script_lines.specs.declared.answer.Answer.TheVariants.{Done, Value, Forced, Bad, Refused, Full, End, Object, Commands, Stat, Ran, Pairs, BadTree, TreeFull, Summary}
+use Rattle.script_lines.specs.declared.answer.Answer.TheVariants.{Done, Value, Forced, Bad, Refused, Full, End, Object, Commands, Stat, Ran, Pairs, BadTree, TreeFull, InGroup, NoGroup, Summary}
 use Rattle.script_lines.proofs.NumberLemmas.{own}
 
 -- some byte of the text is this one
@@ -37,6 +37,8 @@ kind (ran n) = 10
 kind (pairs pair others) = 11
 kind bad_tree = 4
 kind tree_full = 4
+kind in_group = 4
+kind no_group = 4
 kind (summary totals) = 12
 kind silence = 1
 
@@ -287,9 +289,9 @@ named TooLarge = refl
 refused_one : (a b : Refusal) → name_of a ≡ name_of b → a ≡ b
 refused_one a b same = sym (named a) ∙ ap refusal_of same ∙ named b
 
--- a refusal of a tree has a name of its own
+-- a refusal of a tree, or of a group, has a name of its own
 abbrev tree_name : List ℕ → ℕ
-tree_name name = if bytes_eq name (codes "BadTree") then 1 else if bytes_eq name (codes "TreeFull") then 2 else 0
+tree_name name = if bytes_eq name (codes "BadTree") then 1 else if bytes_eq name (codes "TreeFull") then 2 else if bytes_eq name (codes "InGroup") then 3 else if bytes_eq name (codes "NoGroup") then 4 else 0
 
 other_name : (refusal : Refusal) → tree_name (name_of refusal) ≡ 0
 other_name NoObject = refl
@@ -308,6 +310,12 @@ not_bad_tree a same = let is : tree_name (name_of a) ≡ 1 = ap (λ (l : List �
 
 not_tree_full : (a : Refusal) → codes "refused " ++ name_of a ≡ codes "refused TreeFull" → ⊥
 not_tree_full a same = let is : tree_name (name_of a) ≡ 2 = ap (λ (l : List ℕ). tree_name (drop 8 l)) same in omega (arith, other_name a, is)
+
+not_in_group : (a : Refusal) → codes "refused " ++ name_of a ≡ codes "refused InGroup" → ⊥
+not_in_group a same = let is : tree_name (name_of a) ≡ 3 = ap (λ (l : List ℕ). tree_name (drop 8 l)) same in omega (arith, other_name a, is)
+
+not_no_group : (a : Refusal) → codes "refused " ++ name_of a ≡ codes "refused NoGroup" → ⊥
+not_no_group a same = let is : tree_name (name_of a) ≡ 4 = ap (λ (l : List ℕ). tree_name (drop 8 l)) same in omega (arith, other_name a, is)
 
 no_colon_name : (refusal : Refusal) → has 58 (name_of refusal) ≡ false
 no_colon_name NoObject = refl
@@ -419,6 +427,8 @@ kind_told (ran n) small = without (codes "ran " ++ decimal n) 10 (no_colon_decim
 kind_told (pairs pair others) small = ap (λ (t : Bool). if t then 11 else plain_kind (pair_text pair ++ flat_map spaced_pair others)) (has_colon pair (flat_map spaced_pair others))
 kind_told bad_tree small = refl
 kind_told tree_full small = refl
+kind_told in_group small = refl
+kind_told no_group small = refl
 kind_told (summary totals) small = without (to_sum totals) 12 (ap (has 58) (regrouped totals) ∙ no_colon_totals totals small) refl
 kind_told silence small = refl
 
@@ -454,6 +464,22 @@ same_kind (refused a) bad_tree p q like same = absurd (not_bad_tree a same)
 same_kind (refused a) tree_full p q like same = absurd (not_tree_full a same)
 same_kind bad_tree (refused a) p q like same = absurd (not_bad_tree a (sym same))
 same_kind tree_full (refused a) p q like same = absurd (not_tree_full a (sym same))
+same_kind in_group in_group p q like same = refl
+same_kind no_group no_group p q like same = refl
+same_kind bad_tree in_group p q like same = absurd (omega (arith, ap (λ (l : List ℕ). get_or l 8 0) same))
+same_kind bad_tree no_group p q like same = absurd (omega (arith, ap (λ (l : List ℕ). get_or l 8 0) same))
+same_kind tree_full in_group p q like same = absurd (omega (arith, ap (λ (l : List ℕ). get_or l 8 0) same))
+same_kind tree_full no_group p q like same = absurd (omega (arith, ap (λ (l : List ℕ). get_or l 8 0) same))
+same_kind in_group bad_tree p q like same = absurd (omega (arith, ap (λ (l : List ℕ). get_or l 8 0) same))
+same_kind in_group tree_full p q like same = absurd (omega (arith, ap (λ (l : List ℕ). get_or l 8 0) same))
+same_kind in_group no_group p q like same = absurd (omega (arith, ap (λ (l : List ℕ). get_or l 8 0) same))
+same_kind no_group bad_tree p q like same = absurd (omega (arith, ap (λ (l : List ℕ). get_or l 8 0) same))
+same_kind no_group tree_full p q like same = absurd (omega (arith, ap (λ (l : List ℕ). get_or l 8 0) same))
+same_kind no_group in_group p q like same = absurd (omega (arith, ap (λ (l : List ℕ). get_or l 8 0) same))
+same_kind (refused a) in_group p q like same = absurd (not_in_group a same)
+same_kind in_group (refused a) p q like same = absurd (not_in_group a (sym same))
+same_kind (refused a) no_group p q like same = absurd (not_no_group a same)
+same_kind no_group (refused a) p q like same = absurd (not_no_group a (sym same))
 same_kind (summary s) (summary t) p q like same = ap summary (totals_one s t p q (ap (λ (l : List ℕ). drop 10 l) (sym (regrouped s) ∙ same ∙ regrouped t)))
 same_kind silence silence p q like same = refl
 same_kind silence (value []) p q like same = absurd cc
@@ -523,4 +549,6 @@ said_answer (Ran n) = refl
 said_answer (Pairs found) = said_pairs found.now
 said_answer BadTree = refl
 said_answer TreeFull = refl
+said_answer InGroup = refl
+said_answer NoGroup = refl
 said_answer (Summary totals) = refl

@@ -3,7 +3,7 @@ use Rattle.std.specs.Prelude.{◌≡◌, ⊤, ℕ, ◌+◌, ◌*◌, ◌-◌, �
 use Rattle.std.specs.Fmt.{decimal}
 use Rattle.btree_ops.specs.Short.{is_short}
 use Rattle.script_lines.specs.declared.line.Line.{Line}
-use Rattle.script_lines.specs.declared.line.Line.TheVariants.{Put, Copy, Append, Cut, Sort, Swap, Exec, AppRun, AppRead, AppWrite, TreeInsert, TreeGet, TreeDelete, TreeRange, Get, Force, Install, Drain, Checkpoint, Trim, Stat, Skip}
+use Rattle.script_lines.specs.declared.line.Line.TheVariants.{Put, Copy, Append, Cut, Sort, Swap, Exec, AppRun, AppRead, AppWrite, TreeInsert, TreeGet, TreeDelete, TreeRange, Get, Force, Install, Drain, Checkpoint, Trim, Begin, End, Stat, Skip}
 
 -- one byte more in front of the first text
 abbrev pub before_first : ℕ → List (List ℕ) → List (List ℕ)
@@ -99,6 +99,10 @@ pub data Request : Type 0 where
   checkpoint : Request
   -- the log is rewritten without the records that no redo needs
   trim : Request
+  -- a group of commands begins, of which a crash leaves all or none
+  begin_group : Request
+  -- it ends
+  end_group : Request
   -- the counts of the store are reported
   stat : Request
   -- nothing, and there is no answer
@@ -142,6 +146,8 @@ IsOfStore install = ⊤
 IsOfStore drain = ⊤
 IsOfStore checkpoint = ⊤
 IsOfStore trim = ⊤
+IsOfStore begin_group = ⊤
+IsOfStore end_group = ⊤
 IsOfStore stat = ⊤
 IsOfStore request = ⊥
 
@@ -175,6 +181,8 @@ form_of install = word (codes "install") ∷ []
 form_of drain = word (codes "drain") ∷ []
 form_of checkpoint = word (codes "checkpoint") ∷ []
 form_of trim = word (codes "trim") ∷ []
+form_of begin_group = word (codes "begin") ∷ []
+form_of end_group = word (codes "end") ∷ []
 form_of stat = word (codes "stat") ∷ []
 form_of skip = []
 
@@ -237,6 +245,8 @@ IsAsked fields Install = AreOf install fields
 IsAsked fields Drain = AreOf drain fields
 IsAsked fields Checkpoint = AreOf checkpoint fields
 IsAsked fields Trim = AreOf trim fields
+IsAsked fields Begin = AreOf begin_group fields
+IsAsked fields End = AreOf end_group fields
 IsAsked fields Stat = AreOf stat fields
 IsAsked fields Skip = AreOf skip fields
 
@@ -262,5 +272,7 @@ IsParsed line Install = AsksFor line install
 IsParsed line Drain = AsksFor line drain
 IsParsed line Checkpoint = AsksFor line checkpoint
 IsParsed line Trim = AsksFor line trim
+IsParsed line Begin = AsksFor line begin_group
+IsParsed line End = AsksFor line end_group
 IsParsed line Stat = AsksFor line stat
 IsParsed line Skip = AsksFor line skip

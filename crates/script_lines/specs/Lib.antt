@@ -3,4 +3,3 @@ pub mod GrammarLaws
 pub mod Replies
 pub mod Reader
 pub mod Reading
-pub mod Words

@@ -7,7 +7,7 @@ use Rattle.oper_core.specs.declared.refusal.Refusal.TheVariants.{NoObject, Same,
 use Rattle.script_lines.specs.declared.answer.Answer.{Answer}
 use Rattle.script_lines.specs.declared.answer.Counts.{Counts}
 use Rattle.script_lines.specs.declared.answer.Totals.{Totals}
-use Rattle.script_lines.specs.declared.answer.Answer.TheVariants.{Done, Value, Forced, Bad, Refused, Full, End, Object, Commands, Stat, Ran, Pairs, BadTree, TreeFull, Summary}
+use Rattle.script_lines.specs.declared.answer.Answer.TheVariants.{Done, Value, Forced, Bad, Refused, Full, End, Object, Commands, Stat, Ran, Pairs, BadTree, TreeFull, InGroup, NoGroup, Summary}
 
 -- a key and its value
 abbrev pub Pair : Type 0
@@ -38,6 +38,10 @@ pub data Reply : Type 0 where
   bad_tree : Reply
   -- the tree has too few free objects
   tree_full : Reply
+  -- a group is open
+  in_group : Reply
+  -- no group is open
+  no_group : Reply
   -- what a generated script did
   summary : Totals → Reply
   -- nothing: the line is skipped
@@ -64,6 +68,8 @@ reply_of (Ran n) = ran n
 reply_of (Pairs found) = pairs_reply found.now
 reply_of BadTree = bad_tree
 reply_of TreeFull = tree_full
+reply_of InGroup = in_group
+reply_of NoGroup = no_group
 reply_of (Summary totals) = summary totals
 
 -- a lower-case hexadecimal digit
@@ -124,6 +130,8 @@ text_of (ran n) = codes "ran " ++ decimal n
 text_of (pairs pair others) = pair_text pair ++ flat_map spaced_pair others
 text_of bad_tree = codes "refused BadTree"
 text_of tree_full = codes "refused TreeFull"
+text_of in_group = codes "refused InGroup"
+text_of no_group = codes "refused NoGroup"
 text_of (summary totals) = codes "demo seed " ++ decimal totals.seed ++ codes " steps " ++ decimal totals.steps ++ codes " lines " ++ decimal totals.lines
     ++ codes " bytes " ++ decimal totals.bytes ++ codes " accepted " ++ decimal totals.accepted ++ codes " refused " ++ decimal totals.refused ++ codes " sum " ++ decimal totals.sum
 text_of silence = []

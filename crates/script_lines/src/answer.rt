@@ -77,6 +77,10 @@ pub enum Answer<'a> {
     BadTree,
     /// The tree has too few free objects for an insert: `refused TreeFull`.
     TreeFull,
+    /// A group is open, and does not allow what the line asks: `refused InGroup`.
+    InGroup,
+    /// No group is open that could end: `refused NoGroup`.
+    NoGroup,
     /// What a generated script did: `demo`, and seven numbers, each after its name.
     Summary(Totals),
 }
@@ -251,6 +255,8 @@ fn write_answer(alloc: Global, text: &mut Vec<u8>, answer: &Answer<'_>) -> Resul
         Answer::Pairs(pairs) => push_pairs(text, pairs)?,
         Answer::BadTree => text.extend_from_slice(b"refused BadTree")?,
         Answer::TreeFull => text.extend_from_slice(b"refused TreeFull")?,
+        Answer::InGroup => text.extend_from_slice(b"refused InGroup")?,
+        Answer::NoGroup => text.extend_from_slice(b"refused NoGroup")?,
         Answer::Summary(totals) => push_totals(alloc, text, totals)?,
     }
     Ok(())

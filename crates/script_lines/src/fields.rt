@@ -1,7 +1,7 @@
 // The fields of a line, taken off one by one.
 ghost use Rattle.std.specs.Prelude.{position, not, ◌==◌, ◌≡◌, ◌≢◌, ◌∷◌, [], ◌<◌, ◌^◌, List, ℕ, IfSome, IfNone};
 ghost use Rattle.std.specs.Fmt.{decimal};
-ghost use Rattle.script_lines.specs.Grammar.{fields_of, IsHex, Says, SayAll, number, short};
+ghost use Rattle.script_lines.specs.Grammar.{fields_of, IsHex, SayAll, number, short};
 
 use crate::hex::{is_hex, short_of};
 use crate::number::read_number;

@@ -1,7 +1,5 @@
 ghost use Rattle.std.specs.Prelude.{◌≡◌, ℕ, List};
 ghost use Rattle.script_lines.specs.Grammar.{AsksFor, Request};
-ghost use Rattle.script_lines.specs.Words.{Asks};
-ghost use Rattle.script_lines.specs.declared.words.Asked.{Asked};
 ghost use Rattle.script_lines.specs.Replies.{Reply, HasSmallNumbers, text_of};
 
 /// A line asks for at most one thing: it has one form, and this form one value of each field.
@@ -12,9 +10,4 @@ pub fn a_line_asks_one_thing()
 /// A text is that of at most one reply, so what an answer says can be read back.
 pub fn a_text_says_one_thing()
     ensures { (a b : Reply) → HasSmallNumbers a → HasSmallNumbers b → text_of a ≡ text_of b → a ≡ b }
-{}
-
-/// The words of the command line ask for at most one thing.
-pub fn words_ask_one_thing()
-    ensures { (words : List (List ℕ)) (a b : Asked) → Asks words a → Asks words b → a ≡ b }
 {}

@@ -105,6 +105,10 @@ pub enum Line<'a> {
     Checkpoint,
     /// `trim`: the log is rewritten without the records that no redo needs.
     Trim,
+    /// `begin`: a group of commands begins, of which a crash leaves all or none.
+    Begin,
+    /// `end`: the group ends.
+    End,
     /// `stat`: the counts of the store are reported.
     Stat,
     /// A line without fields, or a comment: it gets no answer.
@@ -221,6 +225,10 @@ fn store_line<'a>(word: &[u8], rest: &'a [u8]) -> Option<Line<'a>>
         no_field(rest).map(|()| Line::Checkpoint)
     } else if word == b"trim".as_slice() {
         no_field(rest).map(|()| Line::Trim)
+    } else if word == b"begin".as_slice() {
+        no_field(rest).map(|()| Line::Begin)
+    } else if word == b"end".as_slice() {
+        no_field(rest).map(|()| Line::End)
     } else if word == b"stat".as_slice() {
         no_field(rest).map(|()| Line::Stat)
     } else {

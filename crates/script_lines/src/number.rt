@@ -1,11 +1,11 @@
-ghost use Rattle.std.specs.Prelude.{ℕ, ◌≢◌, ◌≡◌, ◌<◌, ◌≤◌, ◌^◌, IfSome, IfNone};
+ghost use Rattle.std.specs.Prelude.{ℕ, ◌≢◌, ◌≡◌, ◌<◌, ◌^◌, IfSome, IfNone};
 ghost use Rattle.std.specs.Fmt.{decimal};
 
-/// A number up to `most` in digits, without a sign and without a leading zero. `None` exactly where the text is no such
-/// number.
-pub fn read_up_to(most: u64, text: &[u8]) -> Option<u64>
-    ensures some { IfSome result (λ n. (text.now ≡ decimal n) × (n ≤ most)) }
-    ensures none { IfNone result ((n : ℕ) → n ≤ most → text.now ≢ decimal n) }
+/// A number up to 4,294,967,295 in digits, without a sign and without a leading zero. `None` exactly where the text is
+/// no such number.
+pub fn read_number(text: &[u8]) -> Option<u32>
+    ensures some { IfSome result (λ n. text.now ≡ decimal n) }
+    ensures none { IfNone result ((n : ℕ) → n < 2 ^ 32 → text.now ≢ decimal n) }
 {
     if text.is_empty() {
         return None;
@@ -18,21 +18,10 @@ pub fn read_up_to(most: u64, text: &[u8]) -> Option<u64>
         if !digit.is_ascii_digit() {
             return None;
         }
-        let next = 10 * u128::from(value) + u128::from(*digit - b'0');
-        if next > u128::from(most) {
+        value = 10 * value + (*digit - b'0') as u64;
+        if value > 4294967295 {
             return None;
         }
-        value = next as u64;
     }
-    Some(value)
-}
-
-/// A number up to 4,294,967,295 in digits, without a sign and without a leading zero. `None` exactly where the text is
-/// no such number.
-pub fn read_number(text: &[u8]) -> Option<u32>
-    ensures some { IfSome result (λ n. text.now ≡ decimal n) }
-    ensures none { IfNone result ((n : ℕ) → n < 2 ^ 32 → text.now ≢ decimal n) }
-{
-    let number = read_up_to(4294967295, text)?;
-    Some(number as u32)
+    Some(value as u32)
 }

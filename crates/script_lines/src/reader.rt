@@ -1,4 +1,4 @@
-ghost use Rattle.std.specs.Prelude.{◌≡◌, ◌≢◌, ◌≤◌, ◌<◌, ◌+◌, ◌^◌, ◌++◌, ◌==◌, [], List, ℕ, length, take, min, nat_le, position, true, false, if◌then◌else◌, IfOk, IsErr, OnOk, OnErr, IsErrOf, Ok, Err};
+ghost use Rattle.std.specs.Prelude.{◌≡◌, ◌≢◌, ◌≤◌, ◌<◌, ◌+◌, ◌^◌, ◌++◌, ◌==◌, [], length, take, min, nat_le, position, true, false, if◌then◌else◌, IfOk, IsErr, OnOk, OnErr, IsErrOf, Ok, Err};
 ghost use Rattle.disk_model.specs.Disk.{Rises};
 ghost use Rattle.script_lines.specs.Reading.{IsNext, Takes, TakesRun, still_to_give};
 

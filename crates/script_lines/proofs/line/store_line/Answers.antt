@@ -34,5 +34,15 @@ returns-then-eq-6-clause-none c =
 
 pub returns-then-eq-7-clause-none : goal.returns-then-eq-7-clause-none
 returns-then-eq-7-clause-none c =
-    let is : c.args.word.now ≡ codes "stat" = search rules in
+    let is : c.args.word.now ≡ codes "begin" = search rules in
     kind_found _ _ _ _ c.map-then-eq-7.ensures.cases c.no_field-then-eq-7.ensures.none (no_alone _ _ (omega (arith, ap tag_of is)) (omega (arith, ap tag_of is)))
+
+pub returns-then-eq-8-clause-none : goal.returns-then-eq-8-clause-none
+returns-then-eq-8-clause-none c =
+    let is : c.args.word.now ≡ codes "end" = search rules in
+    kind_found _ _ _ _ c.map-then-eq-8.ensures.cases c.no_field-then-eq-8.ensures.none (no_alone _ _ (omega (arith, ap tag_of is)) (omega (arith, ap tag_of is)))
+
+pub returns-then-eq-9-clause-none : goal.returns-then-eq-9-clause-none
+returns-then-eq-9-clause-none c =
+    let is : c.args.word.now ≡ codes "stat" = search rules in
+    kind_found _ _ _ _ c.map-then-eq-9.ensures.cases c.no_field-then-eq-9.ensures.none (no_alone _ _ (omega (arith, ap tag_of is)) (omega (arith, ap tag_of is)))

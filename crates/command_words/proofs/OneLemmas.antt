@@ -1,0 +1,52 @@
+-- Words ask one thing.
+use Rattle.std.proofs.Common.{◌≡◌, ◌∙◌, ℕ, List, Option, Some, None, [], refl, sym, ap, subst, codes}
+use Rattle.std.specs.Str.Parse.{digits_value, without_leading_plus}
+use Rattle.clap.specs.Words.{Row, Text}
+use Rattle.command_words.specs.declared.asked.Asked.{Asked}
+use Rattle.command_words.specs.declared.asked.Asked.TheVariants.{Init, Run, Dump, Demo}
+use Rattle.command_words.specs.Words.{Asks, Gives, IsFor}
+use Rattle.command_words.proofs.NameLemmas.{run_or_dump, run_or_init, run_or_demo, dump_or_init, dump_or_demo, init_or_demo, one_name, one_rows}
+
+abbrev text_in : Option Text → Text
+text_in None = []
+text_in (Some text) = text
+
+-- an argument gives one number
+one_number : (rows : List Row) (id : Text) (m n : ℕ) → Gives rows id m → Gives rows id n → m ≡ n
+one_number rows id m n a b =
+    let text : a.text ≡ b.text = ap text_in (sym a.value ∙ b.value) in
+    sym a.number ∙ ap (λ t. digits_value 10 (without_leading_plus t)) text ∙ b.number
+
+-- a subcommand of one name is for one thing
+for_one : (name : Text) (rows : List Row) (a b : Asked) → IsFor a name rows → IsFor b name rows → a ≡ b
+for_one name rows Run Run x y = refl
+for_one name rows Run Dump x y = absurd (run_or_dump name x y)
+for_one name rows Run (Init q) x y = absurd (run_or_init name x y.0)
+for_one name rows Run (Demo k l) x y = absurd (run_or_demo name x y.0)
+for_one name rows Dump Run x y = absurd (run_or_dump name y x)
+for_one name rows Dump Dump x y = refl
+for_one name rows Dump (Init q) x y = absurd (dump_or_init name x y.0)
+for_one name rows Dump (Demo k l) x y = absurd (dump_or_demo name x y.0)
+for_one name rows (Init p) Run x y = absurd (run_or_init name y x.0)
+for_one name rows (Init p) Dump x y = absurd (dump_or_init name y x.0)
+for_one name rows (Init p) (Init q) x y =
+    let a = one_number rows (codes "N") p.objects q.objects x.1.0 y.1.0 in
+    let b = one_number rows (codes "CAP") p.cap q.cap x.1.1 y.1.1 in
+    let c = one_number rows (codes "LIMIT") p.limit q.limit x.1.2 y.1.2 in
+    let same : p ≡ q = λ i. record { objects = a i; cap = b i; limit = c i } in
+    ap Init same
+for_one name rows (Init p) (Demo k l) x y = absurd (init_or_demo name x.0 y.0)
+for_one name rows (Demo m n) Run x y = absurd (run_or_demo name y x.0)
+for_one name rows (Demo m n) Dump x y = absurd (dump_or_demo name y x.0)
+for_one name rows (Demo m n) (Init q) x y = absurd (init_or_demo name y.0 x.0)
+for_one name rows (Demo m n) (Demo k l) x y =
+    let a = one_number rows (codes "seed") m k x.1.0 y.1.0 in
+    let b = one_number rows (codes "steps") n l x.1.1 y.1.1 in
+    cc (a, b)
+
+pub words_one : (words : List Text) (a b : Asked) → Asks words a → Asks words b → a ≡ b
+words_one words a b x y =
+    let names = one_name x.named.is y.named.is in
+    let rows = one_rows x.named.is y.named.is in
+    let other = subst (λ (n : Text). IsFor b n x.named.rows) (sym names) (subst (λ (r : List Row). IsFor b y.named.name r) (sym rows) y.named.for) in
+    for_one x.named.name x.named.rows a b x.named.for other

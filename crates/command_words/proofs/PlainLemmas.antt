@@ -1,0 +1,367 @@
+-- The plain forms are taken.
+use Rattle.std.proofs.Common.{◌≡◌, ◌∙◌, ◌<◌, ◌≤◌, ◌^◌, ℕ, true, false, List, [], ◌∷◌, Some, None, refl, sym, ap, subst, arith, codes, is_some}
+use Rattle.std.specs.Fmt.{decimal}
+use Rattle.std.specs.Str.Parse.{IsNumeral, digits_value}
+use Rattle.clap.specs.Kinds.{Kinds, or_else}
+use Rattle.clap.specs.Walk.{Held, Row, Rule, Text, Walk, finished, idle, nothing_held, one_of, option, rows_after, settled, walk, walk_from, walked}
+use Rattle.clap.specs.declared.parser.matches.ValueSource.TheVariants.{CommandLine}
+use Rattle.clap.specs.declared.builder.value_parser.Reading.TheVariants.{AsWritten, WithoutMinus}
+use Rattle.clap.specs.Simple.{Shape, built, built_leaf, entered, inherited, marked_built, names_of, subcommand_of, with_leaf_noted}
+use Rattle.clap.specs.Faults.{check_fault, defaults_fault, entered_fault, fault_of, level_fault, settle_fault, turn_fault, walk_fault}
+use Rattle.clap.specs.ValueTests.{accepts}
+use Rattle.clap.proofs.OnLiterals.{clap_on_literals}
+use Rattle.command_words.specs.Commands.{any, between, init, demo, redo}
+use Rattle.formats.specs.Objects.{IsInRange}
+use Rattle.command_words.specs.Words.{Asks, Gives}
+use Rattle.formats.specs.declared.params.Params.{Params}
+use Rattle.command_words.specs.declared.asked.Asked.TheVariants.{Init, Run, Dump, Demo}
+use Rattle.command_words.proofs.WordLemmas.{IsNumeralOf, decimal_word, in_any, in_range, option_turn, option_walked, read_signed, value_turn, value_walked, walk_at}
+
+-- ---- the first level
+
+abbrev top : Shape
+top = (built redo).top
+
+-- where the walk stands after the name of a subcommand, and the words after it
+abbrev stopped_at : Text → List Text → Walk
+stopped_at name words = record { held = nothing_held; waiting = idle; position = 1; is_trailing = false; stopped = Some (name, words) }
+
+-- the faults of the level, by where its walk ends and by the faults of the walk
+abbrev first_fault : Walk → Kinds → Kinds
+first_fault w faults = or_else faults (or_else (entered_fault (built redo) w.stopped) (or_else (settle_fault top.rules top.args_override_self w.held)
+    (or_else (defaults_fault (settled top.rules w.held).rows top.rules) (check_fault top (finished top.rules w.held) (is_some (entered (built redo) w.stopped))))))
+
+-- what is left of them after the name of a subcommand
+left_fault : (below : Kinds) → below ≡ [] → or_else [] (or_else below []) ≡ []
+left_fault below none = rw none refl
+
+module _ (program name : Text) (words : List Text) (s : Shape) where
+  abbrev stop : Walk
+  stop = stopped_at name words
+
+  -- the words are taken where the subcommand takes those after its name
+  pub taken : walk top.rules (names_of (built redo)) nothing_held (name ∷ words) ≡ stop → walk_fault top (names_of (built redo)) (walk_from nothing_held) (name ∷ words) ≡ []
+      → entered_fault (built redo) (Some (name, words)) ≡ level_fault s [] nothing_held words false []
+      → is_some (entered (built redo) (Some (name, words))) ≡ true
+      → level_fault s [] nothing_held words false [] ≡ [] → fault_of redo (program ∷ name ∷ words) ≡ []
+  unfolding defaults_fault
+  taken there faultless enters is none =
+      ap (λ w. first_fault w (walk_fault top (names_of (built redo)) (walk_from nothing_held) (name ∷ words))) there
+      ∙ ap (first_fault stop) faultless
+      ∙ rw (enters, is, none) refl
+
+  pub taken_as : walk top.rules (names_of (built redo)) nothing_held (name ∷ words) ≡ stop
+      → subcommand_of redo (program ∷ name ∷ words) ≡ entered (built redo) (Some (name, words))
+  taken_as there = ap (λ (w : Walk). entered (built redo) w.stopped) there
+
+-- ---- a subcommand, as it is built
+
+abbrev sub : Shape → Shape
+sub s = built_leaf (inherited (with_leaf_noted (marked_built redo.top)) s)
+
+-- the faults of its level, by where the walk ends and by the faults of the walk
+abbrev level_end : Shape → Walk → Kinds → Kinds
+level_end s w faults = or_else faults (or_else [] (or_else (settle_fault s.rules s.args_override_self w.held)
+    (or_else (defaults_fault (settled s.rules w.held).rows s.rules) (check_fault s (finished s.rules w.held) false))))
+
+-- ---- run and dump
+
+pub run_asks : (program : Text) → Asks (program ∷ codes "run" ∷ []) Run
+unfolding clap_on_literals
+run_asks program = record { faultless = refl; named = record { name = codes "run"; rows = []; is = refl; for = refl; allowed = tt } }
+
+pub dump_asks : (program : Text) → Asks (program ∷ codes "dump" ∷ []) Dump
+unfolding clap_on_literals
+dump_asks program = record { faultless = refl; named = record { name = codes "dump"; rows = []; is = refl; for = refl; allowed = tt } }
+
+-- ---- init
+
+abbrev init_shape : Shape
+init_shape = sub init
+
+abbrev init_rules : List Rule
+init_rules = init_shape.rules
+
+-- what is held after one word, after two, and after three
+abbrev row : Text → Text → Row
+row id word = record { id = id; values = word ∷ []; count = None; source = Some CommandLine; reading = WithoutMinus }
+
+abbrev pending : List Row → Text → List Text → Held
+pending rows id values = record { rows = rows; pending = Some (id, values); skip = 0 }
+
+module _ (a b c : Text) where
+  abbrev one : Walk
+  one = walk_at (pending [] (codes "N") (a ∷ [])) idle 2
+
+  abbrev two : Walk
+  two = walk_at (pending (row (codes "N") a ∷ []) (codes "CAP") (b ∷ [])) idle 3
+
+  abbrev three : Walk
+  three = walk_at (pending (row (codes "N") a ∷ row (codes "CAP") b ∷ []) (codes "LIMIT") (c ∷ [])) idle 4
+
+  abbrev init_rows : List Row
+  init_rows = row (codes "N") a ∷ row (codes "CAP") b ∷ row (codes "LIMIT") c ∷ []
+
+  module _ {k m n : ℕ} (is_a : IsNumeralOf k a) (is_b : IsNumeralOf m b) (is_c : IsNumeralOf n c) where
+    first : walked init_rules [] (walk_from nothing_held) a ≡ one
+    first = value_walked a is_a init_rules 1 nothing_held
+
+    second : walked init_rules [] one b ≡ two
+    second = value_walked b is_b init_rules 2 (pending [] (codes "N") (a ∷ []))
+
+    third : walked init_rules [] two c ≡ three
+    third = value_walked c is_c init_rules 3 (pending (row (codes "N") a ∷ []) (codes "CAP") (b ∷ []))
+
+    init_walk : walk init_rules [] nothing_held (a ∷ b ∷ c ∷ []) ≡ three
+    init_walk = ap (λ w. walked init_rules [] (walked init_rules [] w b) c) first ∙ ap (λ w. walked init_rules [] w c) second ∙ third
+
+    pub init_rows_are : rows_after init_rules [] (a ∷ b ∷ c ∷ []) ≡ init_rows
+    init_rows_are = ap (λ (w : Walk). finished init_rules w.held) init_walk
+
+    module _ (in_a : accepts false (between 1 4096) a ≡ true) (in_b : accepts false (between 16 16384) b ≡ true) (in_c : accepts false (between 4128 536870912) c ≡ true) where
+      init_turns : walk_fault init_shape [] (walk_from nothing_held) (a ∷ b ∷ c ∷ []) ≡ []
+      unfolding walk_fault
+      init_turns =
+          let one_turn : turn_fault init_shape [] (walk_from nothing_held) a ≡ [] = value_turn a is_a init_shape 1 nothing_held in
+          let two_turn : turn_fault init_shape [] one b ≡ [] = value_turn b is_b init_shape 2 (pending [] (codes "N") (a ∷ [])) ∙ rw in_a refl in
+          let three_turn : turn_fault init_shape [] two c ≡ [] = value_turn c is_c init_shape 3 (pending (row (codes "N") a ∷ []) (codes "CAP") (b ∷ [])) ∙ rw in_b refl in
+          ap (λ k. or_else k (or_else (turn_fault init_shape [] (walked init_rules [] (walk_from nothing_held) a) b) (or_else (turn_fault init_shape [] (walked init_rules [] (walked init_rules [] (walk_from nothing_held) a) b) c) []))) one_turn
+          ∙ ap (λ w. or_else (turn_fault init_shape [] w b) (or_else (turn_fault init_shape [] (walked init_rules [] w b) c) [])) first
+          ∙ ap (λ k. or_else k (or_else (turn_fault init_shape [] (walked init_rules [] one b) c) [])) two_turn
+          ∙ ap (λ w. or_else (turn_fault init_shape [] w c) []) second
+          ∙ ap (λ k. or_else k []) three_turn
+
+      -- the faults of the level, by where its walk ends and by the faults of the walk
+      pub init_faultless : level_fault init_shape [] nothing_held (a ∷ b ∷ c ∷ []) false [] ≡ []
+      unfolding defaults_fault
+      init_faultless =
+          ap (λ w. level_end init_shape w (walk_fault init_shape [] (walk_from nothing_held) (a ∷ b ∷ c ∷ []))) init_walk
+          ∙ ap (level_end init_shape three) init_turns ∙ rw in_c refl
+
+-- ---- the numbers of the words
+
+gives : (id : Text) (n : ℕ) (word : Text) (rows : List Row) → IsNumeralOf n word → one_of id rows ≡ Some word → Gives rows id n
+gives id n word rows is value = record { text = word; value = value; numeral = subst (IsNumeral 10) (sym is.no_plus) is.numeral; number = ap (digits_value 10) is.no_plus ∙ is.number }
+
+init_stops : (a b c : Text) → walk top.rules (names_of (built redo)) nothing_held (codes "init" ∷ a ∷ b ∷ c ∷ []) ≡ stopped_at (codes "init") (a ∷ b ∷ c ∷ [])
+unfolding clap_on_literals
+init_stops a b c = refl
+
+init_named : (a b c : Text) → walk_fault top (names_of (built redo)) (walk_from nothing_held) (codes "init" ∷ a ∷ b ∷ c ∷ []) ≡ []
+unfolding clap_on_literals
+init_named a b c = refl
+
+pub init_asks : (program : Text) (p : Params) → IsInRange p → Asks (program ∷ codes "init" ∷ decimal p.objects ∷ decimal p.cap ∷ decimal p.limit ∷ []) (Init p)
+init_asks program p range =
+    let a = decimal p.objects in
+    let b = decimal p.cap in
+    let c = decimal p.limit in
+    let is_a = decimal_word p.objects (omega (arith, range.objects)) in
+    let is_b = decimal_word p.cap (omega (arith, range.cap)) in
+    let is_c = decimal_word p.limit (omega (arith, range.limit)) in
+    let in_a = in_range 1 4096 p.objects a is_a (omega (arith, range.objects)) range.some range.objects in
+    let in_b = in_range 16 16384 p.cap b is_b (omega (arith, range.cap)) range.low range.cap in
+    let in_c = in_range 4128 536870912 p.limit c is_c (omega (arith, range.limit)) (omega (arith, range.low, range.least)) range.limit in
+    let rows = init_rows a b c in
+    record {
+      faultless = taken program (codes "init") (a ∷ b ∷ c ∷ []) init_shape (init_stops a b c) (init_named a b c) refl refl (init_faultless a b c is_a is_b is_c in_a in_b in_c);
+      named = record {
+        name = codes "init";
+        rows = rows;
+        is = taken_as program (codes "init") (a ∷ b ∷ c ∷ []) init_shape (init_stops a b c) ∙ ap (λ rs. Some (codes "init", rs)) (init_rows_are a b c is_a is_b is_c);
+        for = (refl, (gives (codes "N") p.objects a rows is_a (read_signed a is_a), gives (codes "CAP") p.cap b rows is_b (read_signed b is_b), gives (codes "LIMIT") p.limit c rows is_c (read_signed c is_c)));
+        allowed = range;
+      };
+    }
+
+-- ---- demo, with its options in either order
+
+abbrev demo_shape : Shape
+demo_shape = sub demo
+
+abbrev demo_rules : List Rule
+demo_rules = demo_shape.rules
+
+abbrev long_row : Text → Row
+long_row word = record { id = codes "seed"; values = word ∷ []; count = None; source = Some CommandLine; reading = AsWritten }
+
+abbrev steps_row : Text → Row
+steps_row word = row (codes "steps") word
+
+module _ (a b : Text) where
+  abbrev s_d1 : Walk
+  s_d1 = walk_at (pending [] (codes "seed") []) (option (codes "seed")) 1
+
+  abbrev s_d2 : Walk
+  s_d2 = walk_at (pending [] (codes "seed") (a ∷ [])) idle 1
+
+  abbrev s_d3 : Walk
+  s_d3 = walk_at (pending (long_row a ∷ []) (codes "steps") []) (option (codes "steps")) 1
+
+  abbrev s_d4 : Walk
+  s_d4 = walk_at (pending (long_row a ∷ []) (codes "steps") (b ∷ [])) idle 1
+
+  abbrev s_demo_words : List Text
+  s_demo_words = codes "--seed" ∷ a ∷ codes "--steps" ∷ b ∷ []
+
+  abbrev s_rows : List Row
+  s_rows = long_row a ∷ steps_row b ∷ []
+
+  s_to1 : walked demo_rules [] (walk_from nothing_held) (codes "--seed") ≡ s_d1
+  unfolding clap_on_literals
+  s_to1 = refl
+
+  s_to3 : walked demo_rules [] s_d2 (codes "--steps") ≡ s_d3
+  unfolding clap_on_literals
+  s_to3 = refl
+
+  s_stops : walk top.rules (names_of (built redo)) nothing_held (codes "demo" ∷ s_demo_words) ≡ stopped_at (codes "demo") s_demo_words
+  unfolding clap_on_literals
+  s_stops = refl
+
+  s_named : walk_fault top (names_of (built redo)) (walk_from nothing_held) (codes "demo" ∷ s_demo_words) ≡ []
+  unfolding clap_on_literals
+  s_named = refl
+
+  s_turn1 : turn_fault demo_shape [] (walk_from nothing_held) (codes "--seed") ≡ []
+  unfolding clap_on_literals
+  s_turn1 = refl
+
+  module _ {m n : ℕ} (is_a : IsNumeralOf m a) (is_b : IsNumeralOf n b) (in_a : accepts false any a ≡ true) (in_b : accepts false (between 0 1000000) b ≡ true) where
+    s_to2 : walked demo_rules [] s_d1 a ≡ s_d2
+    s_to2 = option_walked a is_a demo_rules (codes "seed") 1 (pending [] (codes "seed") [])
+
+    s_to4 : walked demo_rules [] s_d3 b ≡ s_d4
+    s_to4 = option_walked b is_b demo_rules (codes "steps") 1 (pending (long_row a ∷ []) (codes "steps") [])
+
+    s_demo_walk : walk demo_rules [] nothing_held s_demo_words ≡ s_d4
+    s_demo_walk = ap (λ w. walked demo_rules [] (walked demo_rules [] (walked demo_rules [] w a) (codes "--steps")) b) s_to1
+        ∙ ap (λ w. walked demo_rules [] (walked demo_rules [] w (codes "--steps")) b) s_to2 ∙ ap (λ w. walked demo_rules [] w b) s_to3 ∙ s_to4
+
+    s_rows_are : rows_after demo_rules [] s_demo_words ≡ s_rows
+    s_rows_are = ap (λ (w : Walk). finished demo_rules w.held) s_demo_walk
+
+    s_turn3 : turn_fault demo_shape [] s_d2 (codes "--steps") ≡ []
+    unfolding clap_on_literals
+    s_turn3 = rw in_a refl
+
+    s_turns : walk_fault demo_shape [] (walk_from nothing_held) s_demo_words ≡ []
+    unfolding walk_fault
+    s_turns =
+        let after1 : walk_fault demo_shape [] s_d3 (b ∷ []) ≡ [] = ap (λ k. or_else k []) (option_turn b is_b demo_shape (codes "steps") 1 (pending (long_row a ∷ []) (codes "steps") [])) in
+        let after2 : walk_fault demo_shape [] s_d2 (codes "--steps" ∷ b ∷ []) ≡ [] = ap (λ k. or_else k (walk_fault demo_shape [] (walked demo_rules [] s_d2 (codes "--steps")) (b ∷ []))) s_turn3 ∙ ap (λ w. walk_fault demo_shape [] w (b ∷ [])) s_to3 ∙ after1 in
+        let after3 : walk_fault demo_shape [] s_d1 (a ∷ codes "--steps" ∷ b ∷ []) ≡ [] = ap (λ k. or_else k (walk_fault demo_shape [] (walked demo_rules [] s_d1 a) (codes "--steps" ∷ b ∷ []))) (option_turn a is_a demo_shape (codes "seed") 1 (pending [] (codes "seed") [])) ∙ ap (λ w. walk_fault demo_shape [] w (codes "--steps" ∷ b ∷ [])) s_to2 ∙ after2 in
+        ap (λ k. or_else k (walk_fault demo_shape [] (walked demo_rules [] (walk_from nothing_held) (codes "--seed")) (a ∷ codes "--steps" ∷ b ∷ []))) s_turn1 ∙ ap (λ w. walk_fault demo_shape [] w (a ∷ codes "--steps" ∷ b ∷ [])) s_to1 ∙ after3
+
+    s_faultless : level_fault demo_shape [] nothing_held s_demo_words false [] ≡ []
+    unfolding defaults_fault
+    s_faultless = ap (λ w. level_end demo_shape w (walk_fault demo_shape [] (walk_from nothing_held) s_demo_words)) s_demo_walk ∙ ap (level_end demo_shape s_d4) s_turns ∙ rw in_b refl
+
+module _ (a b : Text) where
+  abbrev t_d1 : Walk
+  t_d1 = walk_at (pending [] (codes "steps") []) (option (codes "steps")) 1
+
+  abbrev t_d2 : Walk
+  t_d2 = walk_at (pending [] (codes "steps") (a ∷ [])) idle 1
+
+  abbrev t_d3 : Walk
+  t_d3 = walk_at (pending (steps_row a ∷ []) (codes "seed") []) (option (codes "seed")) 1
+
+  abbrev t_d4 : Walk
+  t_d4 = walk_at (pending (steps_row a ∷ []) (codes "seed") (b ∷ [])) idle 1
+
+  abbrev t_demo_words : List Text
+  t_demo_words = codes "--steps" ∷ a ∷ codes "--seed" ∷ b ∷ []
+
+  abbrev t_rows : List Row
+  t_rows = steps_row a ∷ long_row b ∷ []
+
+  t_to1 : walked demo_rules [] (walk_from nothing_held) (codes "--steps") ≡ t_d1
+  unfolding clap_on_literals
+  t_to1 = refl
+
+  t_to3 : walked demo_rules [] t_d2 (codes "--seed") ≡ t_d3
+  unfolding clap_on_literals
+  t_to3 = refl
+
+  t_stops : walk top.rules (names_of (built redo)) nothing_held (codes "demo" ∷ t_demo_words) ≡ stopped_at (codes "demo") t_demo_words
+  unfolding clap_on_literals
+  t_stops = refl
+
+  t_named : walk_fault top (names_of (built redo)) (walk_from nothing_held) (codes "demo" ∷ t_demo_words) ≡ []
+  unfolding clap_on_literals
+  t_named = refl
+
+  t_turn1 : turn_fault demo_shape [] (walk_from nothing_held) (codes "--steps") ≡ []
+  unfolding clap_on_literals
+  t_turn1 = refl
+
+  module _ {m n : ℕ} (is_a : IsNumeralOf m a) (is_b : IsNumeralOf n b) (in_a : accepts false (between 0 1000000) a ≡ true) (in_b : accepts false any b ≡ true) where
+    t_to2 : walked demo_rules [] t_d1 a ≡ t_d2
+    t_to2 = option_walked a is_a demo_rules (codes "steps") 1 (pending [] (codes "steps") [])
+
+    t_to4 : walked demo_rules [] t_d3 b ≡ t_d4
+    t_to4 = option_walked b is_b demo_rules (codes "seed") 1 (pending (steps_row a ∷ []) (codes "seed") [])
+
+    t_demo_walk : walk demo_rules [] nothing_held t_demo_words ≡ t_d4
+    t_demo_walk = ap (λ w. walked demo_rules [] (walked demo_rules [] (walked demo_rules [] w a) (codes "--seed")) b) t_to1
+        ∙ ap (λ w. walked demo_rules [] (walked demo_rules [] w (codes "--seed")) b) t_to2 ∙ ap (λ w. walked demo_rules [] w b) t_to3 ∙ t_to4
+
+    t_rows_are : rows_after demo_rules [] t_demo_words ≡ t_rows
+    t_rows_are = ap (λ (w : Walk). finished demo_rules w.held) t_demo_walk
+
+    t_turn3 : turn_fault demo_shape [] t_d2 (codes "--seed") ≡ []
+    unfolding clap_on_literals
+    t_turn3 = rw in_a refl
+
+    t_turns : walk_fault demo_shape [] (walk_from nothing_held) t_demo_words ≡ []
+    unfolding walk_fault
+    t_turns =
+        let after1 : walk_fault demo_shape [] t_d3 (b ∷ []) ≡ [] = ap (λ k. or_else k []) (option_turn b is_b demo_shape (codes "seed") 1 (pending (steps_row a ∷ []) (codes "seed") [])) in
+        let after2 : walk_fault demo_shape [] t_d2 (codes "--seed" ∷ b ∷ []) ≡ [] = ap (λ k. or_else k (walk_fault demo_shape [] (walked demo_rules [] t_d2 (codes "--seed")) (b ∷ []))) t_turn3 ∙ ap (λ w. walk_fault demo_shape [] w (b ∷ [])) t_to3 ∙ after1 in
+        let after3 : walk_fault demo_shape [] t_d1 (a ∷ codes "--seed" ∷ b ∷ []) ≡ [] = ap (λ k. or_else k (walk_fault demo_shape [] (walked demo_rules [] t_d1 a) (codes "--seed" ∷ b ∷ []))) (option_turn a is_a demo_shape (codes "steps") 1 (pending [] (codes "steps") [])) ∙ ap (λ w. walk_fault demo_shape [] w (codes "--seed" ∷ b ∷ [])) t_to2 ∙ after2 in
+        ap (λ k. or_else k (walk_fault demo_shape [] (walked demo_rules [] (walk_from nothing_held) (codes "--steps")) (a ∷ codes "--seed" ∷ b ∷ []))) t_turn1 ∙ ap (λ w. walk_fault demo_shape [] w (a ∷ codes "--seed" ∷ b ∷ [])) t_to1 ∙ after3
+
+    t_faultless : level_fault demo_shape [] nothing_held t_demo_words false [] ≡ []
+    unfolding defaults_fault
+    t_faultless = ap (λ w. level_end demo_shape w (walk_fault demo_shape [] (walk_from nothing_held) t_demo_words)) t_demo_walk ∙ ap (level_end demo_shape t_d4) t_turns ∙ rw in_b refl
+
+pub demo_asks : (program : Text) (seed steps : ℕ) → seed < 2 ^ 64 → steps ≤ 1000000 → Asks (program ∷ codes "demo" ∷ codes "--seed" ∷ decimal seed ∷ codes "--steps" ∷ decimal steps ∷ []) (Demo seed steps)
+demo_asks program seed steps small few =
+    let s = decimal seed in
+    let t = decimal steps in
+    let is_s = decimal_word seed small in
+    let is_t = decimal_word steps (omega (arith, few)) in
+    let in_s = in_any seed s is_s small in
+    let in_t = in_range 0 1000000 steps t is_t (omega (arith, few)) (omega arith) few in
+    let rows = s_rows s t in
+    record {
+      faultless = taken program (codes "demo") (s_demo_words s t) demo_shape (s_stops s t) (s_named s t) refl refl (s_faultless s t is_s is_t in_s in_t);
+      named = record {
+        name = codes "demo";
+        rows = rows;
+        is = taken_as program (codes "demo") (s_demo_words s t) demo_shape (s_stops s t) ∙ ap (λ rs. Some (codes "demo", rs)) (s_rows_are s t is_s is_t in_s in_t);
+        for = (refl, (gives (codes "seed") seed s rows is_s refl, gives (codes "steps") steps t rows is_t (read_signed t is_t)));
+        allowed = (small, few);
+      };
+    }
+
+pub demo_asks_steps_first : (program : Text) (seed steps : ℕ) → seed < 2 ^ 64 → steps ≤ 1000000 → Asks (program ∷ codes "demo" ∷ codes "--steps" ∷ decimal steps ∷ codes "--seed" ∷ decimal seed ∷ []) (Demo seed steps)
+demo_asks_steps_first program seed steps small few =
+    let s = decimal seed in
+    let t = decimal steps in
+    let is_s = decimal_word seed small in
+    let is_t = decimal_word steps (omega (arith, few)) in
+    let in_s = in_any seed s is_s small in
+    let in_t = in_range 0 1000000 steps t is_t (omega (arith, few)) (omega arith) few in
+    let rows = t_rows t s in
+    record {
+      faultless = taken program (codes "demo") (t_demo_words t s) demo_shape (t_stops t s) (t_named t s) refl refl (t_faultless t s is_t is_s in_t in_s);
+      named = record {
+        name = codes "demo";
+        rows = rows;
+        is = taken_as program (codes "demo") (t_demo_words t s) demo_shape (t_stops t s) ∙ ap (λ rs. Some (codes "demo", rs)) (t_rows_are t s is_t is_s in_t in_s);
+        for = (refl, (gives (codes "seed") seed s rows is_s refl, gives (codes "steps") steps t rows is_t (read_signed t is_t)));
+        allowed = (small, few);
+      };
+    }

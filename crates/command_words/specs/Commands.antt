@@ -1,0 +1,38 @@
+-- The command set, in the words of clap's specification.
+use Rattle.std.specs.Prelude.{ℕ, [], ◌∷◌, Some, true, false, pos, codes}
+use Rattle.clap.specs.Words.{App, Rule, Shape, Text, new_rule}
+use Rattle.clap.specs.Simple.{new_shape}
+use Rattle.clap.specs.declared.builder.value_parser.ValueParser.{ValueParser}
+use Rattle.clap.specs.declared.builder.value_parser.ValueParser.TheVariants.{Signed, Unsigned}
+
+-- a number that has to be there
+abbrev pub number : Text → ValueParser → Rule
+number id values = record (new_rule id) { required = true; parser = Some values }
+
+-- the same after an option of this name
+abbrev pub option : Text → ValueParser → Rule
+option id values = record (number id values) { long = Some id }
+
+-- the numbers in this range, and those of 64 bits
+abbrev pub between : ℕ → ℕ → ValueParser
+between least most = Signed (pos least) (pos most)
+
+abbrev pub any : ValueParser
+any = Unsigned 0 18446744073709551615
+
+abbrev pub init : Shape
+init = record (new_shape (codes "init")) {
+  rules = number (codes "N") (between 1 4096) ∷ number (codes "CAP") (between 16 16384) ∷ number (codes "LIMIT") (between 4128 536870912) ∷ [];
+}
+
+abbrev pub demo : Shape
+demo = record (new_shape (codes "demo")) {
+  rules = option (codes "seed") any ∷ option (codes "steps") (between 0 1000000) ∷ [];
+}
+
+-- four subcommands, of which one has to be named; where nothing is said at all, help is the answer
+abbrev pub redo : App
+redo = record {
+  top = record (new_shape (codes "redo")) { is_leaf = false; subcommand_required = true; arg_required_else_help = true };
+  subs = init ∷ new_shape (codes "run") ∷ new_shape (codes "dump") ∷ demo ∷ [];
+}

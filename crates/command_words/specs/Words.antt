@@ -1,0 +1,50 @@
+-- What the words of the command line ask.
+use Rattle.std.specs.Prelude.{◌≡◌, ⊤, ℕ, ◌<◌, ◌≤◌, ◌^◌, List, [], Option, Some, codes}
+use Rattle.std.specs.Str.Parse.{IsNumeral, digits_value, without_leading_plus}
+use Rattle.formats.specs.Objects.{IsInRange}
+use Rattle.clap.specs.Words.{Row, Text, fault_of, one_of, subcommand_of}
+use Rattle.command_words.specs.Commands.{redo}
+use Rattle.formats.specs.declared.params.Params.{Params}
+use Rattle.command_words.specs.declared.asked.Asked.{Asked}
+use Rattle.command_words.specs.declared.asked.Asked.TheVariants.{Init, Run, Dump, Demo}
+
+-- the value of the argument of this name is a numeral of n, perhaps after a plus
+pub record Gives (rows : List Row) (id : Text) (n : ℕ) : Type 0 where
+  pub text : Text
+  pub value : one_of id rows ≡ Some text
+  pub numeral : IsNumeral 10 (without_leading_plus text)
+  pub number : digits_value 10 (without_leading_plus text) ≡ n
+
+-- the values are the numbers of a store, or those of a script
+abbrev pub GivesParams : List Row → Params → Type 0
+GivesParams rows p = Gives rows (codes "N") p.objects × Gives rows (codes "CAP") p.cap × Gives rows (codes "LIMIT") p.limit
+
+abbrev pub GivesDemo : List Row → ℕ → ℕ → Type 0
+GivesDemo rows seed steps = Gives rows (codes "seed") seed × Gives rows (codes "steps") steps
+
+-- the subcommand of this name, with these values, is for this
+abbrev pub IsFor : Asked → Text → List Row → Type 0
+IsFor Run name rows = name ≡ codes "run"
+IsFor Dump name rows = name ≡ codes "dump"
+IsFor (Init params) name rows = (name ≡ codes "init") × GivesParams rows params
+IsFor (Demo seed steps) name rows = (name ≡ codes "demo") × GivesDemo rows seed steps
+
+-- the numbers are in their ranges
+abbrev pub IsAllowed : Asked → Type 0
+IsAllowed Run = ⊤
+IsAllowed Dump = ⊤
+IsAllowed (Init params) = IsInRange params
+IsAllowed (Demo seed steps) = (seed < 2 ^ 64) × (steps ≤ 1000000)
+
+-- the subcommand that was named asks this
+pub record IsAsked (named : Option (Text × List Row)) (asked : Asked) : Type 0 where
+  pub name : Text
+  pub rows : List Row
+  pub is : named ≡ Some (name, rows)
+  pub for : IsFor asked name rows
+  pub allowed : IsAllowed asked
+
+-- The words, the program's name first, ask this: clap finds no fault in them, and the subcommand that they name asks it.
+pub record Asks (words : List Text) (asked : Asked) : Type 0 where
+  pub faultless : fault_of redo words ≡ []
+  pub named : IsAsked (subcommand_of redo words) asked

@@ -1,0 +1,14 @@
+use formats::Params;
+
+/// What the words of the command line ask.
+#[derive(Clone, Copy, Debug, PartialEq, Eq)]
+pub enum Asked {
+    /// `init N CAP LIMIT`: a new store with these limits.
+    Init(Params),
+    /// `run`: a script is answered.
+    Run,
+    /// `dump`: the objects that are not empty are reported, and the number of commands.
+    Dump,
+    /// `demo --seed S --steps T`: a script of so many steps is made from the seed and answered, in memory.
+    Demo { seed: u64, steps: u32 },
+}

@@ -1,0 +1,94 @@
+//! The command set.
+ghost use Rattle.std.specs.Prelude.{◌≡◌, IfOk, false};
+ghost use Rattle.clap.specs.Words.{app_of, rule_of, shape_of};
+ghost use Rattle.clap.specs.declared.builder.command.Command.TheViews.{out-Command};
+ghost use Rattle.command_words.specs.Commands.{number, option, init, demo, redo};
+
+use clap::builder::ValueParser;
+use clap::{Arg, Command, value_parser};
+use std::alloc::{AllocError, Global};
+
+// What help says after the words of `redo`, and of `redo run`.
+const MORE: &str =
+    "`redo -C DIR COMMAND ..` uses the store in the folder DIR. docs/SCRIPT.md and the manual page\n\
+    docs/redo.1 tell the rest.";
+
+const LINES: &str = "Lines:\n  \
+    put X HEX, get X, copy X Y, append X Y, cut X Y K, sort X Y W, swap X Y\n  \
+    exec A, arun A N, aread A X, awrite A X\n  \
+    tinsert LO HI KEY VAL, tget LO HI KEY, tdelete LO HI KEY, trange LO HI FROM TO\n  \
+    begin, end, force, install, drain, checkpoint, trim, stat, # a comment\n\n\
+    The lines drain and trim make a full log short again. `rlwrap redo run` lets lines be edited; Ctrl-D ends\n\
+    the input and forces, Ctrl-C loses what is not forced.";
+
+// A number that has to be there.
+fn number<'a>(alloc: Global, id: &'a str, values: ValueParser<'a>) -> Arg<'a>
+    ensures rule { rule_of result ≡ number id.entry.now values.entry }
+    ensures local { result.global ≡ false }
+{
+    Arg::new(alloc, id).required(true).value_parser(values)
+}
+
+// A number that has to be there, after an option of this name.
+fn option<'a>(alloc: Global, id: &'a str, values: ValueParser<'a>) -> Arg<'a>
+    ensures rule { rule_of result ≡ option id.entry.now values.entry }
+    ensures local { result.global ≡ false }
+{
+    number(alloc, id, values).long(id)
+}
+
+/// `init N CAP LIMIT`.
+fn init<'a>(alloc: Global) -> Result<Command<'a>, AllocError>
+    ensures { IfOk result (λ c. (shape_of c ≡ init) × ((out-Command c).has_globals ≡ false)) }
+{
+    let objects = number(alloc, "N", value_parser!(u32).range(1..=4096)).help(
+        "How many objects, 1 to 4096",
+    );
+    let cap = number(alloc, "CAP", value_parser!(u32).range(16..=16384)).help(
+        "The most bytes of an object, 16 to 16384; a map needs 1024",
+    );
+    let limit = number(alloc, "LIMIT", value_parser!(u32).range(4128..=536870912)).help(
+        "How many bytes the log may grow to, 2 x CAP + 4096 to 536870912",
+    );
+    Command::new(alloc, "init")
+        .about("Makes a new store in this folder")
+        .arg(objects)?
+        .arg(cap)?
+        .arg(limit)
+}
+
+/// `demo --seed S --steps T`.
+fn demo<'a>(alloc: Global) -> Result<Command<'a>, AllocError>
+    ensures { IfOk result (λ c. (shape_of c ≡ demo) × ((out-Command c).has_globals ≡ false)) }
+{
+    let seed = option(alloc, "seed", value_parser!(u64)).help(
+        "What the script is made from, below 2^64",
+    );
+    let steps = option(alloc, "steps", value_parser!(u32).range(0..=1000000)).help(
+        "How many steps it has, at most 1000000",
+    );
+    Command::new(alloc, "demo")
+        .about("Answers a script that is made from a seed, in memory")
+        .arg(seed)?
+        .arg(steps)
+}
+
+/// The command set.
+pub fn redo<'a>(alloc: Global) -> Result<Command<'a>, AllocError>
+    ensures { IfOk result (λ c. app_of c ≡ redo) }
+{
+    let run = Command::new(alloc, "run")
+        .after_help(LINES)
+        .about("Answers the lines of standard input");
+    let dump = Command::new(alloc, "dump").about("Reports the objects that are not empty");
+    Command::new(alloc, "redo")
+        .bin_name("redo")?
+        .about("A recoverable object store")
+        .after_help(MORE)
+        .subcommand_required(true)
+        .arg_required_else_help(true)
+        .subcommand(init(alloc)?)?
+        .subcommand(run)?
+        .subcommand(dump)?
+        .subcommand(demo(alloc)?)
+}

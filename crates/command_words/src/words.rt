@@ -1,0 +1,116 @@
+//! Reading the words.
+ghost use Rattle.std.specs.Prelude.{◌≡◌, ◌↔◌, ◌<◌, ◌≤◌, ◌^◌, ℕ, map, string_bytes, IfSome, IfNone, IfOk, IfErr, IsTrue, false};
+ghost use Rattle.clap.specs.Words.{found_of, kind_of, rows_of, subcommand_rows_of};
+ghost use Rattle.command_words.specs.declared.asked.Asked.{Asked};
+ghost use Rattle.formats.specs.declared.params.Params.{Params};
+ghost use Rattle.formats.specs.Objects.{IsInRange};
+ghost use Rattle.command_words.specs.Words.{Asks, Gives, GivesParams, GivesDemo, IsAsked};
+ghost use Rattle.command_words.specs.Refusals.{IsRefusal};
+
+use crate::asked::Asked;
+use crate::command::redo;
+use crate::unread::Unread;
+use clap::ArgMatches;
+use clap::error::ErrorKind;
+use formats::Params;
+use std::alloc::Global;
+
+/// Whether a store may have these limits.
+fn is_in_range(params: &Params) -> bool
+    ensures yes { IsTrue result → IsInRange params.now }
+    ensures no { result ≡ false → IsInRange params.now → ⊥ }
+{
+    (1..=4096).contains(&params.objects)
+        && (16..=16384).contains(&params.cap)
+        && (2 * params.cap + 4096..=536870912).contains(&params.limit)
+}
+
+// The number of 32 bits, or of 64, that the argument of this name has.
+fn short(matches: &ArgMatches<'_>, id: &str) -> Option<u32>
+    ensures some { IfSome result (Gives (rows_of (found_of matches.now)) id.now) }
+    ensures none { IfNone result ((n : ℕ) → n < 2 ^ 32 → Gives (rows_of (found_of matches.now)) id.now n → ⊥) }
+{
+    matches.get_one::<u32>(id)
+}
+
+fn long(matches: &ArgMatches<'_>, id: &str) -> Option<u64>
+    ensures some { IfSome result (Gives (rows_of (found_of matches.now)) id.now) }
+    ensures none { IfNone result ((n : ℕ) → n < 2 ^ 64 → Gives (rows_of (found_of matches.now)) id.now n → ⊥) }
+{
+    matches.get_one::<u64>(id)
+}
+
+/// `init N CAP LIMIT`, by the values of the three arguments.
+fn init(values: &ArgMatches<'_>) -> Option<Params>
+    ensures some { IfSome result (λ p. IsInRange p × GivesParams (rows_of (found_of values.now)) p) }
+    ensures none { IfNone result ((p : Params) → IsInRange p → GivesParams (rows_of (found_of values.now)) p → ⊥) }
+{
+    let params = Params {
+        objects: short(values, "N")?,
+        cap: short(values, "CAP")?,
+        limit: short(values, "LIMIT")?,
+    };
+    if is_in_range(&params) {
+        Some(params)
+    } else {
+        None
+    }
+}
+
+/// `demo --seed S --steps T`, by the values of the two options.
+fn demo(values: &ArgMatches<'_>) -> Option<(u64, u32)>
+    ensures some { IfSome result (λ d. (d.1 ≤ 1000000) × GivesDemo (rows_of (found_of values.now)) d.0 d.1) }
+    ensures none { IfNone result ((seed steps : ℕ) → seed < 2 ^ 64 → steps ≤ 1000000 → GivesDemo (rows_of (found_of values.now)) seed steps → ⊥) }
+{
+    let seed = long(values, "seed")?;
+    let steps = short(values, "steps")?;
+    if steps <= 1000000 {
+        Some((seed, steps))
+    } else {
+        None
+    }
+}
+
+/// What the subcommand asks that was named. `None` exactly where it asks nothing: where its numbers are not those of a
+/// store.
+fn asked(matches: &ArgMatches<'_>) -> Option<Asked>
+    ensures some { IfSome result (IsAsked (subcommand_rows_of matches.now)) }
+    ensures none { IfNone result ((asked : Asked) → IsAsked (subcommand_rows_of matches.now) asked → ⊥) }
+{
+    let (name, values) = matches.subcommand()?;
+    match name {
+        "init" => Some(Asked::Init(init(values)?)),
+        "run" => Some(Asked::Run),
+        "dump" => Some(Asked::Dump),
+        "demo" => {
+            let (seed, steps) = demo(values)?;
+            Some(Asked::Demo { seed, steps })
+        }
+        _ => None,
+    }
+}
+
+// Whether clap had no memory.
+fn is_want_of_memory(error: &clap::Error) -> bool
+    ensures { IsTrue result ↔ (kind_of error.now ≡ ErrorKind.OutOfMemory) }
+{
+    matches!(error.kind(), ErrorKind::OutOfMemory)
+}
+
+/// Reads the words of the command line, the program's name first. They are refused exactly where they ask nothing.
+pub fn read_words(alloc: Global, words: &[String]) -> Result<Asked, Unread>
+    ensures ok { IfOk result (Asks (map string_bytes words.now)) }
+    ensures refused { IfErr result (λ unread. IsRefusal unread → (asked : Asked) → Asks (map string_bytes words.now) asked → ⊥) }
+{
+    match redo(alloc)?.try_get_matches_from(words) {
+        Ok(matches) => match asked(&matches) {
+            Some(asked) => Ok(asked),
+            None => Err(Unread::Refused(redo(alloc)?.error(
+                ErrorKind::ValueValidation,
+                "LIMIT is below 2 x CAP + 4096",
+            )?)),
+        },
+        Err(error) if is_want_of_memory(&error) => Err(Unread::Memory),
+        Err(error) => Err(Unread::Refused(error)),
+    }
+}
