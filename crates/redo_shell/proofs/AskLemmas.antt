@@ -9,7 +9,6 @@ use Rattle.formats.specs.Objects.{bounds_of}
 use Rattle.formats.specs.declared.params.Params.{Params}
 use Rattle.oper_core.specs.State.{State}
 use Rattle.op_codec.specs.AllOps.{all_meaning}
-use Rattle.explain_core.specs.World.{World, run}
 use Rattle.cache_manager.specs.Courses.{course}
 use Rattle.cache_manager.specs.Courses.Stop.{Through}
 use Rattle.cache_manager.specs.Taking.{Ending}
@@ -19,14 +18,13 @@ use Rattle.logical_btree.specs.Plan.{get_answer, get_on, is_there, range_answer,
 use Rattle.std.specs.FinMap.Entries.{find}
 use Rattle.btree_ops.specs.Entries.{byte_order}
 use Rattle.logical_btree.specs.Walk.{Pair, Way, scan, walk}
-use Rattle.logical_btree.specs.declared.refusal.TreeRefusal.{TreeRefusal}
-use Rattle.logical_btree.specs.declared.refusal.TreeRefusal.TheVariants.{NoObject, BadTree}
-use Rattle.execution.specs.declared.exec_err.ExecErr.{ExecErr}
+use Rattle.logical_btree.specs.declared.refusal.TreeRefusal.TheVariants.{NoObject}
 use Rattle.script_lines.specs.Grammar.{Request, tget, trange, AsksFor}
 use Rattle.script_lines.specs.Replies.{Reply, value, pairs, forced, refused, bad_tree, pairs_reply}
-use Rattle.store_engine.specs.Engine.{EngineView, IsFailed, forced_in, used_in}
+use Rattle.store_engine.specs.Engine.{EngineView, forced_in, used_in}
 use Rattle.store_engine.specs.Engine as of_engine
-use Rattle.redo_shell.specs.Found.{IsAsked, IsEndedBy, reply_in}
+use Rattle.redo_shell.specs.Found.{IsAsked, reply_in}
+use Rattle.redo_shell.specs.Groups.{Regroups, open_in, waiting}
 use Rattle.redo_shell.specs.Made.{AsksTree, found_reply, range_reply, tree_answer}
 use Rattle.redo_shell.specs.Replies.{IsTrueIn, Replies}
 use Rattle.redo_shell.specs.Run.{IsFound, Working}
@@ -34,10 +32,9 @@ use Rattle.redo_shell.specs.Stages.{GoesBy, IsQuestion, Stage, stage_of}
 use Rattle.redo_shell.specs.Store.{Between, Command, Holds, Kept, Says, meaning_in, state_of}
 use Rattle.redo_shell.specs.declared.asking.Found.{Found}
 use Rattle.redo_shell.specs.declared.stop.Stop.{Stop as Early}
-use Rattle.redo_shell.proofs.ListLemmas.{not_early}
+use Rattle.redo_shell.proofs.ListLemmas.{IsOk, not_early}
 use Rattle.redo_shell.proofs.MomentLemmas.{Works, works_by}
-use Rattle.redo_shell.proofs.RunLemmas.{asks_values, found_read, none_more, run_nothing}
-use Rattle.redo_shell.proofs.UpkeepLemmas.{IsOk}
+use Rattle.redo_shell.proofs.RunLemmas.{asks_values, found_read, run_nothing}
 
 -- the answer to a question to a tree
 abbrev IsTold : Reply → Type 0
@@ -79,12 +76,20 @@ is_question p s reply (trange lo hi from to) is = tt
 is_question p s reply request is = cc
 
 module _ (p : Params) (commands : List Command) (line : List ℕ) where
-  told_replies : (reply : Reply) → IsTold reply → AsksTree p commands line reply → Replies p commands line reply []
-  told_replies (value bytes) told a = (inr a, refl)
-  told_replies (pairs pair others) told a = (a, refl)
-  told_replies (refused why) told a = inr (inr a, refl)
-  told_replies bad_tree told a = inr (a, refl)
-  told_replies reply told a = absurd told
+  told_replies : (group : Option ℕ) (reply : Reply) → IsTold reply → AsksTree p commands line reply → Replies p group commands line reply []
+  told_replies group (value bytes) told a = (inr a, refl)
+  told_replies group (pairs pair others) told a = (a, refl)
+  told_replies group (refused why) told a = inr (inr a, refl)
+  told_replies group bad_tree told a = inr (a, refl)
+  told_replies group reply told a = absurd told
+
+  -- it leaves the open group as it is
+  told_regroups : (group : Option ℕ) (reply : Reply) → IsTold reply → Regroups line reply commands group group
+  told_regroups group (value bytes) told = refl
+  told_regroups group (pairs pair others) told = refl
+  told_regroups group (refused why) told = refl
+  told_regroups group bad_tree told = refl
+  told_regroups group reply told = absurd told
 
   told_goes : (reply : Reply) → IsTold reply → AsksTree p commands line reply → (s : Stage) → GoesBy p s line reply s
   told_goes (value bytes) told a s = refl
@@ -93,12 +98,12 @@ module _ (p : Params) (commands : List Command) (line : List ℕ) where
   told_goes bad_tree told a s = asks_values p s line a.request (is_question p (state_of p commands) bad_tree a.request a.answers) a.asks
   told_goes reply told a s = absurd told
 
-  told_tied : (reply : Reply) → IsTold reply → (f : Files) → IsTrueIn p f line reply
-  told_tied (value bytes) told f = tt
-  told_tied (pairs pair others) told f = tt
-  told_tied (refused why) told f = tt
-  told_tied bad_tree told f = tt
-  told_tied reply told f = absurd told
+  told_tied : (reply : Reply) → IsTold reply → (f : Files) (ops : List Command) → IsTrueIn p f ops line reply
+  told_tied (value bytes) told f ops = tt
+  told_tied (pairs pair others) told f ops = tt
+  told_tied (refused why) told f ops = tt
+  told_tied bad_tree told f ops = tt
+  told_tied reply told f ops = absurd told
 
 told_other : (reply : Reply) → IsTold reply → (n : ℕ) → reply ≢ forced n
 told_other (value bytes) told n is = cc is
@@ -131,6 +136,10 @@ module _ {p : Params} {old now : Disk} {before after : EngineView} {commands : L
         record {
           holds = record { world = here.world; shows = here.shows; commands_are = same; says = says (record { world = here.world; shows = here.shows; commands_are = same }) };
           rising = ⊎_elim (λ failed. absurd failed) (λ rises. rises) a.rising;
+          which = ⊎_elim (λ failed. absurd failed)
+              (λ (which : (forced_in after ≡ forced_in before) ⊎ ((before.group ≡ None) × (length commands ≤ forced_in after))).
+              ⊎_elim (λ (as_many : forced_in after ≡ forced_in before). inl as_many) (λ (all : (before.group ≡ None) × (length commands ≤ forced_in after)). inr (all.0, omega (arith, all.1, holds.says.accepted))) which)
+              a.which;
         },
         λ i. record { world = (here.ends.1.world_is ∙ run_nothing (meaning_in p) holds.world) i; used = here.ends.1.used_is i; identities = a.identities i },
       )
@@ -145,13 +154,14 @@ module _ {p : Params} {old now : Disk} {before after : EngineView} {commands : L
       let reply = reply_in found in
       let told = is_told p (state_of p commands) reply request tells in
       let a : AsksTree p commands line reply = record { request = request; asks = asks; answers = tells } in
-      found_read reply (told_replies p commands line reply told a) (told_tied p commands line reply told) (told_other reply told) (told_goes p commands line reply told a) holds.commands_are
+      found_read reply (told_replies p commands line (open_in holds.world) reply told a)
+      (λ f. told_tied p commands line reply told f (waiting (open_in holds.world) (commands ++ []))) (λ group. told_regroups p commands line group reply told) (told_other reply told) (told_goes p commands line reply told a) holds.commands_are
       (u.calls.call.quiet holds.shows.shows.told) kept.0 kept.1
 
-  pub asked_moments : old.tells_moments → LeavesOnly old now (Working p old (forced_in before) commands line)
+  pub asked_moments : old.tells_moments → LeavesOnly old now (Working p old before commands line)
   asked_moments told =
       let a = u.adds p commands holds in
-      weaker old now (Between p old (forced_in before) (commands ++ take a.done [])) (Working p old (forced_in before) commands line) (a.images told)
+      weaker old now (Between p old before.group (forced_in before) (length commands) (commands ++ take a.done [])) (Working p old before commands line) (a.images told)
       (λ f s b. record { added = take a.done []; front = inl (take-nil a.done); between = b })
 
   -- no step is taken

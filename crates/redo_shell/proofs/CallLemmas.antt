@@ -1,14 +1,14 @@
 -- What holds of a call for any words, from what holds of one that was asked one thing.
-use Rattle.std.proofs.Common.{◌≡◌, ◌≢◌, ◌^◌, List, ℕ, refl, subst}
+use Rattle.std.proofs.Common.{◌≡◌, ◌≢◌, ◌^◌, List, ℕ, inl, refl, subst}
 use Rattle.disk_model.specs.Disk.{Disk, IsDisk, Rises}
 use Rattle.formats.specs.declared.params.Params.{Params}
 use Rattle.script_lines.specs.Grammar.{lines_of}
 use Rattle.script_lines.specs.Reading.{Takes}
-use Rattle.script_lines.specs.Words.{Asks}
-use Rattle.script_lines.specs.declared.words.Asked.{Asked}
-use Rattle.script_lines.specs.declared.words.Asked.TheVariants.{Init, Run, Dump, Demo}
+use Rattle.command_words.specs.Words.{Asks}
+use Rattle.command_words.specs.declared.asked.Asked.{Asked}
+use Rattle.command_words.specs.declared.asked.Asked.TheVariants.{Init, Run, Dump, Demo}
 use Rattle.redo_shell.specs.Calls.{IsCallFor, GoesOn}
-use Rattle.redo_shell.specs.Causes.{CountsFaults, SaysNoStore, SaysDamage, SaysStore, ComesByCause}
+use Rattle.redo_shell.specs.Causes.{CountsFaults, IsUnread, SaysNoStore, SaysDamage, SaysStore, ComesByCause}
 use Rattle.redo_shell.specs.Demo.{IsOfDemo}
 use Rattle.redo_shell.specs.Exactly.{IsFaultless, ComesExactly}
 use Rattle.redo_shell.specs.Sessions.{run, init, dump}
@@ -16,6 +16,8 @@ use Rattle.redo_shell.specs.Status.{IsOfRun, IsOfDump, IsOfInit}
 use Rattle.redo_shell.specs.Store.{Command, IsWellFormed, Opens}
 use Rattle.redo_shell.specs.declared.status.Status.{Status}
 use Rattle.redo_shell.specs.declared.status.Status.TheVariants.{Done, DoneWithRefusals, Usage, NotAStore, AlreadyStore, Damaged, DiskFault, ReadFault, SayFault, Memory, TooLong}
+use Rattle.restart.specs.Starts.{at_start}
+use Rattle.redo_shell.proofs.KeepLemmas.{keeps_once}
 use Rattle.redo_shell.proofs.ExactLemmas.{calm_run, calm_told, calm_dump, opens_exactly, runs_exactly, makes_exactly}
 use Rattle.redo_shell.proofs.RestartLemmas.{image_begins}
 
@@ -81,20 +83,20 @@ module _ {words : List (List ℕ)} {told : Type 0} {left rest : List ℕ} {befor
   pub call_exactly : Asks words asked → ((other : Asked) → Asks words other → asked ≡ other) → ((p : Params) (commands : List Command) → Opens p old commands → IsWellFormed old.reads) → IsFaultless old new before now
       → ComesExactly words told left old new status
   call_exactly asks one format faultless = record {
-    usage = (λ is. absurd (not_usage told left rest old new status asked call is), λ none. absurd (none asked asks));
+    usage = λ memory. (λ is. absurd (not_usage told left rest old new status asked call is), λ none. absurd (none asked asks));
     run = λ is files.
         let it = call_for told left rest old new status (one Run is) call in
-        opens_exactly status (calm_run status faultless it.ends faults read_fault) (it.judged files);
+        inl (opens_exactly status (calm_run status faultless it.ends faults read_fault) (it.judged files));
     runs = λ is memory.
         let it = call_for told left rest old new status (one Run is) call in
         runs_exactly status (calm_run status faultless it.ends faults read_fault) memory it too_long format;
     dump = λ is files.
         let it = call_for told left rest old new status (one Dump is) call in
-        opens_exactly status (calm_told status faultless it.ends faults) (it.judged files);
+        inl (opens_exactly status (calm_told status faultless it.ends faults) (it.judged files));
     dumps = λ is memory p commands opens.
         let it = call_for told left rest old new status (one Dump is) call in
         calm_dump status faultless memory it.ends faults ((it.judged opens.told).store (format p commands opens));
-    init = λ p is. makes_exactly status faultless (call_for told left rest old new status (one (Init p) is) call) faults;
+    init = λ p is files. inl (makes_exactly status faultless (call_for told left rest old new status (one (Init p) is) call) faults files);
     demos = λ seed steps is memory. calm_demo status faultless memory (call_for told left rest old new status (one (Demo seed steps) is) call).ends faults;
   }
 
@@ -113,4 +115,19 @@ call_goes_on disk {words} {told} {left} old new lawful call = record {
   dump = λ first next inits runs said asks before follows.
       dump old new next said before (λ none telling. ((call Dump asks).judged (lawful.telling telling)).keeps (λ image. none (image_begins image)))
       (λ p commands opens. ((call Dump asks).table p commands opens).moments) follows;
+}
+
+-- where there was no memory to read the words, it goes on them too
+pub unread_goes_on : {T : Type 0} (disk : T → Disk) {words script : List (List ℕ)} {told : Type 0} {status : Status} (old new : T) → IsUnread (disk old) (disk new) status
+    → GoesOn disk words told script old new
+unread_goes_on disk {words} {script} old new unread = record {
+  run = λ first next inits runs bytes asks told begins before follows.
+      run old new next (record { script = script; bytes = bytes }) before begins (λ p commands opens telling. at_start (disk old) (disk new) _ unread.stays telling) follows;
+  run_untold = λ asks. (
+    script,
+    λ first next inits runs bytes begins before follows. run old new next (record { script = script; bytes = bytes }) before begins (λ p commands opens telling. at_start (disk old) (disk new) _ unread.stays telling) follows,
+  );
+  init = λ p first next inits runs said asks none before follows. init old new next p said before none (λ telling. at_start (disk old) (disk new) _ unread.stays telling) follows;
+  dump = λ first next inits runs said asks before follows.
+      dump old new next said before (λ none telling. keeps_once (disk old) (disk new) unread.stays) (λ p commands opens telling. at_start (disk old) (disk new) _ unread.stays telling) follows;
 }

@@ -1,19 +1,22 @@
 -- The courses of installs, drains, checkpoints and trims: what may stop them, what they log, and that they add no command.
-use Rattle.std.proofs.Common.{◌≡◌, ◌∙◌, ap, sym, subst, refl, ℕ, zero, suc, ◌+◌, ◌<◌, arith, Bool, true, false, List, [], ◌∷◌, ◌++◌, length}
-use Rattle.std.specs.Prelude.{⊤, ◌^◌, ◌&&◌, nat_lt, nat_le, if◌then◌else◌}
+use Rattle.std.proofs.Common.{◌≡◌, ◌∙◌, ap, refl, ℕ, zero, suc, ◌+◌, ◌<◌, arith, Bool, true, false, List, [], ◌∷◌, ◌++◌}
+use Rattle.std.specs.Prelude.{◌^◌, ◌&&◌, nat_lt, nat_le, if◌then◌else◌}
 use Rattle.std.proofs.lemmas.Bool.{cond_both}
 use Rattle.std.proofs.lemmas.Bool.Decides.{nat_tests}
 use Rattle.oper_core.specs.Meaning.{Meaning}
+use Rattle.explain_core.specs.History.Member.{Command as Logged_command}
 use Rattle.explain_core.specs.Turns.{count_below, dirty_in}
 use Rattle.explain_core.specs.World.{World, Step, run, end_of}
-use Rattle.explain_core.specs.World.Step.{Block_gate, Header_gate}
-use Rattle.cache_manager.specs.Courses.{Course, Stop, course, is_through, and_then, waits, buffered, grown, force_steps, force_course, room_steps, placed, cached_length, identity_length, identity_steps, identity_course, identities, work, others, finish_steps, rounds, has_members, install_course, drains, drain_course, logged_by, logged_in}
-use Rattle.cache_manager.specs.Courses.Stop.{Through, Full, At_end, Worn}
+use Rattle.explain_core.specs.World.Step.{Append, Begin, Block_gate, Header_gate}
+use Rattle.cache_manager.specs.Courses.{Course, course, is_through, and_then, waits, buffered, grown, force_steps, force_course, room_steps, placed, cached_length, identity_length, identity_steps, identity_course, identities, must_log, others, finish_steps, rounds, has_members, install_course, drains, logged_by, logged_in}
+use Rattle.cache_manager.specs.Courses.Stop.{Through, Full, At_end}
 use Rattle.cache_manager.specs.CourseLaws.{behind_both}
 use Rattle.cache_manager.specs.Running.{AreUpkeep}
 use Rattle.cache_manager.specs.Upkeep.{upkeep_append, upkeep_either, upkeep_then, upkeep_force, upkeep_room, upkeep_install, upkeep_drain}
 use Rattle.checkpointing.specs.Courses.{check_course, check_length, check_steps, checkpoint_course, logged_course, last_epoch, new_base, rewrite_course, trim_course, trimmed, trimmed_file}
+use Rattle.execution.specs.Courses.{append_course, command_length, needed, unplaced_steps}
 use Rattle.script_lines.specs.Grammar.{Request, install, drain, checkpoint, trim}
+use Rattle.store_engine.specs.Calls.{begin_course}
 use Rattle.redo_shell.specs.Store.{Command}
 use Rattle.redo_shell.specs.Replies.{IsOver, IsUpkeep}
 use Rattle.redo_shell.specs.Found.{MayStop}
@@ -50,20 +53,20 @@ module _ (m : Meaning Command) where
     stop_identities [] w used = tt
     stop_identities (x ∷ objects) w used = stop_then r w (identity_course m x w used) (λ v used. identities m objects v used) (stop_identity x w used) (λ v used. stop_identities objects v used)
 
-    stop_rounds : (n : ℕ) (w : World Command) (used : ℕ) → MayStop r (rounds m n w used).stop
+    stop_rounds : (n : ℕ) (w : World Command) (used : ℕ) → MayStop r (rounds m 0 n w used).stop
     stop_rounds zero w used = tt
     stop_rounds (suc n) w used =
-        stop_either r (nat_lt 1 (length (work m w))) (and_then m w (identities m (others m w) w used) (λ v used. rounds m n v used)) (course (finish_steps m w) used Through)
-        (stop_then r w (identities m (others m w) w used) (λ v used. rounds m n v used) (stop_identities (others m w) w used) (λ v used. stop_rounds n v used)) tt
+        stop_either r (must_log m 0 w) (and_then m w (identities m (others m 0 w) w used) (λ v used. rounds m 0 n v used)) (course (finish_steps m w) used Through)
+        (stop_then r w (identities m (others m 0 w) w used) (λ v used. rounds m 0 n v used) (stop_identities (others m 0 w) w used) (λ v used. stop_rounds n v used)) tt
 
-    stop_install : (w : World Command) (used : ℕ) → MayStop r (install_course m w used).stop
-    stop_install w used = stop_either r (has_members m w) (rounds m m.objects w used) (course [] used Through) (stop_rounds m.objects w used) tt
+    stop_install : (w : World Command) (used : ℕ) → MayStop r (install_course m 0 w used).stop
+    stop_install w used = stop_either r (has_members m w) (rounds m 0 m.objects w used) (course [] used Through) (stop_rounds m.objects w used) tt
 
-    stop_drains : (n : ℕ) (w : World Command) (used : ℕ) → MayStop r (drains m n w used).stop
+    stop_drains : (n : ℕ) (w : World Command) (used : ℕ) → MayStop r (drains m 0 n w used).stop
     stop_drains zero w used = tt
     stop_drains (suc n) w used =
-        stop_either r (has_members m w) (and_then m w (rounds m m.objects w used) (λ v used. drains m n v used)) (course [] used Through)
-        (stop_then r w (rounds m m.objects w used) (λ v used. drains m n v used) (stop_rounds m.objects w used) (λ v used. stop_drains n v used)) tt
+        stop_either r (has_members m w) (and_then m w (rounds m 0 m.objects w used) (λ v used. drains m 0 n v used)) (course [] used Through)
+        (stop_then r w (rounds m 0 m.objects w used) (λ v used. drains m 0 n v used) (stop_rounds m.objects w used) (λ v used. stop_drains n v used)) tt
 
   stop_check : (w : World Command) (used : ℕ) → MayStop checkpoint (check_course m w used).stop
   stop_check w used =
@@ -115,8 +118,8 @@ module _ (m : Meaning Command) where
 
   -- it adds no command
   pub are_upkeep : (epoch : ℕ) (r : Request) → IsUpkeep r → (w : World Command) (used : ℕ) → AreUpkeep (upkeep_course epoch r m w used).steps
-  are_upkeep epoch install is w used = upkeep_install m w used
-  are_upkeep epoch drain is w used = upkeep_drain m w used
+  are_upkeep epoch install is w used = upkeep_install m 0 w used
+  are_upkeep epoch drain is w used = upkeep_drain m 0 w used
   are_upkeep epoch checkpoint is w used = upkeep_checkpoint w used
   are_upkeep epoch trim is w used = upkeep_trim epoch w used
   are_upkeep epoch r is w used = absurd is
@@ -145,10 +148,22 @@ module _ (m : Meaning Command) where
   logged_room : (w : World Command) (n : ℕ) → logged_in (room_steps m w n) ≡ []
   logged_room w n = logged_if (nat_lt (2 ^ 30) (buffered m w + n)) (force_steps m w) [] (logged_force w) refl
 
-  pub logged_placed : (w : World Command) (used limit n : ℕ) (numbered : Bool) (steps : List (Step Command)) → logged_in steps ≡ [] → logged_in (placed m w used limit n numbered steps).steps ≡ []
-  logged_placed w used limit n numbered steps none =
-      logged_either (nat_lt limit (grown m w used n)) (course (force_steps m w) used (Full used (n + 5) limit)) (if numbered && nat_le (2 ^ 62) (end_of w) then course (force_steps m w) used (At_end (end_of w)) else course steps (grown m w used n) Through) (logged_force w)
-      (logged_either (numbered && nat_le (2 ^ 62) (end_of w)) (course (force_steps m w) used (At_end (end_of w))) (course steps (grown m w used n) Through) (logged_force w) none)
+  logged_unplaced : (grouped : Bool) (w : World Command) → logged_in (unplaced_steps m grouped w) ≡ []
+  logged_unplaced true w = refl
+  logged_unplaced false w = logged_force w
+
+  pub logged_command : (grouped : Bool) (limit : ℕ) (op : Command) (w : World Command) (used : ℕ) → logged_in (append_course m grouped limit op w used).steps ≡ []
+  logged_command grouped limit op w used =
+      let n = command_length m op in
+      let without = unplaced_steps m grouped w in
+      let none = logged_unplaced grouped w in
+      let appended = course (Append (Logged_command op) ∷ []) (grown m w used n) Through in
+      let last = course without used (At_end (end_of w)) in
+      logged_either (nat_lt limit (grown m w used n)) (course without used (Full used (needed m grouped w n) limit)) (if nat_le (2 ^ 62) (end_of w) then last else appended) none
+      (logged_either (nat_le (2 ^ 62) (end_of w)) last appended none refl)
+
+  pub logged_begin : (w : World Command) (used : ℕ) → logged_in (begin_course m w used).steps ≡ []
+  logged_begin w used = logged_append (force_steps m w) (Begin ∷ []) (logged_force w) refl
 
   logged_check : (w : World Command) (used : ℕ) → logged_in (check_course m w used).steps ≡ []
   logged_check w used =

@@ -1,5 +1,5 @@
 -- What was said in answer to a script, taken apart again.
-use Rattle.std.proofs.Common.{◌≡◌, ◌≢◌, ◌∙◌, ◌+◌, ◌%◌, ◌==◌, ◌<◌, ◌≤◌, ◌++◌, List, [], ◌∷◌, ℕ, zero, suc, get_or, length, length-append, refl, ap, sym, arith, append_assoc, Bool, true, false, cond, codes}
+use Rattle.std.proofs.Common.{◌≡◌, ◌≢◌, ◌∙◌, ◌+◌, ◌%◌, ◌==◌, ◌<◌, ◌≤◌, ◌++◌, List, [], ◌∷◌, ℕ, zero, suc, get_or, length, length-append, refl, ap, sym, arith, append_assoc, Bool, true, false, cond, codes, Option}
 use Rattle.std.specs.Prelude.{count_by, ◌&&◌, ◌||◌}
 use Rattle.std.specs.Fmt.{decimal}
 use Rattle.std.specs.List.{flat_map, starts_with, slice_split, onto_first}
@@ -8,10 +8,11 @@ use Rattle.std.proofs.lemmas.List.Splits.{length-slice_split}
 use Rattle.std.proofs.lemmas.List.Sums.{sum_by-cons, sum_by-append}
 use borrow.Author.Tests.{ne_eqb}
 use Rattle.script_lines.specs.Reading.{IsPlain}
-use Rattle.script_lines.specs.Replies.{Reply, ok, value, ran, pairs, forced, bad, refused, bad_tree, tree_full, full, end, object_value, command_count, stat, summary, silence, hex_glyph, hex_pair, hex_text, spaced, spaced_pair, numbers_of, text_of, said_line}
+use Rattle.script_lines.specs.Replies.{Reply, ok, value, ran, pairs, forced, bad, refused, bad_tree, tree_full, in_group, no_group, full, end, object_value, command_count, stat, summary, silence, hex_glyph, hex_pair, hex_text, spaced, spaced_pair, numbers_of, text_of, said_line}
 use Rattle.formats.specs.declared.params.Params.{Params}
 use Rattle.redo_shell.specs.Answers.{Answers}
 use Rattle.redo_shell.specs.Demo.{is_newline, is_refusal, refusal_count}
+use Rattle.redo_shell.specs.Groups.{Account}
 use Rattle.redo_shell.specs.Printed.{texts_of}
 use Rattle.redo_shell.specs.Replies.{Replies, is_refusing}
 use Rattle.redo_shell.specs.Store.{Command}
@@ -92,27 +93,29 @@ key_kind (a ∷ []) rest =
 key_kind (a ∷ b ∷ key) rest = digits_kind a b (flat_map hex_pair key ++ 58 ∷ rest)
 
 -- the text of an answer to a line is a refusal's exactly where the answer is one
-text_kind : (p : Params) (commands : List Command) (line : List ℕ) (reply : Reply) (added : List Command) → Replies p commands line reply added → is_refusal (text_of reply) ≡ is_refusing reply
+text_kind : (p : Params) (group : Option ℕ) (commands : List Command) (line : List ℕ) (reply : Reply) (added : List Command) → Replies p group commands line reply added → is_refusal (text_of reply) ≡ is_refusing reply
 unfolding text_of
-text_kind p commands line ok added is = refl
-text_kind p commands line (value bytes) added is = value_kind bytes
-text_kind p commands line (ran n) added is = no_refusal (codes "ran " ++ decimal n) refl refl refl (neither (length (codes "ran " ++ decimal n) == 3))
-text_kind p commands line (pairs pair others) added is =
+text_kind p group commands line ok added is = refl
+text_kind p group commands line (value bytes) added is = value_kind bytes
+text_kind p group commands line (ran n) added is = no_refusal (codes "ran " ++ decimal n) refl refl refl (neither (length (codes "ran " ++ decimal n) == 3))
+text_kind p group commands line (pairs pair others) added is =
     ap (λ (l : List ℕ). is_refusal l) (append_assoc (flat_map hex_pair pair.0) (58 ∷ flat_map hex_pair pair.1) (flat_map spaced_pair others))
     ∙ key_kind pair.0 (flat_map hex_pair pair.1 ++ flat_map spaced_pair others)
-text_kind p commands line (forced n) added is = no_refusal (codes "forced " ++ decimal n) refl refl refl (neither (length (codes "forced " ++ decimal n) == 3))
-text_kind p commands line bad added is = refl
-text_kind p commands line (refused why) added is = refl
-text_kind p commands line bad_tree added is = refl
-text_kind p commands line tree_full added is = refl
-text_kind p commands line (full used need limit) added is = refl
-text_kind p commands line (end number) added is = refl
-text_kind p commands line (stat counts) added is =
+text_kind p group commands line (forced n) added is = no_refusal (codes "forced " ++ decimal n) refl refl refl (neither (length (codes "forced " ++ decimal n) == 3))
+text_kind p group commands line bad added is = refl
+text_kind p group commands line (refused why) added is = refl
+text_kind p group commands line bad_tree added is = refl
+text_kind p group commands line tree_full added is = refl
+text_kind p group commands line in_group added is = refl
+text_kind p group commands line no_group added is = refl
+text_kind p group commands line (full used need limit) added is = refl
+text_kind p group commands line (end number) added is = refl
+text_kind p group commands line (stat counts) added is =
     no_refusal (codes "stat" ++ flat_map spaced (numbers_of counts)) refl refl refl (neither (length (codes "stat" ++ flat_map spaced (numbers_of counts)) == 3))
-text_kind p commands line silence added is = refl
-text_kind p commands line (object_value object bytes) added is = absurd is
-text_kind p commands line (command_count n) added is = absurd is
-text_kind p commands line (summary totals) added is = absurd is
+text_kind p group commands line silence added is = refl
+text_kind p group commands line (object_value object bytes) added is = absurd is
+text_kind p group commands line (command_count n) added is = absurd is
+text_kind p group commands line (summary totals) added is = absurd is
 
 none_first : (n : ℕ) → n ≡ 0 + n
 none_first n = omega arith
@@ -125,18 +128,18 @@ kind_more reply replies kind rest =
     ∙ (λ i. cond (kind i) 1 0 + rest i)
     ∙ sym (sum_by-cons (λ (r : Reply). cond (is_refusing r) 1 0) reply replies)
 
-kinds_are : (p : Params) (commands : List Command) (lines : List (List ℕ)) (replies : List Reply) (added : List Command) → Answers p commands lines replies added → count_by is_refusal (texts_of replies) ≡ count_by is_refusing replies
-kinds_are p commands [] [] added is = refl
-kinds_are p commands (line ∷ lines) (reply ∷ replies) added (here, more, replied, others, all) = kind_more reply replies (text_kind p commands line reply here replied) (kinds_are p (commands ++ here) lines replies more others)
-kinds_are p commands [] (reply ∷ replies) added is = absurd is
-kinds_are p commands (line ∷ lines) [] added is = absurd is
+kinds_are : (p : Params) (a : Account) (lines : List (List ℕ)) (replies : List Reply) (waits : List (List Command)) (b : Account) → Answers p a lines replies waits b → count_by is_refusal (texts_of replies) ≡ count_by is_refusing replies
+kinds_are p a [] [] [] b is = refl
+kinds_are p a (line ∷ lines) (reply ∷ replies) (ops ∷ waits) b (here, mid, replied, same, after, others) =
+    kind_more reply replies (text_kind p a.group a.commands line reply here replied) (kinds_are p mid lines replies waits b others)
+kinds_are p a lines replies waits b is = absurd is
 
 none_more : (n : ℕ) → n + 0 ≡ n
 none_more n = omega arith
 
-pub refusals_are : (p : Params) (commands : List Command) (lines : List (List ℕ)) (replies : List Reply) (added : List Command) → Answers p commands lines replies added → refusal_count (flat_map said_line replies) ≡ count_by is_refusing replies
-refusals_are p commands lines replies added is =
+pub refusals_are : (p : Params) (a : Account) (lines : List (List ℕ)) (replies : List Reply) (waits : List (List Command)) (b : Account) → Answers p a lines replies waits b → refusal_count (flat_map said_line replies) ≡ count_by is_refusing replies
+refusals_are p a lines replies waits b is =
     ap (λ (l : List (List ℕ)). count_by is_refusal l) (split_said replies)
     ∙ sum_by-append (λ (l : List ℕ). cond (is_refusal l) 1 0) (texts_of replies) ([] ∷ [])
     ∙ none_more (count_by is_refusal (texts_of replies))
-    ∙ kinds_are p commands lines replies added is
+    ∙ kinds_are p a lines replies waits b is

@@ -1,5 +1,5 @@
 -- A script that was run on a new store.
-use Rattle.std.proofs.Common.{◌≡◌, ◌≢◌, ◌⊎◌, ⊎_elim, ◌∙◌, ◌++◌, List, ℕ, [], length, ap, sym, subst}
+use Rattle.std.proofs.Common.{◌≡◌, ◌≢◌, ◌⊎◌, ⊎_elim, ◌∙◌, ◌++◌, List, ℕ, [], length, ap, refl, sym, subst}
 use Rattle.std.specs.List.{flat_map}
 use Rattle.disk_model.specs.Disk.{Disk, Runs, Same, SaysFront}
 use Rattle.disk_model.specs.Growing.{disk_of}
@@ -19,12 +19,15 @@ pub played : {told : Type 0} {left rest : List ℕ} {new : Disk} {status : Statu
 played machine last accepted call tells fresh none done files counted =
     let on = call.script demo_params [] (record { told = tt; stands = fresh.stands }) tells in
     let all = on.complete on.first.0 on.first.1 done in
-    let count = counted all.acc (record { told = files; stands = all.stands.0 }) in
+    let count = counted all.account.commands (record { told = files; stands = all.stands.0 }) in
     record {
       replies = all.replies;
-      added = all.acc;
+      added = all.account.commands;
       answered = record {
+        waits = all.waits;
+        account = all.account;
         answers = all.answers;
+        added_is = refl;
         machine = machine;
         new = fresh;
         first = on.first.0;

@@ -1,5 +1,5 @@
 -- What a dump says, row by row, and what its moments leave.
-use Rattle.std.proofs.Common.{inl, inr, ◌≡◌, ◌≢◌, ◌<◌, ◌+◌, ◌++◌, List, ℕ, suc, [], ◌∷◌, length, take, sym, ap, ◌∙◌, subst, arith}
+use Rattle.std.proofs.Common.{inl, inr, ◌≡◌, ◌≢◌, ◌<◌, ◌+◌, ◌++◌, List, ℕ, suc, [], ◌∷◌, length, take, sym, ap, ◌∙◌, subst, arith, Option, None}
 use Rattle.std.proofs.lemmas.List.{append-nil, take_all}
 use Rattle.std.proofs.Math.Path.{fun_ext}
 use Rattle.disk_model.specs.declared.machine.FileNo.{FileNo}
@@ -14,6 +14,7 @@ use Rattle.standing.specs.Standing.{FilesShow}
 use Rattle.cache_manager.specs.Forced.{files_shown}
 use Rattle.restart.specs.Starts.{OrAtStart, or_weaker, from_settled}
 use Rattle.store_engine.specs.Engine.{EngineView, InEachImage, forced_in}
+use Rattle.store_engine.specs.Grouping.{ungrouped}
 use Rattle.redo_shell.specs.Store.{Command, meaning_in, Stands, Opens, state_of, Holds, Between}
 use Rattle.redo_shell.specs.Courses.{OpeningMoment, TableMoment}
 use Rattle.redo_shell.specs.Open.{IsOpen, OpensFiles}
@@ -59,8 +60,8 @@ whole_table p commands objects accepted text row new all count rows is more =
     ∙ sym (flat_map-append said_line (rows_below (state_of p commands) p.objects) (command_count (length commands) ∷ []))
 
 -- while the store is opened, or read, nothing is said
-opens_dump : (p : Params) (old : Disk) (commands : List Command) (files : Files) (said : List ℕ) → Between p old (length commands) commands files said → DumpMoment p commands old.said files said
-opens_dump p old commands files said b =
+opens_dump : (p : Params) (old : Disk) (group : Option ℕ) (commands : List Command) (files : Files) (said : List ℕ) → Between p old group (length commands) (length commands) commands files said → DumpMoment p commands old.said files said
+opens_dump p old group commands files said b =
     let enough = b.enough in
     record {
       stands = subst (λ (l : List Command). Stands p files l) (take_all b.kept commands enough) b.stands;
@@ -68,16 +69,16 @@ opens_dump p old commands files said b =
       said_is = b.quiet ∙ sym (append-nil old.said);
     }
 
-pub dump_opens : (p : Params) (old mid : Disk) (commands : List Command) → LeavesOnly old mid (Between p old (length commands) commands) → LeavesOnly old mid (DumpMoment p commands old.said)
-dump_opens p old mid commands opening = weaker old mid (Between p old (length commands) commands) (DumpMoment p commands old.said) opening (opens_dump p old commands)
+pub dump_opens : (p : Params) (old mid : Disk) (group : Option ℕ) (commands : List Command) → LeavesOnly old mid (Between p old group (length commands) (length commands) commands) → LeavesOnly old mid (DumpMoment p commands old.said)
+dump_opens p old mid group commands opening = weaker old mid (Between p old group (length commands) (length commands) commands) (DumpMoment p commands old.said) opening (opens_dump p old group commands)
 
 dump_opening : (p : Params) (old mid : Disk) (commands : List Command) → OpensSo p old mid commands → old.tells_moments → LeavesOnly old mid (OrAtStart old (DumpMoment p commands old.said))
-dump_opening p old mid commands opening told = or_weaker old mid (Between p old (length commands) commands) (DumpMoment p commands old.said) (opening told) (opens_dump p old commands)
+dump_opening p old mid commands opening told = or_weaker old mid (Between p old None (length commands) (length commands) commands) (DumpMoment p commands old.said) (opening told) (opens_dump p old None commands)
 
 -- while an open store is read nothing is said
 pub dump_reads : (p : Params) (old mid : Disk) (engine : EngineView) (commands : List Command) → Stays old mid → Holds p old engine commands → (forced_in engine) ≡ length commands → old.tells_moments
     → LeavesOnly old mid (DumpMoment p commands old.said)
-dump_reads p old mid engine commands run h all told = dump_opens p old mid commands (subst (λ (n : ℕ). LeavesOnly old mid (Between p old n commands)) all (stays_between run h told))
+dump_reads p old mid engine commands run h all told = dump_opens p old mid engine.group commands (subst (λ (n : ℕ). LeavesOnly old mid (Between p old engine.group n (length commands) commands)) all (stays_between run h told))
 
 -- then the table is said
 pub dump_says : (p : Params) (old mid new : Disk) (engine : EngineView) (commands : List Command) (text : List ℕ) → Stays old mid → Holds p old engine commands → (forced_in engine) ≡ length commands → text ≡ dump_of p commands
@@ -133,7 +134,7 @@ module _ (p : Params) (old mid new : Disk) (commands : List Command) (engine : E
   opened_shows : FilesShow (meaning_in p) p mid.reads first.world
   opened_shows =
       let shown = opened.shows first is in
-      subst (λ (s : Stage). FilesShow (meaning_in p) p mid.reads s.world) (sym shown.1) (files_shown (meaning_in p) p mid engine.parts shown.0.world shown.0.shows.shows)
+      subst (λ (s : Stage). FilesShow (meaning_in p) p mid.reads s.world) (sym shown.1) (files_shown (meaning_in p) p mid engine.parts (ungrouped shown.0.world) shown.0.shows.shows)
 
   pub dump_shows : mid.tells_files → FilesShow (meaning_in p) p new.reads first.world
   dump_shows told = subst (λ (f : Files). FilesShow (meaning_in p) p f first.world) (sym (keeps.reads told)) opened_shows

@@ -1,5 +1,5 @@
 -- What a fetch leaves.
-use Rattle.std.proofs.Common.{◌≡◌, ◌≤◌, List, ℕ, ap, subst, sym, arith, Bool, true, false}
+use Rattle.std.proofs.Common.{◌≡◌, inl, List, ℕ, ap, subst, arith, Bool, true, false}
 use Rattle.std.proofs.lemmas.Bool.{false_from_ne_true}
 use Rattle.disk_model.specs.Disk.{Disk, Stays}
 use Rattle.disk_model.specs.declared.machine.FileNo.{FileNo}
@@ -7,10 +7,9 @@ use Rattle.formats.specs.declared.params.Params.{Params}
 use Rattle.op_codec.specs.AllOps.{all_meaning}
 use Rattle.log_frames.specs.LogView.{used_of}
 use Rattle.log_records.specs.RecordLog.{RecordLogView}
-use Rattle.explain_core.specs.World.{World}
 use Rattle.execution.specs.declared.exec_err.ExecErr.{ExecErr}
 use Rattle.execution.specs.declared.exec_err.ExecErr.TheVariants.{Damaged}
-use Rattle.store_engine.specs.Engine.{EngineView, forced_in}
+use Rattle.store_engine.specs.Engine.{EngineView}
 use Rattle.store_engine.specs.Engine as of_engine
 use Rattle.store_engine.specs.FailureLaws.{none_damaged}
 use Rattle.store_engine.specs.Failures.{IsFetchFailure}
@@ -33,6 +32,7 @@ fetched_kept {p} {old} {new} {before} {after} {commands} holds shows log identit
       says = says (record { world = holds.world; shows = shows; commands_are = holds.commands_are });
     };
     rising = let same = ap (λ (l : RecordLogView). l.forced) log in omega (arith, same);
+    which = inl (ap (λ (l : RecordLogView). l.forced) log);
   },
   λ i. record { world = holds.world; used = used_of (log i).log; identities = identities i },
 )

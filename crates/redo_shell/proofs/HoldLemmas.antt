@@ -1,5 +1,5 @@
 -- Engine and files that stand for commands, over calls that write nothing.
-use Rattle.std.proofs.Common.{◌≡◌, ◌⊎◌, ⊎_elim, ◌≤◌, List, ℕ, take, sym, ap, ◌∙◌, subst, arith, Result, Ok, Err, OnOk}
+use Rattle.std.proofs.Common.{◌≡◌, ◌⊎◌, inl, ⊎_elim, ◌≤◌, List, ℕ, length, take, refl, sym, ap, ◌∙◌, subst, arith, Result, Ok, Err, OnOk}
 use Rattle.disk_model.specs.Disk.{Files, Disk, IsDisk, Runs, Stays, Same, IsSettled, LeavesOnly, Rises}
 use Rattle.disk_model.specs.Moments.{started, first_call}
 use Rattle.disk_model.specs.declared.machine.FileNo.TheVariants.{Objects}
@@ -12,8 +12,9 @@ use Rattle.cache_manager.specs.KeptLaws.{shown_attached, stays_log}
 use Rattle.cache_manager.specs.Laid.{IsLaidOn, values_in}
 use Rattle.cache_manager.specs.Parts.{ShowsStore}
 use Rattle.store_engine.specs.Engine.{EngineView, InEachImage, forced_in, used_in}
-use Rattle.redo_shell.specs.Store.{IsAttached}
 use Rattle.store_engine.specs.Engine as of_engine
+use Rattle.store_engine.specs.Grouping.{ungrouped}
+use Rattle.redo_shell.specs.Store.{IsAttached}
 use Rattle.redo_shell.specs.Store.{Command, meaning_in, state_of, Stands, ShowsIn, Says, Holds, Between}
 
 -- as the engine says it
@@ -69,11 +70,13 @@ shows_stays {p} {d} {new} {engine} {w} run shows =
     let log = here.log in
     record {
       unbroken = shows.unbroken;
+      sound = shows.sound;
+      group = shows.group;
       shows = record {
         told = run.time.files_told.0 here.told;
         running = here.running;
         bounds = here.bounds;
-        store = subst (λ (f : Files). ShowsStore (meaning_in p) p (f Objects) engine.parts.store w) (sym (run.reads here.told)) here.store;
+        store = subst (λ (f : Files). ShowsStore (meaning_in p) p (f Objects) engine.parts.store (ungrouped w)) (sym (run.reads here.told)) here.store;
         log = record {
           stable = log.stable;
           pending = log.pending;
@@ -86,6 +89,7 @@ shows_stays {p} {d} {new} {engine} {w} run shows =
           pending_tables = log.pending_tables;
         };
       };
+      no_check = shows.no_check;
     }
 
 -- and so does what the images and the map say
@@ -96,6 +100,7 @@ says_stays {p} {d} {new} {engine} {commands} run told here = record {
   images = each_stays {P = λ (f : Files). Stands p f (take (forced_in engine) commands)} run told here.images;
   map_is = λ x below. subst (λ (f : Files). values_in engine.parts.store.objects (f Objects) x ≡ state_of p commands x) (sym (run.reads told)) (here.map_is x below);
   none_waits = λ none. let all = here.none_waits none in (all.0, each_stays {P = λ (f : Files). EndsAt f (used_in engine)} run told all.1);
+  group_waits = here.group_waits;
 }
 
 -- engine and files stand for the same commands after a call that writes no file
@@ -108,24 +113,26 @@ holds_stays run holds = record {
 }
 
 -- where no call is made, each image stands for what is forced
-pub holds_between : {p : Params} {d : Disk} {engine : EngineView} {commands : List Command} → IsDisk d → Holds p d engine commands → d.tells_moments → LeavesOnly d d (Between p d (forced_in engine) commands)
-holds_between {p} {d} {engine} {commands} lawful holds told = started d (Between p d (forced_in engine) commands) (λ f s left. record {
+pub holds_between : {p : Params} {d : Disk} {engine : EngineView} {commands : List Command} → IsDisk d → Holds p d engine commands → d.tells_moments → LeavesOnly d d (Between p d engine.group (forced_in engine) (length commands) commands)
+holds_between {p} {d} {engine} {commands} lawful holds told = started d (Between p d engine.group (forced_in engine) (length commands) commands) (λ f s left. record {
   quiet = lawful.said_now told f s left;
   kept = forced_in engine;
   enough = omega arith;
   within = holds.says.forced;
+  which = inl refl;
   stands = holds.says.images.1 told f s left;
 })
 
 -- calls that change nothing leave what is forced
-pub stays_between : {p : Params} {d new : Disk} {engine : EngineView} {commands : List Command} → Stays d new → Holds p d engine commands → d.tells_moments → LeavesOnly d new (Between p d (forced_in engine) commands)
-stays_between {p} {d} {new} {engine} {commands} run holds told = first_call d new (Between p d (forced_in engine) commands) told run.time (λ f s left.
+pub stays_between : {p : Params} {d new : Disk} {engine : EngineView} {commands : List Command} → Stays d new → Holds p d engine commands → d.tells_moments → LeavesOnly d new (Between p d engine.group (forced_in engine) (length commands) commands)
+stays_between {p} {d} {new} {engine} {commands} run holds told = first_call d new (Between p d engine.group (forced_in engine) (length commands) commands) told run.time (λ f s left.
     let from = run.crash told f s left in
     record {
       quiet = from.1;
       kept = forced_in engine;
       enough = omega arith;
       within = holds.says.forced;
+      which = inl refl;
       stands = subst (λ (x : Files). Stands p x (take (forced_in engine) commands)) (sym from.0.2) (holds.says.images.1 told from.0.0 d.said from.0.1);
     })
 
@@ -145,4 +152,4 @@ always (Err e) here = tt
 
 -- an engine that stands for commands is on its files
 pub attached_of : {p : Params} {d : Disk} {engine : EngineView} {commands : List Command} → Holds p d engine commands → IsAttached d engine
-attached_of {p} {d} {engine} holds = shown_attached all_meaning p d engine.parts holds.world holds.shows.shows
+attached_of {p} {d} {engine} holds = shown_attached all_meaning p d engine.parts (ungrouped holds.world) holds.shows.shows

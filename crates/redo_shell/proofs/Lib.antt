@@ -28,3 +28,8 @@ pub mod RestartLemmas
 pub mod SumLemmas
 pub mod DemoLemmas
 pub mod DemoPlayed
+pub mod GroupsOfLists
+pub mod GroupLemmas
+pub mod OpenGroups
+pub mod FinishLemmas
+pub mod GroupingLemmas

@@ -1,14 +1,13 @@
 -- What a line that asks for several commands is answered, where they are done, or one of them is stopped.
-use Rattle.std.proofs.Common.{◌≡◌, ◌∙◌, ap, sym, subst, refl, ◌⊎◌, inl, inr, ⊎_elim, ◌≤◌, ◌<◌, ◌+◌, ◌^◌, ◌++◌, ℕ, zero, suc, Bool, List, [], ◌∷◌, length, length-append, take, drop, arith, Option, Some, None, Result, Ok, Err, IfOk, IfErr, true, false}
-use Rattle.std.specs.Prelude.{⊤, ◌&&◌, nat_lt, nat_le, map, replicate, if◌then◌else◌}
+use Rattle.std.proofs.Common.{◌≡◌, ◌∙◌, ap, sym, subst, refl, ◌⊎◌, inl, inr, ⊎_elim, ◌≤◌, ◌<◌, ◌+◌, ◌^◌, ◌++◌, ℕ, zero, suc, Bool, List, [], ◌∷◌, length, length-append, take, arith, Option, Some, None, Result, Ok, Err, IfOk, IfErr, true, false}
+use Rattle.std.specs.Prelude.{⊤, nat_lt, nat_le, map, if◌then◌else◌}
+use Rattle.std.specs.Option.{is_some}
 use Rattle.std.proofs.lemmas.Bool.{cond_both}
 use Rattle.std.proofs.lemmas.Bool.Decides.{nat_tests}
-use Rattle.std.proofs.lemmas.List.{take-append-drop, take_all}
-use Rattle.disk_model.specs.Disk.{Files, Disk, LeavesOnly, Rises}
+use Rattle.std.proofs.lemmas.List.{length-take-le, take-append-drop, take_all}
+use Rattle.disk_model.specs.Disk.{Disk, LeavesOnly, Rises}
 use Rattle.disk_model.specs.Moments.{weaker}
-use Rattle.disk_model.specs.declared.machine.FileNo.{FileNo}
-use Rattle.oper_core.specs.Meaning.{Meaning, after, refusal_of}
-use Rattle.oper_core.specs.State.{State}
+use Rattle.oper_core.specs.Meaning.{Meaning, after}
 use Rattle.oper_core.specs.declared.refusal.Refusal.{Refusal}
 use Rattle.oper_core.specs.declared.refusal.Refusal.TheVariants as refusals
 use Rattle.formats.specs.Objects.{bounds_of}
@@ -23,42 +22,43 @@ use Rattle.logical_btree.specs.Plan.{Plan, Next, splits, puts, refuses, delete_o
 use Rattle.logical_btree.specs.declared.refusal.TreeRefusal.{TreeRefusal}
 use Rattle.logical_btree.specs.declared.refusal.TreeRefusal.TheVariants.{NoObject, BadTree, TreeFull, NoKey}
 use Rattle.op_codec.specs.AllOps.{all_meaning}
-use Rattle.op_codec.specs.declared.all_ops.AllOps.TheVariants.{Exec, Node}
+use Rattle.op_codec.specs.declared.all_ops.AllOps.TheVariants.{Node}
 use Rattle.explain_core.specs.History.{Member, commands_of}
 use Rattle.explain_core.specs.History.Member.{Command as Logged, Identity}
 use Rattle.explain_core.specs.RunLaws.{run-append}
-use Rattle.explain_core.specs.World.{World, Step, step, run, end_of}
-use Rattle.explain_core.specs.World.Step.{Append}
+use Rattle.explain_core.specs.World.{World, step, run, end_of}
 use Rattle.cache_manager.specs.CourseLaws.{behind_both, through_is}
-use Rattle.cache_manager.specs.Courses.{Course, Stop, course, behind, placed, grown, force_steps, logged_in}
-use Rattle.cache_manager.specs.Courses.Stop.{Through, Full, At_end, Worn}
+use Rattle.cache_manager.specs.Courses.{Course, Stop, behind, grown, logged_in}
+use Rattle.cache_manager.specs.Courses.Stop.{Through, Full, At_end}
 use Rattle.cache_manager.specs.Taking.{Ending}
 use Rattle.cache_manager.specs.Taking.Ending.{Done, Stopped, Short, Failed}
-use Rattle.command_lists.specs.Lists.{AddsFront, AreCalls, HasReached, IsBehind, IsNeed, IsStoppedAt, IsUndamaged as IsSound, commands_course, ending_of}
+use Rattle.command_lists.specs.Lists.{AddsFront, AreCalls, HasReached, IsBehind, IsStoppedAt, IsUndamaged as IsSound, commands_course, ending_of, larger}
 use Rattle.execution.specs.Courses.{append_course, command_length}
 use Rattle.execution.specs.declared.exec_err.ExecErr.{ExecErr}
 use Rattle.execution.specs.declared.exec_err.ExecErr.TheVariants as exec_errors
-use Rattle.script_lines.specs.Grammar.{Request, put, copy, append, cut, sort, swap, exec, aread, awrite, arun, tinsert, tdelete, AsksFor}
+use Rattle.script_lines.specs.Grammar.{Request, put, copy, append, cut, sort, swap, exec, aread, awrite, arun, tinsert, tdelete, begin_group, end_group, AsksFor}
 use Rattle.script_lines.specs.Replies.{Reply, ok, ran, refused, bad_tree, tree_full, full, end, reply_of}
 use Rattle.script_lines.specs.declared.answer.Answer.{Answer}
 use Rattle.script_lines.specs.declared.answer.Answer.TheVariants as answers
-use Rattle.store_engine.specs.Engine.{EngineView, IsFailed, forced_in, params_of, used_in}
+use Rattle.store_engine.specs.Engine.{EngineView, IsFailed, forced_in, group_size, needed_in, params_of, used_in}
 use Rattle.redo_shell.specs.Store.{IsAttached, IsCall}
-use Rattle.redo_shell.specs.Found.{IsAnswerTo, IsEndedBy, IsDone, IsMade, IsOfEngine, answer_of_error}
-use Rattle.redo_shell.specs.Made.{AsksMade, AsksBehind, IsFront, Made, end_reply, made, made_by, one_made, one_unless, plan_made, plan_reply, run_made, run_reply, tree_reply}
+use Rattle.redo_shell.specs.Found.{IsAnswerTo, IsEndedBy, IsDone, IsMade, IsOfEngine}
+use Rattle.redo_shell.specs.Groups.{Regroups, group_after, open_in, size_of}
+use Rattle.redo_shell.specs.Made.{AsksMade, AsksBehind, Made, end_reply, made, made_by, one_unless, plan_made, plan_reply, run_reply}
 use Rattle.tree_client.specs.Answers.{made_of}
 use Rattle.app_steps.specs.Steps.{step_of, steps_accepted}
 use Rattle.redo_shell.specs.Replies.{Replies}
 use Rattle.redo_shell.specs.Run.{IsCaused, IsUndamaged, Working}
-use Rattle.redo_shell.specs.Stages.{Ends, GoesBy, Stage, stage_of, stage_after}
-use Rattle.redo_shell.specs.Store.{Between, Command, Holds, ShowsIn, meaning_in, record_length, refusal_after, state_of}
+use Rattle.redo_shell.specs.Stages.{Ends, GoesBy, stage_of}
+use Rattle.redo_shell.specs.Store.{Between, Command, Holds, meaning_in, record_length, refusal_after, state_of}
 use Rattle.redo_shell.specs.declared.stop.Stop.{Stop as Early}
 use Rattle.redo_shell.specs.declared.stop.Stop.TheVariants.{DiskFault, Damaged, Memory}
 use Rattle.redo_shell.proofs.MomentLemmas.{Works, works_by}
-use Rattle.redo_shell.proofs.DoneLemmas.{asks_in, still_attached, still_whole}
+use Rattle.redo_shell.proofs.DoneLemmas.{asks_in, last_number, left_stopped, over_limit, still_attached, still_whole}
+use Rattle.redo_shell.proofs.GroupsOfLists.{open_same}
 use Rattle.redo_shell.proofs.MadeLemmas.{made_ends}
+use Rattle.redo_shell.proofs.OpenGroups.{open_size}
 use Rattle.redo_shell.proofs.RunLemmas.{none_more, run_nothing}
-use Rattle.redo_shell.proofs.UpkeepLemmas.{IsOk}
 
 -- the answer to a line whose commands are all done
 abbrev IsEnd : Reply → Type 0
@@ -152,32 +152,32 @@ some_given mine it same here = subst HasSome (let e : mine ≡ it = cc same in e
 
 -- how the commands end
 module _ (m : Meaning Command) (limit : ℕ) where
-  low_end : (op : Command) (w : World Command) (used : ℕ) → (append_course m limit op w used).stop ≡ Through → end_of (run m w (append_course m limit op w used).steps) ≤ 2 ^ 62
+  low_end : (grouped : Bool) (op : Command) (w : World Command) (used : ℕ) → (append_course m grouped limit op w used).stop ≡ Through → end_of (run m w (append_course m grouped limit op w used).steps) ≤ 2 ^ 62
   unfolding step run
-  low_end op w used =
+  low_end grouped op w used =
       let n = command_length m op in
       let P : Course Command → Type 0 = λ c. c.stop ≡ Through → end_of (run m w c.steps) ≤ 2 ^ 62 in
       cond_both (nat_lt limit (grown m w used n)) _ _ P (λ over e. cc e)
-      (λ fits. cond_both (true && nat_le (2 ^ 62) (end_of w)) _ _ P (λ last e. cc e)
+      (λ fits. cond_both (nat_le (2 ^ 62) (end_of w)) _ _ P (λ last e. cc e)
       (λ left e. let low : length w.history + 1 < 2 ^ 62 = grind (arith, nat_tests, left) in omega (arith, low, length-append w.history (Logged op ∷ []))))
 
   -- no number past the last is given
   low_after : (ops : List Command) (w : World Command) (used : ℕ) → end_of w ≤ 2 ^ 62 → (commands_course m limit ops w used).stop ≡ Through → end_of (run m w (commands_course m limit ops w used).steps) ≤ 2 ^ 62
   low_after [] w used low = λ is. subst (λ (v : World Command). end_of v ≤ 2 ^ 62) (sym (run_nothing m w)) low
   low_after (op ∷ ops) w used low =
-      let first = append_course m limit op w used in
+      let first = append_course m (is_some w.group) limit op w used in
       let second = commands_course m limit ops (run m w first.steps) first.used in
       behind_both (λ (c : Course Command). c.stop ≡ Through → end_of (run m w c.steps) ≤ 2 ^ 62) first second first.stop
-      (λ on is. subst (λ (v : World Command). end_of v ≤ 2 ^ 62) (sym (run-append m w first.steps second.steps)) (low_after ops (run m w first.steps) first.used (low_end op w used (through_is first.stop on)) is))
-      (λ ends is. low_end op w used is)
+      (λ on is. subst (λ (v : World Command). end_of v ≤ 2 ^ 62) (sym (run-append m w first.steps second.steps)) (low_after ops (run m w first.steps) first.used (low_end (is_some w.group) op w used (through_is first.stop on)) is))
+      (λ ends is. low_end (is_some w.group) op w used is)
 
   low_some : (op : Command) (ops : List Command) (w : World Command) (used : ℕ) → (commands_course m limit (op ∷ ops) w used).stop ≡ Through → end_of (run m w (commands_course m limit (op ∷ ops) w used).steps) ≤ 2 ^ 62
   low_some op ops w used =
-      let first = append_course m limit op w used in
+      let first = append_course m (is_some w.group) limit op w used in
       let second = commands_course m limit ops (run m w first.steps) first.used in
       behind_both (λ (c : Course Command). c.stop ≡ Through → end_of (run m w c.steps) ≤ 2 ^ 62) first second first.stop
-      (λ on is. subst (λ (v : World Command). end_of v ≤ 2 ^ 62) (sym (run-append m w first.steps second.steps)) (low_after ops (run m w first.steps) first.used (low_end op w used (through_is first.stop on)) is))
-      (λ ends is. low_end op w used is)
+      (λ on is. subst (λ (v : World Command). end_of v ≤ 2 ^ 62) (sym (run-append m w first.steps second.steps)) (low_after ops (run m w first.steps) first.used (low_end (is_some w.group) op w used (through_is first.stop on)) is))
+      (λ ends is. low_end (is_some w.group) op w used is)
 
 no_more_commands : (h : List (Member Command)) → length (commands_of h) ≤ length h
 no_more_commands [] = omega arith
@@ -236,6 +236,12 @@ made_some p commands it request is = of_request request it is
         (planned_there (is_there b lo hi) (delete_on key (walk lo hi s key)) (record { commands = []; refusal = Some NoObject }) (planned_delete key (walk lo hi s key)) no_object))
     of_request request it same = cc
 
+-- a line that asks for commands leaves the open group as it is
+pub made_keeps : (p : Params) (commands : List Command) (it : Made) (request : Request) → made_by p commands request ≡ Some it → (group : Option ℕ) → group_after request group commands ≡ group
+made_keeps p commands it begin_group same group = cc same
+made_keeps p commands it end_group same group = cc same
+made_keeps p commands it request same group = refl
+
 -- no identity write is logged by commands
 abbrev pub AreNoIdentities : Type 0
 AreNoIdentities = (b : Bounds) (limit : ℕ) (ops : List Command) (w : World Command) (used : ℕ) → logged_in (commands_course (all_meaning b) limit ops w used).steps ≡ []
@@ -275,8 +281,22 @@ module _ (p : Params) (old now : Disk) (before after : EngineView) (commands : L
   rises : (ending : Ending) → (IsFailed ending → ⊥) → Adds ending → forced_in before ≤ forced_in after
   rises ending working a = ⊎_elim (λ failed. absurd (working failed)) (λ here. here) a.rising
 
+  which_of : (ending : Ending) → (IsFailed ending → ⊥) → Adds ending → (forced_in after ≡ forced_in before) ⊎ ((before.group ≡ None) × (length commands ≤ forced_in after))
+  which_of ending working a = ⊎_elim (λ failed. absurd (working failed)) (λ here. here) a.which
+
+  -- in the same group, or none
+  same_group : (ending : Ending) (working : IsFailed ending → ⊥) (a : Adds ending) → open_in (reached ending working a).world ≡ open_in w
+  same_group ending working a =
+      let here = reached ending working a in
+      open_same (take a.done it.ops) holds.shows here.shows (here.commands_are ∙ ap (λ (l : List Command). l ++ take a.done it.ops) (sym holds.commands_are))
+      (a.size ∙ ap (λ (n : ℕ). larger (group_size before) n) (sym (length-take-le a.done it.ops a.front)))
+
+  regroups_so : (reply : Reply) (group : Option ℕ) → group ≡ open_in w → Regroups line reply commands (open_in w) group
+  regroups_so ok group same = (asks.request, asks.asks, same ∙ sym (made_keeps p commands it asks.request asks.makes (open_in w)))
+  regroups_so reply group same = same
+
   -- all of them are done
-  all_done : (reply : Reply) → it.reply ≡ reply → Replies p commands line reply it.ops → ((world : World Command) → Ends p (stage_of before w) line Through (stage_of after world) → GoesBy p (stage_of before w) line reply (stage_of after world))
+  all_done : (reply : Reply) → it.reply ≡ reply → Replies p (open_in w) commands line reply it.ops → ((world : World Command) → Ends p (stage_of before w) line Through (stage_of after world) → GoesBy p (stage_of before w) line reply (stage_of after world))
       → IsOfEngine after line reply → IsCall p.limit old now before after 0 Done → Adds Done → IsDone p old now before after w commands line reply
   all_done reply is replies goes is_of call a =
       let here = reached Done (λ f. f) a in
@@ -288,7 +308,9 @@ module _ (p : Params) (old now : Disk) (before after : EngineView) (commands : L
         world = here.world;
         shows = here.shows;
         commands_are = here.commands_are ∙ ap (λ (l : List Command). commands ++ l) whole;
+        regroups = regroups_so reply (open_in here.world) (same_group Done (λ f. f) a);
         rising = rises Done (λ f. f) a;
+        which = which_of Done (λ f. f) a;
         goes = goes here.world (ends_so Through here.world here.ends.0 here.ends.1 a.identities);
         is_of = is_of;
       }
@@ -313,10 +335,10 @@ module _ (p : Params) (old now : Disk) (before after : EngineView) (commands : L
   made_done reply is fin call a = absurd fin
 
   -- one of them is stopped
-  stopped_at : (stop : Stop) (a : Adds (Stopped stop)) → (at : IsStoppedAt all_meaning p it.ops a.done stop) → AsksBehind p commands line (take a.done it.ops) at.op
+  stopped_at : (stop : Stop) (a : Adds (Stopped stop)) → (at : IsStoppedAt all_meaning p (group_size before) it.ops a.done stop) → AsksBehind p commands line (take a.done it.ops) at.op
   stopped_at stop a at = record { it = it; asks = asks; rest = at.rest; next = sym (take-append-drop a.done it.ops) ∙ ap (λ (l : List Command). take a.done it.ops ++ l) at.here }
 
-  stopped_so : (stop : Stop) (reply : Reply) (a : Adds (Stopped stop)) → Replies p commands line reply (take a.done it.ops)
+  stopped_so : (stop : Stop) (reply : Reply) (a : Adds (Stopped stop)) → Replies p (open_in w) commands line reply (take a.done it.ops)
       → ((world : World Command) → Ends p (stage_of before w) line stop (stage_of after world) → GoesBy p (stage_of before w) line reply (stage_of after world))
       → IsOfEngine after line reply → IsCall p.limit old now before after 0 (Stopped stop) → IsDone p old now before after w commands line reply
   stopped_so stop reply a replies goes is_of call =
@@ -328,24 +350,32 @@ module _ (p : Params) (old now : Disk) (before after : EngineView) (commands : L
         world = here.world;
         shows = here.shows;
         commands_are = here.commands_are;
+        regroups = regroups_so reply (open_in here.world) (same_group (Stopped stop) (λ f. f) a);
         rising = rises (Stopped stop) (λ f. f) a;
+        which = which_of (Stopped stop) (λ f. f) a;
         goes = goes here.world (ends_so stop here.world here.ends.0 here.ends.1 a.identities);
         is_of = is_of;
       }
+
+  -- as many commands has the group then as the log's stop says
+  size_so : (stop : Stop) (a : Adds (Stopped stop)) → larger (group_size before) a.done ≡ size_of (open_in w) (commands ++ take a.done it.ops)
+  size_so stop a =
+      let here = reached (Stopped stop) (λ f. f) a in
+      sym a.size ∙ open_size here.shows here.commands_are ∙ ap (λ (group : Option ℕ). size_of group (commands ++ take a.done it.ops)) (same_group (Stopped stop) (λ f. f) a)
 
   pub made_full : (used need limit : ℕ) → IsCall p.limit old now before after 0 (Stopped (Full used need limit)) → Adds (Stopped (Full used need limit)) → IsDone p old now before after w commands line (full used need limit)
   made_full used need limit call a =
       let stop = Full used need limit in
       let at = a.stopped stop refl in
-      let numbers = call.stopped stop refl in
-      stopped_so stop (full used need limit) a (inl (at.op, stopped_at stop a at, at.need.0, at.need.1, numbers.2)) (λ world goes. goes) (p.limit, numbers) call
+      let need_is = at.need.0 ∙ ap (λ (size : Option ℕ). needed_in size (record_length p at.op)) (size_so stop a) in
+      stopped_so stop (full used need limit) a (inl (at.op, stopped_at stop a at, need_is, at.need.1, over_limit (is_some before.group) p.limit after.parts.log used need limit (call.stopped stop refl))) (λ world goes. goes) (left_stopped stop call) call
 
   pub made_end_at : (number : ℕ) → IsCall p.limit old now before after 0 (Stopped (At_end number)) → Adds (Stopped (At_end number)) → IsDone p old now before after w commands line (end number)
   made_end_at number call a =
       let stop = At_end number in
       let at = a.stopped stop refl in
-      let numbers = call.stopped stop refl in
-      stopped_so stop (end number) a (inl (at.op, stopped_at stop a at), numbers.2) (λ world goes. inl goes) (asks.request, asks.asks, made_ends p commands it after number asks.request asks.makes (p.limit, numbers)) call
+      stopped_so stop (end number) a (inl (at.op, stopped_at stop a at), last_number (is_some before.group) p.limit after.parts.log number (call.stopped stop refl)) (λ world goes. inl goes)
+      (asks.request, asks.asks, made_ends p commands it after number asks.request asks.makes (left_stopped stop call)) call
 
   -- whatever ended them
   abbrev Answered : Result Answer Early → Type 0
@@ -363,8 +393,8 @@ module _ (p : Params) (old now : Disk) (before after : EngineView) (commands : L
   made_answered (Some exec_errors.Memory) result is call a = subst (λ (r : Result Answer Early). Answered r) (sym is) tt
 
   -- a moment of the call
-  pub made_moments : (ending : Ending) → Adds ending → old.tells_moments → LeavesOnly old now (Working p old (forced_in before) commands line)
-  made_moments ending a told = weaker old now (Between p old (forced_in before) (commands ++ take a.done it.ops)) (Working p old (forced_in before) commands line) (a.images told)
+  pub made_moments : (ending : Ending) → Adds ending → old.tells_moments → LeavesOnly old now (Working p old before commands line)
+  made_moments ending a told = weaker old now (Between p old before.group (forced_in before) (length commands) (commands ++ take a.done it.ops)) (Working p old before commands line) (a.images told)
       (λ f s b. record { added = take a.done it.ops; front = inr (record { it = it; asks = asks; count = a.done; first = refl }); between = b })
 
   pub made_works : (ending : Ending) → Adds ending → Works p old now (stage_of before w) line
@@ -382,7 +412,7 @@ module _ {p : Params} {old now : Disk} {before after : EngineView} {commands : L
       let (it, makes, adds, answers) = u.adds p commands holds in
       made_answered p old now before after commands line it holds (record { request = request; asks = asks; makes = makes }) none u.error result answers (limit_is holds u.calls.call) adds
 
-  pub list_moments : old.tells_moments → LeavesOnly old now (Working p old (forced_in before) commands line)
+  pub list_moments : old.tells_moments → LeavesOnly old now (Working p old before commands line)
   list_moments =
       let (it, makes, adds, answers) = u.adds p commands holds in
       made_moments p old now before after commands line it holds (record { request = request; asks = asks; makes = makes }) none (ending_of u.error) adds
@@ -391,6 +421,11 @@ module _ {p : Params} {old now : Disk} {before after : EngineView} {commands : L
   list_works =
       let (it, makes, adds, answers) = u.adds p commands holds in
       made_works p old now before after commands line it holds (record { request = request; asks = asks; makes = makes }) none (ending_of u.error) adds
+
+-- a call was answered
+abbrev pub IsOk : {T : Type 0} → Result T Early → Type 0
+IsOk (Ok value) = ⊤
+IsOk (Err stop) = ⊥
 
 -- How calls end.
 module _ {T : Type 0} where

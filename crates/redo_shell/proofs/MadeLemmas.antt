@@ -1,19 +1,20 @@
 -- What a line that asks for one command makes, and that it asks for no trim.
-use Rattle.std.proofs.Common.{◌≡◌, ◌∙◌, ap, sym, subst, refl, ◌++◌, ℕ, List, [], ◌∷◌, Option, Some, None}
-use Rattle.std.specs.Prelude.{⊤}
+use Rattle.std.proofs.Common.{◌≡◌, sym, subst, refl, ℕ, List, [], ◌∷◌, Option, Some}
+use Rattle.std.specs.Option.{is_some}
 use Rattle.std.proofs.lemmas.List.{append-nil}
 use Rattle.oper_core.specs.Meaning.{Meaning}
 use Rattle.oper_core.specs.declared.refusal.Refusal.{Refusal}
 use Rattle.formats.specs.declared.params.Params.{Params}
-use Rattle.explain_core.specs.World.{World, run}
+use Rattle.explain_core.specs.World.{World}
 use Rattle.cache_manager.specs.Courses.{Course, Stop, course, behind}
 use Rattle.cache_manager.specs.Courses.Stop.{Through, Full, At_end, Worn}
 use Rattle.execution.specs.Courses.{append_course}
 use Rattle.command_lists.specs.Lists.{commands_course}
 use Rattle.op_codec.specs.declared.all_ops.AllOps.TheVariants.{Put, Copy, Append, Cut, Sort, Swap, Exec, AppRead, AppWrite}
-use Rattle.script_lines.specs.Grammar.{Request, put, copy, append, cut, sort, swap, exec, aread, awrite, trim, AsksFor}
+use Rattle.script_lines.specs.Grammar.{Request, put, copy, append, cut, sort, swap, exec, aread, awrite, trim, begin_group, end_group}
 use Rattle.store_engine.specs.Engine.{EngineView}
 use Rattle.redo_shell.specs.Found.{EndsAtLast, IsStopped, MayStop}
+use Rattle.redo_shell.specs.Groups.{group_after}
 use Rattle.redo_shell.specs.Made.{Made, AsksMade, made_by, one_made, one_unless}
 use Rattle.redo_shell.specs.Replies.{AsksCommand, IsNumbered}
 use Rattle.redo_shell.specs.Store.{Command, refusal_after}
@@ -34,7 +35,13 @@ command_made p commands line op asks = absurd asks
 pub made_unless : (p : Params) (commands : List Command) (line : List ℕ) (op : Command) (refusal : Option Refusal) → refusal_after p commands op ≡ refusal → AsksCommand line op → AsksMade p commands line (one_unless op refusal)
 made_unless p commands line op refusal is asks = subst (λ (r : Option Refusal). AsksMade p commands line (one_unless op r)) is (command_made p commands line op asks)
 
--- what asks for commands asks for no trim, so that its `end` says the next number
+-- what asks for commands begins and ends no group
+pub made_alike : (p : Params) (commands others : List Command) (it : Made) (group : Option ℕ) (request : Request) → made_by p commands request ≡ Some it → group_after request group others ≡ group
+made_alike p commands others it group begin_group makes = cc
+made_alike p commands others it group end_group makes = cc
+made_alike p commands others it group request makes = refl
+
+-- and it asks for no trim, so that its `end` says the next number
 pub made_ends : (p : Params) (commands : List Command) (it : Made) (engine : EngineView) (number : ℕ) (request : Request) → made_by p commands request ≡ Some it → IsStopped engine (At_end number) → EndsAtLast engine request number
 made_ends p commands it engine number trim makes stops = cc
 made_ends p commands it engine number request makes stops = stops
@@ -63,5 +70,5 @@ behind_nothing c (At_end number) is = refl
 behind_nothing c (Worn epoch) is = refl
 
 -- the course of one command is that of its record
-pub one_course : (m : Meaning Command) (limit : ℕ) (op : Command) (w : World Command) (used : ℕ) → commands_course m limit (op ∷ []) w used ≡ append_course m limit op w used
-one_course m limit op w used = let c = append_course m limit op w used in behind_nothing c c.stop refl
+pub one_course : (m : Meaning Command) (limit : ℕ) (op : Command) (w : World Command) (used : ℕ) → commands_course m limit (op ∷ []) w used ≡ append_course m (is_some w.group) limit op w used
+one_course m limit op w used = let c = append_course m (is_some w.group) limit op w used in behind_nothing c c.stop refl

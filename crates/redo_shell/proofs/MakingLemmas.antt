@@ -1,24 +1,23 @@
 -- How calls on applications and trees are answered.
-use Rattle.std.proofs.Common.{◌≡◌, ◌≢◌, ◌∙◌, ap, sym, subst, refl, ℕ, zero, suc, Bool, true, false, List, [], ◌∷◌, Option, Some, None, Result, Ok, Err, IfOk}
-use Rattle.std.specs.Prelude.{⊤, ◌&&◌, nat_le, nat_lt, if◌then◌else◌, map, option_map}
+use Rattle.std.proofs.Common.{◌≡◌, ◌∙◌, ap, sym, subst, refl, ℕ, zero, suc, Bool, true, false, List, [], ◌∷◌, Option, Some, None, Result, Ok, Err, IfOk}
+use Rattle.std.specs.Prelude.{◌&&◌, nat_le, nat_lt, if◌then◌else◌, map, option_map}
 use Rattle.std.proofs.lemmas.Bool.{cond_both}
-use Rattle.oper_core.specs.State.{State}
 use Rattle.oper_core.specs.declared.bounds.Bounds.{Bounds}
 use Rattle.oper_core.specs.declared.refusal.Refusal.{Refusal}
 use Rattle.oper_core.specs.declared.refusal.Refusal.TheVariants as refusals
 use Rattle.formats.specs.declared.params.Params.{Params}
 use Rattle.app_steps.specs.Steps.{IsRefusedAtOnce, HasAnswer, step_of, steps_accepted}
 use Rattle.btree_ops.specs.declared.node_op.NodeOp.{NodeOp}
-use Rattle.cache_manager.specs.Taking.Ending.{Done, Stopped, Short, Failed}
+use Rattle.cache_manager.specs.Taking.Ending.{Done, Stopped}
 use Rattle.command_lists.specs.Lists.{AddsFront, AreCalls, ending_of}
 use Rattle.execution.specs.declared.exec_err.ExecErr.{ExecErr}
 use Rattle.execution.specs.declared.exec_err.ExecErr.TheVariants as exec_errors
 use Rattle.logical_btree.specs.Plan.{Plan, is_there}
-use Rattle.logical_btree.specs.Walk.{Pair, Range}
+use Rattle.logical_btree.specs.Walk.{Range}
 use Rattle.logical_btree.specs.declared.refusal.TreeRefusal.{TreeRefusal}
 use Rattle.logical_btree.specs.declared.refusal.TreeRefusal.TheVariants.{NoObject, BadTree, TreeFull, NoKey}
 use Rattle.op_codec.specs.declared.all_ops.AllOps.TheVariants.{Node}
-use Rattle.script_lines.specs.Replies.{Reply, ok, ran, refused, bad_tree, tree_full, reply_of, pairs_reply}
+use Rattle.script_lines.specs.Replies.{Reply, ok, ran, refused, bad_tree, tree_full}
 use Rattle.script_lines.specs.declared.answer.Answer.{Answer}
 use Rattle.script_lines.specs.declared.answer.Answer.TheVariants as answers
 use Rattle.tree_client.specs.Answers.{cause_of, error_of, made_of, refused_in, refused_of, told}
@@ -31,7 +30,7 @@ use Rattle.script_lines.specs.Grammar.{Request}
 use Rattle.store_engine.specs.Engine.{EngineView}
 use Rattle.store_engine.specs.Engine as of_engine
 use Rattle.redo_shell.specs.Found.{IsAnswerTo, IsAsked, IsEndedBy, IsMade, answer_of_error, answer_of_tree_error, refused_as, reply_in}
-use Rattle.redo_shell.specs.Made.{end_reply, found_reply, made_by, plan_made, plan_reply, range_reply, run_reply, tree_answer, tree_reply}
+use Rattle.redo_shell.specs.Made.{end_reply, found_reply, made_by, plan_made, plan_reply, run_reply, tree_answer, tree_reply}
 use Rattle.redo_shell.specs.Store.{Command, refusal_after, state_of}
 use Rattle.redo_shell.specs.declared.asking.Found.{Found}
 use Rattle.redo_shell.specs.declared.asking.Found.TheVariants as founds

@@ -10,27 +10,28 @@ use Rattle.explain_core.specs.Taken.{after_none}
 use Rattle.explain_core.specs.World.{World}
 use Rattle.standing.specs.Moments.{ShowsSome, TakesSome}
 use Rattle.standing.specs.Standing.{FilesShow}
-use Rattle.cache_manager.specs.Courses.{Course, course, force_course, force_steps}
+use Rattle.cache_manager.specs.Courses.{Course, course}
 use Rattle.cache_manager.specs.Courses.Stop.{Through}
 use Rattle.cache_manager.specs.Forced.{files_shown}
 use Rattle.script_lines.specs.Replies.{Reply, said_line}
 use Rattle.store_engine.specs.Engine.{EngineView}
+use Rattle.store_engine.specs.Grouping.{ungrouped}
 use Rattle.redo_shell.specs.Courses.{IsDue, IsWorkedOn}
 use Rattle.redo_shell.specs.Run.{IsFound, LineStage}
-use Rattle.redo_shell.specs.Stages.{Stage, stage_of}
+use Rattle.redo_shell.specs.Stages.{Stage, finish_course, stage_of}
 use Rattle.redo_shell.specs.Store.{Command, Holds, ShowsIn, meaning_in}
 
 -- each image of a moment shows the world that engine and files show
 pub images_show : {p : Params} {d : Disk} {engine : EngineView} {w : World Command} → ShowsIn p d engine w → d.tells_moments → (files : Files) (said : List ℕ) → d.left_since d.clock files said → FilesShow (meaning_in p) p files w
 images_show {p} {d} {engine} {w} shows told files said left =
-    subst (λ (f : Files). FilesShow (meaning_in p) p f w) (fun_ext (λ (n : FileNo). sym (shows.shows.log.keeps.settled n told files said left))) (files_shown (meaning_in p) p d engine.parts w shows.shows)
+    subst (λ (f : Files). FilesShow (meaning_in p) p f w) (fun_ext (λ (n : FileNo). sym (shows.shows.log.keeps.settled n told files said left))) (files_shown (meaning_in p) p d engine.parts (ungrouped w) shows.shows)
 
 -- nothing is done yet
 pub worked_none : (p : Params) (s : Stage) (todo : List (List ℕ)) (files : Files) → FilesShow (meaning_in p) p files s.world → IsWorkedOn p s todo files
 worked_none p s [] files shows = record {
-  its = force_course (meaning_in p) s.world s.used;
+  its = finish_course (meaning_in p) s.world s.used;
   due = refl;
-  shows = after_none (meaning_in p) (FilesShow (meaning_in p) p files) s.world (force_steps (meaning_in p) s.world) shows;
+  shows = after_none (meaning_in p) (FilesShow (meaning_in p) p files) s.world (finish_course (meaning_in p) s.world s.used).steps shows;
 }
 worked_none p s (line ∷ todo) files shows = record {
   its = course [] s.used Through;

@@ -1,5 +1,5 @@
 -- A run from before the store was opened.
-use Rattle.std.proofs.Common.{◌≡◌, ◌≢◌, ◌≤◌, ◌⊎◌, inl, inr, refl, ⊎_elim, ◌++◌, List, ℕ, [], length, ap, ◌∙◌, sym, subst, arith, Bool, false, Result, Ok, Err, IfOk}
+use Rattle.std.proofs.Common.{◌≡◌, ◌≢◌, ◌≤◌, ◌⊎◌, inl, inr, refl, ⊎_elim, ◌++◌, List, ℕ, [], ◌∷◌, length, length-append, None, ap, ◌∙◌, sym, subst, arith, Bool, Result, Ok, Err, IfOk}
 use Rattle.std.specs.Prelude.{⊤}
 use Rattle.std.proofs.lemmas.List.{append-nil, take_all}
 use Rattle.std.specs.List.{flat_map}
@@ -12,8 +12,9 @@ use Rattle.restart.specs.Starts.{OrAtStart, or_weaker, from_settled}
 use Rattle.restart.specs.WellFormed.{opens_gate}
 use Rattle.store_engine.specs.Engine.{EngineView, InEachImage}
 use Rattle.redo_shell.specs.Store.{Command, IsWellFormed, Stands, Opens, Holds, Between}
-use Rattle.redo_shell.specs.Stages.{Stage, IsFirst, AllGoBy, stage_of}
-use Rattle.redo_shell.specs.Answers.{Moment, TrueWithin, with_begun, with_line, SaysTruly}
+use Rattle.redo_shell.specs.Stages.{Stage, IsFirst, stage_of}
+use Rattle.redo_shell.specs.Groups.{Account, account_of, waiting}
+use Rattle.redo_shell.specs.Answers.{Begun, Moment, TrueWithin, with_begun, with_line, with_waits, SaysTruly}
 use Rattle.redo_shell.specs.Calls.{IsRunOn}
 use Rattle.redo_shell.specs.Courses.{OpeningMoment, RunMoment, StageMoment}
 use Rattle.redo_shell.specs.Causes.{JudgesFiles}
@@ -23,70 +24,98 @@ use Rattle.redo_shell.specs.declared.status.Status.{Status}
 use Rattle.redo_shell.specs.declared.status.Status.TheVariants.{Done, DoneWithRefusals, NotAStore, Damaged, DiskFault as DiskFailed, SayFault as OutputFailed, Memory as OutOfMemory}
 use Rattle.redo_shell.specs.declared.stop.Stop.{Stop}
 use Rattle.redo_shell.specs.declared.stop.Stop.TheVariants.{DiskFault, Damaged as SlotDamaged, ReadFault, SayFault, Memory, TooLong}
-use Rattle.redo_shell.specs.Run.{IsRun, IsComplete}
-use Rattle.redo_shell.proofs.StoryLemmas.{story_start, told_whole, told_goes, told_truly, goes_even}
+use Rattle.redo_shell.specs.Run.{IsRun, IsComplete, MomentSoFar}
+use Rattle.redo_shell.proofs.StoryLemmas.{AreEven, answers_even, story_start, told_whole, told_goes, told_truly}
 use Rattle.redo_shell.proofs.TrueLemmas.{none_begun}
 use Rattle.redo_shell.proofs.RunLemmas.{AreFew, first_moment}
 
 -- at each moment while the store is opened each image is one that a crash at the start could leave, or stands for the
 -- commands
 abbrev pub OpensSo : Params → Disk → Disk → List Command → Type 0
-OpensSo p start mid commands = start.tells_moments → LeavesOnly start mid (OrAtStart start (Between p start (length commands) commands))
+OpensSo p start mid commands = start.tells_moments → LeavesOnly start mid (OrAtStart start (Between p start None (length commands) (length commands) commands))
 
--- so it is a moment of the run
+-- so it is a moment of the run, at which no group is open
+opening_so_far : AreFew → {p : Params} {start mid : Disk} {commands : List Command} (script : List (List ℕ)) → OpensSo p start mid commands → start.tells_moments
+    → LeavesOnly start mid (OrAtStart start (MomentSoFar p commands script start.said))
+opening_so_far few {p} {start} {mid} {commands} script opening told =
+    or_weaker start mid (Between p start None (length commands) (length commands) commands) (MomentSoFar p commands script start.said) (opening told) (λ f s b. first_moment few script f s b)
+
 pub opening_moments : AreFew → {p : Params} {start mid : Disk} {commands : List Command} (script : List (List ℕ)) → OpensSo p start mid commands → start.tells_moments
     → LeavesOnly start mid (OrAtStart start (Moment p commands script start.said))
 opening_moments few {p} {start} {mid} {commands} script opening told =
-    or_weaker start mid (Between p start (length commands) commands) (Moment p commands script start.said) (opening told) (λ f s b. first_moment few script f s b)
+    or_weaker start mid (MomentSoFar p commands script start.said) (Moment p commands script start.said) (opening_so_far few script opening told) (λ f s m. m.is)
 
 -- what is said while the store is opened
-opening_says : (p : Params) (start : Disk) (commands : List Command) → IsDisk start → start.tells_moments → (f : Files) (s : List ℕ) → OrAtStart start (Between p start (length commands) commands) f s → s ≡ start.said
-opening_says p start commands lawful told f s here = ⊎_elim (λ was. lawful.said_now told f s was) (λ (b : Between p start (length commands) commands f s). b.quiet) here
+opening_says : (p : Params) (start : Disk) (commands : List Command) → IsDisk start → start.tells_moments → (f : Files) (s : List ℕ) → OrAtStart start (Between p start None (length commands) (length commands) commands) f s → s ≡ start.said
+opening_says p start commands lawful told f s here = ⊎_elim (λ was. lawful.said_now told f s was) (λ (b : Between p start None (length commands) (length commands) commands f s). b.quiet) here
 
 -- what reads give, before anything is said
 pub start_moment : AreFew → {p : Params} (start : Disk) {commands : List Command} (script : List (List ℕ)) → Stands p start.reads commands → Moment p commands script start.said start.reads start.said
 start_moment few {p} start {commands} script stands =
     let enough : length commands ≤ length commands = omega arith in
-    let between : Between p start (length commands) commands start.reads start.said = record {
+    let between : Between p start None (length commands) (length commands) commands start.reads start.said = record {
       quiet = refl;
       kept = length commands;
       enough = enough;
       within = enough;
+      which = inl refl;
       stands = subst (λ (l : List Command). Stands p start.reads l) (sym (take_all (length commands) commands enough)) stands;
     } in
-    first_moment few {p = p} {start = start} {commands = commands} script start.reads start.said between
+    (first_moment few {p = p} {start = start} {commands = commands} script start.reads start.said between).is
 
 pub says_nothing : {p : Params} {first : Stage} {commands : List Command} (script : List (List ℕ)) {old new : Disk} → Passes old new → new.said ≡ old.said → SaysTruly p first commands script old new
 says_nothing {p} {first} {commands} script {old} {new} time quiet =
-    let none = told_whole (λ line reply. ⊤) (story_start p commands script) in
+    let none = told_whole (λ ops line reply. ⊤) (story_start p commands script) in
     record {
       last = first;
       goes = told_goes first first none refl;
       says = record { bytes = []; since = quiet ∙ sym (append-nil old.said); story = none.story };
-      truly = λ told. told_truly old new old.said none (first_call old new (TrueWithin p old.said [] []) told time (λ files said left. tt));
+      truly = λ told. told_truly old new old.said none (first_call old new (TrueWithin p old.said [] [] []) told time (λ files said left. tt));
     }
 
 -- then the script is answered
-pub run_moments : AreFew → {p : Params} {first : Stage} {start mid new : Disk} {commands : List Command} (script : List (List ℕ)) → OpensSo p start mid commands → Passes start mid → mid.said ≡ start.said → IsRun p first mid new commands script
+pub run_moments : AreFew → {p : Params} {first : Stage} {start mid new : Disk} {commands : List Command} (script : List (List ℕ)) {status : Status} → OpensSo p start mid commands → Passes start mid → mid.said ≡ start.said
+    → IsRun p first mid new commands script status
     → start.tells_moments → LeavesOnly start new (OrAtStart start (Moment p commands script start.said))
 run_moments few {p} {first} {start} {mid} {new} {commands} script opening time quiet run told =
     runs_on start mid new (OrAtStart start (Moment p commands script start.said)) (opening_moments few script opening told)
     (weaker mid new (Moment p commands script start.said) (OrAtStart start (Moment p commands script start.said))
     (subst (λ (s : List ℕ). LeavesOnly mid new (Moment p commands script s)) quiet (run.moments (time.moments_told.0 told))) (λ f s m. inr m))
 
-pub run_says : {p : Params} {first : Stage} {start mid new : Disk} {commands : List Command} {script : List (List ℕ)} → IsDisk start → OpensSo p start mid commands → Passes start mid → mid.said ≡ start.said → IsRun p first mid new commands script
+-- where it was cut short nothing of an open group is stable
+run_unclosed : AreFew → {p : Params} {start mid new : Disk} {commands : List Command} (script : List (List ℕ)) → OpensSo p start mid commands → mid.said ≡ start.said → LeavesOnly mid new (MomentSoFar p commands script mid.said)
+    → start.tells_moments → LeavesOnly start new (OrAtStart start (MomentSoFar p commands script start.said))
+run_unclosed few {p} {start} {mid} {new} {commands} script opening quiet leaves told =
+    runs_on start mid new (OrAtStart start (MomentSoFar p commands script start.said)) (opening_so_far few script opening told)
+    (weaker mid new (MomentSoFar p commands script start.said) (OrAtStart start (MomentSoFar p commands script start.said))
+    (subst (λ (s : List ℕ). LeavesOnly mid new (MomentSoFar p commands script s)) quiet leaves) (λ f s m. inr m))
+
+-- there are as many answers as lines, the one that was begun counted
+even_begun : {none : Type 0} {p : Params} {tie : List Command → List ℕ → Reply → Type 0} {account : Account} {added : List Command} {todo : List (List ℕ)} {part : List ℕ} (lines : List (List ℕ)) (replies : List Reply) (waits : List (List Command))
+    → (work : none ⊎ Begun p tie account todo part added) → AreEven lines replies waits → AreEven (with_line lines work) (with_begun replies work) (with_waits waits work)
+even_begun lines replies waits (inl whole) even = even
+even_begun {account = account} {added = added} lines replies waits (inr begun) even =
+    let more = length-append lines (begun.line ∷ []) in (
+      omega (arith, even.0, more, length-append replies (begun.reply ∷ [])),
+      omega (arith, even.1, more, length-append waits (waiting account.group (account.commands ++ added) ∷ [])),
+    )
+
+pub run_says : {p : Params} {first : Stage} {start mid new : Disk} {commands : List Command} {script : List (List ℕ)} {status : Status} → IsDisk start → OpensSo p start mid commands → Passes start mid → mid.said ≡ start.said
+    → IsRun p first mid new commands script status
     → SaysTruly p first commands script start new
 run_says {p} {first} {start} {mid} {new} {commands} {script} lawful opening time quiet run =
     let truth = run.says in
     let story = truth.says.story in
     let replies = with_begun story.replies story.work in
     let lines = with_line story.lines story.work in
+    let waits = with_waits story.waits story.work in
+    let even = even_begun story.lines story.replies story.waits story.work (answers_even p (account_of commands) story.lines story.replies story.waits story.account story.answers) in
     record {
       says = record { bytes = truth.says.bytes; since = truth.says.since ∙ ap (λ (l : List ℕ). l ++ truth.says.bytes) quiet; story = story };
-      truly = λ told. runs_on start mid new (TrueWithin p start.said lines replies)
-          (weaker start mid (OrAtStart start (Between p start (length commands) commands)) (TrueWithin p start.said lines replies) (opening told)
-          (λ f s here. none_begun p start.said lines replies f s (goes_even p first truth.last lines replies truth.goes) (omega (arith, ap length (opening_says p start commands lawful told f s here)))))
-          (subst (λ (s : List ℕ). LeavesOnly mid new (TrueWithin p s lines replies)) quiet (truth.truly (time.moments_told.0 told)));
+      truly = λ told. runs_on start mid new (TrueWithin p start.said lines replies waits)
+          (weaker start mid (OrAtStart start (Between p start None (length commands) (length commands) commands)) (TrueWithin p start.said lines replies waits) (opening told)
+          (λ f s here. none_begun p start.said lines replies waits f s even (omega (arith, ap length (opening_says p start commands lawful told f s here)))))
+          (subst (λ (s : List ℕ). LeavesOnly mid new (TrueWithin p s lines replies waits)) quiet (truth.truly (time.moments_told.0 told)));
       last = truth.last;
       goes = truth.goes;
     }
@@ -94,7 +123,8 @@ run_says {p} {first} {start} {mid} {new} {commands} {script} lawful opening time
 pub complete_from : {p : Params} {first : Stage} {start mid new : Disk} {commands : List Command} {script : List (List ℕ)} {status : Status} → mid.said ≡ start.said → IsComplete p first mid new commands script status → IsComplete p first start new commands script status
 complete_from quiet all = record {
   replies = all.replies;
-  acc = all.acc;
+  waits = all.waits;
+  account = all.account;
   answers = all.answers;
   said_is = all.said_is ∙ ap (λ (l : List ℕ). l ++ flat_map said_line all.replies) quiet;
   stands = all.stands;
@@ -120,8 +150,13 @@ pub run_completes : {p : Params} {first : Stage} (start new : Disk) {commands : 
 run_completes {p} {first} start new {commands} {script} (Ok refusing) status is all done = subst (λ (s : Status). IsComplete p first start new commands script s) (sym is) all
 run_completes start new (Err stop) status is all done = absurd (not_early stop (subst (λ (s : Status). (s ≡ Done) ⊎ (s ≡ DoneWithRefusals)) is done))
 
+-- it ended with the status that reports it
+pub run_ends : {p : Params} {first : Stage} (start new : Disk) {commands : List Command} {script : List (List ℕ)} (outcome : Result Bool Stop) (status : Status) → status ≡ status_after outcome
+    → IsRun p first start new commands script (status_after outcome) → IsRun p first start new commands script status
+run_ends {p} {first} start new {commands} {script} outcome status is run = subst (λ (s : Status). IsRun p first start new commands script s) (sym is) run
+
 -- each image at its end is one at a moment after the opening
-ends_behind : {p : Params} {first : Stage} (old mid new : Disk) {commands : List Command} (script : List (List ℕ)) → IsDisk new → Passes old mid → Passes mid new → mid.said ≡ old.said → IsRun p first mid new commands script
+ends_behind : {p : Params} {first : Stage} (old mid new : Disk) {commands : List Command} (script : List (List ℕ)) {status : Status} → IsDisk new → Passes old mid → Passes mid new → mid.said ≡ old.said → IsRun p first mid new commands script status
     → old.tells_moments → InEachImage new (λ files. Moment p commands script old.said files new.said)
 ends_behind {p} {first} old mid new {commands} script lawful before time quiet run told =
     let told_mid = before.moments_told.0 told in
@@ -133,7 +168,7 @@ ends_behind {p} {first} old mid new {commands} script lawful before time quiet r
     (image new.reads new.said (lawful.as_read (time.moments_told.0 told_mid)), λ told_new. image)
 
 -- what is done at each moment, after the opening by the courses of the lines
-run_courses : {p : Params} {first : Stage} {old mid new : Disk} {commands : List Command} (script : List (List ℕ)) → OpensFiles p commands old mid → Passes old mid → IsRun p first mid new commands script
+run_courses : {p : Params} {first : Stage} {old mid new : Disk} {commands : List Command} (script : List (List ℕ)) {status : Status} → OpensFiles p commands old mid → Passes old mid → IsRun p first mid new commands script status
     → old.tells_moments → (is : IsFirst p commands old first) → LeavesOnly old new (OrAtStart old (RunMoment p commands old first is script))
 run_courses {p} {first} {old} {mid} {new} {commands} script files before run told is =
     runs_on old mid new (OrAtStart old (RunMoment p commands old first is script))
@@ -143,7 +178,7 @@ run_courses {p} {first} {old} {mid} {new} {commands} script files before run tol
 
 -- what a run on an open store says, from this stage
 abbrev pub RunsFrom : Params → List Command → List (List ℕ) → Disk → Disk → Status → Stage → Type 0
-RunsFrom p commands script mid new status first = IsRun p first mid new commands script × ((status ≡ Done) ⊎ (status ≡ DoneWithRefusals) → IsComplete p first mid new commands script status)
+RunsFrom p commands script mid new status first = IsRun p first mid new commands script status × ((status ≡ Done) ⊎ (status ≡ DoneWithRefusals) → IsComplete p first mid new commands script status)
 
 -- so from each stage that the opening has
 pub runs_from_each : {p : Params} {commands : List Command} {old mid : Disk} {engine : EngineView} (script : List (List ℕ)) (new : Disk) (status : Status) → IsOpen p commands old mid engine
@@ -156,12 +191,13 @@ runs_from_each {p} {commands} {old} {mid} script new status opened runs first is
 pub run_on : AreFew → {p : Params} (old mid new : Disk) {commands : List Command} (script : List (List ℕ)) (status : Status) → IsDisk old → IsDisk new → Opens p old commands → OpensFiles p commands old mid → Passes old mid → Passes mid new
     → ((first : Stage) → IsFirst p commands old first → RunsFrom p commands script mid new status first) → (status ≢ NotAStore) × (status ≢ Damaged) → IsRunOn p commands script old new status
 run_on few {p} old mid new {commands} script status lawful ends opens files before time runs store =
-    let begun : IsRun p files.first.0 mid new commands script = (runs files.first.0 files.first.1).0 in
+    let begun : IsRun p files.first.0 mid new commands script status = (runs files.first.0 files.first.1).0 in
     let moments : old.tells_moments → LeavesOnly old new (OrAtStart old (Moment p commands script old.said)) = run_moments few script files.images before files.quiet begun in
     record {
       moments = moments;
       from_settled = λ told settled. from_settled old new (Moment p commands script old.said) lawful told settled (start_moment few old script opens.stands) (moments told);
       opened = λ told disk memory. ends_behind old mid new script ends before time files.quiet begun told;
+      unclosed = λ told cut. run_unclosed few script files.images files.quiet (begun.unclosed cut (before.moments_told.0 told)) told;
       first = files.first;
       answers = λ first is. run_says lawful files.images before files.quiet (runs first is).0;
       courses = λ told first is. run_courses script files before (runs first is).0 told is;
@@ -194,6 +230,7 @@ run_unopened few {p} old mid {commands} script status lawful opens files before 
       moments = moments;
       from_settled = λ told settled. from_settled old mid (Moment p commands script old.said) lawful told settled (start_moment few old script opens.stands) (moments told);
       opened = λ told disk memory. absurd (opening_failed status unopened.ends store (unopened.quiet opens.told image) disk memory);
+      unclosed = λ told cut. opening_so_far few script files.images told;
       first = files.first;
       answers = λ first is. says_nothing script before files.quiet;
       courses = λ told first is. or_weaker old mid (OpeningMoment p commands old first is) (RunMoment p commands old first is script) (files.courses told first is) (λ f s here. inl here);

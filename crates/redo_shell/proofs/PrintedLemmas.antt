@@ -9,7 +9,7 @@ use Rattle.oper_core.specs.declared.refusal.Refusal.{Refusal}
 use Rattle.oper_core.specs.declared.refusal.Refusal.TheVariants.{NoObject, Same, BadPlace, BadWidth, NotApp, NoInput, NotNode, NoKey, NodeFull, TooLarge}
 use Rattle.formats.specs.declared.params.Params.{Params}
 use Rattle.script_lines.specs.Reading.{IsPlain}
-use Rattle.script_lines.specs.Replies.{Pair, Reply, ok, ran, value, pairs, forced, bad, refused, bad_tree, tree_full, full, end, object_value, command_count, stat, summary, silence, pair_text, spaced_pair, spaced, numbers_of, hex_glyph, hex_pair, hex_text, name_of, text_of, said_line}
+use Rattle.script_lines.specs.Replies.{Pair, Reply, ok, ran, value, pairs, forced, bad, refused, bad_tree, tree_full, in_group, no_group, full, end, object_value, command_count, stat, summary, silence, pair_text, spaced_pair, spaced, numbers_of, hex_glyph, hex_pair, hex_text, name_of, text_of, said_line}
 use Rattle.redo_shell.specs.Store.{Command}
 use Rattle.redo_shell.specs.Answers.{Said, Begun}
 use Rattle.redo_shell.specs.Printed.{before_line, whole_lines, texts_of, SaysForced}
@@ -126,6 +126,8 @@ plain_text (ran n) = plain_count (codes "ran ") n (plain_when (codes "ran ") ref
 plain_text (pairs pair others) = plain_on (pair_text pair) (flat_map spaced_pair others) (plain_pair pair) (plain_others others)
 plain_text bad_tree = plain_when (codes "refused BadTree") refl
 plain_text tree_full = plain_when (codes "refused TreeFull") refl
+plain_text in_group = plain_when (codes "refused InGroup") refl
+plain_text no_group = plain_when (codes "refused NoGroup") refl
 plain_text (summary t) =
     let seed = codes "demo" ++ codes " seed " ++ decimal t.seed in
     let steps = seed ++ codes " steps " ++ decimal t.steps in
@@ -183,6 +185,8 @@ line_more (ran n) replies bytes rest = whole_line (ran n) replies bytes rest
 line_more (pairs pair others) replies bytes rest = whole_line (pairs pair others) replies bytes rest
 line_more bad_tree replies bytes rest = whole_line bad_tree replies bytes rest
 line_more tree_full replies bytes rest = whole_line tree_full replies bytes rest
+line_more in_group replies bytes rest = whole_line in_group replies bytes rest
+line_more no_group replies bytes rest = whole_line no_group replies bytes rest
 line_more (summary totals) replies bytes rest = whole_line (summary totals) replies bytes rest
 line_more silence replies bytes rest = rest
 
@@ -232,6 +236,8 @@ forced_text (ran m) n same = absurd (omega (arith, ap (λ (l : List ℕ). get_or
 forced_text (pairs pair others) n same = absurd (low_pair pair.0 pair.1 (flat_map spaced_pair others) n same)
 forced_text bad_tree n same = absurd (omega (arith, ap (λ (l : List ℕ). get_or l 1 0) same))
 forced_text tree_full n same = absurd (omega (arith, ap (λ (l : List ℕ). get_or l 1 0) same))
+forced_text in_group n same = absurd (omega (arith, ap (λ (l : List ℕ). get_or l 1 0) same))
+forced_text no_group n same = absurd (omega (arith, ap (λ (l : List ℕ). get_or l 1 0) same))
 forced_text (summary totals) n same = absurd (omega (arith, ap (λ (l : List ℕ). get_or l 0 0) same))
 forced_text silence n same = absurd (omega (arith, ap (λ (l : List ℕ). get_or l 1 0) same))
 
@@ -261,14 +267,14 @@ text_forces (silence ∷ replies) n has = later_forces silence replies n (text_f
 text_forces (reply ∷ replies) n has = ⊎_elim (λ is. first_forces reply replies n is) (λ behind. later_forces reply replies n (text_forces replies n behind)) (texts_cases (text_of reply) (text_of (forced n)) (texts_of replies) has)
 
 -- the beginning of the next answer is no whole line
-plain_part : {p : Params} {tie : List ℕ → Reply → Type 0} {commands : List Command} {script : List (List ℕ)} {said : List ℕ} → (s : Said p tie commands script said) → IsPlain s.part
+plain_part : {p : Params} {tie : List Command → List ℕ → Reply → Type 0} {commands : List Command} {script : List (List ℕ)} {said : List ℕ} → (s : Said p tie commands script said) → IsPlain s.part
 plain_part {p} {tie} {commands} s = ⊎_elim
     (λ none. subst (λ (l : List ℕ). IsPlain l) (sym none.0) tt)
-    (λ (b : Begun p tie (commands ++ s.acc) s.todo s.part s.added). subst (λ (l : List ℕ). IsPlain l) (sym b.begun) (plain_front b.count (text_of b.reply) (plain_text b.reply)))
+    (λ (b : Begun p tie s.account s.todo s.part s.added). subst (λ (l : List ℕ). IsPlain l) (sym b.begun) (plain_front b.count (text_of b.reply) (plain_text b.reply)))
     s.work
 
 -- What was printed says no more to be forced than the answers do.
-pub printed_acked : {p : Params} {tie : List ℕ → Reply → Type 0} {commands : List Command} {script : List (List ℕ)} {said : List ℕ} (kept : ℕ) → (s : Said p tie commands script said) → kept < 2 ^ 64
+pub printed_acked : {p : Params} {tie : List Command → List ℕ → Reply → Type 0} {commands : List Command} {script : List (List ℕ)} {said : List ℕ} (kept : ℕ) → (s : Said p tie commands script said) → kept < 2 ^ 64
     → ((n : ℕ) → Contains s.replies (forced n) → n ≤ kept) → (n : ℕ) → SaysForced said n → n ≤ kept
 printed_acked {p} {tie} {commands} {script} {said} kept s small acked n says =
     let texts = ap (λ (l : List ℕ). whole_lines l) s.said_is ∙ lines_said s.replies s.part (plain_part s) in

@@ -1,5 +1,6 @@
 -- What the opening of a store says of the files.
-use Rattle.std.proofs.Common.{◌≡◌, ◌≢◌, ◌⊎◌, ⊎_elim, ◌≤◌, ◌∙◌, ◌++◌, List, [], ◌∷◌, ℕ, refl, ap, sym, subst, arith, length, take, drop, false}
+use Rattle.std.proofs.Common.{◌≡◌, ◌≢◌, ◌⊎◌, ⊎_elim, ◌∙◌, ◌++◌, List, [], ◌∷◌, ℕ, refl, ap, sym, subst, arith, length, take, drop, false, Option, None}
+use Rattle.std.specs.Prelude.{IfSome}
 use Rattle.std.proofs.lemmas.List.{append-nil, length-append, take-append-drop}
 use Rattle.disk_model.specs.Disk.{Files, Disk, Stays}
 use Rattle.disk_model.specs.declared.machine.FileNo.TheVariants.{Objects}
@@ -11,6 +12,7 @@ use Rattle.op_codec.specs.AllOps.{all_meaning}
 use Rattle.explain_core.specs.History.{Member, commands_of}
 use Rattle.explain_core.specs.StableLaws.{commands_of-append}
 use Rattle.explain_core.specs.World.{World, run}
+use Rattle.cache_manager.specs.Parts.{Shows}
 use Rattle.cache_manager.specs.Taking.{IsAfter}
 use Rattle.restart.specs.Causes.{IsNoDamage}
 use Rattle.restart.specs.Courses.{restart_course}
@@ -21,8 +23,9 @@ use Rattle.restart.specs.declared.restart_err.RestartErr.TheVariants.{NotAStore,
 use Rattle.standing.specs.Standing.{IsFound}
 use Rattle.store_engine.specs.Engine.{EngineView}
 use Rattle.store_engine.specs.Engine as of_engine
+use Rattle.store_engine.specs.Grouping.{ungrouped_alone}
 use Rattle.redo_shell.specs.Stages.{Stage, IsFirst, redo_dirty, stage_of}
-use Rattle.redo_shell.specs.Store.{Command, meaning_in, IsWellFormed, Opens, Holds, Says}
+use Rattle.redo_shell.specs.Store.{Command, meaning_in, IsWellFormed, Opens, Holds, Says, ShowsIn}
 use Rattle.redo_shell.proofs.HoldLemmas.{holds_of}
 
 -- a world that the files show, with these commands, and the length of their log
@@ -56,18 +59,29 @@ all_in_front n h commands is same =
 abbrev pub restarted : {p : Params} {commands : List Command} {old : Disk} {first : Stage} → IsFirst p commands old first → World Command
 restarted {p} is = run (meaning_in p) is.world (restart_course (meaning_in p) redo_dirty is.world is.used).steps
 
+-- where no group is open an engine shows what its parts show
+shown_alone : {p : Params} {d : Disk} {engine : EngineView} {w : World Command} → engine.broken ≡ false → engine.group ≡ None → Shows (meaning_in p) p d engine.parts w → ShowsIn p d engine w
+shown_alone {p} {d} {engine} {w} unbroken alone shows = record {
+  unbroken = unbroken;
+  sound = shows.running.sound;
+  group = shows.running.alone ∙ sym alone;
+  shows = subst (λ (v : World Command). Shows (meaning_in p) p d engine.parts v) (sym (ungrouped_alone w shows.running.alone)) shows;
+  no_check = subst (λ (group : Option ℕ). IfSome group (λ begun. w.pending ≡ [])) (sym alone) tt;
+}
+
 -- The engine that was opened shows each first stage: of the commands of that world no fewer are stable than the engine has
 -- accepted, so all of them are.
-pub shows_first : {p : Params} {old new : Disk} {engine : EngineView} {commands : List Command} (first : Stage) (is : IsFirst p commands old first) → engine.broken ≡ false → engine.identities ≡ 0
+pub shows_first : {p : Params} {old new : Disk} {engine : EngineView} {commands : List Command} (first : Stage) (is : IsFirst p commands old first) → engine.broken ≡ false → engine.group ≡ None → engine.identities ≡ 0
     → IsAfter (meaning_in p) p new engine.parts is.world (restart_course (meaning_in p) redo_dirty is.world is.used)
     → IsReopened (meaning_in p) is.world (restarted is) → of_engine.Holds all_meaning p new engine commands
     → ((others : List Command) → of_engine.Holds all_meaning p new engine others → Says p new engine others)
     → (holds : Holds p new engine commands) × (first ≡ stage_of engine holds.world)
-shows_first {p} {old} {new} {engine} {commands} first is unbroken none after reopened holds says =
-    let mine : of_engine.Holds all_meaning p new engine (commands_of (restarted is).history) = record { world = restarted is; shows = record { unbroken = unbroken; shows = after.shows }; commands_are = refl } in
+shows_first {p} {old} {new} {engine} {commands} first is unbroken alone none after reopened holds says =
+    let shown = shown_alone unbroken alone after.shows in
+    let mine : of_engine.Holds all_meaning p new engine (commands_of (restarted is).history) = record { world = restarted is; shows = shown; commands_are = refl } in
     let many : length (commands_of (restarted is).history) ≡ length commands = sym (says (commands_of (restarted is).history) mine).accepted ∙ (says commands holds).accepted in
     let front = all_in_front is.world.forced is.world.history commands is.commands_are (ap length (sym reopened.commands) ∙ many) in (
-      holds_of (record { world = restarted is; shows = record { unbroken = unbroken; shows = after.shows }; commands_are = reopened.commands ∙ front }) (says commands),
+      holds_of (record { world = restarted is; shows = shown; commands_are = reopened.commands ∙ front }) (says commands),
       λ i. record { world = is.world_is i; used = (is.used_is ∙ sym after.used) i; identities = (is.none_logged ∙ sym none) i },
     )
 

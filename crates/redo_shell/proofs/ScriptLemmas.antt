@@ -2,6 +2,7 @@
 use Rattle.std.proofs.Common.{◌≡◌, ◌≢◌, ◌++◌, List, ℕ, [], ◌∷◌, length-append, append_assoc, refl, sym, ◌∙◌, ap, subst, arith, ◌<◌, ◌≤◌, ◌^◌, ◌==◌, if◌then◌else◌, true, false, length, Bool, Result, Ok, Err, IfErr}
 use Rattle.std.specs.Result.{IsErrAnd, IsErrOf}
 use Rattle.disk_model.specs.Disk.{Disk, Passes, Rises}
+use Rattle.disk_model.specs.declared.machine.FileNo.{FileNo}
 use Rattle.script_lines.specs.Grammar.{lines_of, before_first}
 use Rattle.script_lines.specs.Reading.{Takes, IsNext, IsLine}
 use Rattle.script_lines.specs.declared.next.Next.{Next}
@@ -10,7 +11,7 @@ use Rattle.script_lines.specs.declared.read_error.ReadError.{ReadError}
 use Rattle.script_lines.specs.declared.read_error.ReadError.TheVariants.{ReadFault as ReadFailed, TooLong as ReadTooMuch, Memory as NoMemoryToRead}
 use Rattle.redo_shell.specs.declared.stop.Stop.{Stop}
 use Rattle.redo_shell.specs.declared.stop.Stop.TheVariants.{DiskFault, Damaged, ReadFault, SayFault, Memory, TooLong}
-use Rattle.redo_shell.specs.Status.{stop_of_read}
+use Rattle.redo_shell.specs.Status.{IsCut, status_after, status_of, stop_of_read}
 use Rattle.redo_shell.specs.Run.{IsCaused, IsStopped, IsUndamaged}
 use Rattle.redo_shell.proofs.HoldLemmas.{rises_within}
 
@@ -57,11 +58,22 @@ line_stops (Err stop) answered why old mid new before now is was time cause =
     let here = subst (λ (r : Result Bool Stop). IfErr r (λ s. IsCaused s mid new)) was cause in
     subst (λ (s : Stop). IsStopped s old new before now) (sym is) (stopped_line why old mid new before now time here)
 
+-- a whole run was not cut short
+pub whole_uncut : (refusing : Bool) → IsCut (status_after (Ok refusing)) → ⊥
+whole_uncut true cut = cut
+whole_uncut false cut = cut
+
 -- or the last force failed
-pub force_stops : (result : Result Bool Stop) (old mid new : Disk) (before now : ℕ) → IsErrAnd result (λ stop. stop ≡ DiskFault) → Passes old mid → Rises mid.disk_faults new.disk_faults → IfErr result (λ stop. IsStopped stop old new before now)
-force_stops (Ok refusing) old mid new before now is time fault = tt
-force_stops (Err stop) old mid new before now is time fault =
-    subst (λ (s : Stop). IsStopped s old new before now) (sym is) (rises_within old.disk_faults mid.disk_faults new.disk_faults new.disk_faults time.disk_faults (omega arith) fault)
+pub finish_stops : (result : Result Bool Stop) (why : Stop) (old mid new : Disk) (before now : ℕ) → IsErrAnd result (λ stop. stop ≡ why) → why ≡ DiskFault → Passes old mid → Rises mid.disk_faults new.disk_faults
+    → IfErr result (λ stop. IsStopped stop old new before now)
+finish_stops (Ok refusing) why old mid new before now is same time fault = tt
+finish_stops (Err stop) why old mid new before now is same time fault =
+    subst (λ (s : Stop). IsStopped s old new before now) (sym (is ∙ same)) (rises_within old.disk_faults mid.disk_faults new.disk_faults new.disk_faults time.disk_faults (omega arith) fault)
+
+-- and the run was not cut short
+pub finish_uncut : (result : Result Bool Stop) (why : Stop) → IsErrAnd result (λ stop. stop ≡ why) → why ≡ DiskFault → IsCut (status_after result) → ⊥
+finish_uncut (Ok refusing) why is same cut = whole_uncut refusing cut
+finish_uncut (Err stop) why is same cut = subst (λ (s : Stop). IsCut (status_of s)) (is ∙ same) cut
 
 -- and not for too much input
 pub line_not_long : (result answered : Result Bool Stop) (why : Stop) (mid new : Disk) → IsErrAnd result (λ stop. stop ≡ why) → answered ≡ Err why → IfErr answered (λ stop. IsCaused stop mid new) → IsErrOf result TooLong → ⊥
@@ -75,6 +87,10 @@ line_not_long (Err stop) answered why mid new is was cause long =
 pub line_undamaged : (result answered : Result Bool Stop) (why : Stop) → IsErrAnd result (λ stop. stop ≡ why) → answered ≡ Err why → IfErr answered IsUndamaged → IfErr result IsUndamaged
 line_undamaged (Ok refusing) answered why is was none = tt
 line_undamaged (Err stop) answered why is was none = subst IsUndamaged (sym is) (subst (λ (r : Result Bool Stop). IfErr r IsUndamaged) was none)
+
+-- no slot is damaged where none is reported so
+pub whole_end : {T : Type 0} {result : Result T Stop} → IfErr result IsUndamaged → {file : FileNo} {place : ℕ} → result ≡ Err (Damaged file place) → ⊥
+whole_end {T} {result} whole is = subst (λ (r : Result T Stop). IfErr r IsUndamaged) is whole
 
 some_line : (b : Bool) (line : List ℕ) (lines others : List (List ℕ)) → (others ≡ [] → ⊥) → (if b then line ∷ lines else others) ≡ [] → ⊥
 some_line true line lines others some none = cc

@@ -9,25 +9,27 @@ use Rattle.op_codec.specs.AllOps.{all_meaning}
 use Rattle.store_engine.specs.ImageLaws.{stands_begins}
 use Rattle.script_lines.specs.Replies.{Reply}
 use Rattle.redo_shell.specs.Store.{Command, Stands, IsNew}
+use Rattle.redo_shell.specs.Groups.{account_of}
 use Rattle.redo_shell.specs.Answers.{Said, Begun, Moment}
 use Rattle.redo_shell.specs.Sessions.{Ran, Adds, Survives, Follows, Sessions, AllSilent, IsAsked, IsThere, Arises, none, more, start, run, init, dump, other}
 use Rattle.redo_shell.proofs.PrintedLemmas.{nothing_printed}
-use Rattle.redo_shell.proofs.StoryLemmas.{story_start, told_whole}
+use Rattle.redo_shell.proofs.StoryLemmas.{answers_grow, ended_whole, story_start, told_whole}
 
 -- a story whose begun answer is true is a story
-abbrev untied : {p : Params} {tie : List ℕ → Reply → Type 0} {commands : List Command} {script : List (List ℕ)} {said : List ℕ} → Said p tie commands script said → Said p (λ line reply. ⊤) commands script said
+abbrev untied : {p : Params} {tie : List Command → List ℕ → Reply → Type 0} {commands : List Command} {script : List (List ℕ)} {said : List ℕ} → Said p tie commands script said → Said p (λ ops line reply. ⊤) commands script said
 untied {p} {tie} {commands} s = record {
   lines = s.lines;
   todo = s.todo;
   replies = s.replies;
-  acc = s.acc;
+  waits = s.waits;
+  account = s.account;
   part = s.part;
   added = s.added;
   script_is = s.script_is;
   said_is = s.said_is;
   answers = s.answers;
   work = ⊎_elim (λ whole. inl whole)
-      (λ (b : Begun p tie (commands ++ s.acc) s.todo s.part s.added). inr (record { line = b.line; rest = b.rest; reply = b.reply; count = b.count; next = b.next; replies = b.replies; begun = b.begun; tied = tt }))
+      (λ (b : Begun p tie s.account s.todo s.part s.added). inr (record { line = b.line; rest = b.rest; reply = b.reply; count = b.count; next = b.next; replies = b.replies; begun = b.begun; tied = tt }))
       s.work;
 }
 
@@ -35,32 +37,34 @@ untied {p} {tie} {commands} s = record {
 adds_none : (p : Params) (commands : List Command) (ran : Ran) → ran.bytes ≡ [] → Adds p commands ran commands
 adds_none p commands ran silent =
     subst (λ (l : List ℕ). Adds p commands (record { script = ran.script; bytes = l }) commands) (sym silent)
-    (let said = told_whole (λ line reply. ⊤) (story_start p commands ran.script) in
-    let same : commands ++ said.story.acc ++ said.story.added ≡ commands = said.all ∙ append-nil commands in
+    (let said = told_whole (λ ops line reply. ⊤) (story_start p commands ran.script) in
+    let same : said.story.account.commands ++ said.story.added ≡ commands = said.all in
     record {
       story = said.story;
       kept = length commands;
       all_before = omega arith;
       no_more = omega (arith, ap length same);
+      whole = ended_whole (length commands) said.story.todo said.story.account (said.whole (length commands) (omega arith) (record { closed = tt; group = tt }));
       now_is = sym (ap (λ (l : List Command). take (length commands) l) same ∙ take_all (length commands) commands (omega arith));
       acked = λ n says. absurd (nothing_printed n says);
     })
 
 -- a moment of it that had said something
-adds_moment : (p : Params) (commands : List Command) (ran : Ran) (before : List ℕ) (files : Files) → (m : Moment p commands ran.script before files (before ++ ran.bytes)) → Adds p commands ran (take m.kept (commands ++ m.story.acc ++ m.story.added))
+adds_moment : (p : Params) (commands : List Command) (ran : Ran) (before : List ℕ) (files : Files) → (m : Moment p commands ran.script before files (before ++ ran.bytes)) → Adds p commands ran (take m.kept (m.story.account.commands ++ m.story.added))
 adds_moment p commands ran before files m =
     let same : ran.bytes ≡ m.bytes = append_cancel_left before ran.bytes m.bytes m.since in
-    subst (λ (l : List ℕ). Adds p commands (record { script = ran.script; bytes = l }) (take m.kept (commands ++ m.story.acc ++ m.story.added))) (sym same)
-    (record { story = untied m.story; kept = m.kept; all_before = m.all_before; no_more = m.no_more; now_is = refl; acked = m.acked })
+    subst (λ (l : List ℕ). Adds p commands (record { script = ran.script; bytes = l }) (take m.kept (m.story.account.commands ++ m.story.added))) (sym same)
+    (record { story = untied m.story; kept = m.kept; all_before = m.all_before; no_more = m.no_more; whole = m.whole; now_is = refl; acked = m.acked })
 
 -- where a store has what runs made of it, it has what one run more makes of that
 abbrev survives_run : {p : Params} {commands : List Command} {runs : List Ran} {was files : Files} (ran : Ran) (now : List Command) → (s : Survives p commands runs was) → Adds p s.now ran now → Stands p files now → Survives p commands (ran ∷ runs) files
 survives_run {p} {commands} {runs} {was} {files} ran now s adds stands =
-    let added = adds.story.acc ++ adds.story.added in
+    let grown = answers_grow p (account_of s.now) adds.story.lines adds.story.replies adds.story.waits adds.story.account adds.story.answers in
+    let added = grown.0 ++ adds.story.added in
     let rest = take (adds.kept - length s.now) added in
     let split : adds.kept ≡ length s.now + (adds.kept - length s.now) = omega (arith, adds.all_before) in
-    let whole : s.now ++ adds.story.acc ++ adds.story.added ≡ s.now ++ added = append_assoc s.now adds.story.acc adds.story.added in
-    let long : length now ≡ adds.kept = ap (λ (l : List Command). length l) adds.now_is ∙ length-take-le adds.kept (s.now ++ adds.story.acc ++ adds.story.added) adds.no_more in
+    let whole : adds.story.account.commands ++ adds.story.added ≡ s.now ++ added = ap (λ (l : List Command). l ++ adds.story.added) grown.1 ∙ append_assoc s.now grown.0 adds.story.added in
+    let long : length now ≡ adds.kept = ap (λ (l : List Command). length l) adds.now_is ∙ length-take-le adds.kept (adds.story.account.commands ++ adds.story.added) adds.no_more in
     record {
       now = now;
       later = s.later ++ rest;
@@ -105,7 +109,7 @@ module _ {T : Type 0} (disk : T → Disk) (lawful : (m : T) → IsDisk (disk m))
             let image = each_old files _ was in
             let silent = append_cancel_left (disk old).said ran.bytes [] ((lawful old).said_now told_old files _ was ∙ sym (append-nil (disk old).said)) in
             survives_run ran image.now image (adds_none p image.now ran silent) image.stands)
-            (λ m. survives_run ran (take m.kept (read.now ++ m.story.acc ++ m.story.added)) read (adds_moment p read.now ran (disk old).said files m) m.stands)
+            (λ m. survives_run ran (take m.kept (m.story.account.commands ++ m.story.added)) read (adds_moment p read.now ran (disk old).said files m) m.stands)
             (moments.each files _ (follows.within told_next files said left)),
       )
   survive (init old new next q bytes before no_store leaves follows) =
@@ -162,7 +166,7 @@ module _ {T : Type 0} (disk : T → Disk) (lawful : (m : T) → IsDisk (disk m))
             let (q, from_q, image) = is in
             inr (q, from_q, survives_run ran image.now image (adds_none q image.now ran silent) image.stands))
             (each_old files _ was))
-            (λ m. inr (p, from, survives_run ran (take m.kept (read.now ++ m.story.acc ++ m.story.added)) read (adds_moment p read.now ran (disk old).said files m) m.stands))
+            (λ m. inr (p, from, survives_run ran (take m.kept (m.story.account.commands ++ m.story.added)) read (adds_moment p read.now ran (disk old).said files m) m.stands))
             (moments.each files _ (follows.within told_next files said left)))
             read_or,
       )

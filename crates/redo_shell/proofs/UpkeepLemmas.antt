@@ -1,40 +1,194 @@
--- How the end of a call that adds no command is answered.
-use Rattle.std.proofs.Common.{◌≡◌, refl, sym, subst, ℕ, List, Result, Ok, Err, IfErr, false}
-use Rattle.std.specs.Prelude.{⊤}
+-- How the calls are answered that no group allows, and what holds of them by their answers.
+use Rattle.std.proofs.Common.{◌≡◌, ◌∙◌, ap, refl, sym, subst, inl, inr, ℕ, List, None, Result, Ok, Err, IfErr, IfOk, OnOk, false}
+use Rattle.std.specs.Prelude.{⊤, IfSome, IsTrue, length}
+use Rattle.std.specs.Option.{is_some}
 use Rattle.std.specs.Result.{IsErrAnd}
-use Rattle.disk_model.specs.Disk.{Disk, Rises}
+use Rattle.std.proofs.lemmas.Result.{on_ok_weaker}
+use Rattle.disk_model.specs.Disk.{Disk, IsDisk, LeavesOnly, Passes, Rises}
+use Rattle.disk_model.specs.Moments.{passes_none}
 use Rattle.disk_model.specs.declared.machine.FileNo.{FileNo}
+use Rattle.formats.specs.declared.params.Params.{Params}
+use Rattle.op_codec.specs.AllOps.{all_meaning}
 use Rattle.cache_manager.specs.Courses.Stop.{Through, Full, At_end, Worn}
 use Rattle.cache_manager.specs.Taking.{Ending, ending_of}
 use Rattle.cache_manager.specs.Taking.Ending.{Done, Stopped, Short, Failed}
+use Rattle.cache_manager.specs.declared.install.Install.{Install}
 use Rattle.cache_manager.specs.declared.install_err.InstallErr.{InstallErr}
 use Rattle.cache_manager.specs.declared.install_err.InstallErr.TheVariants as of_install
 use Rattle.checkpointing.specs.Left as of_trim
 use Rattle.checkpointing.specs.declared.trim_err.TrimErr.{TrimErr}
-use Rattle.script_lines.specs.Grammar.{Request}
+use Rattle.checkpointing.specs.declared.trim_err.TrimErr.TheVariants as of_trimming
+use Rattle.script_lines.specs.Grammar.{AsksFor, Request, install, drain, checkpoint, trim}
+use Rattle.script_lines.specs.Replies.{reply_of}
 use Rattle.script_lines.specs.declared.answer.Answer.{Answer}
-use Rattle.store_engine.specs.Engine.{EngineView, IsFailed}
-use Rattle.redo_shell.specs.Store.{IsAttached, IsCall}
-use Rattle.redo_shell.specs.Found.{IsAnswerOf, IsShort, IsUpkept, ending_of_error}
+use Rattle.store_engine.specs.Calls.{IsChecking, IsDraining, IsForcing, IsInstalling, IsRefused, IsTrimming, work_of_force, work_of_install, work_of_trim}
+use Rattle.store_engine.specs.Engine.{EngineView, IsFailed, forced_in, group_size, logged_since}
+use Rattle.store_engine.specs.declared.force_err.ForceErr.{ForceErr}
+use Rattle.store_engine.specs.declared.work_err.WorkErr.{WorkErr}
+use Rattle.redo_shell.specs.Store.{Between, Command, Holds, IsAttached}
+use Rattle.redo_shell.specs.Found.{IsAnswerOf, IsBarredIn, IsDone, IsShort, IsUpkept, answer_of_work, answer_of_work_error}
+use Rattle.redo_shell.specs.Replies.{IsUpkeep}
+use Rattle.redo_shell.specs.Stages.{stage_of}
 use Rattle.redo_shell.specs.Run.{IsCaused, IsUndamaged}
 use Rattle.redo_shell.specs.declared.stop.Stop.{Stop}
 use Rattle.redo_shell.specs.declared.stop.Stop.TheVariants.{DiskFault, Damaged, ReadFault, SayFault, Memory, TooLong}
-use Rattle.redo_shell.proofs.DoneLemmas.{still_attached, still_whole}
+use Rattle.redo_shell.proofs.CourseLemmas.{logged_checkpoint, logged_trim}
+use Rattle.redo_shell.proofs.DoneLemmas.{AreCounted, barred_done, by_group, images_of, still_attached, still_images, still_whole, still_works, upkeep_barred, upkeep_done, upkeep_works}
+use Rattle.redo_shell.proofs.HoldLemmas.{always, in_engine}
+use Rattle.redo_shell.proofs.MomentLemmas.{Works}
+use Rattle.redo_shell.proofs.OpenGroups.{in_open}
 
--- a refused call's ending, whatever it would have answered
-pub refused_ends : (T : Type 0) (error : InstallErr) (result : Result Answer Stop) → IsAnswerOf (ending_of_error error) result → IsAnswerOf (ending_of {T = T} (Err error)) result
-refused_ends T (of_install.LogFull used need limit) result is = is
-refused_ends T (of_install.LsnEnd number) result is = is
-refused_ends T of_install.DiskFault result is = is
-refused_ends T of_install.Memory result is = is
+-- what the engine says within a group
+abbrev pub RefusedWithin : {T M : Type 0} → M → M → EngineView → EngineView → Result T WorkErr → Type 0
+RefusedWithin old new before after call = IfSome (group_size before) (λ size. IsRefused size old new before after call)
 
--- no slot is damaged where none is reported so
-pub whole_end : {T : Type 0} {result : Result T Stop} → IfErr result IsUndamaged → {file : FileNo} {place : ℕ} → result ≡ Err (Damaged file place) → ⊥
-whole_end {T} {result} whole is = subst (λ (r : Result T Stop). IfErr r IsUndamaged) is whole
+pub refused_in : {T M : Type 0} {old new : M} {before after : EngineView} (call : Result T WorkErr) → RefusedWithin old new before after call → IsTrue (is_some before.group) → (size : ℕ) × IsRefused size old new before after call
+refused_in {old = old} {new = new} {before = before} {after = after} call refused inside = in_open (λ size. IsRefused size old new before after call) before refused inside
 
-abbrev pub IsOk : {T : Type 0} → Result T Stop → Type 0
-IsOk (Ok value) = ⊤
-IsOk (Err stop) = ⊥
+-- a call is barred there
+pub barred_in : {T M : Type 0} {old new : M} {before after : EngineView} (call : Result T WorkErr) (result : Result Answer Stop) → RefusedWithin old new before after call → result ≡ answer_of_work call → IsTrue (is_some before.group)
+    → IsBarredIn old new before after result
+barred_in call result refused is inside =
+    let it = refused_in call refused inside in
+    record { machine = it.1.machine; engine = it.1.engine; answer = is ∙ ap (λ r. answer_of_work r) it.1.answer }
+
+-- one that is done is not
+pub never_barred : {T M : Type 0} (old new : M) (before after : EngineView) (value : T) → RefusedWithin old new before after (Ok value) → IsTrue (is_some before.group) → ⊥
+never_barred old new before after value refused inside = let it = refused_in {old = old} {new = new} {before = before} {after = after} (Ok value) refused inside in cc it.1.answer
+
+-- the machine stays
+pub barred_still : {T M : Type 0} {old new : M} (before after : EngineView) (call : Result T WorkErr) → RefusedWithin old new before after call → IsTrue (is_some before.group) → new ≡ old
+barred_still before after call refused inside = (refused_in {before = before} {after = after} call refused inside).1.machine
+
+-- and so does what is attached
+pub barred_attached : {T M : Type 0} (disk : M → Disk) (old new : M) (before after : EngineView) (call : Result T WorkErr) → RefusedWithin old new before after call → IsTrue (is_some before.group) → IsAttached (disk old) before → IsAttached (disk new) after
+barred_attached {T} {M} disk old new before after call refused inside attached =
+    let it = refused_in {old = old} {new = new} {before = before} {after = after} call refused inside in
+    subst (λ (x : M). IsAttached (disk x) after) (sym it.1.machine) (subst (λ (e : EngineView). IsAttached (disk old) e) (sym it.1.engine) attached)
+
+-- what a force says outside groups
+abbrev pub ForcesAlone : Disk → Disk → EngineView → EngineView → Result ℕ WorkErr → Type 0
+ForcesAlone old new before after call = (answer : Result ℕ ForceErr) × (call ≡ work_of_force answer) × IsForcing all_meaning old new before after answer
+
+abbrev value_of : Result ℕ WorkErr → ℕ
+value_of (Ok n) = n
+value_of (Err e) = 0
+
+abbrev HasValue : Result ℕ WorkErr → Type 0
+HasValue (Ok n) = ⊤
+HasValue (Err e) = ⊥
+
+pub forced_alone : {old new : Disk} {before after : EngineView} (n : ℕ) → ForcesAlone old new before after (Ok n) → IsForcing all_meaning old new before after (Ok n)
+forced_alone {old} {new} {before} {after} n alone = by_answer alone.0 alone.1 alone.2
+  where
+    by_answer : (answer : Result ℕ ForceErr) → Ok n ≡ work_of_force answer → IsForcing all_meaning old new before after answer → IsForcing all_meaning old new before after (Ok n)
+    by_answer (Ok k) is it = subst (λ (j : ℕ). IsForcing all_meaning old new before after (Ok j)) (sym (ap value_of is)) it
+    by_answer (Err e) is it = absurd (subst (λ (r : Result ℕ WorkErr). HasValue r) is tt)
+
+-- it fails with the disk alone
+pub unforced_alone : {old new : Disk} {before after : EngineView} (error : WorkErr) (result : Result Answer Stop) → ForcesAlone old new before after (Err error) → result ≡ answer_of_work_error error → result ≡ Err DiskFault
+unforced_alone error result alone is = by_answer alone.0 alone.1
+  where
+    by_answer : (answer : Result ℕ ForceErr) → Err error ≡ work_of_force answer → result ≡ Err DiskFault
+    by_answer (Ok k) same = cc same
+    by_answer (Err e) same = is ∙ ap (λ r. answer_of_work r) same
+
+-- how the end of a call is answered
+install_ends : {T : Type 0} (answer : Result T InstallErr) → IsAnswerOf (ending_of answer) (answer_of_work (work_of_install answer))
+install_ends (Ok value) = refl
+install_ends (Err (of_install.LogFull used need limit)) = refl
+install_ends (Err (of_install.LsnEnd number)) = refl
+install_ends (Err of_install.DiskFault) = refl
+install_ends (Err of_install.Memory) = (Memory, tt, refl)
+
+install_whole : {T : Type 0} (answer : Result T InstallErr) (file : FileNo) (place : ℕ) → answer_of_work (work_of_install answer) ≡ Err (Damaged file place) → ⊥
+install_whole (Ok value) file place is = cc is
+install_whole (Err (of_install.LogFull used need limit)) file place is = cc is
+install_whole (Err (of_install.LsnEnd number)) file place is = cc is
+install_whole (Err of_install.DiskFault) file place is = cc is
+install_whole (Err of_install.Memory) file place is = cc is
+
+trim_ends : {T : Type 0} (answer : Result T TrimErr) → IsAnswerOf (of_trim.ending_of answer) (answer_of_work (work_of_trim answer))
+trim_ends (Ok value) = refl
+trim_ends (Err (of_trimming.Exhausted epoch)) = refl
+trim_ends (Err of_trimming.DiskFault) = refl
+trim_ends (Err (of_trimming.Damaged file place)) = (Damaged file place, tt, refl)
+trim_ends (Err (of_trimming.LogFull used need limit)) = refl
+trim_ends (Err of_trimming.Memory) = (Memory, tt, refl)
+
+trim_whole : {T : Type 0} (answer : Result T TrimErr) (file : FileNo) (place : ℕ) → answer_of_work (work_of_trim answer) ≡ Err (Damaged file place) → answer ≡ Err (of_trimming.Damaged file place)
+trim_whole (Ok value) file place is = cc is
+trim_whole (Err (of_trimming.Exhausted epoch)) file place is = cc is
+trim_whole (Err of_trimming.DiskFault) file place is = cc is
+trim_whole (Err (of_trimming.Damaged other there)) file place is = cc is
+trim_whole (Err (of_trimming.LogFull used need limit)) file place is = cc is
+trim_whole (Err of_trimming.Memory) file place is = cc is
+
+module _ {old new : Disk} {before after : EngineView} {result : Result Answer Stop} where
+  pub installed_upkept : (call : Result Install WorkErr) → (answer : Result Install InstallErr) × (call ≡ work_of_install answer) × IsInstalling all_meaning old new before after answer → result ≡ answer_of_work call
+      → IsUpkept old new before after install result
+  installed_upkept call alone is =
+      let same = is ∙ ap (λ r. answer_of_work r) alone.1 in
+      record {
+        epoch = 0;
+        logged = logged_since before after;
+        ending = ending_of alone.0;
+        call = alone.2.call;
+        takes = alone.2.takes;
+        commands = alone.2.commands;
+        counted = inl refl;
+        answered = subst (λ (r : Result Answer Stop). IsAnswerOf (ending_of alone.0) r) (sym same) (install_ends alone.0);
+        undamaged = λ told attached file place damaged. install_whole alone.0 file place (sym same ∙ damaged);
+      }
+
+  pub drained_upkept : (call : Result ℕ WorkErr) → (answer : Result ℕ InstallErr) × (call ≡ work_of_install answer) × IsDraining all_meaning old new before after answer → result ≡ answer_of_work call
+      → IsUpkept old new before after drain result
+  drained_upkept call alone is =
+      let same = is ∙ ap (λ r. answer_of_work r) alone.1 in
+      record {
+        epoch = 0;
+        logged = logged_since before after;
+        ending = ending_of alone.0;
+        call = alone.2.call;
+        takes = alone.2.takes;
+        commands = alone.2.commands;
+        counted = inl refl;
+        answered = subst (λ (r : Result Answer Stop). IsAnswerOf (ending_of alone.0) r) (sym same) (install_ends alone.0);
+        undamaged = λ told attached file place damaged. install_whole alone.0 file place (sym same ∙ damaged);
+      }
+
+  pub checked_upkept : {T : Type 0} (call : Result T WorkErr) → (answer : Result T InstallErr) × (call ≡ work_of_install answer) × IsChecking all_meaning old new before after answer → result ≡ answer_of_work call
+      → IsUpkept old new before after checkpoint result
+  checked_upkept call alone is =
+      let same = is ∙ ap (λ r. answer_of_work r) alone.1 in
+      record {
+        epoch = 0;
+        logged = 0;
+        ending = ending_of alone.0;
+        call = alone.2.call;
+        takes = alone.2.takes;
+        commands = alone.2.commands;
+        counted = inr (refl, λ m w used. logged_checkpoint m w used);
+        answered = subst (λ (r : Result Answer Stop). IsAnswerOf (ending_of alone.0) r) (sym same) (install_ends alone.0);
+        undamaged = λ told attached file place damaged. install_whole alone.0 file place (sym same ∙ damaged);
+      }
+
+  pub trimmed_upkept : {T : Type 0} (call : Result T WorkErr) → (answer : Result T TrimErr) × (call ≡ work_of_trim answer) × IsTrimming all_meaning old new before after answer → result ≡ answer_of_work call
+      → IsUpkept old new before after trim result
+  trimmed_upkept call alone is =
+      let same = is ∙ ap (λ r. answer_of_work r) alone.1 in
+      let epoch = before.parts.log.log.header.epoch in
+      record {
+        epoch = epoch;
+        logged = 0;
+        ending = of_trim.ending_of alone.0;
+        call = alone.2.call;
+        takes = alone.2.takes;
+        commands = alone.2.commands;
+        counted = inr (refl, λ m w used. logged_trim m epoch w used);
+        answered = subst (λ (r : Result Answer Stop). IsAnswerOf (of_trim.ending_of alone.0) r) (sym same) (trim_ends alone.0);
+        undamaged = λ told attached file place damaged. alone.2.undamaged told attached file place (trim_whole alone.0 file place (sym same ∙ damaged));
+      }
 
 short_cause : (old now : Disk) (stop : Stop) → IsShort stop → IsCaused stop old now
 short_cause old now DiskFault is = absurd is
@@ -44,7 +198,7 @@ short_cause old now SayFault is = absurd is
 short_cause old now Memory is = tt
 short_cause old now TooLong is = absurd is
 
--- What holds of such a call by its answer.
+-- What holds of a call for a request that adds no command, outside groups.
 module _ {old now : Disk} {before after : EngineView} {request : Request} {result : Result Answer Stop} (u : IsUpkept old now before after request result) where
   caused_by : (ending : Ending) (r : Result Answer Stop) → IsAnswerOf ending r → (IsFailed ending → Rises old.disk_faults now.disk_faults) → IfErr r (λ stop. IsCaused stop old now)
   caused_by Done r is fault = subst (λ (x : Result Answer Stop). IfErr x (λ stop. IsCaused stop old now)) (sym is) tt
@@ -55,7 +209,7 @@ module _ {old now : Disk} {before after : EngineView} {request : Request} {resul
   caused_by Short r is fault = subst (λ (x : Result Answer Stop). IfErr x (λ stop. IsCaused stop old now)) (sym is.2) (short_cause old now is.0 is.1)
   caused_by Failed r is fault = subst (λ (x : Result Answer Stop). IfErr x (λ stop. IsCaused stop old now)) (sym is) (fault tt)
 
-  pub upkept_cause : IfErr result (λ stop. IsCaused stop old now)
+  upkept_cause : IfErr result (λ stop. IsCaused stop old now)
   upkept_cause = caused_by u.ending result u.answered u.call.fault
 
   short_whole : (r : Result Answer Stop) → ((file : FileNo) (place : ℕ) → r ≡ Err (Damaged file place) → ⊥) → IfErr r IsUndamaged
@@ -67,28 +221,72 @@ module _ {old now : Disk} {before after : EngineView} {request : Request} {resul
   short_whole (Err Memory) none = tt
   short_whole (Err TooLong) none = tt
 
-  pub upkept_undamaged : old.tells_files → IsAttached old before → IfErr result IsUndamaged
+  upkept_undamaged : old.tells_files → IsAttached old before → IfErr result IsUndamaged
   upkept_undamaged told attached = short_whole result (u.undamaged told attached)
 
   -- a call that was answered did not fail
-  working : (ending : Ending) (r : Result Answer Stop) → IsAnswerOf ending r → IsOk r → IsFailed ending → ⊥
-  working Done r is fine failed = failed
-  working (Stopped stop) r is fine failed = failed
-  working Short r is fine failed = failed
-  working Failed r is fine failed = subst (λ (x : Result Answer Stop). IsOk x) is fine
+  working : (ending : Ending) (r : Result Answer Stop) → IsAnswerOf ending r → OnOk r (IsFailed ending → ⊥)
+  working Done r is = always r (λ failed. failed)
+  working (Stopped stop) r is = always r (λ failed. failed)
+  working Short r is = always r (λ failed. failed)
+  working Failed r is = subst (λ (x : Result Answer Stop). OnOk x (⊤ → ⊥)) (sym is) tt
 
-  pub upkept_attached : IsOk result → IsAttached old before → IsAttached now after
-  upkept_attached fine attached = still_attached u.call (working u.ending result u.answered fine) attached
+  upkept_attached : IsAttached old before → OnOk result (IsAttached now after)
+  upkept_attached attached = on_ok_weaker result (λ well. still_attached u.call well attached) (working u.ending result u.answered)
 
-  pub upkept_whole : IsOk result → after.broken ≡ false
-  upkept_whole fine = still_whole u.call (working u.ending result u.answered fine)
+  upkept_whole : OnOk result (after.broken ≡ false)
+  upkept_whole = on_ok_weaker result (λ well. still_whole u.call well) (working u.ending result u.answered)
 
--- a trim that ended like one with this error
-pub ends_like : {e same : TrimErr} (result : Result Answer Stop) → e ≡ same → IsAnswerOf (of_trim.ending_of {T = Unit {0}} (Err same)) result → IsAnswerOf (of_trim.ending_of {T = Unit {0}} (Err e)) result
-ends_like result is here = subst (λ (x : TrimErr). IsAnswerOf (of_trim.ending_of {T = Unit {0}} (Err x)) result) (sym is) here
+-- what holds of it within one: nothing was done
+module _ {M : Type 0} (disk : M → Disk) {old now : M} {before after : EngineView} {result : Result Answer Stop} (it : IsBarredIn old now before after result) where
+  pub still_time : Passes (disk old) (disk now)
+  still_time = subst (λ (x : M). Passes (disk old) (disk x)) (sym it.machine) (passes_none (disk old))
 
-pub trim_whole : {e same : TrimErr} → (e ≡ same → ⊥) → e ≡ same → ⊥
-trim_whole none is = none is
+  pub still_cause : IfErr result (λ stop. IsCaused stop (disk old) (disk now))
+  still_cause = subst (λ (r : Result Answer Stop). IfErr r (λ stop. IsCaused stop (disk old) (disk now))) (sym it.answer) tt
+
+  pub still_undamaged : IfErr result IsUndamaged
+  still_undamaged = subst (λ (r : Result Answer Stop). IfErr r IsUndamaged) (sym it.answer) tt
+
+  pub still_on : IsAttached (disk old) before → IsAttached (disk now) after
+  still_on attached = subst (λ (x : M). IsAttached (disk x) after) (sym it.machine) (subst (λ (e : EngineView). IsAttached (disk old) e) (sym it.engine) attached)
+
+  pub still_unbroken : before.broken ≡ false → after.broken ≡ false
+  still_unbroken fine = ap (λ (e : EngineView). e.broken) it.engine ∙ fine
+
+-- So it is in both cases.
+module _ {M : Type 0} (disk : M → Disk) {old now : M} {before after : EngineView} {request : Request} {result : Result Answer Stop} (inside : IsTrue (is_some before.group) → IsBarredIn old now before after result)
+    (alone : before.group ≡ None → IsUpkept (disk old) (disk now) before after request result) where
+  pub either_time : Passes (disk old) (disk now)
+  either_time = by_group before.group (λ some. still_time disk (inside some)) (λ none. (alone none).call.time)
+
+  pub either_cause : IfErr result (λ stop. IsCaused stop (disk old) (disk now))
+  either_cause = by_group before.group (λ some. still_cause disk (inside some)) (λ none. upkept_cause (alone none))
+
+  pub either_undamaged : (disk old).tells_files → IsAttached (disk old) before → IfErr result IsUndamaged
+  either_undamaged told attached = by_group before.group (λ some. still_undamaged disk (inside some)) (λ none. upkept_undamaged (alone none) told attached)
+
+  pub either_attached : IsAttached (disk old) before → OnOk result (IsAttached (disk now) after)
+  either_attached attached = by_group before.group (λ some. always result (still_on disk (inside some) attached)) (λ none. upkept_attached (alone none) attached)
+
+  pub either_whole : before.broken ≡ false → OnOk result (after.broken ≡ false)
+  either_whole fine = by_group before.group (λ some. always result (still_unbroken disk (inside some) fine)) (λ none. upkept_whole (alone none))
+
+  module _ {p : Params} {commands : List Command} (lawful : IsDisk (disk old)) (holds : Holds p (disk old) before commands) where
+    pub either_quiet : (disk now).said ≡ (disk old).said
+    either_quiet = by_group before.group (λ some. ap (λ (x : M). (disk x).said) (inside some).machine) (λ none. (alone none).call.quiet holds.shows.shows.told)
+
+    pub either_images : (disk old).tells_moments → LeavesOnly (disk old) (disk now) (Between p (disk old) before.group (forced_in before) (length commands) commands)
+    either_images told = by_group before.group (λ some. still_images lawful holds (ap disk (inside some).machine) told) (λ none. images_of holds ((alone none).commands.images told p commands (in_engine holds)))
+
+    module _ {line : List ℕ} (counts : AreCounted) (of_kind : IsUpkeep request) (asks : AsksFor line request) where
+      pub either_done : IfOk result (λ answer. IsDone p (disk old) (disk now) before after holds.world commands line (reply_of answer))
+      either_done = by_group before.group (λ some. barred_done disk request holds (upkeep_barred request of_kind) asks some (inside some))
+          (λ none. upkeep_done p (disk old) (disk now) before after commands line request result counts holds of_kind asks none (alone none))
+
+      pub either_works : Works p (disk old) (disk now) (stage_of before holds.world) line
+      either_works = by_group before.group (λ some. still_works line lawful holds (ap disk (inside some).machine))
+          (λ none. upkeep_works p (disk old) (disk now) before after commands line request result counts holds of_kind asks none (alone none))
 
 -- what ended it is handed on
 pub passed_cause : {S T : Type 0} (result : Result T Stop) (answered : Result S Stop) (why : Stop) (old now : Disk) → IsErrAnd result (λ stop. stop ≡ why) → answered ≡ Err why → IfErr answered (λ stop. IsCaused stop old now) → IfErr result (λ stop. IsCaused stop old now)

@@ -6,9 +6,9 @@ use Rattle.formats.specs.Image.{BeginsStore}
 use Rattle.formats.specs.declared.params.Params.{Params}
 use Rattle.standing.specs.Standing.{FilesShow}
 use Rattle.script_lines.specs.Grammar.{lines_of}
-use Rattle.script_lines.specs.Words.{Asks}
-use Rattle.script_lines.specs.declared.words.Asked.{Asked}
-use Rattle.script_lines.specs.declared.words.Asked.TheVariants.{Init, Run, Dump, Demo}
+use Rattle.command_words.specs.Words.{Asks}
+use Rattle.command_words.specs.declared.asked.Asked.{Asked}
+use Rattle.command_words.specs.declared.asked.Asked.TheVariants.{Init, Run, Dump, Demo}
 use Rattle.store_engine.specs.Engine.{InEachImage}
 use Rattle.restart.specs.Starts.{OrAtStart}
 use Rattle.redo_shell.specs.Store.{Command, meaning_in, Stands, Opens, IsNew, IsNewStore}
@@ -17,11 +17,11 @@ use Rattle.redo_shell.specs.Causes.{JudgesFiles, SaysStore}
 use Rattle.redo_shell.specs.Demo.{IsDemo}
 use Rattle.redo_shell.specs.Dump.{dump_of, DumpMoment}
 use Rattle.redo_shell.specs.Keeps.{KeepsFiles}
-use Rattle.redo_shell.specs.Run.{IsComplete}
+use Rattle.redo_shell.specs.Run.{IsComplete, MomentSoFar}
 use Rattle.redo_shell.specs.Stages.{Stage, IsFirst}
 use Rattle.redo_shell.specs.Courses.{RunMoment, TableMoment}
 use Rattle.redo_shell.specs.Sessions.{Ran, Follows, Sessions}
-use Rattle.redo_shell.specs.Status.{IsOfRun, IsOfDump, IsOfInit}
+use Rattle.redo_shell.specs.Status.{IsCut, IsOfRun, IsOfDump, IsOfInit}
 use Rattle.redo_shell.specs.declared.status.Status.{Status}
 use Rattle.redo_shell.specs.declared.status.Status.TheVariants.{Done, DoneWithRefusals, NotAStore, AlreadyStore, Damaged, DiskFault, Memory}
 
@@ -29,14 +29,17 @@ use Rattle.redo_shell.specs.declared.status.Status.TheVariants.{Done, DoneWithRe
 -- left unsynced.
 pub record IsRunOn (p : Params) (commands : List Command) (script : List (List ℕ)) (old new : Disk) (status : Status) : Type 0 where
   -- what a crash at any moment leaves is what a crash at the start could leave, with nothing said since, or it stands for
-  -- these commands and a beginning of those that the script has added, no shorter than any number that was printed to be
-  -- forced, and what was said is the answers to the script's lines
+  -- these commands and a beginning of those that the script has added, which splits no group and is no shorter than any number
+  -- that was printed to be forced, and what was said is the answers to the script's lines
   pub moments : old.tells_moments → LeavesOnly old new (OrAtStart old (Moment p commands script old.said))
   -- from a settled start what a crash at the start could leave is what reads give
   pub from_settled : old.tells_moments → IsSettled old → LeavesOnly old new (Moment p commands script old.said)
   -- but where the disk or memory may have failed the opening, the syncs at its start are done: what a crash then leaves
   -- stands for these commands and a beginning of those that the script has added, with all that was said
   pub opened : old.tells_moments → status ≢ DiskFault → status ≢ Memory → InEachImage new (λ files. Moment p commands script old.said files new.said)
+  -- where the input or the output failed, the input was too long or memory ran out, nothing of an open group is stable at any
+  -- moment: it was neither closed nor forced
+  pub unclosed : old.tells_moments → IsCut status → LeavesOnly old new (OrAtStart old (MomentSoFar p commands script old.said))
   -- from each stage that a restart may make of the files, of which there is one, what was said is the answers to the
   -- script's lines, whatever the status
   pub first : (first : Stage) × IsFirst p commands old first

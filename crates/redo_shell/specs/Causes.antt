@@ -1,6 +1,6 @@
 -- Why a call of the program ends with its status, and what it leaves and says then.
 use Rattle.std.specs.Prelude.{◌≡◌, ◌≢◌, ◌⊎◌, ◌++◌, ◌^◌, ℕ, List}
-use Rattle.disk_model.specs.Disk.{Files, Disk, Rises}
+use Rattle.disk_model.specs.Disk.{Files, Disk, Rises, Stays}
 use Rattle.disk_model.specs.declared.machine.FileNo.{FileNo}
 use Rattle.disk_model.specs.declared.machine.FileNo.TheVariants.{Objects}
 use Rattle.formats.specs.Bytes.{IsOpenAt, IsClosedAt}
@@ -8,8 +8,8 @@ use Rattle.formats.specs.FirstFault.{IsDamaged}
 use Rattle.formats.specs.Image.{BeginsStore}
 use Rattle.op_codec.specs.AllOps.{all_meaning}
 use Rattle.script_lines.specs.Reading.{Takes}
-use Rattle.script_lines.specs.Words.{Asks}
-use Rattle.script_lines.specs.declared.words.Asked.{Asked}
+use Rattle.command_words.specs.Words.{Asks}
+use Rattle.command_words.specs.declared.asked.Asked.{Asked}
 use Rattle.store_engine.specs.Engine.{InEachImage}
 use Rattle.redo_shell.specs.Keeps.{KeepsFiles}
 use Rattle.redo_shell.specs.Notices as notices
@@ -55,6 +55,15 @@ pub record JudgesFiles (old new : Disk) (status : Status) : Type 0 where
   pub memory : status ≡ Memory → IsOpenAt 0 (old.reads Objects)
   -- of files that do not meet their format nothing is said where the disk fails or memory runs out
   pub silent : (IsWellFormed old.reads → ⊥) → (status ≡ DiskFault) ⊎ (status ≡ Memory) → new.said ≡ old.said
+
+-- There was no memory to read the words, and nothing was done.
+pub record IsUnread (old new : Disk) (status : Status) : Type 0 where
+  pub ends : status ≡ Memory
+  pub stays : Stays old new
+
+-- the words were read, and then this holds, or there was no memory to read them
+abbrev pub OrUnread : Type 0 → Disk → Disk → Status → Type 0
+OrUnread holds old new status = holds ⊎ IsUnread old new status
 
 -- The words ask nothing: the files are kept, and the usage line is said unless the output fails.
 pub record IsUsage (old new : Disk) (status : Status) : Type 0 where

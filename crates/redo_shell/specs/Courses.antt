@@ -1,5 +1,5 @@
 -- What is done at each moment of a call, by the courses of the restart and of the lines.
-use Rattle.std.specs.Prelude.{◌≡◌, ◌⊎◌, ◌++◌, ℕ, List, [], ◌∷◌, take}
+use Rattle.std.specs.Prelude.{◌≡◌, ◌⊎◌, ◌++◌, ℕ, List, [], ◌∷◌, take, None}
 use Rattle.std.specs.List.{flat_map}
 use Rattle.disk_model.specs.Disk.{Files, Disk}
 use Rattle.disk_model.specs.Silent.{IsSilent}
@@ -12,13 +12,14 @@ use Rattle.restart.specs.Courses.{restart_course}
 use Rattle.script_lines.specs.Grammar.{force, AsksFor}
 use Rattle.script_lines.specs.Replies.{Reply, said_line}
 use Rattle.redo_shell.specs.Store.{Command, meaning_in}
-use Rattle.redo_shell.specs.Stages.{Stage, HasCourse, Leads, AllGoBy, IsFirst, redo_dirty}
+use Rattle.redo_shell.specs.Stages.{Stage, HasCourse, Leads, AllGoBy, IsFirst, finish_course, redo_dirty}
 
 -- What may be done for the next of these lines before anything is said of it: the course that the line has the engine take,
--- a force for `force` and after the last line; nothing may be done for any line.
+-- a force for `force` where no group is open, and after the last line the end of an open group and a force; nothing may be
+-- done for any line.
 abbrev pub IsDue : Params → Stage → List (List ℕ) → Course Command → Type 0
-IsDue p s [] c = c ≡ force_course (meaning_in p) s.world s.used
-IsDue p s (line ∷ lines) c = HasCourse p s line c ⊎ ((AsksFor line force × (c ≡ force_course (meaning_in p) s.world s.used)) ⊎ (c ≡ course [] s.used Through))
+IsDue p s [] c = c ≡ finish_course (meaning_in p) s.world s.used
+IsDue p s (line ∷ lines) c = HasCourse p s line c ⊎ ((AsksFor line force × (s.world.group ≡ None) × (c ≡ force_course (meaning_in p) s.world s.used)) ⊎ (c ≡ course [] s.used Through))
 
 -- the image shows the world after some first steps of what is due, none or all among them
 pub record IsWorkedOn (p : Params) (s : Stage) (todo : List (List ℕ)) (files : Files) : Type 0 where

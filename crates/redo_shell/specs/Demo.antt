@@ -12,6 +12,7 @@ use Rattle.demo_script.specs.Script.{script_of}
 use Rattle.redo_shell.specs.Store.{Command, IsNewStore}
 use Rattle.redo_shell.specs.Replies.{is_refusing}
 use Rattle.redo_shell.specs.Answers.{Answers}
+use Rattle.redo_shell.specs.Groups.{Account, account_of}
 use Rattle.redo_shell.specs.Keeps.{KeepsFiles}
 use Rattle.redo_shell.specs.Printed.{texts_of}
 use Rattle.redo_shell.specs.Stages.{Stage, IsFirst, AllGoBy}
@@ -26,7 +27,10 @@ demo_params = record { objects = 16; cap = 64; limit = 536870912 }
 -- those of the plain map, and go by the stages of the store, from the one that a restart makes of it: so `full` comes exactly
 -- where what is asked for does not fit.
 pub record IsAnsweredAnew (script : List (List ℕ)) (replies : List Reply) (added : List Command) : Type 0 where
-  pub answers : Answers demo_params [] script replies added
+  pub waits : List (List Command)
+  pub account : Account
+  pub answers : Answers demo_params (account_of []) script replies waits account
+  pub added_is : added ≡ account.commands
   pub machine : GrowMem
   pub new : IsNewStore demo_params (disk_of machine).reads
   pub first : Stage

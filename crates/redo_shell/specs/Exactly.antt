@@ -8,9 +8,9 @@ use Rattle.formats.specs.FirstFault.{IsDamaged}
 use Rattle.formats.specs.Image.{BeginsStore}
 use Rattle.formats.specs.declared.params.Params.{Params}
 use Rattle.op_codec.specs.AllOps.{all_meaning}
-use Rattle.script_lines.specs.Words.{Asks}
-use Rattle.script_lines.specs.declared.words.Asked.TheVariants.{Init, Run, Dump, Demo}
-use Rattle.redo_shell.specs.Causes.{AsksNothing}
+use Rattle.command_words.specs.Words.{Asks}
+use Rattle.command_words.specs.declared.asked.Asked.TheVariants.{Init, Run, Dump, Demo}
+use Rattle.redo_shell.specs.Causes.{AsksNothing, OrUnread}
 use Rattle.redo_shell.specs.Notices as notices
 use Rattle.redo_shell.specs.Store.{Command, IsWellFormed, Opens}
 use Rattle.redo_shell.specs.declared.status.Status.{Status}
@@ -42,11 +42,11 @@ pub record RunsExactly (told : Type 0) (left : List ℕ) (old : Disk) (status : 
 
 -- Where no count of faults rises, each status comes exactly where its cause holds.
 pub record ComesExactly (words : List (List ℕ)) (told : Type 0) (left : List ℕ) (old new : Disk) (status : Status) : Type 0 where
-  pub usage : (status ≡ Usage) ↔ AsksNothing words
-  pub run : Asks words Run → old.tells_files → OpensExactly old new status
+  pub usage : status ≢ Memory → (status ≡ Usage) ↔ AsksNothing words
+  pub run : Asks words Run → old.tells_files → OrUnread (OpensExactly old new status) old new status
   pub runs : Asks words Run → status ≢ Memory → RunsExactly told left old status
-  pub dump : Asks words Dump → old.tells_files → OpensExactly old new status
+  pub dump : Asks words Dump → old.tells_files → OrUnread (OpensExactly old new status) old new status
   pub dumps : Asks words Dump → status ≢ Memory → (p : Params) (commands : List Command) → Opens p old commands → status ≡ Done
-  pub init : (p : Params) → Asks words (Init p) → old.tells_files → MakesExactly old status
+  pub init : (p : Params) → Asks words (Init p) → old.tells_files → OrUnread (MakesExactly old status) old new status
   -- a demo that finds memory succeeds
   pub demos : (seed steps : ℕ) → Asks words (Demo seed steps) → status ≢ Memory → status ≡ Done

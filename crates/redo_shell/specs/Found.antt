@@ -1,5 +1,6 @@
 -- How the answer to a line is found, before it is said.
-use Rattle.std.specs.Prelude.{◌≡◌, ◌<◌, ◌≤◌, ◌⊎◌, ◌+◌, ◌^◌, ◌++◌, ⊤, ℕ, List, [], Option, None, Some, Result, Ok, Err, IfOk}
+use Rattle.std.specs.Prelude.{◌≡◌, ◌<◌, ◌≤◌, ◌⊎◌, ◌+◌, ◌^◌, ◌++◌, ⊤, ℕ, IsTrue, List, [], length, Option, None, Some, Result, Ok, Err, IfOk}
+use Rattle.std.specs.Option.{is_some}
 use Rattle.disk_model.specs.Disk.{Disk}
 use Rattle.disk_model.specs.declared.machine.FileNo.{FileNo}
 use Rattle.oper_core.specs.Meaning.{Meaning}
@@ -8,10 +9,8 @@ use Rattle.explain_core.specs.History.{commands_of}
 use Rattle.explain_core.specs.World.{World}
 use Rattle.cache_manager.specs.Courses.{Stop as CourseStop, logged_in}
 use Rattle.cache_manager.specs.Courses.Stop.{Through, Full, At_end, Worn}
-use Rattle.cache_manager.specs.Kept.{StopsAt}
 use Rattle.cache_manager.specs.Logged.{log_limit}
-use Rattle.cache_manager.specs.Taking.{Ending, Takes, ending_of}
-use Rattle.cache_manager.specs.declared.install_err.InstallErr.{InstallErr}
+use Rattle.cache_manager.specs.Taking.{Ending}
 use Rattle.cache_manager.specs.Taking.Ending.{Done, Stopped, Short, Failed}
 use Rattle.oper_core.specs.declared.refusal.Refusal.TheVariants as refusals
 use Rattle.tree_client.specs.declared.tree_err.TreeErr.{TreeErr}
@@ -19,15 +18,19 @@ use Rattle.tree_client.specs.declared.tree_err.TreeErr.TheVariants as tree_error
 use Rattle.op_codec.specs.AllOps.{all_meaning}
 use Rattle.script_lines.specs.Grammar.{Request, trim, AsksFor}
 use Rattle.command_lists.specs.Lists.{AddsFront, AreCalls, ending_of as ending_of_calls}
+use Rattle.execution.specs.Stops.{StopsCommand}
 use Rattle.execution.specs.declared.exec_err.ExecErr.{ExecErr}
 use Rattle.execution.specs.declared.exec_err.ExecErr.TheVariants as exec_errors
 use Rattle.script_lines.specs.Replies.{Reply, forced, full, end, pairs_reply, refused, stat, value, reply_of}
 use Rattle.script_lines.specs.declared.answer.Answer.{Answer}
 use Rattle.script_lines.specs.declared.answer.Answer.TheVariants as answers
-use Rattle.store_engine.specs.Engine.{EngineView, KeepsCommands, forced_in, logged_since}
+use Rattle.store_engine.specs.Engine.{EngineView, KeepsCommands, TakesIn, forced_in, logged_since}
+use Rattle.store_engine.specs.declared.work_err.WorkErr.{WorkErr}
+use Rattle.store_engine.specs.declared.work_err.WorkErr.TheVariants as work_errors
 use Rattle.redo_shell.specs.Store.{IsAttached, IsCall}
+use Rattle.redo_shell.specs.Groups.{Regroups, open_in}
 use Rattle.redo_shell.specs.Made.{Made, made_by, tree_answer}
-use Rattle.redo_shell.specs.Store.{Command, Holds, ShowsIn, meaning_in, state_of}
+use Rattle.redo_shell.specs.Store.{Command, Holds, ShowsIn, state_of}
 use Rattle.redo_shell.specs.Replies.{Replies, IsNumbered, IsOver}
 use Rattle.redo_shell.specs.Stages.{GoesBy, stage_of, upkeep_course}
 use Rattle.redo_shell.specs.declared.asking.Found.{Found}
@@ -35,9 +38,9 @@ use Rattle.redo_shell.specs.declared.asking.Found.TheVariants as founds
 use Rattle.redo_shell.specs.declared.stop.Stop.{Stop}
 use Rattle.redo_shell.specs.declared.stop.Stop.TheVariants.{DiskFault, Damaged, Memory}
 
--- a call left this engine that was stopped so, by the bytes that its log may have
+-- a call left this engine that was stopped so, by the bytes that its log may have; within a group commands may wait still
 abbrev pub IsStopped : EngineView → CourseStop → Type 0
-IsStopped engine stop = (most : ℕ) × StopsAt most engine.parts.log stop
+IsStopped engine stop = (most : ℕ) × StopsCommand (is_some engine.group) most engine.parts.log stop
 
 -- why no number is left: after a trim no epoch is, else no number for a record
 abbrev pub EndsAtLast : EngineView → Request → ℕ → Type 0
@@ -55,12 +58,14 @@ IsOfEngine engine line reply = ⊤
 -- What a line asks for is done, and nothing is said of it yet: engine and files show the world that the answer leads to.
 pub record IsDone (p : Params) (old now : Disk) (before after : EngineView) (w : World Command) (commands : List Command) (line : List ℕ) (reply : Reply) : Type 0 where
   pub added : List Command
-  pub replies : Replies p commands line reply added
+  pub replies : Replies p (open_in w) commands line reply added
   pub quiet : now.said ≡ old.said
   pub world : World Command
   pub shows : ShowsIn p now after world
   pub commands_are : commands_of world.history ≡ commands ++ added
+  pub regroups : Regroups line reply commands (open_in w) (open_in world)
   pub rising : forced_in before ≤ forced_in after
+  pub which : (forced_in after ≡ forced_in before) ⊎ ((before.group ≡ None) × (length commands ≤ forced_in after))
   pub goes : GoesBy p (stage_of before w) line reply (stage_of after world)
   pub is_of : IsOfEngine after line reply
 
@@ -70,9 +75,19 @@ IsShort Memory = ⊤
 IsShort (Damaged file place) = ⊤
 IsShort stop = ⊥
 
--- how a call that was refused ended
-abbrev pub ending_of_error : InstallErr → Ending
-ending_of_error error = ending_of {T = ℕ} (Err error)
+-- how the error of a call that no group allows is answered
+abbrev pub answer_of_work_error : WorkErr → Result Answer Stop
+answer_of_work_error (work_errors.InGroup commands) = Ok answers.InGroup
+answer_of_work_error (work_errors.LogFull used need limit) = Ok (answers.Full used need limit)
+answer_of_work_error (work_errors.LsnEnd number) = Ok (answers.End number)
+answer_of_work_error (work_errors.Exhausted epoch) = Ok (answers.End epoch)
+answer_of_work_error work_errors.DiskFault = Err DiskFault
+answer_of_work_error (work_errors.Damaged file place) = Err (Damaged file place)
+answer_of_work_error work_errors.Memory = Err Memory
+
+abbrev pub answer_of_work : {T : Type 0} → Result T WorkErr → Result Answer Stop
+answer_of_work (Ok done) = Ok answers.Done
+answer_of_work (Err error) = answer_of_work_error error
 
 -- how the end of a call is answered
 abbrev pub IsAnswerOf : Ending → Result Answer Stop → Type 0
@@ -93,20 +108,26 @@ MayStop request (At_end number) = IsNumbered request
 MayStop trim (Worn epoch) = ⊤
 MayStop request (Worn epoch) = ⊥
 
--- A call for a request that adds no command took its course, so far as its answer says. So many identity writes are logged:
--- as many as numbers were taken, or none in a course without any.
+-- A call for a request that adds no command took its course, so far as its answer says. So many
+-- identity writes are logged: as many as numbers were taken, or none in a course without any.
 pub record IsUpkept (old now : Disk) (before after : EngineView) (request : Request) (result : Result Answer Stop) : Type 0 where
   pub epoch : ℕ
   pub logged : ℕ
   pub ending : Ending
   pub call : IsCall log_limit old now before after logged ending
-  pub takes : Takes all_meaning old now before.parts after.parts (upkeep_course epoch request) ending
+  pub takes : TakesIn all_meaning old now before after (upkeep_course epoch request) ending
   pub commands : KeepsCommands all_meaning old now before after ending
   pub counted : (logged ≡ logged_since before after)
       ⊎ ((logged ≡ 0) × ((m : Meaning Command) (w : World Command) (used : ℕ) → logged_in (upkeep_course epoch request m w used).steps ≡ []))
   pub answered : IsAnswerOf ending result
   -- no file that was opened is damaged
   pub undamaged : old.tells_files → IsAttached old before → (file : FileNo) (place : ℕ) → result ≡ Err (Damaged file place) → ⊥
+
+-- within a group nothing was done, and that is answered
+pub record IsBarredIn {M : Type 0} (old new : M) (before after : EngineView) (result : Result Answer Stop) : Type 0 where
+  pub machine : new ≡ old
+  pub engine : after ≡ before
+  pub answer : result ≡ Ok answers.InGroup
 
 -- how the error of a command is answered
 abbrev pub answer_of_error : ExecErr → Result Answer Stop

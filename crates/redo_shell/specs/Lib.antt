@@ -1,4 +1,5 @@
 pub mod Store
+pub mod Groups
 pub mod Made
 pub mod Replies
 pub mod Work

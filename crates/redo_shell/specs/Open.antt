@@ -1,5 +1,5 @@
 -- A store that was opened, or not.
-use Rattle.std.specs.Prelude.{◌≡◌, ◌≢◌, List, length}
+use Rattle.std.specs.Prelude.{◌≡◌, ◌≢◌, List, length, None}
 use Rattle.disk_model.specs.Disk.{Disk, LeavesOnly}
 use Rattle.formats.specs.declared.params.Params.{Params}
 use Rattle.restart.specs.Starts.{OrAtStart}
@@ -16,14 +16,15 @@ use Rattle.redo_shell.specs.declared.status.Status.TheVariants.{SayFault}
 -- start could leave, or files that stand for the commands. There is a stage that a restart makes of the files.
 pub record OpensFiles (p : Params) (commands : List Command) (old new : Disk) : Type 0 where
   pub quiet : new.said ≡ old.said
-  pub images : old.tells_moments → LeavesOnly old new (OrAtStart old (Between p old (length commands) commands))
+  pub images : old.tells_moments → LeavesOnly old new (OrAtStart old (Between p old None (length commands) (length commands) commands))
   pub first : (first : Stage) × IsFirst p commands old first
   pub courses : old.tells_moments → (first : Stage) → (is : IsFirst p commands old first) → LeavesOnly old new (OrAtStart old (OpeningMoment p commands old first is))
 
--- An engine on files that stand for commands, all of them forced. Each stage that a restart may make of the files is the
+-- An engine on files that stand for commands, all of them forced, with no group open. Each stage that a restart may make of the files is the
 -- engine's, by a world that it shows.
 pub record IsOpen (p : Params) (commands : List Command) (old new : Disk) (engine : EngineView) : Type 0 where
   pub all : forced_in engine ≡ length commands
+  pub alone : engine.group ≡ None
   pub shows : (first : Stage) → IsFirst p commands old first → (holds : Holds p new engine commands) × (first ≡ stage_of engine holds.world)
 
 -- Why the store was not opened, by the status that the program ends with. On files that meet their format it says nothing.

@@ -1,14 +1,17 @@
 -- When a line gets an answer, as a plain map would answer it.
-use Rattle.std.specs.Prelude.{◌≡◌, ℕ, ◌+◌, ◌^◌, ◌<◌, ◌≤◌, ◌++◌, ◌⊎◌, ⊤, Bool, true, false, List, [], length}
+use Rattle.std.specs.Prelude.{◌≡◌, ℕ, ◌+◌, ◌^◌, ◌<◌, ◌≤◌, ◌++◌, ◌⊎◌, ⊤, Bool, true, false, IsTrue, List, [], ◌∷◌, length, drop, Option, None, Some}
+use Rattle.std.specs.Option.{is_some}
 use Rattle.oper_core.specs.declared.refusal.Refusal.TheVariants.{NoObject}
 use Rattle.disk_model.specs.Disk.{Files}
 use Rattle.formats.specs.Image.{EndsAt, NextIs}
-use Rattle.store_engine.specs.Engine.{EpochIs}
+use Rattle.store_engine.specs.Engine.{EpochIs, group_bytes, needed_in}
 use Rattle.formats.specs.declared.params.Params.{Params}
+use Rattle.op_codec.specs.AllOps.{all_meaning}
 use Rattle.op_codec.specs.declared.all_ops.AllOps.TheVariants.{Put, Copy, Append, Cut, Sort, Swap, Exec, AppRead, AppWrite}
-use Rattle.script_lines.specs.Grammar.{put, copy, append, cut, sort, swap, exec, aread, awrite, get, force, install, drain, checkpoint, trim, stat as asks_stat, skip, Request, AsksFor, IsBad}
-use Rattle.script_lines.specs.Replies.{Reply, ok, ran, value, pairs, forced, bad, refused, bad_tree, tree_full, full, end, object_value, command_count, stat, summary, silence}
+use Rattle.script_lines.specs.Grammar.{put, copy, append, cut, sort, swap, exec, aread, awrite, get, force, install, drain, checkpoint, trim, begin_group, end_group, stat as asks_stat, skip, Request, AsksFor, IsBad}
+use Rattle.script_lines.specs.Replies.{Reply, ok, ran, value, pairs, forced, bad, refused, bad_tree, tree_full, in_group, no_group, full, end, object_value, command_count, stat, summary, silence}
 use Rattle.redo_shell.specs.Store.{Command, meaning_in, state_of, record_length, Stands}
+use Rattle.redo_shell.specs.Groups.{size_of}
 use Rattle.redo_shell.specs.Made.{made, AsksMade, AsksBehind, AsksTree}
 
 -- The line asks for this one command. No line asks for one on a node.
@@ -45,47 +48,63 @@ abbrev pub IsOver : Request → ℕ → ℕ → ℕ → Type 0
 IsOver trim used need limit = limit < need
 IsOver request used need limit = limit < used + need
 
--- the line gets this answer after the commands, and adds these
-abbrev pub Replies : Params → List Command → List ℕ → Reply → List Command → Type 0
-Replies p commands line ok added =
+-- one that no group allows: it may force
+abbrev pub IsBarred : Request → Type 0
+IsBarred begin_group = ⊤
+IsBarred force = ⊤
+IsBarred request = IsUpkeep request
+
+-- one that adds no command and is done, where the open group began after so many commands, or none is open (`group`)
+abbrev pub IsGranted : Option ℕ → Request → Type 0
+IsGranted group begin_group = group ≡ None
+IsGranted group end_group = IsTrue (is_some group)
+IsGranted group request = IsUpkeep request × (group ≡ None)
+
+-- The line gets this answer after the commands, where the open group began after so many of them, or none is open (`group`), and
+-- adds these.
+abbrev pub Replies : Params → Option ℕ → List Command → List ℕ → Reply → List Command → Type 0
+Replies p group commands line ok added =
     (AsksMade p commands line (made added ok) × (length (commands ++ added) < 2 ^ 62))
-    ⊎ ((request : Request) × IsUpkeep request × AsksFor line request × (added ≡ []))
-Replies p commands line (ran k) added = AsksMade p commands line (made added (ran k))
-Replies p commands line (value bytes) added =
+    ⊎ ((request : Request) × IsGranted group request × AsksFor line request × (added ≡ []))
+Replies p group commands line (ran k) added = AsksMade p commands line (made added (ran k))
+Replies p group commands line (value bytes) added =
     (((object : ℕ) × AsksFor line (get object) × (object < p.objects) × (bytes ≡ state_of p commands object))
     ⊎ AsksTree p commands line (value bytes)) × (added ≡ [])
-Replies p commands line (pairs pair others) added = AsksTree p commands line (pairs pair others) × (added ≡ [])
-Replies p commands line (forced n) added = AsksFor line force × (n ≡ length commands) × (added ≡ [])
-Replies p commands line bad added = IsBad line × (added ≡ [])
-Replies p commands line (refused why) added =
+Replies p group commands line (pairs pair others) added = AsksTree p commands line (pairs pair others) × (added ≡ [])
+Replies p group commands line (forced n) added = AsksFor line force × (group ≡ None) × (n ≡ length commands) × (added ≡ [])
+Replies p group commands line bad added = IsBad line × (added ≡ [])
+Replies p group commands line (refused why) added =
     AsksMade p commands line (made added (refused why))
     ⊎ ((((object : ℕ) × AsksFor line (get object) × (p.objects ≤ object) × (why ≡ NoObject)) ⊎ AsksTree p commands line (refused why)) × (added ≡ []))
-Replies p commands line bad_tree added = AsksMade p commands line (made added bad_tree) ⊎ (AsksTree p commands line bad_tree × (added ≡ []))
-Replies p commands line tree_full added = AsksMade p commands line (made added tree_full)
-Replies p commands line (full used need limit) added =
-    ((op : Command) × AsksBehind p commands line added op × (need ≡ record_length p op + 5) × (limit ≡ p.limit) × (limit < used + need))
-    ⊎ ((request : Request) × IsUpkeep request × AsksFor line request × (limit ≡ 2 ^ 48) × IsOver request used need limit × (added ≡ []))
-Replies p commands line (end number) added =
+Replies p group commands line bad_tree added = AsksMade p commands line (made added bad_tree) ⊎ (AsksTree p commands line bad_tree × (added ≡ []))
+Replies p group commands line tree_full added = AsksMade p commands line (made added tree_full)
+Replies p group commands line in_group added = (request : Request) × IsBarred request × AsksFor line request × IsTrue (is_some group) × (added ≡ [])
+Replies p group commands line no_group added = AsksFor line end_group × (group ≡ None) × (added ≡ [])
+Replies p group commands line (full used need limit) added =
+    ((op : Command) × AsksBehind p commands line added op × (need ≡ needed_in (size_of group (commands ++ added)) (record_length p op)) × (limit ≡ p.limit) × (limit < used + need))
+    ⊎ ((request : Request) × IsUpkeep request × AsksFor line request × (group ≡ None) × (limit ≡ 2 ^ 48) × IsOver request used need limit × (added ≡ []))
+Replies p group commands line (end number) added =
     (((op : Command) × AsksBehind p commands line added op)
-    ⊎ ((request : Request) × IsNumbered request × AsksFor line request × (added ≡ []))) × (number ≡ 2 ^ 62)
-Replies p commands line (stat counts) added =
+    ⊎ ((request : Request) × IsNumbered request × AsksFor line request × (group ≡ None) × (added ≡ []))) × (number ≡ 2 ^ 62)
+Replies p group commands line (stat counts) added =
     AsksFor line asks_stat × (counts.accepted ≡ length commands) × (counts.forced ≤ length commands) × (added ≡ [])
-Replies p commands line silence added = AsksFor line skip × (added ≡ [])
-Replies p commands line (object_value object bytes) added = ⊥
-Replies p commands line (command_count n) added = ⊥
-Replies p commands line (summary totals) added = ⊥
+Replies p group commands line silence added = AsksFor line skip × (added ≡ [])
+Replies p group commands line (object_value object bytes) added = ⊥
+Replies p group commands line (command_count n) added = ⊥
+Replies p group commands line (summary totals) added = ⊥
 
 -- what the number of an `end` is: after a trim the epoch of the log in force, else the number that comes next
 abbrev pub IsLast : Params → Files → Request → ℕ → Type 0
 IsLast p files trim number = EpochIs files number
 IsLast p files request number = NextIs (meaning_in p) files number
 
--- what an answer to the line says of each image of its moment
-abbrev pub IsTrueIn : Params → Files → List ℕ → Reply → Type 0
-IsTrueIn p files line (full used need limit) = EndsAt files used
-IsTrueIn p files line (end number) = (request : Request) × AsksFor line request × IsLast p files request number
-IsTrueIn p files line (stat counts) = (commands : List Command) × Stands p files commands × (length commands ≡ counts.forced)
-IsTrueIn p files line reply = ⊤
+-- What an answer to the line says of each image of its moment, while these commands of an open group wait, those that the line
+-- has added too: the files have none of them.
+abbrev pub IsTrueIn : Params → Files → List Command → List ℕ → Reply → Type 0
+IsTrueIn p files ops line (full used need limit) = (place : ℕ) × EndsAt files place × (used ≡ place + group_bytes all_meaning p ops)
+IsTrueIn p files ops line (end number) = (request : Request) × AsksFor line request × ((last : ℕ) × IsLast p files request last × (number ≡ last + length ops))
+IsTrueIn p files ops line (stat counts) = (commands : List Command) × Stands p files commands × (length commands ≡ counts.forced)
+IsTrueIn p files ops line reply = ⊤
 
 -- an answer that the status reports
 abbrev pub is_refusing : Reply → Bool

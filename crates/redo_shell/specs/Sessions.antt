@@ -6,6 +6,7 @@ use Rattle.formats.specs.Image.{BeginsStore}
 use Rattle.formats.specs.declared.params.Params.{Params}
 use Rattle.restart.specs.Starts.{OrAtStart}
 use Rattle.redo_shell.specs.Store.{Command, Stands, Opens, IsNew}
+use Rattle.redo_shell.specs.Groups.{AreWhole, account_before}
 use Rattle.redo_shell.specs.Printed.{SaysForced}
 use Rattle.redo_shell.specs.Answers.{Said, Moment}
 use Rattle.redo_shell.specs.Dump.{DumpMoment}
@@ -17,13 +18,14 @@ pub record Ran : Type 0 where
   pub bytes : List ℕ
 
 -- What a run makes of a store with these commands: what it said is answers to its script, and after the commands stands
--- a beginning of those that it adds, no shorter than any number that its bytes say to be forced.
+-- a beginning of those that it adds, which splits no group and is no shorter than any number that its bytes say to be forced.
 pub record Adds (p : Params) (commands : List Command) (ran : Ran) (now : List Command) : Type 0 where
-  pub story : Said p (λ line reply. ⊤) commands ran.script ran.bytes
+  pub story : Said p (λ ops line reply. ⊤) commands ran.script ran.bytes
   pub kept : ℕ
   pub all_before : length commands ≤ kept
-  pub no_more : kept ≤ length (commands ++ story.acc ++ story.added)
-  pub now_is : now ≡ take kept (commands ++ story.acc ++ story.added)
+  pub no_more : kept ≤ length (story.account.commands ++ story.added)
+  pub whole : AreWhole kept (account_before story.todo story.account)
+  pub now_is : now ≡ take kept (story.account.commands ++ story.added)
   pub acked : (n : ℕ) → SaysForced ran.bytes n → n ≤ kept
 
 -- what several runs make of it, one after the other, the latest first

@@ -1,25 +1,28 @@
 -- What the answers of a run go by: the world that engine and files show, and the length of the log.
-use Rattle.std.specs.Prelude.{◌≡◌, ◌⊎◌, ◌+◌, ◌++◌, ⊤, ℕ, List, [], ◌∷◌, length, take}
+use Rattle.std.specs.Prelude.{◌≡◌, ◌⊎◌, ◌+◌, ◌++◌, ⊤, ℕ, List, [], ◌∷◌, length, take, Option, None, Some}
 use Rattle.disk_model.specs.Disk.{Disk}
 use Rattle.oper_core.specs.Meaning.{Meaning}
 use Rattle.formats.specs.declared.params.Params.{Params}
 use Rattle.explain_core.specs.History.{commands_of}
 use Rattle.explain_core.specs.Turns.{count_below, dirty_in}
-use Rattle.explain_core.specs.World.{World, run, end_of}
-use Rattle.cache_manager.specs.Courses.{Course, Stop, course, logged_in, force_course, install_course, drain_course}
+use Rattle.explain_core.specs.World.{World, Step, run, end_of}
+use Rattle.explain_core.specs.World.Step.{End}
+use Rattle.cache_manager.specs.Courses.{Course, Stop, course, logged_in, force_course, force_steps, install_course, drain_course}
 use Rattle.cache_manager.specs.Courses.Stop.{Through, Full, At_end, Worn}
 use Rattle.op_codec.specs.AllOps.{all_meaning}
-use Rattle.script_lines.specs.Grammar.{Request, get, tget, trange, install, drain, checkpoint, trim, AsksFor}
+use Rattle.script_lines.specs.Grammar.{Request, get, tget, trange, install, drain, checkpoint, trim, begin_group, end_group, AsksFor}
 use Rattle.script_lines.specs.Replies.{Reply, ok, ran, forced, refused, bad_tree, tree_full, full, end, stat}
 use Rattle.script_lines.specs.declared.answer.Counts.{Counts}
 use Rattle.checkpointing.specs.Courses.{checkpoint_course, trim_course}
 use Rattle.restart.specs.Courses.{restart_course}
 use Rattle.restart.specs.Opening.{OpensOn}
+use Rattle.store_engine.specs.Calls.{begin_course, end_course}
 use Rattle.store_engine.specs.Engine.{EngineView, is_name, used_in}
 use Rattle.redo_shell.specs.Store.{Command, meaning_in}
 use Rattle.command_lists.specs.Lists.{commands_course}
 use Rattle.redo_shell.specs.Made.{Made, AsksMade}
-use Rattle.redo_shell.specs.Replies.{Replies, IsUpkeep}
+use Rattle.redo_shell.specs.Groups.{open_in}
+use Rattle.redo_shell.specs.Replies.{Replies, IsGranted}
 
 -- a world that engine and files show, the length of the log, what waits for a force counted, and how many identity writes
 -- were logged since the restart
@@ -36,12 +39,14 @@ stage_of engine w = record { world = w; used = used_in engine; identities = engi
 abbrev pub stage_after : Params → Stage → Course Command → Stage
 stage_after p s c = record { world = run (meaning_in p) s.world c.steps; used = c.used; identities = s.identities + length (logged_in c.steps) }
 
--- what is done for a request that adds no command, in a world with a log of a length; this is the epoch of the log in force
+-- What is done for a request that adds no command, in a world with a log of a length; this is the epoch of the log in force.
 abbrev pub upkeep_course : ℕ → Request → Meaning Command → World Command → ℕ → Course Command
-upkeep_course epoch install m w used = install_course m w used
-upkeep_course epoch drain m w used = drain_course m w used
+upkeep_course epoch install m w used = install_course m 0 w used
+upkeep_course epoch drain m w used = drain_course m 0 w used
 upkeep_course epoch checkpoint m w used = checkpoint_course m w used
 upkeep_course epoch trim m w used = trim_course m epoch w used
+upkeep_course epoch begin_group m w used = begin_course m w used
+upkeep_course epoch end_group m w used = end_course m w used
 upkeep_course epoch request m w used = course [] used Through
 
 -- a request for values changes nothing
@@ -51,11 +56,20 @@ IsQuestion (tget lo hi key) = ⊤
 IsQuestion (trange lo hi from to) = ⊤
 IsQuestion request = ⊥
 
+-- what is done behind the last line: the open group is closed, if there is one, and the log is forced
+abbrev pub closing_steps : Option ℕ → List (Step Command)
+closing_steps None = []
+closing_steps (Some n) = End ∷ []
+
+abbrev pub finish_course : Meaning Command → World Command → ℕ → Course Command
+finish_course m w used = course (closing_steps w.group ++ force_steps m w) used Through
+
 -- The line has the engine take this course: that of the commands that it asks for, one after the other, that of an install, a
--- drain, a checkpoint or a trim, or none, where it asks for values.
+-- drain, a checkpoint or a trim, or of the beginning or the end of a group, where the open group allows it; or none, where it
+-- asks for values.
 abbrev pub HasCourse : Params → Stage → List ℕ → Course Command → Type 0
 HasCourse p s line c = ((it : Made) × AsksMade p (commands_of s.world.history) line it × (c ≡ commands_course (meaning_in p) p.limit it.ops s.world s.used))
-    ⊎ (((request : Request) × (epoch : ℕ) × IsUpkeep request × AsksFor line request × (c ≡ upkeep_course epoch request (meaning_in p) s.world s.used))
+    ⊎ (((request : Request) × (epoch : ℕ) × IsGranted (open_in s.world) request × AsksFor line request × (c ≡ upkeep_course epoch request (meaning_in p) s.world s.used))
     ⊎ ((request : Request) × IsQuestion request × AsksFor line request × (c ≡ course [] s.used Through)))
 
 -- the course ends so, and leads from the old stage to the new one
@@ -90,7 +104,7 @@ GoesBy p old line reply new = new ≡ old
 -- A line asked in the old stage gets this answer, goes by it to the new stage, and adds commands to those of the world.
 pub record Leads (p : Params) (old : Stage) (line : List ℕ) (reply : Reply) (new : Stage) : Type 0 where
   pub added : List Command
-  pub replies : Replies p (commands_of old.world.history) line reply added
+  pub replies : Replies p (open_in old.world) (commands_of old.world.history) line reply added
   pub commands_are : commands_of new.world.history ≡ commands_of old.world.history ++ added
   pub goes : GoesBy p old line reply new
 

@@ -42,6 +42,15 @@ status_after (Ok true) = DoneWithRefusals
 status_after (Ok false) = Done
 status_after (Err stop) = status_of stop
 
+-- a run ended with this status before its script did, and the disk did not fail: the input or the output failed, the input was
+-- too long, or memory ran out
+abbrev pub IsCut : Status → Type 0
+IsCut InputFailed = ⊤
+IsCut OutputFailed = ⊤
+IsCut OutOfMemory = ⊤
+IsCut InputTooLong = ⊤
+IsCut status = ⊥
+
 -- a run may end with this status
 abbrev pub IsOfRun : Status → Type 0
 IsOfRun Usage = ⊥

@@ -1,5 +1,5 @@
 -- The store that the program runs: its operations, and what its engine and its files stand for.
-use Rattle.std.specs.Prelude.{◌≡◌, ◌≤◌, ℕ, List, Option, Result}
+use Rattle.std.specs.Prelude.{◌≡◌, ◌≤◌, ◌⊎◌, ℕ, List, Option, None, Result}
 use Rattle.oper_core.specs.State.{State}
 use Rattle.oper_core.specs.Meaning.{Meaning}
 use Rattle.oper_core.specs.declared.refusal.Refusal.{Refusal}
@@ -12,7 +12,7 @@ use Rattle.explain_core.specs.World.{World}
 use Rattle.cache_manager.specs.Taking.{Ending}
 use Rattle.store_engine.specs.Store as of_store
 use Rattle.store_engine.specs.Engine as of_engine
-use Rattle.store_engine.specs.Engine.{EngineView, forced_in}
+use Rattle.store_engine.specs.Engine.{EngineView, accepted_in, forced_in}
 use Rattle.execution.specs.declared.exec_err.ExecErr.{ExecErr}
 
 -- the operations of a script's commands
@@ -79,15 +79,17 @@ pub record Holds (p : Params) (d : Disk) (engine : EngineView) (commands : List 
   pub commands_are : commands_of world.history ≡ commands
   pub says : Says p d engine commands
 
--- an image at a moment of a call on an engine that stands for the commands: at least the forced ones are there
-abbrev pub Between : Params → Disk → ℕ → List Command → Files → List ℕ → Type 0
-Between p old forced commands files said = of_engine.Between all_meaning p old forced commands files said
+-- an image at a moment of calls on an engine that came to stand for the commands, with so many at their start: the forced ones
+-- are there, or, where no group was open, at least those of the start
+abbrev pub Between : Params → Disk → Option ℕ → ℕ → ℕ → List Command → Files → List ℕ → Type 0
+Between p old group forced start commands files said = of_engine.Between all_meaning p old group forced start commands files said
 
 -- what engine and files stand for after a call: no fewer are forced
 pub record Kept (p : Params) (before : EngineView) (d : Disk) (engine : EngineView) (commands : List Command) : Type 0 where
   pub holds : Holds p d engine commands
   pub rising : forced_in before ≤ forced_in engine
+  pub which : (forced_in engine ≡ forced_in before) ⊎ ((before.group ≡ None) × (accepted_in before ≤ forced_in engine))
 
--- why a command gets its answer after these commands
-abbrev pub HasCause : Params → List Command → Command → Result ℕ ExecErr → Type 0
-HasCause p commands op result = of_engine.HasCause all_meaning p commands op result
+-- why a command gets its answer after these commands, in a group that has so many, or in none
+abbrev pub HasCause : Option ℕ → Params → List Command → Command → Result ℕ ExecErr → Type 0
+HasCause size p commands op result = of_engine.HasCause all_meaning size p commands op result

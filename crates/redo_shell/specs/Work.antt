@@ -1,15 +1,17 @@
 -- What a line has the program do.
 use Rattle.std.specs.Prelude.{ℕ, List}
-use Rattle.script_lines.specs.Grammar.{Request, arun, tinsert, tget, tdelete, trange, get, force, install, drain, checkpoint, trim, stat, skip, AsksFor, IsBad}
+use Rattle.script_lines.specs.Grammar.{Request, arun, tinsert, tget, tdelete, trange, get, force, install, drain, checkpoint, trim, begin_group, end_group, stat, skip, AsksFor, IsBad}
 use Rattle.redo_shell.specs.Replies.{AsksCommand}
 use Rattle.redo_shell.specs.declared.work.Upkeep.{Upkeep}
 use Rattle.redo_shell.specs.declared.work.Upkeep.TheVariants.{Install, Drain, Checkpoint, Trim}
+use Rattle.redo_shell.specs.declared.work.Grouping.{Grouping}
+use Rattle.redo_shell.specs.declared.work.Grouping.TheVariants.{Begin, End}
 use Rattle.redo_shell.specs.declared.work.Making.{Making}
 use Rattle.redo_shell.specs.declared.work.Making.TheVariants.{Steps, Insert, Delete}
 use Rattle.redo_shell.specs.declared.work.Question.{Question}
 use Rattle.redo_shell.specs.declared.work.Question.TheVariants.{Find, Range}
 use Rattle.redo_shell.specs.declared.work.Work.{Work}
-use Rattle.redo_shell.specs.declared.work.Work.TheVariants.{Run, Make, Ask, Tell, Force, Keep, Count, Nothing, Bad}
+use Rattle.redo_shell.specs.declared.work.Work.TheVariants.{Run, Make, Ask, Tell, Force, Keep, Group, Count, Nothing, Bad}
 
 -- what a line asks for that has the program do this
 abbrev pub request_for : Upkeep → Request
@@ -17,6 +19,11 @@ request_for Install = install
 request_for Drain = drain
 request_for Checkpoint = checkpoint
 request_for Trim = trim
+
+-- what a line asks for that begins or ends a group
+abbrev pub group_request : Grouping → Request
+group_request Begin = begin_group
+group_request End = end_group
 
 -- what a line asks for that may add several commands
 abbrev pub made_request : Making → Request
@@ -37,6 +44,7 @@ AsksWork line (Ask question) = AsksFor line (tree_request question)
 AsksWork line (Tell object) = AsksFor line (get object)
 AsksWork line Force = AsksFor line force
 AsksWork line (Keep upkeep) = AsksFor line (request_for upkeep)
+AsksWork line (Group grouping) = AsksFor line (group_request grouping)
 AsksWork line Count = AsksFor line stat
 AsksWork line Nothing = AsksFor line skip
 AsksWork line Bad = IsBad line

@@ -1,5 +1,6 @@
 // The answers to what a line asks, found before they are printed.
-ghost use Rattle.std.specs.Prelude.{◌≡◌, false, List, ℕ, OnOk, IfOk, IfErr};
+ghost use Rattle.std.specs.Prelude.{◌≡◌, false, List, ℕ, length, IsTrue, None, OnOk, IfOk, IfErr};
+ghost use Rattle.std.specs.Option.{is_some};
 ghost use Rattle.disk_model.specs.Disk.{Passes, LeavesOnly};
 ghost use Rattle.formats.specs.declared.params.Params.{Params};
 ghost use Rattle.script_lines.specs.Grammar.{AsksFor, force};
@@ -11,11 +12,12 @@ ghost use Rattle.execution.specs.Courses.{exec_course};
 ghost use Rattle.store_engine.specs.Engine.{forced_in, params_of, used_in};
 ghost use Rattle.redo_shell.specs.Store.{IsAttached};
 ghost use Rattle.redo_shell.specs.Store.{Command, Holds, ShowsIn, Between, meaning_in};
-ghost use Rattle.redo_shell.specs.Found.{IsDone};
+ghost use Rattle.redo_shell.specs.Found.{IsBarredIn, IsDone};
 ghost use Rattle.redo_shell.specs.Replies.{AsksCommand};
 ghost use Rattle.redo_shell.specs.Run.{IsCaused, IsUndamaged};
 
 use crate::stop::Stop;
+use crate::upkeep::refused;
 use disk_model::Machine;
 use op_codec::AllOps;
 use script_lines::Answer;
@@ -33,9 +35,9 @@ pub fn command_answer<M: Machine>(
     ensures done { (p : Params) (commands : List Command) (line : List ℕ) → (holds : Holds p (M.disk machine.old) engine.old commands) → AsksCommand line op →
         IfOk result (λ answer. IsDone p (M.disk machine.old) (M.disk machine.new) engine.old engine.new holds.world commands line (reply_of answer)) }
     ensures moments { (p : Params) (commands : List Command) → Holds p (M.disk machine.old) engine.old commands → (M.disk machine.old).tells_moments →
-        LeavesOnly (M.disk machine.old) (M.disk machine.new) (Between p (M.disk machine.old) (forced_in engine.old) commands) }
+        LeavesOnly (M.disk machine.old) (M.disk machine.new) (Between p (M.disk machine.old) engine.old.group (forced_in engine.old) (length commands) commands) }
     ensures steps { (M.disk machine.old).tells_moments → (p : Params) (w : World Command) → ShowsIn p (M.disk machine.old) engine.old w →
-        TakesSome (meaning_in p) p (M.disk machine.old) (M.disk machine.new) w (exec_course (meaning_in p) (params_of engine.old).limit op w (used_in engine.old)).steps }
+        TakesSome (meaning_in p) p (M.disk machine.old) (M.disk machine.new) w (exec_course (meaning_in p) (is_some w.group) (params_of engine.old).limit op w (used_in engine.old)).steps }
     ensures cause { IfErr result (λ stop. IsCaused stop (M.disk machine.old) (M.disk machine.new)) }
     ensures undamaged { (M.disk machine.old).tells_files → IsAttached (M.disk machine.old) engine.old → IfErr result IsUndamaged }
     ensures attached { IsAttached (M.disk machine.old) engine.old → OnOk result (IsAttached (M.disk machine.new) engine.new) }
@@ -63,14 +65,17 @@ pub fn force_answer<M: Machine>(
     ensures done { (p : Params) (commands : List Command) (line : List ℕ) → (holds : Holds p (M.disk machine.old) engine.old commands) → AsksFor line force →
         IfOk result (λ answer. IsDone p (M.disk machine.old) (M.disk machine.new) engine.old engine.new holds.world commands line (reply_of answer)) }
     ensures moments { (p : Params) (commands : List Command) → Holds p (M.disk machine.old) engine.old commands → (M.disk machine.old).tells_moments →
-        LeavesOnly (M.disk machine.old) (M.disk machine.new) (Between p (M.disk machine.old) (forced_in engine.old) commands) }
-    ensures steps { (M.disk machine.old).tells_moments → (p : Params) (w : World Command) → ShowsIn p (M.disk machine.old) engine.old w →
+        LeavesOnly (M.disk machine.old) (M.disk machine.new) (Between p (M.disk machine.old) engine.old.group (forced_in engine.old) (length commands) commands) }
+    ensures steps { (M.disk machine.old).tells_moments → (p : Params) (w : World Command) → ShowsIn p (M.disk machine.old) engine.old w → w.group ≡ None →
         TakesSome (meaning_in p) p (M.disk machine.old) (M.disk machine.new) w (force_course (meaning_in p) w (used_in engine.old)).steps }
+    ensures in_group { IsTrue (is_some engine.old.group) → IsBarredIn machine.old machine.new engine.old engine.new result }
     ensures cause { IfErr result (λ stop. IsCaused stop (M.disk machine.old) (M.disk machine.new)) }
     ensures undamaged { (M.disk machine.old).tells_files → IsAttached (M.disk machine.old) engine.old → IfErr result IsUndamaged }
     ensures attached { IsAttached (M.disk machine.old) engine.old → OnOk result (IsAttached (M.disk machine.new) engine.new) }
     ensures unbroken { OnOk result (engine.new.broken ≡ false) }
 {
-    let count = engine.force(machine)?;
-    Ok(Answer::Forced(count))
+    match engine.force(machine) {
+        Ok(count) => Ok(Answer::Forced(count)),
+        Err(error) => refused(error),
+    }
 }

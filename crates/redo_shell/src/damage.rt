@@ -1,5 +1,5 @@
 // Files that break their format.
-ghost use Rattle.std.specs.Prelude.{◌≡◌, ◌⊎◌, ◌++◌, ℕ, IfOk};
+ghost use Rattle.std.specs.Prelude.{◌≡◌, ◌⊎◌, ◌++◌, IfOk};
 ghost use Rattle.disk_model.specs.Disk.{Rises, Passes};
 ghost use Rattle.redo_shell.specs.Keeps.{KeepsFiles};
 ghost use Rattle.redo_shell.specs.Notices.{damaged, name_of_file};

@@ -1,11 +1,12 @@
 // Which answer a line gets.
-ghost use Rattle.std.specs.Prelude.{◌≡◌, ◌<◌, ◌≤◌, ◌↔◌, ◌++◌, List, ℕ, length, take, None, Some};
+ghost use Rattle.std.specs.Prelude.{◌≡◌, ◌<◌, ◌≤◌, ◌↔◌, ◌++◌, IsTrue, List, ℕ, length, take, Option, None, Some};
+ghost use Rattle.std.specs.Option.{is_some};
 ghost use Rattle.std.specs.List.{flat_map};
 ghost use Rattle.formats.specs.declared.params.Params.{Params};
 ghost use Rattle.oper_core.specs.declared.refusal.Refusal.{Refusal as Why};
 ghost use Rattle.oper_core.specs.declared.refusal.Refusal.TheVariants.{NoObject};
-ghost use Rattle.script_lines.specs.Grammar.{AsksFor, IsBad, get, force, stat as asks_stat, skip};
-ghost use Rattle.script_lines.specs.Replies.{Reply, bad, value, refused, forced, stat, silence, text_of, said_line, HasSmallNumbers};
+ghost use Rattle.script_lines.specs.Grammar.{AsksFor, IsBad, Request, end_group, get, force, stat as asks_stat, skip};
+ghost use Rattle.script_lines.specs.Replies.{Reply, bad, value, refused, forced, in_group, no_group, stat, silence, text_of, said_line, HasSmallNumbers};
 ghost use Rattle.script_lines.specs.declared.answer.Counts.{Counts};
 ghost use Rattle.disk_model.specs.Disk.{Passes, IsSettled};
 ghost use Rattle.disk_model.specs.Fuse.{disk_through};
@@ -16,32 +17,37 @@ ghost use Rattle.store_engine.specs.Engine.{InEachImage};
 ghost use Rattle.redo_shell.specs.Store.{Command, Stands, IsNew, meaning_in, refusal_after, state_of, record_length};
 ghost use Rattle.redo_shell.specs.Printed.{whole_lines, texts_of};
 ghost use Rattle.redo_shell.specs.Sessions.{Ran, Follows, Survives, Arises, Sessions};
-ghost use Rattle.redo_shell.specs.Replies.{AsksCommand, Replies, IsFull};
+ghost use Rattle.redo_shell.specs.Replies.{AsksCommand, Replies, IsBarred, IsFull};
 ghost use Rattle.redo_shell.specs.Stages.{Stage, GoesBy};
 
 use disk_model::Machine;
 use script_lines::{a_line_asks_one_thing, a_text_says_one_thing};
 
 /// Each answer to a line comes exactly where its cause holds: `bad` where the line is outside the grammar, `refused` with
-/// the first refusal, a value, `forced` with the number of commands, none where it is skipped, and `full` where the record
-/// of a command that nothing refuses does not fit. What is left is `ok` and `end`, by the numbers that are left.
+/// the first refusal, a value, `forced` with the number of commands, none where it is skipped, `full` where the record of a
+/// command that nothing refuses does not fit, and `refused InGroup` and `refused NoGroup` by the open group. What is left is
+/// `ok` and `end`, by the numbers that are left.
 pub fn a_line_gets_the_answer_of_its_cause()
-    ensures bad { (p : Params) (commands : List Command) (line : List ℕ) (reply : Reply) (added : List Command) → Replies p commands line reply added →
+    ensures bad { (p : Params) (group : Option ℕ) (commands : List Command) (line : List ℕ) (reply : Reply) (added : List Command) → Replies p group commands line reply added →
         (reply ≡ bad) ↔ IsBad line }
-    ensures refused { (p : Params) (commands : List Command) (line : List ℕ) (reply : Reply) (added : List Command) (op : Command) (why : Why) → Replies p commands line reply added →
+    ensures refused { (p : Params) (group : Option ℕ) (commands : List Command) (line : List ℕ) (reply : Reply) (added : List Command) (op : Command) (why : Why) → Replies p group commands line reply added →
         AsksCommand line op → (reply ≡ refused why) ↔ (refusal_after p commands op ≡ Some why) }
-    ensures no_object { (p : Params) (commands : List Command) (line : List ℕ) (reply : Reply) (added : List Command) (object : ℕ) → Replies p commands line reply added →
+    ensures no_object { (p : Params) (group : Option ℕ) (commands : List Command) (line : List ℕ) (reply : Reply) (added : List Command) (object : ℕ) → Replies p group commands line reply added →
         AsksFor line (get object) → (reply ≡ refused NoObject) ↔ (p.objects ≤ object) }
-    ensures value { (p : Params) (commands : List Command) (line : List ℕ) (reply : Reply) (added : List Command) (object : ℕ) → Replies p commands line reply added →
+    ensures value { (p : Params) (group : Option ℕ) (commands : List Command) (line : List ℕ) (reply : Reply) (added : List Command) (object : ℕ) → Replies p group commands line reply added →
         AsksFor line (get object) → object < p.objects → reply ≡ value (state_of p commands object) }
-    ensures forced { (p : Params) (commands : List Command) (line : List ℕ) (reply : Reply) (added : List Command) → Replies p commands line reply added →
-        AsksFor line force → reply ≡ forced (length commands) }
+    ensures forced { (p : Params) (group : Option ℕ) (commands : List Command) (line : List ℕ) (reply : Reply) (added : List Command) → Replies p group commands line reply added →
+        AsksFor line force → group ≡ None → reply ≡ forced (length commands) }
     // The answers of each run go by its stages, however it ends (`SaysTruly`, its `goes`).
-    ensures full { (p : Params) (commands : List Command) (line : List ℕ) (reply : Reply) (added : List Command) (op : Command) (before after : Stage) → Replies p commands line reply added →
+    ensures full { (p : Params) (group : Option ℕ) (commands : List Command) (line : List ℕ) (reply : Reply) (added : List Command) (op : Command) (before after : Stage) → Replies p group commands line reply added →
         GoesBy p before line reply after → commands_of before.world.history ≡ commands → AsksCommand line op → refusal_after p commands op ≡ None → IsFull reply ↔ (p.limit < grown (meaning_in p) before.world before.used (record_length p op)) }
-    ensures counts { (p : Params) (commands : List Command) (line : List ℕ) (reply : Reply) (added : List Command) → Replies p commands line reply added →
+    ensures in_group { (p : Params) (group : Option ℕ) (commands : List Command) (line : List ℕ) (reply : Reply) (added : List Command) → Replies p group commands line reply added →
+        (reply ≡ in_group) ↔ ((request : Request) × IsBarred request × AsksFor line request × IsTrue (is_some group)) }
+    ensures no_group { (p : Params) (group : Option ℕ) (commands : List Command) (line : List ℕ) (reply : Reply) (added : List Command) → Replies p group commands line reply added →
+        (reply ≡ no_group) ↔ (AsksFor line end_group × (group ≡ None)) }
+    ensures counts { (p : Params) (group : Option ℕ) (commands : List Command) (line : List ℕ) (reply : Reply) (added : List Command) → Replies p group commands line reply added →
         AsksFor line asks_stat → (counts : Counts) × (reply ≡ stat counts) }
-    ensures silence { (p : Params) (commands : List Command) (line : List ℕ) (reply : Reply) (added : List Command) → Replies p commands line reply added →
+    ensures silence { (p : Params) (group : Option ℕ) (commands : List Command) (line : List ℕ) (reply : Reply) (added : List Command) → Replies p group commands line reply added →
         AsksFor line skip → reply ≡ silence }
 {
     a_line_asks_one_thing();

@@ -2,18 +2,20 @@
 //!
 //! The one contract is that of [`top`]: run on files that stand for a list of commands, it says what a plain map would
 //! answer to the script, and whatever a crash leaves of the files at any moment is what one at the start could leave, or
-//! stands for that list and a beginning of the commands that the script has added, no shorter than any number that was
-//! printed to be forced. Its answers go by the stages of the store, from the world that a restart finds in the files: `full`,
-//! `end` and the counts follow from the course that each line takes. A law says the same of any number of calls, kills and
-//! crashes in a row. A line may make several commands, a beginning of which stays where the log, memory or the disk ends
-//! them. A demo answers a generated script on a store in memory, and says what the plain map's answers to it count to.
+//! stands for that list and a beginning of the commands that the script has added, which splits no group and is no
+//! shorter than any number that was printed to be forced. Its answers go by the stages of the store, from the world that
+//! a restart finds in the files: `full`, `end` and the counts follow from the course that each line takes. A law says
+//! the same of any number of calls, kills and crashes in a row. A line may make several commands, a beginning of which
+//! stays where the log, memory or the disk ends them. Of the commands of a group a crash leaves all or none; a group
+//! that is open at the end of a script is closed, and where the input or the output fails nothing of it stays. A demo
+//! answers a generated script on a store in memory, and says what the plain map's answers to it count to.
 //!
 //! The crate depends on store_engine for the store, on command_lists, app_steps and tree_client for lines that make several
-//! commands, on logical_btree and btree_ops for trees, on script_lines for lines, answers and words, on demo_script for the
-//! script of a demo, on op_codec and op_meaning for the operation that a line asks for, on explain_core, cache_manager,
-//! execution, checkpointing and restart for worlds and the courses of calls, on formats and standing for what files stand
-//! for, on log_records, log_frames and stable_objects for the log and the slots of an engine, and on the machines and the
-//! sources of disk_model.
+//! commands, on logical_btree and btree_ops for trees, on command_words for the words, on script_lines for lines and answers,
+//! on demo_script for the script of a demo, on op_codec and op_meaning for the operation that a line asks for, on
+//! explain_core, cache_manager, execution, checkpointing and restart for worlds and the courses of calls, on formats and
+//! standing for what files stand for, on log_records, log_frames and stable_objects for the log and the slots of an engine,
+//! and on the machines and the sources of disk_model.
 #![tactic(auto)]
 
 mod answers;
@@ -22,6 +24,7 @@ mod damage;
 mod demo;
 mod dump;
 mod fetching;
+mod grouping;
 mod init;
 mod laws;
 mod line;

@@ -8,16 +8,17 @@ ghost use Rattle.redo_shell.specs.Store.{IsAttached};
 ghost use Rattle.redo_shell.specs.Store.{Command, Holds};
 ghost use Rattle.redo_shell.specs.Replies.{AsksCommand};
 ghost use Rattle.redo_shell.specs.Run.{Answering, IsCaused, IsUndamaged};
-ghost use Rattle.redo_shell.specs.Work.{made_request, request_for};
+ghost use Rattle.redo_shell.specs.Work.{group_request, made_request, request_for};
 
 use crate::answers::{command_answer, force_answer};
 use crate::asking::say_found;
 use crate::fetching::fetched;
+use crate::grouping::group_answer;
 use crate::making::made_answer;
 use crate::say::say_answer;
 use crate::stop::Stop;
 use crate::upkeep::{counts_answer, upkeep_answer};
-use crate::work::{Making, Upkeep, Work};
+use crate::work::{Grouping, Making, Upkeep, Work};
 use command_lists::commands_log_no_identity;
 use disk_model::Machine;
 use op_codec::AllOps;
@@ -116,6 +117,28 @@ fn run_upkeep<M: Machine>(
     say_answer(alloc, machine, &answer)
 }
 
+/// Opens or closes a group, and says the answer. It reports whether the answer is a refusal.
+fn run_group<M: Machine>(
+    alloc: Global,
+    engine: &mut Engine<AllOps>,
+    machine: &mut M,
+    grouping: Grouping,
+) -> Result<bool, Stop>
+    requires { engine.old.broken ≡ false }
+    ensures time { Passes (M.disk machine.old) (M.disk machine.new) }
+    ensures answers { (p : Params) (commands : List Command) (line : List ℕ) → (holds : Holds p (M.disk machine.old) engine.old commands) → AsksFor line (group_request grouping) →
+        Answering p (M.disk machine.old) (M.disk machine.new) engine.old engine.new holds.world commands line result }
+    ensures cause { IfErr result (λ stop. IsCaused stop (M.disk machine.old) (M.disk machine.new)) }
+    ensures undamaged { (M.disk machine.old).tells_files → IsAttached (M.disk machine.old) engine.old → IfErr result IsUndamaged }
+    ensures attached { IsAttached (M.disk machine.old) engine.old → OnOk result (IsAttached (M.disk machine.new) engine.new) }
+    ensures unbroken { OnOk result (engine.new.broken ≡ false) }
+{
+    let answer = group_answer(engine, machine, grouping)?;
+    engine_stands(machine, engine);
+    stop_is_said(machine, engine);
+    say_answer(alloc, machine, &answer)
+}
+
 /// Says the counts of the store. It reports whether the answer is a refusal.
 fn say_counts<M: Machine>(
     alloc: Global,
@@ -184,6 +207,7 @@ fn answer_line<M: Machine>(
         Work::Tell { object } => say_value(alloc, engine, machine, object),
         Work::Force => run_force(alloc, engine, machine),
         Work::Keep(upkeep) => run_upkeep(alloc, engine, machine, upkeep),
+        Work::Group(grouping) => run_group(alloc, engine, machine, grouping),
         Work::Count => say_counts(alloc, engine, machine),
         Work::Nothing => Ok(false),
         Work::Bad => say_answer(alloc, machine, &Answer::Bad),

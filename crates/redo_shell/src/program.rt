@@ -5,11 +5,11 @@ ghost use Rattle.formats.specs.declared.params.Params.{Params};
 ghost use Rattle.restart.specs.Starts.{OrAtStart};
 ghost use Rattle.script_lines.specs.Grammar.{lines_of};
 ghost use Rattle.script_lines.specs.Reading.{Takes};
-ghost use Rattle.script_lines.specs.Words.{Asks, IsAllowed};
-ghost use Rattle.script_lines.specs.declared.words.Asked.TheVariants.{Init, Run, Dump, Demo};
+ghost use Rattle.command_words.specs.Words.{Asks, IsAllowed};
+ghost use Rattle.command_words.specs.declared.asked.Asked.TheVariants.{Init, Run, Dump, Demo};
 ghost use Rattle.redo_shell.specs.Answers.{Moment};
 ghost use Rattle.redo_shell.specs.Calls.{IsRunCall, IsDumpCall, IsMaking, IsCallFor, GoesOn};
-ghost use Rattle.redo_shell.specs.Causes.{AsksNothing, CountsFaults, IsUsage, ComesByCause};
+ghost use Rattle.redo_shell.specs.Causes.{AsksNothing, CountsFaults, IsUsage, OrUnread, ComesByCause};
 ghost use Rattle.redo_shell.specs.Demo.{IsDemo};
 ghost use Rattle.redo_shell.specs.Exactly.{IsFaultless, ComesExactly};
 ghost use Rattle.redo_shell.specs.Store.{Command, Opens};
@@ -20,9 +20,9 @@ use crate::init::init;
 use crate::run::run;
 use crate::say::end_with;
 use crate::status::Status;
+use command_words::{Asked, Unread, read_words, words_ask_one_thing};
 use disk_model::{Machine, Source};
 use op_codec::AllOps;
-use script_lines::{Asked, read_words, words_ask_one_thing};
 use std::alloc::Global;
 use store_engine::standing_files_meet_their_format;
 
@@ -66,12 +66,13 @@ pub fn top<M: Machine, S: Source>(
     ensures moments { (p : Params) (commands : List Command) → Asks (map string_bytes words.now) Run → Opens p (M.disk machine.old) commands → S.tells input.old → (M.disk machine.old).tells_moments →
         LeavesOnly (M.disk machine.old) (M.disk machine.new) (OrAtStart (M.disk machine.old) (Moment p commands (lines_of (S.left input.old)) (M.disk machine.old).said)) }
     ensures run { Asks (map string_bytes words.now) Run →
-        IsRunCall (S.tells input.old) (S.left input.old) (S.left input.new) (M.disk machine.old) (M.disk machine.new) result }
-    ensures dump { Asks (map string_bytes words.now) Dump → IsDumpCall (M.disk machine.old) (M.disk machine.new) result }
-    ensures init { (p : Params) → Asks (map string_bytes words.now) (Init p) → IsMaking p (M.disk machine.old) (M.disk machine.new) result }
+        OrUnread (IsRunCall (S.tells input.old) (S.left input.old) (S.left input.new) (M.disk machine.old) (M.disk machine.new) result) (M.disk machine.old) (M.disk machine.new) result }
+    ensures dump { Asks (map string_bytes words.now) Dump → OrUnread (IsDumpCall (M.disk machine.old) (M.disk machine.new) result) (M.disk machine.old) (M.disk machine.new) result }
+    ensures init { (p : Params) → Asks (map string_bytes words.now) (Init p) → OrUnread (IsMaking p (M.disk machine.old) (M.disk machine.new) result) (M.disk machine.old) (M.disk machine.new) result }
     // A demo leaves the files alone, and says what the plain map's answers to the generated script count to.
-    ensures demo { (seed steps : ℕ) → Asks (map string_bytes words.now) (Demo seed steps) → IsDemo seed steps (M.disk machine.old) (M.disk machine.new) result }
-    ensures usage { AsksNothing (map string_bytes words.now) → IsUsage (M.disk machine.old) (M.disk machine.new) result }
+    ensures demo { (seed steps : ℕ) → Asks (map string_bytes words.now) (Demo seed steps) → OrUnread (IsDemo seed steps (M.disk machine.old) (M.disk machine.new) result) (M.disk machine.old) (M.disk machine.new) result }
+    // Where there is no memory to read the words, the status is 8 and nothing is done: that is `OrUnread` here and in `exactly`.
+    ensures usage { AsksNothing (map string_bytes words.now) → OrUnread (IsUsage (M.disk machine.old) (M.disk machine.new) result) (M.disk machine.old) (M.disk machine.new) result }
     // Each status of trouble comes only with its cause, and, where no count of faults rises, exactly there.
     ensures cause { ComesByCause (map string_bytes words.now) (S.tells input.old) (S.left input.old) (S.left input.new) (S.faults input.old) (S.faults input.new) (M.disk machine.old) (M.disk machine.new) result }
     ensures exactly { IsFaultless (M.disk machine.old) (M.disk machine.new) (S.faults input.old) (S.faults input.new) →
@@ -81,8 +82,9 @@ pub fn top<M: Machine, S: Source>(
 {
     standing_files_meet_their_format::<AllOps>();
     words_ask_one_thing();
-    match read_words(words) {
-        Some(asked) => serve(alloc, asked, machine, input),
-        None => end_with(machine, USAGE, Status::Usage),
+    match read_words(alloc, words) {
+        Ok(asked) => serve(alloc, asked, machine, input),
+        Err(Unread::Refused(_)) => end_with(machine, USAGE, Status::Usage),
+        Err(Unread::Memory) => Status::Memory,
     }
 }

@@ -1,5 +1,5 @@
 // A script is run on a store.
-ghost use Rattle.std.specs.Prelude.{◌≡◌, ◌≢◌, ◌^◌, ◌⊎◌, ◌<◌, [], false, List, ℕ, length};
+ghost use Rattle.std.specs.Prelude.{◌≡◌, ◌≢◌, ◌^◌, ◌⊎◌, ◌<◌, [], false, List, ℕ, None, length};
 ghost use Rattle.disk_model.specs.Disk.{Rises, Passes};
 ghost use Rattle.formats.specs.declared.params.Params.{Params};
 ghost use Rattle.script_lines.specs.Grammar.{lines_of};
@@ -33,14 +33,14 @@ fn run_open<M: Machine, S: Source>(
 ) -> Status
     requires { engine.old.broken ≡ false }
     ensures time { Passes (M.disk machine.old) (M.disk machine.new) }
-    ensures answers { (p : Params) (commands : List Command) → (holds : Holds p (M.disk machine.old) engine.old commands) → forced_in engine.old ≡ length commands → S.tells input.old →
-        IsRun p (stage_of engine.old holds.world) (M.disk machine.old) (M.disk machine.new) commands (lines_of (S.left input.old)) }
-    ensures complete { (p : Params) (commands : List Command) → (holds : Holds p (M.disk machine.old) engine.old commands) → forced_in engine.old ≡ length commands → S.tells input.old →
+    ensures answers { (p : Params) (commands : List Command) → (holds : Holds p (M.disk machine.old) engine.old commands) → forced_in engine.old ≡ length commands → engine.old.group ≡ None → S.tells input.old →
+        IsRun p (stage_of engine.old holds.world) (M.disk machine.old) (M.disk machine.new) commands (lines_of (S.left input.old)) result }
+    ensures complete { (p : Params) (commands : List Command) → (holds : Holds p (M.disk machine.old) engine.old commands) → forced_in engine.old ≡ length commands → engine.old.group ≡ None → S.tells input.old →
         (result ≡ Status.Done) ⊎ (result ≡ Status.DoneWithRefusals) →
         IsComplete p (stage_of engine.old holds.world) (M.disk machine.old) (M.disk machine.new) commands (lines_of (S.left input.old)) result }
     // Whatever a source that reports nothing gave, it is some script.
-    ensures some { (script : List (List ℕ)) × ((p : Params) (commands : List Command) → (holds : Holds p (M.disk machine.old) engine.old commands) → forced_in engine.old ≡ length commands →
-        IsRun p (stage_of engine.old holds.world) (M.disk machine.old) (M.disk machine.new) commands script
+    ensures some { (script : List (List ℕ)) × ((p : Params) (commands : List Command) → (holds : Holds p (M.disk machine.old) engine.old commands) → forced_in engine.old ≡ length commands → engine.old.group ≡ None →
+        IsRun p (stage_of engine.old holds.world) (M.disk machine.old) (M.disk machine.new) commands script result
         × ((result ≡ Status.Done) ⊎ (result ≡ Status.DoneWithRefusals) → IsComplete p (stage_of engine.old holds.world) (M.disk machine.old) (M.disk machine.new) commands script result)) }
     ensures input { S.tells input.old → (result ≡ Status.Done) ⊎ (result ≡ Status.DoneWithRefusals) → (S.left input.new ≡ []) × (length (S.left input.old) < 2 ^ 40) }
     // No slot of the files that were opened is damaged.

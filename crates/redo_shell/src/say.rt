@@ -21,6 +21,8 @@ fn refuses(answer: &Answer<'_>) -> bool
             | Answer::Refused(_)
             | Answer::BadTree
             | Answer::TreeFull
+            | Answer::InGroup
+            | Answer::NoGroup
             | Answer::Full { .. }
             | Answer::End { .. }
     )

@@ -1,12 +1,11 @@
 ghost use Rattle.std.specs.Prelude.{◌≡◌};
 ghost use Rattle.redo_shell.specs.Status.{status_of, stop_of_read};
-ghost use Rattle.redo_shell.specs.declared.stop.Stop.TheVariants.{DiskFault as DiskFailed, Memory as OutOfMemory};
+ghost use Rattle.redo_shell.specs.declared.stop.Stop.TheVariants.{Memory as OutOfMemory};
 
 use crate::status::Status;
 use disk_model::FileNo;
 use oper_core::Memory;
 use script_lines::ReadError;
-use store_engine::ForceErr;
 use thiserror::Error;
 
 /// Why a run ends before its script does.
@@ -65,13 +64,5 @@ impl From<ReadError> for Stop {
             ReadError::TooLong => Stop::TooLong,
             ReadError::Memory => Stop::Memory,
         }
-    }
-}
-
-impl From<ForceErr> for Stop {
-    ghost from_gives = { λ _ stop. stop ≡ DiskFailed };
-
-    fn from(_: ForceErr) -> Self {
-        Stop::DiskFault
     }
 }

@@ -1,11 +1,12 @@
 // Installs, checks and trims, and the counts of a store.
-ghost use Rattle.std.specs.Prelude.{◌≡◌, false, List, ℕ, IfErr};
+ghost use Rattle.std.specs.Prelude.{◌≡◌, false, IsTrue, List, ℕ, None};
+ghost use Rattle.std.specs.Option.{is_some};
+ghost use Rattle.disk_model.specs.Disk.{Passes};
 ghost use Rattle.formats.specs.declared.params.Params.{Params};
 ghost use Rattle.script_lines.specs.Grammar.{AsksFor, install, drain, checkpoint, trim, stat};
 ghost use Rattle.script_lines.specs.Replies.{reply_of};
 ghost use Rattle.redo_shell.specs.Store.{Command, Holds};
-ghost use Rattle.redo_shell.specs.Found.{IsAnswerOf, IsDone, IsUpkept, ending_of_error};
-ghost use Rattle.redo_shell.specs.Run.{IsUndamaged};
+ghost use Rattle.redo_shell.specs.Found.{IsBarredIn, IsDone, IsUpkept, answer_of_work, answer_of_work_error};
 ghost use Rattle.redo_shell.specs.Work.{request_for};
 
 use crate::stop::Stop;
@@ -13,18 +14,30 @@ use crate::work::Upkeep;
 use disk_model::Machine;
 use op_codec::AllOps;
 use script_lines::{Answer, Counts};
-use store_engine::{Engine, InstallErr, TrimErr};
+use store_engine::{Engine, WorkErr};
 
-/// What is answered where an install, a drain or a checkpoint is not done.
-fn refused(error: InstallErr) -> Result<Answer<'static>, Stop>
-    ensures ends { IsAnswerOf (ending_of_error error) result }
-    ensures whole { IfErr result IsUndamaged }
+/// What is answered where a force, an install, a drain, a check or a trim is not done, or no group may begin.
+pub fn refused(error: WorkErr) -> Result<Answer<'static>, Stop>
+    ensures { result ≡ answer_of_work_error error }
 {
     match error {
-        InstallErr::LogFull { used, need, limit } => Ok(Answer::Full { used, need, limit }),
-        InstallErr::LsnEnd { number } => Ok(Answer::End { number }),
-        InstallErr::DiskFault => Err(Stop::DiskFault),
-        InstallErr::Memory => Err(Stop::Memory),
+        WorkErr::InGroup { .. } => Ok(Answer::InGroup),
+        WorkErr::LogFull { used, need, limit } => Ok(Answer::Full { used, need, limit }),
+        WorkErr::LsnEnd { number } => Ok(Answer::End { number }),
+        WorkErr::Exhausted { epoch } => Ok(Answer::End { number: epoch }),
+        WorkErr::Damaged { file, place } => Err(Stop::Damaged { file, place }),
+        WorkErr::DiskFault => Err(Stop::DiskFault),
+        WorkErr::Memory => Err(Stop::Memory),
+    }
+}
+
+/// What is answered where one of these was done, or not.
+pub fn worked<T: Drop>(answer: Result<T, WorkErr>) -> Result<Answer<'static>, Stop>
+    ensures { result ≡ answer_of_work answer }
+{
+    match answer {
+        Ok(_) => Ok(Answer::Done),
+        Err(error) => refused(error),
     }
 }
 
@@ -34,12 +47,10 @@ fn installed<M: Machine>(
     machine: &mut M,
 ) -> Result<Answer<'static>, Stop>
     requires { engine.old.broken ≡ false }
-    ensures { IsUpkept (M.disk machine.old) (M.disk machine.new) engine.old engine.new install result }
+    ensures in_group { IsTrue (is_some engine.old.group) → IsBarredIn machine.old machine.new engine.old engine.new result }
+    ensures alone { engine.old.group ≡ None → IsUpkept (M.disk machine.old) (M.disk machine.new) engine.old engine.new install result }
 {
-    match engine.install_one(machine) {
-        Ok(_) => Ok(Answer::Done),
-        Err(error) => refused(error),
-    }
+    worked(engine.install_one(machine))
 }
 
 /// Installs all nodes, and finds the answer to that.
@@ -48,12 +59,10 @@ fn drained<M: Machine>(
     machine: &mut M,
 ) -> Result<Answer<'static>, Stop>
     requires { engine.old.broken ≡ false }
-    ensures { IsUpkept (M.disk machine.old) (M.disk machine.new) engine.old engine.new drain result }
+    ensures in_group { IsTrue (is_some engine.old.group) → IsBarredIn machine.old machine.new engine.old engine.new result }
+    ensures alone { engine.old.group ≡ None → IsUpkept (M.disk machine.old) (M.disk machine.new) engine.old engine.new drain result }
 {
-    match engine.drain(machine) {
-        Ok(_) => Ok(Answer::Done),
-        Err(error) => refused(error),
-    }
+    worked(engine.drain(machine))
 }
 
 /// Logs a check, and finds the answer to that.
@@ -62,12 +71,10 @@ fn checked<M: Machine>(
     machine: &mut M,
 ) -> Result<Answer<'static>, Stop>
     requires { engine.old.broken ≡ false }
-    ensures { IsUpkept (M.disk machine.old) (M.disk machine.new) engine.old engine.new checkpoint result }
+    ensures in_group { IsTrue (is_some engine.old.group) → IsBarredIn machine.old machine.new engine.old engine.new result }
+    ensures alone { engine.old.group ≡ None → IsUpkept (M.disk machine.old) (M.disk machine.new) engine.old engine.new checkpoint result }
 {
-    match engine.checkpoint(machine) {
-        Ok(_) => Ok(Answer::Done),
-        Err(error) => refused(error),
-    }
+    worked(engine.checkpoint(machine))
 }
 
 /// Rewrites the log, and finds the answer to that.
@@ -76,16 +83,10 @@ fn trimmed<M: Machine>(
     machine: &mut M,
 ) -> Result<Answer<'static>, Stop>
     requires { engine.old.broken ≡ false }
-    ensures { IsUpkept (M.disk machine.old) (M.disk machine.new) engine.old engine.new trim result }
+    ensures in_group { IsTrue (is_some engine.old.group) → IsBarredIn machine.old machine.new engine.old engine.new result }
+    ensures alone { engine.old.group ≡ None → IsUpkept (M.disk machine.old) (M.disk machine.new) engine.old engine.new trim result }
 {
-    match engine.trim(machine) {
-        Ok(()) => Ok(Answer::Done),
-        Err(TrimErr::LogFull { used, need, limit }) => Ok(Answer::Full { used, need, limit }),
-        Err(TrimErr::Exhausted { epoch }) => Ok(Answer::End { number: epoch }),
-        Err(TrimErr::Damaged { file, place }) => Err(Stop::Damaged { file, place }),
-        Err(TrimErr::DiskFault) => Err(Stop::DiskFault),
-        Err(TrimErr::Memory) => Err(Stop::Memory),
-    }
+    worked(engine.trim(machine))
 }
 
 /// Installs, logs a check, or rewrites the log, and finds the answer to that.
@@ -95,7 +96,9 @@ pub fn upkeep_answer<M: Machine>(
     upkeep: Upkeep,
 ) -> Result<Answer<'static>, Stop>
     requires { engine.old.broken ≡ false }
-    ensures { IsUpkept (M.disk machine.old) (M.disk machine.new) engine.old engine.new (request_for upkeep) result }
+    ensures time { Passes (M.disk machine.old) (M.disk machine.new) }
+    ensures in_group { IsTrue (is_some engine.old.group) → IsBarredIn machine.old machine.new engine.old engine.new result }
+    ensures alone { engine.old.group ≡ None → IsUpkept (M.disk machine.old) (M.disk machine.new) engine.old engine.new (request_for upkeep) result }
 {
     match upkeep {
         Upkeep::Install => installed(engine, machine),

@@ -21,6 +21,15 @@ pub enum Upkeep {
     Trim,
 }
 
+/// Where a group begins or ends.
+#[derive(Clone, Copy, Debug, PartialEq, Eq)]
+pub enum Grouping {
+    /// From here on a crash leaves all commands or none.
+    Begin,
+    /// The group ends.
+    End,
+}
+
 /// What may add several commands.
 #[derive(Clone, Copy)]
 pub enum Making {
@@ -77,6 +86,8 @@ pub enum Work {
     Force,
     /// Install, log a check, or rewrite the log.
     Keep(Upkeep),
+    /// Open or close a group.
+    Group(Grouping),
     /// Report the counts of the store.
     Count,
     /// Nothing: the line is skipped.
@@ -143,6 +154,8 @@ impl Work {
             Line::Drain => Ok(Work::Keep(Upkeep::Drain)),
             Line::Checkpoint => Ok(Work::Keep(Upkeep::Checkpoint)),
             Line::Trim => Ok(Work::Keep(Upkeep::Trim)),
+            Line::Begin => Ok(Work::Group(Grouping::Begin)),
+            Line::End => Ok(Work::Group(Grouping::End)),
             Line::Stat => Ok(Work::Count),
             Line::Skip => Ok(Work::Nothing),
         }

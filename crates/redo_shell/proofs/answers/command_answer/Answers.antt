@@ -1,18 +1,18 @@
-use Rattle.std.proofs.Common.{inl, inr, ⊎_elim, sym, subst, Ok, Err}
+use Rattle.std.proofs.Common.{inl, inr, ⊎_elim, subst, Ok, Err}
 use Rattle.execution.specs.declared.exec_err.ExecErr.{ExecErr}
-use Rattle.execution.specs.declared.exec_err.ExecErr.TheVariants.{Refused, LogFull, LsnEnd, DiskFault, Memory, Damaged}
+use Rattle.execution.specs.declared.exec_err.ExecErr.TheVariants.{Refused, LogFull, LsnEnd}
 use Rattle.redo_shell.proofs.HoldLemmas.{in_engine}
-use Rattle.redo_shell.proofs.DoneLemmas.{IsExec, exec_done, exec_refused, exec_full, exec_end, still_attached, still_whole, works_on, fails_so, exec_undamaged}
+use Rattle.redo_shell.proofs.DoneLemmas.{IsExec, exec_done, exec_refused, exec_full, exec_end, images_of, risen, still_attached, still_whole, works_on, fails_so, exec_undamaged}
 use Rattle.redo_shell.proofs.answers.command_answer.Goals as goal
 
 pub returns-in-Ok-clause-done : goal.returns-in-Ok-clause-done
 returns-in-Ok-clause-done g c = λ p commands line holds asks.
     let e : IsExec p (g.M.Machine.disk c.args.machine.now) (g.M.Machine.disk c.exec.new.machine) c.args.engine.now c.exec.new.self holds.world commands c.args.op (Ok c.in-Ok.field-0) = record {
       call = c.in-Ok.ensures.call;
-      follows = c.in-Ok.ensures.takes.follows p holds.world holds.shows.shows;
+      follows = c.in-Ok.ensures.takes.follows p holds.world holds.shows;
       answers = c.in-Ok.ensures.answers p holds.world holds.shows;
       exactly = c.in-Ok.ensures.exactly p commands (in_engine holds);
-      rising = inr (c.in-Ok.ensures.ok p commands (in_engine holds)).rising;
+      risen = inr (risen holds (c.in-Ok.ensures.ok p commands (in_engine holds)));
     } in
     exec_done p _ _ _ _ commands line c.args.op holds asks c.in-Ok.field-0 e
 
@@ -20,10 +20,10 @@ pub returns-in-Err-Refused-clause-done : goal.returns-in-Err-Refused-clause-done
 returns-in-Err-Refused-clause-done g c = λ p commands line holds asks.
     let e : IsExec p (g.M.Machine.disk c.args.machine.now) (g.M.Machine.disk c.exec.new.machine) c.args.engine.now c.exec.new.self holds.world commands c.args.op (Err c.in-Err-Refused.field-0) = record {
       call = c.in-Err-Refused.ensures.call;
-      follows = c.in-Err-Refused.ensures.takes.follows p holds.world holds.shows.shows;
+      follows = c.in-Err-Refused.ensures.takes.follows p holds.world holds.shows;
       answers = c.in-Err-Refused.ensures.answers p holds.world holds.shows;
       exactly = c.in-Err-Refused.ensures.exactly p commands (in_engine holds);
-      rising = ⊎_elim (λ fault. inl fault) (λ kept. inr kept.rising) (c.in-Err-Refused.ensures.err p commands (in_engine holds));
+      risen = ⊎_elim (λ fault. inl fault) (λ kept. inr (risen holds kept)) (c.in-Err-Refused.ensures.err p commands (in_engine holds));
     } in
     exec_refused p _ _ _ _ commands line c.args.op holds asks c.in-Err-Refused.refusal (subst (λ (x : ExecErr). IsExec p (g.M.Machine.disk c.args.machine.now) (g.M.Machine.disk c.exec.new.machine) c.args.engine.now c.exec.new.self holds.world commands c.args.op (Err x)) c.in-Err-Refused.field-0-is e)
 
@@ -31,10 +31,10 @@ pub returns-in-Err-LogFull-clause-done : goal.returns-in-Err-LogFull-clause-done
 returns-in-Err-LogFull-clause-done g c = λ p commands line holds asks.
     let e : IsExec p (g.M.Machine.disk c.args.machine.now) (g.M.Machine.disk c.exec.new.machine) c.args.engine.now c.exec.new.self holds.world commands c.args.op (Err c.in-Err-LogFull.field-0) = record {
       call = c.in-Err-LogFull.ensures.call;
-      follows = c.in-Err-LogFull.ensures.takes.follows p holds.world holds.shows.shows;
+      follows = c.in-Err-LogFull.ensures.takes.follows p holds.world holds.shows;
       answers = c.in-Err-LogFull.ensures.answers p holds.world holds.shows;
       exactly = c.in-Err-LogFull.ensures.exactly p commands (in_engine holds);
-      rising = ⊎_elim (λ fault. inl fault) (λ kept. inr kept.rising) (c.in-Err-LogFull.ensures.err p commands (in_engine holds));
+      risen = ⊎_elim (λ fault. inl fault) (λ kept. inr (risen holds kept)) (c.in-Err-LogFull.ensures.err p commands (in_engine holds));
     } in
     exec_full p _ _ _ _ commands line c.args.op holds asks c.in-Err-LogFull.used c.in-Err-LogFull.need c.in-Err-LogFull.limit (subst (λ (x : ExecErr). IsExec p (g.M.Machine.disk c.args.machine.now) (g.M.Machine.disk c.exec.new.machine) c.args.engine.now c.exec.new.self holds.world commands c.args.op (Err x)) c.in-Err-LogFull.field-0-is e)
 
@@ -42,33 +42,33 @@ pub returns-in-Err-LsnEnd-clause-done : goal.returns-in-Err-LsnEnd-clause-done
 returns-in-Err-LsnEnd-clause-done g c = λ p commands line holds asks.
     let e : IsExec p (g.M.Machine.disk c.args.machine.now) (g.M.Machine.disk c.exec.new.machine) c.args.engine.now c.exec.new.self holds.world commands c.args.op (Err c.in-Err-LsnEnd.field-0) = record {
       call = c.in-Err-LsnEnd.ensures.call;
-      follows = c.in-Err-LsnEnd.ensures.takes.follows p holds.world holds.shows.shows;
+      follows = c.in-Err-LsnEnd.ensures.takes.follows p holds.world holds.shows;
       answers = c.in-Err-LsnEnd.ensures.answers p holds.world holds.shows;
       exactly = c.in-Err-LsnEnd.ensures.exactly p commands (in_engine holds);
-      rising = ⊎_elim (λ fault. inl fault) (λ kept. inr kept.rising) (c.in-Err-LsnEnd.ensures.err p commands (in_engine holds));
+      risen = ⊎_elim (λ fault. inl fault) (λ kept. inr (risen holds kept)) (c.in-Err-LsnEnd.ensures.err p commands (in_engine holds));
     } in
     exec_end p _ _ _ _ commands line c.args.op holds asks c.in-Err-LsnEnd.number (subst (λ (x : ExecErr). IsExec p (g.M.Machine.disk c.args.machine.now) (g.M.Machine.disk c.exec.new.machine) c.args.engine.now c.exec.new.self holds.world commands c.args.op (Err x)) c.in-Err-LsnEnd.field-0-is e)
 
 pub returns-in-Ok-clause-moments : goal.returns-in-Ok-clause-moments
-returns-in-Ok-clause-moments g c = λ p commands holds told. c.exec.ensures.images told p commands (in_engine holds)
+returns-in-Ok-clause-moments g c = λ p commands holds told. images_of holds (c.exec.ensures.images told p commands (in_engine holds))
 
 pub returns-in-Err-Refused-clause-moments : goal.returns-in-Err-Refused-clause-moments
-returns-in-Err-Refused-clause-moments g c = λ p commands holds told. c.exec.ensures.images told p commands (in_engine holds)
+returns-in-Err-Refused-clause-moments g c = λ p commands holds told. images_of holds (c.exec.ensures.images told p commands (in_engine holds))
 
 pub returns-in-Err-LogFull-clause-moments : goal.returns-in-Err-LogFull-clause-moments
-returns-in-Err-LogFull-clause-moments g c = λ p commands holds told. c.exec.ensures.images told p commands (in_engine holds)
+returns-in-Err-LogFull-clause-moments g c = λ p commands holds told. images_of holds (c.exec.ensures.images told p commands (in_engine holds))
 
 pub returns-in-Err-LsnEnd-clause-moments : goal.returns-in-Err-LsnEnd-clause-moments
-returns-in-Err-LsnEnd-clause-moments g c = λ p commands holds told. c.exec.ensures.images told p commands (in_engine holds)
+returns-in-Err-LsnEnd-clause-moments g c = λ p commands holds told. images_of holds (c.exec.ensures.images told p commands (in_engine holds))
 
 pub returns-in-Err-Damaged-clause-moments : goal.returns-in-Err-Damaged-clause-moments
-returns-in-Err-Damaged-clause-moments g c = λ p commands holds told. c.exec.ensures.images told p commands (in_engine holds)
+returns-in-Err-Damaged-clause-moments g c = λ p commands holds told. images_of holds (c.exec.ensures.images told p commands (in_engine holds))
 
 pub returns-in-Err-DiskFault-clause-moments : goal.returns-in-Err-DiskFault-clause-moments
-returns-in-Err-DiskFault-clause-moments g c = λ p commands holds told. c.exec.ensures.images told p commands (in_engine holds)
+returns-in-Err-DiskFault-clause-moments g c = λ p commands holds told. images_of holds (c.exec.ensures.images told p commands (in_engine holds))
 
 pub returns-in-Err-Memory-clause-moments : goal.returns-in-Err-Memory-clause-moments
-returns-in-Err-Memory-clause-moments g c = λ p commands holds told. c.exec.ensures.images told p commands (in_engine holds)
+returns-in-Err-Memory-clause-moments g c = λ p commands holds told. images_of holds (c.exec.ensures.images told p commands (in_engine holds))
 
 pub returns-in-Ok-clause-attached : goal.returns-in-Ok-clause-attached
 returns-in-Ok-clause-attached g c = λ attached. still_attached c.in-Ok.ensures.call (λ f. f) attached
@@ -101,22 +101,22 @@ pub returns-in-Err-DiskFault-clause-cause : goal.returns-in-Err-DiskFault-clause
 returns-in-Err-DiskFault-clause-cause g c = c.in-Err-DiskFault.ensures.call.fault (fails_so c.in-Err-DiskFault.field-0-is)
 
 pub returns-in-Ok-clause-steps : goal.returns-in-Ok-clause-steps
-returns-in-Ok-clause-steps g c = λ told p w shows. c.exec.ensures.takes.moments told p w shows.shows
+returns-in-Ok-clause-steps g c = λ told p w shows. c.exec.ensures.takes.moments told p w shows
 
 pub returns-in-Err-Refused-clause-steps : goal.returns-in-Err-Refused-clause-steps
-returns-in-Err-Refused-clause-steps g c = λ told p w shows. c.exec.ensures.takes.moments told p w shows.shows
+returns-in-Err-Refused-clause-steps g c = λ told p w shows. c.exec.ensures.takes.moments told p w shows
 
 pub returns-in-Err-LogFull-clause-steps : goal.returns-in-Err-LogFull-clause-steps
-returns-in-Err-LogFull-clause-steps g c = λ told p w shows. c.exec.ensures.takes.moments told p w shows.shows
+returns-in-Err-LogFull-clause-steps g c = λ told p w shows. c.exec.ensures.takes.moments told p w shows
 
 pub returns-in-Err-LsnEnd-clause-steps : goal.returns-in-Err-LsnEnd-clause-steps
-returns-in-Err-LsnEnd-clause-steps g c = λ told p w shows. c.exec.ensures.takes.moments told p w shows.shows
+returns-in-Err-LsnEnd-clause-steps g c = λ told p w shows. c.exec.ensures.takes.moments told p w shows
 
 pub returns-in-Err-Damaged-clause-steps : goal.returns-in-Err-Damaged-clause-steps
-returns-in-Err-Damaged-clause-steps g c = λ told p w shows. c.exec.ensures.takes.moments told p w shows.shows
+returns-in-Err-Damaged-clause-steps g c = λ told p w shows. c.exec.ensures.takes.moments told p w shows
 
 pub returns-in-Err-DiskFault-clause-steps : goal.returns-in-Err-DiskFault-clause-steps
-returns-in-Err-DiskFault-clause-steps g c = λ told p w shows. c.exec.ensures.takes.moments told p w shows.shows
+returns-in-Err-DiskFault-clause-steps g c = λ told p w shows. c.exec.ensures.takes.moments told p w shows
 
 pub returns-in-Err-Memory-clause-steps : goal.returns-in-Err-Memory-clause-steps
-returns-in-Err-Memory-clause-steps g c = λ told p w shows. c.exec.ensures.takes.moments told p w shows.shows
+returns-in-Err-Memory-clause-steps g c = λ told p w shows. c.exec.ensures.takes.moments told p w shows

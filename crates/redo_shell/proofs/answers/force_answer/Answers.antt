@@ -1,28 +1,45 @@
-use Rattle.std.proofs.Common.{⊎_elim, refl}
-use Rattle.redo_shell.proofs.HoldLemmas.{in_engine}
-use Rattle.redo_shell.proofs.DoneLemmas.{force_done, still_attached, still_whole}
+use Rattle.std.proofs.Common.{ap, sym, subst, Err, Result, IfOk, OnOk, ◌∙◌}
+use Rattle.script_lines.specs.Grammar.{force}
+use Rattle.script_lines.specs.Replies.{reply_of}
+use Rattle.script_lines.specs.declared.answer.Answer.{Answer}
+use Rattle.redo_shell.specs.Found.{IsDone}
+use Rattle.redo_shell.specs.Store.{IsAttached}
+use Rattle.redo_shell.specs.declared.stop.Stop.{Stop}
+use Rattle.redo_shell.proofs.DoneLemmas.{barred_done, by_group, force_done, images_of, still_images}
+use Rattle.redo_shell.proofs.HoldLemmas.{always, in_engine}
+use Rattle.redo_shell.proofs.UpkeepLemmas.{barred_attached, barred_in, barred_still, forced_alone, never_barred, unforced_alone}
 use Rattle.redo_shell.proofs.answers.force_answer.Goals as goal
 
-pub returns-clause-done : goal.returns-clause-done
-returns-clause-done g c = λ p commands line holds asks.
-    let kept = ⊎_elim (λ failed. absurd failed) (λ kept. kept) (c.in_ok-count.ensures.commands.holds p commands (in_engine holds)) in
-    force_done c.in_ok-count.count holds asks c.in_ok-count.ensures.call (c.in_ok-count.ensures.takes.follows p holds.world holds.shows.shows) kept
-    (c.in_ok-count.ensures.forced p commands (in_engine holds)).0 c.in_ok-count.ensures.answer
+pub returns-in-Ok-clause-done : goal.returns-in-Ok-clause-done
+returns-in-Ok-clause-done g c = λ p commands line holds asks.
+    by_group c.args.engine.now.group (λ some. absurd (never_barred c.args.machine.now c.force.new.machine c.args.engine.now c.force.new.self c.in-Ok.count c.in-Ok.ensures.in_group some)) (λ none. force_done c.in-Ok.count holds asks none (forced_alone c.in-Ok.count (c.in-Ok.ensures.alone none)))
 
-pub returns-clause-moments : goal.returns-clause-moments
-returns-clause-moments g c = λ p commands holds told. c.force.ensures.commands.images told p commands (in_engine holds)
+pub returns-in-Err-clause-done : goal.returns-in-Err-clause-done
+returns-in-Err-clause-done g c = λ p commands line holds asks.
+    let old = g.M.Machine.disk c.args.machine.now in
+    let new = g.M.Machine.disk c.force.new.machine in
+    by_group c.args.engine.now.group (λ some. barred_done g.M.Machine.disk force holds tt asks some (barred_in (Err c.in-Err.error) c.refused.result c.in-Err.ensures.in_group c.refused.ensures some))
+    (λ none.
+    subst (λ (r : Result Answer Stop). IfOk r (λ answer. IsDone p old new c.args.engine.now c.force.new.self holds.world commands line (reply_of answer)))
+    (sym (unforced_alone c.in-Err.error c.refused.result (c.in-Err.ensures.alone none) c.refused.ensures)) tt)
 
-pub returns-in_err-count-clause-moments : goal.returns-in_err-count-clause-moments
-returns-in_err-count-clause-moments g c = λ p commands holds told. c.force.ensures.commands.images told p commands (in_engine holds)
+pub returns-in-Err-clause-attached : goal.returns-in-Err-clause-attached
+returns-in-Err-clause-attached g c = λ attached.
+    by_group c.args.engine.now.group (λ some. always c.refused.result (barred_attached g.M.Machine.disk c.args.machine.now c.force.new.machine c.args.engine.now c.force.new.self (Err c.in-Err.error) c.in-Err.ensures.in_group some attached))
+    (λ none. subst (λ (r : Result Answer Stop). OnOk r (IsAttached (g.M.Machine.disk c.force.new.machine) c.force.new.self)) (sym (unforced_alone c.in-Err.error c.refused.result (c.in-Err.ensures.alone none) c.refused.ensures)) tt)
 
-pub returns-clause-attached : goal.returns-clause-attached
-returns-clause-attached g c = λ attached. still_attached c.in_ok-count.ensures.call (λ f. f) attached
+pub returns-in-Ok-clause-moments : goal.returns-in-Ok-clause-moments
+returns-in-Ok-clause-moments g c = λ p commands holds told.
+    by_group c.args.engine.now.group (λ some. still_images (g.met.M.Machine.lawful c.args.machine.now) holds (ap g.M.Machine.disk (barred_still c.args.engine.now c.force.new.self c.force.result c.force.ensures.in_group some)) told)
+    (λ none. images_of holds ((c.force.ensures.alone none).2.commands.images told p commands (in_engine holds)))
 
-pub returns-clause-unbroken : goal.returns-clause-unbroken
-returns-clause-unbroken g c = still_whole c.in_ok-count.ensures.call (λ f. f)
+pub returns-in-Ok-clause-steps : goal.returns-in-Ok-clause-steps
+returns-in-Ok-clause-steps g c = λ told p w shows none. (c.force.ensures.alone (sym shows.group ∙ none)).2.takes.moments told p w shows
 
-pub returns-clause-steps : goal.returns-clause-steps
-returns-clause-steps g c = λ told p w shows. c.force.ensures.takes.moments told p w shows.shows
+pub returns-in-Err-clause-moments : goal.returns-in-Err-clause-moments
+returns-in-Err-clause-moments g c = λ p commands holds told.
+    by_group c.args.engine.now.group (λ some. still_images (g.met.M.Machine.lawful c.args.machine.now) holds (ap g.M.Machine.disk (barred_still c.args.engine.now c.force.new.self c.force.result c.force.ensures.in_group some)) told)
+    (λ none. images_of holds ((c.force.ensures.alone none).2.commands.images told p commands (in_engine holds)))
 
-pub returns-in_err-count-clause-steps : goal.returns-in_err-count-clause-steps
-returns-in_err-count-clause-steps g c = λ told p w shows. c.force.ensures.takes.moments told p w shows.shows
+pub returns-in-Err-clause-steps : goal.returns-in-Err-clause-steps
+returns-in-Err-clause-steps g c = λ told p w shows none. (c.force.ensures.alone (sym shows.group ∙ none)).2.takes.moments told p w shows

@@ -16,7 +16,7 @@ pub returns-clause-answers : goal.returns-clause-answers
 returns-clause-answers g c = λ p commands line holds asks.
     let found = asked_found holds asks c.in_ok-found.ensures c.in_ok-found.found refl (c.engine_stands.ensures p commands) in
     let said = subst (λ (r : Reply). IsFound p (g.M.Machine.disk c.args.machine.now) (g.M.Machine.disk c.found_in.new.machine) c.args.engine.now c.found_in.new.engine holds.world commands line r) (sym c.answer.ensures) found in
-    found_said c.say_answer.result (asked_moments holds asks c.found_in.ensures) (asked_works holds asks c.found_in.ensures) c.found_in.ensures.calls.call.time said c.say_answer.ensures.runs c.say_answer.ensures.all c.say_answer.ensures.kind
+    found_said c.say_answer.result holds.says.accepted (asked_moments holds asks c.found_in.ensures) (asked_works holds asks c.found_in.ensures) c.found_in.ensures.calls.call.time said c.say_answer.ensures.runs c.say_answer.ensures.all c.say_answer.ensures.kind
 
 pub returns-clause-attached : goal.returns-clause-attached
 returns-clause-attached g c = λ attached. always c.say_answer.result

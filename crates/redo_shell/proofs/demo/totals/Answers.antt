@@ -4,6 +4,7 @@ use Rattle.disk_model.specs.Growing.{disk_of}
 use Rattle.demo_script.specs.Script.{script_of}
 use Rattle.script_lines.specs.Grammar.{lines_of}
 use Rattle.redo_shell.specs.Demo.{demo_params, IsPlayed, is_newline, refusal_count, weighed}
+use Rattle.redo_shell.specs.Groups.{account_of}
 use Rattle.redo_shell.proofs.DemoLemmas.{lines_are, refusals_are}
 use Rattle.redo_shell.proofs.demo.totals.Goals as goal
 
@@ -20,6 +21,6 @@ returns c =
       lines = c.line_count.ensures ∙ ap (λ (l : List ℕ). count_by is_newline l) said ∙ lines_are it.replies;
       bytes = ap (λ (l : List ℕ). length l) said;
       accepted = it.accepted_is;
-      refused = c.refusal_count.ensures ∙ ap (λ (l : List ℕ). refusal_count l) said ∙ refusals_are demo_params [] (lines_of (script_of c.args.seed c.args.steps)) it.replies it.added it.answered.answers;
+      refused = c.refusal_count.ensures ∙ ap (λ (l : List ℕ). refusal_count l) said ∙ refusals_are demo_params (account_of []) (lines_of (script_of c.args.seed c.args.steps)) it.replies it.answered.waits it.answered.account it.answered.answers;
       sum = c.checksum.ensures ∙ ap (λ (l : List ℕ). weighed l % 2 ^ 64) said;
     }

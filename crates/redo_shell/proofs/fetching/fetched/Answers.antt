@@ -1,7 +1,5 @@
-use Rattle.std.proofs.Common.{◌<◌, ⊎_elim, subst, sym, refl, false, true}
+use Rattle.std.proofs.Common.{◌<◌, ⊎_elim, subst}
 use Rattle.formats.specs.declared.params.Params.{Params}
-use Rattle.execution.specs.declared.exec_err.ExecErr.{ExecErr}
-use Rattle.execution.specs.declared.exec_err.ExecErr.TheVariants.{Refused, DiskFault}
 use Rattle.redo_shell.proofs.FetchLemmas.{fetch_undamaged, fetched_kept, not_a_fault}
 use Rattle.redo_shell.proofs.HoldLemmas.{in_engine}
 use Rattle.redo_shell.proofs.fetching.fetched.Goals as goal

@@ -1,6 +1,6 @@
 use Rattle.std.proofs.Common.{refl}
 use Rattle.script_lines.specs.Replies.{bad}
-use Rattle.redo_shell.specs.declared.work.Work.TheVariants.{Run, Make, Ask, Tell, Force, Keep, Count, Nothing, Bad}
+use Rattle.redo_shell.specs.declared.work.Work.TheVariants.{Run, Make, Ask, Tell, Force, Keep, Group, Count, Nothing, Bad}
 use Rattle.redo_shell.proofs.HoldLemmas.{holds_between}
 use Rattle.redo_shell.proofs.LineLemmas.{as_work}
 use Rattle.redo_shell.proofs.MomentLemmas.{works_at_once}
@@ -35,6 +35,10 @@ pub returns-in-Keep-clause-answers : goal.returns-in-Keep-clause-answers
 returns-in-Keep-clause-answers g c = λ p commands holds.
     c.run_upkeep.ensures.answers p commands c.args.line.now holds (as_work c.args.line.now (Keep c.in-Keep.upkeep) c.in_ok-work.ensures c.in-Keep.is)
 
+pub returns-in-Group-clause-answers : goal.returns-in-Group-clause-answers
+returns-in-Group-clause-answers g c = λ p commands holds.
+    c.run_group.ensures.answers p commands c.args.line.now holds (as_work c.args.line.now (Group c.in-Group.grouping) c.in_ok-work.ensures c.in-Group.is)
+
 pub returns-in-Count-clause-answers : goal.returns-in-Count-clause-answers
 returns-in-Count-clause-answers g c = λ p commands holds.
     c.say_counts.ensures.answers p commands c.args.line.now holds (as_work c.args.line.now Count c.in_ok-work.ensures c.in-Count.is)
@@ -46,5 +50,5 @@ returns-in-Nothing-clause-answers g c = λ p commands holds.
 pub returns-in-Bad-clause-answers : goal.returns-in-Bad-clause-answers
 returns-in-Bad-clause-answers g c = λ p commands holds.
     let bad_line = as_work c.args.line.now Bad c.in_ok-work.ensures c.in-Bad.is in
-    let found = found_at_once {line = c.args.line.now} bad holds (bad_line, refl) (λ f. tt) (λ n is. cc) (λ log. refl) in
+    let found = found_at_once {line = c.args.line.now} bad holds (bad_line, refl) (λ f. tt) (λ group. refl) (λ n is. cc) (λ log. refl) in
     said_at_once c.say_answer.result (g.met.M.Machine.lawful c.args.machine.now) holds found c.say_answer.ensures.runs c.say_answer.ensures.all c.say_answer.ensures.kind

@@ -13,7 +13,7 @@ returns-in-Line-clause-answers g c = λ p commands line is holds.
 
 pub returns-in-Long-clause-answers : goal.returns-in-Long-clause-answers
 returns-in-Long-clause-answers g c = λ p commands line is holds.
-    let found = found_at_once {line = line} bad holds (found_long c.args.next c.args.bytes.now line c.in-Long.is is, refl) (λ f. tt) (λ n is. cc) (λ log. refl) in
+    let found = found_at_once {line = line} bad holds (found_long c.args.next c.args.bytes.now line c.in-Long.is is, refl) (λ f. tt) (λ group. refl) (λ n is. cc) (λ log. refl) in
     said_at_once c.say_answer.result (g.met.M.Machine.lawful c.args.machine.now) holds found c.say_answer.ensures.runs c.say_answer.ensures.all c.say_answer.ensures.kind
 
 pub returns-in-Line-clause-some : goal.returns-in-Line-clause-some
@@ -24,6 +24,6 @@ returns-in-Long-clause-some g c = λ is.
     let (line, long) = long_line in (
       line,
       λ p commands holds.
-          let found = found_at_once {line = line} bad holds (long_is_bad line long, refl) (λ f. tt) (λ n is. cc) (λ log. refl) in
+          let found = found_at_once {line = line} bad holds (long_is_bad line long, refl) (λ f. tt) (λ group. refl) (λ n is. cc) (λ log. refl) in
           said_at_once c.say_answer.result (g.met.M.Machine.lawful c.args.machine.now) holds found c.say_answer.ensures.runs c.say_answer.ensures.all c.say_answer.ensures.kind,
     )

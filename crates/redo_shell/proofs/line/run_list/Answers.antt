@@ -13,8 +13,8 @@ returns-in_err-answer-clause-answers g c = λ p commands line holds asks.
 pub returns-clause-answers : goal.returns-clause-answers
 returns-clause-answers g c = λ p commands line holds asks.
     let done = list_done c.commands_log_no_identity.ensures holds asks c.in_ok-answer.ensures in
-    let found = found_of holds done (c.engine_stands.ensures p _ (done_holds done)) (λ stop is. c.stop_is_said.ensures p done.world is.0 stop done.shows is.1) in
-    found_said c.say_answer.result (list_moments c.commands_log_no_identity.ensures holds asks c.made_answer.ensures) (list_works c.commands_log_no_identity.ensures holds asks c.made_answer.ensures) c.made_answer.ensures.calls.call.time found c.say_answer.ensures.runs c.say_answer.ensures.all c.say_answer.ensures.kind
+    let found = found_of holds done (c.engine_stands.ensures p _ (done_holds done)) c.stop_is_said.ensures.alone c.stop_is_said.ensures.within in
+    found_said c.say_answer.result holds.says.accepted (list_moments c.commands_log_no_identity.ensures holds asks c.made_answer.ensures) (list_works c.commands_log_no_identity.ensures holds asks c.made_answer.ensures) c.made_answer.ensures.calls.call.time found c.say_answer.ensures.runs c.say_answer.ensures.all c.say_answer.ensures.kind
 
 pub returns-clause-attached : goal.returns-clause-attached
 returns-clause-attached g c = λ attached. always c.say_answer.result

@@ -6,7 +6,7 @@ use Rattle.redo_shell.proofs.line.say_counts.Goals as goal
 pub returns-clause-answers : goal.returns-clause-answers
 returns-clause-answers g c = λ p commands line holds asks.
     let done = c.counts_answer-answer.ensures p commands line holds asks in
-    let found = found_of holds done (c.engine_stands.ensures p _ (done_holds done)) (λ stop is. c.stop_is_said.ensures p done.world is.0 stop done.shows is.1) in
+    let found = found_of holds done (c.engine_stands.ensures p _ (done_holds done)) c.stop_is_said.ensures.alone c.stop_is_said.ensures.within in
     said_at_once c.say_answer.result (g.met.M.Machine.lawful c.args.machine.now) holds found c.say_answer.ensures.runs c.say_answer.ensures.all c.say_answer.ensures.kind
 
 pub returns-clause-attached : goal.returns-clause-attached

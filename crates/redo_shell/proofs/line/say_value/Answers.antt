@@ -12,13 +12,13 @@ pub returns-then-branch-clause-answers : goal.returns-then-branch-clause-answers
 returns-then-branch-clause-answers g c = λ p commands line holds asks.
     let there = c.in_ok-fetched.ensures.value p commands holds c.if-branch.true in
     let found = found_value c.args.object c.get.result.now asks there.0 (c.get.ensures.value [] ∙ there.1 []) holds.commands_are (c.fetched.ensures.kept.said holds.shows.shows.told) (c.in_ok-fetched.ensures.holds p commands holds).0 (c.in_ok-fetched.ensures.holds p commands holds).1 in
-    found_said c.say_answer.result (works_none (stays_between c.fetched.ensures.kept holds)) (works_still line c.fetched.ensures.kept holds) c.fetched.ensures.kept.time found c.say_answer.ensures.runs c.say_answer.ensures.all c.say_answer.ensures.kind
+    found_said c.say_answer.result holds.says.accepted (works_none (stays_between c.fetched.ensures.kept holds)) (works_still line c.fetched.ensures.kept holds) c.fetched.ensures.kept.time found c.say_answer.ensures.runs c.say_answer.ensures.all c.say_answer.ensures.kind
 
 pub returns-clause-answers : goal.returns-clause-answers
 returns-clause-answers g c = λ p commands line holds asks.
     let past = c.in_ok-fetched.ensures.none p commands holds c.if-branch.false in
     let found = found_none c.args.object asks past holds.commands_are (c.fetched.ensures.kept.said holds.shows.shows.told) (c.in_ok-fetched.ensures.holds p commands holds).0 (c.in_ok-fetched.ensures.holds p commands holds).1 in
-    found_said c.say_answer-2.result (works_none (stays_between c.fetched.ensures.kept holds)) (works_still line c.fetched.ensures.kept holds) c.fetched.ensures.kept.time found c.say_answer-2.ensures.runs c.say_answer-2.ensures.all c.say_answer-2.ensures.kind
+    found_said c.say_answer-2.result holds.says.accepted (works_none (stays_between c.fetched.ensures.kept holds)) (works_still line c.fetched.ensures.kept holds) c.fetched.ensures.kept.time found c.say_answer-2.ensures.runs c.say_answer-2.ensures.all c.say_answer-2.ensures.kind
 
 pub returns-then-branch-clause-attached : goal.returns-then-branch-clause-attached
 returns-then-branch-clause-attached g c = λ attached. always c.say_answer.result

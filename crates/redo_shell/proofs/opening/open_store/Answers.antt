@@ -1,4 +1,4 @@
-use Rattle.std.proofs.Common.{length, ◌++◌, List, ℕ, ⊎_elim, ap, sym, subst, ◌∙◌, arith}
+use Rattle.std.proofs.Common.{length, None, ◌++◌, List, ℕ, ⊎_elim, ap, sym, subst, ◌∙◌, arith}
 use Rattle.disk_model.specs.Disk.{Disk, LeavesOnly}
 use Rattle.disk_model.specs.Moments.{passes_twice}
 use Rattle.disk_model.specs.declared.machine.FileNo.TheVariants.{Objects}
@@ -35,7 +35,7 @@ returns-in-Err-clause-opens g c = λ p commands opens.
     let same = ap g.M.Machine.disk (c.end_unopened.ensures.quiet (no_damage c.in-Err.cause whole) whole).0 in
     record {
       quiet = ap (λ (d : Disk). d.said) same ∙ c.restart.ensures.opening.quiet opens.told;
-      images = λ telling. subst (λ (d : Disk). LeavesOnly (g.M.Machine.disk c.args.machine.now) d (OrAtStart (g.M.Machine.disk c.args.machine.now) (Between p (g.M.Machine.disk c.args.machine.now) (length commands) commands))) (sym same) (c.restart.ensures.images telling p commands opens);
+      images = λ telling. subst (λ (d : Disk). LeavesOnly (g.M.Machine.disk c.args.machine.now) d (OrAtStart (g.M.Machine.disk c.args.machine.now) (Between p (g.M.Machine.disk c.args.machine.now) None (length commands) (length commands) commands))) (sym same) (c.restart.ensures.images telling p commands opens);
       first = first_of opens (c.opens_on_a_world.ensures.world p (g.M.Machine.disk c.args.machine.now).reads commands opens.stands);
       courses = λ telling first is.
           subst (λ (d : Disk). LeavesOnly (g.M.Machine.disk c.args.machine.now) d (OrAtStart (g.M.Machine.disk c.args.machine.now) (OpeningMoment p commands (g.M.Machine.disk c.args.machine.now) first is))) (sym same)
@@ -47,12 +47,13 @@ returns-in-Ok-clause-ok g c = λ p commands opens.
     let stands = c.in-Ok.ensures.holds p commands opens in
     record {
       all = stands.1;
-      shows = λ first is. shows_first first is c.in-Ok.ensures.ready.0 c.in-Ok.ensures.ready.1 (c.in-Ok.ensures.follows p is.used is.world is.found)
+      alone = c.in-Ok.ensures.ready.1;
+      shows = λ first is. shows_first first is c.in-Ok.ensures.ready.0 c.in-Ok.ensures.ready.1 c.in-Ok.ensures.ready.2 (c.in-Ok.ensures.follows p is.used is.world is.found)
           (c.a_restart_may_be_made.ensures.reopened (bounds_of p) is.world redo_dirty is.used (small_store p ((g.M.Machine.disk c.args.machine.now).reads Objects) is.found.shows.objects) is.found.sound) stands.0 (c.engine_stands.ensures p);
     }
 
 pub returns-in-Ok-clause-ready : goal.returns-in-Ok-clause-ready
-returns-in-Ok-clause-ready g c = (c.in-Ok.ensures.ready.0, c.in-Ok.ensures.ready.2)
+returns-in-Ok-clause-ready g c = (c.in-Ok.ensures.ready.0, c.in-Ok.ensures.ready.3)
 
 pub returns-in-Ok-clause-settled : goal.returns-in-Ok-clause-settled
 returns-in-Ok-clause-settled g c = c.in-Ok.ensures.opening.settled

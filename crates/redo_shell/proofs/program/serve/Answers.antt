@@ -1,5 +1,5 @@
 use Rattle.std.proofs.Common.{sym, subst}
-use Rattle.script_lines.specs.Words.{IsAllowed}
+use Rattle.command_words.specs.Words.{IsAllowed}
 use Rattle.redo_shell.specs.Demo.{IsOfDemo}
 use Rattle.redo_shell.specs.Status.{IsOfDump, IsOfInit}
 use Rattle.redo_shell.proofs.CallLemmas.{call_for}

@@ -1,69 +1,73 @@
-use Rattle.std.proofs.Common.{⊎_elim, subst, map, string_bytes}
-use Rattle.script_lines.specs.declared.words.Asked.TheVariants.{Init, Run, Dump, Demo}
-use Rattle.redo_shell.proofs.CallLemmas.{call_for, call_caused, call_exactly, call_goes_on}
+use Rattle.std.proofs.Common.{⊎_elim, inl, inr, subst, sym, refl, map, string_bytes}
+use Rattle.disk_model.specs.Moments.{stays_here}
+use Rattle.command_words.specs.Refusals.{IsRefusal}
+use Rattle.command_words.specs.declared.asked.Asked.TheVariants.{Init, Run, Dump, Demo}
+use Rattle.redo_shell.proofs.CallLemmas.{call_for, call_caused, call_exactly, call_goes_on, unread_goes_on}
+use Rattle.redo_shell.specs.Causes.{IsUnread}
+use Rattle.redo_shell.specs.declared.status.Status.TheVariants.{Memory}
 use Rattle.redo_shell.proofs.ExactLemmas.{IsOfUsage, usage_ends}
 use Rattle.redo_shell.proofs.KeepLemmas.{keeps_once}
 use Rattle.redo_shell.proofs.program.top.Goals as goal
 
 pub serve-requires : goal.serve-requires
-serve-requires g c = c.in-Some.ensures.some.allowed
+serve-requires g c = c.in-Ok.ensures.ok.named.allowed
 
-pub returns-in-Some-clause-moments : goal.returns-in-Some-clause-moments
-returns-in-Some-clause-moments g c = λ p commands asks opens told.
-    let call = call_for _ _ _ _ _ _ (c.words_ask_one_thing.ensures (map string_bytes c.args.words.now) c.in-Some.asked Run c.in-Some.ensures.some asks) c.serve.ensures.call in
+pub returns-in-Ok-clause-moments : goal.returns-in-Ok-clause-moments
+returns-in-Ok-clause-moments g c = λ p commands asks opens told.
+    let call = call_for _ _ _ _ _ _ (c.words_ask_one_thing.ensures (map string_bytes c.args.words.now) c.in-Ok.asked Run c.in-Ok.ensures.ok asks) c.serve.ensures.call in
     (call.script p commands opens told).moments
 
-pub returns-in-Some-clause-run : goal.returns-in-Some-clause-run
-returns-in-Some-clause-run g c = λ asks. call_for _ _ _ _ _ _ (c.words_ask_one_thing.ensures (map string_bytes c.args.words.now) c.in-Some.asked Run c.in-Some.ensures.some asks) c.serve.ensures.call
+pub returns-in-Ok-clause-run : goal.returns-in-Ok-clause-run
+returns-in-Ok-clause-run g c = λ asks. inl (call_for _ _ _ _ _ _ (c.words_ask_one_thing.ensures (map string_bytes c.args.words.now) c.in-Ok.asked Run c.in-Ok.ensures.ok asks) c.serve.ensures.call)
 
-pub returns-in-Some-clause-dump : goal.returns-in-Some-clause-dump
-returns-in-Some-clause-dump g c = λ asks. call_for _ _ _ _ _ _ (c.words_ask_one_thing.ensures (map string_bytes c.args.words.now) c.in-Some.asked Dump c.in-Some.ensures.some asks) c.serve.ensures.call
+pub returns-in-Ok-clause-dump : goal.returns-in-Ok-clause-dump
+returns-in-Ok-clause-dump g c = λ asks. inl (call_for _ _ _ _ _ _ (c.words_ask_one_thing.ensures (map string_bytes c.args.words.now) c.in-Ok.asked Dump c.in-Ok.ensures.ok asks) c.serve.ensures.call)
 
-pub returns-in-Some-clause-init : goal.returns-in-Some-clause-init
-returns-in-Some-clause-init g c = λ p asks. call_for _ _ _ _ _ _ (c.words_ask_one_thing.ensures (map string_bytes c.args.words.now) c.in-Some.asked (Init p) c.in-Some.ensures.some asks) c.serve.ensures.call
+pub returns-in-Ok-clause-init : goal.returns-in-Ok-clause-init
+returns-in-Ok-clause-init g c = λ p asks. inl (call_for _ _ _ _ _ _ (c.words_ask_one_thing.ensures (map string_bytes c.args.words.now) c.in-Ok.asked (Init p) c.in-Ok.ensures.ok asks) c.serve.ensures.call)
 
-pub returns-in-Some-clause-demo : goal.returns-in-Some-clause-demo
-returns-in-Some-clause-demo g c = λ seed steps asks. call_for _ _ _ _ _ _ (c.words_ask_one_thing.ensures (map string_bytes c.args.words.now) c.in-Some.asked (Demo seed steps) c.in-Some.ensures.some asks) c.serve.ensures.call
+pub returns-in-Ok-clause-demo : goal.returns-in-Ok-clause-demo
+returns-in-Ok-clause-demo g c = λ seed steps asks. inl (call_for _ _ _ _ _ _ (c.words_ask_one_thing.ensures (map string_bytes c.args.words.now) c.in-Ok.asked (Demo seed steps) c.in-Ok.ensures.ok asks) c.serve.ensures.call)
 
-pub returns-in-Some-clause-usage : goal.returns-in-Some-clause-usage
-returns-in-Some-clause-usage g c = λ none. absurd (none c.in-Some.asked c.in-Some.ensures.some)
+pub returns-in-Ok-clause-usage : goal.returns-in-Ok-clause-usage
+returns-in-Ok-clause-usage g c = λ none. absurd (none c.in-Ok.asked c.in-Ok.ensures.ok)
 
-pub returns-in-Some-clause-cause : goal.returns-in-Some-clause-cause
-returns-in-Some-clause-cause g c = call_caused c.in-Some.asked c.serve.ensures.call c.serve.ensures.faults c.serve.ensures.read_fault c.serve.ensures.too_long
+pub returns-in-Ok-clause-cause : goal.returns-in-Ok-clause-cause
+returns-in-Ok-clause-cause g c = call_caused c.in-Ok.asked c.serve.ensures.call c.serve.ensures.faults c.serve.ensures.read_fault c.serve.ensures.too_long
 
-pub returns-in-Some-clause-exactly : goal.returns-in-Some-clause-exactly
-returns-in-Some-clause-exactly g c = call_exactly c.in-Some.asked c.serve.ensures.call c.serve.ensures.faults c.serve.ensures.read_fault c.serve.ensures.too_long
-    c.in-Some.ensures.some (λ other asks. c.words_ask_one_thing.ensures (map string_bytes c.args.words.now) c.in-Some.asked other c.in-Some.ensures.some asks)
+pub returns-in-Ok-clause-exactly : goal.returns-in-Ok-clause-exactly
+returns-in-Ok-clause-exactly g c = call_exactly c.in-Ok.asked c.serve.ensures.call c.serve.ensures.faults c.serve.ensures.read_fault c.serve.ensures.too_long
+    c.in-Ok.ensures.ok (λ other asks. c.words_ask_one_thing.ensures (map string_bytes c.args.words.now) c.in-Ok.asked other c.in-Ok.ensures.ok asks)
     (λ p commands opens. c.standing_files_meet_their_format.ensures.format p _ commands opens.stands)
 
-pub returns-in-Some-clause-session : goal.returns-in-Some-clause-session
-returns-in-Some-clause-session g c = call_goes_on g.M.Machine.disk c.args.machine.now c.serve.new.machine (g.met.M.Machine.lawful c.args.machine.now)
-    (λ other asks. call_for _ _ _ _ _ _ (c.words_ask_one_thing.ensures (map string_bytes c.args.words.now) c.in-Some.asked other c.in-Some.ensures.some asks) c.serve.ensures.call)
+pub returns-in-Ok-clause-session : goal.returns-in-Ok-clause-session
+returns-in-Ok-clause-session g c = call_goes_on g.M.Machine.disk c.args.machine.now c.serve.new.machine (g.met.M.Machine.lawful c.args.machine.now)
+    (λ other asks. call_for _ _ _ _ _ _ (c.words_ask_one_thing.ensures (map string_bytes c.args.words.now) c.in-Ok.asked other c.in-Ok.ensures.ok asks) c.serve.ensures.call)
 
-pub returns-in-None-clause-moments : goal.returns-in-None-clause-moments
-returns-in-None-clause-moments g c = λ p commands asks. absurd (c.in-None.ensures.none _ asks)
+pub returns-in-Err-Refused-clause-moments : goal.returns-in-Err-Refused-clause-moments
+returns-in-Err-Refused-clause-moments g c = λ p commands asks. absurd (c.in-Err-Refused.ensures.refused (subst IsRefusal (sym c.in-Err-Refused.field-0-is) tt) _ asks)
 
-pub returns-in-None-clause-run : goal.returns-in-None-clause-run
-returns-in-None-clause-run g c = λ asks. absurd (c.in-None.ensures.none _ asks)
+pub returns-in-Err-Refused-clause-run : goal.returns-in-Err-Refused-clause-run
+returns-in-Err-Refused-clause-run g c = λ asks. absurd (c.in-Err-Refused.ensures.refused (subst IsRefusal (sym c.in-Err-Refused.field-0-is) tt) _ asks)
 
-pub returns-in-None-clause-dump : goal.returns-in-None-clause-dump
-returns-in-None-clause-dump g c = λ asks. absurd (c.in-None.ensures.none _ asks)
+pub returns-in-Err-Refused-clause-dump : goal.returns-in-Err-Refused-clause-dump
+returns-in-Err-Refused-clause-dump g c = λ asks. absurd (c.in-Err-Refused.ensures.refused (subst IsRefusal (sym c.in-Err-Refused.field-0-is) tt) _ asks)
 
-pub returns-in-None-clause-init : goal.returns-in-None-clause-init
-returns-in-None-clause-init g c = λ p asks. absurd (c.in-None.ensures.none _ asks)
+pub returns-in-Err-Refused-clause-init : goal.returns-in-Err-Refused-clause-init
+returns-in-Err-Refused-clause-init g c = λ p asks. absurd (c.in-Err-Refused.ensures.refused (subst IsRefusal (sym c.in-Err-Refused.field-0-is) tt) _ asks)
 
-pub returns-in-None-clause-demo : goal.returns-in-None-clause-demo
-returns-in-None-clause-demo g c = λ seed steps asks. absurd (c.in-None.ensures.none _ asks)
+pub returns-in-Err-Refused-clause-demo : goal.returns-in-Err-Refused-clause-demo
+returns-in-Err-Refused-clause-demo g c = λ seed steps asks. absurd (c.in-Err-Refused.ensures.refused (subst IsRefusal (sym c.in-Err-Refused.field-0-is) tt) _ asks)
 
-pub returns-in-None-clause-usage : goal.returns-in-None-clause-usage
-returns-in-None-clause-usage g c = λ none. record {
+pub returns-in-Err-Refused-clause-usage : goal.returns-in-Err-Refused-clause-usage
+returns-in-Err-Refused-clause-usage g c = λ none. inl (record {
   keeps = keeps_once (g.M.Machine.disk c.args.machine.now) (g.M.Machine.disk c.end_with.new.machine) c.end_with.ensures.runs;
   ends = c.end_with.ensures.status;
-}
+})
 
-pub returns-in-None-clause-cause : goal.returns-in-None-clause-cause
-returns-in-None-clause-cause g c = record {
-  usage = λ is asked asks. c.in-None.ensures.none asked asks;
+pub returns-in-Err-Refused-clause-cause : goal.returns-in-Err-Refused-clause-cause
+returns-in-Err-Refused-clause-cause g c = record {
+  usage = λ is asked asks. c.in-Err-Refused.ensures.refused (subst IsRefusal (sym c.in-Err-Refused.field-0-is) tt) asked asks;
   usage_said = λ told is. c.end_with.ensures.all told (λ e. cc (is, e));
   no_store = λ told is. absurd (subst IsOfUsage is (usage_ends c.end_with.result c.end_with.ensures.status));
   damaged = λ told is. absurd (subst IsOfUsage is (usage_ends c.end_with.result c.end_with.ensures.status));
@@ -76,21 +80,29 @@ returns-in-None-clause-cause g c = record {
   too_long = λ told is. absurd (subst IsOfUsage is (usage_ends c.end_with.result c.end_with.ensures.status));
 }
 
-pub returns-in-None-clause-exactly : goal.returns-in-None-clause-exactly
-returns-in-None-clause-exactly g c = λ faultless. record {
-  usage = (λ is asked asks. c.in-None.ensures.none asked asks, λ none. ⊎_elim (λ e. e) (λ e. absurd (faultless.output (⊎_elim (λ e. cc e) (λ e. e) (c.end_with.ensures.cause e)))) c.end_with.ensures.status);
-  run = λ asks. absurd (c.in-None.ensures.none _ asks);
-  runs = λ asks. absurd (c.in-None.ensures.none _ asks);
-  dump = λ asks. absurd (c.in-None.ensures.none _ asks);
-  dumps = λ asks. absurd (c.in-None.ensures.none _ asks);
-  init = λ p asks. absurd (c.in-None.ensures.none _ asks);
-  demos = λ seed steps asks. absurd (c.in-None.ensures.none _ asks);
+pub returns-in-Err-Refused-clause-exactly : goal.returns-in-Err-Refused-clause-exactly
+returns-in-Err-Refused-clause-exactly g c = λ faultless. record {
+  usage = λ memory. (λ is asked asks. c.in-Err-Refused.ensures.refused (subst IsRefusal (sym c.in-Err-Refused.field-0-is) tt) asked asks, λ none. ⊎_elim (λ e. e) (λ e. absurd (faultless.output (⊎_elim (λ e. cc e) (λ e. e) (c.end_with.ensures.cause e)))) c.end_with.ensures.status);
+  run = λ asks. absurd (c.in-Err-Refused.ensures.refused (subst IsRefusal (sym c.in-Err-Refused.field-0-is) tt) _ asks);
+  runs = λ asks. absurd (c.in-Err-Refused.ensures.refused (subst IsRefusal (sym c.in-Err-Refused.field-0-is) tt) _ asks);
+  dump = λ asks. absurd (c.in-Err-Refused.ensures.refused (subst IsRefusal (sym c.in-Err-Refused.field-0-is) tt) _ asks);
+  dumps = λ asks. absurd (c.in-Err-Refused.ensures.refused (subst IsRefusal (sym c.in-Err-Refused.field-0-is) tt) _ asks);
+  init = λ p asks. absurd (c.in-Err-Refused.ensures.refused (subst IsRefusal (sym c.in-Err-Refused.field-0-is) tt) _ asks);
+  demos = λ seed steps asks. absurd (c.in-Err-Refused.ensures.refused (subst IsRefusal (sym c.in-Err-Refused.field-0-is) tt) _ asks);
 }
 
-pub returns-in-None-clause-session : goal.returns-in-None-clause-session
-returns-in-None-clause-session g c = record {
-  run = λ first next inits runs bytes asks. absurd (c.in-None.ensures.none _ asks);
-  run_untold = λ asks. absurd (c.in-None.ensures.none _ asks);
-  init = λ p first next inits runs said asks. absurd (c.in-None.ensures.none _ asks);
-  dump = λ first next inits runs said asks. absurd (c.in-None.ensures.none _ asks);
+pub returns-in-Err-Refused-clause-session : goal.returns-in-Err-Refused-clause-session
+returns-in-Err-Refused-clause-session g c = record {
+  run = λ first next inits runs bytes asks. absurd (c.in-Err-Refused.ensures.refused (subst IsRefusal (sym c.in-Err-Refused.field-0-is) tt) _ asks);
+  run_untold = λ asks. absurd (c.in-Err-Refused.ensures.refused (subst IsRefusal (sym c.in-Err-Refused.field-0-is) tt) _ asks);
+  init = λ p first next inits runs said asks. absurd (c.in-Err-Refused.ensures.refused (subst IsRefusal (sym c.in-Err-Refused.field-0-is) tt) _ asks);
+  dump = λ first next inits runs said asks. absurd (c.in-Err-Refused.ensures.refused (subst IsRefusal (sym c.in-Err-Refused.field-0-is) tt) _ asks);
 }
+
+pub returns-clause-demo : goal.returns-clause-demo
+returns-clause-demo g c = λ seed steps asks. inr (record { ends = refl; stays = stays_here (g.M.Machine.disk c.args.machine.now) (g.met.M.Machine.lawful c.args.machine.now) })
+
+pub returns-clause-session : goal.returns-clause-session
+returns-clause-session g c =
+    let unread : IsUnread (g.M.Machine.disk c.args.machine.now) (g.M.Machine.disk c.args.machine.now) Memory = record { ends = refl; stays = stays_here (g.M.Machine.disk c.args.machine.now) (g.met.M.Machine.lawful c.args.machine.now) } in
+    unread_goes_on g.M.Machine.disk c.args.machine.now c.args.machine.now unread

@@ -1,4 +1,4 @@
-use Rattle.std.proofs.Common.{◌≡◌, [], arith, subst}
+use Rattle.std.proofs.Common.{[], arith, subst}
 use Rattle.disk_model.specs.Moments.{passes_twice}
 use Rattle.script_lines.specs.Grammar.{lines_of}
 use Rattle.redo_shell.specs.Status.{IsOfUnopened}
@@ -25,7 +25,7 @@ returns-in-Ok-clause-call g c =
       script = λ p commands opens told.
           let opened = c.in-Ok.ensures.ok p commands opens in
           run_on few old mid new (lines_of (g.S.Source.left c.args.input.now)) c.run_open-status.result lawful ends opens (c.open_store.ensures.opens p commands opens) c.open_store.ensures.time c.run_open-status.ensures.time
-          (runs_from_each (lines_of (g.S.Source.left c.args.input.now)) new c.run_open-status.result opened (λ holds. (c.run_open-status.ensures.answers p commands holds opened.all told, c.run_open-status.ensures.complete p commands holds opened.all told)))
+          (runs_from_each (lines_of (g.S.Source.left c.args.input.now)) new c.run_open-status.result opened (λ holds. (c.run_open-status.ensures.answers p commands holds opened.all opened.alone told, c.run_open-status.ensures.complete p commands holds opened.all opened.alone told)))
           (c.run_open-status.ensures.store (c.open_store.ensures.time.files_told.0 opens.told) attached);
       untold =
           let (script, each) = c.run_open-status.ensures.some in (
@@ -33,7 +33,7 @@ returns-in-Ok-clause-call g c =
             λ p commands opens.
                 let opened = c.in-Ok.ensures.ok p commands opens in
                 run_on few old mid new script c.run_open-status.result lawful ends opens (c.open_store.ensures.opens p commands opens) c.open_store.ensures.time c.run_open-status.ensures.time
-                (runs_from_each script new c.run_open-status.result opened (λ holds. each p commands holds opened.all))
+                (runs_from_each script new c.run_open-status.result opened (λ holds. each p commands holds opened.all opened.alone))
                 (c.run_open-status.ensures.store (c.open_store.ensures.time.files_told.0 opens.told) attached),
           );
       input = c.run_open-status.ensures.input;

@@ -5,18 +5,18 @@ use Rattle.script_lines.specs.Grammar.{lines_of}
 use Rattle.script_lines.specs.Reading.{IsLine, Takes}
 use Rattle.redo_shell.specs.Run.{Going}
 use Rattle.redo_shell.specs.Stages.{stage_of}
-use Rattle.redo_shell.proofs.HoldLemmas.{in_engine, holds_after}
-use Rattle.redo_shell.proofs.RunLemmas.{opened, goes_to, with_next, goes_on, ends_here, ends_in_line, ends_in_force, completes}
-use Rattle.redo_shell.proofs.ScriptLemmas.{takes_on, next_line, ended, input_end, too_much, force_stops, line_stops, line_not_long, line_undamaged}
+use Rattle.redo_shell.proofs.HoldLemmas.{told_by}
+use Rattle.redo_shell.proofs.RunLemmas.{opened, goes_to, with_next, goes_on, ends_here, ends_in_line, ends_in_finish, completes}
+use Rattle.redo_shell.proofs.ScriptLemmas.{takes_on, next_line, ended, input_end, too_much, whole_uncut, finish_stops, finish_uncut, line_stops, line_not_long, line_undamaged}
 use Rattle.redo_shell.proofs.script.answer_script.Goals as goal
 
 pub returns-in_err-lines-clause-answers : goal.returns-in_err-lines-clause-answers
-returns-in_err-lines-clause-answers g c = λ p commands holds all told.
-    ends_here (opened c.standing_files_meet_their_format.ensures.few (lines_of (g.S.Source.left c.args.input.now)) (g.met.M.Machine.lawful c.args.machine.now) holds all)
+returns-in_err-lines-clause-answers g c = λ p commands holds all alone told.
+    ends_here (opened c.standing_files_meet_their_format.ensures.few (lines_of (g.S.Source.left c.args.input.now)) (g.met.M.Machine.lawful c.args.machine.now) holds all alone)
 
 pub returns-in_err-lines-clause-some : goal.returns-in_err-lines-clause-some
 returns-in_err-lines-clause-some g c =
-    ([], λ p commands holds all. (ends_here (opened c.standing_files_meet_their_format.ensures.few [] (g.met.M.Machine.lawful c.args.machine.now) holds all), IfOk-from_err c.from_residual.result _ c.from_residual.ensures.0))
+    ([], λ p commands holds all alone. (ends_here (opened c.standing_files_meet_their_format.ensures.few [] (g.met.M.Machine.lawful c.args.machine.now) holds all alone), IfOk-from_err c.from_residual.result _ c.from_residual.ensures.0))
 
 pub loop-lines-init : goal.loop-lines-init
 loop-lines-init g c = record {
@@ -24,21 +24,21 @@ loop-lines-init g c = record {
   unbroken = c.requires;
   attached = λ attached. attached;
   time = passes_none (g.M.Machine.disk c.args.machine.now);
-  going = λ p commands holds all told.
+  going = λ p commands holds all alone told.
       subst (λ (l : List ℕ). Going p (stage_of c.args.engine.now holds.world) (g.M.Machine.disk c.args.machine.now) (g.M.Machine.disk c.args.machine.now) c.args.engine.now commands (lines_of (g.S.Source.left c.args.input.now)) (lines_of (l ++ g.S.Source.left c.args.input.now)) false)
-      (sym c.in_ok-lines.ensures.0) (opened c.standing_files_meet_their_format.ensures.few (lines_of (g.S.Source.left c.args.input.now)) (g.met.M.Machine.lawful c.args.machine.now) holds all);
-  some = ([], λ p commands holds all. opened c.standing_files_meet_their_format.ensures.few [] (g.met.M.Machine.lawful c.args.machine.now) holds all);
+      (sym c.in_ok-lines.ensures.0) (opened c.standing_files_meet_their_format.ensures.few (lines_of (g.S.Source.left c.args.input.now)) (g.met.M.Machine.lawful c.args.machine.now) holds all alone);
+  some = ([], λ p commands holds all alone. opened c.standing_files_meet_their_format.ensures.few [] (g.met.M.Machine.lawful c.args.machine.now) holds all alone);
   reads = omega arith;
   takes = λ told. record { bytes = []; front = refl; count = omega (arith, c.in_ok-lines.ensures.1) };
 }
 
 pub returns-in_err-next-clause-answers : goal.returns-in_err-next-clause-answers
-returns-in_err-next-clause-answers g c = λ p commands holds all told. ends_here (c.loop-lines.invariant.going p commands holds all told)
+returns-in_err-next-clause-answers g c = λ p commands holds all alone told. ends_here (c.loop-lines.invariant.going p commands holds all alone told)
 
 pub returns-in_err-next-clause-some : goal.returns-in_err-next-clause-some
 returns-in_err-next-clause-some g c =
     let (script, so_far) = c.loop-lines.invariant.some in
-    (script, λ p commands holds all. (ends_here (so_far p commands holds all), IfOk-from_err c.from_residual-in_err-next.result _ c.from_residual-in_err-next.ensures.0))
+    (script, λ p commands holds all alone. (ends_here (so_far p commands holds all alone), IfOk-from_err c.from_residual-in_err-next.result _ c.from_residual-in_err-next.ensures.0))
 
 pub returns-in_err-next-clause-too_long : goal.returns-in_err-next-clause-too_long
 returns-in_err-next-clause-too_long g c = λ told long.
@@ -49,20 +49,20 @@ returns-in_err-next-clause-too_long g c = λ told long.
 pub returns-in_err-refusing-in_default : goal.returns-in_err-refusing-in_default
 returns-in_err-refusing-in_default g c = record {
   time = passes_twice (g.M.Machine.disk c.args.machine.now) (g.M.Machine.disk c.loop-lines.machine) (g.M.Machine.disk c.answer_next.new.machine) (g.met.M.Machine.lawful c.answer_next.new.machine) c.loop-lines.invariant.time c.answer_next.ensures.time;
-  answers = λ p commands holds all told.
-      let so_far = c.loop-lines.invariant.going p commands holds all told in
+  answers = λ p commands holds all alone told.
+      let so_far = c.loop-lines.invariant.going p commands holds all alone told in
       let l = next_line c.in_ok-next.next _ _ _ (c.in_ok-next.ensures.next (c.loop-lines.invariant.told told)) c.in_default.not-End in
-      let here = goes_to l.0 _ so_far l.2 in
+      let here = goes_to (l.0 ∷ _) so_far l.2 in
       let is_line = subst (λ (s : List ℕ). IsLine c.in_ok-next.next s l.0) (sym c.line.ensures) l.1 in
-      ends_in_line c.standing_files_meet_their_format.ensures.few l.0 here c.loop-lines.invariant.time c.in_err-refusing-in_default.was (c.answer_next.ensures.answers p (commands ++ here.acc) l.0 is_line here.holds);
-  complete = λ p commands holds all told. IfOk-from_err c.from_residual-in_err-refusing-in_default.result _ c.from_residual-in_err-refusing-in_default.ensures.0;
+      ends_in_line c.standing_files_meet_their_format.ensures.few l.0 here c.loop-lines.invariant.time c.in_err-refusing-in_default.was (c.answer_next.ensures.answers p here.account.commands l.0 is_line here.holds);
+  complete = λ p commands holds all alone told. IfOk-from_err c.from_residual-in_err-refusing-in_default.result _ c.from_residual-in_err-refusing-in_default.ensures.0;
   some =
       let (script, so_far) = c.loop-lines.invariant.some in
       let (line, answering) = c.answer_next.ensures.some c.in_default.not-End in (
         script ++ line ∷ [],
-        λ p commands holds all.
-            let here = so_far p commands holds all in (
-              ends_in_line c.standing_files_meet_their_format.ensures.few line (with_next line here) c.loop-lines.invariant.time c.in_err-refusing-in_default.was (answering p (commands ++ here.acc) here.holds),
+        λ p commands holds all alone.
+            let here = so_far p commands holds all alone in (
+              ends_in_line c.standing_files_meet_their_format.ensures.few line (with_next line here) c.loop-lines.invariant.time c.in_err-refusing-in_default.was (answering p here.account.commands here.holds),
               IfOk-from_err c.from_residual-in_err-refusing-in_default.result _ c.from_residual-in_err-refusing-in_default.ensures.0,
             ),
       );
@@ -81,39 +81,41 @@ loop-lines-preserved g c = record {
   unbroken = c.in_ok-refusing-in_default.ensures.unbroken;
   attached = λ attached. c.in_ok-refusing-in_default.ensures.attached (c.loop-lines.invariant.attached attached);
   time = passes_twice (g.M.Machine.disk c.args.machine.now) (g.M.Machine.disk c.loop-lines.machine) (g.M.Machine.disk c.answer_next.new.machine) (g.met.M.Machine.lawful c.answer_next.new.machine) c.loop-lines.invariant.time c.answer_next.ensures.time;
-  going = λ p commands holds all told.
-      let so_far = c.loop-lines.invariant.going p commands holds all told in
+  going = λ p commands holds all alone told.
+      let so_far = c.loop-lines.invariant.going p commands holds all alone told in
       let l = next_line c.in_ok-next.next _ _ _ (c.in_ok-next.ensures.next (c.loop-lines.invariant.told told)) c.in_default.not-End in
-      let here = goes_to l.0 _ so_far l.2 in
+      let here = goes_to (l.0 ∷ _) so_far l.2 in
       let is_line = subst (λ (s : List ℕ). IsLine c.in_ok-next.next s l.0) (sym c.line.ensures) l.1 in
-      goes_on c.standing_files_meet_their_format.ensures.few l.0 here c.loop-lines.invariant.time c.in_ok-refusing-in_default.was (c.answer_next.ensures.answers p (commands ++ here.acc) l.0 is_line here.holds);
+      goes_on c.standing_files_meet_their_format.ensures.few c.a_line_asks_one_thing.ensures l.0 here c.loop-lines.invariant.time c.in_ok-refusing-in_default.was (c.answer_next.ensures.answers p here.account.commands l.0 is_line here.holds);
   some =
       let (script, so_far) = c.loop-lines.invariant.some in
       let (line, answering) = c.answer_next.ensures.some c.in_default.not-End in (
         script ++ line ∷ [],
-        λ p commands holds all.
-            let here = so_far p commands holds all in
-            goes_on c.standing_files_meet_their_format.ensures.few line (with_next line here) c.loop-lines.invariant.time c.in_ok-refusing-in_default.was (answering p (commands ++ here.acc) here.holds),
+        λ p commands holds all alone.
+            let here = so_far p commands holds all alone in
+            goes_on c.standing_files_meet_their_format.ensures.few c.a_line_asks_one_thing.ensures line (with_next line here) c.loop-lines.invariant.time c.in_ok-refusing-in_default.was (answering p here.account.commands here.holds),
       );
   reads = omega (arith, c.loop-lines.invariant.reads, c.next.ensures.later);
   takes = λ told. takes_on (c.loop-lines.invariant.takes told) (c.next.ensures.takes (c.loop-lines.invariant.told told));
 }
 
-pub returns-in_err-force-clause-answers : goal.returns-in_err-force-clause-answers
-returns-in_err-force-clause-answers g c = λ p commands holds all told.
-    let so_far = c.loop-lines.invariant.going p commands holds all told in
-    ends_in_force c.standing_files_meet_their_format.ensures.few so_far c.loop-lines.invariant.time (c.force.ensures.call.quiet so_far.holds.shows.shows.told) (λ telling. c.force.ensures.commands.images telling p (commands ++ so_far.acc) (in_engine so_far.holds))
-    (ended c.in_ok-next.next _ _ _ (c.in_ok-next.ensures.next (c.loop-lines.invariant.told told)) c.in-End.is) (λ telling. c.force.ensures.takes.moments telling p so_far.holds.world so_far.holds.shows.shows)
+pub returns-in_err-finish-clause-answers : goal.returns-in_err-finish-clause-answers
+returns-in_err-finish-clause-answers g c = λ p commands holds all alone told.
+    let so_far = c.loop-lines.invariant.going p commands holds all alone told in
+    let over = ended c.in_ok-next.next _ _ _ (c.in_ok-next.ensures.next (c.loop-lines.invariant.told told)) c.in-End.is in
+    let here = goes_to [] so_far over in
+    ends_in_finish c.standing_files_meet_their_format.ensures.few (finish_uncut c.from_residual-in_err-finish.result c.in_err-finish.field-0.0 c.from_residual-in_err-finish.ensures.1 c.in_err-finish.ensures.cause.0) here c.loop-lines.invariant.time (c.finish.ensures.quiet (told_by here.holds)) (λ telling. c.finish.ensures.moments p here.account.commands here.holds telling)
+    (λ telling. c.finish.ensures.steps telling p here.holds.world here.holds.shows)
 
-pub returns-in_err-force-clause-some : goal.returns-in_err-force-clause-some
-returns-in_err-force-clause-some g c =
+pub returns-in_err-finish-clause-some : goal.returns-in_err-finish-clause-some
+returns-in_err-finish-clause-some g c =
     let (script, so_far) = c.loop-lines.invariant.some in (
       script,
-      λ p commands holds all.
-          let here = so_far p commands holds all in (
-            ends_in_force c.standing_files_meet_their_format.ensures.few here c.loop-lines.invariant.time (c.force.ensures.call.quiet here.holds.shows.shows.told) (λ telling. c.force.ensures.commands.images telling p (commands ++ here.acc) (in_engine here.holds))
-                refl (λ telling. c.force.ensures.takes.moments telling p here.holds.world here.holds.shows.shows),
-            IfOk-from_err c.from_residual-in_err-force.result _ c.from_residual-in_err-force.ensures.0,
+      λ p commands holds all alone.
+          let here = so_far p commands holds all alone in (
+            ends_in_finish c.standing_files_meet_their_format.ensures.few (finish_uncut c.from_residual-in_err-finish.result c.in_err-finish.field-0.0 c.from_residual-in_err-finish.ensures.1 c.in_err-finish.ensures.cause.0) here c.loop-lines.invariant.time (c.finish.ensures.quiet (told_by here.holds)) (λ telling. c.finish.ensures.moments p here.account.commands here.holds telling)
+                (λ telling. c.finish.ensures.steps telling p here.holds.world here.holds.shows),
+            IfOk-from_err c.from_residual-in_err-finish.result _ c.from_residual-in_err-finish.ensures.0,
           ),
     )
 
@@ -121,29 +123,31 @@ pub returns-clause-some : goal.returns-clause-some
 returns-clause-some g c =
     let (script, so_far) = c.loop-lines.invariant.some in (
       script,
-      λ p commands holds all.
-          let here = so_far p commands holds all in
-          let forced = c.in_ok-force.ensures.forced p (commands ++ here.acc) (in_engine here.holds) in
-          let after = holds_after (c.in_ok-force.ensures.commands.holds p (commands ++ here.acc) (in_engine here.holds)) (c.engine_stands.ensures p (commands ++ here.acc)) in (
-            ends_in_force c.standing_files_meet_their_format.ensures.few here c.loop-lines.invariant.time (c.force.ensures.call.quiet here.holds.shows.shows.told) (λ telling. c.force.ensures.commands.images telling p (commands ++ here.acc) (in_engine here.holds))
-                refl (λ telling. c.force.ensures.takes.moments telling p here.holds.world here.holds.shows.shows),
-            completes here refl (c.force.ensures.call.quiet here.holds.shows.shows.told) forced.1 after c.in_ok-force.ensures.empty (c.in_ok-force.ensures.takes.follows p here.holds.world here.holds.shows.shows).1,
+      λ p commands holds all alone.
+          let here = so_far p commands holds all alone in
+          let (after, forced, emptied) = c.in_ok-finish.ensures.forced p here.account.commands here.holds in
+          let quiet = c.finish.ensures.quiet (told_by here.holds) in (
+            ends_in_finish c.standing_files_meet_their_format.ensures.few (whole_uncut _) here c.loop-lines.invariant.time quiet (λ telling. c.finish.ensures.moments p here.account.commands here.holds telling)
+                (λ telling. c.finish.ensures.steps telling p here.holds.world here.holds.shows),
+            completes here quiet forced after emptied (c.in_ok-finish.ensures.follows p here.holds.world here.holds.shows),
           ),
     )
 
 pub returns-clause-answers : goal.returns-clause-answers
-returns-clause-answers g c = λ p commands holds all told.
-    let so_far = c.loop-lines.invariant.going p commands holds all told in
-    ends_in_force c.standing_files_meet_their_format.ensures.few so_far c.loop-lines.invariant.time (c.force.ensures.call.quiet so_far.holds.shows.shows.told) (λ telling. c.force.ensures.commands.images telling p (commands ++ so_far.acc) (in_engine so_far.holds))
-    (ended c.in_ok-next.next _ _ _ (c.in_ok-next.ensures.next (c.loop-lines.invariant.told told)) c.in-End.is) (λ telling. c.force.ensures.takes.moments telling p so_far.holds.world so_far.holds.shows.shows)
+returns-clause-answers g c = λ p commands holds all alone told.
+    let so_far = c.loop-lines.invariant.going p commands holds all alone told in
+    let over = ended c.in_ok-next.next _ _ _ (c.in_ok-next.ensures.next (c.loop-lines.invariant.told told)) c.in-End.is in
+    let here = goes_to [] so_far over in
+    ends_in_finish c.standing_files_meet_their_format.ensures.few (whole_uncut _) here c.loop-lines.invariant.time (c.finish.ensures.quiet (told_by here.holds)) (λ telling. c.finish.ensures.moments p here.account.commands here.holds telling)
+    (λ telling. c.finish.ensures.steps telling p here.holds.world here.holds.shows)
 
 pub returns-clause-complete : goal.returns-clause-complete
-returns-clause-complete g c = λ p commands holds all told.
-    let so_far = c.loop-lines.invariant.going p commands holds all told in
+returns-clause-complete g c = λ p commands holds all alone told.
+    let so_far = c.loop-lines.invariant.going p commands holds all alone told in
     let over = ended c.in_ok-next.next _ _ _ (c.in_ok-next.ensures.next (c.loop-lines.invariant.told told)) c.in-End.is in
-    let forced = c.in_ok-force.ensures.forced p (commands ++ so_far.acc) (in_engine so_far.holds) in
-    let after = holds_after (c.in_ok-force.ensures.commands.holds p (commands ++ so_far.acc) (in_engine so_far.holds)) (c.engine_stands.ensures p (commands ++ so_far.acc)) in
-    completes so_far over (c.force.ensures.call.quiet so_far.holds.shows.shows.told) forced.1 after c.in_ok-force.ensures.empty (c.in_ok-force.ensures.takes.follows p so_far.holds.world so_far.holds.shows.shows).1
+    let here = goes_to [] so_far over in
+    let (after, forced, emptied) = c.in_ok-finish.ensures.forced p here.account.commands here.holds in
+    completes here (c.finish.ensures.quiet (told_by here.holds)) forced after emptied (c.in_ok-finish.ensures.follows p here.holds.world here.holds.shows)
 
 pub returns-clause-input : goal.returns-clause-input
 returns-clause-input g c = λ told.
@@ -151,7 +155,7 @@ returns-clause-input g c = λ told.
     input_end c.in_ok-next.next _ _ c.next.new.self.ahead (g.S.Source.left c.args.input.now) (g.S.Source.left c.next.new.input) c.next.new.self.taken (c.in_ok-next.ensures.next here) c.in-End.is
     (takes_on (c.loop-lines.invariant.takes told) (c.next.ensures.takes here)) (c.next.ensures.before (c.in_ok-next.was ∙ ap (λ n. Ok n) c.in-End.is))
 
-pub returns-in_err-force-clause-cause : goal.returns-in_err-force-clause-cause
-returns-in_err-force-clause-cause g c =
-    let fault = c.in_err-force.ensures.call.fault tt in
-    force_stops c.from_residual-in_err-force.result (g.M.Machine.disk c.args.machine.now) (g.M.Machine.disk c.loop-lines.machine) (g.M.Machine.disk c.force.new.machine) (g.S.Source.faults c.args.input.now) (g.S.Source.faults c.next.new.input) c.from_residual-in_err-force.ensures.1 c.loop-lines.invariant.time fault
+pub returns-in_err-finish-clause-cause : goal.returns-in_err-finish-clause-cause
+returns-in_err-finish-clause-cause g c =
+    finish_stops c.from_residual-in_err-finish.result c.in_err-finish.field-0.0 (g.M.Machine.disk c.args.machine.now) (g.M.Machine.disk c.loop-lines.machine) (g.M.Machine.disk c.finish.new.machine) (g.S.Source.faults c.args.input.now)
+    (g.S.Source.faults c.next.new.input) c.from_residual-in_err-finish.ensures.1 c.in_err-finish.ensures.cause.0 c.loop-lines.invariant.time c.in_err-finish.ensures.cause.1

@@ -1,4 +1,4 @@
-use Rattle.std.proofs.Common.{◌≡◌, ◌≤◌, ◌++◌, List, ℕ, [], length, false}
+use Rattle.std.proofs.Common.{◌≡◌, ◌≤◌, ◌++◌, List, ℕ, [], length, false, None}
 use Rattle.disk_model.specs.Disk.{Passes}
 use Rattle.formats.specs.declared.params.Params.{Params}
 use Rattle.script_lines.specs.Grammar.{lines_of}
@@ -16,9 +16,9 @@ invariant-loop-lines g l = record {
   unbroken : l.engine.broken ≡ false;
   attached : IsAttached (g.M.Machine.disk l.fn.machine) l.fn.engine → IsAttached (g.M.Machine.disk l.machine) l.engine;
   time : Passes (g.M.Machine.disk l.fn.machine) (g.M.Machine.disk l.machine);
-  going : (p : Params) (commands : List Command) → (holds : Holds p (g.M.Machine.disk l.fn.machine) l.fn.engine commands) → forced_in l.fn.engine ≡ length commands → g.S.Source.tells l.fn.input →
+  going : (p : Params) (commands : List Command) → (holds : Holds p (g.M.Machine.disk l.fn.machine) l.fn.engine commands) → forced_in l.fn.engine ≡ length commands → l.fn.engine.group ≡ None → g.S.Source.tells l.fn.input →
       Going p (stage_of l.fn.engine holds.world) (g.M.Machine.disk l.fn.machine) (g.M.Machine.disk l.machine) l.engine commands (lines_of (g.S.Source.left l.fn.input)) (lines_of (l.lines.ahead ++ g.S.Source.left l.input)) l.refusing;
-  some : (script : List (List ℕ)) × ((p : Params) (commands : List Command) → (holds : Holds p (g.M.Machine.disk l.fn.machine) l.fn.engine commands) → forced_in l.fn.engine ≡ length commands →
+  some : (script : List (List ℕ)) × ((p : Params) (commands : List Command) → (holds : Holds p (g.M.Machine.disk l.fn.machine) l.fn.engine commands) → forced_in l.fn.engine ≡ length commands → l.fn.engine.group ≡ None →
       Going p (stage_of l.fn.engine holds.world) (g.M.Machine.disk l.fn.machine) (g.M.Machine.disk l.machine) l.engine commands script [] l.refusing);
   reads : g.S.Source.faults l.fn.input ≤ g.S.Source.faults l.input;
   takes : g.S.Source.tells l.fn.input → Takes (g.S.Source.left l.fn.input) (g.S.Source.left l.input) 0 l.lines.taken;

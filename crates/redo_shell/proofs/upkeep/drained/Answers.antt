@@ -1,33 +1,8 @@
-use Rattle.std.proofs.Common.{inl, inr, refl, Ok, Err, ℕ}
-use Rattle.cache_manager.specs.Taking.{ending_of}
-use Rattle.cache_manager.specs.Taking.Ending.{Done}
-use Rattle.store_engine.specs.Engine.{logged_since}
-use Rattle.redo_shell.proofs.CourseLemmas.{logged_checkpoint}
-use Rattle.redo_shell.proofs.UpkeepLemmas.{refused_ends, whole_end}
+use Rattle.redo_shell.proofs.UpkeepLemmas.{barred_in, drained_upkept}
 use Rattle.redo_shell.proofs.upkeep.drained.Goals as goal
 
-pub returns-in-Ok : goal.returns-in-Ok
-returns-in-Ok g c = record {
-  epoch = 0;
-  logged = logged_since c.args.engine.now c.drain.new.self;
-  ending = Done;
-  call = c.in-Ok.ensures.call;
-  takes = c.in-Ok.ensures.takes;
-  commands = c.in-Ok.ensures.commands;
-  counted = inl refl;
-  answered = refl;
-  undamaged = λ told attached file place is. cc;
-}
+pub returns-clause-in_group : goal.returns-clause-in_group
+returns-clause-in_group g c = λ inside. barred_in c.drain.result c.worked.result c.drain.ensures.in_group c.worked.ensures inside
 
-pub returns-in-Err : goal.returns-in-Err
-returns-in-Err g c = record {
-  epoch = 0;
-  logged = logged_since c.args.engine.now c.drain.new.self;
-  ending = ending_of {T = ℕ} (Err c.in-Err.error);
-  call = c.in-Err.ensures.call;
-  takes = c.in-Err.ensures.takes;
-  commands = c.in-Err.ensures.commands;
-  counted = inl refl;
-  answered = refused_ends (ℕ) c.in-Err.error c.refused.result c.refused.ensures.ends;
-  undamaged = λ told attached file place is. whole_end c.refused.ensures.whole is;
-}
+pub returns-clause-alone : goal.returns-clause-alone
+returns-clause-alone g c = λ none. drained_upkept c.drain.result (c.drain.ensures.alone none) c.worked.ensures
