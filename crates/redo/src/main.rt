@@ -1,12 +1,17 @@
-//! The program `redo`: it gives the words of the command line, the files of the current folder, and standard input and
-//! output to `redo_shell::top`, and ends with the number of the status. Where that is one of trouble, standard error says
-//! what happened and what to do next.
+//! The program `redo`: it gives the words of the command line, the files of the store's folder, and standard input and
+//! output to `redo_shell::top`, and ends with the number of the status. The folder is the current one, or that of `-C`, and
+//! it is locked meanwhile. Standard error says why words are refused, and, where the status is one of trouble, what happened
+//! and what to do next.
 #![tactic(auto)]
 
 mod advice;
+mod folder;
+mod unstarted;
 
 use advice::advice;
+use command_words::{Asked, Unread, read_words};
 use disk_model::{FileMachine, StdSource};
+use folder::{enter, lacks_folder, lock};
 use redo_shell::{Status, top};
 use std::alloc::AllocError;
 use std::env;
@@ -14,6 +19,7 @@ use std::fs::File;
 use std::io::ErrorKind;
 use std::process::ExitCode;
 use std::rt::Env;
+use unstarted::Unstarted;
 
 // The words of the command line; none where one of them is no text.
 fn words<R: Env + AllocGlobal>(rt: &R) -> Result<Vec<String>, AllocError> {
@@ -21,6 +27,42 @@ fn words<R: Env + AllocGlobal>(rt: &R) -> Result<Vec<String>, AllocError> {
         Ok(args) => args.collect(rt.alloc()),
         Err(error) if error.kind() == ErrorKind::OutOfMemory => Err(AllocError),
         Err(_) => Ok(Vec::new(rt.alloc())),
+    }
+}
+
+// Does what the words ask, with the files of the current folder.
+fn run(rt: HostRuntime, words: &[String]) -> Status {
+    let mut input = StdSource::new(&rt);
+    let mut machine = FileMachine::new(rt);
+    top(rt.alloc(), words, &mut machine, &mut input)
+}
+
+// The same with the lock of the folder.
+fn run_locked(rt: HostRuntime, words: &[String], asked: Asked) -> Result<Status, Unstarted> {
+    let _lock = lock(rt, asked)?;
+    Ok(run(rt, words))
+}
+
+// The same for words that are refused, and says why. Where that can't be written, nothing is left to do.
+fn run_refused(rt: HostRuntime, words: &[String], unread: &Unread) -> Status {
+    let status = run(rt, words);
+    if status == Status::Usage {
+        let _told = if lacks_folder(words) {
+            eprintln!(rt; "error: a folder has to follow -C\n\nUsage: redo -C DIR <COMMAND>")
+        } else {
+            eprint!(rt; "{unread}")
+        };
+    }
+    status
+}
+
+// Does what the words ask, in the folder that they name.
+fn serve(rt: HostRuntime, words: &mut Vec<String>) -> Result<Status, Unstarted> {
+    enter(rt, words)?;
+    match read_words(rt.alloc(), words) {
+        Ok(asked) => run_locked(rt, words, asked),
+        Err(Unread::Memory) => Ok(Status::Memory),
+        Err(unread) => Ok(run_refused(rt, words, &unread)),
     }
 }
 
@@ -34,16 +76,19 @@ fn main(rt: HostRuntime) -> ExitCode {
     ) else {
         return ExitCode::from(Status::DiskFault.number());
     };
-    let Ok(words) = words(&rt) else {
+    let Ok(mut words) = words(&rt) else {
         return ExitCode::from(Status::Memory.number());
     };
-    let alloc = rt.alloc();
-    let mut input = StdSource::new(&rt);
-    let mut machine = FileMachine::new(rt);
-    let status = top(alloc, &words, &mut machine, &mut input);
-    if let Some(text) = advice(status) {
-        // (where standard error can't be written either, nothing is left to do)
-        let _told = eprintln!(rt; "redo: {text}");
+    match serve(rt, &mut words) {
+        Ok(status) => {
+            if let Some(text) = advice(status) {
+                let _told = eprintln!(rt; "redo: {text}");
+            }
+            ExitCode::from(status.number())
+        }
+        Err(unstarted) => {
+            let _told = eprintln!(rt; "redo: {unstarted}");
+            ExitCode::from(unstarted.number())
+        }
     }
-    ExitCode::from(status.number())
 }
