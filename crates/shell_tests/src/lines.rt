@@ -1,17 +1,18 @@
 // What no clause says of lines: that calls succeed with ample memory, and worked rows.
 ghost use Rattle.std.specs.Prelude.{⊤, []};
 
+use command_words::{Asked, read_words};
 use disk_model::{Failed, Source};
 use formats::Params;
 use oper_core::Refusal;
 use script_lines::{
-    Answer, Asked, Bad, Counts, Line, LineReader, Next, ReadError, answer_line, answer_text,
-    hex_bytes, parse_line, read_words,
+    Answer, Bad, Counts, Line, LineReader, Next, ReadError, answer_line, answer_text, hex_bytes,
+    parse_line,
 };
 use std::alloc::Global;
 
 // A line of each form, and which one it is, counted from 1. That it asks what it says is a clause.
-const FORMS: [(&[u8], u8); 21] = [
+const FORMS: [(&[u8], u8); 23] = [
     (b"put 4294967295 00FfA9", 1),
     (b"copy 0 1", 2),
     (b"append 7 12", 3),
@@ -33,6 +34,8 @@ const FORMS: [(&[u8], u8); 21] = [
     (b"checkpoint", 19),
     (b"trim", 20),
     (b"stat", 21),
+    (b"begin", 22),
+    (b"end", 23),
 ];
 
 // Lines, and the plain ones that ask the same.
@@ -156,6 +159,8 @@ fn form_of(line: &[u8]) -> u8 {
         Ok(Line::Checkpoint) => 19,
         Ok(Line::Trim) => 20,
         Ok(Line::Stat) => 21,
+        Ok(Line::Begin) => 22,
+        Ok(Line::End) => 23,
         Ok(Line::Skip) | Err(Bad) => 0,
     }
 }
@@ -363,7 +368,7 @@ const LEAST: Params = Params {
 };
 
 // Words, and what they ask.
-const WORDS: [(&[&str], Option<Asked>); 23] = [
+const WORDS: [(&[&str], Option<Asked>); 28] = [
     (&["redo", "run"], Some(Asked::Run)),
     (&["redo", "dump"], Some(Asked::Dump)),
     (&["redo", "dump", "run"], None),
@@ -391,13 +396,30 @@ const WORDS: [(&[&str], Option<Asked>); 23] = [
     (&["redo", "init", "8", "16385", "65536"], None),
     (&["redo", "init", "8", "64", "4223"], None),
     (&["redo", "init", "8", "64", "536870913"], None),
-    (&["redo", "init", "+8", "64", "65536"], None),
-    (&["redo", "init", "008", "64", "65536"], None),
+    (&["redo", "help"], None),
+    (&["redo", "init", "--", "-8", "64", "65536"], None),
+    (
+        &["redo", "init", "+4096", "016384", "536870912"],
+        Some(Asked::Init(LARGEST)),
+    ),
+    (
+        &["redo", "init", "--", "1", "16", "4128"],
+        Some(Asked::Init(LEAST)),
+    ),
+    (
+        &["redo", "demo", "--steps=3", "--seed", "7"],
+        Some(Asked::Demo { seed: 7, steps: 3 }),
+    ),
+    (
+        &["redo", "demo", "--seed", "7", "--seed", "7", "--steps", "3"],
+        None,
+    ),
+    (&["redo", "demo", "--seed", "7"], None),
 ];
 
 fn ask(alloc: Global, words: &[&str], want: Option<Asked>) -> bool {
     match strings(alloc, words) {
-        Some(words) => read_words(words.as_slice()) == want,
+        Some(words) => read_words(alloc, words.as_slice()).ok() == want,
         None => false,
     }
 }

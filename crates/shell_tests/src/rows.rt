@@ -14,7 +14,38 @@ const NO_STORE: Run = ("redo run", b"get 0\n", Status::NotAStore, b"not a store\
 const USAGE: &[u8] = b"usage: redo init N CAP LIMIT | run | dump | demo --seed S --steps T\n";
 
 // Runs in one folder, empty at first, with a crash between them that loses what was not synced.
-const ROWS: [&[Run]; 30] = [
+const ROWS: [&[Run]; 36] = [
+    // A group allows no force, and ends once.
+    &[
+        NEW,
+        (
+            "redo run",
+            b"begin\nput 0 aa\nget 0\nforce\nend\nforce\nend\n",
+            Status::DoneWithRefusals,
+            b"ok\nok\naa\nrefused InGroup\nok\nforced 1\nrefused NoGroup\n",
+        ),
+    ],
+    // Nor anything else that may force.
+    &[
+        NEW,
+        (
+            "redo run",
+            b"end\nbegin\nbegin\ninstall\ndrain\ncheckpoint\ntrim\nforce\nput 8 aa\nstat\nend\nend\nbegin 1\n",
+            Status::DoneWithRefusals,
+            b"refused NoGroup\nok\nrefused InGroup\nrefused InGroup\nrefused InGroup\nrefused InGroup\nrefused InGroup\nrefused InGroup\nrefused NoObject\nstat 0 0 0 0 0 51 0\nok\nrefused NoGroup\nbad\n",
+        ),
+    ],
+    // The end of the input closes a group, a crash takes it away.
+    &[
+        NEW,
+        (
+            "redo run",
+            b"begin\nput 0 aa\narun 1 0\nput 1 bb",
+            Status::Done,
+            b"ok\nok\nran 0\nok\n",
+        ),
+        ("redo dump", b"", Status::Done, b"0 aa\n1 bb\ncommands 2\n"),
+    ],
     &[
         NEW,
         (
@@ -193,9 +224,33 @@ const ROWS: [&[Run]; 30] = [
         NO_STORE,
         NEW,
     ],
+    &[
+        ("redo init 0 64 65536", b"", Status::Usage, USAGE),
+        NO_STORE,
+        NEW,
+    ],
     &[("redo fly", b"", Status::Usage, USAGE), NO_STORE, NEW],
     &[("redo", b"", Status::Usage, USAGE), NO_STORE, NEW],
     &[("redo --help", b"", Status::Usage, USAGE), NO_STORE, NEW],
+    // Numbers and options as clap takes them.
+    &[
+        ("redo init 008 64 +65536", b"", Status::Done, b""),
+        ("redo dump", b"", Status::Done, b"commands 0\n"),
+    ],
+    &[
+        (
+            "redo demo --steps=0 --seed=0",
+            b"",
+            Status::Done,
+            b"demo seed 0 steps 0 lines 18 bytes 44 accepted 0 refused 0 sum 30072\n",
+        ),
+        (
+            "redo demo --seed 0 --steps 0",
+            b"",
+            Status::Done,
+            b"demo seed 0 steps 0 lines 18 bytes 44 accepted 0 refused 0 sum 30072\n",
+        ),
+    ],
     &[
         (
             "redo demo --seed 0 --steps 1",
@@ -375,6 +430,21 @@ fn ends(alloc: Global, words: &str, script: &[u8], said: &[u8]) -> Result<bool, 
 fn puts_end(alloc: Global, words: &str, puts: &[Puts], said: &[u8]) -> Result<bool, AllocError> {
     let script = script_of(alloc, puts)?;
     ends(alloc, words, script.as_slice(), said)
+}
+
+// A group is full: nothing of it is forced, and what was accepted stays.
+#[test]
+fn a_group_is_full(rt: HostRuntime) -> Result<(), Fail> {
+    let alloc = rt.alloc();
+    let mut script = Vec::new(alloc);
+    script.extend_from_slice(b"begin\n")?;
+    for _ in 0..120 {
+        push_put(&mut script, b'0', 16)?;
+    }
+    script.extend_from_slice(b"end\nforce\n")?;
+    let said = b"ok\nfull 4102 34 4128\nok\nforced 119\n".as_slice();
+    assert!(rt; ends(alloc, "redo init 2 16 4128", script.as_slice(), said)?);
+    Ok(())
 }
 
 #[test]

@@ -40,6 +40,7 @@ fn does<M: Machine>(alloc: Global, it: &mut Restarted<AllOps>, machine: &mut M, 
         &mut it.graph,
         machine,
         op,
+        false,
     )
     .is_ok()
 }
@@ -83,7 +84,7 @@ fn install<M: Machine>(it: &mut Restarted<AllOps>, machine: &mut M) -> Result<()
     requires { ArePartsInUse (parts it.old.log it.old.objects it.old.graph.entries) }
     ensures { OnOk result (ArePartsInUse (parts it.new.log it.new.objects it.new.graph.entries)) }
 {
-    match install_one(&mut it.log, &mut it.objects, &mut it.graph, machine) {
+    match install_one(&mut it.log, &mut it.objects, &mut it.graph, machine, 0) {
         Ok(_) => Ok(()),
         Err(InstallErr::DiskFault) => Err(Status::DiskFault),
         Err(_) => Err(Status::Memory),

@@ -53,7 +53,7 @@ const PUT: &[&[u8]] = &[
     b"0 aa\n1 bb\n2 cc\ncommands 3\n",
 ];
 
-static SCRIPTS: [Script; 10] = [
+static SCRIPTS: [Script; 12] = [
     Script {
         room: TWO_LOGS,
         init: SMALL,
@@ -83,6 +83,53 @@ static SCRIPTS: [Script; 10] = [
             b"0 aa\ncommands 1\n",
             b"0 aa\n1 bb\ncommands 2\n",
             b"0 bb\n1 aa\ncommands 3\n",
+        ],
+    },
+    // A stop leaves both commands of a group or none.
+    Script {
+        room: ONE_LOG,
+        init: SMALL,
+        before: b"",
+        act: Act::Program("redo run", b"begin\nput 0 aa\nput 1 bb\nend\nforce\n"),
+        said: b"ok\nok\nok\nok\nforced 2\n",
+        within: &[(0, 0), (0, 0), (0, 0), (0, 0), (0, 2), (2, 2)],
+        dumps: &[
+            b"commands 0\n",
+            b"a group is split\n",
+            b"0 aa\n1 bb\ncommands 2\n",
+        ],
+    },
+    // A group begins with a force; one that is closed waits with what comes after it, and the end of the input closes one.
+    Script {
+        room: TWO_LOGS,
+        init: SMALL,
+        before: b"",
+        act: Act::Program(
+            "redo run",
+            b"put 2 cc\nbegin\nput 0 aa\nswap 0 1\nend\nput 3 dd\ninstall\nbegin\nput 4 ee\nput 4 ff\n",
+        ),
+        said: b"ok\nok\nok\nok\nok\nok\nok\nok\nok\nok\n",
+        within: &[
+            (0, 0),
+            (0, 1),
+            (1, 1),
+            (1, 1),
+            (1, 1),
+            (1, 1),
+            (1, 4),
+            (4, 4),
+            (4, 4),
+            (4, 4),
+            (4, 6),
+        ],
+        dumps: &[
+            b"commands 0\n",
+            b"2 cc\ncommands 1\n",
+            b"a group is split\n",
+            b"a group is split\n",
+            b"1 aa\n2 cc\n3 dd\ncommands 4\n",
+            b"a group is split\n",
+            b"1 aa\n2 cc\n3 dd\n4 ff\ncommands 6\n",
         ],
     },
     // The end of the input forces the last command.

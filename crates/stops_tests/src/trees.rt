@@ -7,7 +7,7 @@ use op_codec::AllOps;
 use redo_shell::Status;
 use std::alloc::{AllocError, Global};
 use std::test::Fail;
-use store_engine::{Engine, ForceErr, Tuning};
+use store_engine::{Engine, Tuning};
 
 const TUNING: Tuning = Tuning {
     clean: 2,
@@ -50,7 +50,7 @@ fn force<M: Machine>(engine: &mut Engine<AllOps>, machine: &mut M) -> Result<u64
     }
     match engine.force(machine) {
         Ok(count) => Ok(count),
-        Err(ForceErr::DiskFault) => Err(Status::DiskFault),
+        Err(_) => Err(Status::DiskFault),
     }
 }
 
