@@ -3,11 +3,15 @@ try() { redo "$@" </dev/null; echo "status $?"; }
 
 try run
 try dump
-try init 8 64 65536
+try init 008 64 +65536
 try init 8 64 65536
 try dump
 try
-try --help
+try help
+try init --help
+try run --help
 try init 0 64 65536
-try init 8 064 65536
+try init 8 64 4223
+try init 8 64
 try run dump
+try fly
