@@ -16,14 +16,19 @@ store.run.wait()
 
 store = Store(".")
 print("after a kill", list(store.get(0)), list(store.get(1)))
-with store.group():
-    store.put(0, bytes([60]))
-    store.put(1, bytes([40]))
-    try:
-        store.force()
-    except Refused as answer:
-        print(answer)
-print("forced", store.force())
+try:
+    with store.group() as lines:
+        lines.append(("put", 0, "3c"))
+        raise InterruptedError("in the middle")
+except InterruptedError as why:
+    print(why, list(store.get(0)))
+with store.group() as lines:
+    lines += [("put", 0, "3c"), ("put", 1, "28")]
+print("forced", store.force(), list(store.get(0)), list(store.get(1)))
+try:
+    store.copy(9, 1000)
+except Refused as answer:
+    print(answer)
 store.ask_all([("put", x, "%04x" % x) for x in range(1000)])
 print("after many puts", list(store.get(999)), "status", store.close())
 END

@@ -1,7 +1,7 @@
 """A store of redo as another program uses it: lines go to `redo run` by a pipe, and answers come back by another.
 
-A value is bytes, an object a number. What `force` has answered is there after any crash; of the lines within `group` a
-crash leaves all or none.
+A value is bytes, an object a number. What `force` has answered is there after any crash, and of the lines of a group all or
+none. They are sent at its end, so none is there where this program dies before that; of up to 4,096 bytes, also within it.
 """
 import contextlib
 import subprocess
@@ -34,14 +34,16 @@ class Store:
     def exchange(self, batch):
         self.run.stdin.write("".join(batch).encode())
         self.run.stdin.flush()
-        return [self.read() for _ in batch]
+        answers = [self.read() for _ in batch]
+        for answer in answers:
+            if answer.split()[0] in ("bad", "refused", "full", "end"):
+                raise Refused(answer)
+        return answers
 
     def read(self):
         answer = self.run.stdout.readline().decode()
         if not answer.endswith("\n"):
             raise ConnectionError(f"redo ended with status {self.run.wait()}")
-        if answer.split()[0] in ("bad", "refused", "full", "end"):
-            raise Refused(answer.strip())
         return answer.strip()
 
     def put(self, number, value):
@@ -60,9 +62,10 @@ class Store:
 
     @contextlib.contextmanager
     def group(self):
-        self.ask("begin")
-        yield
-        self.ask("end")
+        """A list of lines, which are sent together at the end of the block, and not at all where it raises."""
+        lines = []
+        yield lines
+        self.ask_all([("begin",), *lines, ("end",)])
 
     def close(self):
         """The end of the input: an open group is closed, and all is forced. Answers the status."""
