@@ -19,7 +19,7 @@ use Rattle.redo_shell.specs.Calls.{IsRunOn}
 use Rattle.redo_shell.specs.Courses.{OpeningMoment, RunMoment, StageMoment}
 use Rattle.redo_shell.specs.Causes.{JudgesFiles}
 use Rattle.redo_shell.specs.Open.{OpensFiles, IsOpen, IsUnopened}
-use Rattle.redo_shell.specs.Status.{status_of, status_after, IsOfUnopened}
+use Rattle.redo_shell.specs.Status.{status_of, status_after, IsCut, IsOfUnopened}
 use Rattle.redo_shell.specs.declared.status.Status.{Status}
 use Rattle.redo_shell.specs.declared.status.Status.TheVariants.{Done, DoneWithRefusals, NotAStore, Damaged, DiskFault as DiskFailed, SayFault as OutputFailed, Memory as OutOfMemory}
 use Rattle.redo_shell.specs.declared.stop.Stop.{Stop}
@@ -50,8 +50,8 @@ opening_says : (p : Params) (start : Disk) (commands : List Command) → IsDisk 
 opening_says p start commands lawful told f s here = ⊎_elim (λ was. lawful.said_now told f s was) (λ (b : Between p start None (length commands) (length commands) commands f s). b.quiet) here
 
 -- what reads give, before anything is said
-pub start_moment : AreFew → {p : Params} (start : Disk) {commands : List Command} (script : List (List ℕ)) → Stands p start.reads commands → Moment p commands script start.said start.reads start.said
-start_moment few {p} start {commands} script stands =
+start_so_far : AreFew → {p : Params} (start : Disk) {commands : List Command} (script : List (List ℕ)) → Stands p start.reads commands → MomentSoFar p commands script start.said start.reads start.said
+start_so_far few {p} start {commands} script stands =
     let enough : length commands ≤ length commands = omega arith in
     let between : Between p start None (length commands) (length commands) commands start.reads start.said = record {
       quiet = refl;
@@ -61,7 +61,10 @@ start_moment few {p} start {commands} script stands =
       which = inl refl;
       stands = subst (λ (l : List Command). Stands p start.reads l) (sym (take_all (length commands) commands enough)) stands;
     } in
-    (first_moment few {p = p} {start = start} {commands = commands} script start.reads start.said between).is
+    first_moment few {p = p} {start = start} {commands = commands} script start.reads start.said between
+
+pub start_moment : AreFew → {p : Params} (start : Disk) {commands : List Command} (script : List (List ℕ)) → Stands p start.reads commands → Moment p commands script start.said start.reads start.said
+start_moment few start script stands = (start_so_far few start script stands).is
 
 pub says_nothing : {p : Params} {first : Stage} {commands : List Command} (script : List (List ℕ)) {old new : Disk} → Passes old new → new.said ≡ old.said → SaysTruly p first commands script old new
 says_nothing {p} {first} {commands} script {old} {new} time quiet =
@@ -155,17 +158,15 @@ pub run_ends : {p : Params} {first : Stage} (start new : Disk) {commands : List 
     → IsRun p first start new commands script (status_after outcome) → IsRun p first start new commands script status
 run_ends {p} {first} start new {commands} {script} outcome status is run = subst (λ (s : Status). IsRun p first start new commands script s) (sym is) run
 
--- each image at its end is one at a moment after the opening
-ends_behind : {p : Params} {first : Stage} (old mid new : Disk) {commands : List Command} (script : List (List ℕ)) {status : Status} → IsDisk new → Passes old mid → Passes mid new → mid.said ≡ old.said → IsRun p first mid new commands script status
-    → old.tells_moments → InEachImage new (λ files. Moment p commands script old.said files new.said)
-ends_behind {p} {first} old mid new {commands} script lawful before time quiet run told =
-    let told_mid = before.moments_told.0 told in
-    let image : (files : Files) (said : List ℕ) → new.left_since new.clock files said → Moment p commands script old.said files new.said
+-- each image at the end of calls is one at a moment of them
+ends_behind : (At : List ℕ → Files → List ℕ → Type 0) (old mid new : Disk) → IsDisk new → Passes mid new → mid.said ≡ old.said → mid.tells_moments → LeavesOnly mid new (At mid.said) → InEachImage new (λ files. At old.said files new.said)
+ends_behind At old mid new lawful time quiet told leaves =
+    let image : (files : Files) (said : List ℕ) → new.left_since new.clock files said → At old.said files new.said
     = λ files said left.
-    let same : said ≡ new.said = lawful.said_now (time.moments_told.0 told_mid) files said left in
-    let here : Moment p commands script mid.said files said = (run.moments told_mid).each files said (lawful.among mid.clock new.clock files said time.later (omega arith) left) in
-    subst (λ (l : List ℕ). Moment p commands script l files new.said) quiet (subst (λ (l : List ℕ). Moment p commands script mid.said files l) same here) in
-    (image new.reads new.said (lawful.as_read (time.moments_told.0 told_mid)), λ told_new. image)
+    let same : said ≡ new.said = lawful.said_now (time.moments_told.0 told) files said left in
+    let here : At mid.said files said = leaves.each files said (lawful.among mid.clock new.clock files said time.later (omega arith) left) in
+    subst (λ (l : List ℕ). At l files new.said) quiet (subst (λ (l : List ℕ). At mid.said files l) same here) in
+    (image new.reads new.said (lawful.as_read (time.moments_told.0 told)), λ told_new. image)
 
 -- what is done at each moment, after the opening by the courses of the lines
 run_courses : {p : Params} {first : Stage} {old mid new : Disk} {commands : List Command} (script : List (List ℕ)) {status : Status} → OpensFiles p commands old mid → Passes old mid → IsRun p first mid new commands script status
@@ -193,11 +194,15 @@ pub run_on : AreFew → {p : Params} (old mid new : Disk) {commands : List Comma
 run_on few {p} old mid new {commands} script status lawful ends opens files before time runs store =
     let begun : IsRun p files.first.0 mid new commands script status = (runs files.first.0 files.first.1).0 in
     let moments : old.tells_moments → LeavesOnly old new (OrAtStart old (Moment p commands script old.said)) = run_moments few script files.images before files.quiet begun in
+    let unclosed : old.tells_moments → IsCut status → LeavesOnly old new (OrAtStart old (MomentSoFar p commands script old.said))
+    = λ told cut. run_unclosed few script files.images files.quiet (begun.unclosed cut (before.moments_told.0 told)) told in
     record {
       moments = moments;
       from_settled = λ told settled. from_settled old new (Moment p commands script old.said) lawful told settled (start_moment few old script opens.stands) (moments told);
-      opened = λ told disk memory. ends_behind old mid new script ends before time files.quiet begun told;
-      unclosed = λ told cut. run_unclosed few script files.images files.quiet (begun.unclosed cut (before.moments_told.0 told)) told;
+      opened = λ told disk memory. ends_behind (Moment p commands script) old mid new ends time files.quiet (before.moments_told.0 told) (begun.moments (before.moments_told.0 told));
+      unclosed = unclosed;
+      unclosed_from_settled = λ told settled cut. from_settled old new (MomentSoFar p commands script old.said) lawful told settled (start_so_far few old script opens.stands) (unclosed told cut);
+      unclosed_now = λ told cut memory. ends_behind (MomentSoFar p commands script) old mid new ends time files.quiet (before.moments_told.0 told) (begun.unclosed cut (before.moments_told.0 told));
       first = files.first;
       answers = λ first is. run_says lawful files.images before files.quiet (runs first is).0;
       courses = λ told first is. run_courses script files before (runs first is).0 told is;
@@ -231,6 +236,8 @@ run_unopened few {p} old mid {commands} script status lawful opens files before 
       from_settled = λ told settled. from_settled old mid (Moment p commands script old.said) lawful told settled (start_moment few old script opens.stands) (moments told);
       opened = λ told disk memory. absurd (opening_failed status unopened.ends store (unopened.quiet opens.told image) disk memory);
       unclosed = λ told cut. opening_so_far few script files.images told;
+      unclosed_from_settled = λ told settled cut. from_settled old mid (MomentSoFar p commands script old.said) lawful told settled (start_so_far few old script opens.stands) (opening_so_far few script files.images told);
+      unclosed_now = λ told cut memory. absurd (opening_failed status unopened.ends store (unopened.quiet opens.told image) (λ is. subst IsCut is cut) memory);
       first = files.first;
       answers = λ first is. says_nothing script before files.quiet;
       courses = λ told first is. or_weaker old mid (OpeningMoment p commands old first is) (RunMoment p commands old first is script) (files.courses told first is) (λ f s here. inl here);

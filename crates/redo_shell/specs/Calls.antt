@@ -40,6 +40,8 @@ pub record IsRunOn (p : Params) (commands : List Command) (script : List (List �
   -- where the input or the output failed, the input was too long or memory ran out, nothing of an open group is stable at any
   -- moment: it was neither closed nor forced
   pub unclosed : old.tells_moments → IsCut status → LeavesOnly old new (OrAtStart old (MomentSoFar p commands script old.said))
+  pub unclosed_from_settled : old.tells_moments → IsSettled old → IsCut status → LeavesOnly old new (MomentSoFar p commands script old.said)
+  pub unclosed_now : old.tells_moments → IsCut status → status ≢ Memory → InEachImage new (λ files. MomentSoFar p commands script old.said files new.said)
   -- from each stage that a restart may make of the files, of which there is one, what was said is the answers to the
   -- script's lines, whatever the status
   pub first : (first : Stage) × IsFirst p commands old first

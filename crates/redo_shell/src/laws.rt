@@ -63,9 +63,9 @@ pub fn the_lines_said_are_the_answers()
 }
 
 /// Any calls of the program, one after the other, each ended in any way and followed by nothing, a kill or a crash: what
-/// is left stands for the commands of the start and those that the runs have added, no fewer than any run has printed to
-/// be forced. From files that are no store the same holds from the first `init` on that has made one, with the numbers that an
-/// `init` has asked for.
+/// is left stands for the commands of the start and those that the runs have added, which split no group of any run, and no
+/// fewer than any run has printed to be forced. From files that are no store the same holds from the first `init` on that has
+/// made one, with the numbers that an `init` has asked for.
 pub fn sessions_keep_what_was_forced<M: Machine>()
     ensures from_store { (p : Params) (commands : List Command) (first last : M) (inits : List Params) (runs : List Ran) → (M.disk first).tells_moments →
         InEachImage (M.disk first) (λ files. Stands p files commands) → Sessions M.disk first inits runs last →

@@ -61,8 +61,8 @@ pub fn top<M: Machine, S: Source>(
 ) -> Status
     ensures time { Passes (M.disk machine.old) (M.disk machine.new) }
     // A run on files that stand for commands, as they are read: what a crash at any moment of it leaves a crash at the start
-    // could leave, or it stands for these commands and a beginning of those that the script has added, no shorter than any
-    // number that was printed to be forced.
+    // could leave, or it stands for these commands and a beginning of those that the script has added, which splits no group
+    // and is no shorter than any number that was printed to be forced.
     ensures moments { (p : Params) (commands : List Command) → Asks (map string_bytes words.now) Run → Opens p (M.disk machine.old) commands → S.tells input.old → (M.disk machine.old).tells_moments →
         LeavesOnly (M.disk machine.old) (M.disk machine.new) (OrAtStart (M.disk machine.old) (Moment p commands (lines_of (S.left input.old)) (M.disk machine.old).said)) }
     ensures run { Asks (map string_bytes words.now) Run →
