@@ -1,16 +1,19 @@
-// The machine over files of the current folder and the standard output. Nothing is proved of what they hold.
-ghost use Rattle.std.specs.Prelude.{◌≡◌};
+// The machine over files of a folder and the standard output. Nothing is proved of what they hold.
+ghost use Rattle.std.specs.Prelude.{◌≡◌, IfOk};
 ghost use Rattle.disk_model.specs.Untold.{untold, lawful_untold};
 
 use crate::by_file::ByFile;
 use crate::count::counted;
+use crate::file_path::FilePath;
 use crate::stored_file::StoredFile;
 use crate::{Failed, FileNames, FileNo, Machine};
+use std::alloc::{AllocError, Global};
 use std::io::{self, Write};
 use std::os::unix::fs::FileExt;
+use std::path::Path;
 use std::rt::Files;
 
-/// Three files of the current folder, and the standard output. It reports nothing of their content.
+/// Three files of a folder, and the standard output. It reports nothing of their content.
 #[derive(Drop)]
 pub struct FileMachine<R: Files + Print> {
     rt: R,
@@ -28,16 +31,53 @@ impl<R: Files + Print> FileMachine<R> {
         FileMachine::with_names(rt, FileNames::STORE)
     }
 
-    /// Files of other names. It opens none yet.
+    /// The files of a backup in the current folder. It opens none yet.
+    pub fn backup(rt: R) -> Self
+        ensures disk_faults { result.disk_faults ≡ 0 }
+        ensures say_faults { result.say_faults ≡ 0 }
+    {
+        FileMachine::with_names(rt, FileNames::BACKUP)
+    }
+
+    /// Files of other names in the current folder. It opens none yet.
     pub fn with_names(rt: R, names: FileNames) -> Self
         ensures disk_faults { result.disk_faults ≡ 0 }
         ensures say_faults { result.say_faults ≡ 0 }
     {
         let files = ByFile {
-            objects: StoredFile::new(names.objects),
-            log_a: StoredFile::new(names.log_a),
-            log_b: StoredFile::new(names.log_b),
+            objects: StoredFile::new(FilePath::Here(names.objects)),
+            log_a: StoredFile::new(FilePath::Here(names.log_a)),
+            log_b: StoredFile::new(FilePath::Here(names.log_b)),
         };
+        FileMachine::over(rt, files)
+    }
+
+    /// Files of these names in this folder, which is the current one if it is empty. It opens none yet. In a folder that is
+    /// missing, the files are missing too, and none can be made.
+    pub fn in_folder(
+        rt: R,
+        alloc: Global,
+        folder: &str,
+        names: FileNames,
+    ) -> Result<Self, AllocError>
+    where
+        R: Drop,
+        ensures disk_faults { IfOk result (λ machine. machine.disk_faults ≡ 0) }
+        ensures say_faults { IfOk result (λ machine. machine.say_faults ≡ 0) }
+    {
+        let folder = Path::new(folder);
+        let files = ByFile {
+            objects: StoredFile::new(FilePath::Joined(folder.join(alloc, names.objects)?)),
+            log_a: StoredFile::new(FilePath::Joined(folder.join(alloc, names.log_a)?)),
+            log_b: StoredFile::new(FilePath::Joined(folder.join(alloc, names.log_b)?)),
+        };
+        Ok(FileMachine::over(rt, files))
+    }
+
+    fn over(rt: R, files: ByFile<StoredFile<R>>) -> Self
+        ensures disk_faults { result.disk_faults ≡ 0 }
+        ensures say_faults { result.say_faults ≡ 0 }
+    {
         FileMachine {
             rt,
             files,

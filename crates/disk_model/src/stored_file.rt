@@ -1,15 +1,16 @@
-// One file of the current directory, opened at first use.
+// One file of a folder, opened at first use.
 ghost use Rattle.std.specs.Prelude.{◌≤◌, length, IfOk};
 
+use crate::file_path::FilePath;
 use std::fs::{File, OpenFile, OpenOptions};
-use std::io::{self, ErrorKind, Seek, SeekFrom, Write};
+use std::io::{self, ErrorKind, Seek, SeekFrom};
 use std::os::unix::fs::FileExt;
 use std::rt::Files;
 
 /// A file that may be missing, and is then empty. Only a write makes it.
 #[derive(Drop)]
 pub struct StoredFile<R: Files> {
-    name: &'static str,
+    path: FilePath,
     opened: Option<R::File>,
     // The folder was synced since the file was opened, so the file's name is on the disk.
     named: bool,
@@ -18,9 +19,9 @@ pub struct StoredFile<R: Files> {
 }
 
 impl<R: Files> StoredFile<R> {
-    pub fn new(name: &'static str) -> Self {
+    pub fn new(path: FilePath) -> Self {
         StoredFile {
-            name,
+            path,
             opened: None,
             named: false,
             unsure: false,
@@ -47,10 +48,15 @@ impl<R: Files> StoredFile<R> {
         }
     }
 
-    pub fn write(&mut self, rt: &R, at: u64, bytes: &[u8]) -> io::Result<()> {
+    /// Writes the bytes there. A write of no bytes lengthens a shorter file too.
+    pub fn write(&mut self, rt: &R, at: u64, bytes: &[u8]) -> io::Result<()>
+    where
+        R::File: FileExt,
+    {
         self.open_or_make(rt)?;
         match &mut self.opened {
-            Some(file) => write_at(file, at, bytes),
+            Some(file) if bytes.is_empty() => lengthen(file, at),
+            Some(file) => file.write_all_at(bytes, at),
             None => Err(ErrorKind::NotFound.into()),
         }
     }
@@ -71,11 +77,13 @@ impl<R: Files> StoredFile<R> {
         let Some(file) = &self.opened else {
             return Ok(());
         };
-        file.sync_all()?;
-        if !self.named {
-            sync_folder(rt)?;
-            self.named = true;
+        if self.named {
+            // (bytes and length; the times of the file need not reach the disk)
+            return file.sync_data();
         }
+        file.sync_all()?;
+        File::open(rt, self.path.folder())?.sync_all()?;
+        self.named = true;
         Ok(())
     }
 
@@ -87,7 +95,7 @@ impl<R: Files> StoredFile<R> {
         match OpenOptions::new()
             .read(true)
             .write(true)
-            .open(rt, self.name)
+            .open(rt, self.path.as_str())
         {
             Ok(file) => self.opened = Some(file),
             Err(error) if error.kind() == ErrorKind::NotFound => {}
@@ -100,15 +108,10 @@ impl<R: Files> StoredFile<R> {
         if self.opened.is_none() {
             let mut how = OpenOptions::new();
             how.read(true).write(true).create(true);
-            self.opened = Some(how.open(rt, self.name)?);
+            self.opened = Some(how.open(rt, self.path.as_str())?);
         }
         Ok(())
     }
-}
-
-// Puts the names in the current folder on the disk.
-fn sync_folder<R: Files>(rt: &R) -> io::Result<()> {
-    File::open(rt, ".")?.sync_all()
 }
 
 // Reads until there is no room or nothing more.
@@ -130,12 +133,10 @@ fn read_at<F: FileExt>(file: &F, at: u64, into: &mut [u8]) -> io::Result<usize>
     Ok(count)
 }
 
-// A write of no bytes lengthens a shorter file too.
-fn write_at<F: Write + Seek + OpenFile>(file: &mut F, at: u64, bytes: &[u8]) -> io::Result<()> {
-    if file.seek(SeekFrom::End(0))? < at {
-        file.set_len(at)?;
+// A shorter file becomes so long.
+fn lengthen<F: Seek + OpenFile>(file: &mut F, len: u64) -> io::Result<()> {
+    if file.seek(SeekFrom::End(0))? < len {
+        file.set_len(len)?;
     }
-    file.seek(SeekFrom::Start(at))?;
-    file.write_all(bytes)?;
-    file.flush()
+    Ok(())
 }

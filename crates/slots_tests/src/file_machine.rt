@@ -1,7 +1,9 @@
 // What no clause can say of the machine over files: what it does to real ones. A wrong body of the adapter is refused
 // here or nowhere.
-use crate::frail_files::{FRAIL, Fails, FrailFiles, FrailInput};
+use crate::frail_files::{FRAIL, Fails, FrailFiles, FrailInput, INNER};
 use disk_model::{Failed, FileMachine, FileNames, FileNo, Machine, Source, StdSource, settle};
+use std::alloc::{AllocError, Global};
+use std::fs::create_dir;
 use std::os::unix::fs::FileExt;
 use std::rt::Files;
 use std::test::Fail;
@@ -43,12 +45,13 @@ where
 }
 
 // The folder is first synced after files that were just made, and then after files that were found.
-const SYNCS: [(Fails, [bool; 4]); 6] = [
+const SYNCS: [(Fails, [bool; 4]); 7] = [
     (Fails::Folder, [false, false, false, false]),
     (Fails::Folder, [false, false, false, false]),
     (Fails::Objects, [false, true, true, false]),
     (Fails::LogA, [true, false, true, true]),
     (Fails::LogB, [true, true, false, true]),
+    (Fails::Later, [true, true, true, false]),
     (Fails::Nothing, [true, true, true, true]),
 ];
 
@@ -56,7 +59,37 @@ const SYNCS: [(Fails, [bool; 4]); 6] = [
 fn a_sync_reaches_its_file_and_the_folder(rt: HostRuntime) -> Result<(), Fail> {
     for (fails, succeed) in SYNCS {
         let reached = syncs_reach(rt.clone()?, fails, succeed);
-        assert!(rt; reached & (settles(rt.clone()?, fails) == (succeed == [true; 4])));
+        let first_ones = succeed[..3] == [true; 3];
+        assert!(rt; reached & (settles(rt.clone()?, fails) == first_ones));
+    }
+    Ok(())
+}
+
+// The same of files in a folder that is given.
+fn syncs_reach_inside<R: Files + Print + Drop>(
+    rt: R,
+    alloc: Global,
+    fails: Fails,
+    succeed: [bool; 4],
+) -> Result<bool, AllocError>
+where
+    R::File: FileExt,
+{
+    let mut machine = FileMachine::in_folder(FrailFiles { rt, fails }, alloc, INNER, FRAIL)?;
+    Ok(syncs(&mut machine) == Ok(succeed))
+}
+
+// It is that folder which is synced, and not the current one.
+const SYNCS_INSIDE: [(Fails, [bool; 4]); 2] = [
+    (Fails::Inner, [false; 4]),
+    (Fails::Folder, [true; 4]),
+];
+
+#[test]
+fn a_sync_reaches_the_folder_that_is_given(rt: HostRuntime) -> Result<(), Fail> {
+    create_dir(&rt, INNER)?;
+    for (fails, succeed) in SYNCS_INSIDE {
+        assert!(rt; syncs_reach_inside(rt.clone()?, rt.alloc(), fails, succeed)?);
     }
     Ok(())
 }
@@ -152,11 +185,7 @@ const NAMED: FileNames = FileNames {
 };
 
 // Whether a byte is written to each file.
-fn writes_each<R: Files + Print + Drop>(rt: R) -> bool
-where
-    R::File: FileExt,
-{
-    let mut machine = FileMachine::with_names(rt, NAMED);
+fn writes_each<M: Machine>(machine: &mut M) -> bool {
     let written = [
         machine.write_at(FileNo::Objects, 0, b"o").is_ok(),
         machine.write_at(FileNo::LogA, 0, b"a").is_ok(),
@@ -165,14 +194,83 @@ where
     written == [true; 3]
 }
 
+// Whether the files of these paths hold what was written to each.
+fn hold_each<R: Files + AllocGlobal>(rt: &R, paths: [&str; 3]) -> bool {
+    let held = [
+        holds(rt, paths[0], b"o"),
+        holds(rt, paths[1], b"a"),
+        holds(rt, paths[2], b"b"),
+    ];
+    held == [true; 3]
+}
+
 #[test]
 fn files_have_the_names_that_are_given(rt: HostRuntime) -> Result<(), Fail> {
-    let written = writes_each(rt.clone()?);
-    let held = [
-        holds(&rt, NAMED.objects, b"o"),
-        holds(&rt, NAMED.log_a, b"a"),
-        holds(&rt, NAMED.log_b, b"b"),
-    ];
-    assert!(rt; written & (held == [true; 3]));
+    let written = writes_each(&mut FileMachine::with_names(rt.clone()?, NAMED));
+    assert!(rt; written & hold_each(&rt, [NAMED.objects, NAMED.log_a, NAMED.log_b]));
+    Ok(())
+}
+
+#[test]
+fn a_backup_has_files_of_its_own(rt: HostRuntime) -> Result<(), Fail> {
+    let written = writes_each(&mut FileMachine::backup(rt.clone()?));
+    let paths = ["bak_objects.rdo", "bak_log_a.rdo", "bak_log_b.rdo"];
+    assert!(rt; written & hold_each(&rt, paths));
+    Ok(())
+}
+
+// Folders, and the paths of the files in each. The one without a name is the current folder.
+const INSIDE: [(&str, [&str; 3]); 3] = [
+    (
+        "folder",
+        [
+            "folder/named_objects",
+            "folder/named_log_a",
+            "folder/named_log_b",
+        ],
+    ),
+    (
+        "./folder/inner/",
+        [
+            "folder/inner/named_objects",
+            "folder/inner/named_log_a",
+            "folder/inner/named_log_b",
+        ],
+    ),
+    ("", ["named_objects", "named_log_a", "named_log_b"]),
+];
+
+#[test]
+fn files_are_in_the_folder_that_is_given(rt: HostRuntime) -> Result<(), Fail> {
+    create_dir(&rt, "folder")?;
+    create_dir(&rt, "folder/inner")?;
+    for (folder, paths) in INSIDE {
+        let mut machine = FileMachine::in_folder(rt.clone()?, rt.alloc(), folder, NAMED)?;
+        assert!(rt; writes_each(&mut machine) & hold_each(&rt, paths));
+    }
+    Ok(())
+}
+
+// Which calls succeed in a folder that is missing: its files are missing, and only a write has to make one.
+fn calls_in_a_missing_folder<R: Files + Print + Drop>(
+    rt: R,
+    alloc: Global,
+) -> Result<[bool; 4], AllocError>
+where
+    R::File: FileExt,
+{
+    let mut machine = FileMachine::in_folder(rt, alloc, "missing", NAMED)?;
+    Ok([
+        machine.size(FileNo::Objects) == Ok(0),
+        machine.read(FileNo::LogA, 0, &mut [0]) == Ok(0),
+        machine.write_at(FileNo::LogB, 0, &[1]).is_ok(),
+        machine.sync(FileNo::LogB).is_ok(),
+    ])
+}
+
+#[test]
+fn a_missing_folder_has_no_files(rt: HostRuntime) -> Result<(), Fail> {
+    let calls = calls_in_a_missing_folder(rt.clone()?, rt.alloc())?;
+    assert!(rt; calls == [true, true, false, true]);
     Ok(())
 }

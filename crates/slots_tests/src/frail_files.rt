@@ -15,7 +15,11 @@ pub const FRAIL: FileNames = FileNames {
     log_b: "frail_log_b",
 };
 
-/// What fails: the first sync of a file or of the folder, or each write to the output.
+/// A folder whose sync can fail, as that of the current one can.
+pub const INNER: &str = "frail_folder";
+
+/// What fails: the first sync of a file or of a folder, the syncs of the objects after their first, or each write to the
+/// output.
 #[derive(Clone, Copy)]
 pub enum Fails {
     Nothing,
@@ -23,6 +27,8 @@ pub enum Fails {
     LogA,
     LogB,
     Folder,
+    Inner,
+    Later,
     Output,
 }
 
@@ -33,8 +39,13 @@ impl Fails {
             Fails::LogA => path == FRAIL.log_a,
             Fails::LogB => path == FRAIL.log_b,
             Fails::Folder => path == ".",
-            Fails::Nothing | Fails::Output => false,
+            Fails::Inner => path == INNER,
+            Fails::Nothing | Fails::Later | Fails::Output => false,
         }
+    }
+
+    fn later_sync_of(self, path: &str) -> bool {
+        matches!(self, Fails::Later) && path == FRAIL.objects
     }
 
     fn output(self) -> bool {
@@ -54,6 +65,7 @@ pub struct FrailFile<F> {
     file: F,
     interrupts: Cell<bool>,
     fails: Cell<bool>,
+    fails_later: bool,
 }
 
 impl<R: Files + Print> Print for FrailFiles<R> {
@@ -83,6 +95,7 @@ impl<R: Files + Print> Files for FrailFiles<R> {
             file: self.rt.open_file(how, path)?,
             interrupts: Cell::new(true),
             fails: Cell::new(self.fails.sync_of(path)),
+            fails_later: self.fails.later_sync_of(path),
         })
     }
 
@@ -177,6 +190,9 @@ impl<F: OpenFile> OpenFile for FrailFile<F> {
     }
 
     fn sync_data(&self) -> io::Result<()> {
+        if self.fails_later {
+            return Err(ErrorKind::Other.into());
+        }
         self.file.sync_data()
     }
 }
