@@ -3,9 +3,9 @@ use Rattle.std.proofs.Common.{◌≡◌, ◌∙◌, ap, sym, subst, ℕ, ◌/◌
 use Rattle.std.specs.Prelude.{IsTrue, ◌↔◌, Option, Some}
 use Rattle.std.proofs.lemmas.Bool.{cases_eq}
 use Rattle.oper_core.specs.State.{is_among}
-use Rattle.sparse_order.specs.Digraph.{Walk, AreNodes, IsOnWay}
-use Rattle.sparse_order.specs.Digraph.Walk.{Here, Then}
-use Rattle.sparse_order.specs.MergeLaws.{walk-on}
+use Rattle.install_order.specs.Digraph.{Walk, AreNodes, IsOnWay}
+use Rattle.install_order.specs.Digraph.Walk.{Here, Then}
+use Rattle.install_order.specs.MergeLaws.{walk-on}
 use Rattle.graph_nodes.specs.Arcs.{arc_at, node_at, IsArc}
 use Rattle.number_lists.specs.Lists.{Lists}
 use Rattle.graph_nodes.specs.Into.{AreInto}

@@ -4,14 +4,14 @@ use Rattle.std.specs.Prelude.{IsTrue, IsFalse, Bool, Option, None}
 use Rattle.std.proofs.lemmas.Bool.{cases_eq, cases_lt, both_ways}
 use Rattle.std.proofs.Math.ListN.{get_or-eq_default}
 use Rattle.oper_core.specs.State.{is_among}
-use Rattle.sparse_order.specs.Digraph.{Walk}
-use Rattle.sparse_order.specs.Digraph.Walk.{Here, Then}
+use Rattle.install_order.specs.Digraph.{Walk}
+use Rattle.install_order.specs.Digraph.Walk.{Here, Then}
 use Rattle.number_lists.specs.Lists.{Lists, list_at}
 use Rattle.graph_nodes.specs.Arcs.{arc_at, node_at}
 use Rattle.graph_nodes.specs.Merge.{IsFiled}
 use Rattle.graph_nodes.specs.Named.{Naming, AreForgotten, AreNamesMerged}
 use Rattle.graph_nodes.specs.Search.{IsBehind, IsSearched, IsOwn, IsBare, IsApart}
-use Rattle.graph_nodes.specs.Kept.{IsKept, AreJoined}
+use Rattle.graph_nodes.specs.Kept.{IsKept, AreGathered}
 use Rattle.graph_nodes.proofs.Options.{none-some, some-of}
 use Rattle.graph_nodes.proofs.Joined.{merged-start}
 use Rattle.graph_nodes.proofs.Scattered.{one-in}
@@ -83,5 +83,5 @@ none-named one n = record {
 }
 
 -- nothing is merged
-pub joined-none : (arcs : List (Option ℕ)) (v w : ℕ) (node : List ℕ) (names : Naming) (members into : Lists) → IsFiled node members → IsApart arcs node into v w → AreJoined arcs v w node node names names members members into into
-joined-none arcs v w node names members into filed apart = ([], inl (apart, refl), (0, inl refl, none-named 0 names, merged-start 0 node members into filed))
+pub gathered-none : (ns node : List ℕ) (names : Naming) (members into : Lists) → ns ≡ [] → IsFiled node members → AreGathered ns node node names names members members into into
+gathered-none ns node names members into e filed = subst (λ (xs : List ℕ). AreGathered xs node node names names members members into into) (sym e) (0, inl refl, none-named 0 names, merged-start 0 node members into filed)

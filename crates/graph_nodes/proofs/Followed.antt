@@ -1,35 +1,21 @@
 -- How a search along the arcs goes on.
 use Rattle.std.proofs.Common.{◌≡◌, ◌∙◌, ap, sym, subst, ℕ, ◌+◌, ◌*◌, ◌/◌, ◌<◌, ◌≤◌, List, [], length, length-append, refl, arith, inl, inr}
-use Rattle.std.specs.Prelude.{IsTrue, IsFalse, ◌⊎◌, Bool, Option, None, Some, slice_index}
-use Rattle.std.proofs.lemmas.Bool.{cases_eq, cases_lt, both_ways}
-use Rattle.std.proofs.Math.ListN.{get_or-eq_default}
+use Rattle.std.specs.Prelude.{IsTrue, IsFalse, ◌⊎◌, Option, Some, slice_index}
+use Rattle.std.proofs.lemmas.Bool.{cases_eq, both_ways}
 use Rattle.oper_core.specs.State.{is_among}
-use Rattle.sparse_order.specs.Digraph.{Walk}
-use Rattle.sparse_order.specs.Digraph.Walk.{Here, Then}
-use Rattle.number_lists.specs.Lists.{Lists, list_at}
+use Rattle.install_order.specs.Digraph.{Walk}
+use Rattle.install_order.specs.Digraph.Walk.{Here, Then}
+use Rattle.number_lists.specs.Lists.{Lists}
 use Rattle.number_lists.specs.Members.{Members, IsWith}
 use Rattle.graph_nodes.specs.Arcs.{arc_at, node_at, AreEnds}
 use Rattle.graph_nodes.specs.Into.{AreInto}
-use Rattle.graph_nodes.specs.Merge.{IsFiled}
 use Rattle.graph_nodes.specs.Search.{AreKept, IsBehind, IsApart}
-use Rattle.graph_nodes.specs.Ahead.{AreFollowed, IsFollowed, IsWalkable, LeadsTo, IsAdvanced, IsGoingOn, IsReached}
-use Rattle.graph_nodes.specs.Kept.{IsKept}
-use Rattle.graph_nodes.proofs.Options.{none-some, some-of}
+use Rattle.graph_nodes.specs.Ahead.{AreFollowed, LeadsTo, IsAdvanced, IsGoingOn, IsReached}
+use Rattle.graph_nodes.proofs.Options.{some-of}
 use Rattle.graph_nodes.proofs.Found.{kept-twice, kept-none, among-place, place-among, among-left, read-left}
 
 pub followed-none : (P : ℕ → Type 0) (arcs : List (Option ℕ)) (node : List ℕ) (old : Members) → ((c j : ℕ) → P c → arc_at arcs c ≡ Some j → ⊥) → AreFollowed P arcs node old old
 followed-none P arcs node old none = record { there = λ c j p arc. absurd (none c j p arc); only = λ k t. inl t; same = kept-none old }
-
--- the node of one arc's end
-pub followed-one : (arcs : List (Option ℕ)) (node : List ℕ) (cell to m : ℕ) (old new : Members) → arc_at arcs cell ≡ Some to → m ≡ node_at node to → IsWith old m new → AreFollowed (λ c. c ≡ cell) arcs node old new
-followed-one arcs node cell to m old new arc e is = record {
-  there = λ c j q here.
-      let both : Some to ≡ Some j = sym arc ∙ ap (λ (k : ℕ). arc_at arcs k) (sym q) ∙ here in
-      let same : to ≡ j = cc in
-      (is.there (node_at node j)).1 (inr (ap (λ (k : ℕ). node_at node k) (sym same) ∙ sym e));
-  only = λ k t. elim ((is.there k).0 t) [ inl r ↦ inl r | inr q ↦ inr (cell, to, refl, arc, sym e ∙ sym q) ];
-  same = record { kept = is.kept; end = is.end; room = is.room };
-}
 
 still-there : (k : ℕ) (a b : Members) → AreKept a b → IsTrue (is_among k a.members) → IsTrue (is_among k b.members)
 still-there k a b is t = subst (λ (xs : List ℕ). IsTrue (is_among k xs)) (sym is.kept.1) (among-left k a.members is.kept.0 t)
@@ -80,33 +66,6 @@ pub of-early-all : (slots : List ℕ) (i : ℕ) (arcs : List (Option ℕ)) (node
 of-early-all slots i arcs node a b e is = followed-as (IsOfEarly slots i) (λ c. IsTrue (is_among (c / 8) slots)) arcs node a b
     (λ c j t arc. let p = among-place (c / 8) slots t in (p.0, omega (arith, p.1, e), p.2))
     (λ c p. subst (λ (k : ℕ). IsTrue (is_among k slots)) p.2 (place-among slots p.0 (omega (arith, p.1, e)))) is
-
--- a cell with an arc is there
-pub arc-below : (arcs : List (Option ℕ)) (c j : ℕ) → arc_at arcs c ≡ Some j → c < length arcs
-arc-below arcs c j arc = elim (cases_lt c (length arcs)) [
-  | inl lt ↦ lt
-  | inr ge ↦ absurd (none-some j (sym (get_or-eq_default arcs None ge) ∙ arc))
-]
-
--- all slots of the node
-pub followed-node : (arcs : List (Option ℕ)) (node : List ℕ) (members : Lists) (n : ℕ) (slots : List ℕ) (a b : Members) → IsFiled node members → length arcs ≡ 8 * length node → slots ≡ list_at members.lists n → AreFollowed (λ c. IsTrue (is_among (c / 8) slots)) arcs node a b → IsFollowed arcs node n a b
-followed-node arcs node members n slots a b filed size e is = followed-as (λ c. IsTrue (is_among (c / 8) slots)) (λ c. node_at node (c / 8) ≡ n) arcs node a b
-    (λ c j at arc.
-    let low = arc-below arcs c j arc in
-    let slot : c / 8 < length node = omega (arith, low, size) in
-    subst (λ (xs : List ℕ). IsTrue (is_among (c / 8) xs)) (sym e) (subst (λ (m : ℕ). IsTrue (is_among (c / 8) (list_at members.lists m))) at (filed.there (c / 8) slot)))
-    (λ c t. (filed.only n (c / 8) (subst (λ (xs : List ℕ). IsTrue (is_among (c / 8) xs)) e t)).1) is
-
--- the node where the search stops
-pub advanced-stop : (arcs : List (Option ℕ)) (node : List ℕ) (n stop : ℕ) (old : Members) → n ≡ stop → IsAdvanced arcs node n stop old old
-advanced-stop arcs node n stop old e = record { sound = λ k t. inl t; closed = λ ne. absurd (ne e); same = kept-none old }
-
-pub advanced-all : (arcs : List (Option ℕ)) (node : List ℕ) (n stop : ℕ) (old new : Members) → IsFollowed arcs node n old new → IsAdvanced arcs node n stop old new
-advanced-all arcs node n stop old new is = record {
-  sound = λ k t. elim (is.only k t) [ inl r ↦ inl r | inr s ↦ inr (s.0, s.1, s.2, s.3, s.4) ];
-  closed = λ ne k leads. subst (λ (m : ℕ). IsTrue (is_among m new.members)) leads.4 (is.there leads.0 leads.1 leads.2 leads.3);
-  same = is.same;
-}
 
 pub going-start : (arcs : List (Option ℕ)) (node : List ℕ) (w stop : ℕ) (none ahead : Members) → none.members ≡ [] → IsWith none w ahead → IsGoingOn arcs node w stop 0 ahead.members
 going-start arcs node w stop none ahead e is = record {
@@ -159,16 +118,6 @@ walk-ahead arcs node into v w q ahead are out is (Then m p walk behind) =
 -- where all is found that w reaches, and v is not, w does not reach v
 pub reached-apart : (arcs : List (Option ℕ)) (node : List ℕ) (into : Lists) (v w : ℕ) (ahead : List ℕ) → AreInto arcs node into → IsReached arcs node w v ahead → IsFalse (is_among v ahead) → IsApart arcs node into v w
 reached-apart arcs node into v w ahead are is out = inr (λ walk. both_ways _ out (walk-ahead arcs node into v w v ahead are out is walk))
-
-pub walkable-at : (arcs a : List (Option ℕ)) (node b : List ℕ) (held : List Bool) (name : List ℕ) (members into : Lists) (end : ℕ) → IsKept arcs node held name members into → end ≡ length node → a ≡ arcs → b ≡ node → IsWalkable a b into end
-walkable-at arcs a node b held name members into end kept e ea eb =
-    subst (λ (xs : List (Option ℕ)). IsWalkable xs b into end) (sym ea)
-    (subst (λ (xs : List ℕ). IsWalkable arcs xs into end) (sym eb)
-    record {
-      size = kept.range.cells;
-      ends = λ c j arc. let lt = kept.range.ends c j arc in (lt, omega (arith, e, kept.range.nodes j lt));
-      leads = kept.led.leads;
-    })
 
 pub ends-to : (arcs : List (Option ℕ)) (node : List ℕ) (a b : ℕ) → b ≡ a → AreEnds arcs node a → AreEnds arcs node b
 ends-to arcs node a b e are = subst (λ (n : ℕ). AreEnds arcs node n) (sym e) are

@@ -1,15 +1,15 @@
 -- How a search against the arcs goes on.
-use Rattle.std.proofs.Common.{◌≡◌, ◌∙◌, ap, sym, subst, ℕ, zero, suc, ◌+◌, ◌/◌, ◌<◌, ◌≤◌, List, [], ◌∷◌, ◌++◌, append_assoc, append-nil, length, length-append, refl, arith, inl, inr}
-use Rattle.std.specs.Prelude.{IsTrue, ◌==◌, ◌↔◌, ◌⊎◌, Option, IsSome, slice_index}
+use Rattle.std.proofs.Common.{◌≡◌, ◌∙◌, ap, sym, subst, ℕ, zero, suc, ◌+◌, ◌<◌, ◌≤◌, List, [], ◌∷◌, ◌++◌, append_assoc, append-nil, length, length-append, refl, arith, inl, inr}
+use Rattle.std.specs.Prelude.{IsTrue, ◌==◌, ◌↔◌, ◌⊎◌, Option, slice_index}
 use Rattle.std.proofs.lemmas.Bool.{cases_eq, cases_lt, both_ways, or_left, or_right, or_cases, eqb-true, eq-eqb}
 use Rattle.std.proofs.lemmas.List.{get_or_default}
 use Rattle.oper_core.specs.State.{is_among}
-use Rattle.sparse_order.specs.Digraph.{Walk}
-use Rattle.sparse_order.specs.Digraph.Walk.{Here, Then}
-use Rattle.sparse_order.specs.MergeLaws.{walk-on}
-use Rattle.number_lists.specs.Lists.{Lists, list_at}
+use Rattle.install_order.specs.Digraph.{Walk}
+use Rattle.install_order.specs.Digraph.Walk.{Here, Then}
+use Rattle.install_order.specs.MergeLaws.{walk-on}
+use Rattle.number_lists.specs.Lists.{Lists}
 use Rattle.number_lists.specs.Members.{Members, IsWith}
-use Rattle.graph_nodes.specs.Arcs.{arc_at, node_at, IsStartOf}
+use Rattle.graph_nodes.specs.Arcs.{node_at, IsStartOf}
 use Rattle.graph_nodes.specs.Search.{AreKept, IsLookedBack, AreLookedBack, IsBehind, IsExpanded, IsSearching, IsSearched}
 
 pub kept-twice : (a b c : Members) → AreKept a b → AreKept b c → AreKept a c
@@ -22,26 +22,10 @@ kept-twice a b c f g = record {
 pub kept-none : (a : Members) → AreKept a a
 kept-none a = record { kept = ([], sym (append-nil a.members)); end = refl; room = omega arith }
 
--- one cell
-pub looked-none : (arcs : List (Option ℕ)) (node : List ℕ) (c : ℕ) (old : Members) → (IsSome (arc_at arcs c) → ⊥) → IsLookedBack arcs node c old old
-looked-none arcs node c old none = record { there = λ n. ((λ t. inl t), (λ s. elim s [ inl t ↦ t | inr start ↦ absurd (none start.0) ])); same = kept-none old }
-
-pub looked-with : (arcs : List (Option ℕ)) (node : List ℕ) (c m : ℕ) (old new : Members) → IsSome (arc_at arcs c) → m ≡ node_at node (c / 8) → IsWith old m new → IsLookedBack arcs node c old new
-looked-with arcs node c m old new some e is = record {
-  there = λ n. (
-    (λ t. elim ((is.there n).0 t) [ inl r ↦ inl r | inr q ↦ inr (some, sym e ∙ sym q) ]),
-    (λ s. (is.there n).1 (elim s [ inl r ↦ inl r | inr start ↦ inr (sym start.1 ∙ sym e) ])),
-  );
-  same = record { kept = is.kept; end = is.end; room = is.room };
-}
-
 -- the first so many of the cells
 pub record AreLookedAt (arcs : List (Option ℕ)) (node cells : List ℕ) (i : ℕ) (old new : Members) : Type 0 where
   pub there : (n : ℕ) → IsTrue (is_among n new.members) ↔ (IsTrue (is_among n old.members) ⊎ ((k : ℕ) × (k < i) × IsStartOf arcs node (slice_index cells k) n))
   pub same : AreKept old new
-
-pub at-none : (arcs : List (Option ℕ)) (node cells : List ℕ) (old : Members) → AreLookedAt arcs node cells 0 old old
-at-none arcs node cells old = record { there = λ n. ((λ t. inl t), (λ s. elim s [ inl t ↦ t | inr r ↦ absurd (omega (arith, r.1)) ])); same = kept-none old }
 
 pub at-more : (arcs : List (Option ℕ)) (node cells : List ℕ) (i c : ℕ) (old now new : Members) → AreLookedAt arcs node cells i old now → c ≡ slice_index cells i → IsLookedBack arcs node c now new → AreLookedAt arcs node cells (i + 1) old new
 at-more arcs node cells i c old now new was e is = record {
@@ -89,13 +73,6 @@ at-all arcs node cells i old new e is = record {
   );
   same = is.same;
 }
-
--- one node
-pub expanded-stop : (arcs : List (Option ℕ)) (node : List ℕ) (into : Lists) (n stop : ℕ) (old : Members) → n ≡ stop → IsExpanded arcs node into n stop old old
-expanded-stop arcs node into n stop old e = record { sound = λ m t. inl t; closed = λ ne. absurd (ne e); same = kept-none old }
-
-pub expanded-all : (arcs : List (Option ℕ)) (node : List ℕ) (into : Lists) (n stop : ℕ) (old new : Members) → AreLookedBack arcs node (list_at into.lists n) old new → IsExpanded arcs node into n stop old new
-expanded-all arcs node into n stop old new is = record { sound = λ m t. (is.there m).0 t; closed = λ ne m behind. (is.there m).1 (inr behind); same = is.same }
 
 pub among-left : (k : ℕ) (xs ys : List ℕ) → IsTrue (is_among k xs) → IsTrue (is_among k (xs ++ ys))
 among-left k [] ys t = absurd (both_ways _ refl t)

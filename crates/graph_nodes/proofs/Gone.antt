@@ -4,9 +4,9 @@ use Rattle.std.specs.Prelude.{IsTrue, IsFalse, ◌↔◌, Bool, Option, Some}
 use Rattle.std.proofs.lemmas.Bool.{cases_lt, cases_Bool, both_ways, false_from_ne_true}
 use Rattle.std.proofs.Math.ListN.{get_or-eq_default}
 use Rattle.oper_core.specs.State.{is_among}
-use Rattle.sparse_order.specs.Digraph.{Walk, Joined, AreNodes, outside}
-use Rattle.sparse_order.specs.Digraph.Walk.{Here, Then}
-use Rattle.sparse_order.specs.RemovalLaws.{nodes-left}
+use Rattle.install_order.specs.Digraph.{Walk, Joined, AreNodes, outside}
+use Rattle.install_order.specs.Digraph.Walk.{Here, Then}
+use Rattle.install_order.specs.RemovalLaws.{nodes-left}
 use Rattle.number_lists.specs.Lists.{Lists, list_at, AreAsMany}
 use Rattle.graph_nodes.specs.Arcs.{arc_at, node_at, name_at, IsArc}
 use Rattle.graph_nodes.specs.Merge.{IsFiled}

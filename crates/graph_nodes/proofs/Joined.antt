@@ -1,42 +1,18 @@
 -- How nodes are merged.
-use Rattle.std.proofs.Common.{◌≡◌, ◌≢◌, ◌∙◌, ap, sym, subst, ℕ, ◌+◌, ◌<◌, Bool, false, List, [], ◌∷◌, ◌++◌, length, refl, arith, inl, inr}
-use Rattle.std.specs.Prelude.{IsTrue, ◌==◌, ◌||◌, ◌⊎◌, if◌then◌else◌, slice_index, slice_set}
-use Rattle.std.proofs.lemmas.Bool.{cases_eq, cases_Bool, both_ways, or_left, or_from, eq-eqb, ne_eqb, cond-true, cond-false}
-use Rattle.std.proofs.lemmas.List.{get_or-set_same, get_or-set_other, length-set}
+use Rattle.std.proofs.Common.{◌≡◌, ◌∙◌, ap, sym, subst, ℕ, ◌+◌, ◌<◌, Bool, false, List, [], ◌∷◌, ◌++◌, length, refl, arith, inl, inr}
+use Rattle.std.specs.Prelude.{IsTrue, ◌==◌, ◌||◌, ◌⊎◌, if◌then◌else◌, slice_index}
+use Rattle.std.proofs.lemmas.Bool.{cases_eq, cases_Bool, or_left, or_from, eq-eqb, ne_eqb, cond-true, cond-false}
 use Rattle.oper_core.specs.State.{is_among}
-use Rattle.number_lists.specs.Lists.{Lists, list_at, AreAsMany, IsPoured}
+use Rattle.number_lists.specs.Lists.{Lists, list_at, AreAsMany}
 use Rattle.graph_nodes.specs.Arcs.{node_at}
-use Rattle.graph_nodes.specs.Merge.{IsFiled, IsRelabelled, renamed, gathered, AreMoved, IsAbsorbed, AreMerged}
-use Rattle.graph_nodes.proofs.Found.{among-place, place-among}
+use Rattle.graph_nodes.specs.Merge.{IsFiled, IsRelabelled, renamed, gathered, IsAbsorbed, AreMerged}
+use Rattle.graph_nodes.proofs.Found.{among-place}
 
 -- the first so many of the slots
 pub record IsRelabelling (slots : List ℕ) (one idx : ℕ) (old now : List ℕ) : Type 0 where
   pub done : (k : ℕ) → k < idx → node_at now (slice_index slots k) ≡ one
   pub rest : (i : ℕ) → (node_at now i ≡ node_at old i) ⊎ (IsTrue (is_among i slots) × (node_at now i ≡ one))
   pub size : length now ≡ length old
-
-pub relabel-start : (slots : List ℕ) (one : ℕ) (old : List ℕ) → IsRelabelling slots one 0 old old
-relabel-start slots one old = record { done = λ k lt. absurd (omega arith); rest = λ i. inl refl; size = refl }
-
-pub relabel-on : (slots : List ℕ) (one idx m : ℕ) (old now : List ℕ) → IsRelabelling slots one idx old now → m ≡ slice_index slots idx → idx < length slots → m < length now → IsRelabelling slots one (idx + 1) old (slice_set now m one)
-relabel-on slots one idx m old now is e lt below =
-    let new = slice_set now m one in
-    let at : node_at new m ≡ one = get_or-set_same now m one m below in
-    let off : (i : ℕ) → i ≢ m → node_at new i ≡ node_at now i = λ i ne. get_or-set_other now m i one i ne in
-    record {
-      done = λ k low. elim (cases_eq (slice_index slots k) m) [
-        | inl q ↦ ap (λ (i : ℕ). node_at new i) q ∙ at
-        | inr ne ↦ elim (cases_eq k idx) [
-          | inl q ↦ absurd (ne (ap (λ (i : ℕ). slice_index slots i) q ∙ sym e))
-          | inr other ↦ off (slice_index slots k) ne ∙ is.done k (omega arith)
-        ]
-      ];
-      rest = λ i. elim (cases_eq i m) [
-        | inl q ↦ inr (subst (λ (k : ℕ). IsTrue (is_among k slots)) (sym (q ∙ e)) (place-among slots idx lt), ap (λ (k : ℕ). node_at new k) q ∙ at)
-        | inr ne ↦ elim (is.rest i) [ inl s ↦ inl (off i ne ∙ s) | inr s ↦ inr (s.0, off i ne ∙ s.1) ]
-      ];
-      size = length-set now m one ∙ is.size;
-    }
 
 pub relabel-end : (slots : List ℕ) (one idx : ℕ) (old now : List ℕ) → idx ≡ length slots → IsRelabelling slots one idx old now → IsRelabelled slots one old now
 relabel-end slots one idx old now e is = record {
@@ -51,75 +27,8 @@ renamed-at n one m e = cond-true (m == n) one m (eq-eqb m n e)
 renamed-off : (n one m : ℕ) → (m ≡ n → ⊥) → renamed n one m ≡ m
 renamed-off n one m ne = cond-false (m == n) one m (ne_eqb m n ne)
 
--- a list is poured into another
-pub moved-poured : (n one : ℕ) (old new : Lists) → (n ≡ one → ⊥) → IsPoured old n one new → AreMoved (renamed n one) old new
-moved-poured n one old new apart is = record {
-  there = λ m k t. elim (cases_eq m n) [
-    | inl q ↦ subst (λ (j : ℕ). IsTrue (is_among k (list_at new.lists j))) (sym (renamed-at n one m q)) ((is.here k).1 (inr (subst (λ (j : ℕ). IsTrue (is_among k (list_at old.lists j))) q t)))
-    | inr ne ↦ subst (λ (j : ℕ). IsTrue (is_among k (list_at new.lists j))) (sym (renamed-off n one m ne)) (elim (cases_eq m one) [
-      | inl q ↦ subst (λ (j : ℕ). IsTrue (is_among k (list_at new.lists j))) (sym q) ((is.here k).1 (inl (subst (λ (j : ℕ). IsTrue (is_among k (list_at old.lists j))) q t)))
-      | inr other ↦ subst (λ (ys : List ℕ). IsTrue (is_among k ys)) (sym (is.others m ne other)) t
-    ])
-  ];
-  only = λ m k t. elim (cases_eq m n) [
-    | inl q ↦ absurd (both_ways _ refl (subst (λ (ys : List ℕ). IsTrue (is_among k ys)) (ap (λ (j : ℕ). list_at new.lists j) q ∙ is.empty) t))
-    | inr ne ↦ elim (cases_eq m one) [
-      | inl q ↦ elim ((is.here k).0 (subst (λ (j : ℕ). IsTrue (is_among k (list_at new.lists j))) q t)) [
-        | inl r ↦ (one, r, renamed-off n one one (λ e. apart (sym e)) ∙ sym q)
-        | inr r ↦ (n, r, renamed-at n one n refl ∙ sym q)
-      ]
-      | inr other ↦ (m, subst (λ (ys : List ℕ). IsTrue (is_among k ys)) (is.others m ne other) t, renamed-off n one m ne)
-    ]
-  ];
-  same = is.same;
-}
-
-same-name : (one m : ℕ) → renamed one one m ≡ m
-same-name one m = elim (cases_eq m one) [ inl q ↦ renamed-at one one m q ∙ sym q | inr ne ↦ renamed-off one one m ne ]
-
 pub many-same : (a : Lists) → AreAsMany a a
 many-same a = record { lists = refl; items = refl; list_room = refl; item_room = refl }
-
--- a node and itself
-pub absorbed-same : (n one : ℕ) (node : List ℕ) (members into : Lists) → n ≡ one → IsFiled node members → IsAbsorbed n one node node members members into into
-absorbed-same n one node members into e filed =
-    let name : (m : ℕ) → renamed n one m ≡ m = λ m. ap (λ (k : ℕ). renamed k one m) e ∙ same-name one m in
-    record {
-      node = λ i lt. sym (name (node_at node i));
-      size = refl;
-      filed = filed;
-      members = many-same members;
-      into = record {
-        there = λ m k t. subst (λ (j : ℕ). IsTrue (is_among k (list_at into.lists j))) (sym (name m)) t;
-        only = λ m k t. (m, t, name m);
-        same = many-same into;
-      };
-    }
-
--- a node and another
-pub absorbed : (n one : ℕ) (node new : List ℕ) (members new_members into new_into : Lists) → (n ≡ one → ⊥) → IsFiled node members → IsRelabelled (list_at members.lists n) one node new → IsPoured members n one new_members → IsPoured into n one new_into →
-    IsAbsorbed n one node new members new_members into new_into
-absorbed n one node new members new_members into new_into apart filed label pour_members pour_into =
-    let moved = moved-poured n one members new_members apart pour_members in
-    let at : (i : ℕ) → i < length node → node_at new i ≡ renamed n one (node_at node i) = λ i lt. elim (cases_eq (node_at node i) n) [
-      | inl q ↦ label.done i (subst (λ (j : ℕ). IsTrue (is_among i (list_at members.lists j))) q (filed.there i lt)) ∙ sym (renamed-at n one (node_at node i) q)
-      | inr ne ↦ label.rest i (λ t. ne (filed.only n i t).1) ∙ sym (renamed-off n one (node_at node i) ne)
-    ] in
-    record {
-      node = at;
-      size = label.size;
-      filed = record {
-        there = λ i lt.
-            let low : i < length node = omega (arith, lt, label.size) in
-            subst (λ (j : ℕ). IsTrue (is_among i (list_at new_members.lists j))) (sym (at i low)) (moved.there (node_at node i) i (filed.there i low));
-        only = λ m i t.
-            let was = moved.only m i t in
-            let old = filed.only was.0 i was.1 in
-            (omega (arith, old.0, label.size), at i old.0 ∙ ap (λ (j : ℕ). renamed n one j) old.1 ∙ was.2);
-      };
-      members = pour_members.same;
-      into = moved-poured n one into new_into apart pour_into;
-    }
 
 -- none is merged
 pub merged-start : (one : ℕ) (node : List ℕ) (members into : Lists) → IsFiled node members → AreMerged [] one node node members members into into

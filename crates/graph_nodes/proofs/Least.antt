@@ -1,12 +1,9 @@
 -- The least of several names.
-use Rattle.std.proofs.Common.{◌≡◌, ◌∙◌, ap, sym, subst, ℕ, ◌+◌, ◌<◌, ◌≤◌, List, [], length, refl, arith, inl, inr}
-use Rattle.std.specs.Prelude.{IsTrue, ◌⊎◌, slice_index, slice_set}
-use Rattle.std.proofs.lemmas.Bool.{cases_eq, both_ways}
-use Rattle.std.proofs.lemmas.List.{get_or-set_same, get_or-set_other, length-set}
+use Rattle.std.proofs.Common.{◌≡◌, ◌∙◌, ap, sym, subst, ℕ, ◌+◌, ◌<◌, ◌≤◌, List, length, arith, inl, inr}
+use Rattle.std.specs.Prelude.{IsTrue, ◌⊎◌, slice_index}
+use Rattle.std.proofs.lemmas.Bool.{cases_eq}
 use Rattle.oper_core.specs.State.{is_among}
 use Rattle.graph_nodes.specs.Arcs.{name_at}
-use Rattle.graph_nodes.specs.Named.{Naming, AreForgotten, AreNamesMerged}
-use Rattle.graph_nodes.proofs.Told.{forgotten-none}
 use Rattle.graph_nodes.proofs.Found.{among-place, place-among}
 
 -- the least of the first so many, or of all that may come
@@ -34,30 +31,3 @@ least-on taken name i m old here new was lt e is left right one = record {
 
 pub least-all : (taken name : List ℕ) (i least : ℕ) → i ≡ length taken → IsLeastSoFar taken name i least → (m : ℕ) → IsTrue (is_among m taken) → least ≤ name_at name m
 least-all taken name i least e is m t = let p = among-place m taken t in omega (arith, is.below p.0 (omega (arith, p.1, e)), ap (λ (k : ℕ). name_at name k) p.2)
-
--- no node is merged
-pub names-none : (one : ℕ) (n : Naming) → AreNamesMerged [] one n n
-names-none one n = record {
-  least = λ m t. absurd (both_ways _ refl t);
-  from = λ t. absurd (both_ways _ refl t);
-  rest = λ m none. refl;
-  size = refl;
-  names = forgotten-none n.name (name_at n.name one) n.names;
-  minimal = forgotten-none n.name (name_at n.name one) n.minimal;
-  room = refl;
-}
-
--- the node that stays gets the least name
-pub names-merged : (ns : List ℕ) (one least : ℕ) (old new : Naming) → IsTrue (is_among one ns) → one < length old.name → ((m : ℕ) → IsTrue (is_among m ns) → least ≤ name_at old.name m) → (m : ℕ) × IsTrue (is_among m ns) × (least ≡ name_at old.name m) →
-    new.name ≡ slice_set old.name one least → AreForgotten ns old.name least old.names new.names → AreForgotten ns old.name least old.minimal new.minimal → new.room ≡ old.room → AreNamesMerged ns one old new
-names-merged ns one least old new there lt below from e names minimal room =
-    let at : name_at new.name one ≡ least = ap (λ (xs : List ℕ). name_at xs one) e ∙ get_or-set_same old.name one least one lt in
-    record {
-      least = λ m t. omega (arith, at, below m t);
-      from = λ t. (from.0, from.1, at ∙ from.2);
-      rest = λ m none. ap (λ (xs : List ℕ). name_at xs m) e ∙ get_or-set_other old.name one m least m (λ q. none (subst (λ (k : ℕ). IsTrue (is_among k ns)) (sym q) there));
-      size = ap length e ∙ length-set old.name one least;
-      names = subst (λ (l : ℕ). AreForgotten ns old.name l old.names new.names) (sym at) names;
-      minimal = subst (λ (l : ℕ). AreForgotten ns old.name l old.minimal new.minimal) (sym at) minimal;
-      room = room;
-    }

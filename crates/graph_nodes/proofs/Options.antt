@@ -1,6 +1,6 @@
 -- Numbers that may be there.
-use Rattle.std.proofs.Common.{rules, ◌≡◌, sym, subst, ℕ, false, refl, inl, inr}
-use Rattle.std.specs.Prelude.{◌⊎◌, Option, None, Some, IsSome}
+use Rattle.std.proofs.Common.{rules, ◌≡◌, sym, subst, ℕ, false, refl}
+use Rattle.std.specs.Prelude.{Option, None, Some, IsSome}
 use Rattle.std.proofs.lemmas.Bool.{both_ways}
 
 some-is : (j : ℕ) → IsSome (Some j)
@@ -16,8 +16,3 @@ some-of (Some j) some = (j, refl)
 
 pub of-some : (a : Option ℕ) (j : ℕ) → a ≡ Some j → IsSome a
 of-some a j e = subst (λ (b : Option ℕ). IsSome b) (sym e) (some-is j)
-
--- it is there or not
-pub either : (a : Option ℕ) → (a ≡ None) ⊎ ((j : ℕ) × (a ≡ Some j))
-either None = inl refl
-either (Some j) = inr (j, refl)

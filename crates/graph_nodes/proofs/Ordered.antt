@@ -1,13 +1,13 @@
 -- The nodes with one arc more.
-use Rattle.std.proofs.Common.{◌≡◌, ◌≢◌, ◌∙◌, ap, sym, subst, ℕ, ◌*◌, ◌/◌, ◌<◌, List, [], length, refl, arith, inl, inr}
+use Rattle.std.proofs.Common.{◌≡◌, ◌≢◌, ◌∙◌, ap, sym, subst, ℕ, ◌*◌, ◌/◌, ◌<◌, ◌≤◌, List, [], length, refl, arith, inl, inr}
 use Rattle.std.specs.Prelude.{IsTrue, if◌then◌else◌, IsFalse, ◌==◌, ◌↔◌, ◌⊎◌, Bool, Option, None, Some, slice_index_or, slice_set}
 use Rattle.std.proofs.lemmas.Bool.{cases_eq, cases_lt, cases_Bool, both_ways, or_left, or_right, or_cases, eqb-true, eq-eqb, cond-true, cond-false, false_from_ne_true}
 use Rattle.std.proofs.lemmas.List.{get_or-set_same, get_or-set_other, length-set, get_or_default}
 use Rattle.std.proofs.Math.ListN.{get_or-eq_default}
 use Rattle.oper_core.specs.State.{is_among}
-use Rattle.sparse_order.specs.Digraph.{Walk, Joined, AreNodes, AreLevels, with_arc, IsOnWay, IsFound, AreWhole, merged}
-use Rattle.sparse_order.specs.Digraph.Walk.{Here, Then}
-use Rattle.sparse_order.specs.MergeLaws.{walk-on, joined-more, nodes-stay, found-way, closure-way, nodes-merged}
+use Rattle.install_order.specs.Digraph.{Walk, Joined, AreNodes, AreLevels, with_arc, IsOnWay, IsFound, AreWhole, merged}
+use Rattle.install_order.specs.Digraph.Walk.{Here, Then}
+use Rattle.install_order.specs.MergeLaws.{walk-on, joined-more, nodes-stay, found-way, closure-way, nodes-merged}
 use Rattle.number_lists.specs.Lists.{Lists, list_at, IsFree, IsPushed}
 use Rattle.graph_nodes.specs.Arcs.{arc_at, node_at, name_at, held_at, IsArc, IsFromOutside, AreCells}
 use Rattle.graph_nodes.specs.Into.{AreInto, IsLive, AreLed, AreLost, IsSettled}
@@ -15,7 +15,7 @@ use Rattle.graph_nodes.specs.Named.{Naming, AreNamed, AreNamesMerged}
 use Rattle.graph_nodes.specs.Search.{IsBehind, IsSearched, IsApart}
 use Rattle.graph_nodes.specs.Spread.{IsSpread}
 use Rattle.graph_nodes.specs.Merge.{gathered, AreMoved}
-use Rattle.graph_nodes.specs.Kept.{AreOwn, IsKept, AreOnWalks, AreOnWay, AreJoined}
+use Rattle.graph_nodes.specs.Kept.{AreGathered, AreJoined, AreOnWalks, AreOnWay, AreOwn, IsKept, IsSearchable}
 use Rattle.graph_nodes.proofs.Options.{none-some, some-of, of-some}
 use Rattle.graph_nodes.proofs.Along.{arc-behind, lift-leads, along-way, where-leads}
 use Rattle.graph_nodes.proofs.Through.{through-way, through-slot, through-start}
@@ -272,11 +272,6 @@ names-all arcs old new held name members into v ws one ns kept low way size at i
 pub slot-of : (c n : ℕ) → c < 8 * n → c / 8 < n
 slot-of c n lt = omega (arith, lt)
 
-pub cells-are : (arcs : List (Option ℕ)) (node : List ℕ) (held : List Bool) (name : List ℕ) (members into : Lists) (n : ℕ) → IsKept arcs node held name members into → AreCells arcs node (list_at into.lists n)
-cells-are arcs node held name members into n kept c t =
-    let lt = (kept.led.leads.only n c t).0 in
-    (lt, slot-of c (length node) (omega (arith, lt, kept.range.cells)))
-
 -- a cell without an arc whose slot is held is in no list
 pub cell-free : (arcs : List (Option ℕ)) (held : List Bool) (ia ib : Lists) (name : ℕ → ℕ) (c : ℕ) → arc_at arcs c ≡ None → IsTrue (held_at held (c / 8)) → AreLost arcs held ia → AreMoved name ia ib → IsFree ib.lists c
 cell-free arcs held ia ib name c none holds lost moved m t =
@@ -474,12 +469,16 @@ value-at node i x lt e = e ∙ get_or_default node i x i lt
 pub slot-in : (c n cells : ℕ) → cells ≡ 8 * n → c < cells → c / 8 < n
 slot-in c n cells e lt = slot-of c n (omega (arith, e, lt))
 
-pub joined-at : (arcs a : List (Option ℕ)) (old o : List ℕ) (x v y w : ℕ) (new : List ℕ) (name names : Naming) (ma mb ia ib : Lists) → a ≡ arcs → o ≡ old → x ≡ v → y ≡ w → AreJoined a x y o new name names ma mb ia ib → AreJoined arcs v w old new name names ma mb ia ib
-joined-at arcs a old o x v y w new name names ma mb ia ib e f g h is =
-    subst (λ (k : ℕ). AreJoined arcs v k old new name names ma mb ia ib) h
-    (subst (λ (k : ℕ). AreJoined arcs k y old new name names ma mb ia ib) g
-    (subst (λ (xs : List ℕ). AreJoined arcs x y xs new name names ma mb ia ib) f
-    (subst (λ (xs : List (Option ℕ)). AreJoined xs x y o new name names ma mb ia ib) e is)))
+-- the nodes on the way were found, and made one
+pub joined-at : (arcs a : List (Option ℕ)) (old n o : List ℕ) (x v y w : ℕ) (ns new : List ℕ) (name names : Naming) (ma mb ia ib : Lists) → a ≡ arcs → n ≡ old → o ≡ old → x ≡ v → y ≡ w → AreOnWay a n ia x y ns → AreGathered ns o new name names ma mb ia ib → AreJoined arcs v w old new name names ma mb ia ib
+joined-at arcs a old n o x v y w ns new name names ma mb ia ib ea en eo ev ew way gathered = (
+  ns,
+  subst (λ (k : ℕ). AreOnWay arcs old ia v k ns) ew
+      (subst (λ (k : ℕ). AreOnWay arcs old ia k y ns) ev
+      (subst (λ (xs : List ℕ). AreOnWay arcs xs ia x y ns) en
+      (subst (λ (xs : List (Option ℕ)). AreOnWay xs n ia x y ns) ea way))),
+  subst (λ (xs : List ℕ). AreGathered ns xs new name names ma mb ia ib) eo gathered,
+)
 
 pub joined-below : (arcs : List (Option ℕ)) (old new : List ℕ) (held : List Bool) (name names : Naming) (ma mb ia ib : Lists) (v to : ℕ) → IsKept arcs old held name.name ma ia → to < length old → AreJoined arcs v (node_at old to) old new name names ma mb ia ib → node_at new to < length ib.lists
 joined-below arcs old new held name names ma mb ia ib v to kept low join =
@@ -489,6 +488,27 @@ joined-below arcs old new held name names ma mb ia ib v to kept low join =
 -- the cells of a list are there
 pub led-cells : (arcs : List (Option ℕ)) (node : List ℕ) (into : Lists) (n : ℕ) → length arcs ≡ 8 * length node → AreInto arcs node into → AreCells arcs node (list_at into.lists n)
 led-cells arcs node into n size are c t = let lt = (are.only n c t).0 in (lt, slot-of c (length node) (omega (arith, lt, size)))
+
+-- the tables of a graph are what a search reads
+pub searchable-at : (arcs a : List (Option ℕ)) (node b : List ℕ) (held : List Bool) (name : List ℕ) (members into : Lists) (end room : ℕ) → IsKept arcs node held name members into → end ≡ length node → 8 * length node ≤ room → a ≡ arcs → b ≡ node → IsSearchable a b members into end room
+searchable-at arcs a node b held name members into end room kept e wide ea eb =
+    let range = kept.range in
+    subst (λ (xs : List (Option ℕ)). IsSearchable xs b members into end room) (sym ea)
+    (subst (λ (xs : List ℕ). IsSearchable arcs xs members into end room) (sym eb)
+    record {
+      member_lists = omega (arith, e, range.member_lists);
+      into_lists = omega (arith, e, range.into_lists);
+      cells = λ n. led-cells arcs node into n range.cells kept.led.leads;
+      below = λ i lt. omega (arith, e, range.nodes i lt);
+      filed = kept.filed;
+      walkable = record {
+        size = range.cells;
+        ends = λ c j arc. let lt = range.ends c j arc in (lt, omega (arith, e, range.nodes j lt));
+        leads = kept.led.leads;
+      };
+      slots_fit = omega (arith, range.member_items, wide);
+      cells_fit = omega (arith, range.into_items, range.cells, wide);
+    })
 
 -- the cells are there after the cell got its arc
 pub pushed-cells : (arcs : List (Option ℕ)) (old new : List ℕ) (held : List Bool) (name names : Naming) (ma mb ia ib ic : Lists) (c to m : ℕ) → IsKept arcs old held name.name ma ia → c < length arcs → arc_at arcs c ≡ None → IsTrue (held_at held (c / 8)) → to < length old →

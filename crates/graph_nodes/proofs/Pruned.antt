@@ -4,9 +4,9 @@ use Rattle.std.specs.Prelude.{IsTrue, ◌==◌, Option, nat_eq, slice_index}
 use Rattle.std.specs.List.{IsDistinct}
 use Rattle.std.proofs.lemmas.Bool.{cases_eq, both_ways, or_left, or_right, or_cases, eqb-true, eq-eqb}
 use Rattle.oper_core.specs.State.{is_among}
-use Rattle.number_lists.specs.Lists.{Lists, list_at, IsFree, AreAsMany, OthersStay, IsCleared}
+use Rattle.number_lists.specs.Lists.{Lists, list_at, IsFree, AreAsMany, OthersStay}
 use Rattle.graph_nodes.specs.Arcs.{IsFromOutside}
-use Rattle.graph_nodes.specs.Into.{IsSettled, IsPutBack, ArePutBack}
+use Rattle.graph_nodes.specs.Into.{IsPutBack, ArePutBack}
 use Rattle.graph_nodes.proofs.Found.{among-place, place-among}
 use Rattle.graph_nodes.proofs.Joined.{many-same, many-twice}
 use Rattle.graph_nodes.proofs.Scattered.{apart-places}
@@ -78,14 +78,4 @@ pruning-end arcs node m cells i old now end is = record {
       (subst (λ (k : ℕ). IsTrue (is_among k cells)) o.1.2 (place-among cells o.1.0 (omega (arith, o.1.1, end))), o.0);
   others = is.others;
   same = is.same;
-}
-
--- a list whose cells are put back where their arcs come from another node is settled
-pub settled-back : (arcs : List (Option ℕ)) (node : List ℕ) (m : ℕ) (cells : List ℕ) (old mid new : Lists) → IsCleared old m mid → cells ≡ list_at old.lists m → ArePutBack arcs node m cells mid new → IsSettled arcs node m old new
-settled-back arcs node m cells old mid new clear e back = record {
-  kept = λ c t out. back.kept c (subst (λ (xs : List ℕ). IsTrue (is_among c xs)) (sym e) t) out;
-  fewer = λ c t. subst (λ (xs : List ℕ). IsTrue (is_among c xs)) e (back.only c t).0;
-  live = λ c t. (c, t, (back.only c t).1);
-  others = λ j ne. back.others j ne ∙ clear.others j ne;
-  same = many-twice old mid new clear.same back.same;
 }

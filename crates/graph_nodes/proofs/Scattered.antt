@@ -12,36 +12,13 @@ use Rattle.graph_nodes.specs.Merge.{IsFiled}
 use Rattle.graph_nodes.specs.Kept.{AreOwn}
 use Rattle.graph_nodes.specs.Removed.{AreReleased, AreAlone}
 use Rattle.graph_nodes.proofs.Found.{among-place, place-among}
-use Rattle.graph_nodes.proofs.Joined.{many-same, many-twice}
+use Rattle.graph_nodes.proofs.Joined.{many-twice}
 
 -- the first so many of the slots are held no more
 pub record IsReleasing (slots : List ℕ) (idx : ℕ) (old now : List Bool) : Type 0 where
   pub done : (k : ℕ) → k < idx → IsFalse (held_at now (slice_index slots k))
   pub rest : (i : ℕ) → (held_at now i ≡ held_at old i) ⊎ IsTrue (is_among i slots)
   pub size : length now ≡ length old
-
-pub release-start : (slots : List ℕ) (old : List Bool) → IsReleasing slots 0 old old
-release-start slots old = record { done = λ k lt. absurd (omega arith); rest = λ i. inl refl; size = refl }
-
-pub release-on : (slots : List ℕ) (idx m : ℕ) (old now : List Bool) → IsReleasing slots idx old now → m ≡ slice_index slots idx → idx < length slots → m < length now → IsReleasing slots (idx + 1) old (slice_set now m false)
-release-on slots idx m old now is e lt below =
-    let new = slice_set now m false in
-    let at : held_at new m ≡ false = get_or-set_same now m false false below in
-    let off : (i : ℕ) → i ≢ m → held_at new i ≡ held_at now i = λ i ne. get_or-set_other now m i false false ne in
-    record {
-      done = λ k low. elim (cases_eq (slice_index slots k) m) [
-        | inl q ↦ ap (λ (i : ℕ). held_at new i) q ∙ at
-        | inr ne ↦ elim (cases_eq k idx) [
-          | inl q ↦ absurd (ne (ap (λ (i : ℕ). slice_index slots i) q ∙ sym e))
-          | inr other ↦ off (slice_index slots k) ne ∙ is.done k (omega arith)
-        ]
-      ];
-      rest = λ i. elim (cases_eq i m) [
-        | inl q ↦ inr (subst (λ (k : ℕ). IsTrue (is_among k slots)) (sym (q ∙ e)) (place-among slots idx lt))
-        | inr ne ↦ elim (is.rest i) [ inl s ↦ inl (off i ne ∙ s) | inr s ↦ inr s ]
-      ];
-      size = length-set now m false ∙ is.size;
-    }
 
 pub release-end : (slots : List ℕ) (idx : ℕ) (old now : List Bool) → idx ≡ length slots → IsReleasing slots idx old now → AreReleased slots old now
 release-end slots idx old now e is = record {
@@ -55,9 +32,6 @@ pub record IsParting (slots : List ℕ) (idx : ℕ) (old now : List ℕ) : Type 
   pub done : (k : ℕ) → k < idx → node_at now (slice_index slots k) ≡ slice_index slots k
   pub rest : (i : ℕ) → (node_at now i ≡ node_at old i) ⊎ IsTrue (is_among i slots)
   pub size : length now ≡ length old
-
-pub part-start : (slots old : List ℕ) → IsParting slots 0 old old
-part-start slots old = record { done = λ k lt. absurd (omega arith); rest = λ i. inl refl; size = refl }
 
 pub part-on : (slots : List ℕ) (idx m : ℕ) (old now : List ℕ) → IsParting slots idx old now → m ≡ slice_index slots idx → idx < length slots → m < length now → IsParting slots (idx + 1) old (slice_set now m m)
 part-on slots idx m old now is e lt below =
@@ -91,9 +65,6 @@ pub record IsScattering (slots : List ℕ) (idx : ℕ) (cleared now : Lists) : T
   pub done : (k : ℕ) → k < idx → list_at now.lists (slice_index slots k) ≡ slice_index slots k ∷ []
   pub rest : (j : ℕ) → (list_at now.lists j ≡ list_at cleared.lists j) ⊎ ((k : ℕ) × (k < idx) × (slice_index slots k ≡ j))
   pub same : AreAsMany cleared now
-
-pub scatter-start : (slots : List ℕ) (cleared : Lists) → IsScattering slots 0 cleared cleared
-scatter-start slots cleared = record { done = λ k lt. absurd (omega arith); rest = λ j. inl refl; same = many-same cleared }
 
 pub apart-places : (slots : List ℕ) (i j : ℕ) → IsDistinct nat_eq slots → i < j → j < length slots → slice_index slots i ≡ slice_index slots j → ⊥
 apart-places slots i j are lt low e = both_ways _ (apart_from_distinct nat_eq slots i j 0 are lt low) (eq-eqb (slice_index slots i) (slice_index slots j) e)

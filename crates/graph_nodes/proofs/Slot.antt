@@ -1,5 +1,5 @@
 -- One slot more.
-use Rattle.std.proofs.Common.{◌≡◌, ◌∙◌, ap, sym, subst, ℕ, zero, suc, ◌+◌, ◌<◌, ◌≤◌, List, [], ◌∷◌, ◌++◌, append_assoc, append-nil, length, length-append, refl, arith, inl, inr}
+use Rattle.std.proofs.Common.{◌≡◌, ◌∙◌, ap, sym, subst, ℕ, zero, suc, ◌+◌, ◌<◌, ◌≤◌, List, [], ◌∷◌, ◌++◌, length, length-append, refl, arith, inl, inr}
 use Rattle.std.specs.Prelude.{IsTrue, ◌==◌, ◌/◌, ◌^◌, Bool, true, Option, None, IsSome, slice_index_or, false}
 use Rattle.std.proofs.lemmas.Bool.{cases_eq, cases_lt, both_ways, or_left, or_cases, eqb-true, eq-eqb}
 use Rattle.std.proofs.Math.ListN.{get_or-eq_default}
@@ -13,24 +13,7 @@ use Rattle.graph_nodes.specs.Merge.{IsFiled}
 use Rattle.graph_nodes.specs.Kept.{IsKept, HasRoom, no_arcs, AreCellsAdded}
 use Rattle.graph_nodes.proofs.Ordered.{nodes-iff, same-nodes, slot-of}
 
--- one more cell
-pub cells-none : (old : List (Option ℕ)) (into : Lists) → AreCellsAdded 0 old old into into
-cells-none old into = record { arcs = sym (append-nil old); here = λ j. refl; lists = refl; items = omega arith; list_room = refl; item_room = omega arith }
-
-nones-more : (n : ℕ) → no_arcs n ++ None ∷ [] ≡ no_arcs (n + 1)
-nones-more zero = refl
-nones-more (suc n) = let e : suc n + 1 ≡ suc (n + 1) = omega arith in ap (λ (xs : List (Option ℕ)). None ∷ xs) (nones-more n) ∙ ap (λ (k : ℕ). no_arcs k) (sym e)
-
-pub cells-on : (n : ℕ) (a b c : List (Option ℕ)) (ia ib ic : Lists) → AreCellsAdded n a b ia ib → c ≡ b ++ None ∷ [] → IsLonger ib ic → AreCellsAdded (n + 1) a c ia ic
-cells-on n a b c ia ib ic was e is = record {
-  arcs = e ∙ ap (λ (xs : List (Option ℕ)). xs ++ None ∷ []) was.arcs ∙ append_assoc a (no_arcs n) (None ∷ []) ∙ ap (λ (xs : List (Option ℕ)). a ++ xs) (nones-more n);
-  here = λ j. is.here j ∙ was.here j;
-  lists = is.lists ∙ was.lists;
-  items = omega (arith, is.items, was.items);
-  list_room = is.list_room ∙ was.list_room;
-  item_room = omega (arith, is.item_room, was.item_room);
-}
-
+-- no cells have arcs
 nones-at : (n c : ℕ) → arc_at (no_arcs n) c ≡ None
 nones-at zero c = refl
 nones-at (suc n) zero = refl
@@ -225,7 +208,7 @@ kept-room arcs a node b held h name n ma mb ia ib kept ea eb eh en el ei fl fi =
 
 -- no capacity is less
 pub room-more : (room slots more a b c d e f i j : ℕ) (na nb : Naming) (ma mb ia ib : Lists) (fa fb ta tb : Members) → more ≡ slots → a ≤ b → c ≤ d → e ≤ f → i ≤ j → na.room ≤ nb.room → ma.list_room ≤ mb.list_room → ma.item_room ≤ mb.item_room → ia.list_room ≤ ib.list_room → ia.item_room ≤ ib.item_room →
-    fa.room ≤ fb.room → ta.room ≤ tb.room → HasRoom room slots a c e i na ma ia fa ta → HasRoom room more b d f j nb mb ib fb tb
+    room ≤ fb.room → room ≤ tb.room → HasRoom room slots a c e i na ma ia fa ta → HasRoom room more b d f j nb mb ib fb tb
 room-more room slots more a b c d e f i j na nb ma mb ia ib fa fb ta tb same ab cd ef ij nn ml mi il ii fr tr is = record {
   arcs = omega (arith, is.arcs, same, ab);
   node = omega (arith, is.node, same, cd);
@@ -236,6 +219,6 @@ room-more room slots more a b c d e f i j na nb ma mb ia ib fa fb ta tb same ab 
   members = omega (arith, is.members, mi);
   into_lists = omega (arith, is.into_lists, il);
   into = omega (arith, is.into, ii);
-  found = omega (arith, is.found, fr);
-  taken = omega (arith, is.taken, tr);
+  found = fr;
+  ahead = tr;
 }

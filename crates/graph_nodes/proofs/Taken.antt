@@ -1,27 +1,15 @@
 -- How the nodes spread that walks lead to.
-use Rattle.std.proofs.Common.{◌≡◌, ◌∙◌, ap, sym, subst, ℕ, ◌+◌, ◌/◌, ◌<◌, ◌≤◌, List, [], ◌∷◌, ◌++◌, append-nil, length, length-append, refl, arith, inl, inr}
-use Rattle.std.specs.Prelude.{IsTrue, ◌↔◌, ◌⊎◌, Option, IsSome, slice_index}
-use Rattle.std.proofs.lemmas.Bool.{cases_eq, both_ways}
+use Rattle.std.proofs.Common.{◌≡◌, ◌∙◌, ap, sym, subst, ℕ, ◌+◌, ◌<◌, ◌≤◌, List, [], ◌∷◌, ◌++◌, append-nil, length, length-append, refl, arith, inl, inr}
+use Rattle.std.specs.Prelude.{IsTrue, ◌⊎◌, Option, slice_index}
+use Rattle.std.proofs.lemmas.Bool.{cases_eq}
 use Rattle.oper_core.specs.State.{is_among}
-use Rattle.sparse_order.specs.Digraph.{Walk}
-use Rattle.sparse_order.specs.Digraph.Walk.{Here, Then}
-use Rattle.sparse_order.specs.MergeLaws.{walk-on}
-use Rattle.number_lists.specs.Lists.{Lists, list_at}
-use Rattle.number_lists.specs.Members.{Members, IsWith}
-use Rattle.graph_nodes.specs.Arcs.{arc_at, node_at}
-use Rattle.graph_nodes.specs.Search.{AreKept, IsBehind}
-use Rattle.graph_nodes.specs.Spread.{StartsIn, StartAmongIn, IsTakenUp, IsRoundDone, IsSpread}
+use Rattle.install_order.specs.Digraph.{Walk}
+use Rattle.install_order.specs.Digraph.Walk.{Here, Then}
+use Rattle.install_order.specs.MergeLaws.{walk-on}
+use Rattle.number_lists.specs.Members.{Members}
+use Rattle.graph_nodes.specs.Search.{AreKept}
+use Rattle.graph_nodes.specs.Spread.{StartsIn, StartAmongIn, IsTakenUp, IsRoundDone}
 use Rattle.graph_nodes.proofs.Found.{kept-twice, kept-none, among-left, among-place, place-among}
-
--- one cell
-pub starts-none : (arcs : List (Option ℕ)) (node : List ℕ) (c : ℕ) (taken : List ℕ) → (IsSome (arc_at arcs c) → ⊥) → StartsIn arcs node c taken → ⊥
-starts-none arcs node c taken none start = none start.2.0
-
-pub starts-told : (arcs : List (Option ℕ)) (node : List ℕ) (c m : ℕ) (taken : List ℕ) → IsSome (arc_at arcs c) → m ≡ node_at node (c / 8) → IsTrue (is_among m taken) ↔ StartsIn arcs node c taken
-starts-told arcs node c m taken some e = (
-  (λ t. (m, t, (some, sym e))),
-  (λ s. subst (λ (k : ℕ). IsTrue (is_among k taken)) (sym s.2.1 ∙ sym e) s.1),
-)
 
 -- none of the first so many cells
 pub none-more : (arcs : List (Option ℕ)) (node cells taken : List ℕ) (i c : ℕ) → ((k : ℕ) → k < i → StartsIn arcs node (slice_index cells k) taken → ⊥) → c ≡ slice_index cells i → (StartsIn arcs node c taken → ⊥) →
@@ -39,17 +27,6 @@ none-all arcs node cells taken i e below some =
 -- a node that is taken
 pub up-there : (Next : ℕ → ℕ → Type 0) (n : ℕ) (old : Members) → IsTrue (is_among n old.members) → IsTakenUp Next n old old
 up-there Next n old there = record { sound = λ k t. inl t; closed = λ m t next. there; same = kept-none old }
-
--- one node
-pub up-none : (arcs : List (Option ℕ)) (node : List ℕ) (into : Lists) (n : ℕ) (old : Members) → (StartAmongIn arcs node (list_at into.lists n) old.members → ⊥) → IsTakenUp (IsBehind arcs node into) n old old
-up-none arcs node into n old none = record { sound = λ k t. inl t; closed = λ m t behind. absurd (none (behind.0, behind.1, (m, t, behind.2))); same = kept-none old }
-
-pub up-with : (arcs : List (Option ℕ)) (node : List ℕ) (into : Lists) (n : ℕ) (old new : Members) → StartAmongIn arcs node (list_at into.lists n) old.members → IsWith old n new → IsTakenUp (IsBehind arcs node into) n old new
-up-with arcs node into n old new some is = record {
-  sound = λ k t. elim ((is.there k).0 t) [ inl r ↦ inl r | inr e ↦ inr (e, (some.2.0, some.2.1, (some.0, some.1, some.2.2))) ];
-  closed = λ m t behind. (is.there n).1 (inr refl);
-  same = record { kept = is.kept; end = is.end; room = is.room };
-}
 
 -- in a round, the found nodes from place i on
 pub record IsInRound (Next : ℕ → ℕ → Type 0) (found : List ℕ) (i : ℕ) (old new : Members) : Type 0 where
@@ -122,20 +99,6 @@ pub record IsSpreading (Next : ℕ → ℕ → Type 0) (w : ℕ) (found : List �
   pub closed : length taken ≡ before → (m n : ℕ) → IsTrue (is_among m taken) → IsTrue (is_among n found) → Next m n → IsTrue (is_among n taken)
   pub within : before ≤ length taken
 
-some-length : (k : ℕ) (xs : List ℕ) → IsTrue (is_among k xs) → 0 < length xs
-some-length k [] t = absurd (both_ways _ refl t)
-some-length k (x ∷ xs) t = omega arith
-
-pub spread-start : (Next : ℕ → ℕ → Type 0) (w : ℕ) (found : List ℕ) (none taken : Members) → none.members ≡ [] → IsWith none w taken → IsSpreading Next w found 0 taken.members
-spread-start Next w found none taken e is =
-    let there = (is.there w).1 (inr refl) in
-    record {
-      start = there;
-      sound = λ n t. elim ((is.there n).0 t) [ inl r ↦ absurd (both_ways _ refl (subst (λ (xs : List ℕ). IsTrue (is_among n xs)) e r)) | inr q ↦ inl q ];
-      closed = λ same. absurd (omega (arith, same, some-length w taken.members there));
-      within = omega arith;
-    }
-
 -- what was taken stays
 pub kept-among : (k : ℕ) (old new : Members) → AreKept old new → IsTrue (is_among k old.members) → IsTrue (is_among k new.members)
 kept-among k old new is t = subst (λ (xs : List ℕ). IsTrue (is_among k xs)) (sym is.kept.1) (among-left k old.members is.kept.0 t)
@@ -155,6 +118,3 @@ spread-on Next w found before old new was is =
       closed = λ same m n t held behind. stays n (is.closed same m n (same-length old new m is.same same t) held behind);
       within = grows old new is.same;
     }
-
-pub spread-end : (Next : ℕ → ℕ → Type 0) (w : ℕ) (found : List ℕ) (before : ℕ) (taken : List ℕ) → length taken ≤ before → IsSpreading Next w found before taken → IsSpread Next w found taken
-spread-end Next w found before taken le is = record { start = is.start; sound = is.sound; closed = is.closed (omega (arith, le, is.within)) }

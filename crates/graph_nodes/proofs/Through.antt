@@ -3,9 +3,9 @@ use Rattle.std.proofs.Common.{◌≡◌, ◌∙◌, sym, subst, ℕ, ◌<◌, Li
 use Rattle.std.specs.Prelude.{IsTrue, ◌==◌, ◌⊎◌, ◌↔◌, Option, Some}
 use Rattle.std.proofs.lemmas.Bool.{cases_eq, both_ways, or_right, or_cases, eqb-true, eq-eqb}
 use Rattle.oper_core.specs.State.{is_among}
-use Rattle.sparse_order.specs.Digraph.{Walk, AreNodes, IsOnWay}
-use Rattle.sparse_order.specs.Digraph.Walk.{Here, Then}
-use Rattle.sparse_order.specs.MergeLaws.{walk-on}
+use Rattle.install_order.specs.Digraph.{Walk, AreNodes, IsOnWay}
+use Rattle.install_order.specs.Digraph.Walk.{Here, Then}
+use Rattle.install_order.specs.MergeLaws.{walk-on}
 use Rattle.number_lists.specs.Lists.{Lists, list_at}
 use Rattle.number_lists.specs.Members.{Members, IsWith}
 use Rattle.graph_nodes.specs.Arcs.{arc_at, node_at, IsArc}

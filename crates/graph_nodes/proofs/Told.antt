@@ -25,9 +25,6 @@ pub record IsForgetting (ns name : List ℕ) (least i : ℕ) (old now : List Boo
   pub rest : (k : ℕ) → (mark_at now k ≡ mark_at old k) ⊎ IsForgotten ns name least k
   pub size : length now ≡ length old
 
-pub forget-start : (ns name : List ℕ) (least : ℕ) (old : List Bool) → IsForgetting ns name least 0 old old
-forget-start ns name least old = record { done = λ j lt. absurd (omega (arith, lt)); rest = λ k. inl refl; size = refl }
-
 pub forget-keep : (ns name : List ℕ) (least i m : ℕ) (old now : List Bool) → IsForgetting ns name least i old now → m ≡ slice_index ns i → name_at name m ≡ least → IsForgetting ns name least (i + 1) old now
 forget-keep ns name least i m old now is e at = record {
   done = λ j lt ne. elim (cases_eq j i) [
@@ -63,9 +60,6 @@ forget-end ns name least i old now e is = record {
   rest = is.rest;
   size = is.size;
 }
-
-pub forgotten-none : (name : List ℕ) (least : ℕ) (marks : List Bool) → AreForgotten [] name least marks marks
-forgotten-none name least marks = record { done = λ k f. absurd (both_ways false refl f.1); rest = λ k. inl refl; size = refl }
 
 -- what is said of one node: of the others nothing has changed
 pub tell-one : (node : List ℕ) (into : Lists) (t : ℕ) (is_free : Bool) (n told : Naming) → node_at node (name_at n.name t) ≡ t → ((k : ℕ) → IsTrue (mark_at n.names k) → name_at n.name (node_at node k) ≡ k) →

@@ -1,5 +1,5 @@
 -- How the searches in both directions go on, and what they say in the end.
-use Rattle.std.proofs.Common.{◌∙◌, sym, subst, ℕ, ◌<◌, List, length, refl, arith, inl, inr}
+use Rattle.std.proofs.Common.{◌≡◌, ◌∙◌, sym, subst, ℕ, ◌<◌, ◌≤◌, List, length, refl, arith, inl, inr}
 use Rattle.std.specs.Prelude.{IsTrue, IsFalse, Option, slice_index}
 use Rattle.std.proofs.lemmas.Bool.{both_ways}
 use Rattle.oper_core.specs.State.{is_among}
@@ -10,10 +10,43 @@ use Rattle.graph_nodes.specs.declared.turns.Way.TheVariants.{Apart, Against, Alo
 use Rattle.graph_nodes.specs.Into.{AreInto}
 use Rattle.graph_nodes.specs.Search.{IsSearching, IsSearched}
 use Rattle.graph_nodes.specs.Ahead.{IsGoingOn, IsReached, IsTurn}
-use Rattle.graph_nodes.specs.Kept.{IsWide, IsAlong, IsAgainst, IsWay}
+use Rattle.graph_nodes.specs.Kept.{AreAsWide, IsAgainst, IsAlong, IsSearchable, IsWay, IsWide}
 use Rattle.graph_nodes.proofs.Found.{searching-on}
 use Rattle.graph_nodes.proofs.Followed.{going-on, reached-apart}
 use Rattle.graph_nodes.proofs.Bare.{search-apart}
+
+-- the same nodes, for sets that end there too, and with as much room
+pub searchable-on : (arcs : List (Option ℕ)) (node : List ℕ) (members into : Lists) (a b r s : ℕ) → b ≡ a → r ≤ s → IsSearchable arcs node members into a r → IsSearchable arcs node members into b s
+searchable-on arcs node members into a b r s e more is = subst (λ (n : ℕ). IsSearchable arcs node members into n s) (sym e) record {
+  member_lists = is.member_lists;
+  into_lists = is.into_lists;
+  cells = is.cells;
+  below = is.below;
+  filed = is.filed;
+  walkable = is.walkable;
+  slots_fit = omega (arith, is.slots_fit, more);
+  cells_fit = omega (arith, is.cells_fit, more);
+}
+
+pub wide-none : (a : Members) → IsWide a a
+wide-none a = record { end = refl; room = omega arith }
+
+pub wide-twice : (a b c : Members) → IsWide a b → IsWide b c → IsWide a c
+wide-twice a b c f g = record { end = g.end ∙ f.end; room = omega (arith, f.room, g.room) }
+
+pub wide-both : (found ahead f a : Members) → IsWide found f → IsWide ahead a → AreAsWide found ahead f a
+wide-both found ahead f a left right = record { found_end = left.end; ahead_end = right.end; room = λ n p q. (omega (arith, p, left.room), omega (arith, q, right.room)) }
+
+-- the two sets change places
+pub wide-swapped : (found ahead f a x y : Members) → found.end ≡ ahead.end → IsWide found f → IsWide ahead a → x ≡ a → y ≡ f → AreAsWide found ahead x y
+wide-swapped found ahead f a x y same left right ex ey =
+    subst (λ (m : Members). AreAsWide found ahead m y) (sym ex)
+    (subst (λ (m : Members). AreAsWide found ahead a m) (sym ey)
+    record {
+      found_end = right.end ∙ sym same;
+      ahead_end = left.end ∙ same;
+      room = λ n p q. (omega (arith, q, right.room), omega (arith, p, left.room));
+    })
 
 -- a search from v that stops at one node, and one from w that stops at another, are on their way
 pub record AreInTurns (arcs : List (Option ℕ)) (node : List ℕ) (into : Lists) (v w ahead_stop back_stop : ℕ) (found_was ahead_was : Members) (back on : ℕ) (found ahead : Members) : Type 0 where

@@ -1,7 +1,7 @@
 -- What a search along the arcs has found, and a search in both directions.
 use Rattle.std.specs.Prelude.{◌≡◌, ℕ, ◌/◌, ◌*◌, ◌+◌, ◌<◌, ◌≤◌, ◌⊎◌, IsTrue, List, length, Option, Some, slice_index}
 use Rattle.oper_core.specs.State.{is_among}
-use Rattle.sparse_order.specs.Digraph.{Walk}
+use Rattle.install_order.specs.Digraph.{Walk}
 use Rattle.number_lists.specs.Lists.{Lists}
 use Rattle.number_lists.specs.Members.{Members}
 use Rattle.graph_nodes.specs.Arcs.{arc_at, node_at, AreEnds}
@@ -17,10 +17,6 @@ pub record AreFollowed (Cells : ℕ → Type 0) (arcs : List (Option ℕ)) (node
   pub there : (c j : ℕ) → Cells c → arc_at arcs c ≡ Some j → IsTrue (is_among (node_at node j) new.members)
   pub only : (k : ℕ) → IsTrue (is_among k new.members) → IsTrue (is_among k old.members) ⊎ ((c : ℕ) × (j : ℕ) × Cells c × (arc_at arcs c ≡ Some j) × (node_at node j ≡ k))
   pub same : AreKept old new
-
--- the nodes to which arcs from the node n lead are found too
-abbrev pub IsFollowed : List (Option ℕ) → List ℕ → ℕ → Members → Members → Type 0
-IsFollowed arcs node n = AreFollowed (λ c. node_at node (c / 8) ≡ n) arcs node
 
 -- the nodes to which arcs from n lead are found too, if n is not where the search stops
 pub record IsAdvanced (arcs : List (Option ℕ)) (node : List ℕ) (n stop : ℕ) (old new : Members) : Type 0 where

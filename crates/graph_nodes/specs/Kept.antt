@@ -1,17 +1,17 @@
 -- What a graph of slots keeps.
 use Rattle.std.specs.Prelude.{◌≡◌, ℕ, ◌*◌, ◌^◌, ◌<◌, ◌≤◌, ◌⊎◌, ◌↔◌, Bool, true, IsTrue, IsFalse, ◌+◌, ◌++◌, ◌∷◌, replicate, List, [], length, Option, None, Some}
 use Rattle.oper_core.specs.State.{is_among}
-use Rattle.sparse_order.specs.Digraph.{AreNodes}
+use Rattle.install_order.specs.Digraph.{AreNodes}
 use Rattle.number_lists.specs.Lists.{Lists, list_at}
 use Rattle.number_lists.specs.Members.{Members}
 use Rattle.number_lists.specs.Marks.{mark_at}
-use Rattle.graph_nodes.specs.Arcs.{arc_at, node_at, name_at, held_at, IsArc}
+use Rattle.graph_nodes.specs.Arcs.{AreBelow, AreCells, arc_at, node_at, name_at, held_at, IsArc}
 use Rattle.graph_nodes.specs.Into.{AreLed, AreLost}
 use Rattle.graph_nodes.specs.Named.{Graph, Naming, AreNamed, AreNamesMerged}
 use Rattle.graph_nodes.specs.declared.turns.Way.{Way}
 use Rattle.graph_nodes.specs.declared.turns.Way.TheVariants.{Apart, Against, Along, Through}
 use Rattle.graph_nodes.specs.Search.{IsBehind, IsSearched, IsApart}
-use Rattle.graph_nodes.specs.Ahead.{IsReached}
+use Rattle.graph_nodes.specs.Ahead.{IsReached, IsWalkable}
 use Rattle.graph_nodes.specs.Spread.{IsSpread, IsLedTo}
 use Rattle.graph_nodes.specs.Merge.{IsFiled, gathered, AreRenamed}
 
@@ -48,7 +48,7 @@ pub record IsMarked (node : List ℕ) (held : List Bool) (into : Lists) (n : Nam
   pub told : (k : ℕ) → IsTrue (mark_at n.minimal k) ↔ (IsTrue (mark_at n.names k) × (list_at into.lists (node_at node k) ≡ []))
 
 -- with so many slots, there is memory for so many more: these are the capacities
-pub record HasRoom (room slots arc_cap node_cap held_cap scratch_cap : ℕ) (name_room : Naming) (member_room into_room : Lists) (found_room taken_room : Members) : Type 0 where
+pub record HasRoom (room slots arc_cap node_cap held_cap scratch_cap : ℕ) (name_room : Naming) (member_room into_room : Lists) (found_room ahead_room : Members) : Type 0 where
   pub arcs : 8 * (slots + room) ≤ arc_cap
   pub node : slots + room ≤ node_cap
   pub held : slots + room ≤ held_cap
@@ -59,12 +59,29 @@ pub record HasRoom (room slots arc_cap node_cap held_cap scratch_cap : ℕ) (nam
   pub into_lists : room ≤ into_room.list_room
   pub into : 8 * room ≤ into_room.item_room
   pub found : room ≤ found_room.room
-  pub taken : room ≤ taken_room.room
+  pub ahead : room ≤ ahead_room.room
 
 -- the numbers end where they did, and there is as much room
 pub record IsWide (old new : Members) : Type 0 where
   pub end : new.end ≡ old.end
   pub room : old.room ≤ new.room
+
+-- two sets end where they did, and where both had room for so many more, they have it still
+pub record AreAsWide (old_found old_ahead new_found new_ahead : Members) : Type 0 where
+  pub found_end : new_found.end ≡ old_found.end
+  pub ahead_end : new_ahead.end ≡ old_ahead.end
+  pub room : (n : ℕ) → n ≤ old_found.room → n ≤ old_ahead.room → (n ≤ new_found.room) × (n ≤ new_ahead.room)
+
+-- what a search reads: each node is below the end, the lists are those of the nodes, and none is longer than the room
+pub record IsSearchable (arcs : List (Option ℕ)) (node : List ℕ) (members into : Lists) (end room : ℕ) : Type 0 where
+  pub member_lists : end ≤ length members.lists
+  pub into_lists : end ≤ length into.lists
+  pub cells : (n : ℕ) → AreCells arcs node (list_at into.lists n)
+  pub below : AreBelow node end
+  pub filed : IsFiled node members
+  pub walkable : IsWalkable arcs node into end
+  pub slots_fit : members.items ≤ room
+  pub cells_fit : into.items ≤ room
 
 -- all was found that reaches v, and of it that is taken to which walks from w lead
 abbrev pub AreOnWayBack : List (Option ℕ) → List ℕ → Lists → ℕ → ℕ → List ℕ → Type 0
@@ -118,10 +135,10 @@ IsAgainst w found Against = IsTrue (is_among w found)
 IsAgainst w found Along = ⊥
 IsAgainst w found Through = ⊥
 
--- the taken nodes are one
+-- these nodes, if there are any, are one
 abbrev pub AreGathered : List ℕ → List ℕ → List ℕ → Naming → Naming → Lists → Lists → Lists → Lists → Type 0
 AreGathered ns old_node new_node old_names new_names old_members new_members old_into new_into =
-    (one : ℕ) × IsTrue (is_among one ns) × AreNamesMerged ns one old_names new_names × AreRenamed (gathered ns one) old_node new_node old_members new_members old_into new_into
+    (one : ℕ) × ((ns ≡ []) ⊎ IsTrue (is_among one ns)) × AreNamesMerged ns one old_names new_names × AreRenamed (gathered ns one) old_node new_node old_members new_members old_into new_into
 
 -- the nodes that walks from w to v go through, found in one of three ways
 abbrev pub AreOnWalks : List (Option ℕ) → List ℕ → Lists → ℕ → ℕ → List ℕ → Type 0
@@ -134,7 +151,7 @@ AreOnWay arcs node into v w ns = (IsApart arcs node into v w × (ns ≡ [])) ⊎
 -- the nodes on the way from w to v are one
 abbrev pub AreJoined : List (Option ℕ) → ℕ → ℕ → List ℕ → List ℕ → Naming → Naming → Lists → Lists → Lists → Lists → Type 0
 AreJoined arcs v w old_node new_node old_names new_names old_members new_members old_into new_into =
-    (ns : List ℕ) × AreOnWay arcs old_node old_into v w ns × ((one : ℕ) × ((ns ≡ []) ⊎ IsTrue (is_among one ns)) × AreNamesMerged ns one old_names new_names × AreRenamed (gathered ns one) old_node new_node old_members new_members old_into new_into)
+    (ns : List ℕ) × AreOnWay arcs old_node old_into v w ns × AreGathered ns old_node new_node old_names new_names old_members new_members old_into new_into
 
 -- the cells of one more slot, which have no arcs
 abbrev pub no_arcs : ℕ → List (Option ℕ)

@@ -1,7 +1,7 @@
 -- What a search against the arcs has found.
 use Rattle.std.specs.Prelude.{◌≡◌, ℕ, ◌/◌, ◌*◌, ◌+◌, ◌<◌, ◌≤◌, ◌++◌, ◌⊎◌, ◌↔◌, IsTrue, List, length, Option, None, slice_index}
 use Rattle.oper_core.specs.State.{is_among}
-use Rattle.sparse_order.specs.Digraph.{Walk}
+use Rattle.install_order.specs.Digraph.{Walk}
 use Rattle.number_lists.specs.Lists.{Lists, list_at}
 use Rattle.number_lists.specs.Members.{Members}
 use Rattle.graph_nodes.specs.Arcs.{arc_at, node_at, IsStartOf, IsStartAmong}

@@ -1,7 +1,7 @@
 -- What of the found nodes walks from a node lead to.
 use Rattle.std.specs.Prelude.{◌≡◌, ℕ, ◌⊎◌, IsTrue, List, Option, Some, length}
 use Rattle.oper_core.specs.State.{is_among}
-use Rattle.sparse_order.specs.Digraph.{Walk}
+use Rattle.install_order.specs.Digraph.{Walk}
 use Rattle.number_lists.specs.Members.{Members}
 use Rattle.graph_nodes.specs.Arcs.{arc_at, node_at, IsStartOf}
 use Rattle.graph_nodes.specs.Ahead.{LeadsTo}

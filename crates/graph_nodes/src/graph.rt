@@ -2,28 +2,23 @@ ghost use Rattle.std.specs.Prelude.{◌≡◌, ℕ, ◌<◌, ◌≤◌, ◌+◌,
 ghost use Rattle.std.specs.List.{IsDistinct};
 ghost use Rattle.std.specs.Vec.{vec_len, vec_capacity};
 ghost use Rattle.oper_core.specs.State.{is_among};
-ghost use Rattle.number_lists.specs.Lists.{list_at};
-ghost use Rattle.sparse_order.specs.Digraph.{AreNodes};
-ghost use Rattle.graph_nodes.specs.Arcs.{AreCells, AreBelow, IsArc, arc_at, node_at, held_at};
-ghost use Rattle.graph_nodes.specs.Ahead.{IsWalkable};
-ghost use Rattle.graph_nodes.specs.Merge.{IsFiled};
-ghost use Rattle.graph_nodes.specs.Search.{IsOwn};
+ghost use Rattle.install_order.specs.Digraph.{AreNodes};
+ghost use Rattle.graph_nodes.specs.Arcs.{IsArc, arc_at, node_at, held_at};
 ghost use Rattle.graph_nodes.specs.Named.{IsMinimal, IsName, NamesMinimal, IsLeast};
 ghost use Rattle.number_lists.specs.Marks.{IsCount};
 ghost use Rattle.graph_nodes.specs.Removed.{IsRemoved};
-ghost use Rattle.graph_nodes.specs.Kept.{AreJoined, IsSlotAdded, AreCellsAdded, IsWide};
+ghost use Rattle.graph_nodes.specs.Kept.{IsSlotAdded, AreCellsAdded};
 
-use crate::apart::joins_nothing;
 use crate::clearing::clear_slots;
-use crate::leading::spread_back;
 use crate::merging::gather;
 use crate::names::Names;
+use crate::nodes::Nodes;
 use crate::pruning::tidy;
 use crate::removing::{release, scatter};
-use crate::spreading::spread;
-use crate::turns::{Way, next_hub, search};
-use crate::uniting::unite;
-use number_lists::{Chains, NumberSet, PackedOption, push_in_room};
+use crate::searches::Searches;
+use crate::turns::next_hub;
+use crate::uniting::find_way;
+use number_lists::{Chains, PackedOption, push_in_room};
 use oper_core::Memory;
 use std::alloc::Global;
 use std::marker::Model;
@@ -41,9 +36,7 @@ pub struct SlotGraph {
     members: Chains,
     /// By node, the cells whose arcs lead into it from another, and some without such an arc, but never those alone.
     into: Chains,
-    found: NumberSet,
-    taken: NumberSet,
-    scratch: Vec<u32>,
+    searches: Searches,
     /// A slot of the large node into which an arc led last: a search does not look beyond that node.
     hub: u32,
     /// How many looks at cells are saved up.
@@ -62,8 +55,8 @@ impl Model for SlotGraph {
 
     ghost view = { λ g. record { arcs = g.arcs.items; node = g.node.items; held = g.held.items; room = g.room } };
 
-    ghost invariant = { λ g. IsKept g.arcs.items g.node.items g.held.items g.names.name g.members g.into × (g.found.end ≡ length g.node.items) × (g.taken.end ≡ length g.node.items) ×
-        HasRoom g.room (length g.node.items) (vec_capacity g.arcs) (vec_capacity g.node) (vec_capacity g.held) (vec_capacity g.scratch) g.names g.members g.into g.found g.taken × IsMarked g.node.items g.held.items g.into g.names };
+    ghost invariant = { λ g. IsKept g.arcs.items g.node.items g.held.items g.names.name g.members g.into × (g.searches.found.end ≡ length g.node.items) × (g.searches.ahead.end ≡ length g.node.items) ×
+        HasRoom g.room (length g.node.items) (vec_capacity g.arcs) (vec_capacity g.node) (vec_capacity g.held) (vec_capacity g.searches.cells) g.names g.members g.into g.searches.found g.searches.ahead × IsMarked g.node.items g.held.items g.into g.names };
 }
 
 impl SlotGraph {
@@ -80,9 +73,7 @@ impl SlotGraph {
             names: Names::new(alloc),
             members: Chains::new(alloc),
             into: Chains::new(alloc),
-            found: NumberSet::new(alloc),
-            taken: NumberSet::new(alloc),
-            scratch: Vec::new(alloc),
+            searches: Searches::new(alloc),
             hub: 0,
             saved: 0,
             room: 0,
@@ -139,10 +130,7 @@ impl SlotGraph {
         self.names.make_room()?;
         self.members.make_room(1, 1)?;
         self.into.make_room(1, 8)?;
-        self.found.make_room()?;
-        self.taken.make_room()?;
-        self.scratch.clear();
-        self.scratch.reserve(self.arcs.len() + 8)?;
+        self.searches.make_room(self.arcs.len() + 8)?;
         self.room = 1;
         Ok(())
     }
@@ -163,8 +151,8 @@ impl SlotGraph {
         self.members.push(slot, slot);
         self.into.add_list();
         add_cells(&mut self.arcs, &mut self.into);
-        self.found.add_number();
-        self.taken.add_number();
+        self.searches.found.add_number();
+        self.searches.ahead.add_number();
         self.room -= 1;
     }
 
@@ -181,18 +169,25 @@ impl SlotGraph {
         ensures room { self.new.room ≡ self.old.room }
     {
         let hub = self.hub_node();
-        join(
+        find_way(
             self.node[cell as usize / 8],
             self.node[to as usize],
             hub,
-            self.arcs.as_slice(),
+            &Nodes {
+                arcs: self.arcs.as_slice(),
+                node: self.node.as_slice(),
+                members: &self.members,
+                into: &self.into,
+            },
+            &mut self.searches,
+        );
+        gather(
+            &self.searches.found,
             self.node.as_mut_slice(),
             &mut self.names,
             &mut self.members,
             &mut self.into,
-            &mut self.scratch,
-            &mut self.found,
-            &mut self.taken,
+            &mut self.searches.cells,
         );
         self.arcs[cell as usize] = PackedOption::some(to);
         let n = self.node[to as usize];
@@ -202,7 +197,7 @@ impl SlotGraph {
             self.arcs.as_slice(),
             self.node.as_slice(),
             &mut self.into,
-            &mut self.scratch,
+            &mut self.searches.cells,
             &mut self.saved,
         );
         self.names.tell(n, self.into.count(n) == 0);
@@ -228,10 +223,10 @@ impl SlotGraph {
         ensures nodes { AreNodes (IsArc self.new.arcs) (node_at self.new.node) }
     {
         let n = self.node[slot as usize];
-        self.members.copy_to(n, &mut self.scratch);
-        release(self.scratch.as_slice(), self.held.as_mut_slice());
+        self.members.copy_to(n, &mut self.searches.cells);
+        release(self.searches.cells.as_slice(), self.held.as_mut_slice());
         clear_slots(
-            self.scratch.as_slice(),
+            self.searches.cells.as_slice(),
             self.arcs.as_mut_slice(),
             self.node.as_slice(),
             &mut self.into,
@@ -239,11 +234,11 @@ impl SlotGraph {
         );
         scatter(
             n,
-            self.scratch.as_slice(),
+            self.searches.cells.as_slice(),
             self.node.as_mut_slice(),
             &mut self.members,
         );
-        self.names.remove(n, self.scratch.as_slice());
+        self.names.remove(n, self.searches.cells.as_slice());
     }
 
     /// Whether the slot's node has no other slot.
@@ -278,59 +273,6 @@ impl SlotGraph {
         ensures { IsCount (IsName self.now) result }
     {
         self.names.count()
-    }
-}
-
-/// Merges the nodes on the way from w to v, so that an arc from v to w joins no more.
-fn join(
-    v: u32,
-    w: u32,
-    hub: u32,
-    arcs: &[PackedOption],
-    node: &mut [u32],
-    names: &mut Names,
-    members: &mut Chains,
-    into: &mut Chains,
-    cells: &mut Vec<u32>,
-    found: &mut NumberSet,
-    taken: &mut NumberSet,
-)
-    requires v { v < found.old.end }
-    requires w { w < found.old.end }
-    requires hub { hub < found.old.end }
-    requires ends { found.old.end ≡ taken.old.end }
-    requires names { length names.old.name ≡ taken.old.end }
-    requires members { taken.old.end ≡ length members.old.lists }
-    requires into { length into.old.lists ≡ length members.old.lists }
-    requires cells { (n : ℕ) → AreCells arcs.now node.old (list_at into.old.lists n) }
-    requires below { AreBelow node.old found.old.end }
-    requires filed { IsFiled node.old members.old }
-    requires own { IsOwn arcs.now node.old w }
-    requires walkable { IsWalkable arcs.now node.old into.old found.old.end }
-    requires room { into.old.items ≤ vec_capacity cells.old }
-    requires small { members.old.items ≤ vec_capacity cells.old }
-    ensures joined { AreJoined arcs.now v w node.old node.new names.old names.new members.old members.new into.old into.new }
-    ensures found { IsWide found.old found.new }
-    ensures taken { IsWide taken.old taken.new }
-    ensures capacity { vec_capacity cells.old ≤ vec_capacity cells.new }
-{
-    if joins_nothing(v, w, arcs, members) {
-        return;
-    }
-    match search(v, w, hub, arcs, node, members, into, cells, found, taken) {
-        Way::Apart => {}
-        Way::Against => {
-            spread(w, w, arcs, node, into, cells, found, taken);
-            gather(taken, node, names, members, into, cells);
-        }
-        Way::Along => {
-            spread_back(v, v, arcs, node, members, cells, taken, found);
-            gather(found, node, names, members, into, cells);
-        }
-        Way::Through => {
-            unite(v, w, hub, arcs, node, members, into, cells, found, taken);
-            gather(found, node, names, members, into, cells);
-        }
     }
 }
 

@@ -2,9 +2,11 @@ ghost use Rattle.std.specs.Prelude.{◌≡◌, ℕ, ◌<◌, ◌≤◌, ◌+◌,
 ghost use Rattle.std.specs.Vec.{vec_capacity};
 ghost use Rattle.oper_core.specs.State.{is_among};
 ghost use Rattle.graph_nodes.specs.Arcs.{AreEnds};
+ghost use Rattle.graph_nodes.specs.Kept.{IsSearchable, IsWide};
 ghost use Rattle.graph_nodes.specs.Merge.{IsFiled};
 ghost use Rattle.graph_nodes.specs.Spread.{LeadsIn, IsLedTo, IsTakenUp, IsRoundDone, IsSpread, IsSpreadTo};
 
+use crate::nodes::Nodes;
 use number_lists::{Chains, NumberSet, PackedOption};
 
 /// Takes the node v and, of the nodes that were found along the arcs, all from which walks lead to it. That one of these
@@ -12,25 +14,18 @@ use number_lists::{Chains, NumberSet, PackedOption};
 pub(crate) fn spread_back(
     v: u32,
     known: u32,
-    arcs: &[PackedOption],
-    node: &[u32],
-    members: &Chains,
+    nodes: &Nodes,
     slots: &mut Vec<u32>,
     ahead: &NumberSet,
     taken: &mut NumberSet,
 )
     requires start { v < taken.old.end }
     requires below_end { known < taken.old.end }
-    requires known { IsSpreadTo (IsLedTo arcs.now node.now) v ahead.now.members known }
+    requires known { IsSpreadTo (IsLedTo nodes.now.arcs.now nodes.now.node.now) v ahead.now.members known }
     requires same { ahead.now.end ≡ taken.old.end }
-    requires lists { taken.old.end ≤ length members.now.lists }
-    requires filed { IsFiled node.now members.now }
-    requires size { length arcs.now ≡ 8 * length node.now }
-    requires ends { AreEnds arcs.now node.now taken.old.end }
-    requires room { members.now.items ≤ vec_capacity slots.old }
-    ensures taken { IsSpread (IsLedTo arcs.now node.now) v ahead.now.members taken.new.members }
-    ensures end { taken.new.end ≡ taken.old.end }
-    ensures room { taken.old.room ≤ taken.new.room }
+    requires ready { IsSearchable nodes.now.arcs.now nodes.now.node.now nodes.now.members.now nodes.now.into.now taken.old.end (vec_capacity slots.old) }
+    ensures taken { IsSpread (IsLedTo nodes.now.arcs.now nodes.now.node.now) v ahead.now.members taken.new.members }
+    ensures wide { IsWide taken.old taken.new }
     ensures capacity { vec_capacity slots.old ≤ vec_capacity slots.new }
 {
     taken.clear();
@@ -39,7 +34,7 @@ pub(crate) fn spread_back(
     let mut before = 0;
     while before < taken.len() {
         before = taken.len();
-        take_round(arcs, node, members, slots, ahead, taken);
+        take_round(nodes.arcs, nodes.node, nodes.members, slots, ahead, taken);
     }
 }
 

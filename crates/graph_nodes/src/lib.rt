@@ -1,7 +1,7 @@
 //! The nodes of a graph whose arcs come one after the other, and whose minimal nodes are taken out.
 //!
 //! The one contract: the slots with one representative are those that reach each other along the arcs. The crate
-//! depends on `number_lists`, `sparse_order` and `oper_core`.
+//! depends on `number_lists`, `install_order` and `oper_core`.
 #![tactic(auto)]
 
 mod ahead;
@@ -12,9 +12,11 @@ mod graph;
 mod leading;
 mod merging;
 mod names;
+mod nodes;
 mod pruning;
 mod removing;
 mod search;
+mod searches;
 mod settling;
 mod spreading;
 mod turns;

@@ -29,7 +29,7 @@ fn merge(
     }
 }
 
-/// Makes the taken nodes one, which has the least of their names.
+/// Makes the taken nodes, if there are any, one, which has the least of their names.
 pub(crate) fn gather(
     taken: &NumberSet,
     node: &mut [u32],
@@ -38,7 +38,6 @@ pub(crate) fn gather(
     into: &mut Chains,
     slots: &mut Vec<u32>,
 )
-    requires some { 0 < length taken.now.members }
     requires taken { taken.now.end ≤ length members.old.lists }
     requires names { taken.now.end ≤ length names.old.name }
     requires lists { length into.old.lists ≡ length members.old.lists }
@@ -47,6 +46,9 @@ pub(crate) fn gather(
     ensures gathered { AreGathered taken.now.members node.old node.new names.old names.new members.old members.new into.old into.new }
     ensures capacity { vec_capacity slots.old ≤ vec_capacity slots.new }
 {
+    if taken.len() == 0 {
+        return;
+    }
     let one = largest(taken, members);
     names.merge(one, taken);
     merge(one, taken, node, members, into, slots);

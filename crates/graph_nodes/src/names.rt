@@ -1,4 +1,4 @@
-ghost use Rattle.std.specs.Prelude.{◌≡◌, ℕ, ◌<◌, ◌≤◌, ◌⊎◌, ◌^◌, [], Bool, false, IsTrue, OnOk, length, slice_set};
+ghost use Rattle.std.specs.Prelude.{◌≡◌, ℕ, ◌<◌, ◌≤◌, ◌⊎◌, ◌^◌, [], false, IsTrue, OnOk, length, slice_set};
 ghost use Rattle.oper_core.specs.State.{is_among};
 ghost use Rattle.number_lists.specs.Marks.{mark_at, IsCount, IsNext};
 ghost use Rattle.graph_nodes.specs.Arcs.{name_at};

@@ -3,9 +3,11 @@ ghost use Rattle.std.specs.Vec.{vec_capacity};
 ghost use Rattle.oper_core.specs.State.{is_among};
 ghost use Rattle.number_lists.specs.Lists.{list_at};
 ghost use Rattle.graph_nodes.specs.Arcs.{AreCells, AreBelow};
+ghost use Rattle.graph_nodes.specs.Kept.{IsSearchable, IsWide};
 ghost use Rattle.graph_nodes.specs.Search.{IsBehind};
 ghost use Rattle.graph_nodes.specs.Spread.{StartsIn, StartAmongIn, IsTakenUp, IsRoundDone, IsSpread, IsSpreadTo};
 
+use crate::nodes::Nodes;
 use number_lists::{Chains, NumberSet, PackedOption};
 
 /// Takes the node w and all that walks from it lead to among the nodes that were found. That one of these is such a node,
@@ -13,25 +15,19 @@ use number_lists::{Chains, NumberSet, PackedOption};
 pub(crate) fn spread(
     w: u32,
     known: u32,
-    arcs: &[PackedOption],
-    node: &[u32],
-    into: &Chains,
+    nodes: &Nodes,
     cells: &mut Vec<u32>,
     found: &NumberSet,
     taken: &mut NumberSet,
 )
     requires start { w < taken.old.end }
     requires below_end { known < taken.old.end }
-    requires known { IsSpreadTo (IsBehind arcs.now node.now into.now) w found.now.members known }
+    requires known { IsSpreadTo (IsBehind nodes.now.arcs.now nodes.now.node.now nodes.now.into.now) w found.now.members known }
     requires ends { found.now.end ≡ taken.old.end }
-    requires lists { taken.old.end ≤ length into.now.lists }
-    requires cells { (n : ℕ) → AreCells arcs.now node.now (list_at into.now.lists n) }
-    requires below { AreBelow node.now taken.old.end }
-    requires room { into.now.items ≤ vec_capacity cells.old }
-    ensures taken { IsSpread (IsBehind arcs.now node.now into.now) w found.now.members taken.new.members }
+    requires ready { IsSearchable nodes.now.arcs.now nodes.now.node.now nodes.now.members.now nodes.now.into.now taken.old.end (vec_capacity cells.old) }
+    ensures taken { IsSpread (IsBehind nodes.now.arcs.now nodes.now.node.now nodes.now.into.now) w found.now.members taken.new.members }
     ensures known { IsTrue (is_among known taken.new.members) }
-    ensures end { taken.new.end ≡ taken.old.end }
-    ensures room { taken.old.room ≤ taken.new.room }
+    ensures wide { IsWide taken.old taken.new }
     ensures capacity { vec_capacity cells.old ≤ vec_capacity cells.new }
 {
     taken.clear();
@@ -40,7 +36,7 @@ pub(crate) fn spread(
     let mut before = 0;
     while before < taken.len() {
         before = taken.len();
-        take_round(arcs, node, into, cells, found, taken);
+        take_round(nodes.arcs, nodes.node, nodes.into, cells, found, taken);
     }
 }
 

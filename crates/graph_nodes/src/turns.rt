@@ -1,16 +1,15 @@
-ghost use Rattle.std.specs.Prelude.{◌≡◌, ℕ, ◌<◌, ◌≤◌, ◌+◌, ◌*◌, ◌⊎◌, length, IsTrue};
+ghost use Rattle.std.specs.Prelude.{◌≡◌, ℕ, ◌<◌, ◌≤◌, ◌⊎◌, length, IsTrue};
 ghost use Rattle.std.specs.Vec.{vec_capacity};
-ghost use Rattle.number_lists.specs.Lists.{list_at};
-ghost use Rattle.graph_nodes.specs.Arcs.{AreCells, AreBelow, AreEnds};
-ghost use Rattle.graph_nodes.specs.Ahead.{IsWalkable, IsGoingOn, IsStepBack, IsStepAhead, IsTurn};
+ghost use Rattle.graph_nodes.specs.Ahead.{IsGoingOn, IsStepAhead, IsStepBack, IsTurn};
 ghost use Rattle.graph_nodes.specs.Search.{IsSearching};
-ghost use Rattle.graph_nodes.specs.Kept.{IsWide, IsAlong, IsAgainst, IsWay};
-ghost use Rattle.graph_nodes.specs.Merge.{IsFiled};
+ghost use Rattle.graph_nodes.specs.Kept.{IsAgainst, IsAlong, IsSearchable, IsWay, IsWide};
 
 use crate::ahead::advance;
 use crate::front::Front;
+use crate::nodes::Nodes;
 use crate::search::expand;
-use number_lists::{Chains, NumberSet, PackedOption};
+use crate::searches::Searches;
+use number_lists::{Chains, NumberSet};
 
 /// With fewer slots a node is not large.
 const LEAST_LARGE: usize = 64;
@@ -32,39 +31,22 @@ pub(crate) enum Way {
 ///
 /// One search goes against the arcs from v, and one along them from w, and the one that has cost less so far is next. Where
 /// the hub is large and neither of the two is, no search looks beyond it, unless to do without costs more.
-pub(crate) fn search(
-    v: u32,
-    w: u32,
-    hub: u32,
-    arcs: &[PackedOption],
-    node: &[u32],
-    members: &Chains,
-    into: &Chains,
-    cells: &mut Vec<u32>,
-    found: &mut NumberSet,
-    ahead: &mut NumberSet,
-) -> Way
-    requires start { v < found.old.end }
-    requires other { w < ahead.old.end }
-    requires hub { hub < ahead.old.end }
-    requires ends { found.old.end ≡ ahead.old.end }
-    requires into { found.old.end ≤ length into.now.lists }
-    requires members { ahead.old.end ≤ length members.now.lists }
-    requires cells { (n : ℕ) → AreCells arcs.now node.now (list_at into.now.lists n) }
-    requires below { AreBelow node.now found.old.end }
-    requires filed { IsFiled node.now members.now }
-    requires walkable { IsWalkable arcs.now node.now into.now ahead.old.end }
-    requires room { into.now.items ≤ vec_capacity cells.old }
-    requires small { members.now.items ≤ vec_capacity cells.old }
-    ensures way { IsWay arcs.now node.now into.now v w hub found.new.members ahead.new.members result }
-    ensures found { IsWide found.old found.new }
-    ensures ahead { IsWide ahead.old ahead.new }
-    ensures capacity { vec_capacity cells.old ≤ vec_capacity cells.new }
+pub(crate) fn search(v: u32, w: u32, hub: u32, nodes: &Nodes, searches: &mut Searches) -> Way
+    requires start { v < searches.old.found.end }
+    requires other { w < searches.old.found.end }
+    requires hub { hub < searches.old.found.end }
+    requires ends { searches.old.found.end ≡ searches.old.ahead.end }
+    requires ready { IsSearchable nodes.now.arcs.now nodes.now.node.now nodes.now.members.now nodes.now.into.now searches.old.found.end (vec_capacity searches.old.cells) }
+    ensures way { IsWay nodes.now.arcs.now nodes.now.node.now nodes.now.into.now v w hub searches.new.found.members searches.new.ahead.members result }
+    ensures found { IsWide searches.old.found searches.new.found }
+    ensures ahead { IsWide searches.old.ahead searches.new.ahead }
+    ensures capacity { vec_capacity searches.old.cells ≤ vec_capacity searches.new.cells }
 {
+    let members = nodes.members;
     if is_large(hub, members) && !is_large(v, members) && !is_large(w, members) {
-        return search_past(v, w, hub, arcs, node, members, into, cells, found, ahead);
+        return search_past(v, w, hub, nodes, searches);
     }
-    search_all(v, w, arcs, node, members, into, cells, found, ahead)
+    search_all(v, w, nodes, searches)
 }
 
 /// The node that the next search does not look beyond: the one into which an arc led last, if it is large.
@@ -84,97 +66,68 @@ fn is_large(n: u32, members: &Chains) -> bool
 
 /// Two searches, of which at least one is over: the one against the arcs, which stops at w, or the one along them, which
 /// stops at v.
-fn search_all(
-    v: u32,
-    w: u32,
-    arcs: &[PackedOption],
-    node: &[u32],
-    members: &Chains,
-    into: &Chains,
-    cells: &mut Vec<u32>,
-    found: &mut NumberSet,
-    ahead: &mut NumberSet,
-) -> Way
-    requires start { v < found.old.end }
-    requires other { w < ahead.old.end }
-    requires ends { found.old.end ≡ ahead.old.end }
-    requires into { found.old.end ≤ length into.now.lists }
-    requires members { ahead.old.end ≤ length members.now.lists }
-    requires cells { (n : ℕ) → AreCells arcs.now node.now (list_at into.now.lists n) }
-    requires below { AreBelow node.now found.old.end }
-    requires filed { IsFiled node.now members.now }
-    requires walkable { IsWalkable arcs.now node.now into.now ahead.old.end }
-    requires room { into.now.items ≤ vec_capacity cells.old }
-    requires small { members.now.items ≤ vec_capacity cells.old }
-    ensures way { (hub : ℕ) → IsWay arcs.now node.now into.now v w hub found.new.members ahead.new.members result }
-    ensures found { IsWide found.old found.new }
-    ensures ahead { IsWide ahead.old ahead.new }
-    ensures capacity { vec_capacity cells.old ≤ vec_capacity cells.new }
+fn search_all(v: u32, w: u32, nodes: &Nodes, searches: &mut Searches) -> Way
+    requires start { v < searches.old.found.end }
+    requires other { w < searches.old.found.end }
+    requires ends { searches.old.found.end ≡ searches.old.ahead.end }
+    requires ready { IsSearchable nodes.now.arcs.now nodes.now.node.now nodes.now.members.now nodes.now.into.now searches.old.found.end (vec_capacity searches.old.cells) }
+    ensures way { (hub : ℕ) → IsWay nodes.now.arcs.now nodes.now.node.now nodes.now.into.now v w hub searches.new.found.members searches.new.ahead.members result }
+    ensures found { IsWide searches.old.found searches.new.found }
+    ensures ahead { IsWide searches.old.ahead searches.new.ahead }
+    ensures capacity { vec_capacity searches.old.cells ≤ vec_capacity searches.new.cells }
 {
-    let mut back = Front { next: 0, spent: 0 };
-    let mut on = Front { next: 0, spent: 0 };
-    take_turns(
-        v, w, v, w, arcs, node, members, into, cells, found, ahead, &mut back, &mut on,
-    );
-    if back.next < found.len() {
-        return way_along(v, ahead);
+    take_turns(v, w, v, w, nodes, searches);
+    if searches.back.next < searches.found.len() {
+        return way_along(v, &searches.ahead);
     }
-    way_against(w, found)
+    way_against(w, &searches.found)
 }
 
 /// Two searches, which look everywhere but beyond the hub: at least one is over and has not found it, or both are over.
 /// Where the second goes on for longer than a look beyond the hub takes, two searches that look everywhere are made instead.
-fn search_past(
-    v: u32,
-    w: u32,
-    hub: u32,
-    arcs: &[PackedOption],
-    node: &[u32],
-    members: &Chains,
-    into: &Chains,
-    cells: &mut Vec<u32>,
-    found: &mut NumberSet,
-    ahead: &mut NumberSet,
-) -> Way
-    requires start { v < found.old.end }
-    requires other { w < ahead.old.end }
-    requires hub { hub < ahead.old.end }
-    requires ends { found.old.end ≡ ahead.old.end }
-    requires into { found.old.end ≤ length into.now.lists }
-    requires members { ahead.old.end ≤ length members.now.lists }
-    requires cells { (n : ℕ) → AreCells arcs.now node.now (list_at into.now.lists n) }
-    requires below { AreBelow node.now found.old.end }
-    requires filed { IsFiled node.now members.now }
-    requires walkable { IsWalkable arcs.now node.now into.now ahead.old.end }
-    requires room { into.now.items ≤ vec_capacity cells.old }
-    requires small { members.now.items ≤ vec_capacity cells.old }
-    ensures way { IsWay arcs.now node.now into.now v w hub found.new.members ahead.new.members result }
-    ensures found { IsWide found.old found.new }
-    ensures ahead { IsWide ahead.old ahead.new }
-    ensures capacity { vec_capacity cells.old ≤ vec_capacity cells.new }
+fn search_past(v: u32, w: u32, hub: u32, nodes: &Nodes, searches: &mut Searches) -> Way
+    requires start { v < searches.old.found.end }
+    requires other { w < searches.old.found.end }
+    requires hub { hub < searches.old.found.end }
+    requires ends { searches.old.found.end ≡ searches.old.ahead.end }
+    requires ready { IsSearchable nodes.now.arcs.now nodes.now.node.now nodes.now.members.now nodes.now.into.now searches.old.found.end (vec_capacity searches.old.cells) }
+    ensures way { IsWay nodes.now.arcs.now nodes.now.node.now nodes.now.into.now v w hub searches.new.found.members searches.new.ahead.members result }
+    ensures found { IsWide searches.old.found searches.new.found }
+    ensures ahead { IsWide searches.old.ahead searches.new.ahead }
+    ensures capacity { vec_capacity searches.old.cells ≤ vec_capacity searches.new.cells }
 {
-    let mut back = Front { next: 0, spent: 0 };
-    let mut on = Front { next: 0, spent: 0 };
-    take_turns(
-        v, w, hub, hub, arcs, node, members, into, cells, found, ahead, &mut back, &mut on,
+    take_turns(v, w, hub, hub, nodes, searches);
+    if searches.back.next >= searches.found.len() && !searches.found.contains(hub) {
+        return way_against(w, &searches.found);
+    }
+    let limit = cells_of(hub, nodes.members);
+    go_ahead(
+        hub,
+        limit,
+        nodes,
+        &mut searches.cells,
+        &mut searches.ahead,
+        &mut searches.on,
     );
-    if back.next >= found.len() && !found.contains(hub) {
-        return way_against(w, found);
+    if searches.on.next < searches.ahead.len() {
+        return search_all(v, w, nodes, searches);
     }
-    let limit = cells_of(hub, members);
-    go_ahead(hub, limit, arcs, node, members, cells, ahead, &mut on);
-    if on.next < ahead.len() {
-        return search_all(v, w, arcs, node, members, into, cells, found, ahead);
+    if !searches.ahead.contains(hub) {
+        return way_along(v, &searches.ahead);
     }
-    if !ahead.contains(hub) {
-        return way_along(v, ahead);
+    go_back(
+        hub,
+        limit,
+        nodes,
+        &mut searches.cells,
+        &mut searches.found,
+        &mut searches.back,
+    );
+    if searches.back.next < searches.found.len() {
+        return search_all(v, w, nodes, searches);
     }
-    go_back(hub, limit, arcs, node, into, cells, found, &mut back);
-    if back.next < found.len() {
-        return search_all(v, w, arcs, node, members, into, cells, found, ahead);
-    }
-    if !found.contains(hub) {
-        return way_against(w, found);
+    if !searches.found.contains(hub) {
+        return way_against(w, &searches.found);
     }
     Way::Through
 }
@@ -207,47 +160,33 @@ fn take_turns(
     w: u32,
     ahead_stop: u32,
     back_stop: u32,
-    arcs: &[PackedOption],
-    node: &[u32],
-    members: &Chains,
-    into: &Chains,
-    cells: &mut Vec<u32>,
-    found: &mut NumberSet,
-    ahead: &mut NumberSet,
-    back: &mut Front,
-    on: &mut Front,
+    nodes: &Nodes,
+    searches: &mut Searches,
 )
-    requires back { back.old.next ≡ 0 }
-    requires on { on.old.next ≡ 0 }
-    requires start { v < found.old.end }
-    requires other { w < ahead.old.end }
-    requires ends { found.old.end ≡ ahead.old.end }
-    requires into { found.old.end ≤ length into.now.lists }
-    requires members { ahead.old.end ≤ length members.now.lists }
-    requires cells { (n : ℕ) → AreCells arcs.now node.now (list_at into.now.lists n) }
-    requires below { AreBelow node.now found.old.end }
-    requires filed { IsFiled node.now members.now }
-    requires walkable { IsWalkable arcs.now node.now into.now ahead.old.end }
-    requires room { into.now.items ≤ vec_capacity cells.old }
-    requires small { members.now.items ≤ vec_capacity cells.old }
-    ensures against { IsSearching arcs.now node.now into.now v back_stop back.new.next found.new.members }
-    ensures along { IsGoingOn arcs.now node.now w ahead_stop on.new.next ahead.new.members }
-    ensures over { (length found.new.members ≤ back.new.next) ⊎ (length ahead.new.members ≤ on.new.next) }
-    ensures found { IsWide found.old found.new }
-    ensures ahead { IsWide ahead.old ahead.new }
-    ensures capacity { vec_capacity cells.old ≤ vec_capacity cells.new }
+    requires start { v < searches.old.found.end }
+    requires other { w < searches.old.found.end }
+    requires ends { searches.old.found.end ≡ searches.old.ahead.end }
+    requires ready { IsSearchable nodes.now.arcs.now nodes.now.node.now nodes.now.members.now nodes.now.into.now searches.old.found.end (vec_capacity searches.old.cells) }
+    ensures against { IsSearching nodes.now.arcs.now nodes.now.node.now nodes.now.into.now v back_stop searches.new.back.next searches.new.found.members }
+    ensures along { IsGoingOn nodes.now.arcs.now nodes.now.node.now w ahead_stop searches.new.on.next searches.new.ahead.members }
+    ensures over { (length searches.new.found.members ≤ searches.new.back.next) ⊎ (length searches.new.ahead.members ≤ searches.new.on.next) }
+    ensures found { IsWide searches.old.found searches.new.found }
+    ensures ahead { IsWide searches.old.ahead searches.new.ahead }
+    ensures capacity { vec_capacity searches.old.cells ≤ vec_capacity searches.new.cells }
 {
-    found.clear();
-    found.add(v);
-    ahead.clear();
-    ahead.add(w);
-    'turns: while back.next < found.len() {
-        if on.next >= ahead.len() {
+    searches.found.clear();
+    searches.found.add(v);
+    searches.ahead.clear();
+    searches.ahead.add(w);
+    searches.back.next = 0;
+    searches.back.spent = 0;
+    searches.on.next = 0;
+    searches.on.spent = 0;
+    'turns: while searches.back.next < searches.found.len() {
+        if searches.on.next >= searches.ahead.len() {
             return;
         }
-        turn(
-            ahead_stop, back_stop, arcs, node, members, into, cells, found, ahead, back, on,
-        );
+        turn(ahead_stop, back_stop, nodes, searches);
     }
 }
 
@@ -255,18 +194,13 @@ fn take_turns(
 fn go_back(
     stop: u32,
     limit: u64,
-    arcs: &[PackedOption],
-    node: &[u32],
-    into: &Chains,
+    nodes: &Nodes,
     cells: &mut Vec<u32>,
     found: &mut NumberSet,
     back: &mut Front,
 )
-    requires lists { found.old.end ≤ length into.now.lists }
-    requires cells { (n : ℕ) → AreCells arcs.now node.now (list_at into.now.lists n) }
-    requires below { AreBelow node.now found.old.end }
-    requires room { into.now.items ≤ vec_capacity cells.old }
-    ensures found { (v : ℕ) → IsSearching arcs.now node.now into.now v stop back.old.next found.old.members → IsSearching arcs.now node.now into.now v stop back.new.next found.new.members }
+    requires { IsSearchable nodes.now.arcs.now nodes.now.node.now nodes.now.members.now nodes.now.into.now found.old.end (vec_capacity cells.old) }
+    ensures found { (v : ℕ) → IsSearching nodes.now.arcs.now nodes.now.node.now nodes.now.into.now v stop back.old.next found.old.members → IsSearching nodes.now.arcs.now nodes.now.node.now nodes.now.into.now v stop back.new.next found.new.members }
     ensures wide { IsWide found.old found.new }
     ensures capacity { vec_capacity cells.old ≤ vec_capacity cells.new }
 {
@@ -274,7 +208,7 @@ fn go_back(
         if back.spent > limit {
             return;
         }
-        step_back(stop, arcs, node, into, cells, found, back);
+        step_back(stop, nodes, cells, found, back);
     }
 }
 
@@ -282,19 +216,13 @@ fn go_back(
 fn go_ahead(
     stop: u32,
     limit: u64,
-    arcs: &[PackedOption],
-    node: &[u32],
-    members: &Chains,
+    nodes: &Nodes,
     cells: &mut Vec<u32>,
     ahead: &mut NumberSet,
     on: &mut Front,
 )
-    requires lists { ahead.old.end ≤ length members.now.lists }
-    requires filed { IsFiled node.now members.now }
-    requires size { length arcs.now ≡ 8 * length node.now }
-    requires ends { AreEnds arcs.now node.now ahead.old.end }
-    requires room { members.now.items ≤ vec_capacity cells.old }
-    ensures ahead { (w : ℕ) → IsGoingOn arcs.now node.now w stop on.old.next ahead.old.members → IsGoingOn arcs.now node.now w stop on.new.next ahead.new.members }
+    requires { IsSearchable nodes.now.arcs.now nodes.now.node.now nodes.now.members.now nodes.now.into.now ahead.old.end (vec_capacity cells.old) }
+    ensures ahead { (w : ℕ) → IsGoingOn nodes.now.arcs.now nodes.now.node.now w stop on.old.next ahead.old.members → IsGoingOn nodes.now.arcs.now nodes.now.node.now w stop on.new.next ahead.new.members }
     ensures wide { IsWide ahead.old ahead.new }
     ensures capacity { vec_capacity cells.old ≤ vec_capacity cells.new }
 {
@@ -302,68 +230,57 @@ fn go_ahead(
         if on.spent > limit {
             return;
         }
-        step_ahead(stop, arcs, node, members, cells, ahead, on);
+        step_ahead(stop, nodes, cells, ahead, on);
     }
 }
 
 /// Makes the next step of the search that has cost less so far, that step included.
-fn turn(
-    v: u32,
-    w: u32,
-    arcs: &[PackedOption],
-    node: &[u32],
-    members: &Chains,
-    into: &Chains,
-    cells: &mut Vec<u32>,
-    found: &mut NumberSet,
-    ahead: &mut NumberSet,
-    back: &mut Front,
-    on: &mut Front,
-)
-    requires back { back.old.next < length found.old.members }
-    requires into { found.old.end ≤ length into.now.lists }
-    requires members { ahead.old.end ≤ length members.now.lists }
-    requires cells { (n : ℕ) → AreCells arcs.now node.now (list_at into.now.lists n) }
-    requires below { AreBelow node.now found.old.end }
-    requires filed { IsFiled node.now members.now }
-    requires walkable { IsWalkable arcs.now node.now into.now ahead.old.end }
-    requires room { into.now.items ≤ vec_capacity cells.old }
-    requires small { members.now.items ≤ vec_capacity cells.old }
-    ensures turn { IsTurn arcs.now node.now into.now v w back.old.next back.new.next found.old found.new on.old.next on.new.next ahead.old ahead.new }
-    ensures capacity { vec_capacity cells.old ≤ vec_capacity cells.new }
+fn turn(ahead_stop: u32, back_stop: u32, nodes: &Nodes, searches: &mut Searches)
+    requires back { searches.old.back.next < length searches.old.found.members }
+    requires ends { searches.old.found.end ≡ searches.old.ahead.end }
+    requires ready { IsSearchable nodes.now.arcs.now nodes.now.node.now nodes.now.members.now nodes.now.into.now searches.old.found.end (vec_capacity searches.old.cells) }
+    ensures turn { IsTurn nodes.now.arcs.now nodes.now.node.now nodes.now.into.now ahead_stop back_stop searches.old.back.next searches.new.back.next searches.old.found searches.new.found searches.old.on.next searches.new.on.next searches.old.ahead searches.new.ahead }
+    ensures capacity { vec_capacity searches.old.cells ≤ vec_capacity searches.new.cells }
 {
-    if is_ahead_due(v, w, members, into, found, ahead, back, on) {
-        step_ahead(v, arcs, node, members, cells, ahead, on);
+    if is_ahead_due(ahead_stop, back_stop, nodes, searches) {
+        step_ahead(
+            ahead_stop,
+            nodes,
+            &mut searches.cells,
+            &mut searches.ahead,
+            &mut searches.on,
+        );
         return;
     }
-    step_back(w, arcs, node, into, cells, found, back);
+    step_back(
+        back_stop,
+        nodes,
+        &mut searches.cells,
+        &mut searches.found,
+        &mut searches.back,
+    );
 }
 
 /// Whether the search along the arcs is not over, and has cost less than the other, the next step of each included.
-fn is_ahead_due(
-    v: u32,
-    w: u32,
-    members: &Chains,
-    into: &Chains,
-    found: &NumberSet,
-    ahead: &NumberSet,
-    back: &Front,
-    on: &Front,
-) -> bool
-    requires back { back.now.next < length found.now.members }
-    requires into { found.now.end ≤ length into.now.lists }
-    requires members { ahead.now.end ≤ length members.now.lists }
-    ensures { IsTrue result → on.now.next < length ahead.now.members }
+fn is_ahead_due(ahead_stop: u32, back_stop: u32, nodes: &Nodes, searches: &Searches) -> bool
+    requires back { searches.now.back.next < length searches.now.found.members }
+    requires into { searches.now.found.end ≤ length nodes.now.into.now.lists }
+    requires members { searches.now.ahead.end ≤ length nodes.now.members.now.lists }
+    ensures { IsTrue result → searches.now.on.next < length searches.now.ahead.members }
 {
-    if on.next >= ahead.len() {
+    let back = &searches.back;
+    let on = &searches.on;
+    if on.next >= searches.ahead.len() {
         return false;
     }
+    let next_back = searches.found.get(back.next);
+    let next_on = searches.ahead.get(on.next);
     let against = back
         .spent
-        .saturating_add(cost_against(found.get(back.next), w, into));
+        .saturating_add(cost_against(next_back, back_stop, nodes.into));
     let along = on
         .spent
-        .saturating_add(cost_along(ahead.get(on.next), v, members));
+        .saturating_add(cost_along(next_on, ahead_stop, nodes.members));
     along < against
 }
 
@@ -394,50 +311,33 @@ fn cells_of(n: u32, members: &Chains) -> u64
 /// Looks past the next found node, if that is not where the search stops.
 fn step_back(
     stop: u32,
-    arcs: &[PackedOption],
-    node: &[u32],
-    into: &Chains,
+    nodes: &Nodes,
     cells: &mut Vec<u32>,
     found: &mut NumberSet,
     back: &mut Front,
 )
     requires next { back.old.next < length found.old.members }
-    requires lists { found.old.end ≤ length into.now.lists }
-    requires cells { (n : ℕ) → AreCells arcs.now node.now (list_at into.now.lists n) }
-    requires below { AreBelow node.now found.old.end }
-    requires room { into.now.items ≤ vec_capacity cells.old }
-    ensures step { IsStepBack arcs.now node.now into.now stop back.old.next back.new.next found.old found.new }
+    requires ready { IsSearchable nodes.now.arcs.now nodes.now.node.now nodes.now.members.now nodes.now.into.now found.old.end (vec_capacity cells.old) }
+    ensures step { IsStepBack nodes.now.arcs.now nodes.now.node.now nodes.now.into.now stop back.old.next back.new.next found.old found.new }
     ensures capacity { vec_capacity cells.old ≤ vec_capacity cells.new }
 {
     let _ = found.len();
     let n = found.get(back.next);
-    back.spent = back.spent.saturating_add(cost_against(n, stop, into));
-    expand(n, stop, arcs, node, into, cells, found);
+    back.spent = back.spent.saturating_add(cost_against(n, stop, nodes.into));
+    expand(n, stop, nodes.arcs, nodes.node, nodes.into, cells, found);
     back.next += 1;
 }
 
 /// Looks ahead of the next found node, if that is not where the search stops.
-fn step_ahead(
-    stop: u32,
-    arcs: &[PackedOption],
-    node: &[u32],
-    members: &Chains,
-    cells: &mut Vec<u32>,
-    ahead: &mut NumberSet,
-    on: &mut Front,
-)
+fn step_ahead(stop: u32, nodes: &Nodes, cells: &mut Vec<u32>, ahead: &mut NumberSet, on: &mut Front)
     requires next { on.old.next < length ahead.old.members }
-    requires lists { ahead.old.end ≤ length members.now.lists }
-    requires filed { IsFiled node.now members.now }
-    requires size { length arcs.now ≡ 8 * length node.now }
-    requires ends { AreEnds arcs.now node.now ahead.old.end }
-    requires room { members.now.items ≤ vec_capacity cells.old }
-    ensures step { IsStepAhead arcs.now node.now stop on.old.next on.new.next ahead.old ahead.new }
+    requires ready { IsSearchable nodes.now.arcs.now nodes.now.node.now nodes.now.members.now nodes.now.into.now ahead.old.end (vec_capacity cells.old) }
+    ensures step { IsStepAhead nodes.now.arcs.now nodes.now.node.now stop on.old.next on.new.next ahead.old ahead.new }
     ensures capacity { vec_capacity cells.old ≤ vec_capacity cells.new }
 {
     let _ = ahead.len();
     let n = ahead.get(on.next);
-    on.spent = on.spent.saturating_add(cost_along(n, stop, members));
-    advance(n, stop, arcs, node, members, cells, ahead);
+    on.spent = on.spent.saturating_add(cost_along(n, stop, nodes.members));
+    advance(n, stop, nodes.arcs, nodes.node, nodes.members, cells, ahead);
     on.next += 1;
 }

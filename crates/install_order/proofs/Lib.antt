@@ -3,3 +3,9 @@ pub mod First
 pub mod Alone
 pub mod TableEdges
 pub mod TableNodes
+pub mod Same
+pub mod Fewer
+pub mod Added
+pub mod Tell
+pub mod Moved
+pub mod Places

@@ -7,3 +7,10 @@ pub mod NodeLaws
 pub mod Checks
 pub mod FirstReads
 pub mod Tables
+pub mod Arcs
+pub mod More
+pub mod Digraph
+pub mod Renamed
+pub mod MergeLaws
+pub mod RaiseLaws
+pub mod RemovalLaws

@@ -6,10 +6,10 @@ use Rattle.std.proofs.lemmas.Bool.{cases_Bool, cases_eq, cases_lt, both_ways, an
 use Rattle.oper_core.specs.State.{is_among}
 use Rattle.install_order.specs.declared.entry.Entry.{Entry}
 use Rattle.install_order.specs.Order.{Access, IsLastWriter}
-use Rattle.sparse_order.specs.Arcs.{Arc}
-use Rattle.sparse_order.specs.Digraph.{AreNodes}
-use Rattle.sparse_order.specs.More.{IsAdded, NoWriter, NoWriterFrom, NewArc}
-use Rattle.sparse_order.specs.More.NewArc.{From_writer, To_version, From_reader}
+use Rattle.install_order.specs.Arcs.{Arc}
+use Rattle.install_order.specs.Digraph.{AreNodes}
+use Rattle.install_order.specs.More.{IsAdded, NoWriter, NoWriterFrom, NewArc}
+use Rattle.install_order.specs.More.NewArc.{From_writer, To_version, From_reader}
 use Rattle.graph_nodes.specs.Arcs.{arc_at, node_at, IsArc, held_at}
 use Rattle.graph_nodes.specs.Kept.{no_arcs, IsSlotAdded}
 use Rattle.graph_nodes.specs.Named.{Graph}

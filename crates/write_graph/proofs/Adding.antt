@@ -5,7 +5,7 @@ use Rattle.std.proofs.lemmas.Bool.{cases_eq, cases_lt, both_ways, or_left, or_ri
 use Rattle.oper_core.specs.State.{is_among}
 use Rattle.install_order.specs.declared.entry.Entry.{Entry}
 use Rattle.install_order.specs.Order.{Access}
-use Rattle.sparse_order.specs.More.{IsAdded}
+use Rattle.install_order.specs.More.{IsAdded}
 use Rattle.graph_nodes.specs.Arcs.{held_at}
 use Rattle.write_graph.specs.Places.{place_in}
 use Rattle.write_graph.specs.Cells.{reads_of, writes_of, slot_access, IsReadCell, IsWriteCell, write_cell, CellLeads}

@@ -7,10 +7,10 @@ use Rattle.oper_core.specs.State.{is_among}
 use Rattle.install_order.specs.declared.entry.Entry.{Entry}
 use Rattle.install_order.specs.Order.{Access, NoEdgeInto}
 use Rattle.install_order.specs.Entries.{accesses}
-use Rattle.sparse_order.specs.Arcs.{Arc}
-use Rattle.sparse_order.specs.Digraph.{Walk}
-use Rattle.sparse_order.specs.Digraph.Walk.{Here, Then}
-use Rattle.sparse_order.specs.Arcs.Arc.{Next_write, Version_read, First_write}
+use Rattle.install_order.specs.Arcs.{Arc}
+use Rattle.install_order.specs.Digraph.{Walk}
+use Rattle.install_order.specs.Digraph.Walk.{Here, Then}
+use Rattle.install_order.specs.Arcs.Arc.{Next_write, Version_read, First_write}
 use Rattle.graph_nodes.specs.Arcs.{IsArc, node_at, held_at}
 use Rattle.number_lists.specs.Marks.{AreListed}
 use Rattle.graph_nodes.specs.Named.{Graph, IsName, IsMinimal, NamesMinimal as NamesMinimalSlot}

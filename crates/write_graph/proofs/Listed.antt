@@ -15,7 +15,7 @@ use Rattle.install_order.specs.declared.entry.Entry.{Entry}
 use Rattle.install_order.specs.Order.{IsLastWriter, flush_set_of}
 use Rattle.install_order.specs.Entries.{accesses}
 use Rattle.install_order.specs.NodeLaws.{walk-on}
-use Rattle.sparse_order.specs.More.{NoWriter}
+use Rattle.install_order.specs.More.{NoWriter}
 use Rattle.graph_nodes.specs.Arcs.{node_at, held_at}
 use Rattle.graph_nodes.specs.Named.{Graph}
 use Rattle.write_graph.specs.Graph.{numbers, IsNodeNamed, Lists, IsSingleIdentity}

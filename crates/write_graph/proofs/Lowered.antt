@@ -6,8 +6,8 @@ use Rattle.std.proofs.lemmas.List.{length_push, length-map, length-set, get_or-m
 use Rattle.oper_core.specs.State.{is_among}
 use Rattle.install_order.specs.declared.entry.Entry.{Entry}
 use Rattle.install_order.specs.Order.{Access, IsLastWriter}
-use Rattle.sparse_order.specs.Arcs.{Arc}
-use Rattle.sparse_order.specs.More.{NoWriter, NoWriterFrom}
+use Rattle.install_order.specs.Arcs.{Arc}
+use Rattle.install_order.specs.More.{NoWriter, NoWriterFrom}
 use Rattle.graph_nodes.specs.Arcs.{arc_at, held_at, IsArc}
 use Rattle.graph_nodes.specs.Named.{Graph}
 use Rattle.write_graph.specs.Graph.{numbers}

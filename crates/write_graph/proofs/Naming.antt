@@ -6,10 +6,10 @@ use Rattle.install_order.specs.declared.entry.Entry.{Entry}
 use Rattle.install_order.specs.Order.{Access, IsNode, IsName, NoEdgeInto}
 use Rattle.install_order.specs.Entries.{accesses}
 use Rattle.install_order.specs.NodeLaws.{node-unique}
-use Rattle.sparse_order.specs.Arcs.{Arc, NoArcInto}
-use Rattle.sparse_order.specs.Digraph.{Walk, AreNodes}
-use Rattle.sparse_order.specs.Digraph.Walk.{Here, Then}
-use Rattle.sparse_order.specs.Renamed.{IsRenamed, numbers_of, places_of}
+use Rattle.install_order.specs.Arcs.{Arc, NoArcInto}
+use Rattle.install_order.specs.Digraph.{Walk, AreNodes}
+use Rattle.install_order.specs.Digraph.Walk.{Here, Then}
+use Rattle.install_order.specs.Renamed.{IsRenamed, numbers_of, places_of}
 use Rattle.graph_nodes.specs.Arcs.{IsArc, node_at, held_at}
 use Rattle.graph_nodes.specs.Named.{Graph, IsMinimal, IsName as NamesSlots}
 use Rattle.write_graph.specs.Graph.{numbers, IsNodeNamed, NamesNode}

@@ -6,7 +6,7 @@ use Rattle.std.proofs.lemmas.Bool.{cases_Bool, cases_eq, cases_lt, both_ways, or
 use Rattle.oper_core.specs.State.{is_among}
 use Rattle.install_order.specs.declared.entry.Entry.{Entry}
 use Rattle.install_order.specs.Entries.{accesses}
-use Rattle.sparse_order.specs.Renamed.{IsRenamed}
+use Rattle.install_order.specs.Renamed.{IsRenamed}
 use Rattle.graph_nodes.specs.Arcs.{held_at}
 use Rattle.write_graph.specs.Graph.{numbers}
 use Rattle.write_graph.specs.Cells.{reads_of, writes_of, slot_access, chosen_entries, held_entries}

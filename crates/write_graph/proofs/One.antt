@@ -3,8 +3,8 @@ use Rattle.std.proofs.Common.{◌≡◌, ◌∙◌, sym, subst, ℕ, ◌<◌, �
 use Rattle.std.specs.Prelude.{IsTrue, IsFalse}
 use Rattle.std.proofs.lemmas.Bool.{cases_eq, cases_lt, both_ways}
 use Rattle.install_order.specs.Order.{Access, IsLastWriter}
-use Rattle.sparse_order.specs.Arcs.{NoneBetween, IsWriterBefore, IsWriterAfter}
-use Rattle.sparse_order.specs.More.{IsAdded, NoWriter, NoWriterFrom}
+use Rattle.install_order.specs.Arcs.{NoneBetween, IsWriterBefore, IsWriterAfter}
+use Rattle.install_order.specs.More.{IsAdded, NoWriter, NoWriterFrom}
 use Rattle.write_graph.specs.Cells.{ReadLeads, WriteLeads}
 
 module _ (a b : Access) (n : ℕ) (is : IsAdded a b n) where

@@ -7,9 +7,9 @@ use Rattle.oper_core.specs.State.{is_among}
 use Rattle.install_order.specs.declared.entry.Entry.{Entry}
 use Rattle.install_order.specs.Order.{Access, IsLastWriter, Edge, within, NoEdgeInto}
 use Rattle.install_order.specs.Order.Edge.{Read_write, Write_write, Lost_version}
-use Rattle.sparse_order.specs.Arcs.{Arc}
-use Rattle.sparse_order.specs.Digraph.{AreNodes}
-use Rattle.sparse_order.specs.More.{NoWriter, NoWriterFrom}
+use Rattle.install_order.specs.Arcs.{Arc}
+use Rattle.install_order.specs.Digraph.{AreNodes}
+use Rattle.install_order.specs.More.{NoWriter, NoWriterFrom}
 use Rattle.graph_nodes.specs.Arcs.{arc_at, node_at, held_at, IsArc}
 use Rattle.graph_nodes.specs.Named.{Graph}
 use Rattle.graph_nodes.specs.Removed.{IsRemoved}

@@ -3,7 +3,7 @@ use Rattle.std.specs.Prelude.{◌≡◌, ℕ, zero, suc, ◌+◌, ◌*◌, ◌/�
 use Rattle.oper_core.specs.State.{is_among}
 use Rattle.install_order.specs.declared.entry.Entry.{Entry}
 use Rattle.install_order.specs.Order.{Access}
-use Rattle.sparse_order.specs.Arcs.{IsWriterBefore, IsWriterAfter, NoneBefore}
+use Rattle.install_order.specs.Arcs.{IsWriterBefore, IsWriterAfter, NoneBefore}
 use Rattle.graph_nodes.specs.Arcs.{held_at}
 use Rattle.write_graph.specs.Places.{place_in}
 

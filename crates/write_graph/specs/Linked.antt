@@ -3,9 +3,9 @@ use Rattle.std.specs.Prelude.{◌≡◌, ℕ, ◌*◌, ◌/◌, ◌-◌, ◌^◌
 use Rattle.oper_core.specs.State.{is_among}
 use Rattle.install_order.specs.declared.entry.Entry.{Entry}
 use Rattle.install_order.specs.Order.{Access, IsLastWriter}
-use Rattle.sparse_order.specs.Arcs.{Arc}
-use Rattle.sparse_order.specs.Digraph.{AreNodes}
-use Rattle.sparse_order.specs.More.{NoWriter, NoWriterFrom}
+use Rattle.install_order.specs.Arcs.{Arc}
+use Rattle.install_order.specs.Digraph.{AreNodes}
+use Rattle.install_order.specs.More.{NoWriter, NoWriterFrom}
 use Rattle.graph_nodes.specs.Arcs.{arc_at, node_at, IsArc, held_at}
 use Rattle.graph_nodes.specs.Named.{Graph}
 use Rattle.write_graph.specs.Cells.{reads_of, writes_of, slot_access, IsReadCell, write_cell, CellLeads}

@@ -3,8 +3,8 @@ use Rattle.std.specs.Prelude.{◌≡◌, ℕ, ◌<◌, Bool, ◌↔◌, IsTrue, 
 use Rattle.install_order.specs.declared.entry.Entry.{Entry}
 use Rattle.install_order.specs.Order.{NoEdgeInto}
 use Rattle.install_order.specs.Entries.{accesses}
-use Rattle.sparse_order.specs.Arcs.{Arc}
-use Rattle.sparse_order.specs.Digraph.{AreNodes}
+use Rattle.install_order.specs.Arcs.{Arc}
+use Rattle.install_order.specs.Digraph.{AreNodes}
 use Rattle.graph_nodes.specs.Arcs.{IsArc, node_at, held_at}
 use Rattle.graph_nodes.specs.Named.{Graph, IsName, IsMinimal}
 use Rattle.write_graph.specs.Graph.{numbers}

@@ -5,7 +5,7 @@ ghost use Rattle.write_graph.specs.Graph.{numbers, IsNodeNamed, NamesNode};
 ghost use Rattle.write_graph.specs.Cells.{held_entries};
 ghost use Rattle.write_graph.specs.Naming.{AreSlots, IsSlotOf};
 
-use sparse_order::{no_arc_is_no_edge, nodes_stand_for_nodes, representatives_tell_nodes};
+use install_order::{no_arc_is_no_edge, nodes_stand_for_nodes, representatives_tell_nodes};
 
 /// The slots that name nodes stand for the numbers that do.
 pub(crate) fn slots_name_nodes()

@@ -11,9 +11,8 @@ use crate::linking::{answer_all, last_held, lead_writers, wait_all};
 use crate::listing::push_if;
 use crate::rows::Rows;
 use graph_nodes::SlotGraph;
-use install_order::Entry;
+use install_order::{Entry, arcs_left_by_a_removal, arcs_of_one_more, no_arc_is_no_edge};
 use oper_core::Memory;
-use sparse_order::{arcs_left_by_a_removal, arcs_of_one_more, no_arc_is_no_edge};
 use std::alloc::Global;
 
 /// How many slots there are at most.

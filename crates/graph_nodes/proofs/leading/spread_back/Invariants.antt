@@ -5,7 +5,7 @@ use Rattle.graph_nodes.proofs.Taken.{IsSpreading}
 use Rattle.graph_nodes.proofs.leading.spread_back.Given as goal
 
 abbrev pub invariant-loop-before : goal.invariant-loop-before
-invariant-loop-before l = IsSpreading (IsLedTo l.arcs l.node) l.v l.ahead.members l.before l.taken.members × (l.taken.end ≡ l.fn.taken.end) × (l.fn.taken.room ≤ l.taken.room) × (vec_capacity l.fn.slots ≤ vec_capacity l.slots)
+invariant-loop-before l = IsSpreading (IsLedTo l.nodes.arcs.now l.nodes.node.now) l.v l.ahead.members l.before l.taken.members × (l.taken.end ≡ l.fn.taken.end) × (l.fn.taken.room ≤ l.taken.room) × (vec_capacity l.fn.slots ≤ vec_capacity l.slots)
 
 abbrev pub decreases-loop-before : goal.decreases-loop-before
 decreases-loop-before l = l.taken.end - l.before

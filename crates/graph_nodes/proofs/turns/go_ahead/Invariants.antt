@@ -6,7 +6,7 @@ use Rattle.graph_nodes.proofs.turns.go_ahead.Given as goal
 
 abbrev pub invariant-steps : goal.invariant-steps
 invariant-steps l =
-    ((w : ℕ) → IsGoingOn l.arcs l.node w l.stop l.fn.on.next l.fn.ahead.members → IsGoingOn l.arcs l.node w l.stop l.on.next l.ahead.members) ×
+    ((w : ℕ) → IsGoingOn l.nodes.arcs.now l.nodes.node.now w l.stop l.fn.on.next l.fn.ahead.members → IsGoingOn l.nodes.arcs.now l.nodes.node.now w l.stop l.on.next l.ahead.members) ×
     IsWide l.fn.ahead l.ahead × (vec_capacity l.fn.cells ≤ vec_capacity l.cells)
 
 abbrev pub decreases-steps : goal.decreases-steps

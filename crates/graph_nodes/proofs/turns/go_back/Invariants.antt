@@ -6,7 +6,7 @@ use Rattle.graph_nodes.proofs.turns.go_back.Given as goal
 
 abbrev pub invariant-steps : goal.invariant-steps
 invariant-steps l =
-    ((v : ℕ) → IsSearching l.arcs l.node l.into v l.stop l.fn.back.next l.fn.found.members → IsSearching l.arcs l.node l.into v l.stop l.back.next l.found.members) ×
+    ((v : ℕ) → IsSearching l.nodes.arcs.now l.nodes.node.now l.nodes.into.now v l.stop l.fn.back.next l.fn.found.members → IsSearching l.nodes.arcs.now l.nodes.node.now l.nodes.into.now v l.stop l.back.next l.found.members) ×
     IsWide l.fn.found l.found × (vec_capacity l.fn.cells ≤ vec_capacity l.cells)
 
 abbrev pub decreases-steps : goal.decreases-steps

@@ -1,6 +1,6 @@
 use Rattle.std.proofs.Common.{◌≡◌, ◌∙◌, ap, sym, subst, ℕ, List, [], ◌∷◌, ◌++◌, ◌+◌, ◌<◌, ◌^◌, length, length-append, refl, arith}
 use Rattle.std.specs.Prelude.{true, IsTrue}
-use Rattle.sparse_order.specs.Digraph.{AreNodes}
+use Rattle.install_order.specs.Digraph.{AreNodes}
 use Rattle.number_lists.specs.Lists.{IsPushed}
 use Rattle.graph_nodes.specs.Arcs.{node_at, name_at, held_at, IsArc}
 use Rattle.graph_nodes.specs.Named.{Graph}
@@ -46,7 +46,7 @@ invariant_of-self c =
         into_lists = omega (arith, some, was.into_lists, c.add_list-2.ensures.list_room, c.add_cells.ensures.added.list_room);
         into = omega (arith, some, was.into, c.add_list-2.ensures.item_room, c.add_cells.ensures.added.item_room);
         found = omega (arith, some, was.found, c.add_number.ensures.room);
-        taken = omega (arith, some, was.taken, c.add_number-2.ensures.room);
+        ahead = omega (arith, some, was.ahead, c.add_number-2.ensures.room);
       },
       marked-as (nodes ++ n ∷ []) c.push_in_room.new.items.items (held ++ true ∷ []) c.push_in_room-2.new.items.items c.add_cells.new.into c.add_cells.new.into c.add.new.self c.add.new.self now c.push_in_room-2.ensures.items refl refl refl refl marks,
     )

@@ -1,25 +1,24 @@
 use Rattle.std.proofs.Common.{◌≡◌, ◌∙◌, ap, sym, subst, ℕ, List, ◌/◌, ◌<◌, length, refl, arith}
 use Rattle.std.specs.Prelude.{Option, None, Some, IsTrue, slice_index_or, slice_set, nat_eq}
 use Rattle.std.specs.Vec.{vec_capacity}
-use Rattle.sparse_order.specs.Digraph.{AreNodes}
+use Rattle.install_order.specs.Digraph.{AreNodes}
 use Rattle.number_lists.specs.Lists.{list_at, IsPushed}
 use Rattle.graph_nodes.specs.Arcs.{arc_at, node_at, held_at, IsArc}
 use Rattle.graph_nodes.specs.Into.{IsSettled}
-use Rattle.graph_nodes.specs.Merge.{gathered}
+use Rattle.graph_nodes.specs.Merge.{gathered, IsFiled}
 use Rattle.graph_nodes.specs.Named.{Graph}
 use Rattle.number_lists.specs.MarkLaws.{mark-below}
 use Rattle.number_lists.specs.Back.{back-is}
-use Rattle.graph_nodes.proofs.Ordered.{value-at, slot-in, joined-at, joined-below, kept-inserted, cell-free, pushed-cells}
+use Rattle.graph_nodes.proofs.Ordered.{value-at, slot-in, joined-at, joined-below, kept-inserted, cell-free, pushed-cells, searchable-at}
 use Rattle.graph_nodes.proofs.Bare.{own-end}
-use Rattle.graph_nodes.proofs.Followed.{walkable-at}
 use Rattle.graph_nodes.proofs.Slot.{kept-room, room-more}
 use Rattle.graph_nodes.proofs.Told.{marked-inserted, marked-as}
 use Rattle.graph_nodes.proofs.Asked.{free-iff}
 use Rattle.graph_nodes.specs.Named.{IsTold}
 use Rattle.graph_nodes.proofs.graph.SlotGraph.insert.Goals as goal
 
-pub join-requires-clause-v : goal.join-requires-clause-v
-join-requires-clause-v c =
+pub find_way-requires-clause-v : goal.find_way-requires-clause-v
+find_way-requires-clause-v c =
     let arcs = c.self.inside.arcs.items in
     let old = c.self.inside.node.items in
     let held = c.self.inside.held.items in
@@ -32,8 +31,8 @@ join-requires-clause-v c =
     let w = value-at old c.args.to c.index-2.result.now to c.index-2.ensures in
     omega (arith, v, kept.range.nodes (c.args.cell / 8) slot, c.self.invariant.1)
 
-pub join-requires-clause-w : goal.join-requires-clause-w
-join-requires-clause-w c =
+pub find_way-requires-clause-w : goal.find_way-requires-clause-w
+find_way-requires-clause-w c =
     let arcs = c.self.inside.arcs.items in
     let old = c.self.inside.node.items in
     let held = c.self.inside.held.items in
@@ -46,19 +45,38 @@ join-requires-clause-w c =
     let w = value-at old c.args.to c.index-2.result.now to c.index-2.ensures in
     omega (arith, w, kept.range.nodes c.args.to to, c.self.invariant.1)
 
-pub join-requires-clause-own : goal.join-requires-clause-own
-join-requires-clause-own c =
+pub find_way-requires-clause-own : goal.find_way-requires-clause-own
+find_way-requires-clause-own c =
     let old = c.self.inside.node.items in
     let held = c.self.inside.held.items in
     let kept = c.self.invariant.0 in
     let to_held : IsTrue (held_at held c.args.to) = subst (λ (g : Graph). IsTrue (held_at g.held c.args.to)) (sym c.self.view_is) c.requires.to_held in
     let to : c.args.to < length old = omega (arith, mark-below held c.args.to to_held, kept.range.holds) in
     let w = value-at old c.args.to c.index-2.result.now to c.index-2.ensures in
-    own-end c.self.inside.arcs.items c.as_slice.result.now old c.as_mut_slice.result.now held c.self.inside.names.name c.self.inside.members c.self.inside.into c.args.to c.index-2.result.now kept to c.as_slice.ensures.value c.as_mut_slice.ensures.value w
+    own-end c.self.inside.arcs.items c.as_slice.result.now old c.as_slice-2.result.now held c.self.inside.names.name c.self.inside.members c.self.inside.into c.args.to c.index-2.result.now kept to c.as_slice.ensures.value c.as_slice-2.ensures.value w
 
-pub join-requires-clause-walkable : goal.join-requires-clause-walkable
-join-requires-clause-walkable c =
-    walkable-at c.self.inside.arcs.items c.as_slice.result.now c.self.inside.node.items c.as_mut_slice.result.now c.self.inside.held.items c.self.inside.names.name c.self.inside.members c.self.inside.into c.self.inside.found.end c.self.invariant.0 c.self.invariant.1 c.as_slice.ensures.value c.as_mut_slice.ensures.value
+pub find_way-requires-clause-ends : goal.find_way-requires-clause-ends
+find_way-requires-clause-ends c = c.self.invariant.1 ∙ sym c.self.invariant.2
+
+pub find_way-requires-clause-ready : goal.find_way-requires-clause-ready
+find_way-requires-clause-ready c =
+    searchable-at c.self.inside.arcs.items c.as_slice.result.now c.self.inside.node.items c.as_slice-2.result.now c.self.inside.held.items c.self.inside.names.name c.self.inside.members c.self.inside.into c.self.inside.searches.found.end (vec_capacity c.self.inside.searches.cells)
+    c.self.invariant.0 c.self.invariant.1 (omega (arith, c.self.invariant.3.scratch)) c.as_slice.ensures.value c.as_slice-2.ensures.value
+
+pub gather-requires-clause-taken : goal.gather-requires-clause-taken
+gather-requires-clause-taken c = omega (arith, c.find_way.ensures.wide.found_end, c.self.invariant.1, c.self.invariant.0.range.member_lists)
+
+pub gather-requires-clause-names : goal.gather-requires-clause-names
+gather-requires-clause-names c = omega (arith, c.find_way.ensures.wide.found_end, c.self.invariant.1, c.self.invariant.0.range.names)
+
+pub gather-requires-clause-lists : goal.gather-requires-clause-lists
+gather-requires-clause-lists c = omega (arith, c.self.invariant.0.range.into_lists, c.self.invariant.0.range.member_lists)
+
+pub gather-requires-clause-filed : goal.gather-requires-clause-filed
+gather-requires-clause-filed c = subst (λ (xs : List ℕ). IsFiled xs c.self.inside.members) (sym c.as_mut_slice.ensures.value) c.self.invariant.0.filed
+
+pub gather-requires-clause-room : goal.gather-requires-clause-room
+gather-requires-clause-room c = omega (arith, c.self.invariant.0.range.member_items, c.self.invariant.3.scratch, c.find_way.ensures.capacity)
 
 pub some-requires : goal.some-requires
 some-requires c =
@@ -79,15 +97,15 @@ push-requires-clause-list c =
     let slot : c.args.cell / 8 < length old = slot-in c.args.cell (length old) (length arcs) kept.range.cells cell in
     let v = value-at old (c.args.cell / 8) c.index.result.now slot c.index.ensures in
     let w = value-at old c.args.to c.index-2.result.now to c.index-2.ensures in
-    let new = c.join.new.node in
+    let new = c.gather.new.node in
     let name = c.self.inside.names in
-    let names = c.join.new.names in
-    let join = joined-at arcs c.as_slice.result.now old c.as_mut_slice.result.now c.index.result.now (node_at old (c.args.cell / 8)) c.index-2.result.now (node_at old c.args.to) new name names c.self.inside.members c.join.new.members c.self.inside.into c.join.new.into
-    c.as_slice.ensures.value c.as_mut_slice.ensures.value v w c.join.ensures.joined in
+    let names = c.gather.new.names in
+    let join = joined-at arcs c.as_slice.result.now old c.as_slice-2.result.now c.as_mut_slice.result.now c.index.result.now (node_at old (c.args.cell / 8)) c.index-2.result.now (node_at old c.args.to) c.find_way.new.searches.found.members new name names c.self.inside.members c.gather.new.members c.self.inside.into c.gather.new.into
+    c.as_slice.ensures.value c.as_slice-2.ensures.value c.as_mut_slice.ensures.value v w c.find_way.ensures.way c.gather.ensures.gathered in
     let back = back-is old new c.self.inside.node.len join.2.3.size c.self.inside.node.ok.0 in
     let low : c.args.to < length new = omega (arith, to, join.2.3.size) in
     let at = value-at new c.args.to c.index-n.result.now low (subst (λ (xs : List ℕ). c.index-n.result.now ≡ slice_index_or xs c.args.to c.index-n.result.now) back c.index-n.ensures) in
-    omega (arith, at, joined-below arcs old new held name names c.self.inside.members c.join.new.members c.self.inside.into c.join.new.into (node_at old (c.args.cell / 8)) c.args.to kept to join)
+    omega (arith, at, joined-below arcs old new held name names c.self.inside.members c.gather.new.members c.self.inside.into c.gather.new.into (node_at old (c.args.cell / 8)) c.args.to kept to join)
 
 pub push-requires-clause-free : goal.push-requires-clause-free
 push-requires-clause-free c =
@@ -101,17 +119,17 @@ push-requires-clause-free c =
     let slot : c.args.cell / 8 < length old = slot-in c.args.cell (length old) (length arcs) kept.range.cells cell in
     let v = value-at old (c.args.cell / 8) c.index.result.now slot c.index.ensures in
     let w = value-at old c.args.to c.index-2.result.now to c.index-2.ensures in
-    let new = c.join.new.node in
+    let new = c.gather.new.node in
     let name = c.self.inside.names in
-    let names = c.join.new.names in
-    let join = joined-at arcs c.as_slice.result.now old c.as_mut_slice.result.now c.index.result.now (node_at old (c.args.cell / 8)) c.index-2.result.now (node_at old c.args.to) new name names c.self.inside.members c.join.new.members c.self.inside.into c.join.new.into
-    c.as_slice.ensures.value c.as_mut_slice.ensures.value v w c.join.ensures.joined in
+    let names = c.gather.new.names in
+    let join = joined-at arcs c.as_slice.result.now old c.as_slice-2.result.now c.as_mut_slice.result.now c.index.result.now (node_at old (c.args.cell / 8)) c.index-2.result.now (node_at old c.args.to) c.find_way.new.searches.found.members new name names c.self.inside.members c.gather.new.members c.self.inside.into c.gather.new.into
+    c.as_slice.ensures.value c.as_slice-2.ensures.value c.as_mut_slice.ensures.value v w c.find_way.ensures.way c.gather.ensures.gathered in
     let back = back-is old new c.self.inside.node.len join.2.3.size c.self.inside.node.ok.0 in
     let low : c.args.to < length new = omega (arith, to, join.2.3.size) in
     let at = value-at new c.args.to c.index-n.result.now low (subst (λ (xs : List ℕ). c.index-n.result.now ≡ slice_index_or xs c.args.to c.index-n.result.now) back c.index-n.ensures) in
     let none : arc_at arcs c.args.cell ≡ None = subst (λ (g : Graph). arc_at g.arcs c.args.cell ≡ None) (sym c.self.view_is) c.requires.none in
     let holds : IsTrue (held_at held (c.args.cell / 8)) = subst (λ (g : Graph). IsTrue (held_at g.held (c.args.cell / 8))) (sym c.self.view_is) c.requires.from_held in
-    cell-free arcs held c.self.inside.into c.join.new.into (gathered join.0 join.2.0) c.args.cell none holds kept.lost join.2.3.into
+    cell-free arcs held c.self.inside.into c.gather.new.into (gathered join.0 join.2.0) c.args.cell none holds kept.lost join.2.3.into
 
 pub tidy-requires-clause-list : goal.tidy-requires-clause-list
 tidy-requires-clause-list c =
@@ -125,15 +143,15 @@ tidy-requires-clause-list c =
     let slot : c.args.cell / 8 < length old = slot-in c.args.cell (length old) (length arcs) kept.range.cells cell in
     let v = value-at old (c.args.cell / 8) c.index.result.now slot c.index.ensures in
     let w = value-at old c.args.to c.index-2.result.now to c.index-2.ensures in
-    let new = c.join.new.node in
+    let new = c.gather.new.node in
     let name = c.self.inside.names in
-    let names = c.join.new.names in
-    let join = joined-at arcs c.as_slice.result.now old c.as_mut_slice.result.now c.index.result.now (node_at old (c.args.cell / 8)) c.index-2.result.now (node_at old c.args.to) new name names c.self.inside.members c.join.new.members c.self.inside.into c.join.new.into
-    c.as_slice.ensures.value c.as_mut_slice.ensures.value v w c.join.ensures.joined in
+    let names = c.gather.new.names in
+    let join = joined-at arcs c.as_slice.result.now old c.as_slice-2.result.now c.as_mut_slice.result.now c.index.result.now (node_at old (c.args.cell / 8)) c.index-2.result.now (node_at old c.args.to) c.find_way.new.searches.found.members new name names c.self.inside.members c.gather.new.members c.self.inside.into c.gather.new.into
+    c.as_slice.ensures.value c.as_slice-2.ensures.value c.as_mut_slice.ensures.value v w c.find_way.ensures.way c.gather.ensures.gathered in
     let back = back-is old new c.self.inside.node.len join.2.3.size c.self.inside.node.ok.0 in
     let low : c.args.to < length new = omega (arith, to, join.2.3.size) in
     let at = value-at new c.args.to c.index-n.result.now low (subst (λ (xs : List ℕ). c.index-n.result.now ≡ slice_index_or xs c.args.to c.index-n.result.now) back c.index-n.ensures) in
-    omega (arith, at, joined-below arcs old new held name names c.self.inside.members c.join.new.members c.self.inside.into c.join.new.into (node_at old (c.args.cell / 8)) c.args.to kept to join, c.push.ensures.same.lists)
+    omega (arith, at, joined-below arcs old new held name names c.self.inside.members c.gather.new.members c.self.inside.into c.gather.new.into (node_at old (c.args.cell / 8)) c.args.to kept to join, c.push.ensures.same.lists)
 
 pub tidy-requires-clause-cells : goal.tidy-requires-clause-cells
 tidy-requires-clause-cells c =
@@ -147,20 +165,20 @@ tidy-requires-clause-cells c =
     let slot : c.args.cell / 8 < length old = slot-in c.args.cell (length old) (length arcs) kept.range.cells cell in
     let v = value-at old (c.args.cell / 8) c.index.result.now slot c.index.ensures in
     let w = value-at old c.args.to c.index-2.result.now to c.index-2.ensures in
-    let new = c.join.new.node in
+    let new = c.gather.new.node in
     let name = c.self.inside.names in
-    let names = c.join.new.names in
-    let join = joined-at arcs c.as_slice.result.now old c.as_mut_slice.result.now c.index.result.now (node_at old (c.args.cell / 8)) c.index-2.result.now (node_at old c.args.to) new name names c.self.inside.members c.join.new.members c.self.inside.into c.join.new.into
-    c.as_slice.ensures.value c.as_mut_slice.ensures.value v w c.join.ensures.joined in
+    let names = c.gather.new.names in
+    let join = joined-at arcs c.as_slice.result.now old c.as_slice-2.result.now c.as_mut_slice.result.now c.index.result.now (node_at old (c.args.cell / 8)) c.index-2.result.now (node_at old c.args.to) c.find_way.new.searches.found.members new name names c.self.inside.members c.gather.new.members c.self.inside.into c.gather.new.into
+    c.as_slice.ensures.value c.as_slice-2.ensures.value c.as_mut_slice.ensures.value v w c.find_way.ensures.way c.gather.ensures.gathered in
     let back = back-is old new c.self.inside.node.len join.2.3.size c.self.inside.node.ok.0 in
     let low : c.args.to < length new = omega (arith, to, join.2.3.size) in
     let at = value-at new c.args.to c.index-n.result.now low (subst (λ (xs : List ℕ). c.index-n.result.now ≡ slice_index_or xs c.args.to c.index-n.result.now) back c.index-n.ensures) in
     let none : arc_at arcs c.args.cell ≡ None = subst (λ (g : Graph). arc_at g.arcs c.args.cell ≡ None) (sym c.self.view_is) c.requires.none in
     let holds : IsTrue (held_at held (c.args.cell / 8)) = subst (λ (g : Graph). IsTrue (held_at g.held (c.args.cell / 8))) (sym c.self.view_is) c.requires.from_held in
-    let push : IsPushed c.join.new.into (node_at new c.args.to) c.args.cell c.push.new.self = subst (λ (k : ℕ). IsPushed c.join.new.into k c.args.cell c.push.new.self) at c.push.ensures in
+    let push : IsPushed c.gather.new.into (node_at new c.args.to) c.args.cell c.push.new.self = subst (λ (k : ℕ). IsPushed c.gather.new.into k c.args.cell c.push.new.self) at c.push.ensures in
     let set = slice_set arcs c.args.cell (Some c.args.to) in
-    rw (c.as_slice-2.ensures.value, c.as_slice-3.ensures.value, back, c.some.ensures)
-    (pushed-cells arcs old new held name names c.self.inside.members c.join.new.members c.self.inside.into c.join.new.into c.push.new.self c.args.cell c.args.to c.index-n.result.now kept cell none holds to join push)
+    rw (c.as_slice-3.ensures.value, c.as_slice-4.ensures.value, back, c.some.ensures)
+    (pushed-cells arcs old new held name names c.self.inside.members c.gather.new.members c.self.inside.into c.gather.new.into c.push.new.self c.args.cell c.args.to c.index-n.result.now kept cell none holds to join push)
 
 pub invariant_of-self : goal.invariant_of-self
 invariant_of-self c =
@@ -174,35 +192,36 @@ invariant_of-self c =
     let slot : c.args.cell / 8 < length old = slot-in c.args.cell (length old) (length arcs) kept.range.cells cell in
     let v = value-at old (c.args.cell / 8) c.index.result.now slot c.index.ensures in
     let w = value-at old c.args.to c.index-2.result.now to c.index-2.ensures in
-    let new = c.join.new.node in
+    let new = c.gather.new.node in
     let name = c.self.inside.names in
-    let names = c.join.new.names in
-    let join = joined-at arcs c.as_slice.result.now old c.as_mut_slice.result.now c.index.result.now (node_at old (c.args.cell / 8)) c.index-2.result.now (node_at old c.args.to) new name names c.self.inside.members c.join.new.members c.self.inside.into c.join.new.into
-    c.as_slice.ensures.value c.as_mut_slice.ensures.value v w c.join.ensures.joined in
+    let names = c.gather.new.names in
+    let join = joined-at arcs c.as_slice.result.now old c.as_slice-2.result.now c.as_mut_slice.result.now c.index.result.now (node_at old (c.args.cell / 8)) c.index-2.result.now (node_at old c.args.to) c.find_way.new.searches.found.members new name names c.self.inside.members c.gather.new.members c.self.inside.into c.gather.new.into
+    c.as_slice.ensures.value c.as_slice-2.ensures.value c.as_mut_slice.ensures.value v w c.find_way.ensures.way c.gather.ensures.gathered in
     let back = back-is old new c.self.inside.node.len join.2.3.size c.self.inside.node.ok.0 in
     let low : c.args.to < length new = omega (arith, to, join.2.3.size) in
     let at = value-at new c.args.to c.index-n.result.now low (subst (λ (xs : List ℕ). c.index-n.result.now ≡ slice_index_or xs c.args.to c.index-n.result.now) back c.index-n.ensures) in
     let none : arc_at arcs c.args.cell ≡ None = subst (λ (g : Graph). arc_at g.arcs c.args.cell ≡ None) (sym c.self.view_is) c.requires.none in
     let holds : IsTrue (held_at held (c.args.cell / 8)) = subst (λ (g : Graph). IsTrue (held_at g.held (c.args.cell / 8))) (sym c.self.view_is) c.requires.from_held in
-    let push : IsPushed c.join.new.into (node_at new c.args.to) c.args.cell c.push.new.self = subst (λ (k : ℕ). IsPushed c.join.new.into k c.args.cell c.push.new.self) at c.push.ensures in
+    let push : IsPushed c.gather.new.into (node_at new c.args.to) c.args.cell c.push.new.self = subst (λ (k : ℕ). IsPushed c.gather.new.into k c.args.cell c.push.new.self) at c.push.ensures in
     let set = slice_set arcs c.args.cell (Some c.args.to) in
     let stored : slice_set arcs c.args.cell c.some.result ≡ set = ap (λ (o : Option ℕ). slice_set arcs c.args.cell o) c.some.ensures in
     let settle : IsSettled set new (node_at new c.args.to) c.push.new.self c.tidy.new.into =
     subst (λ (k : ℕ). IsSettled set new k c.push.new.self c.tidy.new.into) at
-    (subst (λ (xs : List ℕ). IsSettled set xs c.index-n.result.now c.push.new.self c.tidy.new.into) (c.as_slice-3.ensures.value ∙ back)
-    (subst (λ (xs : List (Option ℕ)). IsSettled xs c.as_slice-3.result.now c.index-n.result.now c.push.new.self c.tidy.new.into) (c.as_slice-2.ensures.value ∙ stored) c.tidy.ensures.settled)) in
-    let after = kept-inserted arcs old new held name names c.self.inside.members c.join.new.members c.self.inside.into c.join.new.into c.push.new.self c.tidy.new.into c.args.cell c.args.to kept cell none holds to join push settle in
+    (subst (λ (xs : List ℕ). IsSettled set xs c.index-n.result.now c.push.new.self c.tidy.new.into) (c.as_slice-4.ensures.value ∙ back)
+    (subst (λ (xs : List (Option ℕ)). IsSettled xs c.as_slice-4.result.now c.index-n.result.now c.push.new.self c.tidy.new.into) (c.as_slice-3.ensures.value ∙ stored) c.tidy.ensures.settled)) in
+    let after = kept-inserted arcs old new held name names c.self.inside.members c.gather.new.members c.self.inside.into c.gather.new.into c.push.new.self c.tidy.new.into c.args.cell c.args.to kept cell none holds to join push settle in
+    let room = c.find_way.ensures.wide.room c.self.inside.room c.self.invariant.3.found c.self.invariant.3.ahead in
     let told = c.tell.new.self in
     let tell : IsTold (node_at new c.args.to) (nat_eq c.count.result 0) names told = subst (λ (k : ℕ). IsTold k (nat_eq c.count.result 0) names told) at c.tell.ensures in
     let count : c.count.result ≡ length (list_at c.tidy.new.into.lists (node_at new c.args.to)) = subst (λ (k : ℕ). c.count.result ≡ length (list_at c.tidy.new.into.lists k)) at c.count.ensures.value in
-    let marks = marked-inserted arcs old new held name names told c.self.inside.members c.join.new.members c.self.inside.into c.join.new.into c.tidy.new.into (c.args.cell / 8) c.args.to (nat_eq c.count.result 0) kept c.self.invariant.4 to join after.named
+    let marks = marked-inserted arcs old new held name names told c.self.inside.members c.gather.new.members c.self.inside.into c.gather.new.into c.tidy.new.into (c.args.cell / 8) c.args.to (nat_eq c.count.result 0) kept c.self.invariant.4 to join after.named
     (λ m ne. settle.others m ne ∙ push.others m ne) (free-iff (list_at c.tidy.new.into.lists (node_at new c.args.to)) c.count.result count) tell in (
-      kept-room set _ new _ held held names.name told.name c.join.new.members c.join.new.members c.tidy.new.into c.tidy.new.into after stored back refl tell.name refl refl refl refl,
-      c.join.ensures.found.end ∙ c.self.invariant.1 ∙ sym (ap length back ∙ join.2.3.size),
-      c.join.ensures.taken.end ∙ c.self.invariant.2 ∙ sym (ap length back ∙ join.2.3.size),
-      room-more c.self.inside.room (length old) _ (vec_capacity c.self.inside.arcs) _ (vec_capacity c.self.inside.node) _ (vec_capacity c.self.inside.held) _ (vec_capacity c.self.inside.scratch) _ name told c.self.inside.members c.join.new.members c.self.inside.into c.tidy.new.into
-          c.self.inside.found c.join.new.found c.self.inside.taken c.join.new.taken (ap length back ∙ join.2.3.size) (omega arith) (omega arith) (omega arith) (omega (arith, c.join.ensures.capacity, c.tidy.ensures.capacity)) (omega (arith, join.2.2.room, tell.room)) (omega (arith, join.2.3.members.list_room)) (omega (arith, join.2.3.members.item_room))
-          (omega (arith, join.2.3.into.same.list_room, push.same.list_room, settle.same.list_room)) (omega (arith, join.2.3.into.same.item_room, push.same.item_room, settle.same.item_room)) c.join.ensures.found.room c.join.ensures.taken.room c.self.invariant.3,
+      kept-room set _ new _ held held names.name told.name c.gather.new.members c.gather.new.members c.tidy.new.into c.tidy.new.into after stored back refl tell.name refl refl refl refl,
+      c.find_way.ensures.wide.found_end ∙ c.self.invariant.1 ∙ sym (ap length back ∙ join.2.3.size),
+      c.find_way.ensures.wide.ahead_end ∙ c.self.invariant.2 ∙ sym (ap length back ∙ join.2.3.size),
+      room-more c.self.inside.room (length old) _ (vec_capacity c.self.inside.arcs) _ (vec_capacity c.self.inside.node) _ (vec_capacity c.self.inside.held) _ (vec_capacity c.self.inside.searches.cells) _ name told c.self.inside.members c.gather.new.members c.self.inside.into c.tidy.new.into
+          c.self.inside.searches.found c.find_way.new.searches.found c.self.inside.searches.ahead c.find_way.new.searches.ahead (ap length back ∙ join.2.3.size) (omega arith) (omega arith) (omega arith) (omega (arith, c.find_way.ensures.capacity, c.gather.ensures.capacity, c.tidy.ensures.capacity)) (omega (arith, join.2.2.room, tell.room)) (omega (arith, join.2.3.members.list_room)) (omega (arith, join.2.3.members.item_room))
+          (omega (arith, join.2.3.into.same.list_room, push.same.list_room, settle.same.list_room)) (omega (arith, join.2.3.into.same.item_room, push.same.item_room, settle.same.item_room)) room.0 room.1 c.self.invariant.3,
       marked-as new _ held held c.tidy.new.into c.tidy.new.into told told back refl refl refl refl refl marks,
     )
 
@@ -218,24 +237,24 @@ returns-clause-nodes c =
     let slot : c.args.cell / 8 < length old = slot-in c.args.cell (length old) (length arcs) kept.range.cells cell in
     let v = value-at old (c.args.cell / 8) c.index.result.now slot c.index.ensures in
     let w = value-at old c.args.to c.index-2.result.now to c.index-2.ensures in
-    let new = c.join.new.node in
+    let new = c.gather.new.node in
     let name = c.self.inside.names in
-    let names = c.join.new.names in
-    let join = joined-at arcs c.as_slice.result.now old c.as_mut_slice.result.now c.index.result.now (node_at old (c.args.cell / 8)) c.index-2.result.now (node_at old c.args.to) new name names c.self.inside.members c.join.new.members c.self.inside.into c.join.new.into
-    c.as_slice.ensures.value c.as_mut_slice.ensures.value v w c.join.ensures.joined in
+    let names = c.gather.new.names in
+    let join = joined-at arcs c.as_slice.result.now old c.as_slice-2.result.now c.as_mut_slice.result.now c.index.result.now (node_at old (c.args.cell / 8)) c.index-2.result.now (node_at old c.args.to) c.find_way.new.searches.found.members new name names c.self.inside.members c.gather.new.members c.self.inside.into c.gather.new.into
+    c.as_slice.ensures.value c.as_slice-2.ensures.value c.as_mut_slice.ensures.value v w c.find_way.ensures.way c.gather.ensures.gathered in
     let back = back-is old new c.self.inside.node.len join.2.3.size c.self.inside.node.ok.0 in
     let low : c.args.to < length new = omega (arith, to, join.2.3.size) in
     let at = value-at new c.args.to c.index-n.result.now low (subst (λ (xs : List ℕ). c.index-n.result.now ≡ slice_index_or xs c.args.to c.index-n.result.now) back c.index-n.ensures) in
     let none : arc_at arcs c.args.cell ≡ None = subst (λ (g : Graph). arc_at g.arcs c.args.cell ≡ None) (sym c.self.view_is) c.requires.none in
     let holds : IsTrue (held_at held (c.args.cell / 8)) = subst (λ (g : Graph). IsTrue (held_at g.held (c.args.cell / 8))) (sym c.self.view_is) c.requires.from_held in
-    let push : IsPushed c.join.new.into (node_at new c.args.to) c.args.cell c.push.new.self = subst (λ (k : ℕ). IsPushed c.join.new.into k c.args.cell c.push.new.self) at c.push.ensures in
+    let push : IsPushed c.gather.new.into (node_at new c.args.to) c.args.cell c.push.new.self = subst (λ (k : ℕ). IsPushed c.gather.new.into k c.args.cell c.push.new.self) at c.push.ensures in
     let set = slice_set arcs c.args.cell (Some c.args.to) in
     let stored : slice_set arcs c.args.cell c.some.result ≡ set = ap (λ (o : Option ℕ). slice_set arcs c.args.cell o) c.some.ensures in
     let settle : IsSettled set new (node_at new c.args.to) c.push.new.self c.tidy.new.into =
     subst (λ (k : ℕ). IsSettled set new k c.push.new.self c.tidy.new.into) at
-    (subst (λ (xs : List ℕ). IsSettled set xs c.index-n.result.now c.push.new.self c.tidy.new.into) (c.as_slice-3.ensures.value ∙ back)
-    (subst (λ (xs : List (Option ℕ)). IsSettled xs c.as_slice-3.result.now c.index-n.result.now c.push.new.self c.tidy.new.into) (c.as_slice-2.ensures.value ∙ stored) c.tidy.ensures.settled)) in
-    let after = kept-inserted arcs old new held name names c.self.inside.members c.join.new.members c.self.inside.into c.join.new.into c.push.new.self c.tidy.new.into c.args.cell c.args.to kept cell none holds to join push settle in
+    (subst (λ (xs : List ℕ). IsSettled set xs c.index-n.result.now c.push.new.self c.tidy.new.into) (c.as_slice-4.ensures.value ∙ back)
+    (subst (λ (xs : List (Option ℕ)). IsSettled xs c.as_slice-4.result.now c.index-n.result.now c.push.new.self c.tidy.new.into) (c.as_slice-3.ensures.value ∙ stored) c.tidy.ensures.settled)) in
+    let after = kept-inserted arcs old new held name names c.self.inside.members c.gather.new.members c.self.inside.into c.gather.new.into c.push.new.self c.tidy.new.into c.args.cell c.args.to kept cell none holds to join push settle in
     subst (λ (xs : List ℕ). AreNodes (IsArc (slice_set arcs c.args.cell c.some.result)) (node_at xs)) (sym back)
     (subst (λ (o : List (Option ℕ)). AreNodes (IsArc o) (node_at new)) (sym stored) after.nodes)
 
@@ -251,15 +270,15 @@ count-requires c =
     let slot : c.args.cell / 8 < length old = slot-in c.args.cell (length old) (length arcs) kept.range.cells cell in
     let v = value-at old (c.args.cell / 8) c.index.result.now slot c.index.ensures in
     let w = value-at old c.args.to c.index-2.result.now to c.index-2.ensures in
-    let new = c.join.new.node in
+    let new = c.gather.new.node in
     let name = c.self.inside.names in
-    let names = c.join.new.names in
-    let join = joined-at arcs c.as_slice.result.now old c.as_mut_slice.result.now c.index.result.now (node_at old (c.args.cell / 8)) c.index-2.result.now (node_at old c.args.to) new name names c.self.inside.members c.join.new.members c.self.inside.into c.join.new.into
-    c.as_slice.ensures.value c.as_mut_slice.ensures.value v w c.join.ensures.joined in
+    let names = c.gather.new.names in
+    let join = joined-at arcs c.as_slice.result.now old c.as_slice-2.result.now c.as_mut_slice.result.now c.index.result.now (node_at old (c.args.cell / 8)) c.index-2.result.now (node_at old c.args.to) c.find_way.new.searches.found.members new name names c.self.inside.members c.gather.new.members c.self.inside.into c.gather.new.into
+    c.as_slice.ensures.value c.as_slice-2.ensures.value c.as_mut_slice.ensures.value v w c.find_way.ensures.way c.gather.ensures.gathered in
     let back = back-is old new c.self.inside.node.len join.2.3.size c.self.inside.node.ok.0 in
     let low : c.args.to < length new = omega (arith, to, join.2.3.size) in
     let at = value-at new c.args.to c.index-n.result.now low (subst (λ (xs : List ℕ). c.index-n.result.now ≡ slice_index_or xs c.args.to c.index-n.result.now) back c.index-n.ensures) in
-    omega (arith, at, joined-below arcs old new held name names c.self.inside.members c.join.new.members c.self.inside.into c.join.new.into (node_at old (c.args.cell / 8)) c.args.to kept to join, c.push.ensures.same.lists, c.tidy.ensures.settled.same.lists)
+    omega (arith, at, joined-below arcs old new held name names c.self.inside.members c.gather.new.members c.self.inside.into c.gather.new.into (node_at old (c.args.cell / 8)) c.args.to kept to join, c.push.ensures.same.lists, c.tidy.ensures.settled.same.lists)
 
 pub tell-requires : goal.tell-requires
 tell-requires c =
@@ -273,15 +292,15 @@ tell-requires c =
     let slot : c.args.cell / 8 < length old = slot-in c.args.cell (length old) (length arcs) kept.range.cells cell in
     let v = value-at old (c.args.cell / 8) c.index.result.now slot c.index.ensures in
     let w = value-at old c.args.to c.index-2.result.now to c.index-2.ensures in
-    let new = c.join.new.node in
+    let new = c.gather.new.node in
     let name = c.self.inside.names in
-    let names = c.join.new.names in
-    let join = joined-at arcs c.as_slice.result.now old c.as_mut_slice.result.now c.index.result.now (node_at old (c.args.cell / 8)) c.index-2.result.now (node_at old c.args.to) new name names c.self.inside.members c.join.new.members c.self.inside.into c.join.new.into
-    c.as_slice.ensures.value c.as_mut_slice.ensures.value v w c.join.ensures.joined in
+    let names = c.gather.new.names in
+    let join = joined-at arcs c.as_slice.result.now old c.as_slice-2.result.now c.as_mut_slice.result.now c.index.result.now (node_at old (c.args.cell / 8)) c.index-2.result.now (node_at old c.args.to) c.find_way.new.searches.found.members new name names c.self.inside.members c.gather.new.members c.self.inside.into c.gather.new.into
+    c.as_slice.ensures.value c.as_slice-2.ensures.value c.as_mut_slice.ensures.value v w c.find_way.ensures.way c.gather.ensures.gathered in
     let back = back-is old new c.self.inside.node.len join.2.3.size c.self.inside.node.ok.0 in
     let low : c.args.to < length new = omega (arith, to, join.2.3.size) in
     let at = value-at new c.args.to c.index-n.result.now low (subst (λ (xs : List ℕ). c.index-n.result.now ≡ slice_index_or xs c.args.to c.index-n.result.now) back c.index-n.ensures) in
-    omega (arith, at, joined-below arcs old new held name names c.self.inside.members c.join.new.members c.self.inside.into c.join.new.into (node_at old (c.args.cell / 8)) c.args.to kept to join, join.2.3.into.same.lists, kept.range.into_lists, kept.range.names, join.2.2.size)
+    omega (arith, at, joined-below arcs old new held name names c.self.inside.members c.gather.new.members c.self.inside.into c.gather.new.into (node_at old (c.args.cell / 8)) c.args.to kept to join, join.2.3.into.same.lists, kept.range.into_lists, kept.range.names, join.2.2.size)
 
 pub next_hub-self-inside-requires : goal.next_hub-self-inside-requires
 next_hub-self-inside-requires c =
@@ -295,15 +314,15 @@ next_hub-self-inside-requires c =
     let slot : c.args.cell / 8 < length old = slot-in c.args.cell (length old) (length arcs) kept.range.cells cell in
     let v = value-at old (c.args.cell / 8) c.index.result.now slot c.index.ensures in
     let w = value-at old c.args.to c.index-2.result.now to c.index-2.ensures in
-    let new = c.join.new.node in
+    let new = c.gather.new.node in
     let name = c.self.inside.names in
-    let names = c.join.new.names in
-    let join = joined-at arcs c.as_slice.result.now old c.as_mut_slice.result.now c.index.result.now (node_at old (c.args.cell / 8)) c.index-2.result.now (node_at old c.args.to) new name names c.self.inside.members c.join.new.members c.self.inside.into c.join.new.into
-    c.as_slice.ensures.value c.as_mut_slice.ensures.value v w c.join.ensures.joined in
+    let names = c.gather.new.names in
+    let join = joined-at arcs c.as_slice.result.now old c.as_slice-2.result.now c.as_mut_slice.result.now c.index.result.now (node_at old (c.args.cell / 8)) c.index-2.result.now (node_at old c.args.to) c.find_way.new.searches.found.members new name names c.self.inside.members c.gather.new.members c.self.inside.into c.gather.new.into
+    c.as_slice.ensures.value c.as_slice-2.ensures.value c.as_mut_slice.ensures.value v w c.find_way.ensures.way c.gather.ensures.gathered in
     let back = back-is old new c.self.inside.node.len join.2.3.size c.self.inside.node.ok.0 in
     let low : c.args.to < length new = omega (arith, to, join.2.3.size) in
     let at = value-at new c.args.to c.index-n.result.now low (subst (λ (xs : List ℕ). c.index-n.result.now ≡ slice_index_or xs c.args.to c.index-n.result.now) back c.index-n.ensures) in
-    omega (arith, at, joined-below arcs old new held name names c.self.inside.members c.join.new.members c.self.inside.into c.join.new.into (node_at old (c.args.cell / 8)) c.args.to kept to join, join.2.3.into.same.lists, join.2.3.members.lists, kept.range.into_lists, kept.range.member_lists)
+    omega (arith, at, joined-below arcs old new held name names c.self.inside.members c.gather.new.members c.self.inside.into c.gather.new.into (node_at old (c.args.cell / 8)) c.args.to kept to join, join.2.3.into.same.lists, join.2.3.members.lists, kept.range.into_lists, kept.range.member_lists)
 
 pub returns-clause-arcs : goal.returns-clause-arcs
 returns-clause-arcs c = ap (λ (o : Option ℕ). slice_set c.self.inside.arcs.items c.args.cell o) c.some.ensures ∙ ap (λ (g : Graph). slice_set g.arcs c.args.cell (Some c.args.to)) c.self.view_is

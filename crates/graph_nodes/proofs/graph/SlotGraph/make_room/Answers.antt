@@ -12,8 +12,8 @@ invariant_of-self-in_err-make_room c =
       c.self.invariant.1 ∙ sym same,
       c.self.invariant.2 ∙ sym same,
       room-more c.self.inside.room (length c.self.inside.node.items) (length c.reserve-2.new.self.items) (vec_capacity c.self.inside.arcs) (vec_capacity c.reserve.new.self) (vec_capacity c.self.inside.node) (vec_capacity c.reserve-2.new.self) (vec_capacity c.self.inside.held) (vec_capacity c.reserve-3.new.self)
-          (vec_capacity c.self.inside.scratch) (vec_capacity c.self.inside.scratch) c.self.inside.names c.make_room.new.self c.self.inside.members c.self.inside.members c.self.inside.into c.self.inside.into c.self.inside.found c.self.inside.found c.self.inside.taken c.self.inside.taken
-          same c.reserve.ensures.capacity c.reserve-2.ensures.capacity c.reserve-3.ensures.capacity (omega arith) c.make_room.ensures.kept (omega arith) (omega arith) (omega arith) (omega arith) (omega arith) (omega arith) c.self.invariant.3,
+          (vec_capacity c.self.inside.searches.cells) (vec_capacity c.self.inside.searches.cells) c.self.inside.names c.make_room.new.self c.self.inside.members c.self.inside.members c.self.inside.into c.self.inside.into c.self.inside.searches.found c.self.inside.searches.found c.self.inside.searches.ahead c.self.inside.searches.ahead
+          same c.reserve.ensures.capacity c.reserve-2.ensures.capacity c.reserve-3.ensures.capacity (omega arith) c.make_room.ensures.kept (omega arith) (omega arith) (omega arith) (omega arith) c.self.invariant.3.found c.self.invariant.3.ahead c.self.invariant.3,
       marked-as c.self.inside.node.items c.reserve-2.new.self.items c.self.inside.held.items c.reserve-3.new.self.items c.self.inside.into c.self.inside.into c.self.inside.names c.make_room.new.self c.reserve-2.ensures.items c.reserve-3.ensures.items refl
           c.make_room.ensures.name c.make_room.ensures.names c.make_room.ensures.minimal c.self.invariant.4,
     )
@@ -26,8 +26,8 @@ invariant_of-self-in_err-make_room-2 c =
       c.self.invariant.1 ∙ sym same,
       c.self.invariant.2 ∙ sym same,
       room-more c.self.inside.room (length c.self.inside.node.items) (length c.reserve-2.new.self.items) (vec_capacity c.self.inside.arcs) (vec_capacity c.reserve.new.self) (vec_capacity c.self.inside.node) (vec_capacity c.reserve-2.new.self) (vec_capacity c.self.inside.held) (vec_capacity c.reserve-3.new.self)
-          (vec_capacity c.self.inside.scratch) (vec_capacity c.self.inside.scratch) c.self.inside.names c.make_room.new.self c.self.inside.members c.make_room-2.new.self c.self.inside.into c.self.inside.into c.self.inside.found c.self.inside.found c.self.inside.taken c.self.inside.taken
-          same c.reserve.ensures.capacity c.reserve-2.ensures.capacity c.reserve-3.ensures.capacity (omega arith) c.make_room.ensures.kept c.make_room-2.ensures.lists_kept c.make_room-2.ensures.items_kept (omega arith) (omega arith) (omega arith) (omega arith) c.self.invariant.3,
+          (vec_capacity c.self.inside.searches.cells) (vec_capacity c.self.inside.searches.cells) c.self.inside.names c.make_room.new.self c.self.inside.members c.make_room-2.new.self c.self.inside.into c.self.inside.into c.self.inside.searches.found c.self.inside.searches.found c.self.inside.searches.ahead c.self.inside.searches.ahead
+          same c.reserve.ensures.capacity c.reserve-2.ensures.capacity c.reserve-3.ensures.capacity (omega arith) c.make_room.ensures.kept c.make_room-2.ensures.lists_kept c.make_room-2.ensures.items_kept (omega arith) (omega arith) c.self.invariant.3.found c.self.invariant.3.ahead c.self.invariant.3,
       marked-as c.self.inside.node.items c.reserve-2.new.self.items c.self.inside.held.items c.reserve-3.new.self.items c.self.inside.into c.self.inside.into c.self.inside.names c.make_room.new.self c.reserve-2.ensures.items c.reserve-3.ensures.items refl
           c.make_room.ensures.name c.make_room.ensures.names c.make_room.ensures.minimal c.self.invariant.4,
     )
@@ -40,8 +40,8 @@ invariant_of-self-in_err-make_room-3 c =
       c.self.invariant.1 ∙ sym same,
       c.self.invariant.2 ∙ sym same,
       room-more c.self.inside.room (length c.self.inside.node.items) (length c.reserve-2.new.self.items) (vec_capacity c.self.inside.arcs) (vec_capacity c.reserve.new.self) (vec_capacity c.self.inside.node) (vec_capacity c.reserve-2.new.self) (vec_capacity c.self.inside.held) (vec_capacity c.reserve-3.new.self)
-          (vec_capacity c.self.inside.scratch) (vec_capacity c.self.inside.scratch) c.self.inside.names c.make_room.new.self c.self.inside.members c.make_room-2.new.self c.self.inside.into c.make_room-3.new.self c.self.inside.found c.self.inside.found c.self.inside.taken c.self.inside.taken
-          same c.reserve.ensures.capacity c.reserve-2.ensures.capacity c.reserve-3.ensures.capacity (omega arith) c.make_room.ensures.kept c.make_room-2.ensures.lists_kept c.make_room-2.ensures.items_kept c.make_room-3.ensures.lists_kept c.make_room-3.ensures.items_kept (omega arith) (omega arith) c.self.invariant.3,
+          (vec_capacity c.self.inside.searches.cells) (vec_capacity c.self.inside.searches.cells) c.self.inside.names c.make_room.new.self c.self.inside.members c.make_room-2.new.self c.self.inside.into c.make_room-3.new.self c.self.inside.searches.found c.self.inside.searches.found c.self.inside.searches.ahead c.self.inside.searches.ahead
+          same c.reserve.ensures.capacity c.reserve-2.ensures.capacity c.reserve-3.ensures.capacity (omega arith) c.make_room.ensures.kept c.make_room-2.ensures.lists_kept c.make_room-2.ensures.items_kept c.make_room-3.ensures.lists_kept c.make_room-3.ensures.items_kept c.self.invariant.3.found c.self.invariant.3.ahead c.self.invariant.3,
       marked-as c.self.inside.node.items c.reserve-2.new.self.items c.self.inside.held.items c.reserve-3.new.self.items c.self.inside.into c.make_room-3.new.self c.self.inside.names c.make_room.new.self c.reserve-2.ensures.items c.reserve-3.ensures.items c.make_room-3.ensures.lists
           c.make_room.ensures.name c.make_room.ensures.names c.make_room.ensures.minimal c.self.invariant.4,
     )
@@ -51,39 +51,11 @@ invariant_of-self-in_err-make_room-4 c =
     let same : length c.reserve-2.new.self.items ≡ length c.self.inside.node.items = ap length c.reserve-2.ensures.items in (
       kept-room c.self.inside.arcs.items c.reserve.new.self.items c.self.inside.node.items c.reserve-2.new.self.items c.self.inside.held.items c.reserve-3.new.self.items c.self.inside.names.name c.make_room.new.self.name c.self.inside.members c.make_room-2.new.self c.self.inside.into c.make_room-3.new.self c.self.invariant.0
           c.reserve.ensures.items c.reserve-2.ensures.items c.reserve-3.ensures.items c.make_room.ensures.name c.make_room-2.ensures.lists c.make_room-2.ensures.items c.make_room-3.ensures.lists c.make_room-3.ensures.items,
-      c.make_room-4.ensures.end ∙ c.self.invariant.1 ∙ sym same,
-      c.self.invariant.2 ∙ sym same,
+      c.make_room-4.ensures.found.end ∙ c.self.invariant.1 ∙ sym same,
+      c.make_room-4.ensures.ahead.end ∙ c.self.invariant.2 ∙ sym same,
       room-more c.self.inside.room (length c.self.inside.node.items) (length c.reserve-2.new.self.items) (vec_capacity c.self.inside.arcs) (vec_capacity c.reserve.new.self) (vec_capacity c.self.inside.node) (vec_capacity c.reserve-2.new.self) (vec_capacity c.self.inside.held) (vec_capacity c.reserve-3.new.self)
-          (vec_capacity c.self.inside.scratch) (vec_capacity c.self.inside.scratch) c.self.inside.names c.make_room.new.self c.self.inside.members c.make_room-2.new.self c.self.inside.into c.make_room-3.new.self c.self.inside.found c.make_room-4.new.self c.self.inside.taken c.self.inside.taken
-          same c.reserve.ensures.capacity c.reserve-2.ensures.capacity c.reserve-3.ensures.capacity (omega arith) c.make_room.ensures.kept c.make_room-2.ensures.lists_kept c.make_room-2.ensures.items_kept c.make_room-3.ensures.lists_kept c.make_room-3.ensures.items_kept c.make_room-4.ensures.kept (omega arith) c.self.invariant.3,
-      marked-as c.self.inside.node.items c.reserve-2.new.self.items c.self.inside.held.items c.reserve-3.new.self.items c.self.inside.into c.make_room-3.new.self c.self.inside.names c.make_room.new.self c.reserve-2.ensures.items c.reserve-3.ensures.items c.make_room-3.ensures.lists
-          c.make_room.ensures.name c.make_room.ensures.names c.make_room.ensures.minimal c.self.invariant.4,
-    )
-
-pub invariant_of-self-in_err-make_room-5 : goal.invariant_of-self-in_err-make_room-5
-invariant_of-self-in_err-make_room-5 c =
-    let same : length c.reserve-2.new.self.items ≡ length c.self.inside.node.items = ap length c.reserve-2.ensures.items in (
-      kept-room c.self.inside.arcs.items c.reserve.new.self.items c.self.inside.node.items c.reserve-2.new.self.items c.self.inside.held.items c.reserve-3.new.self.items c.self.inside.names.name c.make_room.new.self.name c.self.inside.members c.make_room-2.new.self c.self.inside.into c.make_room-3.new.self c.self.invariant.0
-          c.reserve.ensures.items c.reserve-2.ensures.items c.reserve-3.ensures.items c.make_room.ensures.name c.make_room-2.ensures.lists c.make_room-2.ensures.items c.make_room-3.ensures.lists c.make_room-3.ensures.items,
-      c.make_room-4.ensures.end ∙ c.self.invariant.1 ∙ sym same,
-      c.make_room-5.ensures.end ∙ c.self.invariant.2 ∙ sym same,
-      room-more c.self.inside.room (length c.self.inside.node.items) (length c.reserve-2.new.self.items) (vec_capacity c.self.inside.arcs) (vec_capacity c.reserve.new.self) (vec_capacity c.self.inside.node) (vec_capacity c.reserve-2.new.self) (vec_capacity c.self.inside.held) (vec_capacity c.reserve-3.new.self)
-          (vec_capacity c.self.inside.scratch) (vec_capacity c.self.inside.scratch) c.self.inside.names c.make_room.new.self c.self.inside.members c.make_room-2.new.self c.self.inside.into c.make_room-3.new.self c.self.inside.found c.make_room-4.new.self c.self.inside.taken c.make_room-5.new.self
-          same c.reserve.ensures.capacity c.reserve-2.ensures.capacity c.reserve-3.ensures.capacity (omega arith) c.make_room.ensures.kept c.make_room-2.ensures.lists_kept c.make_room-2.ensures.items_kept c.make_room-3.ensures.lists_kept c.make_room-3.ensures.items_kept c.make_room-4.ensures.kept c.make_room-5.ensures.kept c.self.invariant.3,
-      marked-as c.self.inside.node.items c.reserve-2.new.self.items c.self.inside.held.items c.reserve-3.new.self.items c.self.inside.into c.make_room-3.new.self c.self.inside.names c.make_room.new.self c.reserve-2.ensures.items c.reserve-3.ensures.items c.make_room-3.ensures.lists
-          c.make_room.ensures.name c.make_room.ensures.names c.make_room.ensures.minimal c.self.invariant.4,
-    )
-
-pub invariant_of-self-in_err-reserve-4 : goal.invariant_of-self-in_err-reserve-4
-invariant_of-self-in_err-reserve-4 c =
-    let same : length c.reserve-2.new.self.items ≡ length c.self.inside.node.items = ap length c.reserve-2.ensures.items in (
-      kept-room c.self.inside.arcs.items c.reserve.new.self.items c.self.inside.node.items c.reserve-2.new.self.items c.self.inside.held.items c.reserve-3.new.self.items c.self.inside.names.name c.make_room.new.self.name c.self.inside.members c.make_room-2.new.self c.self.inside.into c.make_room-3.new.self c.self.invariant.0
-          c.reserve.ensures.items c.reserve-2.ensures.items c.reserve-3.ensures.items c.make_room.ensures.name c.make_room-2.ensures.lists c.make_room-2.ensures.items c.make_room-3.ensures.lists c.make_room-3.ensures.items,
-      c.make_room-4.ensures.end ∙ c.self.invariant.1 ∙ sym same,
-      c.make_room-5.ensures.end ∙ c.self.invariant.2 ∙ sym same,
-      room-more c.self.inside.room (length c.self.inside.node.items) (length c.reserve-2.new.self.items) (vec_capacity c.self.inside.arcs) (vec_capacity c.reserve.new.self) (vec_capacity c.self.inside.node) (vec_capacity c.reserve-2.new.self) (vec_capacity c.self.inside.held) (vec_capacity c.reserve-3.new.self)
-          (vec_capacity c.self.inside.scratch) (vec_capacity c.reserve-4.new.self) c.self.inside.names c.make_room.new.self c.self.inside.members c.make_room-2.new.self c.self.inside.into c.make_room-3.new.self c.self.inside.found c.make_room-4.new.self c.self.inside.taken c.make_room-5.new.self
-          same c.reserve.ensures.capacity c.reserve-2.ensures.capacity c.reserve-3.ensures.capacity (omega (arith, c.clear.ensures.capacity, c.reserve-4.ensures.capacity)) c.make_room.ensures.kept c.make_room-2.ensures.lists_kept c.make_room-2.ensures.items_kept c.make_room-3.ensures.lists_kept c.make_room-3.ensures.items_kept c.make_room-4.ensures.kept c.make_room-5.ensures.kept c.self.invariant.3,
+          (vec_capacity c.self.inside.searches.cells) (vec_capacity c.make_room-4.new.self.cells) c.self.inside.names c.make_room.new.self c.self.inside.members c.make_room-2.new.self c.self.inside.into c.make_room-3.new.self c.self.inside.searches.found c.make_room-4.new.self.found c.self.inside.searches.ahead c.make_room-4.new.self.ahead
+          same c.reserve.ensures.capacity c.reserve-2.ensures.capacity c.reserve-3.ensures.capacity c.make_room-4.ensures.capacity c.make_room.ensures.kept c.make_room-2.ensures.lists_kept c.make_room-2.ensures.items_kept c.make_room-3.ensures.lists_kept c.make_room-3.ensures.items_kept (omega (arith, c.self.invariant.3.found, c.make_room-4.ensures.found.room)) (omega (arith, c.self.invariant.3.ahead, c.make_room-4.ensures.ahead.room)) c.self.invariant.3,
       marked-as c.self.inside.node.items c.reserve-2.new.self.items c.self.inside.held.items c.reserve-3.new.self.items c.self.inside.into c.make_room-3.new.self c.self.inside.names c.make_room.new.self c.reserve-2.ensures.items c.reserve-3.ensures.items c.make_room-3.ensures.lists
           c.make_room.ensures.name c.make_room.ensures.names c.make_room.ensures.minimal c.self.invariant.4,
     )
@@ -93,20 +65,20 @@ invariant_of-self-2 c =
     let same : length c.reserve-2.new.self.items ≡ length c.self.inside.node.items = ap length c.reserve-2.ensures.items in (
       kept-room c.self.inside.arcs.items c.reserve.new.self.items c.self.inside.node.items c.reserve-2.new.self.items c.self.inside.held.items c.reserve-3.new.self.items c.self.inside.names.name c.make_room.new.self.name c.self.inside.members c.make_room-2.new.self c.self.inside.into c.make_room-3.new.self c.self.invariant.0
           c.reserve.ensures.items c.reserve-2.ensures.items c.reserve-3.ensures.items c.make_room.ensures.name c.make_room-2.ensures.lists c.make_room-2.ensures.items c.make_room-3.ensures.lists c.make_room-3.ensures.items,
-      c.make_room-4.ensures.end ∙ c.self.invariant.1 ∙ sym same,
-      c.make_room-5.ensures.end ∙ c.self.invariant.2 ∙ sym same,
+      c.make_room-4.ensures.found.end ∙ c.self.invariant.1 ∙ sym same,
+      c.make_room-4.ensures.ahead.end ∙ c.self.invariant.2 ∙ sym same,
       record {
         arcs = omega (arith, same, c.in_ok-reserve.ensures.ok, c.reserve.new.self.ok.0, ap length c.reserve.ensures.items, c.self.invariant.0.range.cells);
         node = omega (arith, c.in_ok-reserve-2.ensures.ok, c.reserve-2.new.self.ok.0);
         held = omega (arith, same, c.in_ok-reserve-3.ensures.ok, c.reserve-3.new.self.ok.0, ap length c.reserve-3.ensures.items, c.self.invariant.0.range.holds);
         name = omega (arith, c.in_ok-make_room.ensures.room, c.make_room.ensures.kept);
-        scratch = omega (arith, same, c.in_ok-reserve-4.ensures.ok, c.reserve-4.new.self.ok.0, ap length c.reserve-4.ensures.items, ap length c.clear.ensures.items, c.len.ensures, c.reserve.new.self.ok.0, ap length c.reserve.ensures.items, c.self.invariant.0.range.cells);
+        scratch = omega (arith, same, c.in_ok-make_room-4.ensures.room.2, c.len.ensures, c.reserve.new.self.ok.0, ap length c.reserve.ensures.items, c.self.invariant.0.range.cells);
         member_lists = c.in_ok-make_room-2.ensures.list_room;
         members = c.in_ok-make_room-2.ensures.item_room;
         into_lists = c.in_ok-make_room-3.ensures.list_room;
         into = c.in_ok-make_room-3.ensures.item_room;
-        found = omega (arith, c.in_ok-make_room-4.ensures.room, c.make_room-4.ensures.kept);
-        taken = omega (arith, c.in_ok-make_room-5.ensures.room, c.make_room-5.ensures.kept);
+        found = c.in_ok-make_room-4.ensures.room.0;
+        ahead = c.in_ok-make_room-4.ensures.room.1;
       },
       marked-as c.self.inside.node.items c.reserve-2.new.self.items c.self.inside.held.items c.reserve-3.new.self.items c.self.inside.into c.make_room-3.new.self c.self.inside.names c.make_room.new.self c.reserve-2.ensures.items c.reserve-3.ensures.items c.make_room-3.ensures.lists
           c.make_room.ensures.name c.make_room.ensures.names c.make_room.ensures.minimal c.self.invariant.4,

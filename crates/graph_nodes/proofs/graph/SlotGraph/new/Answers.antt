@@ -6,8 +6,8 @@ use Rattle.graph_nodes.proofs.graph.SlotGraph.new.Goals as goal
 pub invariant_of-result : goal.invariant_of-result
 invariant_of-result c = rw (c.new.ensures.items, c.new-2.ensures.items, c.new-3.ensures.items) (
   kept-none c.new-4.result.name c.new-5.result c.new-6.result c.new-4.ensures.name c.new-5.ensures.lists c.new-6.ensures.lists c.new-5.ensures.items c.new-6.ensures.items,
-  c.new-7.ensures.end,
-  c.new-8.ensures.end,
+  c.new-7.ensures.found,
+  c.new-7.ensures.ahead,
   record {
     arcs = omega arith;
     node = omega arith;
@@ -19,7 +19,7 @@ invariant_of-result c = rw (c.new.ensures.items, c.new-2.ensures.items, c.new-3.
     into_lists = omega arith;
     into = omega arith;
     found = omega arith;
-    taken = omega arith;
+    ahead = omega arith;
   },
   marked-none c.new-6.result c.new-4.result c.new-4.ensures.names c.new-4.ensures.minimal,
 )

@@ -215,9 +215,9 @@ invariant_of-self c =
       kept-room left _ new _ holders _ last.name last.name c.scatter.new.members c.scatter.new.members led_into led_into after back_arcs back back_held refl refl refl refl refl,
       c.self.invariant.1 ∙ sym (ap length back ∙ alone.size),
       c.self.invariant.2 ∙ sym (ap length back ∙ alone.size),
-      room-more c.self.inside.room (length old) _ (vec_capacity c.self.inside.arcs) _ (vec_capacity c.self.inside.node) _ (vec_capacity c.self.inside.held) _ (vec_capacity c.self.inside.scratch) _ name last members c.scatter.new.members into led_into
-          c.self.inside.found c.self.inside.found c.self.inside.taken c.self.inside.taken (ap length back ∙ alone.size) (omega arith) (omega arith) (omega arith) c.copy_to.ensures.capacity (omega (arith, same.room, c.remove.ensures.room)) (omega (arith, c.scatter.ensures.same.list_room)) (omega (arith, c.scatter.ensures.same.item_room))
-          (omega (arith, clear.same.list_room)) (omega (arith, clear.same.item_room)) (omega arith) (omega arith) c.self.invariant.3,
+      room-more c.self.inside.room (length old) _ (vec_capacity c.self.inside.arcs) _ (vec_capacity c.self.inside.node) _ (vec_capacity c.self.inside.held) _ (vec_capacity c.self.inside.searches.cells) _ name last members c.scatter.new.members into led_into
+          c.self.inside.searches.found c.self.inside.searches.found c.self.inside.searches.ahead c.self.inside.searches.ahead (ap length back ∙ alone.size) (omega arith) (omega arith) (omega arith) c.copy_to.ensures.capacity (omega (arith, same.room, c.remove.ensures.room)) (omega (arith, c.scatter.ensures.same.list_room)) (omega (arith, c.scatter.ensures.same.item_room))
+          (omega (arith, clear.same.list_room)) (omega (arith, clear.same.item_room)) c.self.invariant.3.found c.self.invariant.3.ahead c.self.invariant.3,
       marked-as new _ holders _ led_into led_into last last back back_held refl refl refl refl marks,
     )
 

@@ -1,0 +1,14 @@
+use number_lists::{Chains, PackedOption};
+
+/// The nodes, as a search reads them.
+#[derive(Drop)]
+pub(crate) struct Nodes<'a> {
+    /// Where the arc of each cell leads.
+    pub(crate) arcs: &'a [PackedOption],
+    /// The slot that stands for the node of each slot.
+    pub(crate) node: &'a [u32],
+    /// By node, its slots.
+    pub(crate) members: &'a Chains,
+    /// By node, the cells whose arcs lead into it.
+    pub(crate) into: &'a Chains,
+}

@@ -1,6 +1,0 @@
-pub mod Same
-pub mod Fewer
-pub mod Added
-pub mod Tell
-pub mod Moved
-pub mod Places
