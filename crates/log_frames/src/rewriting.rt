@@ -128,6 +128,7 @@ fn write_log<M: Machine>(
         → LeavesOnly (M.disk machine.old) (M.disk machine.new) (IsPassiveOrNew (M.disk machine.old) file epoch (header_of header) (bytes_of payloads.now)) }
     ensures made { (M.disk machine.old).tells_files → IsSettled (M.disk machine.old) → IsHeader (header_of header)
         → OnOk result (IsSettled (M.disk machine.new) × IsWholeLog (header_of header) (bytes_of payloads.now) ((M.disk machine.new).reads file)) }
+    ensures settled { IsSettled (M.disk machine.old) → OnOk result (IsSettled (M.disk machine.new)) }
     ensures cause { IfErr result (λ e. (e ≡ LogErr.DiskFault) × Rises (M.disk machine.old).disk_faults (M.disk machine.new).disk_faults) }
 {
     close(machine, file)?;
@@ -175,6 +176,7 @@ impl LogFile {
             → IsInForce self.old.active self.old.header.epoch (M.disk machine.old).reads
             → OnOk result (IsAtRest (M.disk machine.new) self.new (bytes_of payloads.now) × IsInForce self.new.active self.new.header.epoch (M.disk machine.new).reads) }
 
+        ensures settled { IsSettled (M.disk machine.old) → OnOk result (IsSettled (M.disk machine.new)) }
         ensures rewritten { OnOk result (self.new ≡ rewritten self.old base commands (bytes_of payloads.now)) }
         ensures kept { OnErr result (self.new ≡ self.old) }
 

@@ -76,7 +76,7 @@ impl<O: Oper> RecordLog<O> {
         ensures counted { IfOk result (λ found. (records : List (Record O)) × AreAll (O.meaning b) (M.disk m.new) found.0.log records
             × (found.0.next ≡ next_after found.0.log.header.base records) × (found.1 ≡ last_check records)) }
         ensures bounds { IfOk result (λ found. found.0.bounds ≡ b) }
-        ensures low { IfOk result (λ found. 1 ≤ found.0.next) }
+        ensures next { IfOk result (λ found. (1 ≤ found.0.next) × (found.0.next ≤ 2 ^ 62)) }
         ensures cause { IfErr result (FailsBy (Rises (M.disk m.old).disk_faults (M.disk m.new).disk_faults)
             (λ file place. (files : Files) → (M.disk m.new).agrees files → IsLoadFault (O.meaning b) files file place)) }
         ensures whole { (M.disk m.old).tells_files → (active : FileNo) (header : Header) (groups : List (List (Record O)))

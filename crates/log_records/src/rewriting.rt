@@ -1,6 +1,6 @@
 // Puts a log of the numbered records from a base on, and of a check, in the place of the log in force.
 ghost use Rattle.std.specs.Prelude.{◌≡◌, ◌≢◌, ◌<◌, ◌≤◌, ◌^◌, [], All, List, ℕ, IfErr, IfOk, OnErr, OnOk, length};
-ghost use Rattle.disk_model.specs.Disk.{Rises, Runs, Stays, LeavesOnly, In, Any, Same};
+ghost use Rattle.disk_model.specs.Disk.{Rises, Runs, Stays, LeavesOnly, In, Any, IsSettled, Same};
 ghost use Rattle.oper_core.specs.declared.bounds.Bounds.{Bounds};
 ghost use Rattle.formats.specs.InForce.{other_of};
 ghost use Rattle.formats.specs.Log.{IsPayload, end_of};
@@ -152,6 +152,7 @@ impl<O: Oper> RecordLog<O> {
             → OnOk result (Keeps (O.meaning self.old.bounds) (M.disk m.new) self.new (rewritten_records base table stable) []
             × (self.new ≡ record self.old { log = rewritten_log (O.meaning self.old.bounds) self.old.log base table stable })) }
 
+        ensures settled { IsSettled (M.disk m.old) → OnOk result (IsSettled (M.disk m.new)) }
         ensures rewritten { OnOk result ((payloads : List (List ℕ)) × (commands : ℕ) × (self.new ≡ record self.old { log = rewritten self.old.log base commands payloads })) }
         ensures kept { OnErr result (self.new ≡ self.old) }
 

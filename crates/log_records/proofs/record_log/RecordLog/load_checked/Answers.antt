@@ -81,10 +81,15 @@ returns-clause-counted g c =
 pub returns-clause-kept : goal.returns-clause-kept
 returns-clause-kept g c = stays_twice (g.M.Machine.disk c.args.m.now) (g.M.Machine.disk c.load.new.machine) (g.M.Machine.disk c.count_records.new.m) c.load.ensures.kept c.count_records.ensures.kept
 
-pub returns-clause-low : goal.returns-clause-low
-returns-clause-low g c =
-    let counted = c.in_ok-counted.ensures.counted in
-    omega (arith, c.in_ok-log.ensures.header.base_low, counted.2.next, next_rises (g.O.Oper.meaning c.args.b) c.in_ok-log.log.header.base counted.0)
+pub returns-clause-next : goal.returns-clause-next
+returns-clause-next g c =
+    let m = g.O.Oper.meaning c.args.b in
+    let base = c.in_ok-log.log.header.base in
+    let header = c.in_ok-log.ensures.header in
+    let counted = c.in_ok-counted.ensures.counted in (
+      omega (arith, header.base_low, counted.2.next, next_rises m base counted.0),
+      omega (arith, counted.2.next, numbers_end m base base counted.0 header.base_high counted.1.placed),
+    )
 
 pub invariant_of-log : goal.invariant_of-log
 invariant_of-log g c =

@@ -1,7 +1,7 @@
 use Rattle.std.proofs.Common.{◌∙◌, ◌<◌, ◌≤◌, ◌^◌, ℕ, ap, sym, subst, arith, inr}
 use Rattle.std.proofs.lemmas.Result.{err_from_is_err_and}
 use Rattle.disk_model.specs.Disk.{Disk, Runs, Stays, Same, In, Any, Rises}
-use Rattle.disk_model.specs.Moments.{stays_here}
+use Rattle.disk_model.specs.Moments.{stays_here, stays_settled}
 use Rattle.formats.specs.InForce.{other_of}
 use Rattle.log_frames.specs.Rewriting.{bytes_of, file_length, RewriteFails as Below}
 use Rattle.log_records.specs.Loading.{IsTailFault}
@@ -122,3 +122,6 @@ pub returns-clause-long : goal.returns-clause-long
 returns-clause-long g c told stable keeps over =
     let long = ap file_length (ap bytes_of c.as_slice.ensures.value ∙ (c.in_ok-payloads.ensures.made told stable keeps).0) in
     absurd (omega (arith, over, long, c.in_ok-rewrite.ensures.made.1))
+
+pub returns-clause-settled : goal.returns-clause-settled
+returns-clause-settled g c settled = c.in_ok-rewrite.ensures.settled (λ file. stays_settled (g.M.Machine.disk c.args.m.now) (g.M.Machine.disk c.new_blocks.new.m) file c.new_blocks.ensures.kept (settled file))
