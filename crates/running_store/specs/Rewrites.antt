@@ -1,0 +1,73 @@
+-- What a rewrite of a store's log does, as a function of the world, and what it leaves.
+use Rattle.std.specs.Prelude.{◌≡◌, ◌+◌, ◌-◌, ℕ, nat_lt, if◌then◌else◌, List, [], ◌∷◌, ◌++◌, map, drop, Result, Ok, Err}
+use Rattle.oper_core.specs.Meaning.{Meaning}
+use Rattle.checkpoint.specs.declared.table.Table.{Table}
+use Rattle.install_order.specs.Computed.{least_below}
+use Rattle.log_frames.specs.declared.log_err.LogErr.{LogErr}
+use Rattle.log_frames.specs.declared.log_err.LogErr.TheVariants as of_log
+use Rattle.log_records.specs.Rewriting.{blocks_length}
+use Rattle.explain_core.specs.World.{World, end_of, table_now}
+use Rattle.explain_core.specs.World.Step.{Header_gate}
+use Rattle.standing.specs.Members.{table_of}
+use Rattle.running_store.specs.Calls.{with_log}
+use Rattle.running_store.specs.Courses.{Course, course, record_length, table_length}
+use Rattle.running_store.specs.Courses.Stop.{Through, Full, Worn}
+use Rattle.running_store.specs.Logged.{log_limit}
+use Rattle.running_store.specs.StoreView.{StoreView}
+use Rattle.running_store.specs.Taking.{Ending}
+use Rattle.running_store.specs.Taking.Ending.{Done, Stopped, Short, Failed}
+
+module _ {O : Type 0} (m : Meaning O) where
+  -- the bytes of the record of a check taken now
+  abbrev pub check_length : World O → ℕ
+  check_length w = table_length m (table_now m w)
+
+  -- where the log begins after a trim: at the least member of the graph, or at the next number
+  abbrev pub new_base : World O → ℕ
+  new_base w = least_below (end_of w) w.graph
+
+  -- the lengths of the records that a trim leaves in the log: the members from the new base on, and a check taken now
+  abbrev pub lengths_left : World O → List ℕ
+  lengths_left w = map (record_length m) (drop (new_base w - 1) w.history) ++ check_length w ∷ []
+
+  -- the length of the log after a trim: a header, the head of the first block, and the blocks
+  abbrev pub trimmed : World O → ℕ
+  trimmed w = 33 + (5 + blocks_length 0 (lengths_left w))
+
+  -- the length of its file, in which a closed gate follows the last block
+  abbrev pub trimmed_file : World O → ℕ
+  trimmed_file w = trimmed w + 1
+
+  -- the log is rewritten, where all is forced and its file may be so long
+  abbrev pub rewrite_course : World O → ℕ → Course O
+  rewrite_course w used =
+      if nat_lt log_limit (trimmed_file w) then course [] used (Full used (trimmed_file w) log_limit) else course (Header_gate (new_base w) ∷ []) (trimmed w) Through
+
+  -- a check that the world would take now, and the number from which a log of it is then kept
+  pub record IsKeptFrom (w : World O) (base : ℕ) (table : Table) : Type 0 where
+    pub now : table_of table ≡ table_now m w
+    pub starts : base ≡ new_base w
+
+-- how a rewrite ends; of a damaged log nothing is rewritten, as without memory
+abbrev pub ending_of_rewrite : {T : Type 0} → Result T LogErr → Ending
+ending_of_rewrite (Ok value) = Done
+ending_of_rewrite (Err of_log.DiskFault) = Failed
+ending_of_rewrite (Err (of_log.LogFull used need limit)) = Stopped (Full used need limit)
+ending_of_rewrite (Err (of_log.Damaged file place)) = Short
+ending_of_rewrite (Err (of_log.Exhausted epoch)) = Stopped (Worn epoch)
+ending_of_rewrite (Err of_log.Memory) = Short
+
+-- The log is one of the next epoch, which begins at the base. No number is given, no command is added, and all but the log is
+-- as it was.
+pub record IsRewritten (before after : StoreView) (base : ℕ) : Type 0 where
+  pub bounds : after.parts.log.bounds ≡ before.parts.log.bounds
+  pub epoch : after.parts.log.log.header.epoch ≡ before.parts.log.log.header.epoch + 1
+  pub begins : after.parts.log.log.header.base ≡ base
+  pub next : after.parts.log.next ≡ before.parts.log.next
+  pub accepted : after.parts.log.accepted ≡ before.parts.log.accepted
+  pub same : after ≡ with_log before after.parts.log
+
+-- a log that is not rewritten is as it was, and so is the store, but that it may be broken
+abbrev pub HasRewritten : {T E : Type 0} → StoreView → StoreView → ℕ → Result T E → Type 0
+HasRewritten before after base (Ok value) = IsRewritten before after base
+HasRewritten before after base (Err e) = after ≡ record before { broken = after.broken }

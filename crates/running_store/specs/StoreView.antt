@@ -1,0 +1,44 @@
+-- A running store, as contracts see it.
+use Rattle.std.specs.Prelude.{◌-◌, ◌≤◌, ℕ, Bool, List}
+use Rattle.formats.specs.declared.params.Params.{Params}
+use Rattle.install_order.specs.declared.entry.Entry.{Entry}
+use Rattle.log_frames.specs.LogView.{used_of}
+use Rattle.log_records.specs.RecordLog.{RecordLogView}
+use Rattle.running_store.specs.Laid.{Laid}
+use Rattle.running_store.specs.Parts.{Parts, parts}
+use Rattle.running_store.specs.Taking.{ArePartsInUse}
+
+pub record StoreView : Type 0 where
+  -- its log, its objects, and the entries of its write graph
+  pub parts : Parts
+  -- so many identity writes were logged since it was opened
+  pub identities : ℕ
+  -- the disk failed
+  pub broken : Bool
+
+-- the store that these parts make
+abbrev pub view_of : RecordLogView → Laid → List Entry → ℕ → Bool → StoreView
+view_of log objects entries identities broken = record { parts = parts log objects entries; identities = identities; broken = broken }
+
+-- the numbers of the store
+abbrev pub params_of : StoreView → Params
+params_of store = store.parts.store.objects.slots.params
+
+-- the number of its next record
+abbrev pub next_of : StoreView → ℕ
+next_of store = store.parts.log.next
+
+-- so many numbers are given from one store to the next: in a call that logs nothing else with a number, so many identity
+-- writes
+abbrev pub logged_since : StoreView → StoreView → ℕ
+logged_since before after = next_of after - next_of before
+
+-- the length of its log, what waits for a force counted
+abbrev pub length_of : StoreView → ℕ
+length_of store = used_of store.parts.log.log
+
+-- What holds of a store that is not broken: its parts are in use, and no more identity writes were logged than there are
+-- numbers below the next.
+pub record IsUsable (it : Parts) (identities : ℕ) : Type 0 where
+  pub in_use : ArePartsInUse it
+  pub counted : identities ≤ it.log.next

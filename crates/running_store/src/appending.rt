@@ -1,0 +1,43 @@
+// An identity write is appended to the log's buffer.
+ghost use Rattle.std.specs.Prelude.{◌≡◌, ◌<◌, ◌^◌, true, Some, length, false};
+ghost use Rattle.dirty_cache.specs.Contents.{held, is_dirty};
+ghost use Rattle.dirty_cache.specs.declared.entry.Entry.{Entry as Pair};
+ghost use Rattle.running_store.specs.Courses.{identity_length};
+ghost use Rattle.running_store.specs.Logged.{HasPlace};
+ghost use Rattle.running_store.specs.StoreView.{next_of};
+ghost use Rattle.running_store.specs.Writes.{HasWritten};
+
+use crate::store::Store;
+use formats::Record;
+use install_order::Entry;
+use oper_core::{ByteList, Memory, Objs, Oper};
+
+impl<O: Oper> Store<O> {
+    /// Logs an identity write of a dirty object, in the buffer alone. Without memory nothing changes but room.
+    pub fn append_identity(&mut self, x: u32) -> Result<(), Memory>
+        requires unbroken { self.old.broken ≡ false }
+        requires dirty { is_dirty self.old.parts.store.objects.cache x ≡ true }
+        requires number { next_of self.old < 2 ^ 62 }
+        requires place { (pair : Pair) → held self.old.parts.store.objects.cache x ≡ Some pair → HasPlace self.old.parts.log.log (identity_length (length pair.bytes)) }
+        ensures { HasWritten O.meaning self.old self.new x result }
+    {
+        let logged = self.objects.value(x).to_vec(self.alloc)?;
+        let kept = self.objects.value(x).to_vec(self.alloc)?;
+        let number = self.log.next();
+        let entry = Entry {
+            number,
+            reads: Objs::new(),
+            writes: Objs::one(x),
+            identity: true,
+        };
+        self.graph.make_room(&entry)?;
+        let record = Record::Identity(number, x, ByteList::new(logged));
+        let Ok(()) = self.log.append(record) else {
+            return Err(Memory);
+        };
+        self.objects.set(x, number, ByteList::new(kept));
+        self.graph.add(entry);
+        self.identities += 1;
+        Ok(())
+    }
+}

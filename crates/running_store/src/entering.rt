@@ -1,0 +1,30 @@
+// What a redo enters of a record.
+ghost use Rattle.std.specs.Prelude.{◌≡◌, ◌<◌, ◌≤◌, false, All, length};
+ghost use Rattle.write_graph.specs.Graph.{numbers};
+ghost use Rattle.running_store.specs.Entered.{HasEntered};
+ghost use Rattle.running_store.specs.Laid.{id_at};
+ghost use Rattle.running_store.specs.StoreView.{next_of, params_of};
+
+use crate::store::Store;
+use install_order::Entry;
+use oper_core::{Memory, Oper, Values};
+
+impl<O: Oper> Store<O> {
+    /// Gives the objects that are due the values made for them, which stand side by side with all that the entry writes, and
+    /// adds the entry to the graph: what a redo does with a record of the log. Without memory nothing changes but room.
+    pub fn enter(&mut self, due: &[u32], entry: Entry, made: Values) -> Result<(), Memory>
+        requires unbroken { self.old.broken ≡ false }
+        requires below { All (λ x. x < (params_of self.old).objects) entry.writes }
+        requires values { (length made ≡ length entry.writes) × All (λ v. length v ≤ (params_of self.old).cap) made }
+        requires above { All (λ n. n < entry.number) (numbers self.old.parts.store.entries) × (entry.number < next_of self.old) }
+        requires later { All (λ x. id_at self.old.parts.store.objects x < entry.number) due.now }
+        ensures { HasEntered self.old self.new due.now entry made result }
+    {
+        self.objects.make_room(entry.writes.as_slice())?;
+        self.graph.make_room(&entry)?;
+        self.objects
+            .set_chosen(entry.number, due, entry.writes.as_slice(), made);
+        self.graph.add(entry);
+        Ok(())
+    }
+}

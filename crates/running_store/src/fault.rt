@@ -1,0 +1,59 @@
+// Whether a call failed with the disk.
+ghost use Rattle.std.specs.Prelude.{◌≡◌, ◌||◌, Bool, true};
+ghost use Rattle.running_store.specs.Faults.{has_failed, is_log_fault, is_slot_fault};
+
+use disk_model::Failed;
+use log_frames::LogErr;
+use stable_objects::SlotErr;
+
+/// Why a call fails. One of the causes is a fault of the disk.
+pub(crate) trait Fault: Drop {
+    /// Whether it is that one.
+    ghost is_fault: { Self → Bool };
+
+    /// The same.
+    fn is_disk_fault(&self) -> bool
+        ensures { result ≡ is_fault self.now };
+}
+
+impl Fault for Failed {
+    ghost is_fault = { λ _. true };
+
+    fn is_disk_fault(&self) -> bool {
+        true
+    }
+}
+
+impl Fault for SlotErr {
+    ghost is_fault = { is_slot_fault };
+
+    fn is_disk_fault(&self) -> bool {
+        match self {
+            SlotErr::DiskFault => true,
+            SlotErr::NotAStore | SlotErr::Damaged { .. } | SlotErr::Memory => false,
+        }
+    }
+}
+
+impl Fault for LogErr {
+    ghost is_fault = { is_log_fault };
+
+    fn is_disk_fault(&self) -> bool {
+        match self {
+            LogErr::DiskFault => true,
+            LogErr::LogFull { .. }
+            | LogErr::Damaged { .. }
+            | LogErr::Exhausted { .. }
+            | LogErr::Memory => false,
+        }
+    }
+}
+
+/// Notes in the flag whether the answer is that the disk failed. It is the one place where the flag is set.
+pub(crate) fn note<T, E: Fault>(broken: &mut bool, answer: &Result<T, E>)
+    ensures { broken.new ≡ (broken.old || has_failed E.is_fault answer.now) }
+{
+    if let Err(e) = answer {
+        *broken |= e.is_disk_fault();
+    }
+}
