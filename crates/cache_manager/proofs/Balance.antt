@@ -17,10 +17,10 @@ use Rattle.explain_core.specs.Sound.{IsSound}
 use Rattle.explain_core.specs.Turns.{count_below}
 use Rattle.explain_core.specs.World.{World, Step, step, run, end_of}
 use Rattle.explain_core.specs.World.Step.{Begin, End, Append, Block_gate, Check, Slot_gate, Removal, Header_gate, Replay, Crash}
-use Rattle.cache_manager.specs.Appended.{next_number}
-use Rattle.cache_manager.specs.Courses.{logged_by, logged_in, members_removed, members_removed_by}
-use Rattle.cache_manager.specs.Parts.{Parts, Shows}
-use Rattle.cache_manager.specs.Running.{AreUpkeep, IsUpkeep}
+use Rattle.running_store.specs.Appended.{next_number}
+use Rattle.cache_manager.specs.InstallCourses.{logged_by, logged_in, members_removed, members_removed_by}
+use Rattle.running_store.specs.Parts.{Parts, Shows}
+use Rattle.running_store.specs.Running.{AreUpkeep, IsUpkeep}
 use Rattle.cache_manager.proofs.Lists.{AreApart}
 use Rattle.cache_manager.proofs.Planned.{rises_apart, rises_from_increasing}
 

@@ -1,20 +1,20 @@
 -- A node may be finished beside a copy of the slots exactly where the world's course says so: the identity write that made the
 -- version of a dirty object is a node of its own.
-use Rattle.std.proofs.Common.{◌≡◌, ◌∙◌, sym, subst, ap, ℕ, ◌<◌, ◌≤◌, Bool, false, List, [], ◌∷◌, length, refl, arith, inl, inr, ◌⊎◌, Option, None, Some}
-use Rattle.std.specs.Prelude.{IsTrue, IsFalse, ◌==◌, ◌&&◌, ◌||◌, nat_lt, not, slice_get}
+use Rattle.std.proofs.Common.{◌≡◌, ◌∙◌, sym, subst, ap, ℕ, ◌<◌, ◌≤◌, Bool, false, List, [], ◌∷◌, length, refl, arith, inl, inr, ◌⊎◌, Option, Some}
+use Rattle.std.specs.Prelude.{IsTrue, IsFalse, ◌==◌, nat_lt, slice_get}
 use Rattle.std.specs.List.{list_any}
-use Rattle.std.proofs.lemmas.Bool.{both_ways, and_parts, and_from, and_left, and_right, or_left, or_right, or_from, or_cases, eq-eqb, eqb-true, lt-ltb, le-ltb, ltb-true, not_from_true, not_from_false, false_from_ne_true}
+use Rattle.std.proofs.lemmas.Bool.{both_ways, and_parts, and_from, or_left, or_right, or_from, or_cases, eq-eqb, eqb-true, lt-ltb, le-ltb, ltb-true, not_from_true, not_from_false, false_from_ne_true}
 use Rattle.disk_model.specs.Disk.{Disk}
 use Rattle.oper_core.specs.Meaning.{Meaning, IsLawful}
 use Rattle.oper_core.specs.State.{is_among}
 use Rattle.formats.specs.declared.params.Params.{Params}
-use Rattle.install_order.specs.declared.entry.Entry.{Entry}
 use Rattle.write_graph.specs.Graph.{IsLeast, IsNodeNamed, IsSingleIdentity, NamesMinimal}
 use Rattle.install_order.specs.Order.{IsNode}
 use Rattle.explain_core.specs.World.{World, graph_access}
 use Rattle.cache_manager.specs.Beside.{HasCopied, IsFresh}
-use Rattle.cache_manager.specs.Courses.{is_identity_at, is_stale, must_log, next_node, work}
-use Rattle.cache_manager.specs.Parts.{Parts, Shows}
+use Rattle.running_store.specs.Courses.{is_identity_at}
+use Rattle.cache_manager.specs.InstallCourses.{is_stale, must_log, next_node, work}
+use Rattle.running_store.specs.Parts.{Parts, Shows}
 use Rattle.cache_manager.specs.Thin.{IsWork}
 use Rattle.cache_manager.proofs.Next.{next_is}
 use Rattle.cache_manager.proofs.NextWork.{name_held, next_shown, work_shown}

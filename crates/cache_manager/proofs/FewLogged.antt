@@ -1,6 +1,7 @@
 -- What installs and drains log: different objects that could be logged, and fewer than those.
 use Rattle.std.proofs.Common.{◌≡◌, ◌∙◌, sym, subst, ap, ℕ, ◌+◌, ◌<◌, ◌≤◌, Bool, true, false, List, [], ◌∷◌, ◌++◌, length, refl, arith, inl, inr}
 use Rattle.std.specs.Prelude.{IsTrue, IsFalse, ◌^◌, ◌==◌, ◌&&◌, nat_lt, nat_le, if◌then◌else◌}
+use Rattle.std.specs.List.{AllByRecursion}
 use Rattle.std.proofs.lemmas.Bool.{cases_eq, both_ways, or_cases, or_left, or_right, eq-eqb, eqb-true, cond_both, false_from_ne_true}
 use Rattle.oper_core.specs.State.{is_among}
 use Rattle.oper_core.specs.Meaning.{Meaning}
@@ -8,10 +9,11 @@ use Rattle.explain_core.specs.History.Member.{Identity}
 use Rattle.explain_core.specs.Sound.{IsSound}
 use Rattle.explain_core.specs.World.{World, Step, step, run, end_of}
 use Rattle.explain_core.specs.World.Step.{Append, Block_gate, Slot_gate, Removal}
-use Rattle.cache_manager.specs.Courses.{Course, Stop, course, behind, waits, buffered, grown, force_steps, room_steps, placed, cached_length, identity_length, identity_steps, identity_course, identities, next_node, work, but_longest, removal_steps, finish_steps, logged_in}
-use Rattle.cache_manager.specs.Courses.Stop.{Through, Full, At_end}
-use Rattle.cache_manager.specs.CourseLaws.{behind_both}
-use Rattle.cache_manager.specs.Running.{IsRunning, KeepsSound}
+use Rattle.running_store.specs.Courses.{Course, course, waits, buffered, grown, force_steps, room_steps, placed, cached_length, identity_length, identity_steps, removal_steps}
+use Rattle.cache_manager.specs.EachStep.{each_identities}
+use Rattle.cache_manager.specs.InstallCourses.{logged_by, identity_course, identities, next_node, work, but_longest, finish_steps, logged_in}
+use Rattle.running_store.specs.Courses.Stop.{Through, Full, At_end}
+use Rattle.running_store.specs.Running.{IsRunning, KeepsSound}
 use Rattle.cache_manager.proofs.Goes.{room_goes}
 use Rattle.cache_manager.proofs.Lists.{AreApart, one_kept, but_longest_among, but_longest_apart}
 use Rattle.cache_manager.proofs.Logging.{IsLogged, identity_goes}
@@ -68,11 +70,8 @@ module _ {O : Type 0} (m : Meaning O) where
   tally_finish w = tally_append m w (force_steps m w) (removal_steps m (next_node m w) (work m w)) (tally_force w) (tally_removal (run m w (force_steps m w)) (next_node m w) (work m w))
 
   -- these log nothing
-  none_if : (b : Bool) (steps : List (Step O)) → logged_in steps ≡ [] → logged_in (if b then steps else []) ≡ []
-  none_if b steps none = cond_both b steps [] (λ (l : List (Step O)). logged_in l ≡ []) (λ is. none) (λ is. refl)
-
   none_force : (w : World O) → logged_in (force_steps m w) ≡ []
-  none_force w = none_if (waits m w) (Block_gate ∷ []) refl
+  none_force w = cond_both (waits m w) (Block_gate ∷ []) [] (λ (l : List (Step O)). logged_in l ≡ []) (λ is. refl) (λ is. refl)
 
   none_removal : (node : ℕ → Bool) (objects : List ℕ) → logged_in (removal_steps m node objects) ≡ []
   none_removal node [] = refl
@@ -85,39 +84,17 @@ module _ {O : Type 0} (m : Meaning O) where
   abbrev AllLogged : (ℕ → Type 0) → List (Step O) → Type 0
   AllLogged P steps = (x : ℕ) → IsTrue (is_among x (logged_in steps)) → P x
 
-  of_none : (P : ℕ → Type 0) (steps : List (Step O)) → logged_in steps ≡ [] → AllLogged P steps
-  of_none P steps none x there = absurd (both_ways _ refl (subst (λ (l : List ℕ). IsTrue (is_among x l)) none there))
-
-  of_if : (P : ℕ → Type 0) (b : Bool) (c e : Course O) → AllLogged P c.steps → AllLogged P e.steps → AllLogged P (if b then c else e).steps
-  of_if P b c e first second = cond_both b c e (λ (c : Course O). AllLogged P c.steps) (λ is. first) (λ is. second)
-
-  of_behind : (P : ℕ → Type 0) (first second : Course O) (stop : Stop) → AllLogged P first.steps → AllLogged P second.steps → AllLogged P (behind first second stop).steps
-  of_behind P first second stop a b = behind_both (λ (c : Course O). AllLogged P c.steps) first second stop
-      (λ on x there. elim (among_append x (logged_in first.steps) (logged_in second.steps) (subst (λ (l : List ℕ). IsTrue (is_among x l)) (logged-append first.steps second.steps) there)) [
-        | inl before ↦ a x before
-        | inr later ↦ b x later
-      ])
-      (λ ends. a)
-
-  of_identity : (P : ℕ → Type 0) (x : ℕ) (w : World O) (used : ℕ) → P x → AllLogged P (identity_course m x w used).steps
-  of_identity P x w used here =
-      let n = identity_length (cached_length m w x) in
-      let room = course (room_steps m w n) used Through in
-      let v = run m w room.steps in
-      let forced : AllLogged P (force_steps m v) = of_none P (force_steps m v) (none_force v) in
-      of_behind P room (placed m v used (2 ^ 48) n true (identity_steps m x v)) Through
-      (of_none P (room_steps m w n) (none_if (nat_lt (2 ^ 30) (buffered m w + n)) (force_steps m w) (none_force w)))
-      (of_if P (nat_lt (2 ^ 48) (grown m v used n)) (course (force_steps m v) used (Full used (n + 5) (2 ^ 48))) (if true && nat_le (2 ^ 62) (end_of v) then course (force_steps m v) used (At_end (end_of v)) else course (identity_steps m x v) (grown m v used n) Through) forced
-      (of_if P (true && nat_le (2 ^ 62) (end_of v)) (course (force_steps m v) used (At_end (end_of v))) (course (identity_steps m x v) (grown m v used n) Through) forced
-      (λ y there. elim (or_cases (y == x) false there) [ inl same ↦ subst P (sym (eqb-true y x same)) here | inr none ↦ absurd (both_ways _ refl none) ])))
+  all_logged : (P : ℕ → Type 0) (steps : List (Step O)) → AllByRecursion (λ s. (x : ℕ) → IsTrue (is_among x (logged_by s)) → P x) steps → AllLogged P steps
+  all_logged P [] are x there = absurd (both_ways _ refl there)
+  all_logged P (s ∷ steps) are x there = elim (among_append x (logged_by s) (logged_in steps) there) [
+    | inl here ↦ are.0 x here
+    | inr later ↦ all_logged P steps are.1 x later
+  ]
 
   of_identities : (P : ℕ → Type 0) (objects : List ℕ) (w : World O) (used : ℕ) → ((x : ℕ) → IsTrue (is_among x objects) → P x) → AllLogged P (identities m objects w used).steps
-  of_identities P [] w used each = of_none P [] refl
-  of_identities P (x ∷ objects) w used each =
-      let first = identity_course m x w used in
-      of_behind P first (identities m objects (run m w first.steps) first.used) first.stop
-      (of_identity P x w used (each x (or_left (x == x) (is_among x objects) (eq-eqb x x refl))))
-      (of_identities P objects (run m w first.steps) first.used (λ y there. each y (or_right (y == x) (is_among y objects) there)))
+  of_identities P objects w used each = all_logged P (identities m objects w used).steps
+      (each_identities m (λ s. (x : ℕ) → IsTrue (is_among x (logged_by s)) → P x) (λ x there. absurd (both_ways _ refl there)) objects
+      (λ x among value y there. elim (or_cases (y == x) false there) [ inl same ↦ subst P (sym (eqb-true y x same)) (each x among) | inr none ↦ absurd (both_ways _ refl none) ]) w used)
 
   module _ (keeps : KeepsSound m) where
     tally_identity : (x : ℕ) (w : World O) (used : ℕ) → IsRunning m w → x < m.objects → IsTrue (is_plain w x) → Tally m w (identity_course m x w used).steps

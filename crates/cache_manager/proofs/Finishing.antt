@@ -7,9 +7,10 @@ use Rattle.oper_core.specs.State.{is_among}
 use Rattle.oper_core.specs.Meaning.{Meaning, IsLawful}
 use Rattle.explain_core.specs.World.{World, step, run, AreAllowed, IsAllStable, IsReady, work_of}
 use Rattle.explain_core.specs.World.Step.{Slot_gate, Removal}
-use Rattle.cache_manager.specs.Courses.{Course, course, next_node, work, removal_steps, force_course, finish_steps}
-use Rattle.cache_manager.specs.Courses.Stop.{Through}
-use Rattle.cache_manager.specs.Running.{IsRunning, running_after, KeepsSound}
+use Rattle.running_store.specs.Courses.{Course, course, removal_steps, force_course}
+use Rattle.cache_manager.specs.InstallCourses.{next_node, work, finish_steps}
+use Rattle.running_store.specs.Courses.Stop.{Through}
+use Rattle.running_store.specs.Running.{IsRunning, running_after, KeepsSound}
 use Rattle.cache_manager.specs.Upkeep.{upkeep_removal}
 use Rattle.cache_manager.proofs.Goes.{Goes, goes_then, force_goes}
 use Rattle.cache_manager.proofs.Next.{IsNext, next_is, below}

@@ -6,10 +6,10 @@ use Rattle.oper_core.specs.Meaning.{Meaning}
 use Rattle.explain_core.specs.RunLaws.{run-append, allowed-append}
 use Rattle.explain_core.specs.World.{World, Step, Table, step, run, end_of, AreAllowed, IsAllStable}
 use Rattle.explain_core.specs.World.Step.{Block_gate}
-use Rattle.cache_manager.specs.Courses.{Course, is_through, course, and_then, waits, buffered, grown, force_steps, force_course, room_steps, placed}
-use Rattle.cache_manager.specs.Courses.Stop.{Through, Full, At_end}
-use Rattle.cache_manager.specs.CourseLaws.{behind_both, through_is}
-use Rattle.cache_manager.specs.Running.{IsRunning, running_after, KeepsSound}
+use Rattle.running_store.specs.Courses.{Course, is_through, course, and_then, waits, buffered, grown, force_steps, force_course, room_steps, placed}
+use Rattle.running_store.specs.Courses.Stop.{Through, Full, At_end}
+use Rattle.running_store.specs.CourseLaws.{behind_both, through_is}
+use Rattle.running_store.specs.Running.{IsRunning, running_after, KeepsSound}
 
 -- the steps of the course may be taken, and where nothing stops it the world after them has P
 pub record Goes {O : Type 0} (m : Meaning O) (w : World O) (c : Course O) (P : World O → Type 0) : Type 0 where

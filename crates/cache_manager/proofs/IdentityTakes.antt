@@ -1,186 +1,130 @@
 -- An identity write takes its course: the room before it, and then the write, or a refusal.
-use Rattle.std.proofs.Common.{◌≡◌, ◌∙◌, sym, subst, ap, ℕ, ◌+◌, ◌<◌, ◌≤◌, true, List, [], ◌∷◌, ◌++◌, length, refl, arith, Some}
-use Rattle.std.specs.Prelude.{◌^◌, Result, Err, IsErrAnd}
-use Rattle.std.proofs.lemmas.Result.{err_from_is_err_and}
-use Rattle.disk_model.specs.Disk.{Disk, Runs, In, Any, Same}
-use Rattle.disk_model.specs.declared.machine.FileNo.{FileNo}
-use Rattle.oper_core.specs.Meaning.{Meaning, HasBounds}
+use Rattle.std.proofs.Common.{◌≡◌, ◌∙◌, sym, subst, ap, ℕ, ◌+◌, ◌<◌, ◌≤◌, true, false, List, [], ◌∷◌, length, refl, arith}
+use Rattle.std.specs.Prelude.{◌^◌, nat_lt, nat_le}
+use Rattle.std.proofs.lemmas.Bool.{lt-ltb, le-ltb, le-leb, lt-leb, cond-true, cond-false}
+use Rattle.disk_model.specs.Disk.{Disk}
+use Rattle.oper_core.specs.Meaning.{Meaning}
 use Rattle.oper_core.specs.declared.bounds.Bounds.{Bounds}
-use Rattle.dirty_cache.specs.Contents.{held}
-use Rattle.dirty_cache.specs.declared.entry.Entry.{Entry as Pair}
-use Rattle.formats.specs.Objects.{bounds_of}
 use Rattle.formats.specs.declared.params.Params.{Params}
 use Rattle.log_frames.specs.LogView.{used_of, growth_of}
-use Rattle.explain_core.specs.History.Member.{Identity}
-use Rattle.explain_core.specs.RunLaws.{run-append}
-use Rattle.explain_core.specs.Sound.{IsSound}
-use Rattle.explain_core.specs.Taken.{after_all, after_longer}
-use Rattle.explain_core.specs.World.{World, Step, step, run, IsLive, NoGroup}
-use Rattle.explain_core.specs.World.Step.{Append}
-use Rattle.standing.specs.Moments.{TakesSome, moments_longer, moments_twice}
-use Rattle.cache_manager.specs.Courses.{Course, course, force_steps, room_steps, placed, identity_course, identity_steps, identity_length, cached_length}
-use Rattle.cache_manager.specs.Courses.Stop.{Through, Full, At_end}
-use Rattle.cache_manager.specs.Identities.{placed_fits, placed_full, placed_end}
-use Rattle.cache_manager.specs.Logged.{HasRecordPlace, IsRoomed, LacksRecordPlace, log_limit}
-use Rattle.cache_manager.specs.Parts.{IsAppended, Parts, Shows, meaning_in}
-use Rattle.cache_manager.specs.Taking.{Follows, IsAfter, Takes, ending_of, Ending}
-use Rattle.cache_manager.proofs.Written.{roomed_shows, written_long, written_shows}
+use Rattle.log_records.specs.RecordLog.{RecordLogView}
+use Rattle.dirty_cache.specs.Contents.{is_dirty}
+use Rattle.explain_core.specs.World.{World, Step, end_of}
+use Rattle.running_store.specs.Appended.{next_number}
+use Rattle.running_store.specs.Courses.{Course, Stop, and_then, cached_length, course, force_course, force_steps, grown, identity_length, identity_steps, placed, room_steps, written_course}
+use Rattle.cache_manager.specs.InstallCourses.{identity_course}
+use Rattle.running_store.specs.Courses.Stop.{Through, Full, At_end}
+use Rattle.running_store.specs.Forced.{IsForced}
+use Rattle.running_store.specs.Growth.{growth_shown}
+use Rattle.running_store.specs.InUse.{dirty_held}
+use Rattle.running_store.specs.Kept.{StopsAt}
+use Rattle.running_store.specs.Laid.{Laid, values_in}
+use Rattle.running_store.specs.Logged.{log_limit}
+use Rattle.running_store.specs.Parts.{Parts, Shows, meaning_in}
+use Rattle.running_store.specs.Taking.{Ending, Takes}
+use Rattle.running_store.specs.Taking.Ending.{Done, Stopped, Failed}
+use Rattle.running_store.specs.TakesLaws.{both, takes_failed, takes_same, takes_stop}
+use Rattle.running_store.specs.Written.{course_length}
+use Rattle.cache_manager.specs.Endings.{ending_of_error}
+use Rattle.cache_manager.specs.RecordPlace.{HasRecordPlace, LacksRecordPlace}
 use Rattle.cache_manager.specs.declared.install_err.InstallErr.{InstallErr}
 use Rattle.cache_manager.specs.declared.install_err.InstallErr.TheVariants.{LogFull, LsnEnd, DiskFault, Memory}
 
-module _ {O : Type 0} (m : Meaning O) (p : Params) (old mid : Disk) (before here : Parts) (w : World O) (x : ℕ) where
-  abbrev n : ℕ
-  n = identity_length (cached_length m w x)
-
-  abbrev v : World O
-  v = run m w (room_steps m w n)
-
+-- where a record of n bytes goes
+module _ {O : Type 0} (m : Meaning O) (p : Params) (d : Disk) (it : Parts) (w : World O) (shows : Shows m p d it w) (n : ℕ) (steps : List (Step O)) where
   abbrev used : ℕ
-  used = used_of before.log.log
+  used = used_of it.log.log
 
-  abbrev whole : Course O
-  whole = identity_course m x w used
+  abbrev long : ℕ
+  long = used + growth_of it.log.log.pending n
 
-  abbrev rest : Course O
-  rest = placed m v used log_limit n true (identity_steps m x v)
+  same : long ≡ grown m w used n
+  same = growth_shown m d it.log w n shows.log
 
-  whole_is : whole ≡ course (room_steps m w n ++ rest.steps) rest.used rest.stop
-  whole_is = refl
+  -- the record goes in
+  placed_fits : HasRecordPlace it.log n → placed m w used log_limit n true steps ≡ course steps (grown m w used n) Through
+  placed_fits place =
+      let over : nat_lt log_limit (grown m w used n) ≡ false = le-ltb log_limit (grown m w used n) (omega (arith, place.fits, same)) in
+      let past : nat_le (2 ^ 62) (end_of w) ≡ false = lt-leb (2 ^ 62) (end_of w) (omega (arith, place.number, next_number m p d it w shows)) in
+      cond-false (nat_lt log_limit (grown m w used n)) _ _ over ∙ cond-false (nat_le (2 ^ 62) (end_of w)) _ _ past
 
-  pub room_moments : (new : Disk) → TakesSome m p old new w (room_steps m w n) → TakesSome m p old new w whole.steps
-  room_moments new first = moments_longer m p old new w (room_steps m w n) rest.steps first
+  -- the log has no room for it
+  placed_full : log_limit < long → placed m w used log_limit n true steps ≡ course (force_steps m w) used (Full used (n + 5) log_limit)
+  placed_full over = cond-true (nat_lt log_limit (grown m w used n)) _ _ (lt-ltb log_limit (grown m w used n) (omega (arith, over, same)))
 
-  module _ (shows : Shows m p mid here v) (same : used_of here.log.log ≡ used) where
-    rest_here : (last : Course O) → placed m v (used_of here.log.log) log_limit n true (identity_steps m x v) ≡ last → rest ≡ last
-    rest_here last is = ap (λ (k : ℕ). placed m v k log_limit n true (identity_steps m x v)) (sym same) ∙ is
+  -- no number is left for it
+  placed_end : long ≤ log_limit → 2 ^ 62 ≤ it.log.next → placed m w used log_limit n true steps ≡ course (force_steps m w) used (At_end it.log.next)
+  placed_end fits last =
+      let number = next_number m p d it w shows in
+      let over : nat_lt log_limit (grown m w used n) ≡ false = le-ltb log_limit (grown m w used n) (omega (arith, fits, same)) in
+      cond-false (nat_lt log_limit (grown m w used n)) _ _ over
+      ∙ cond-true (nat_le (2 ^ 62) (end_of w)) _ _ (le-leb (2 ^ 62) (end_of w) (omega (arith, last, number)))
+      ∙ ap (λ (k : ℕ). course (force_steps m w) used (At_end k)) (sym number)
 
-    -- what the rest leaves is what the whole leaves
-    pub all_after : (d : Disk) (it : Parts) (last : Course O) → rest ≡ last → Shows m p d it (run m v last.steps) → used_of it.log.log ≡ last.used → (whole.stop ≡ last.stop) × IsAfter m p d it w whole
-    all_after d it last is done long = (
-      ap (λ (c : Course O). c.stop) is,
-      record {
-        shows = subst (λ (u : World O). Shows m p d it u) (sym (run-append m w (room_steps m w n) rest.steps)) (subst (λ (c : Course O). Shows m p d it (run m v c.steps)) (sym is) done);
-        used = long ∙ sym (ap (λ (c : Course O). c.used) is);
-      },
-    )
+growth_low : (pending : List ℕ) (n : ℕ) → growth_of pending n ≤ n + 5
+growth_low [] n = omega arith
+growth_low (byte ∷ bytes) n = omega arith
 
-    pub rest_moments : (d : Disk) (last : Course O) → rest ≡ last → mid.said ≡ old.said → TakesSome m p old mid w (room_steps m w n) → TakesSome m p mid d v last.steps → TakesSome m p old d w whole.steps
-    rest_moments d last is quiet first then =
-        moments_twice m p old mid d w (room_steps m w n) rest.steps quiet first (subst (λ (c : Course O). TakesSome m p mid d v c.steps) (sym is) then)
+-- An identity write of x, whose record has n bytes: room is made for it, and it goes to its place.
+module _ {O : Type 0} (meaning : Bounds → Meaning O) (x n : ℕ) where
+  abbrev pub room : Meaning O → World O → ℕ → Course O
+  room m w used = course (room_steps m w n) used Through
 
-    -- a refusal, after a force
-    refused_is : (e : InstallErr) → LacksRecordPlace here.log n e → (last : Course O) × (rest ≡ last) × (last.steps ≡ force_steps m v) × (last.used ≡ used_of here.log.log) × (ending_of {T = Unit {0}} (Err e) ≡ Ending.Stopped last.stop)
-    refused_is (LogFull u need limit) lacks =
-        (_, rest_here _ (placed_full m p mid here v shows n (identity_steps m x v) lacks.0), refl, refl, λ i. Ending.Stopped (Full (lacks.1 i) (lacks.2 i) (lacks.3 i)))
-    refused_is (LsnEnd number) lacks = (_, rest_here _ (placed_end m p mid here v shows n (identity_steps m x v) lacks.0 lacks.1), refl, refl, λ i. Ending.Stopped (At_end (lacks.2 i)))
-    refused_is DiskFault lacks = absurd lacks
-    refused_is Memory lacks = absurd lacks
+  abbrev pub place : Meaning O → World O → ℕ → Course O
+  place m w used = placed m w used log_limit n true (identity_steps m x w)
 
-    pub refused_follows : (d : Disk) (it : Parts) (e : InstallErr) → LacksRecordPlace here.log n e → Shows m p d it (run m v (force_steps m v)) → used_of it.log.log ≡ used_of here.log.log
-        → Follows m p d it w whole (ending_of {T = Unit {0}} (Err e))
-    refused_follows d it e lacks done long =
-        let r = refused_is e lacks in
-        let all = all_after d it r.0 r.1 (subst (λ (l : List (Step O)). Shows m p d it (run m v l)) (sym r.2) done) (long ∙ sym r.3) in
-        subst (λ (k : Ending). Follows m p d it w whole k) (sym r.4) all
+  -- so long is its record in each world that is shown
+  abbrev pub IsLong : Disk → Parts → Type 0
+  IsLong d it = (p : Params) (w : World O) → Shows (meaning_in meaning p) p d it w → n ≡ identity_length (cached_length (meaning_in meaning p) w x)
 
-    pub refused_moments : (d : Disk) (e : InstallErr) → LacksRecordPlace here.log n e → mid.said ≡ old.said → TakesSome m p old mid w (room_steps m w n) → TakesSome m p mid d v (force_steps m v) → TakesSome m p old d w whole.steps
-    refused_moments d e lacks quiet first then =
-        let r = refused_is e lacks in
-        rest_moments d r.0 r.1 quiet first (subst (λ (l : List (Step O)). TakesSome m p mid d v l) (sym r.2) then)
+  pub takes_identity : (old new : Disk) (before after : Parts) (ending : Ending) → IsLong old before → Takes meaning old new before after (both meaning room place) ending → Takes meaning old new before after (λ m w used. identity_course m x w used) ending
+  takes_identity old new before after ending long takes = takes_same meaning old new before after (both meaning room place) (λ m w used. identity_course m x w used) ending
+      (λ p w shows. let m = meaning_in meaning p in ap (λ (k : ℕ). and_then m w (course (room_steps m w k) (used_of before.log.log) Through) (λ v used. placed m v used log_limit k true (identity_steps m x v))) (long p w shows)) takes
 
-    -- the write itself
-    pub written_is : used_of here.log.log + growth_of here.log.log.pending n ≤ log_limit → here.log.next < 2 ^ 62
-        → rest ≡ course (identity_steps m x v) (used_of here.log.log + growth_of here.log.log.pending n) Through
-    written_is fits low = rest_here _ (placed_fits m p mid here v shows n (identity_steps m x v) fits low)
+  module _ (mid new : Disk) (here after : Parts) where
+    -- it is logged
+    pub takes_written : IsLong mid here → HasRecordPlace here.log n → Takes meaning mid new here after (λ m w used. written_course m x w used) Done → Takes meaning mid new here after place Done
+    takes_written long has takes = takes_same meaning mid new here after (λ m w used. written_course m x w used) place Done
+        (λ p w shows.
+        let m = meaning_in meaning p in
+        let used = used_of here.log.log in
+        ap (λ (k : ℕ). course (identity_steps m x w) (grown m w used k) Through) (sym (long p w shows)) ∙ sym (placed_fits m p mid here w shows n (identity_steps m x w) has)) takes
 
--- how a call ends that fails by a fault, or by lack of memory
-pub fails : {T : Type 0} (r : Result T InstallErr) → IsErrAnd r (λ e. e ≡ DiskFault) → Ending.Failed ≡ ending_of r
-fails {T} r is = let q = err_from_is_err_and r is in ap (λ (k : Result T InstallErr). ending_of k) (sym (q.1 ∙ (λ i. Err (q.2 i))))
+    -- or it has no place, and all that waits is forced
+    module _ (e : InstallErr) (lacks : LacksRecordPlace here.log n e) where
+      pub refused : (stop : Stop) × (Stopped stop ≡ ending_of_error e) × (IsForced here.log after.log → here.log.next ≤ 2 ^ 62 → StopsAt log_limit after.log stop)
+          × ((p : Params) (w : World O) → Shows (meaning_in meaning p) p mid here w → course (force_steps (meaning_in meaning p) w) (used_of here.log.log) stop ≡ place (meaning_in meaning p) w (used_of here.log.log))
+      refused = by_cause e lacks
+        where
+          by_cause : (e : InstallErr) → LacksRecordPlace here.log n e → (stop : Stop) × (Stopped stop ≡ ending_of_error e) × (IsForced here.log after.log → here.log.next ≤ 2 ^ 62 → StopsAt log_limit after.log stop)
+              × ((p : Params) (w : World O) → Shows (meaning_in meaning p) p mid here w → course (force_steps (meaning_in meaning p) w) (used_of here.log.log) stop ≡ place (meaning_in meaning p) w (used_of here.log.log))
+          by_cause (LogFull used need limit) lacks = (
+            Full (used_of here.log.log) (n + 5) log_limit,
+            λ i. Stopped (Full (sym lacks.1 i) (sym lacks.2 i) (sym lacks.3 i)),
+            λ forced low. (sym (ap (λ (r : RecordLogView). used_of r.log) forced), ap (λ (r : RecordLogView). r.log.pending) forced, omega (arith, lacks.0, growth_low here.log.log.pending n), refl),
+            λ p w shows. sym (placed_full (meaning_in meaning p) p mid here w shows n (identity_steps (meaning_in meaning p) x w) lacks.0),
+          )
+          by_cause (LsnEnd number) lacks = (
+            At_end here.log.next,
+            λ i. Stopped (At_end (sym lacks.2 i)),
+            λ forced low. (sym (ap (λ (r : RecordLogView). r.next) forced), ap (λ (r : RecordLogView). r.log.pending) forced, omega (arith, lacks.1, low)),
+            λ p w shows. sym (placed_end (meaning_in meaning p) p mid here w shows n (identity_steps (meaning_in meaning p) x w) lacks.0 lacks.1),
+          )
+          by_cause DiskFault lacks = absurd lacks
+          by_cause Memory lacks = absurd lacks
 
-pub lacks_memory : {T : Type 0} (r : Result T InstallErr) → IsErrAnd r (λ e. e ≡ Memory) → Ending.Short ≡ ending_of r
-lacks_memory {T} r is = let q = err_from_is_err_and r is in ap (λ (k : Result T InstallErr). ending_of k) (sym (q.1 ∙ (λ i. Err (q.2 i))))
+      pub takes_refused : Takes meaning mid new here after (λ m w used. force_course m w used) Done → Takes meaning mid new here after place (ending_of_error e)
+      takes_refused takes = subst (λ (k : Ending). Takes meaning mid new here after place k) refused.1
+          (takes_same meaning mid new here after (λ m w used. course (force_steps m w) used refused.0) place (Stopped refused.0) refused.3 (takes_stop meaning mid new here after (λ m w. force_steps m w) refused.0 takes))
 
--- The calls of an identity write, in their order: before a record of n bytes, which are as many as the course says, room
--- is made.
-module _ {O : Type 0} (meaning : Bounds → Meaning O) (old : Disk) (before : Parts) (x k : ℕ)
-    (long : (p : Params) (w : World O) → Shows (meaning_in meaning p) p old before w → k ≡ identity_length (cached_length (meaning_in meaning p) w x)) where
-  abbrev RoomTaken : Disk → Type 0
-  RoomTaken new = old.tells_moments → (p : Params) (w : World O) → Shows (meaning_in meaning p) p old before w → TakesSome (meaning_in meaning p) p old new w (room_steps (meaning_in meaning p) w k)
+      -- unless the force fails
+      pub takes_unforced : Takes meaning mid new here after (λ m w used. force_course m w used) Failed → Takes meaning mid new here after place Failed
+      takes_unforced takes = takes_same meaning mid new here after (λ m w used. course (force_steps m w) used refused.0) place Failed refused.3
+          (takes_failed meaning mid new here after (λ m w used. course (force_steps m w) used refused.0) takes.moments)
 
-  room_taken : (new : Disk) → RoomTaken new → old.tells_moments → (p : Params) (w : World O) (shows : Shows (meaning_in meaning p) p old before w)
-      → TakesSome (meaning_in meaning p) p old new w (room_steps (meaning_in meaning p) w (identity_length (cached_length (meaning_in meaning p) w x)))
-  room_taken new taken told p w shows = subst (λ (n : ℕ). TakesSome (meaning_in meaning p) p old new w (room_steps (meaning_in meaning p) w n)) (long p w shows) (taken told p w shows)
-
-  -- no room could be made
-  pub takes_no_room : (new : Disk) (after : Parts) → RoomTaken new → Takes meaning old new before after (λ m w used. identity_course m x w used) Ending.Failed
-  takes_no_room new after taken = record {
-    follows = λ p w shows. tt;
-    moments = λ told p w shows. room_moments (meaning_in meaning p) p old new before after w x new (room_taken new taken told p w shows);
-  }
-
-  module _ (mid : Disk) (here : Parts) (file : FileNo) (runs : Runs (In file Any) Same old mid) (taken : RoomTaken mid)
-      (room : (p : Params) (w : World O) → Shows (meaning_in meaning p) p old before w → Shows (meaning_in meaning p) p mid here (run (meaning_in meaning p) w (room_steps (meaning_in meaning p) w k)))
-      (same : used_of here.log.log ≡ used_of before.log.log) where
-    shown : (p : Params) (w : World O) → Shows (meaning_in meaning p) p old before w → Shows (meaning_in meaning p) p mid here (v (meaning_in meaning p) p old mid before here w x)
-    shown p w shows = let m = meaning_in meaning p in subst (λ (n : ℕ). Shows m p mid here (run m w (room_steps m w n))) (long p w shows) (room p w shows)
-
-    -- a refusal, where the force after it fails, and where it does not
-    module _ (new : Disk) (after : Parts) (e : InstallErr) (lacks : LacksRecordPlace here.log k e)
-        (forced : mid.tells_moments → (p : Params) (u : World O) → Shows (meaning_in meaning p) p mid here u → TakesSome (meaning_in meaning p) p mid new u (force_steps (meaning_in meaning p) u)) where
-      lacks_here : (p : Params) (w : World O) → Shows (meaning_in meaning p) p old before w → LacksRecordPlace here.log (identity_length (cached_length (meaning_in meaning p) w x)) e
-      lacks_here p w shows = subst (λ (n : ℕ). LacksRecordPlace here.log n e) (long p w shows) lacks
-
-      both_taken : old.tells_moments → (p : Params) (w : World O) → Shows (meaning_in meaning p) p old before w → TakesSome (meaning_in meaning p) p old new w (identity_course (meaning_in meaning p) x w (used_of before.log.log)).steps
-      both_taken told p w shows =
-          let m = meaning_in meaning p in
-          let there = shown p w shows in
-          refused_moments m p old mid before here w x there same new e (lacks_here p w shows) (runs.said shows.told) (room_taken mid taken told p w shows)
-          (forced (runs.time.moments_told.0 told) p (v m p old mid before here w x) there)
-
-      pub takes_unforced : Takes meaning old new before after (λ m w used. identity_course m x w used) Ending.Failed
-      takes_unforced = record { follows = λ p w shows. tt; moments = both_taken }
-
-      pub takes_refusal : ((p : Params) (u : World O) → Shows (meaning_in meaning p) p mid here u → Shows (meaning_in meaning p) p new after (run (meaning_in meaning p) u (force_steps (meaning_in meaning p) u)))
-          → used_of after.log.log ≡ used_of here.log.log → Takes meaning old new before after (λ m w used. identity_course m x w used) (ending_of {T = Unit {0}} (Err e))
-      takes_refusal force used = record {
-        follows = λ p w shows.
-            let m = meaning_in meaning p in
-            let there = shown p w shows in
-            refused_follows m p old mid before here w x there same new after e (lacks_here p w shows) (force p (v m p old mid before here w x) there) used;
-        moments = both_taken;
-      }
-
-    -- the write has no memory
-    pub takes_short : (after : Parts) → IsRoomed here after → Takes meaning old mid before after (λ m w used. identity_course m x w used) Ending.Short
-    takes_short after roomed = record {
-      follows = λ p w shows.
-          let m = meaning_in meaning p in
-          let P : World O → Type 0 = λ u. Shows m p mid after u in
-          after_longer m P w (room_steps m w (n m p old mid before here w x)) (rest m p old mid before here w x).steps
-          (after_all m P w (room_steps m w (n m p old mid before here w x)) (roomed_shows m p mid here after (v m p old mid before here w x) roomed (shown p w shows)));
-      moments = λ told p w shows. room_moments (meaning_in meaning p) p old mid before here w x mid (room_taken mid taken told p w shows);
-    }
-
-    -- it is done
-    module _ (after : Parts) (pair : Pair) (had : held here.store.objects.cache x ≡ Some pair) (counts : k ≡ identity_length (length pair.bytes))
-        (done : IsAppended (meaning here.log.bounds) here after (Identity x pair.bytes) (pair.bytes ∷ [])) (place : HasRecordPlace here.log k) (short : length pair.bytes ≤ here.store.objects.slots.params.cap)
-        (bounded : (b : Bounds) → HasBounds b (meaning b))
-        (keeps : (b : Bounds) (u : World O) (y : ℕ) → IsSound (meaning b) u → IsLive u → NoGroup u → y < b.objects → IsSound (meaning b) (step (meaning b) u (Append (Identity y (u.cache y).value)))) where
-      pub takes_done : Takes meaning old mid before after (λ m w used. identity_course m x w used) Ending.Done
-      takes_done = record {
-        follows = λ p w shows.
-            let m = meaning_in meaning p in
-            let u = v m p old mid before here w x in
-            let there = shown p w shows in
-            let fits = subst (λ (j : ℕ). HasRecordPlace here.log j) (long p w shows) place in
-            let is = written_is m p old mid before here w x there same fits.fits fits.number in
-            let appended = subst (λ (b : Bounds). IsAppended (meaning b) here after (Identity x pair.bytes) (pair.bytes ∷ [])) there.bounds done in
-            let below : x < p.objects = there.store.below x pair had in
-            let has = bounded (bounds_of p) in
-            let cap : here.store.objects.slots.params.cap ≡ p.cap = ap (λ (q : Params). q.cap) there.store.params in
-            let sound = keeps (bounds_of p) u x there.running.sound there.running.live there.running.alone below in
-            let used = written_long m x pair here after had appended ∙ ap (λ (j : ℕ). used_of here.log.log + growth_of here.log.log.pending j) (sym counts ∙ long p w shows) in
-            all_after m p old mid before here w x there same mid after _ is
-            (written_shows m x pair here after had appended p mid u there (omega (arith, below, has.objects)) (omega (arith, short, cap, has.cap)) place.number sound) used;
-        moments = λ told p w shows. room_moments (meaning_in meaning p) p old mid before here w x mid (room_taken mid taken told p w shows);
-      }
+-- the value that is read is as long as that of each world that is shown
+pub length_shown : {O : Type 0} (meaning : Bounds → Meaning O) (x : ℕ) (d : Disk) (it : Parts) (laid : Laid) (value : List ℕ) → laid ≡ it.store.objects → is_dirty it.store.objects.cache x ≡ true
+    → ((file : List ℕ) → value ≡ values_in laid file x) → IsLong meaning x (17 + length value) d it
+length_shown meaning x d it laid value same dirty is p w shows =
+    let pair = dirty_held it.store.objects.cache x dirty in
+    course_length (meaning_in meaning p) p d it w x pair.0 value shows pair.1 (λ file. is file ∙ ap (λ (l : Laid). values_in l file x) same)

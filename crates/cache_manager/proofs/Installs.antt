@@ -2,15 +2,16 @@
 use Rattle.std.specs.List.{list_any}
 use Rattle.std.proofs.Common.{◌≡◌, sym, subst, ℕ, Bool, false, zero, suc, ◌+◌, ◌<◌, ◌≤◌, List, [], ◌∷◌, length, refl, arith, inl, inr}
 use Rattle.std.specs.Prelude.{⊤, IsTrue, IsFalse, nat_lt, ◌==◌}
-use Rattle.std.proofs.lemmas.Bool.{cases_eq, cases_Bool, both_ways, false_from_ne_true, or_cases, or_left, or_right, or_parts, and_parts, eq-eqb, eqb-true, ltb-true, ltb-false}
+use Rattle.std.proofs.lemmas.Bool.{cases_eq, cases_Bool, both_ways, false_from_ne_true, or_cases, or_left, or_right, or_parts, and_parts, eq-eqb, eqb-true, ltb-true, ltb-false, cond_both}
 use Rattle.oper_core.specs.State.{is_among}
 use Rattle.oper_core.specs.Meaning.{Meaning, IsLawful}
 use Rattle.install_order.specs.NodeLaws.{some-from, some-gives}
 use Rattle.explain_core.specs.Turns.{count_below, dirty_in}
 use Rattle.explain_core.specs.World.{World, end_of, AreAllowed}
-use Rattle.cache_manager.specs.Courses.{course, and_then, identities, next_node, work, cached_length, is_stale, must_log, others, but_longest, finish_steps, rounds, has_members, install_course, drains, drain_course}
-use Rattle.cache_manager.specs.Courses.Stop.{Through}
-use Rattle.cache_manager.specs.Running.{IsRunning, IsDrained, KeepsSound}
+use Rattle.running_store.specs.Courses.{Course, course, and_then, cached_length}
+use Rattle.cache_manager.specs.InstallCourses.{identities, next_node, work, is_stale, must_log, others, but_longest, finish_steps, rounds, has_members, install_course, drains, drain_course}
+use Rattle.running_store.specs.Courses.Stop.{Through}
+use Rattle.running_store.specs.Running.{IsRunning, IsDrained, KeepsSound}
 use Rattle.cache_manager.proofs.Counts.{count_one, count_at_most}
 use Rattle.cache_manager.proofs.Finishing.{IsInstalled, finish_goes}
 use Rattle.cache_manager.proofs.Goes.{Goes, goes_then, goes_weaker, goes_if, goes_none}
@@ -151,3 +152,35 @@ module _ {O : Type 0} (m : Meaning O) (copied : ℕ) (lawful : IsLawful m) (keep
       (goes_if m w (has_members m w) (rounds m copied m.objects w used) (course [] used Through) (λ v. ⊤)
       (λ some. goes_weaker m w (rounds m copied m.objects w used) (IsInstalled m w) (λ v. ⊤) (λ v done. tt) (install_goes w used is some))
       (λ none. goes_none m w used (λ v. ⊤) tt)).allowed
+
+  -- What holds of each course of a kind, from a world in which calls are made, holds of an install and of a drain: of none, of a
+  -- node's last steps, of the identity writes of a round, and of one such course after the other.
+  module _ (Q : World O → Course O → Type 0) (none : (w : World O) (used : ℕ) → Q w (course [] used Through))
+      (finish : (w : World O) (used c : ℕ) → IsRunning m w → IsTrue (w.graph c) → IsFalse (must_log m copied w) → Q w (course (finish_steps m w) used Through))
+      (log : (w : World O) (used c : ℕ) → IsRunning m w → IsTrue (w.graph c) → IsTrue (must_log m copied w) → Q w (identities m (others m copied w) w used))
+      (then : (w : World O) (first : Course O) (next : World O → ℕ → Course O) (P : World O → Type 0) → Goes m w first P → Q w first → ((v : World O) → P v → Q v (next v first.used)) → Q w (and_then m w first next)) where
+    by_rounds : (n : ℕ) (w : World O) (used c : ℕ) → IsRunning m w → IsTrue (w.graph c) → plain_in m w ≤ n → Q w (rounds m copied n w used)
+    by_rounds zero w used c is there few = finish w used c is there (few_left w c is there few)
+    by_rounds (suc n) w used c is there few =
+        let logging = identities m (others m copied w) w used in
+        cond_both (must_log m copied w) (and_then m w logging (λ v used. rounds m copied n v used)) (course (finish_steps m w) used Through) (Q w)
+        (λ must. then w logging (λ v used. rounds m copied n v used) (AreLogged m w (length (others m copied w))) (others_go w used c is there must) (log w used c is there must)
+        (λ v logged. let some = some_logged w is must in by_rounds n v logging.used c logged.running (logged.members c there) (omega (arith, some, logged.plain, few))))
+        (λ may. finish w used c is there may)
+
+    by_some : (w : World O) (used : ℕ) → IsRunning m w → IsTrue (has_members m w) → Q w (rounds m copied m.objects w used)
+    by_some w used is some = let one = some-gives (end_of w) w.graph some in by_rounds m.objects w used one.0 is one.2 (count_at_most m.objects (is_plain w))
+
+    by_drains : (n : ℕ) (w : World O) (used : ℕ) → IsRunning m w → Q w (drains m copied n w used)
+    by_drains zero w used is = none w used
+    by_drains (suc n) w used is =
+        let first = rounds m copied m.objects w used in
+        cond_both (has_members m w) (and_then m w first (λ v used. drains m copied n v used)) (course [] used Through) (Q w)
+        (λ some. then w first (λ v used. drains m copied n v used) (IsInstalled m w) (install_goes w used is some) (by_some w used is some) (λ v done. by_drains n v first.used done.running))
+        (λ empty. none w used)
+
+    pub by_courses : (w : World O) (used : ℕ) → IsRunning m w → Q w (install_course m copied w used) × Q w (drain_course m copied w used)
+    by_courses w used is = (
+      cond_both (has_members m w) (rounds m copied m.objects w used) (course [] used Through) (Q w) (by_some w used is) (λ empty. none w used),
+      by_drains (count_below (end_of w) w.graph + dirty_in m w) w used is,
+    )

@@ -1,26 +1,23 @@
 -- An install and a drain log different objects that could be logged, and where nothing is copied fewer than those.
-use Rattle.std.proofs.Common.{◌≡◌, ℕ, zero, suc, ◌+◌, Bool, false, List, [], ◌∷◌, length, refl, arith, inl, inr}
-use Rattle.std.specs.Prelude.{All, IsTrue, IsFalse, nat_lt, nat_eq, ◌==◌, if◌then◌else◌}
+use Rattle.std.proofs.Common.{◌≡◌, ℕ, false, List, [], ◌∷◌, refl, arith, inl, inr}
+use Rattle.std.specs.Prelude.{All, IsTrue, IsFalse, nat_eq, ◌==◌}
 use Rattle.std.specs.List.{AllByRecursion, IsDistinct}
-use Rattle.std.proofs.lemmas.Bool.{or_left, or_right, or_parts, and_parts, eq-eqb, ltb-true}
+use Rattle.std.proofs.lemmas.Bool.{or_left, or_right, or_parts, and_parts, eq-eqb}
 use Rattle.std.proofs.lemmas.List.Elements.{All-nil, All-cons}
 use Rattle.oper_core.specs.State.{is_among}
 use Rattle.oper_core.specs.Meaning.{Meaning, IsLawful}
-use Rattle.install_order.specs.NodeLaws.{some-gives}
-use Rattle.explain_core.specs.Turns.{count_below, is_dirty_in, dirty_in}
-use Rattle.explain_core.specs.World.{World, Step, end_of}
-use Rattle.cache_manager.specs.Courses.{Course, course, and_then, identities, work, cached_length, others, finish_steps, must_log, rounds, has_members, install_course, drains, drain_course, logged_in}
-use Rattle.cache_manager.specs.Courses.Stop.{Through}
+use Rattle.explain_core.specs.Turns.{is_dirty_in}
+use Rattle.explain_core.specs.World.{World, Step}
+use Rattle.running_store.specs.Courses.{Course, and_then, cached_length}
+use Rattle.cache_manager.specs.InstallCourses.{identities, work, others, finish_steps, must_log, install_course, drain_course, logged_in}
 use Rattle.cache_manager.specs.FewLogged.{AreFewLogged}
-use Rattle.cache_manager.specs.Running.{IsRunning, KeepsSound}
+use Rattle.running_store.specs.Running.{IsRunning, KeepsSound}
 use Rattle.cache_manager.proofs.FewLogged.{tally_finish, none_finish, tally_none_here, tally_identities, fewer_others}
-use Rattle.cache_manager.proofs.Finishing.{IsInstalled}
 use Rattle.cache_manager.proofs.Goes.{Goes}
-use Rattle.cache_manager.proofs.Installs.{work_may_be_logged, some_work, others_go, install_goes}
+use Rattle.cache_manager.proofs.Installs.{by_courses, some_work, work_may_be_logged}
 use Rattle.cache_manager.proofs.Lists.{AreApart, some_among as listed_some, but_longest_among, but_longest_apart}
-use Rattle.cache_manager.proofs.Logging.{AreLogged}
 use Rattle.cache_manager.proofs.Plain.{is_plain, plain_below}
-use Rattle.cache_manager.proofs.Tally.{Tally, IsFewer, tally_if, tally_then, tally_count, fewer_if, fewer_then}
+use Rattle.cache_manager.proofs.Tally.{Tally, IsFewer, tally_then, tally_count, fewer_then}
 use Rattle.cache_manager.proofs.WorkOf.{AreAlone, listed_apart}
 
 -- what the steps log are few
@@ -31,12 +28,6 @@ pub record LogsFew {O : Type 0} (m : Meaning O) (copied : ℕ) (w : World O) (st
 module _ {O : Type 0} (m : Meaning O) (copied : ℕ) where
   few_none : (w : World O) → LogsFew m copied w []
   few_none w = record { tally = tally_none_here m w; fewer = λ none. inl refl }
-
-  few_if : (w : World O) (b : Bool) (c e : Course O) → (IsTrue b → LogsFew m copied w c.steps) → (IsFalse b → LogsFew m copied w e.steps) → LogsFew m copied w (if b then c else e).steps
-  few_if w b c e yes_so no_so = record {
-    tally = tally_if m w b c e (λ is. (yes_so is).tally) (λ is. (no_so is).tally);
-    fewer = λ none. fewer_if m w b c e (λ is. (yes_so is).fewer none) (λ is. (no_so is).fewer none);
-  }
 
   few_then : (w : World O) (first : Course O) (next : World O → ℕ → Course O) (P : World O → Type 0) → Goes m w first P → LogsFew m copied w first.steps → ((v : World O) → P v → LogsFew m copied v (next v first.used).steps) → LogsFew m copied w (and_then m w first next).steps
   few_then w first next P goes few more = record {
@@ -56,27 +47,6 @@ module _ {O : Type 0} (m : Meaning O) (copied : ℕ) where
           tally = tally_identities m keeps (others m copied w) w used is (but_longest_apart copied (cached_length m w) (work m w) apart) (λ y among. each y (but_longest_among copied (cached_length m w) (work m w) y among));
           fewer = λ none. fewer_others m keeps copied w used (work m w) none is apart (let one = some_work m copied lawful keeps alone w must in listed_some one.0 (work m w) one.1) each;
         }
-
-    few_rounds : (n : ℕ) (w : World O) (used c : ℕ) → IsRunning m w → IsTrue (w.graph c) → LogsFew m copied w (rounds m copied n w used).steps
-    few_rounds zero w used c is there = few_finish w
-    few_rounds (suc n) w used c is there =
-        let logging = identities m (others m copied w) w used in
-        few_if w (must_log m copied w) (and_then m w logging (λ v used. rounds m copied n v used)) (course (finish_steps m w) used Through)
-        (λ must. few_then w logging (λ v used. rounds m copied n v used) (AreLogged m w (length (others m copied w))) (others_go m copied lawful keeps alone w used c is there must)
-        (few_others w used c is there must) (λ v logged. few_rounds n v logging.used c logged.running (logged.members c there)))
-        (λ one. few_finish w)
-
-    few_next : (w : World O) (used : ℕ) → IsRunning m w → IsTrue (has_members m w) → LogsFew m copied w (rounds m copied m.objects w used).steps
-    few_next w used is some = let one = some-gives (end_of w) w.graph some in few_rounds m.objects w used one.0 is one.2
-
-    few_drains : (n : ℕ) (w : World O) (used : ℕ) → IsRunning m w → LogsFew m copied w (drains m copied n w used).steps
-    few_drains zero w used is = few_none w
-    few_drains (suc n) w used is =
-        let first = rounds m copied m.objects w used in
-        few_if w (has_members m w) (and_then m w first (λ v used. drains m copied n v used)) (course [] used Through)
-        (λ some. few_then w first (λ v used. drains m copied n v used) (IsInstalled m w) (install_goes m copied lawful keeps alone w used is some) (few_next w used is some)
-        (λ v done. few_drains n v first.used done.running))
-        (λ none. few_none w)
 
     -- in the terms of the contracts
     distinct : (objects : List ℕ) → AreApart objects → IsDistinct nat_eq objects
@@ -101,9 +71,7 @@ module _ {O : Type 0} (m : Meaning O) (copied : ℕ) where
       fewer = λ none. elim (few.fewer none) [ inl nothing ↦ inl nothing | inr less ↦ inr (omega (arith, less, plain_below m w)) ];
     }
 
-    pub install_logs : (w : World O) (used : ℕ) → IsRunning m w → AreFewLogged m copied w (logged_in (install_course m copied w used).steps)
-    install_logs w used is = are_few w (install_course m copied w used).steps
-        (few_if w (has_members m w) (rounds m copied m.objects w used) (course [] used Through) (few_next w used is) (λ none. few_none w))
-
-    pub drain_logs : (w : World O) (used : ℕ) → IsRunning m w → AreFewLogged m copied w (logged_in (drain_course m copied w used).steps)
-    drain_logs w used is = are_few w (drain_course m copied w used).steps (few_drains (count_below (end_of w) w.graph + dirty_in m w) w used is)
+    pub go_logging : (w : World O) (used : ℕ) → IsRunning m w → AreFewLogged m copied w (logged_in (install_course m copied w used).steps) × AreFewLogged m copied w (logged_in (drain_course m copied w used).steps)
+    go_logging w used is =
+        let few = by_courses m copied lawful keeps alone (λ w c. LogsFew m copied w c.steps) (λ w used. few_none w) (λ w used c is there may. few_finish w) few_others few_then w used is in
+        (are_few w (install_course m copied w used).steps few.0, are_few w (drain_course m copied w used).steps few.1)

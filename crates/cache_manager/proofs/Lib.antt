@@ -1,8 +1,4 @@
-pub mod LaidLemmas
-pub mod SetLemmas
-pub mod FetchLemmas
 pub mod Next
-pub mod InUse
 pub mod Lists
 pub mod Counts
 pub mod Plain
@@ -21,14 +17,10 @@ pub mod Removals
 pub mod Loops
 pub mod Planned
 pub mod NamedNext
-pub mod StartsNow
-pub mod DirtyCount
 pub mod IdentityTakes
-pub mod Written
-pub mod Keeping
 pub mod Balance
-pub mod Under
 pub mod NextWork
+pub mod NextTaken
 pub mod Besides
 pub mod RoundsTaken
 pub mod Telling

@@ -5,7 +5,7 @@ use Rattle.std.specs.List.{filter}
 use Rattle.std.proofs.lemmas.Bool.{cases_Bool, cases_eq, both_ways, or_cases, or_left, or_right, eq-eqb, ne_eqb, eqb-true, not-true, not_from_false, false_from_ne_true, cond-true, cond-false, leb-true, le-leb}
 use Rattle.oper_core.specs.State.{is_among}
 use Rattle.identity_writes.specs.Plan.{but_kept}
-use Rattle.cache_manager.specs.Courses.{counted, longest, longest_of, not_copied, but_longest}
+use Rattle.cache_manager.specs.InstallCourses.{counted, longest, longest_of, not_copied, but_longest}
 
 -- each object of the list stands in it once
 abbrev pub AreApart : List ℕ → Type 0

@@ -6,9 +6,10 @@ use Rattle.std.proofs.lemmas.List.Elements.{All-head, All-tail}
 use Rattle.oper_core.specs.State.{is_among}
 use Rattle.oper_core.specs.Meaning.{Meaning}
 use Rattle.explain_core.specs.World.{World, step, run, end_of, AreAllowed}
-use Rattle.cache_manager.specs.Courses.{Course, course, room_steps, placed, cached_length, identity_length, identity_steps, identity_course, identities}
-use Rattle.cache_manager.specs.Courses.Stop.{Through}
-use Rattle.cache_manager.specs.Running.{IsRunning, running_after, KeepsSound}
+use Rattle.running_store.specs.Courses.{Course, course, room_steps, placed, cached_length, identity_length, identity_steps}
+use Rattle.cache_manager.specs.InstallCourses.{identity_course, identities}
+use Rattle.running_store.specs.Courses.Stop.{Through}
+use Rattle.running_store.specs.Running.{IsRunning, running_after, KeepsSound}
 use Rattle.cache_manager.proofs.Goes.{Goes, goes_then, goes_weaker, goes_none, room_goes, placed_goes}
 use Rattle.cache_manager.proofs.Lists.{AreApart}
 use Rattle.cache_manager.proofs.Plain.{is_plain, plain_in, left_in, others_plain, one_plain_less, as_much_left}

@@ -11,7 +11,7 @@ use Rattle.install_order.specs.NodeLaws.{some-from, some-gives}
 use Rattle.write_graph.specs.Graph.{numbers, IsNodeNamed, NamesMinimal, IsLeast}
 use Rattle.explain_core.specs.Sound.{IsSound}
 use Rattle.explain_core.specs.World.{World, end_of, graph_access}
-use Rattle.cache_manager.specs.Courses.{has_members}
+use Rattle.cache_manager.specs.InstallCourses.{has_members}
 use Rattle.cache_manager.proofs.Next.{IsNext, below}
 
 module _ {O : Type 0} (m : Meaning O) (w : World O) (node : ℕ → Bool) (entries : List Entry) (members : (n : ℕ) → is_among n (numbers entries) ≡ w.graph n) (same : accesses entries ≡ graph_access m w) (next : IsNext m w node) where

@@ -12,7 +12,7 @@ use Rattle.explain_core.specs.GraphLaws.{graph-within}
 use Rattle.explain_core.specs.Sound.{IsSound}
 use Rattle.explain_core.specs.Turns.{is_entered}
 use Rattle.explain_core.specs.World.{World, end_of, graph_access, node_named}
-use Rattle.cache_manager.specs.Courses.{next_name, next_node}
+use Rattle.cache_manager.specs.InstallCourses.{next_name, next_node}
 
 -- of the minimal nodes of the graph's members the one with the least name
 pub record IsNext {O : Type 0} (m : Meaning O) (w : World O) (node : ℕ → Bool) : Type 0 where

@@ -9,13 +9,11 @@ use Rattle.formats.specs.declared.params.Params.{Params}
 use Rattle.write_graph.specs.Graph.{IsLeast, IsNodeNamed, NamesMinimal}
 use Rattle.dirty_cache.specs.Contents.{is_dirty}
 use Rattle.explain_core.specs.World.{World, AreAllowed}
-use Rattle.cache_manager.specs.Courses.{finish_steps, next_node, work}
-use Rattle.cache_manager.specs.Flushed.{MayFlush}
-use Rattle.cache_manager.specs.Parts.{AreInUse, Parts, Shows, Store}
-use Rattle.cache_manager.specs.Running.{KeepsSound}
+use Rattle.cache_manager.specs.InstallCourses.{finish_steps, next_node, work}
+use Rattle.running_store.specs.Parts.{Parts, Shows, Store}
+use Rattle.running_store.specs.Running.{KeepsSound}
 use Rattle.cache_manager.specs.Thin.{IsWork}
 use Rattle.cache_manager.proofs.Finishing.{finish_goes}
-use Rattle.cache_manager.proofs.InUse.{may_flush}
 use Rattle.cache_manager.proofs.NamedNext.{least_named}
 use Rattle.cache_manager.proofs.Next.{next_is}
 use Rattle.cache_manager.proofs.Planned.{work_listed}
@@ -26,9 +24,6 @@ module _ (it : Store) (n : ℕ) (least : IsLeast (NamesMinimal it.entries) n) (i
   -- its objects are dirty
   pub work_dirty : All (λ x. is_dirty it.objects.cache x ≡ true) items
   work_dirty = let listed = is least.0.0 least.0.1 in among_all (λ x. is_dirty it.objects.cache x ≡ true) items (λ x there. ((listed.exactly x).0 there).1)
-
-  pub work_flushes : (p : Params) (next : ℕ) → AreInUse p next it → All (MayFlush it.objects) items
-  work_flushes p next used = let listed = is least.0.0 least.0.1 in among_all (MayFlush it.objects) items (λ x there. may_flush p next it x used ((listed.exactly x).0 there).1)
 
 module _ {O : Type 0} (m : Meaning O) (lawful : IsLawful m) (p : Params) (d : Disk) (it : Parts) (w : World O) (shows : Shows m p d it w) (n : ℕ) (least : IsLeast (NamesMinimal it.store.entries) n) where
   -- the name is that of a member

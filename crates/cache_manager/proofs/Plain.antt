@@ -1,6 +1,6 @@
 -- How much is left to do: the members of the graph, and the objects that an install may still have to log. Such an object is
 -- dirty, and the last to write it is no identity write.
-use Rattle.std.proofs.Common.{◌≡◌, ◌∙◌, sym, ap, ℕ, zero, suc, ◌+◌, ◌<◌, ◌≤◌, Bool, true, false, List, [], ◌∷◌, ◌++◌, length, refl, arith, inl, inr, Option, Some, None, length-append}
+use Rattle.std.proofs.Common.{◌≡◌, ◌∙◌, sym, ap, ℕ, zero, suc, ◌+◌, ◌<◌, ◌≤◌, Bool, false, List, [], ◌∷◌, ◌++◌, length, refl, arith, inl, inr, Option, Some, length-append}
 use Rattle.std.specs.Prelude.{IsTrue, IsFalse, ◌==◌, ◌||◌, ◌&&◌, not, slice_get, nat_eq, if◌then◌else◌}
 use Rattle.std.proofs.lemmas.Bool.{cases_lt, cases_eq, both_ways, or_left, or_from, and_parts, and_right, eq-eqb, ne_eqb, not_from_true, cond-true, cond-false}
 use Rattle.oper_core.specs.Cell.{Cell}
@@ -9,12 +9,12 @@ use Rattle.oper_core.specs.Meaning.{Meaning}
 use Rattle.explain_core.specs.CountLaws.{count_same, count_more}
 use Rattle.explain_core.specs.GraphLaws.{no-writes}
 use Rattle.explain_core.specs.History.{Member, numbered}
-use Rattle.explain_core.specs.History.Member.{Command, Identity}
+use Rattle.explain_core.specs.History.Member.{Identity}
 use Rattle.explain_core.specs.Sound.{IsSound}
 use Rattle.explain_core.specs.Turns.{count_below, is_dirty_in, dirty_in}
 use Rattle.explain_core.specs.World.{World, step, end_of}
 use Rattle.explain_core.specs.World.Step.{Append, Slot_gate, Removal}
-use Rattle.cache_manager.specs.Courses.{is_identity_some}
+use Rattle.running_store.specs.Courses.{is_identity_some}
 use Rattle.cache_manager.proofs.Counts.{count_le, count_less}
 
 -- x is dirty, and the last to write it is no identity write

@@ -4,7 +4,6 @@ use Rattle.std.specs.Prelude.{⊤, ◌==◌, ◌||◌, All, not, IfSome, IsNone,
 use Rattle.std.specs.List.{filter}
 use Rattle.std.specs.List.Sorted.{IsStrictlyIncreasing}
 use Rattle.std.proofs.lemmas.Bool.{cases_Bool, both_ways, false_from_ne_true, lt-ltb, or_cases, or_left, or_right, eq-eqb, eqb-true, ltb-true, ltb-false, leb-true, le-leb, cond-true, cond-false}
-use Rattle.std.proofs.lemmas.Grind.{get_or_default_zero}
 use Rattle.std.proofs.lemmas.List.Elements.{All-filter, All-head, All-tail}
 use Rattle.disk_model.specs.Disk.{Disk}
 use Rattle.disk_model.specs.declared.machine.FileNo.TheVariants.{Objects}
@@ -19,11 +18,12 @@ use Rattle.identity_writes.specs.Plan.{IsKeptBeside, but_kept}
 use Rattle.explain_core.specs.Sound.{IsSound}
 use Rattle.explain_core.specs.Turns.{has_work}
 use Rattle.explain_core.specs.World.{World, work_of}
-use Rattle.cache_manager.specs.Courses.{counted, longest, longest_of, not_copied, but_longest, cached_length, next_node, work}
-use Rattle.cache_manager.specs.Joins.{cached_shown}
-use Rattle.cache_manager.specs.Laid.{cell_or, values_in}
-use Rattle.cache_manager.specs.Parts.{Parts, Shows}
-use Rattle.cache_manager.proofs.InUse.{dirty_held}
+use Rattle.running_store.specs.Courses.{cached_length}
+use Rattle.cache_manager.specs.InstallCourses.{counted, longest, longest_of, not_copied, but_longest, next_node, work}
+use Rattle.running_store.specs.Joins.{cached_shown}
+use Rattle.running_store.specs.Laid.{cell_or, values_in}
+use Rattle.running_store.specs.Parts.{Parts, Shows}
+use Rattle.running_store.specs.InUse.{dirty_held}
 use Rattle.cache_manager.proofs.Installs.{many_logged}
 use Rattle.cache_manager.proofs.Lists.{AreApart, among_filter, filter_among, among_counted, longest_among, copied_some}
 use Rattle.cache_manager.proofs.WorkOf.{listed_is, is_listed}

@@ -1,14 +1,16 @@
 -- An install removes one node, and flushes one object at most.
-use Rattle.std.proofs.Common.{◌≡◌, ◌∙◌, sym, subst, ap, ℕ, zero, suc, ◌+◌, ◌≤◌, Bool, true, false, List, [], ◌∷◌, ◌++◌, length, take, refl, arith, append_assoc}
-use Rattle.std.specs.Prelude.{IsTrue, ◌^◌, ◌&&◌, nat_lt, nat_le, if◌then◌else◌}
+use Rattle.std.proofs.Common.{◌≡◌, ◌∙◌, sym, subst, ap, ℕ, zero, suc, ◌+◌, ◌≤◌, Bool, false, List, [], ◌∷◌, ◌++◌, length, take, refl, arith, append_assoc}
+use Rattle.std.specs.Prelude.{IsTrue, if◌then◌else◌}
+use Rattle.std.specs.List.{AllByRecursion}
 use Rattle.std.proofs.lemmas.Bool.{both_ways, cond-true, cond_both}
 use Rattle.oper_core.specs.Meaning.{Meaning}
 use Rattle.explain_core.specs.Turns.{count_below, dirty_in}
 use Rattle.explain_core.specs.World.{World, Step, run, end_of}
-use Rattle.explain_core.specs.World.Step.{Block_gate}
-use Rattle.cache_manager.specs.Courses.{Course, Stop, is_through, course, behind, and_then, waits, buffered, grown, force_steps, room_steps, placed, cached_length, identity_length, identity_steps, identity_course, identities, next_node, work, others, removal_steps, finish_steps, must_log, rounds, has_members, install_course, drains, drain_course, flushed_by, flushed_in, removals}
-use Rattle.cache_manager.specs.Courses.Stop.{Through, Full, At_end}
-use Rattle.cache_manager.specs.CourseLaws.{behind_both}
+use Rattle.running_store.specs.Courses.{Course, is_through, course, behind, and_then, force_steps, removal_steps}
+use Rattle.cache_manager.specs.EachStep.{each_force, each_identities}
+use Rattle.cache_manager.specs.InstallCourses.{removed_by, identities, next_node, work, others, finish_steps, must_log, rounds, has_members, install_course, drains, drain_course, flushed_by, flushed_in, removals}
+use Rattle.running_store.specs.Courses.Stop.{Through}
+use Rattle.running_store.specs.CourseLaws.{behind_both}
 
 pub flushed-append : {O : Type 0} (xs ys : List (Step O)) → flushed_in (xs ++ ys) ≡ flushed_in xs ++ flushed_in ys
 flushed-append [] ys = refl
@@ -30,39 +32,18 @@ pub record RemovesOne {O : Type 0} (c : Course O) : Type 0 where
   pub flushed : length (flushed_in c.steps) ≤ 1
 
 module _ {O : Type 0} (m : Meaning O) where
-  none_append : (xs ys : List (Step O)) → RemoveNone xs → RemoveNone ys → RemoveNone (xs ++ ys)
-  none_append xs ys a b = record {
-    removed = omega (arith, removals-append xs ys, a.removed, b.removed);
-    flushed = flushed-append xs ys ∙ (λ i. a.flushed i ++ b.flushed i);
-  }
+  abbrev RemovesNothing : Step O → Type 0
+  RemovesNothing s = (removed_by s ≡ 0) × (flushed_by s ≡ [])
 
-  none_if : (b : Bool) (xs ys : List (Step O)) → RemoveNone xs → RemoveNone ys → RemoveNone (if b then xs else ys)
-  none_if b xs ys first second = cond_both b xs ys (λ (l : List (Step O)). RemoveNone l) (λ is. first) (λ is. second)
-
-  none_either : (b : Bool) (c e : Course O) → RemoveNone c.steps → RemoveNone e.steps → RemoveNone (if b then c else e).steps
-  none_either b c e first second = cond_both b c e (λ (c : Course O). RemoveNone c.steps) (λ is. first) (λ is. second)
-
-  none_behind : (first second : Course O) (stop : Stop) → RemoveNone first.steps → RemoveNone second.steps → RemoveNone (behind first second stop).steps
-  none_behind first second stop a b = behind_both (λ (c : Course O). RemoveNone c.steps) first second stop (λ on. none_append first.steps second.steps a b) (λ ends. a)
+  none_each : (steps : List (Step O)) → AllByRecursion RemovesNothing steps → RemoveNone steps
+  none_each [] are = record { removed = refl; flushed = refl }
+  none_each (s ∷ steps) are = let rest = none_each steps are.1 in record { removed = omega (arith, are.0.0, rest.removed); flushed = λ i. are.0.1 i ++ rest.flushed i }
 
   none_force : (w : World O) → RemoveNone (force_steps m w)
-  none_force w = none_if (waits m w) (Block_gate ∷ []) [] (record { removed = refl; flushed = refl }) (record { removed = refl; flushed = refl })
-
-  none_identity : (x : ℕ) (w : World O) (used : ℕ) → RemoveNone (identity_course m x w used).steps
-  none_identity x w used =
-      let n = identity_length (cached_length m w x) in
-      let room = course (room_steps m w n) used Through in
-      let v = run m w room.steps in
-      none_behind room (placed m v used (2 ^ 48) n true (identity_steps m x v)) Through
-      (none_if (nat_lt (2 ^ 30) (buffered m w + n)) (force_steps m w) [] (none_force w) (record { removed = refl; flushed = refl }))
-      (none_either (nat_lt (2 ^ 48) (grown m v used n)) (course (force_steps m v) used (Full used (n + 5) (2 ^ 48))) (if true && nat_le (2 ^ 62) (end_of v) then course (force_steps m v) used (At_end (end_of v)) else course (identity_steps m x v) (grown m v used n) Through) (none_force v)
-      (none_either (true && nat_le (2 ^ 62) (end_of v)) (course (force_steps m v) used (At_end (end_of v))) (course (identity_steps m x v) (grown m v used n) Through) (none_force v) (record { removed = refl; flushed = refl })))
+  none_force w = none_each (force_steps m w) (each_force m RemovesNothing (refl, refl) w)
 
   pub none_identities : (objects : List ℕ) (w : World O) (used : ℕ) → RemoveNone (identities m objects w used).steps
-  none_identities [] w used = record { removed = refl; flushed = refl }
-  none_identities (x ∷ objects) w used =
-      let first = identity_course m x w used in
-      none_behind first (identities m objects (run m w first.steps) first.used) first.stop (none_identity x w used) (none_identities objects (run m w first.steps) first.used)
+  none_identities objects w used = none_each (identities m objects w used).steps (each_identities m RemovesNothing (refl, refl) objects (λ x there value. (refl, refl)) w used)
 
   one_finish : (w : World O) (used : ℕ) → RemovesOne (course (finish_steps m w) used Through)
   one_finish w used =

@@ -10,8 +10,9 @@ use Rattle.explain_core.specs.CountLaws.{count_more}
 use Rattle.explain_core.specs.RunLaws.{run-append}
 use Rattle.explain_core.specs.Turns.{count_below}
 use Rattle.explain_core.specs.World.{World, Step, run}
-use Rattle.cache_manager.specs.Courses.{Course, and_then, logged_by, logged_in}
-use Rattle.cache_manager.specs.CourseLaws.{behind_both, through_is}
+use Rattle.running_store.specs.Courses.{Course, and_then}
+use Rattle.cache_manager.specs.InstallCourses.{logged_by, logged_in}
+use Rattle.running_store.specs.CourseLaws.{behind_both, through_is}
 use Rattle.cache_manager.proofs.Counts.{count_le}
 use Rattle.cache_manager.proofs.Goes.{Goes}
 use Rattle.cache_manager.proofs.Lists.{AreApart}
@@ -107,9 +108,6 @@ module _ {O : Type 0} (m : Meaning O) where
             subst (λ (l : List ℕ). (l ≡ []) ⊎ (length l < plain_in m w)) (sym same) first
         | inr fewer ↦ inr (omega (arith, fewer, count, tally_count w xs tally))
       ]
-
-  pub fewer_if : (w : World O) (b : Bool) (c e : Course O) → (IsTrue b → IsFewer m w c.steps) → (IsFalse b → IsFewer m w e.steps) → IsFewer m w (if b then c else e).steps
-  fewer_if w b c e first second = cond_both b c e (λ (c : Course O). IsFewer m w c.steps) first second
 
   pub fewer_then : (w : World O) (first : Course O) (next : World O → ℕ → Course O) (P : World O → Type 0) → Goes m w first P → Tally m w first.steps → IsFewer m w first.steps → ((v : World O) → P v → IsFewer m v (next v first.used).steps) → IsFewer m w (and_then m w first next).steps
   fewer_then w first next P goes tally a b =

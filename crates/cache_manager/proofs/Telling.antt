@@ -1,7 +1,6 @@
 -- What an install tells of the steps that it took.
-use Rattle.std.proofs.Common.{◌≡◌, ◌∙◌, sym, subst, ap, ℕ, ◌+◌, ◌≤◌, List, [], ◌∷◌, length, take, refl, arith, Option}
+use Rattle.std.proofs.Common.{◌≡◌, ◌∙◌, sym, ap, ℕ, ◌+◌, ◌≤◌, List, [], ◌∷◌, length, refl, arith, Option}
 use Rattle.std.specs.List.Sorted.{IsStrictlyIncreasing}
-use Rattle.std.proofs.lemmas.List.{append-nil}
 use Rattle.disk_model.specs.Disk.{Disk}
 use Rattle.oper_core.specs.Meaning.{Meaning}
 use Rattle.oper_core.specs.State.{is_among}
@@ -10,36 +9,32 @@ use Rattle.formats.specs.declared.params.Params.{Params}
 use Rattle.log_frames.specs.LogView.{used_of}
 use Rattle.install_order.specs.declared.entry.Entry.{Entry}
 use Rattle.write_graph.specs.Graph.{numbers}
-use Rattle.explain_core.specs.World.{World, Step, run}
-use Rattle.cache_manager.specs.Courses.{Course, flushed_in, install_course}
-use Rattle.cache_manager.specs.Kept.{IsLonger}
-use Rattle.cache_manager.specs.Parts.{Parts, Shows, meaning_in}
+use Rattle.explain_core.specs.World.{World, Step}
+use Rattle.cache_manager.specs.InstallCourses.{flushed_in, install_course}
+use Rattle.running_store.specs.Kept.{IsLonger}
+use Rattle.running_store.specs.Parts.{Parts, Shows, meaning_in}
+use Rattle.running_store.specs.Taking.{Takes}
+use Rattle.running_store.specs.Taking.Ending.{Done}
 use Rattle.cache_manager.specs.Told.{IsInstall, TellsParts, listed}
 use Rattle.cache_manager.specs.Upkeep.{upkeep_install}
 use Rattle.cache_manager.specs.declared.install.Install.TheVariants.{Installed, Clean}
 use Rattle.cache_manager.proofs.Balance.{told_counts}
-use Rattle.cache_manager.proofs.Loops.{InstallDone}
-use Rattle.cache_manager.proofs.Under.{AreUnder}
 
 pub no_items : {X : Type 0} (xs : List X) → length xs ≤ 0 → xs ≡ []
 no_items [] none = refl
 no_items (x ∷ xs) none = absurd (omega (arith, none))
 
 -- a node was installed
-pub told_done : {O : Type 0} (meaning : Bounds → Meaning O) (copied : ℕ) (old new : Disk) (before after : Parts) (items : List ℕ)
-    → AreUnder meaning old new before after (λ m w used. install_course m copied w used) (λ m whole taken v used. InstallDone items m whole taken v used)
-    → IsStrictlyIncreasing (numbers before.store.entries) → IsStrictlyIncreasing (numbers after.store.entries) → (ops : ℕ) (flushed : Option ℕ) (identities : ℕ) → listed flushed ≡ take 1 items
+pub told_done : {O : Type 0} (meaning : Bounds → Meaning O) (copied : ℕ) (old new : Disk) (before after : Parts) → Takes meaning old new before after (λ m w used. install_course m copied w used) Done
+    → IsStrictlyIncreasing (numbers before.store.entries) → IsStrictlyIncreasing (numbers after.store.entries) → (ops : ℕ) (flushed : Option ℕ) (identities : ℕ)
     → after.log.next ≡ before.log.next + identities → length after.store.entries + ops ≡ length before.store.entries + identities
-    → (p : Params) (w : World O) → Shows (meaning_in meaning p) p old before w
+    → (p : Params) (w : World O) → Shows (meaning_in meaning p) p old before w → flushed_in (install_course (meaning_in meaning p) copied w (used_of before.log.log)).steps ≡ listed flushed
     → IsInstall (meaning_in meaning p) w (install_course (meaning_in meaning p) copied w (used_of before.log.log)).steps (Installed ops flushed identities)
-told_done {O} meaning copied old new before after items under first last ops flushed identities is next entries p w shows =
+told_done meaning copied old new before after takes first last ops flushed identities next entries p w shows is =
     let m = meaning_in meaning p in
     let whole = install_course m copied w (used_of before.log.log) in
-    let u = under p w shows in
-    let steps : whole.steps ≡ u.taken = ap (λ (c : Course O). c.steps) u.left.0 ∙ append-nil u.taken in
-    let done = subst (λ (l : List (Step O)). Shows m p new after (run m w l)) (sym steps) u.shows in
-    let counts = told_counts m p old new before after w whole.steps shows done (upkeep_install m copied w (used_of before.log.log)) first last ops identities next entries in
-    (counts.0, ap (λ (l : List (Step O)). flushed_in l) steps ∙ u.left.1 ∙ sym is, counts.1)
+    let counts = told_counts m p old new before after w whole.steps shows (takes.follows p w shows).1.shows (upkeep_install m copied w (used_of before.log.log)) first last ops identities next entries in
+    (counts.0, is, counts.1)
 
 -- there was nothing to install
 module _ (before after : Parts) (n : ℕ) (longer : IsLonger n before after) (none : after.store.entries ≡ []) where

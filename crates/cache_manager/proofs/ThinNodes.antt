@@ -1,22 +1,18 @@
 -- The thin node of the least name, as it is looked for.
-use Rattle.std.proofs.Common.{◌≡◌, ◌∙◌, sym, subst, ℕ, ◌+◌, ◌≤◌, Bool, false, List, [], ◌∷◌, length, refl, arith, inl, inr}
+use Rattle.std.proofs.Common.{◌≡◌, ◌∙◌, sym, subst, ℕ, ◌+◌, ◌≤◌, Bool, true, false, List, [], ◌∷◌, length, refl, arith, inl, inr}
 use Rattle.std.specs.Prelude.{All, IsTrue, ◌==◌, ◌||◌}
 use Rattle.std.specs.List.{filter}
 use Rattle.std.proofs.lemmas.Bool.{both_ways, or_cases, or_left, or_right, eqb-true, eq-eqb}
 use Rattle.std.proofs.lemmas.List.Elements.{All-nil, All-cons, All-head, All-tail}
 use Rattle.std.proofs.lemmas.List.Kept.{IsStrictlyIncreasing-filter}
-use Rattle.formats.specs.declared.params.Params.{Params}
 use Rattle.oper_core.specs.State.{is_among}
 use Rattle.install_order.specs.declared.entry.Entry.{Entry}
 use Rattle.install_order.specs.Order.{flush_set_of}
 use Rattle.install_order.specs.Entries.{accesses}
-use Rattle.install_order.specs.NodeLaws.{node-unique}
 use Rattle.write_graph.specs.Graph.{IsNodeNamed, NamesMinimal, IsLeast, Lists}
 use Rattle.dirty_cache.specs.Contents.{is_dirty}
-use Rattle.cache_manager.specs.Flushed.{MayFlush}
-use Rattle.cache_manager.specs.Parts.{AreInUse, Store, store}
+use Rattle.running_store.specs.Parts.{Store, store}
 use Rattle.cache_manager.specs.Thin.{IsDue, IsWork, IsThin, NamesThin, IsLeastThin}
-use Rattle.cache_manager.proofs.InUse.{may_flush}
 use Rattle.cache_manager.proofs.Lists.{among_filter, filter_among}
 
 -- the dirty ones of a flush set are the work
@@ -56,10 +52,6 @@ few_listed P (x ∷ y ∷ xs) listed few =
     let first : P x = (listed.exactly x).0 (or_left (x == x) (is_among x (y ∷ xs)) (eq-eqb x x refl)) in
     let second : P y = (listed.exactly y).0 (or_right (y == x) (is_among y (y ∷ xs)) (or_left (y == y) (is_among y xs) (eq-eqb y y refl))) in
     absurd (omega (arith, listed.rising 0 (omega arith), few x y first second))
-
--- one name, one node
-pub one_node : (entries : List Entry) (n : ℕ) (s t : ℕ → Bool) → IsNodeNamed entries n s → IsNodeNamed entries n t → s ≡ t
-one_node entries n s t a b = node-unique (accesses entries) s t n a.is_node b.is_node a.is_name.0 b.is_name.0
 
 module _ (it : Store) (entries : List Entry) (from n : ℕ) (work : List ℕ) (same : entries ≡ it.entries) (passed : (k : ℕ) → NamesThin it k → from ≤ k)
     (least : IsLeast (λ k. (from ≤ k) × NamesMinimal entries k) n) (is_work : (node : ℕ → Bool) → IsNodeNamed entries n node → IsWork (store it.objects entries) node work) where
@@ -104,8 +96,8 @@ among_all P [] each = All-nil P
 among_all P (x ∷ xs) each =
     All-cons P x xs (each x (or_left (x == x) (is_among x xs) (eq-eqb x x refl))) (among_all P xs (λ y there. each y (or_right (y == x) (is_among y xs) there)))
 
--- the objects that a thin node has to flush may be flushed
-pub work_may : (p : Params) (next : ℕ) (it : Store) (n : ℕ) (work : List ℕ) → AreInUse p next it → IsLeastThin it n work → All (MayFlush it.objects) work
-work_may p next it n work used least =
+-- the objects that a thin node has to flush are dirty
+pub thin_dirty : (it : Store) (n : ℕ) (work : List ℕ) → IsLeastThin it n work → All (λ x. is_dirty it.objects.cache x ≡ true) work
+thin_dirty it n work least =
     let thin = least.least.0 in
-    among_all (MayFlush it.objects) work (λ x there. may_flush p next it x used (((least.is_work thin.0 thin.1.named).exactly x).0 there).1)
+    among_all (λ x. is_dirty it.objects.cache x ≡ true) work (λ x there. (((least.is_work thin.0 thin.1.named).exactly x).0 there).1)

@@ -12,7 +12,6 @@ use Rattle.formats.specs.declared.params.Params.{Params}
 use Rattle.install_order.specs.Order.{Access, IsNode, IsName, NoEdgeInto, flush_set_of}
 use Rattle.install_order.specs.Computed.{IsWithin, some_below, least_below}
 use Rattle.install_order.specs.NodeLaws.{some-from, some-gives, node-is, node-unique, least-is, name-is}
-use Rattle.install_order.specs.declared.entry.Entry.{Entry}
 use Rattle.standing.specs.Moments.{TakesSome}
 use Rattle.standing.specs.OneStable.{small_store}
 use Rattle.write_graph.specs.Graph.{IsNodeNamed}
@@ -22,9 +21,9 @@ use Rattle.explain_core.specs.Sound.{IsSound}
 use Rattle.explain_core.specs.Turns.{count_below, has_work, is_entered, is_thin, thin_name, has_thin, thin_steps}
 use Rattle.explain_core.specs.World.{World, Step, AreAllowed, run, IsAllStable, end_of, graph_access, node_named, work_of}
 use Rattle.explain_core.specs.World.Step.{Slot_gate, Removal}
-use Rattle.cache_manager.specs.Courses.{removal_steps}
-use Rattle.cache_manager.specs.Joins.{dirty_shown}
-use Rattle.cache_manager.specs.Parts.{Store, ShowsStore, StoreShows, store}
+use Rattle.running_store.specs.Courses.{removal_steps}
+use Rattle.running_store.specs.Joins.{dirty_shown}
+use Rattle.running_store.specs.Parts.{Store, ShowsStore, StoreShows}
 use Rattle.cache_manager.specs.Thin.{IsDue, IsWork, NamesThin, IsLeastThin}
 use Rattle.cache_manager.proofs.Counts.{count_le}
 use Rattle.cache_manager.proofs.Next.{is_within, below, test_none}
@@ -168,35 +167,29 @@ module _ {O : Type 0} (m : Meaning O) (lawful : IsLawful m) (p : Params) (file :
       pub thin_may : (node : ℕ → Bool) → IsNodeNamed it.entries n node → AreAllowed m w (removal_steps m node work)
       thin_may node named = subst (λ (l : List (Step O)). AreAllowed m w l) (thin_steps_are node named) (steps_allowed m lawful w sound stable has_one)
 
--- a thin node of a store is finished, as its entries and its work are given
+-- the thin node of the least name is finished
 module _ {O : Type 0} (m : Meaning O) (lawful : IsLawful m) (p : Params) (d : Disk) (it : Store) (w : World O) (shows : StoreShows m p d it w) (stable : IsAllStable w) (n : ℕ) (work : List ℕ)
-    (least : IsLeastThin it n work) (entries : List Entry) (same : entries ≡ it.entries) (given : List ℕ) (is : given ≡ work) where
+    (least : IsLeastThin it n work) where
   abbrev node : ℕ → Bool
   node = least.least.0.0
 
-  steps_given : thin_steps m w ≡ removal_steps m node given
-  steps_given =
-      thin_steps_are m lawful p (d.reads Objects) it w shows.store shows.sound stable n work least node least.least.0.1.named ∙ ap (removal_steps m node) (sym is)
-
-  pub given_shown : StoreShows m p d (store it.objects entries) w
-  given_shown = subst (λ (es : List Entry). StoreShows m p d (store it.objects es) w) (sym same) shows
+  steps_are : thin_steps m w ≡ removal_steps m node work
+  steps_are = thin_steps_are m lawful p (d.reads Objects) it w shows.store shows.sound stable n work least node least.least.0.1.named
 
   -- what its last steps leave is what the steps of the install leave
   pub installed_is : (new : Disk) (after : Store)
-      → ((s : ℕ → Bool) → IsNodeNamed entries n s → AreAllowed m w (removal_steps m s given) → StoreShows m p new after (run m w (removal_steps m s given)))
+      → ((s : ℕ → Bool) → IsNodeNamed it.entries n s → AreAllowed m w (removal_steps m s work) → StoreShows m p new after (run m w (removal_steps m s work)))
       → (true ≡ has_thin m w) × StoreShows m p new after (run m w (thin_steps m w))
   installed_is new after done = (
     sym (has_one m lawful p (d.reads Objects) it w shows.store shows.sound stable n work least),
-    subst (λ (l : List (Step O)). StoreShows m p new after (run m w l)) (sym steps_given)
-        (done node (subst (λ (es : List Entry). IsNodeNamed es n node) (sym same) least.least.0.1.named)
-        (subst (λ (l : List ℕ). AreAllowed m w (removal_steps m node l)) (sym is)
-        (thin_may m lawful p (d.reads Objects) it w shows.store shows.sound stable n work least node least.least.0.1.named))),
+    subst (λ (l : List (Step O)). StoreShows m p new after (run m w l)) (sym steps_are)
+        (done node least.least.0.1.named (thin_may m lawful p (d.reads Objects) it w shows.store shows.sound stable n work least node least.least.0.1.named)),
   )
 
-  pub installing_moments : (new : Disk) → ((s : ℕ → Bool) → TakesSome m p d new w (removal_steps m s given)) → TakesSome m p d new w (if has_thin m w then thin_steps m w else [])
+  pub installing_moments : (new : Disk) → ((s : ℕ → Bool) → TakesSome m p d new w (removal_steps m s work)) → TakesSome m p d new w (if has_thin m w then thin_steps m w else [])
   installing_moments new each =
       let has : IsTrue (has_thin m w) = has_one m lawful p (d.reads Objects) it w shows.store shows.sound stable n work least in
-      subst (λ (l : List (Step O)). TakesSome m p d new w l) (sym (cond-true (has_thin m w) (thin_steps m w) [] has ∙ steps_given)) (each node)
+      subst (λ (l : List (Step O)). TakesSome m p d new w l) (sym (cond-true (has_thin m w) (thin_steps m w) [] has ∙ steps_are)) (each node)
 
 -- where the store has no thin node, the world has none
 pub no_thin : {O : Type 0} (m : Meaning O) → IsLawful m → (p : Params) (d : Disk) (it : Store) (w : World O) → StoreShows m p d it w → IsAllStable w → ((n : ℕ) → NamesThin it n → ⊥) → IsFalse (has_thin m w)

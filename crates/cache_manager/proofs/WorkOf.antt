@@ -14,7 +14,8 @@ use Rattle.explain_core.specs.History.Member.{Command, Identity}
 use Rattle.explain_core.specs.Sound.{IsSound}
 use Rattle.explain_core.specs.Turns.{is_dirty_in, has_work}
 use Rattle.explain_core.specs.World.{World, graph_access, end_of, work_of}
-use Rattle.cache_manager.specs.Courses.{counted, is_identity_some, is_stale, next_node, work}
+use Rattle.running_store.specs.Courses.{is_identity_some}
+use Rattle.cache_manager.specs.InstallCourses.{counted, is_stale, next_node, work}
 use Rattle.cache_manager.proofs.Lists.{AreApart, among_filter, filter_among, counted_among, apart_counted, apart_filter}
 use Rattle.cache_manager.proofs.Plain.{is_plain}
 

@@ -4,7 +4,7 @@ use Rattle.install_order.specs.Order.{NoEdgeInto, flush_set_of}
 use Rattle.install_order.specs.Entries.{accesses}
 use Rattle.write_graph.specs.Graph.{IsNodeNamed, IsLeast, Lists}
 use Rattle.dirty_cache.specs.Contents.{is_dirty}
-use Rattle.cache_manager.specs.Parts.{Store}
+use Rattle.running_store.specs.Parts.{Store}
 
 -- the node has to flush the object, which is a dirty one of its flush set
 abbrev pub IsDue : Store → (ℕ → Bool) → ℕ → Type 0

@@ -2,8 +2,8 @@
 use Rattle.std.specs.Prelude.{◌≡◌, ◌↔◌, ◌+◌, ◌<◌, ℕ, false, List, [], ◌∷◌, length, Option, None, Some}
 use Rattle.oper_core.specs.Meaning.{Meaning}
 use Rattle.explain_core.specs.World.{World, Step}
-use Rattle.cache_manager.specs.Courses.{flushed_in, logged_in, members_removed}
-use Rattle.cache_manager.specs.Parts.{Parts}
+use Rattle.cache_manager.specs.InstallCourses.{flushed_in, logged_in, members_removed}
+use Rattle.running_store.specs.Parts.{Parts}
 use Rattle.cache_manager.specs.declared.install.Install.{Install}
 use Rattle.cache_manager.specs.declared.install.Install.TheVariants.{Installed, Clean}
 

@@ -1,15 +1,18 @@
 -- The courses of forces, installs and drains add no command.
-use Rattle.std.proofs.Common.{ℕ, zero, suc, ◌+◌, Bool, true, List, [], ◌∷◌, ◌++◌, length}
-use Rattle.std.specs.Prelude.{◌^◌, ◌&&◌, nat_lt, nat_le, if◌then◌else◌}
+use Rattle.std.proofs.Common.{ℕ, zero, suc, ◌+◌, Bool, List, [], ◌∷◌, ◌++◌}
+use Rattle.std.specs.Prelude.{◌^◌, nat_lt, if◌then◌else◌}
+use Rattle.std.specs.List.{AllByRecursion}
 use Rattle.std.proofs.lemmas.Bool.{cond_both}
 use Rattle.oper_core.specs.Meaning.{Meaning}
 use Rattle.explain_core.specs.Turns.{count_below, dirty_in}
 use Rattle.explain_core.specs.World.{World, Step, run, end_of}
-use Rattle.explain_core.specs.World.Step.{Block_gate, Removal}
-use Rattle.cache_manager.specs.Courses.{Course, course, and_then, waits, buffered, grown, force_steps, room_steps, placed, cached_length, identity_length, identity_steps, identity_course, identities, next_node, work, must_log, others, flush_steps, removal_steps, finish_steps, rounds, has_members, install_course, drains, drain_course}
-use Rattle.cache_manager.specs.Courses.Stop.{Through, Full, At_end}
-use Rattle.cache_manager.specs.CourseLaws.{behind_both}
-use Rattle.cache_manager.specs.Running.{AreUpkeep}
+use Rattle.explain_core.specs.World.Step.{Block_gate}
+use Rattle.running_store.specs.Courses.{Course, course, and_then, waits, buffered, force_steps, room_steps, removal_steps}
+use Rattle.cache_manager.specs.InstallCourses.{identities, next_node, work, must_log, others, finish_steps, rounds, has_members, install_course, drains, drain_course}
+use Rattle.running_store.specs.Courses.Stop.{Through}
+use Rattle.running_store.specs.CourseLaws.{behind_both}
+use Rattle.running_store.specs.Running.{AreUpkeep, IsUpkeep}
+use Rattle.cache_manager.specs.EachStep.{each_identities}
 
 module _ {O : Type 0} (m : Meaning O) where
   pub upkeep_append : (xs ys : List (Step O)) → AreUpkeep xs → AreUpkeep ys → AreUpkeep (xs ++ ys)
@@ -33,27 +36,16 @@ module _ {O : Type 0} (m : Meaning O) where
   pub upkeep_room : (w : World O) (n : ℕ) → AreUpkeep (room_steps m w n)
   upkeep_room w n = upkeep_if (nat_lt (2 ^ 30) (buffered m w + n)) (force_steps m w) [] (upkeep_force w) tt
 
-  pub upkeep_placed : (w : World O) (used limit n : ℕ) (numbered : Bool) (steps : List (Step O)) → AreUpkeep steps → AreUpkeep (placed m w used limit n numbered steps).steps
-  upkeep_placed w used limit n numbered steps are =
-      upkeep_either (nat_lt limit (grown m w used n)) (course (force_steps m w) used (Full used (n + 5) limit)) (if numbered && nat_le (2 ^ 62) (end_of w) then course (force_steps m w) used (At_end (end_of w)) else course steps (grown m w used n) Through) (upkeep_force w)
-      (upkeep_either (numbered && nat_le (2 ^ 62) (end_of w)) (course (force_steps m w) used (At_end (end_of w))) (course steps (grown m w used n) Through) (upkeep_force w) are)
-
-  pub upkeep_identity : (x : ℕ) (w : World O) (used : ℕ) → AreUpkeep (identity_course m x w used).steps
-  upkeep_identity x w used =
-      let n = identity_length (cached_length m w x) in
-      upkeep_then w (course (room_steps m w n) used Through) (λ v used. placed m v used (2 ^ 48) n true (identity_steps m x v)) (upkeep_room w n)
-      (λ v used. upkeep_placed v used (2 ^ 48) n true (identity_steps m x v) (tt, tt))
+  are_upkeep : (steps : List (Step O)) → AllByRecursion IsUpkeep steps → AreUpkeep steps
+  are_upkeep [] are = tt
+  are_upkeep (s ∷ steps) are = (are.0, are_upkeep steps are.1)
 
   pub upkeep_identities : (objects : List ℕ) (w : World O) (used : ℕ) → AreUpkeep (identities m objects w used).steps
-  upkeep_identities [] w used = tt
-  upkeep_identities (x ∷ objects) w used = upkeep_then w (identity_course m x w used) (λ v used. identities m objects v used) (upkeep_identity x w used) (λ v used. upkeep_identities objects v used)
-
-  upkeep_flush : (node : ℕ → Bool) (objects : List ℕ) → AreUpkeep (flush_steps m node objects)
-  upkeep_flush node [] = tt
-  upkeep_flush node (x ∷ objects) = (tt, tt)
+  upkeep_identities objects w used = are_upkeep (identities m objects w used).steps (each_identities m IsUpkeep tt objects (λ x there value. tt) w used)
 
   pub upkeep_removal : (node : ℕ → Bool) (objects : List ℕ) → AreUpkeep (removal_steps m node objects)
-  upkeep_removal node objects = upkeep_append (flush_steps m node objects) (Removal node ∷ []) (upkeep_flush node objects) (tt, tt)
+  upkeep_removal node [] = (tt, tt)
+  upkeep_removal node (x ∷ objects) = (tt, (tt, tt))
 
   pub upkeep_finish : (w : World O) → AreUpkeep (finish_steps m w)
   upkeep_finish w = upkeep_append (force_steps m w) (removal_steps m (next_node m w) (work m w)) (upkeep_force w) (upkeep_removal (next_node m w) (work m w))

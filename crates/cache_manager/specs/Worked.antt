@@ -8,7 +8,8 @@ use Rattle.explain_core.specs.World.{World, Step, run}
 use Rattle.explain_core.specs.World.Step.{Append}
 use Rattle.explain_core.specs.declared.byte_op.ByteOp.{ByteOp}
 use Rattle.explain_core.specs.declared.byte_op.ByteOp.TheVariants.{Put, Swap}
-use Rattle.cache_manager.specs.Courses.{Course, install_course, drain_course, next_node}
+use Rattle.running_store.specs.Courses.{Course}
+use Rattle.cache_manager.specs.InstallCourses.{install_course, drain_course, next_node}
 
 abbrev pub two_objects : Meaning ByteOp
 two_objects = byte_meaning two

@@ -1,5 +1,5 @@
 // Which nodes may be finished while the slots are copied.
-ghost use Rattle.std.specs.Prelude.{◌≡◌, ◌⊎◌, ◌<◌, ◌≤◌, ℕ, Bool, Some, IsTrue, IsFalse, slice_get, length};
+ghost use Rattle.std.specs.Prelude.{◌⊎◌, ◌<◌, ◌≤◌, ℕ, Bool, Some, IsTrue, IsFalse, length};
 ghost use Rattle.write_graph.specs.Graph.{IsNodeNamed, IsSingleIdentity, NamesNode};
 ghost use Rattle.cache_manager.specs.Beside.{HasCopied, IsFresh};
 

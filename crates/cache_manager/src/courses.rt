@@ -3,11 +3,12 @@ ghost use Rattle.oper_core.specs.Meaning.{IsSmall};
 ghost use Rattle.oper_core.specs.declared.bounds.Bounds.{Bounds};
 ghost use Rattle.explain_core.specs.Turns.{count_below, dirty_in};
 ghost use Rattle.explain_core.specs.World.{World, run, end_of};
-ghost use Rattle.cache_manager.specs.Courses.{force_course, identities, has_members, install_course, drain_course, logged_in, flushed_in, removals};
-ghost use Rattle.cache_manager.specs.Courses.Stop.{Through};
+ghost use Rattle.running_store.specs.Courses.{force_course};
+ghost use Rattle.cache_manager.specs.InstallCourses.{identities, has_members, install_course, drain_course, logged_in, flushed_in, removals};
+ghost use Rattle.running_store.specs.Courses.Stop.{Through};
 ghost use Rattle.explain_core.specs.Backup.{AreBeside};
 ghost use Rattle.cache_manager.specs.FewLogged.{AreFewLogged};
-ghost use Rattle.cache_manager.specs.Running.{IsRunning, MayBeTaken, IsDrained};
+ghost use Rattle.running_store.specs.Running.{IsRunning, MayBeTaken, IsDrained};
 
 use oper_core::Oper;
 

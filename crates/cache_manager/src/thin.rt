@@ -1,11 +1,11 @@
 // The thin node of the least name.
 ghost use Rattle.std.specs.Prelude.{◌<◌, ◌^◌, ℕ, Bool, All, IfOk, IfSome, IfNone};
 ghost use Rattle.write_graph.specs.Graph.{numbers, IsNodeNamed, NamesNode};
-ghost use Rattle.cache_manager.specs.Parts.{store};
+ghost use Rattle.running_store.specs.Parts.{store};
 ghost use Rattle.cache_manager.specs.Thin.{IsLeastThin, IsWork, NamesThin};
 
-use crate::objects::Objects;
 use oper_core::Memory;
+use running_store::Objects;
 use write_graph::{NodeNo, WriteGraph};
 
 /// A thin node has at most so many objects to flush, which needs no identity writes.

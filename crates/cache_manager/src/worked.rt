@@ -1,10 +1,10 @@
-ghost use Rattle.std.specs.Prelude.{◌≡◌, ◌^◌, ℕ, Bool, true, false, [], ◌∷◌};
+ghost use Rattle.std.specs.Prelude.{◌≡◌, ◌^◌, true, false, [], ◌∷◌};
 ghost use Rattle.explain_core.specs.History.Member.{Identity};
-ghost use Rattle.explain_core.specs.World.{Step};
 ghost use Rattle.explain_core.specs.World.Step.{Append, Block_gate, Slot_gate, Removal};
-ghost use Rattle.cache_manager.specs.Courses.{course, logged_in, removals, flushed_in, members_removed};
-ghost use Rattle.cache_manager.specs.Courses.Stop.{Through, Full};
-ghost use Rattle.cache_manager.specs.Running.{IsRunning, MayBeTaken};
+ghost use Rattle.running_store.specs.Courses.{course};
+ghost use Rattle.cache_manager.specs.InstallCourses.{logged_in, removals, flushed_in, members_removed};
+ghost use Rattle.running_store.specs.Courses.Stop.{Through, Full};
+ghost use Rattle.running_store.specs.Running.{IsRunning, MayBeTaken};
 ghost use Rattle.cache_manager.specs.Worked.{two_objects, both_put, install_both, drain_both, swap_node, install_one_put, drain_apart};
 
 use crate::install_may_be_taken;

@@ -1,5 +1,5 @@
-use Rattle.cache_manager.specs.Courses.{drain_course}
-use Rattle.cache_manager.specs.Running.{KeepsSound, may_be_taken}
+use Rattle.cache_manager.specs.InstallCourses.{drain_course}
+use Rattle.running_store.specs.Running.{KeepsSound, may_be_taken}
 use Rattle.cache_manager.specs.Upkeep.{upkeep_drain}
 use Rattle.cache_manager.proofs.Installs.{drain_goes}
 use Rattle.cache_manager.proofs.courses.drain_may_be_taken.Goals as goal

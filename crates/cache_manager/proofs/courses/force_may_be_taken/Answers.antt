@@ -1,5 +1,5 @@
-use Rattle.cache_manager.specs.Courses.{force_steps}
-use Rattle.cache_manager.specs.Running.{KeepsSound, may_be_taken}
+use Rattle.running_store.specs.Courses.{force_steps}
+use Rattle.running_store.specs.Running.{KeepsSound, may_be_taken}
 use Rattle.cache_manager.specs.Upkeep.{upkeep_force}
 use Rattle.cache_manager.proofs.Goes.{force_allowed}
 use Rattle.cache_manager.proofs.courses.force_may_be_taken.Goals as goal

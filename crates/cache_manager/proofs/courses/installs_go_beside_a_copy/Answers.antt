@@ -1,5 +1,5 @@
-use Rattle.cache_manager.specs.Running.{KeepsSound}
-use Rattle.cache_manager.proofs.Copying.{install_beside, drain_beside}
+use Rattle.running_store.specs.Running.{KeepsSound}
+use Rattle.cache_manager.proofs.Copying.{go_beside}
 use Rattle.cache_manager.proofs.courses.installs_go_beside_a_copy.Goals as goal
 
 pub returns : goal.returns
@@ -7,9 +7,9 @@ returns g c = record {
   install = λ b copied w used small is.
       let m = g.O.Oper.meaning b in
       let keeps : KeepsSound m = λ v taken sound may. c.every_run_keeps.ensures.from_sound b v taken small sound may in
-      install_beside m copied (g.met.O.Oper.lawful b small) keeps c.last_blind_write_is_alone.ensures w used is;
+      (go_beside m copied (g.met.O.Oper.lawful b small) keeps c.last_blind_write_is_alone.ensures w used is).0;
   drain = λ b copied w used small is.
       let m = g.O.Oper.meaning b in
       let keeps : KeepsSound m = λ v taken sound may. c.every_run_keeps.ensures.from_sound b v taken small sound may in
-      drain_beside m copied (g.met.O.Oper.lawful b small) keeps c.last_blind_write_is_alone.ensures w used is;
+      (go_beside m copied (g.met.O.Oper.lawful b small) keeps c.last_blind_write_is_alone.ensures w used is).1;
 }

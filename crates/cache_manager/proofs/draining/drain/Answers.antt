@@ -1,17 +1,30 @@
-use Rattle.std.proofs.Common.{◌≡◌, ◌∙◌, sym, subst, ap, ℕ, List, [], length, arith, inr, Option}
+use Rattle.std.proofs.Common.{◌≡◌, ◌∙◌, sym, subst, ap, ℕ, List, [], length, refl, arith, Option}
+use Rattle.std.specs.List.Sorted.{IsStrictlyIncreasing}
 use Rattle.install_order.specs.declared.entry.Entry.{Entry}
-use Rattle.cache_manager.specs.Courses.{drain_course, install_course}
-use Rattle.cache_manager.specs.Kept.{AreKept, StopsOnly}
-use Rattle.cache_manager.specs.Logged.{log_limit}
-use Rattle.cache_manager.specs.Parts.{Parts, parts}
-use Rattle.cache_manager.specs.Taking.{Takes, Ending}
+use Rattle.write_graph.specs.Graph.{numbers}
+use Rattle.oper_core.specs.Meaning.{IsSmall}
+use Rattle.oper_core.specs.declared.bounds.Bounds.{Bounds}
+use Rattle.explain_core.specs.World.{run}
+use Rattle.running_store.specs.CallLaws.{IsLogging, logging_none, logging_twice, unbroken_after}
+use Rattle.running_store.specs.Calls.{Never, call_none}
+use Rattle.running_store.specs.Courses.{Course, course}
+use Rattle.cache_manager.specs.InstallCourses.{drain_course, install_course, removals}
+use Rattle.running_store.specs.Courses.Stop.{Through}
+use Rattle.running_store.specs.Kept.{StopsAt}
+use Rattle.running_store.specs.Logged.{log_limit}
+use Rattle.running_store.specs.Parts.{Parts, meaning_in}
+use Rattle.running_store.specs.Rests.{rest_next, rest_same}
+use Rattle.running_store.specs.Running.{KeepsSound}
+use Rattle.running_store.specs.StoreView.{length_of, logged_since}
+use Rattle.running_store.specs.Taking.{Ending, Takes}
+use Rattle.running_store.specs.Taking.Ending.{Done}
+use Rattle.running_store.specs.TakesLaws.{both, takes_both, takes_first, takes_none, takes_same}
+use Rattle.cache_manager.specs.Endings.{err_cuts, same_ends}
 use Rattle.cache_manager.specs.Told.{TellsParts, identities_of, ops_of}
 use Rattle.cache_manager.specs.declared.install.Install.{Install}
 use Rattle.cache_manager.specs.declared.install.Install.TheVariants.{Installed, Clean}
-use Rattle.cache_manager.proofs.DrainTaken.{DrainDone, DrainGoesOn, drain_left, drained_clean, drained_count, drained_under, few_entries, install_next_is, installed_under}
-use Rattle.cache_manager.proofs.Keeping.{handed_on, kept_done, kept_here, kept_on, numbered_here, numbered_twice}
+use Rattle.cache_manager.proofs.DrainTaken.{all_clean, drained, few_entries, installs, removes_one}
 use Rattle.cache_manager.proofs.Telling.{no_items}
-use Rattle.cache_manager.proofs.Under.{ends_as, quiet_both, quiet_none, under_begins, under_ends, under_stops}
 use Rattle.cache_manager.proofs.draining.drain.Goals as goal
 
 -- an install of a node is not clean
@@ -26,199 +39,135 @@ none_left before after install tells clean =
     let identities = ap (λ (i : Install). identities_of i) clean in
     no_items after.store.entries (omega (arith, tells.entries, empty, ops, identities))
 
-pub loop-count-init : goal.loop-count-init
-loop-count-init g c =
-    let meaning = g.O.Oper.meaning in
-    let before : Parts = parts c.args.log.now c.args.objects.now c.args.graph.now.entries in
-    let old = g.M.Machine.disk c.args.machine.now in
-    let lawful = g.met.M.Machine.lawful c.args.machine.now in
-    let few = few_entries c.args.log.now.next c.args.graph.now.entries c.len-held.ensures.rising c.requires.in_use.store.above in
+pub loop-store-init : goal.loop-store-init
+loop-store-init g c =
+    let d = g.M.Machine.disk c.args.machine.now in
+    let it = c.args.store.now in
+    let used = (c.params-params.ensures.in_use c.requires.unbroken).store in
+    let same = c.graph.ensures in
+    let few = few_entries it.parts.log.next it.parts.store.entries (subst (λ (es : List Entry). IsStrictlyIncreasing (numbers es)) same c.len-held.ensures.rising) used.above in
     record {
-      quiet = quiet_none old lawful;
-      kept = kept_here old before c.requires.in_use;
-      numbered = numbered_here before;
+      call = logging_none g.O.Oper.meaning d d it it (StopsAt log_limit) Done refl (call_none g.O.Oper.meaning d it Never (g.met.M.Machine.lawful c.args.machine.now) c.requires.unbroken);
       bounded = omega arith;
-      counted = omega (arith, few, c.requires.in_use.store.low);
-      under = under_begins meaning old before (λ m w used. drain_course m c.args.copied w used) (λ m whole taken v used. DrainGoesOn 0 m c.args.copied whole taken v used) lawful
-          (λ p w shows. drain_left meaning g.met.O.Oper.lawful (λ b small v taken sound may. c.every_run_keeps.ensures.from_sound b v taken small sound may) c.last_blind_write_is_alone.ensures c.args.copied old before p w shows);
-    }
-
-pub loop-count-preserved : goal.loop-count-preserved
-loop-count-preserved g c =
-    let meaning = g.O.Oper.meaning in
-    let old = g.M.Machine.disk c.args.machine.now in
-    let now = g.M.Machine.disk c.loop-count.machine in
-    let later = g.M.Machine.disk c.install_one.new.machine in
-    let before : Parts = parts c.args.log.now c.args.objects.now c.args.graph.now.entries in
-    let here : Parts = parts c.loop-count.log c.loop-count.objects c.loop-count.graph.entries in
-    let after : Parts = parts c.install_one.new.log c.install_one.new.objects c.install_one.new.graph.entries in
-    let so_far = c.loop-count.invariant in
-    let tells = c.in_ok-install_one.ensures.tells in
-    let some = not_clean c.in_ok-install_one.field-0 c.in-Installed.ops c.in-Installed.flushed c.in-Installed.identities c.in-Installed.is in
-    let kept = kept_done old now later before here after so_far.kept c.in_ok-install_one.ensures.kept in
-    record {
-      quiet = quiet_both old now later so_far.quiet c.in_ok-install_one.ensures.quiet;
-      kept = kept;
-      numbered = numbered_twice before here after so_far.numbered c.in_ok-install_one.ensures.numbered;
-      bounded = omega (arith, so_far.bounded, tells.some some, tells.numbered, tells.entries);
-      counted = omega (arith, so_far.counted, tells.some some, tells.numbered, tells.entries, kept.in_use.store.low);
-      under = installed_under meaning g.met.O.Oper.lawful (λ b small v taken sound may. c.every_run_keeps.ensures.from_sound b v taken small sound may) c.last_blind_write_is_alone.ensures c.args.copied now here old later before after c.loop-count.count so_far.under so_far.quiet c.in_ok-install_one.ensures.takes (λ none. some (tells.clean.1 none));
+      counted = omega (arith, few, used.low);
+      rest = λ new after ending takes. takes;
+      removed = λ p w shows. (w, shows, omega arith);
     }
 
 pub install_one-requires : goal.install_one-requires
-install_one-requires g c = record { in_use = c.loop-count.invariant.kept.in_use }
+install_one-requires g c = record { unbroken = unbroken_after g.O.Oper.meaning _ _ c.args.store.now c.loop-store.store (logged_since c.args.store.now c.loop-store.store) (StopsAt log_limit) c.loop-store.invariant.call }
+
+pub loop-store-preserved : goal.loop-store-preserved
+loop-store-preserved g c =
+    let meaning = g.O.Oper.meaning in
+    let disk = g.M.Machine.disk in
+    let keep : (b : Bounds) → IsSmall b → KeepsSound (g.O.Oper.meaning b) = λ b small v taken sound may. c.every_run_keeps.ensures.from_sound b v taken small sound may in
+    let alone = c.last_blind_write_is_alone.ensures in
+    let copied = c.args.copied in
+    let before = c.args.store.now in
+    let here = c.loop-store.store in
+    let after = c.install_one.new.store in
+    let now = c.loop-store.machine in
+    let so_far = c.loop-store.invariant in
+    let done = c.in_ok-install_one.ensures in
+    let tells = done.tells in
+    let some = not_clean c.in_ok-install_one.field-0 c.in-Installed.ops c.in-Installed.flushed c.in-Installed.identities c.in-Installed.is in
+    let low = (c.params-params-in-Installed.ensures.in_use (unbroken_after meaning (disk now) (disk c.install_one.new.machine) here after (logged_since here after) (StopsAt log_limit) done.call)).store.low in
+    record {
+      call = logging_twice meaning (disk c.args.machine.now) (disk now) (disk c.install_one.new.machine) before here after (StopsAt log_limit) Done so_far.call done.call;
+      bounded = omega (arith, so_far.bounded, tells.some some, tells.numbered, tells.entries);
+      counted = omega (arith, so_far.counted, tells.some some, tells.numbered, tells.entries, low);
+      rest = rest_next disk meaning c.args.machine.now now before.parts here.parts (λ m w used. drain_course m copied w used) (λ m v used. install_course m copied v used) (λ m v used. drain_course m copied v used)
+          c.install_one.new.machine after.parts done.call.quiet done.takes
+          (rest_same disk meaning c.args.machine.now now before.parts here.parts (λ m w used. drain_course m copied w used) (λ m v used. drain_course m copied v used)
+          (both meaning (λ m v used. install_course m copied v used) (λ m v used. drain_course m copied v used))
+          (λ p v shows. sym (installs meaning g.met.O.Oper.lawful keep alone copied (disk now) here.parts p v shows)) so_far.rest);
+      removed = λ p w shows.
+          let m = meaning_in meaning p in
+          let u = so_far.removed p w shows in
+          let one = install_course m copied u.0 (length_of here) in
+          let taken = done.takes.follows p u.0 u.1 in
+          let less = removes_one meaning g.met.O.Oper.lawful keep alone copied (disk now) here.parts p u.0 u.1 (λ none. some (tells.clean.1 none)) taken.0 in
+          let same = ap (λ (k : ℕ). removals (drain_course m copied (run m u.0 one.steps) k).steps) taken.1.used in
+          (run m u.0 one.steps, taken.1.shows, omega (arith, u.2, less, same));
+    }
+
+pub returns-in_err-install_one-clause-call : goal.returns-in_err-install_one-clause-call
+returns-in_err-install_one-clause-call g c =
+    let disk = g.M.Machine.disk in
+    let before = c.args.store.now in
+    let after = c.install_one.new.store in
+    subst (λ (k : Ending). IsLogging g.O.Oper.meaning (disk c.args.machine.now) (disk c.install_one.new.machine) before after (StopsAt log_limit) k) (same_ends c.from_residual.result c.in_err-install_one.field-0.0 c.from_residual.ensures.1)
+    (logging_twice g.O.Oper.meaning (disk c.args.machine.now) (disk c.loop-store.machine) (disk c.install_one.new.machine) before c.loop-store.store after (StopsAt log_limit) _ c.loop-store.invariant.call c.in_err-install_one.ensures.call)
 
 pub returns-in_err-install_one-clause-takes : goal.returns-in_err-install_one-clause-takes
 returns-in_err-install_one-clause-takes g c =
     let meaning = g.O.Oper.meaning in
-    let old = g.M.Machine.disk c.args.machine.now in
-    let now = g.M.Machine.disk c.loop-count.machine in
-    let later = g.M.Machine.disk c.install_one.new.machine in
-    let before : Parts = parts c.args.log.now c.args.objects.now c.args.graph.now.entries in
-    let here : Parts = parts c.loop-count.log c.loop-count.objects c.loop-count.graph.entries in
-    let after : Parts = parts c.install_one.new.log c.install_one.new.objects c.install_one.new.graph.entries in
-    let so_far = c.loop-count.invariant in
+    let disk = g.M.Machine.disk in
+    let keep : (b : Bounds) → IsSmall b → KeepsSound (g.O.Oper.meaning b) = λ b small v taken sound may. c.every_run_keeps.ensures.from_sound b v taken small sound may in
+    let copied = c.args.copied in
+    let here = c.loop-store.store.parts in
+    let after = c.install_one.new.store.parts in
+    let now = disk c.loop-store.machine in
+    let later = disk c.install_one.new.machine in
     let e = c.in_err-install_one.field-0.0 in
-    subst (λ (k : Ending). Takes meaning old later before after (λ m w used. drain_course m c.args.copied w used) k) (ends_as Install c.from_residual.result e c.from_residual.ensures.1)
-    (under_stops meaning old before (λ m w used. drain_course m c.args.copied w used) now later here after (λ m whole taken v used. DrainGoesOn c.loop-count.count m c.args.copied whole taken v used) so_far.under so_far.quiet
-    (λ m v used. install_course m c.args.copied v used) Install Install e c.in_err-install_one.ensures.takes
-    (λ p v whole taken shows left. install_next_is meaning g.met.O.Oper.lawful (λ b small v taken sound may. c.every_run_keeps.ensures.from_sound b v taken small sound may) c.last_blind_write_is_alone.ensures c.args.copied now here p v shows whole taken left.0))
+    subst (λ (k : Ending). Takes meaning (disk c.args.machine.now) later c.args.store.now.parts after (λ m w used. drain_course m copied w used) k) (same_ends c.from_residual.result e c.from_residual.ensures.1)
+    (c.loop-store.invariant.rest c.install_one.new.machine after _
+    (takes_same meaning now later here after (both meaning (λ m v used. install_course m copied v used) (λ m v used. drain_course m copied v used)) (λ m v used. drain_course m copied v used) _
+    (λ p v shows. sym (installs meaning g.met.O.Oper.lawful keep c.last_blind_write_is_alone.ensures copied now here p v shows))
+    (takes_first meaning (λ m v used. install_course m copied v used) (λ m v used. drain_course m copied v used) now later here after _ (err_cuts e) c.in_err-install_one.ensures.takes)))
 
-pub returns-in_err-install_one-clause-quiet : goal.returns-in_err-install_one-clause-quiet
-returns-in_err-install_one-clause-quiet g c =
-    let meaning = g.O.Oper.meaning in
-    let old = g.M.Machine.disk c.args.machine.now in
-    let now = g.M.Machine.disk c.loop-count.machine in
-    let later = g.M.Machine.disk c.install_one.new.machine in
-    let before : Parts = parts c.args.log.now c.args.objects.now c.args.graph.now.entries in
-    let here : Parts = parts c.loop-count.log c.loop-count.objects c.loop-count.graph.entries in
-    let after : Parts = parts c.install_one.new.log c.install_one.new.objects c.install_one.new.graph.entries in
-    let so_far = c.loop-count.invariant in
-    quiet_both old now later so_far.quiet c.install_one.ensures.quiet
-
-pub returns-in_err-install_one-clause-kept : goal.returns-in_err-install_one-clause-kept
-returns-in_err-install_one-clause-kept g c =
-    let meaning = g.O.Oper.meaning in
-    let old = g.M.Machine.disk c.args.machine.now in
-    let now = g.M.Machine.disk c.loop-count.machine in
-    let later = g.M.Machine.disk c.install_one.new.machine in
-    let before : Parts = parts c.args.log.now c.args.objects.now c.args.graph.now.entries in
-    let here : Parts = parts c.loop-count.log c.loop-count.objects c.loop-count.graph.entries in
-    let after : Parts = parts c.install_one.new.log c.install_one.new.objects c.install_one.new.graph.entries in
-    let so_far = c.loop-count.invariant in
-    handed_on (AreKept g.O.Oper.meaning old later before after) c.from_residual.result c.in_err-install_one.field-0.0 c.from_residual.ensures.1
-    (kept_on old now later before here after so_far.kept c.in_err-install_one.ensures.kept)
-
-pub returns-in_err-install_one-clause-numbered : goal.returns-in_err-install_one-clause-numbered
-returns-in_err-install_one-clause-numbered g c =
-    let meaning = g.O.Oper.meaning in
-    let old = g.M.Machine.disk c.args.machine.now in
-    let now = g.M.Machine.disk c.loop-count.machine in
-    let later = g.M.Machine.disk c.install_one.new.machine in
-    let before : Parts = parts c.args.log.now c.args.objects.now c.args.graph.now.entries in
-    let here : Parts = parts c.loop-count.log c.loop-count.objects c.loop-count.graph.entries in
-    let after : Parts = parts c.install_one.new.log c.install_one.new.objects c.install_one.new.graph.entries in
-    let so_far = c.loop-count.invariant in
-    numbered_twice before here after so_far.numbered c.install_one.ensures.numbered
-
-pub returns-in_err-install_one-clause-stops : goal.returns-in_err-install_one-clause-stops
-returns-in_err-install_one-clause-stops g c =
-    subst (λ (k : Ending). StopsOnly log_limit c.install_one.new.log k) (ends_as Install c.from_residual.result c.in_err-install_one.field-0.0 c.from_residual.ensures.1) c.in_err-install_one.ensures.stops
+pub returns-clause-call : goal.returns-clause-call
+returns-clause-call g c =
+    let disk = g.M.Machine.disk in
+    logging_twice g.O.Oper.meaning (disk c.args.machine.now) (disk c.loop-store.machine) (disk c.install_one.new.machine) c.args.store.now c.loop-store.store c.install_one.new.store (StopsAt log_limit) Done
+    c.loop-store.invariant.call c.in_ok-install_one.ensures.call
 
 pub returns-clause-takes : goal.returns-clause-takes
 returns-clause-takes g c =
     let meaning = g.O.Oper.meaning in
-    let old = g.M.Machine.disk c.args.machine.now in
-    let now = g.M.Machine.disk c.loop-count.machine in
+    let keep : (b : Bounds) → IsSmall b → KeepsSound (g.O.Oper.meaning b) = λ b small v taken sound may. c.every_run_keeps.ensures.from_sound b v taken small sound may in
+    let alone = c.last_blind_write_is_alone.ensures in
+    let copied = c.args.copied in
+    let here = c.loop-store.store.parts in
+    let after = c.install_one.new.store.parts in
+    let now = g.M.Machine.disk c.loop-store.machine in
     let later = g.M.Machine.disk c.install_one.new.machine in
-    let before : Parts = parts c.args.log.now c.args.objects.now c.args.graph.now.entries in
-    let here : Parts = parts c.loop-count.log c.loop-count.objects c.loop-count.graph.entries in
-    let after : Parts = parts c.install_one.new.log c.install_one.new.objects c.install_one.new.graph.entries in
-    let so_far = c.loop-count.invariant in
-    under_ends meaning old before (λ m w used. drain_course m c.args.copied w used) later after (λ m whole taken v used. DrainDone c.loop-count.count m whole taken v used)
-    (drained_under meaning g.met.O.Oper.lawful (λ b small v taken sound may. c.every_run_keeps.ensures.from_sound b v taken small sound may) c.last_blind_write_is_alone.ensures c.args.copied now here old later before after c.loop-count.count so_far.under so_far.quiet c.in_ok-install_one.ensures.takes (c.in_ok-install_one.ensures.tells.clean.0 c.in_default.is))
-    (λ p v whole taken shows left. left.0)
-
-pub returns-clause-quiet : goal.returns-clause-quiet
-returns-clause-quiet g c =
-    let meaning = g.O.Oper.meaning in
-    let old = g.M.Machine.disk c.args.machine.now in
-    let now = g.M.Machine.disk c.loop-count.machine in
-    let later = g.M.Machine.disk c.install_one.new.machine in
-    let before : Parts = parts c.args.log.now c.args.objects.now c.args.graph.now.entries in
-    let here : Parts = parts c.loop-count.log c.loop-count.objects c.loop-count.graph.entries in
-    let after : Parts = parts c.install_one.new.log c.install_one.new.objects c.install_one.new.graph.entries in
-    let so_far = c.loop-count.invariant in
-    quiet_both old now later so_far.quiet c.install_one.ensures.quiet
-
-pub returns-clause-kept : goal.returns-clause-kept
-returns-clause-kept g c =
-    let meaning = g.O.Oper.meaning in
-    let old = g.M.Machine.disk c.args.machine.now in
-    let now = g.M.Machine.disk c.loop-count.machine in
-    let later = g.M.Machine.disk c.install_one.new.machine in
-    let before : Parts = parts c.args.log.now c.args.objects.now c.args.graph.now.entries in
-    let here : Parts = parts c.loop-count.log c.loop-count.objects c.loop-count.graph.entries in
-    let after : Parts = parts c.install_one.new.log c.install_one.new.objects c.install_one.new.graph.entries in
-    let so_far = c.loop-count.invariant in
-    inr (kept_done old now later before here after so_far.kept c.in_ok-install_one.ensures.kept)
-
-pub returns-clause-numbered : goal.returns-clause-numbered
-returns-clause-numbered g c =
-    let meaning = g.O.Oper.meaning in
-    let old = g.M.Machine.disk c.args.machine.now in
-    let now = g.M.Machine.disk c.loop-count.machine in
-    let later = g.M.Machine.disk c.install_one.new.machine in
-    let before : Parts = parts c.args.log.now c.args.objects.now c.args.graph.now.entries in
-    let here : Parts = parts c.loop-count.log c.loop-count.objects c.loop-count.graph.entries in
-    let after : Parts = parts c.install_one.new.log c.install_one.new.objects c.install_one.new.graph.entries in
-    let so_far = c.loop-count.invariant in
-    numbered_twice before here after so_far.numbered c.install_one.ensures.numbered
+    let done = c.in_ok-install_one.ensures in
+    let empty = none_left here after c.in_ok-install_one.field-0 done.tells c.in_default.is in
+    c.loop-store.invariant.rest c.install_one.new.machine after Done
+    (takes_same meaning now later here after (both meaning (λ m v used. install_course m copied v used) (λ m v used. drain_course m copied v used)) (λ m v used. drain_course m copied v used) Done
+    (λ p v shows. sym (installs meaning g.met.O.Oper.lawful keep alone copied now here p v shows))
+    (takes_both meaning (λ m v used. install_course m copied v used) (λ m v used. drain_course m copied v used) now later later here after after Done done.call.quiet done.takes
+    (takes_same meaning later later after after (λ m v used. course [] used Through) (λ m v used. drain_course m copied v used) Done
+    (λ p v shows. sym (drained meaning g.met.O.Oper.lawful keep alone copied later after p v shows empty)) (takes_none meaning later after (g.met.M.Machine.lawful c.install_one.new.machine)))))
 
 pub returns-clause-count : goal.returns-clause-count
-returns-clause-count g c =
+returns-clause-count g c = λ p w shows.
     let meaning = g.O.Oper.meaning in
-    let old = g.M.Machine.disk c.args.machine.now in
-    let now = g.M.Machine.disk c.loop-count.machine in
-    let later = g.M.Machine.disk c.install_one.new.machine in
-    let before : Parts = parts c.args.log.now c.args.objects.now c.args.graph.now.entries in
-    let here : Parts = parts c.loop-count.log c.loop-count.objects c.loop-count.graph.entries in
-    let after : Parts = parts c.install_one.new.log c.install_one.new.objects c.install_one.new.graph.entries in
-    let so_far = c.loop-count.invariant in
-    λ p w shows.
-    drained_count meaning g.met.O.Oper.lawful (λ b small v taken sound may. c.every_run_keeps.ensures.from_sound b v taken small sound may) c.last_blind_write_is_alone.ensures c.args.copied old later before after c.loop-count.count
-    (drained_under meaning g.met.O.Oper.lawful (λ b small v taken sound may. c.every_run_keeps.ensures.from_sound b v taken small sound may) c.last_blind_write_is_alone.ensures c.args.copied now here old later before after c.loop-count.count so_far.under so_far.quiet c.in_ok-install_one.ensures.takes (c.in_ok-install_one.ensures.tells.clean.0 c.in_default.is))
-    p w shows
-
-pub returns-clause-drained : goal.returns-clause-drained
-returns-clause-drained g c =
-    let meaning = g.O.Oper.meaning in
-    let old = g.M.Machine.disk c.args.machine.now in
-    let now = g.M.Machine.disk c.loop-count.machine in
-    let later = g.M.Machine.disk c.install_one.new.machine in
-    let before : Parts = parts c.args.log.now c.args.objects.now c.args.graph.now.entries in
-    let here : Parts = parts c.loop-count.log c.loop-count.objects c.loop-count.graph.entries in
-    let after : Parts = parts c.install_one.new.log c.install_one.new.objects c.install_one.new.graph.entries in
-    let so_far = c.loop-count.invariant in
-    none_left here after c.in_ok-install_one.field-0 c.in_ok-install_one.ensures.tells c.in_default.is
+    let m = meaning_in meaning p in
+    let keep : (b : Bounds) → IsSmall b → KeepsSound (g.O.Oper.meaning b) = λ b small v taken sound may. c.every_run_keeps.ensures.from_sound b v taken small sound may in
+    let here = c.loop-store.store.parts in
+    let u = c.loop-store.invariant.removed p w shows in
+    let none = ap (λ (k : Course _). removals k.steps) (drained meaning g.met.O.Oper.lawful keep c.last_blind_write_is_alone.ensures c.args.copied (g.M.Machine.disk c.loop-store.machine) here p u.0 u.1 (c.in_ok-install_one.ensures.tells.clean.0 c.in_default.is)) in
+    omega (arith, u.2, none)
 
 pub returns-clause-bounded : goal.returns-clause-bounded
 returns-clause-bounded g c =
-    let so_far = c.loop-count.invariant in
     let tells = c.in_ok-install_one.ensures.tells in
-    omega (arith, so_far.bounded, tells.numbered, tells.entries)
+    omega (arith, c.loop-store.invariant.bounded, tells.numbered, tells.entries)
+
+pub returns-clause-drained : goal.returns-clause-drained
+returns-clause-drained g c = none_left c.loop-store.store.parts c.install_one.new.store.parts c.in_ok-install_one.field-0 c.in_ok-install_one.ensures.tells c.in_default.is
 
 pub returns-clause-clean : goal.returns-clause-clean
-returns-clause-clean g c =
+returns-clause-clean g c = λ p w shows.
     let meaning = g.O.Oper.meaning in
-    let old = g.M.Machine.disk c.args.machine.now in
-    let now = g.M.Machine.disk c.loop-count.machine in
-    let later = g.M.Machine.disk c.install_one.new.machine in
-    let before : Parts = parts c.args.log.now c.args.objects.now c.args.graph.now.entries in
-    let here : Parts = parts c.loop-count.log c.loop-count.objects c.loop-count.graph.entries in
-    let after : Parts = parts c.install_one.new.log c.install_one.new.objects c.install_one.new.graph.entries in
-    let so_far = c.loop-count.invariant in
-    λ p w shows.
-    drained_clean meaning g.met.O.Oper.lawful (λ b small v taken sound may. c.every_run_keeps.ensures.from_sound b v taken small sound may) c.last_blind_write_is_alone.ensures c.args.copied old later before after c.loop-count.count
-    (drained_under meaning g.met.O.Oper.lawful (λ b small v taken sound may. c.every_run_keeps.ensures.from_sound b v taken small sound may) c.last_blind_write_is_alone.ensures c.args.copied now here old later before after c.loop-count.count so_far.under so_far.quiet c.in_ok-install_one.ensures.takes (c.in_ok-install_one.ensures.tells.clean.0 c.in_default.is))
-    p w shows (none_left here after c.in_ok-install_one.field-0 c.in_ok-install_one.ensures.tells c.in_default.is)
+    let m = meaning_in meaning p in
+    let keep : (b : Bounds) → IsSmall b → KeepsSound (g.O.Oper.meaning b) = λ b small v taken sound may. c.every_run_keeps.ensures.from_sound b v taken small sound may in
+    let done = c.in_ok-install_one.ensures in
+    let here = c.loop-store.store in
+    let after = c.install_one.new.store.parts in
+    let u = c.loop-store.invariant.removed p w shows in
+    all_clean meaning g.met.O.Oper.lawful keep c.last_blind_write_is_alone.ensures c.args.copied (g.M.Machine.disk c.install_one.new.machine) after p (run m u.0 (install_course m c.args.copied u.0 (length_of here)).steps)
+    (done.takes.follows p u.0 u.1).1.shows (none_left here.parts after c.in_ok-install_one.field-0 done.tells c.in_default.is)

@@ -1,26 +1,30 @@
-use Rattle.std.proofs.Common.{◌+◌, ◌*◌, ◌-◌, ◌≤◌, ◌^◌, length}
-use Rattle.cache_manager.specs.Courses.{drain_course}
-use Rattle.cache_manager.specs.Finished.{IsQuiet}
-use Rattle.cache_manager.specs.Kept.{AreKept, AreNumbered}
-use Rattle.cache_manager.specs.Parts.{Parts, parts}
-use Rattle.cache_manager.proofs.DrainTaken.{DrainGoesOn}
-use Rattle.cache_manager.proofs.Under.{AreUnder}
+use Rattle.std.proofs.Common.{◌≡◌, ◌+◌, ◌*◌, ◌-◌, ◌≤◌, ◌^◌, length}
+use Rattle.formats.specs.declared.params.Params.{Params}
+use Rattle.explain_core.specs.World.{World}
+use Rattle.running_store.specs.CallLaws.{IsLogging}
+use Rattle.cache_manager.specs.InstallCourses.{drain_course, removals}
+use Rattle.running_store.specs.Kept.{StopsAt}
+use Rattle.running_store.specs.Logged.{log_limit}
+use Rattle.running_store.specs.Parts.{Shows, meaning_in}
+use Rattle.running_store.specs.Rests.{IsRest}
+use Rattle.running_store.specs.StoreView.{length_of, next_of}
+use Rattle.running_store.specs.Taking.Ending.{Done}
 use Rattle.cache_manager.proofs.draining.drain.Given as goal
 
-abbrev pub invariant-loop-count : goal.invariant-loop-count
-invariant-loop-count g l =
-    let old = g.M.Machine.disk l.fn.machine in
-    let now = g.M.Machine.disk l.machine in
-    let before : Parts = parts l.fn.log l.fn.objects l.fn.graph.entries in
-    let here : Parts = parts l.log l.objects l.graph.entries in
+abbrev pub invariant-loop-store : goal.invariant-loop-store
+invariant-loop-store g l =
+    let meaning = g.O.Oper.meaning in
+    let disk = g.M.Machine.disk in
+    let before = l.fn.store in
+    let here = l.store in
     record {
-      quiet : IsQuiet old now;
-      kept : AreKept g.O.Oper.meaning old now before here;
-      numbered : AreNumbered before here;
-      bounded : l.count + l.fn.log.next + length l.graph.entries ≤ length l.fn.graph.entries + l.log.next;
-      counted : l.count + (2 * (2 ^ 62 - l.log.next) + length l.graph.entries) ≤ 2 ^ 63;
-      under : AreUnder g.O.Oper.meaning old now before here (λ m w used. drain_course m l.fn.copied w used) (λ m whole taken v used. DrainGoesOn l.count m l.fn.copied whole taken v used);
+      call : IsLogging meaning (disk l.fn.machine) (disk l.machine) before here (StopsAt log_limit) Done;
+      bounded : l.count + next_of before + length here.parts.store.entries ≤ length before.parts.store.entries + next_of here;
+      counted : l.count + (2 * (2 ^ 62 - next_of here) + length here.parts.store.entries) ≤ 2 ^ 63;
+      rest : IsRest disk meaning l.fn.machine before.parts (λ m w used. drain_course m l.fn.copied w used) l.machine here.parts (λ m w used. drain_course m l.fn.copied w used);
+      removed : (p : Params) (w : World g.row.O.Denot) → Shows (meaning_in meaning p) p (disk l.fn.machine) before.parts w → (v : World g.row.O.Denot) × Shows (meaning_in meaning p) p (disk l.machine) here.parts v
+          × (removals (drain_course (meaning_in meaning p) l.fn.copied w (length_of before)).steps ≡ l.count + removals (drain_course (meaning_in meaning p) l.fn.copied v (length_of here)).steps);
     }
 
-abbrev pub decreases-loop-count : goal.decreases-loop-count
-decreases-loop-count g l = 2 * (2 ^ 62 - l.log.next) + length l.graph.entries
+abbrev pub decreases-loop-store : goal.decreases-loop-store
+decreases-loop-store g l = 2 * (2 ^ 62 - next_of l.store) + length l.store.parts.store.entries

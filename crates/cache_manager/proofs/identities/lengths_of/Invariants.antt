@@ -1,5 +1,5 @@
 use Rattle.std.proofs.Common.{◌≡◌, ℕ, List, length, map, take}
-use Rattle.cache_manager.specs.Laid.{values_in}
+use Rattle.running_store.specs.Laid.{values_in}
 use Rattle.cache_manager.proofs.identities.lengths_of.Given as goal
 
 abbrev pub invariant-loop-x : goal.invariant-loop-x

@@ -1,22 +1,18 @@
 use Rattle.std.proofs.Common.{drop}
-use Rattle.cache_manager.specs.Courses.{identities}
-use Rattle.cache_manager.specs.CourseLaws.{IsLeft}
-use Rattle.cache_manager.specs.Finished.{IsQuiet}
-use Rattle.cache_manager.specs.Kept.{AreKept, AreNumbered, IsLonger}
-use Rattle.cache_manager.specs.Parts.{Parts, parts}
-use Rattle.cache_manager.proofs.Under.{AreUnder}
+use Rattle.running_store.specs.CallLaws.{IsLogging}
+use Rattle.cache_manager.specs.InstallCourses.{identities}
+use Rattle.running_store.specs.Kept.{IsLonger, StopsAt}
+use Rattle.running_store.specs.Logged.{log_limit}
+use Rattle.running_store.specs.Rests.{IsRest}
+use Rattle.running_store.specs.Taking.Ending.{Done}
 use Rattle.cache_manager.proofs.identities.log_all.Given as goal
 
 abbrev pub invariant-loop-x : goal.invariant-loop-x
 invariant-loop-x g l =
-    let old = g.M.Machine.disk l.fn.machine in
-    let now = g.M.Machine.disk l.machine in
-    let before : Parts = parts l.fn.log l.fn.objects l.fn.graph.entries in
-    let here : Parts = parts l.log l.objects l.graph.entries in
+    let meaning = g.O.Oper.meaning in
+    let disk = g.M.Machine.disk in
     record {
-      quiet : IsQuiet old now;
-      kept : AreKept g.O.Oper.meaning old now before here;
-      numbered : AreNumbered before here;
-      logged : IsLonger l.x-index before here;
-      under : AreUnder g.O.Oper.meaning old now before here (λ m w used. identities m l.fn.xs w used) (λ m whole taken v used. IsLeft whole taken (identities m (drop l.x-index l.fn.xs) v used));
+      call : IsLogging meaning (disk l.fn.machine) (disk l.machine) l.fn.store l.store (StopsAt log_limit) Done;
+      logged : IsLonger l.x-index l.fn.store.parts l.store.parts;
+      rest : IsRest disk meaning l.fn.machine l.fn.store.parts (λ m w used. identities m l.fn.xs w used) l.machine l.store.parts (λ m w used. identities m (drop l.x-index l.fn.xs) w used);
     }

@@ -1,222 +1,211 @@
-use Rattle.std.proofs.Common.{subst, ap, arith, ℕ, ◌+◌, ◌<◌, ◌≤◌, List, length, refl, inl, inr}
-use Rattle.oper_core.specs.declared.bounds.Bounds.{Bounds}
-use Rattle.log_frames.specs.LogView.{used_of}
+use Rattle.std.proofs.Common.{◌≡◌, ◌∙◌, sym, subst, ap, arith, ◌+◌, length, true, ℕ}
+use Rattle.dirty_cache.specs.Contents.{held, is_dirty}
 use Rattle.log_records.specs.RecordLog.{RecordLogView}
-use Rattle.cache_manager.specs.Courses.{identity_course, identity_length}
-use Rattle.cache_manager.specs.Finished.{quiet_twice}
-use Rattle.cache_manager.specs.Kept.{StopsOnly}
-use Rattle.cache_manager.specs.KeptLaws.{forced_log}
-use Rattle.cache_manager.specs.Logged.{log_limit}
-use Rattle.cache_manager.specs.Parts.{Parts, meaning_in, parts, store}
-use Rattle.cache_manager.specs.Taking.{Takes, Ending}
-use Rattle.cache_manager.proofs.IdentityTakes.{fails, lacks_memory, takes_no_room, takes_unforced, takes_refusal, takes_short, takes_done}
-use Rattle.cache_manager.proofs.InUse.{dirty_held}
-use Rattle.cache_manager.proofs.Keeping.{appended_kept, appended_longer, appended_numbered, kept_twice, log_kept, log_numbered, numbered_twice, of_fault, refused_stops, roomed_kept, roomed_numbered, same_log}
-use Rattle.cache_manager.proofs.Written.{written_parts, value_cached, course_length, room_is_place}
+use Rattle.running_store.specs.AfterReads.{call_stopped}
+use Rattle.running_store.specs.CallLaws.{IsLogging, logging_none, logging_twice, unbroken_after}
+use Rattle.running_store.specs.Calls.{IsForcedOrNot, Never, call_as, call_twice}
+use Rattle.running_store.specs.Courses.{identity_length}
+use Rattle.cache_manager.specs.InstallCourses.{identity_course}
+use Rattle.running_store.specs.InUse.{dirty_cached}
+use Rattle.running_store.specs.Keeping.{appended_longer}
+use Rattle.running_store.specs.Kept.{StopsAt}
+use Rattle.running_store.specs.Laid.{Laid}
+use Rattle.running_store.specs.Logged.{log_limit}
+use Rattle.running_store.specs.Parts.{Parts}
+use Rattle.running_store.specs.StoreView.{StoreView, logged_since, next_of}
+use Rattle.running_store.specs.Taking.{Ending, Takes}
+use Rattle.running_store.specs.Taking.Ending.{Done, Stopped, Failed, Short}
+use Rattle.running_store.specs.TakesLaws.{takes_both, takes_first}
+use Rattle.running_store.specs.Writes.{unwritten_call, unwritten_takes, write_call, write_longer, write_takes}
+use Rattle.running_store.specs.Written.{room_is_place, value_cached}
+use Rattle.cache_manager.specs.Endings.{failed_ends, short_ends}
+use Rattle.cache_manager.specs.RecordPlace.{HasRecordPlace, LacksRecordPlace}
+use Rattle.cache_manager.proofs.IdentityTakes.{length_shown, place, refused, room, takes_identity, takes_refused, takes_unforced, takes_written}
 use Rattle.cache_manager.proofs.identity.log_identity.Goals as goal
 
-pub returns-in_err-force_all-clause-quiet : goal.returns-in_err-force_all-clause-quiet
-returns-in_err-force_all-clause-quiet g c =
-    quiet_twice c.args.log.now.log.active c.make_block_room.new.log.log.active (g.M.Machine.disk c.args.machine.now) (g.M.Machine.disk c.make_block_room.new.machine) (g.M.Machine.disk c.force_all.new.machine)
-    c.make_block_room.ensures.runs c.force_all.ensures.runs
+-- where room is made, the objects stay
+same_objects : (before here : StoreView) → IsForcedOrNot before here → here.parts.store.objects ≡ before.parts.store.objects
+same_objects before here is = ap (λ (s : StoreView). s.parts.store.objects) is.same
 
-pub returns-in-Some-clause-quiet : goal.returns-in-Some-clause-quiet
-returns-in-Some-clause-quiet g c =
-    quiet_twice c.args.log.now.log.active c.make_block_room.new.log.log.active (g.M.Machine.disk c.args.machine.now) (g.M.Machine.disk c.make_block_room.new.machine) (g.M.Machine.disk c.force_all.new.machine)
-    c.make_block_room.ensures.runs c.force_all.ensures.runs
+still_dirty : (x : ℕ) {laid later : Laid} → later ≡ laid → is_dirty laid.cache x ≡ true → is_dirty later.cache x ≡ true
+still_dirty x same dirty = ap (λ (l : Laid). is_dirty l.cache x) same ∙ dirty
 
-pub returns-in_err-make_block_room-clause-takes : goal.returns-in_err-make_block_room-clause-takes
-returns-in_err-make_block_room-clause-takes g c =
-    let x = c.args.x in
-    let d = g.M.Machine.disk c.args.machine.now in
-    let new = g.M.Machine.disk c.make_block_room.new.machine in
-    let before = parts c.args.log.now c.args.objects.now c.args.graph.now.entries in
-    let after = parts c.make_block_room.new.log c.args.objects.now c.args.graph.now.entries in
-    let pair = dirty_held c.args.objects.now.cache x c.requires.dirty in
-    subst (λ (k : Ending). Takes g.O.Oper.meaning d new before after (λ m w used. identity_course m x w used) k) (fails c.from_residual.result c.from_residual.ensures.1)
-    (takes_no_room g.O.Oper.meaning d before x (17 + length c.value.result.now)
-    (λ p w shows. course_length (meaning_in g.O.Oper.meaning p) p d before w x pair.0 c.value.result.now shows pair.1 c.value.ensures.value)
-    new after (λ told p w shows. c.make_block_room.ensures.moments told p before.store w shows))
+pub value-requires : goal.value-requires
+value-requires g c = dirty_cached c.objects.result.now.cache c.args.x (still_dirty c.args.x c.objects.ensures c.requires.dirty)
 
-pub returns-in_err-force_all-clause-takes : goal.returns-in_err-force_all-clause-takes
-returns-in_err-force_all-clause-takes g c =
-    let x = c.args.x in
-    let d = g.M.Machine.disk c.args.machine.now in
-    let mid = g.M.Machine.disk c.make_block_room.new.machine in
-    let new = g.M.Machine.disk c.force_all.new.machine in
-    let before = parts c.args.log.now c.args.objects.now c.args.graph.now.entries in
-    let here = parts c.make_block_room.new.log c.args.objects.now c.args.graph.now.entries in
-    let after = parts c.force_all.new.log c.args.objects.now c.args.graph.now.entries in
-    let pair = dirty_held c.args.objects.now.cache x c.requires.dirty in
-    subst (λ (k : Ending). Takes g.O.Oper.meaning d new before after (λ m w used. identity_course m x w used) k) (fails c.from_residual-in_err-force_all.result c.from_residual-in_err-force_all.ensures.1)
-    (takes_unforced g.O.Oper.meaning d before x (17 + length c.value.result.now)
-    (λ p w shows. course_length (meaning_in g.O.Oper.meaning p) p d before w x pair.0 c.value.result.now shows pair.1 c.value.ensures.value)
-    mid here c.args.log.now.log.active c.make_block_room.ensures.runs (λ told p w shows. c.make_block_room.ensures.moments told p before.store w shows)
-    (λ p w shows. c.in_ok-make_block_room.ensures.shows p before.store w shows) c.in_ok-make_block_room.ensures.same.used
-    new after c.in-Some.e c.in-Some.ensures.some (λ told p u shows. c.force_all.ensures.moments told p here.store u shows))
+pub make_block_room-requires-clause-short : goal.make_block_room-requires-clause-short
+make_block_room-requires-clause-short g c = omega (arith, c.value.ensures.short, ap (λ (l : Laid). l.slots.params.cap) c.objects.ensures, c.params-params.ensures.range.cap)
 
-pub returns-in-Some-clause-takes : goal.returns-in-Some-clause-takes
-returns-in-Some-clause-takes g c =
-    let x = c.args.x in
-    let d = g.M.Machine.disk c.args.machine.now in
-    let mid = g.M.Machine.disk c.make_block_room.new.machine in
-    let new = g.M.Machine.disk c.force_all.new.machine in
-    let before = parts c.args.log.now c.args.objects.now c.args.graph.now.entries in
-    let here = parts c.make_block_room.new.log c.args.objects.now c.args.graph.now.entries in
-    let after = parts c.force_all.new.log c.args.objects.now c.args.graph.now.entries in
-    let pair = dirty_held c.args.objects.now.cache x c.requires.dirty in
-    takes_refusal g.O.Oper.meaning d before x (17 + length c.value.result.now)
-    (λ p w shows. course_length (meaning_in g.O.Oper.meaning p) p d before w x pair.0 c.value.result.now shows pair.1 c.value.ensures.value)
-    mid here c.args.log.now.log.active c.make_block_room.ensures.runs (λ told p w shows. c.make_block_room.ensures.moments told p before.store w shows)
-    (λ p w shows. c.in_ok-make_block_room.ensures.shows p before.store w shows) c.in_ok-make_block_room.ensures.same.used
-    new after c.in-Some.e c.in-Some.ensures.some (λ told p u shows. c.force_all.ensures.moments told p here.store u shows)
-    (λ p u shows. c.in_ok-force_all.ensures.shows p here.store u shows) (ap (λ (r : RecordLogView). used_of r.log) c.in_ok-force_all.ensures.forced)
+pub force-requires : goal.force-requires
+force-requires g c = record { unbroken = unbroken_after g.O.Oper.meaning _ _ c.args.store.now c.make_block_room.new.self 0 Never c.in_ok-make_block_room.ensures.call }
+
+pub append_identity-requires-clause-unbroken : goal.append_identity-requires-clause-unbroken
+append_identity-requires-clause-unbroken g c = unbroken_after g.O.Oper.meaning _ _ c.args.store.now c.make_block_room.new.self 0 Never c.in_ok-make_block_room.ensures.call
+
+pub append_identity-requires-clause-dirty : goal.append_identity-requires-clause-dirty
+append_identity-requires-clause-dirty g c = still_dirty c.args.x (same_objects c.args.store.now c.make_block_room.new.self c.in_ok-make_block_room.ensures.same) c.requires.dirty
 
 pub append_identity-requires-clause-place : goal.append_identity-requires-clause-place
 append_identity-requires-clause-place g c = λ pair had.
+    let here = c.make_block_room.new.self in
+    let same : here.parts.store.objects ≡ c.objects.result.now = same_objects c.args.store.now c.make_block_room.new.self c.in_ok-make_block_room.ensures.same ∙ sym c.objects.ensures in
+    let long = ap length (value_cached c.objects.result.now c.args.x pair c.value.result.now (ap (λ (l : Laid). held l.cache c.args.x) (sym same) ∙ had) c.value.ensures.value) in
+    room_is_place here.parts.log.log (17 + length c.value.result.now) (identity_length (length pair.bytes)) (omega (arith, long)) c.in_ok-make_block_room.ensures.room (subst (λ (l : RecordLogView). HasRecordPlace l (17 + length c.value.result.now)) c.log.ensures c.in_default.ensures.none).fits
+
+pub returns-in_err-make_block_room-clause-call : goal.returns-in_err-make_block_room-clause-call
+returns-in_err-make_block_room-clause-call g c =
+    let meaning = g.O.Oper.meaning in
+    let d = g.M.Machine.disk c.args.machine.now in
+    let mid = g.M.Machine.disk c.make_block_room.new.machine in
+    let before = c.args.store.now in
+    let here = c.make_block_room.new.self in
+    subst (λ (k : Ending). IsLogging meaning d mid before here (StopsAt log_limit) k) (failed_ends c.from_residual.result c.from_residual.ensures.1)
+    (logging_none meaning d mid before here (StopsAt log_limit) Failed (ap (λ (s : StoreView). next_of s) c.in_err-make_block_room.ensures.same) c.in_err-make_block_room.ensures.call)
+
+pub returns-in_err-make_block_room-clause-takes : goal.returns-in_err-make_block_room-clause-takes
+returns-in_err-make_block_room-clause-takes g c =
+    let meaning = g.O.Oper.meaning in
+    let d = g.M.Machine.disk c.args.machine.now in
+    let mid = g.M.Machine.disk c.make_block_room.new.machine in
+    let before = c.args.store.now.parts in
+    let here = c.make_block_room.new.self.parts in
     let x = c.args.x in
-    let same = ap length (value_cached c.args.objects.now x pair c.value.result.now had c.value.ensures.value) in
-    let place = c.in_default.ensures.none in
-    room_is_place c.make_block_room.new.log.log (17 + length c.value.result.now) (identity_length (length pair.bytes)) (omega (arith, same)) c.in_ok-make_block_room.ensures.room place.fits
+    let n = 17 + length c.value.result.now in
+    subst (λ (k : Ending). Takes meaning d mid before here (λ m w used. identity_course m x w used) k) (failed_ends c.from_residual.result c.from_residual.ensures.1)
+    (takes_identity meaning x n d mid before here Failed (length_shown meaning x d before c.objects.result.now c.value.result.now c.objects.ensures c.requires.dirty c.value.ensures.value)
+    (takes_first meaning (room meaning x n) (place meaning x n) d mid before here Failed tt c.in_err-make_block_room.ensures.takes))
+
+pub returns-in_err-force-clause-call : goal.returns-in_err-force-clause-call
+returns-in_err-force-clause-call g c =
+    let meaning = g.O.Oper.meaning in
+    let d = g.M.Machine.disk c.args.machine.now in
+    let mid = g.M.Machine.disk c.make_block_room.new.machine in
+    let new = g.M.Machine.disk c.force.new.machine in
+    let before = c.args.store.now in
+    let here = c.make_block_room.new.self in
+    let after = c.force.new.self in
+    subst (λ (k : Ending). IsLogging meaning d new before after (StopsAt log_limit) k) (failed_ends c.from_residual-in_err-force.result c.from_residual-in_err-force.ensures.1)
+    (logging_twice meaning d mid new before here after (StopsAt log_limit) Failed
+    (logging_none meaning d mid before here (StopsAt log_limit) Done c.in_ok-make_block_room.ensures.same.long.next c.in_ok-make_block_room.ensures.call)
+    (logging_none meaning mid new here after (StopsAt log_limit) Failed (ap (λ (s : StoreView). next_of s) c.in_err-force.ensures.forced) c.in_err-force.ensures.call))
+
+pub returns-in_err-force-clause-takes : goal.returns-in_err-force-clause-takes
+returns-in_err-force-clause-takes g c =
+    let meaning = g.O.Oper.meaning in
+    let d = g.M.Machine.disk c.args.machine.now in
+    let mid = g.M.Machine.disk c.make_block_room.new.machine in
+    let new = g.M.Machine.disk c.force.new.machine in
+    let before = c.args.store.now.parts in
+    let here = c.make_block_room.new.self.parts in
+    let after = c.force.new.self.parts in
+    let x = c.args.x in
+    let n = 17 + length c.value.result.now in
+    subst (λ (k : Ending). Takes meaning d new before after (λ m w used. identity_course m x w used) k) (failed_ends c.from_residual-in_err-force.result c.from_residual-in_err-force.ensures.1)
+    (takes_identity meaning x n d new before after Failed (length_shown meaning x d before c.objects.result.now c.value.result.now c.objects.ensures c.requires.dirty c.value.ensures.value)
+    (takes_both meaning (room meaning x n) (place meaning x n) d mid new before here after Failed c.in_ok-make_block_room.ensures.call.quiet c.in_ok-make_block_room.ensures.takes
+    (takes_unforced meaning x n mid new here after c.in-Some.e (subst (λ (l : RecordLogView). LacksRecordPlace l (17 + length c.value.result.now) c.in-Some.e) c.log.ensures c.in-Some.ensures.some) c.in_err-force.ensures.takes)))
+
+pub returns-in-Some-clause-call : goal.returns-in-Some-clause-call
+returns-in-Some-clause-call g c =
+    let meaning = g.O.Oper.meaning in
+    let d = g.M.Machine.disk c.args.machine.now in
+    let mid = g.M.Machine.disk c.make_block_room.new.machine in
+    let new = g.M.Machine.disk c.force.new.machine in
+    let before = c.args.store.now in
+    let here = c.make_block_room.new.self in
+    let after = c.force.new.self in
+    let stop = refused meaning c.args.x (17 + length c.value.result.now) mid new here.parts after.parts c.in-Some.e (subst (λ (l : RecordLogView). LacksRecordPlace l (17 + length c.value.result.now) c.in-Some.e) c.log.ensures c.in-Some.ensures.some) in
+    let forced = c.in_ok-force.ensures.forced.0 in
+    let same = c.in_ok-make_block_room.ensures.same.long.next in
+    let later = ap (λ (l : RecordLogView). l.next) forced in
+    subst (λ (k : Ending). IsLogging meaning d new before after (StopsAt log_limit) k) stop.1
+    (call_as meaning d new before after 0 (logged_since before after) (StopsAt log_limit) (StopsAt log_limit) (Stopped stop.0) (omega (arith, same, later)) (λ other ends is. is)
+    (call_stopped meaning d new before after 0 (StopsAt log_limit) stop.0 (stop.2 forced (omega (arith, same, (c.params-params.ensures.in_use c.requires.unbroken).store.low)))
+    (call_twice meaning d mid new before here after 0 0 Never Never Done c.in_ok-make_block_room.ensures.call c.in_ok-force.ensures.call)))
+
+pub returns-in-Some-clause-takes : goal.returns-in-Some-clause-takes
+returns-in-Some-clause-takes g c =
+    let meaning = g.O.Oper.meaning in
+    let d = g.M.Machine.disk c.args.machine.now in
+    let mid = g.M.Machine.disk c.make_block_room.new.machine in
+    let new = g.M.Machine.disk c.force.new.machine in
+    let before = c.args.store.now.parts in
+    let here = c.make_block_room.new.self.parts in
+    let after = c.force.new.self.parts in
+    let x = c.args.x in
+    let n = 17 + length c.value.result.now in
+    takes_identity meaning x n d new before after _ (length_shown meaning x d before c.objects.result.now c.value.result.now c.objects.ensures c.requires.dirty c.value.ensures.value)
+    (takes_both meaning (room meaning x n) (place meaning x n) d mid new before here after _ c.in_ok-make_block_room.ensures.call.quiet c.in_ok-make_block_room.ensures.takes
+    (takes_refused meaning x n mid new here after c.in-Some.e (subst (λ (l : RecordLogView). LacksRecordPlace l (17 + length c.value.result.now) c.in-Some.e) c.log.ensures c.in-Some.ensures.some) c.in_ok-force.ensures.takes))
+
+pub returns-in_err-append_identity-clause-call : goal.returns-in_err-append_identity-clause-call
+returns-in_err-append_identity-clause-call g c =
+    let meaning = g.O.Oper.meaning in
+    let d = g.M.Machine.disk c.args.machine.now in
+    let mid = g.M.Machine.disk c.make_block_room.new.machine in
+    let before = c.args.store.now in
+    let here = c.make_block_room.new.self in
+    let after = c.append_identity.new.self in
+    let fine = unbroken_after meaning d mid before here 0 Never c.in_ok-make_block_room.ensures.call in
+    let done = c.in_err-append_identity.ensures in
+    subst (λ (k : Ending). IsLogging meaning d mid before after (StopsAt log_limit) k) (short_ends c.from_residual-in_err-append_identity.result c.from_residual-in_err-append_identity.ensures.1)
+    (logging_twice meaning d mid mid before here after (StopsAt log_limit) Short
+    (logging_none meaning d mid before here (StopsAt log_limit) Done c.in_ok-make_block_room.ensures.same.long.next c.in_ok-make_block_room.ensures.call)
+    (logging_none meaning mid mid here after (StopsAt log_limit) Short (ap (λ (k : Parts). k.log.next) done.roomed) (unwritten_call meaning here after fine mid (g.met.M.Machine.lawful c.make_block_room.new.machine) done)))
 
 pub returns-in_err-append_identity-clause-takes : goal.returns-in_err-append_identity-clause-takes
 returns-in_err-append_identity-clause-takes g c =
-    let x = c.args.x in
+    let meaning = g.O.Oper.meaning in
     let d = g.M.Machine.disk c.args.machine.now in
     let mid = g.M.Machine.disk c.make_block_room.new.machine in
-    let before = parts c.args.log.now c.args.objects.now c.args.graph.now.entries in
-    let here = parts c.make_block_room.new.log c.args.objects.now c.args.graph.now.entries in
-    let after = parts c.append_identity.new.log c.append_identity.new.objects c.append_identity.new.graph.entries in
-    let pair = dirty_held c.args.objects.now.cache x c.requires.dirty in
-    subst (λ (k : Ending). Takes g.O.Oper.meaning d mid before after (λ m w used. identity_course m x w used) k) (lacks_memory c.from_residual-in_err-append_identity.result c.from_residual-in_err-append_identity.ensures.1)
-    (takes_short g.O.Oper.meaning d before x (17 + length c.value.result.now)
-    (λ p w shows. course_length (meaning_in g.O.Oper.meaning p) p d before w x pair.0 c.value.result.now shows pair.1 c.value.ensures.value)
-    mid here c.args.log.now.log.active c.make_block_room.ensures.runs (λ told p w shows. c.make_block_room.ensures.moments told p before.store w shows)
-    (λ p w shows. c.in_ok-make_block_room.ensures.shows p before.store w shows) c.in_ok-make_block_room.ensures.same.used
-    after c.in_err-append_identity.ensures.err)
+    let before = c.args.store.now in
+    let here = c.make_block_room.new.self in
+    let after = c.append_identity.new.self in
+    let x = c.args.x in
+    let n = 17 + length c.value.result.now in
+    let fine = unbroken_after meaning d mid before here 0 Never c.in_ok-make_block_room.ensures.call in
+    subst (λ (k : Ending). Takes meaning d mid before.parts after.parts (λ m w used. identity_course m x w used) k) (short_ends c.from_residual-in_err-append_identity.result c.from_residual-in_err-append_identity.ensures.1)
+    (takes_identity meaning x n d mid before.parts after.parts Short (length_shown meaning x d before.parts c.objects.result.now c.value.result.now c.objects.ensures c.requires.dirty c.value.ensures.value)
+    (takes_both meaning (room meaning x n) (place meaning x n) d mid mid before.parts here.parts after.parts Short c.in_ok-make_block_room.ensures.call.quiet c.in_ok-make_block_room.ensures.takes
+    (unwritten_takes meaning here after fine mid (g.met.M.Machine.lawful c.make_block_room.new.machine) c.in_err-append_identity.ensures (place meaning x n))))
+
+pub returns-clause-call : goal.returns-clause-call
+returns-clause-call g c =
+    let meaning = g.O.Oper.meaning in
+    let d = g.M.Machine.disk c.args.machine.now in
+    let mid = g.M.Machine.disk c.make_block_room.new.machine in
+    let before = c.args.store.now in
+    let here = c.make_block_room.new.self in
+    let after = c.append_identity.new.self in
+    let lawful = g.met.M.Machine.lawful c.make_block_room.new.machine in
+    let fine = unbroken_after meaning d mid before here 0 Never c.in_ok-make_block_room.ensures.call in
+    let done = c.in_ok-append_identity.ensures in
+    logging_twice meaning d mid mid before here after (StopsAt log_limit) Done
+    (logging_none meaning d mid before here (StopsAt log_limit) Done c.in_ok-make_block_room.ensures.same.long.next c.in_ok-make_block_room.ensures.call)
+    (call_as meaning mid mid here after 1 (logged_since here after) Never (StopsAt log_limit) Done (omega (arith, (write_longer meaning here after fine mid lawful c.args.x done g.met.O.Oper.bounded).next)) (λ stop ends none. absurd none)
+    (write_call meaning here after fine mid lawful c.args.x done g.met.O.Oper.bounded))
 
 pub returns-clause-takes : goal.returns-clause-takes
 returns-clause-takes g c =
-    let x = c.args.x in
+    let meaning = g.O.Oper.meaning in
     let d = g.M.Machine.disk c.args.machine.now in
     let mid = g.M.Machine.disk c.make_block_room.new.machine in
-    let before = parts c.args.log.now c.args.objects.now c.args.graph.now.entries in
-    let here = parts c.make_block_room.new.log c.args.objects.now c.args.graph.now.entries in
-    let after = parts c.append_identity.new.log c.append_identity.new.objects c.append_identity.new.graph.entries in
-    let pair = dirty_held c.args.objects.now.cache x c.requires.dirty in
-    let value = value_cached c.args.objects.now x pair.0 c.value.result.now pair.1 c.value.ensures.value in
-    takes_done g.O.Oper.meaning d before x (17 + length c.value.result.now)
-    (λ p w shows. course_length (meaning_in g.O.Oper.meaning p) p d before w x pair.0 c.value.result.now shows pair.1 c.value.ensures.value)
-    mid here c.args.log.now.log.active c.make_block_room.ensures.runs (λ told p w shows. c.make_block_room.ensures.moments told p before.store w shows)
-    (λ p w shows. c.in_ok-make_block_room.ensures.shows p before.store w shows) c.in_ok-make_block_room.ensures.same.used
-    after pair.0 pair.1 (ap (λ (l : List ℕ). 17 + length l) value) (c.in_ok-append_identity.ensures.ok pair.0 pair.1) c.in_default.ensures.none (omega (arith, c.value.ensures.short, ap length value))
-    g.met.O.Oper.bounded c.append_keeps.ensures.identity
-
-pub returns-in_err-make_block_room-clause-kept : goal.returns-in_err-make_block_room-clause-kept
-returns-in_err-make_block_room-clause-kept g c = of_fault _ c.from_residual.result c.from_residual.ensures.1
-
-pub returns-in_err-make_block_room-clause-numbered : goal.returns-in_err-make_block_room-clause-numbered
-returns-in_err-make_block_room-clause-numbered g c =
-    log_numbered c.args.log.now c.make_block_room.new.log (store c.args.objects.now c.args.graph.now.entries) (inl c.in_err-make_block_room.ensures.kept)
-
-pub returns-in_err-make_block_room-clause-stops : goal.returns-in_err-make_block_room-clause-stops
-returns-in_err-make_block_room-clause-stops g c = subst (λ (k : Ending). StopsOnly log_limit c.make_block_room.new.log k) (fails c.from_residual.result c.from_residual.ensures.1) tt
-
-pub returns-in_err-force_all-clause-kept : goal.returns-in_err-force_all-clause-kept
-returns-in_err-force_all-clause-kept g c = of_fault _ c.from_residual-in_err-force_all.result c.from_residual-in_err-force_all.ensures.1
-
-pub returns-in_err-force_all-clause-numbered : goal.returns-in_err-force_all-clause-numbered
-returns-in_err-force_all-clause-numbered g c =
-    let it = store c.args.objects.now c.args.graph.now.entries in
-    numbered_twice (record { log = c.args.log.now; store = it }) (record { log = c.make_block_room.new.log; store = it }) (record { log = c.force_all.new.log; store = it })
-    (log_numbered c.args.log.now c.make_block_room.new.log it c.in_ok-make_block_room.ensures.forced) (log_numbered c.make_block_room.new.log c.force_all.new.log it (inl c.in_err-force_all.ensures.kept))
-
-pub returns-in_err-force_all-clause-stops : goal.returns-in_err-force_all-clause-stops
-returns-in_err-force_all-clause-stops g c = subst (λ (k : Ending). StopsOnly log_limit c.force_all.new.log k) (fails c.from_residual-in_err-force_all.result c.from_residual-in_err-force_all.ensures.1) tt
-
-pub returns-in-Some-clause-kept : goal.returns-in-Some-clause-kept
-returns-in-Some-clause-kept g c =
-    let it = store c.args.objects.now c.args.graph.now.entries in
-    let old = g.M.Machine.disk c.args.machine.now in
-    let mid = g.M.Machine.disk c.make_block_room.new.machine in
-    let new = g.M.Machine.disk c.force_all.new.machine in
-    let first = log_kept g.O.Oper.meaning old mid c.args.log.now c.make_block_room.new.log it c.make_block_room.ensures.runs c.in_ok-make_block_room.ensures.forced c.in_ok-make_block_room.ensures.keeps c.requires.in_use in
-    inr (kept_twice old mid new (record { log = c.args.log.now; store = it }) (record { log = c.make_block_room.new.log; store = it }) (record { log = c.force_all.new.log; store = it }) first
-    (log_kept g.O.Oper.meaning mid new c.make_block_room.new.log c.force_all.new.log it c.force_all.ensures.runs (inr c.in_ok-force_all.ensures.forced)
-    (forced_log g.O.Oper.meaning mid new c.make_block_room.new.log c.force_all.new.log c.in_ok-force_all.ensures.forced c.in_ok-force_all.ensures.keeps) first.in_use))
-
-pub returns-in-Some-clause-numbered : goal.returns-in-Some-clause-numbered
-returns-in-Some-clause-numbered g c =
-    let it = store c.args.objects.now c.args.graph.now.entries in
-    numbered_twice (record { log = c.args.log.now; store = it }) (record { log = c.make_block_room.new.log; store = it }) (record { log = c.force_all.new.log; store = it })
-    (log_numbered c.args.log.now c.make_block_room.new.log it c.in_ok-make_block_room.ensures.forced) (log_numbered c.make_block_room.new.log c.force_all.new.log it (inr c.in_ok-force_all.ensures.forced))
-
-pub returns-in-Some-clause-stops : goal.returns-in-Some-clause-stops
-returns-in-Some-clause-stops g c =
-    let same = same_log c.args.log.now c.make_block_room.new.log c.in_ok-make_block_room.ensures.forced in
-    refused_stops c.make_block_room.new.log c.force_all.new.log (17 + length c.value.result.now) c.in-Some.e c.in-Some.ensures.some c.in_ok-force_all.ensures.forced
-    (omega (arith, same.1, c.requires.in_use.store.low))
-
-pub returns-in_err-append_identity-clause-kept : goal.returns-in_err-append_identity-clause-kept
-returns-in_err-append_identity-clause-kept g c =
-    let it = store c.args.objects.now c.args.graph.now.entries in
-    let old = g.M.Machine.disk c.args.machine.now in
-    let mid = g.M.Machine.disk c.make_block_room.new.machine in
-    let before : Parts = record { log = c.args.log.now; store = it } in
-    let here : Parts = record { log = c.make_block_room.new.log; store = it } in
-    let after = parts c.append_identity.new.log c.append_identity.new.objects c.append_identity.new.graph.entries in
-    let first = log_kept g.O.Oper.meaning old mid c.args.log.now c.make_block_room.new.log it c.make_block_room.ensures.runs c.in_ok-make_block_room.ensures.forced c.in_ok-make_block_room.ensures.keeps c.requires.in_use in
-    inr (kept_twice old mid mid before here after first (roomed_kept g.O.Oper.meaning mid here after c.in_err-append_identity.ensures.err first.in_use))
-
-pub returns-in_err-append_identity-clause-numbered : goal.returns-in_err-append_identity-clause-numbered
-returns-in_err-append_identity-clause-numbered g c =
-    let it = store c.args.objects.now c.args.graph.now.entries in
-    let here : Parts = record { log = c.make_block_room.new.log; store = it } in
-    let after = parts c.append_identity.new.log c.append_identity.new.objects c.append_identity.new.graph.entries in
-    numbered_twice (record { log = c.args.log.now; store = it }) here after (log_numbered c.args.log.now c.make_block_room.new.log it c.in_ok-make_block_room.ensures.forced)
-    (roomed_numbered here after c.in_err-append_identity.ensures.err)
-
-pub returns-in_err-append_identity-clause-stops : goal.returns-in_err-append_identity-clause-stops
-returns-in_err-append_identity-clause-stops g c =
-    subst (λ (k : Ending). StopsOnly log_limit c.append_identity.new.log k) (lacks_memory c.from_residual-in_err-append_identity.result c.from_residual-in_err-append_identity.ensures.1) tt
-
-pub returns-clause-kept : goal.returns-clause-kept
-returns-clause-kept g c =
+    let before = c.args.store.now in
+    let here = c.make_block_room.new.self in
+    let after = c.append_identity.new.self in
     let x = c.args.x in
-    let it = store c.args.objects.now c.args.graph.now.entries in
-    let old = g.M.Machine.disk c.args.machine.now in
-    let mid = g.M.Machine.disk c.make_block_room.new.machine in
-    let before : Parts = record { log = c.args.log.now; store = it } in
-    let here : Parts = record { log = c.make_block_room.new.log; store = it } in
-    let after = parts c.append_identity.new.log c.append_identity.new.objects c.append_identity.new.graph.entries in
-    let pair = dirty_held c.args.objects.now.cache x c.requires.dirty in
-    let meaning = g.O.Oper.meaning c.make_block_room.new.log.bounds in
-    let done = c.in_ok-append_identity.ensures.ok pair.0 pair.1 in
-    let first = log_kept g.O.Oper.meaning old mid c.args.log.now c.make_block_room.new.log it c.make_block_room.ensures.runs c.in_ok-make_block_room.ensures.forced c.in_ok-make_block_room.ensures.keeps c.requires.in_use in
-    let used = written_parts meaning x pair.0 before here after pair.1 done c.requires.in_use c.in_ok-make_block_room.ensures.same refl c.requires.dirty c.in_default.ensures.none.number in
-    let has = g.met.O.Oper.bounded c.make_block_room.new.log.bounds in
-    let bounds = first.in_use.bounds in
-    let value = value_cached c.args.objects.now x pair.0 c.value.result.now pair.1 c.value.ensures.value in
-    let below : x < meaning.objects = omega (arith, c.value.ensures.there, has.objects, ap (λ (b : Bounds). b.objects) bounds) in
-    let short : length pair.0.bytes ≤ meaning.cap = omega (arith, c.value.ensures.short, ap length value, has.cap, ap (λ (b : Bounds). b.cap) bounds) in
-    inr (kept_twice old mid mid before here after first (appended_kept meaning x pair.0 here after pair.1 done c.requires.dirty g.O.Oper.meaning refl below short c.in_default.ensures.none.number mid used))
-
-pub returns-clause-numbered : goal.returns-clause-numbered
-returns-clause-numbered g c =
-    let x = c.args.x in
-    let it = store c.args.objects.now c.args.graph.now.entries in
-    let here : Parts = record { log = c.make_block_room.new.log; store = it } in
-    let after = parts c.append_identity.new.log c.append_identity.new.objects c.append_identity.new.graph.entries in
-    let pair = dirty_held c.args.objects.now.cache x c.requires.dirty in
-    numbered_twice (record { log = c.args.log.now; store = it }) here after (log_numbered c.args.log.now c.make_block_room.new.log it c.in_ok-make_block_room.ensures.forced)
-    (appended_numbered (g.O.Oper.meaning c.make_block_room.new.log.bounds) x pair.0 here after pair.1 (c.in_ok-append_identity.ensures.ok pair.0 pair.1) c.requires.dirty)
+    let n = 17 + length c.value.result.now in
+    let fine = unbroken_after meaning d mid before here 0 Never c.in_ok-make_block_room.ensures.call in
+    let same = same_objects c.args.store.now c.make_block_room.new.self c.in_ok-make_block_room.ensures.same in
+    takes_identity meaning x n d mid before.parts after.parts Done (length_shown meaning x d before.parts c.objects.result.now c.value.result.now c.objects.ensures c.requires.dirty c.value.ensures.value)
+    (takes_both meaning (room meaning x n) (place meaning x n) d mid mid before.parts here.parts after.parts Done c.in_ok-make_block_room.ensures.call.quiet c.in_ok-make_block_room.ensures.takes
+    (takes_written meaning x n mid mid here.parts after.parts
+    (length_shown meaning x mid here.parts c.objects.result.now c.value.result.now (c.objects.ensures ∙ sym same) (still_dirty x same c.requires.dirty) c.value.ensures.value) (subst (λ (l : RecordLogView). HasRecordPlace l n) c.log.ensures c.in_default.ensures.none)
+    (write_takes meaning here after fine mid (g.met.M.Machine.lawful c.make_block_room.new.machine) x c.in_ok-append_identity.ensures g.met.O.Oper.bounded c.append_keeps.ensures.identity)))
 
 pub returns-clause-logged : goal.returns-clause-logged
 returns-clause-logged g c =
-    let x = c.args.x in
-    let it = store c.args.objects.now c.args.graph.now.entries in
-    let here : Parts = record { log = c.make_block_room.new.log; store = it } in
-    let after = parts c.append_identity.new.log c.append_identity.new.objects c.append_identity.new.graph.entries in
-    let pair = dirty_held c.args.objects.now.cache x c.requires.dirty in
-    let same = same_log c.args.log.now c.make_block_room.new.log c.in_ok-make_block_room.ensures.forced in
-    appended_longer (g.O.Oper.meaning c.make_block_room.new.log.bounds) x pair.0 here after pair.1 (c.in_ok-append_identity.ensures.ok pair.0 pair.1) c.requires.dirty (record { log = c.args.log.now; store = it }) same.1 refl
+    let here = c.make_block_room.new.self.parts in
+    let done = c.in_ok-append_identity.ensures in
+    let same = c.in_ok-make_block_room.ensures.same in
+    appended_longer (g.O.Oper.meaning here.log.bounds) c.args.x done.pair here c.append_identity.new.self.parts done.had done.appended done.dirty c.args.store.now.parts same.long.next (ap (λ (s : StoreView). s.parts.store) same.same)

@@ -1,26 +1,30 @@
-use Rattle.std.proofs.Common.{◌≡◌, ◌-◌, ◌^◌, ℕ, []}
-use Rattle.cache_manager.specs.Courses.{install_course}
-use Rattle.cache_manager.specs.Finished.{IsQuiet}
-use Rattle.cache_manager.specs.Kept.{AreKept, AreNumbered, IsLonger}
-use Rattle.cache_manager.specs.Parts.{Parts, parts}
-use Rattle.cache_manager.proofs.Loops.{InstallGoesOn}
-use Rattle.cache_manager.proofs.Under.{AreUnder}
+use Rattle.std.proofs.Common.{◌≡◌, ◌+◌, ◌-◌, ◌^◌, ℕ, []}
+use Rattle.formats.specs.declared.params.Params.{Params}
+use Rattle.explain_core.specs.World.{World}
+use Rattle.running_store.specs.CallLaws.{IsLogging}
+use Rattle.cache_manager.specs.InstallCourses.{flushed_in, install_course}
+use Rattle.running_store.specs.Kept.{IsLonger, StopsAt}
+use Rattle.running_store.specs.Logged.{log_limit}
+use Rattle.running_store.specs.Parts.{Shows, meaning_in}
+use Rattle.running_store.specs.Rests.{IsRest}
+use Rattle.running_store.specs.StoreView.{length_of, next_of}
+use Rattle.running_store.specs.Taking.Ending.{Done}
 use Rattle.cache_manager.proofs.rounds.install_one.Given as goal
 
 abbrev pub invariant-loop-name : goal.invariant-loop-name
 invariant-loop-name g l =
-    let old = g.M.Machine.disk l.fn.machine in
-    let now = g.M.Machine.disk l.machine in
-    let before : Parts = parts l.fn.log l.fn.objects l.fn.graph.entries in
-    let here : Parts = parts l.log l.objects l.graph.entries in
+    let meaning = g.O.Oper.meaning in
+    let disk = g.M.Machine.disk in
+    let before = l.fn.store in
+    let here = l.store in
     record {
-      quiet : IsQuiet old now;
-      kept : AreKept g.O.Oper.meaning old now before here;
-      numbered : AreNumbered before here;
-      logged : (n : ℕ) × IsLonger n before here;
-      none : l.fn.graph.entries ≡ [] → l.graph.entries ≡ [];
-      under : AreUnder g.O.Oper.meaning old now before here (λ m w used. install_course m l.fn.copied w used) (λ m whole taken v used. InstallGoesOn m l.fn.copied whole taken v used);
+      call : IsLogging meaning (disk l.fn.machine) (disk l.machine) before here (StopsAt log_limit) Done;
+      logged : (n : ℕ) × IsLonger n before.parts here.parts;
+      none : before.parts.store.entries ≡ [] → here.parts.store.entries ≡ [];
+      rest : IsRest disk meaning l.fn.machine before.parts (λ m w used. install_course m l.fn.copied w used) l.machine here.parts (λ m w used. install_course m l.fn.copied w used);
+      flushed : (p : Params) (w : World g.row.O.Denot) → Shows (meaning_in meaning p) p (disk l.fn.machine) before.parts w → (v : World g.row.O.Denot) × Shows (meaning_in meaning p) p (disk l.machine) here.parts v
+          × (flushed_in (install_course (meaning_in meaning p) l.fn.copied w (length_of before)).steps ≡ flushed_in (install_course (meaning_in meaning p) l.fn.copied v (length_of here)).steps);
     }
 
 abbrev pub decreases-loop-name : goal.decreases-loop-name
-decreases-loop-name g l = 2 ^ 62 - l.log.next
+decreases-loop-name g l = 2 ^ 62 + 1 - next_of l.store

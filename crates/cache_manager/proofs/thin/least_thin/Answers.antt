@@ -1,6 +1,6 @@
 use Rattle.std.proofs.Common.{◌<◌, ◌^◌, refl, arith}
 use Rattle.write_graph.specs.Graph.{numbers}
-use Rattle.cache_manager.specs.Parts.{store}
+use Rattle.running_store.specs.Parts.{store}
 use Rattle.cache_manager.proofs.ThinNodes.{all_among, thin_found, thin_behind, thin_none}
 use Rattle.cache_manager.proofs.thin.least_thin.Goals as goal
 

@@ -1,5 +1,5 @@
 use Rattle.std.proofs.Common.{◌≤◌, ◌-◌, ◌^◌, ℕ}
-use Rattle.cache_manager.specs.Parts.{store}
+use Rattle.running_store.specs.Parts.{store}
 use Rattle.cache_manager.specs.Thin.{NamesThin}
 use Rattle.cache_manager.proofs.thin.least_thin.Given as goal
 

@@ -2,7 +2,7 @@ use Rattle.std.proofs.Common.{rules, ◌≡◌}
 use Rattle.std.specs.List.{filter}
 use Rattle.std.proofs.lemmas.Fn.{filter_same}
 use Rattle.dirty_cache.specs.Contents.{is_dirty}
-use Rattle.cache_manager.specs.Parts.{store}
+use Rattle.running_store.specs.Parts.{store}
 use Rattle.cache_manager.proofs.ThinNodes.{work_listed}
 use Rattle.cache_manager.proofs.thin.work_of.Goals as goal
 

@@ -3,7 +3,7 @@ use Rattle.oper_core.specs.Meaning.{IsSmall}
 use Rattle.explain_core.specs.World.{step, run, AreAllowed, new_world}
 use Rattle.explain_core.specs.Worked.{two}
 use Rattle.explain_core.specs.declared.byte_op.ByteOp.{ByteOp}
-use Rattle.cache_manager.specs.Running.{IsRunning}
+use Rattle.running_store.specs.Running.{IsRunning}
 use Rattle.cache_manager.specs.Worked.{two_objects, put_both, both_put}
 use Rattle.cache_manager.proofs.worked.a_swap_is_installed.Goals as goal
 
