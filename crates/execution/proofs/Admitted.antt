@@ -12,11 +12,11 @@ use Rattle.oper_core.specs.declared.refusal.Refusal.{Refusal}
 use Rattle.formats.specs.Objects.{IsInRange, bounds_of}
 use Rattle.formats.specs.declared.params.Params.{Params}
 use Rattle.explain_core.specs.World.{World}
-use Rattle.cache_manager.specs.Joins.{cell_shown}
-use Rattle.cache_manager.specs.Laid.{Laid, values_in}
-use Rattle.cache_manager.specs.Parts.{Parts, Shows, meaning_in}
+use Rattle.running_store.specs.Commands.{IsReady}
+use Rattle.running_store.specs.Joins.{cell_shown}
+use Rattle.running_store.specs.Laid.{Laid, IsLaidOn, values_in}
+use Rattle.running_store.specs.Parts.{Parts, Shows, meaning_in}
 use Rattle.execution.specs.Courses.{refusal_in}
-use Rattle.execution.specs.Failures.{IsReady}
 
 pub small_bounds : (p : Params) → IsInRange p → IsSmall (bounds_of p)
 small_bounds p range =
@@ -40,18 +40,18 @@ same_values n (x ∷ objects) one other below same =
     λ i. first i ∷ rest i
 
 module _ {O : Type 0} (meaning : Bounds → Meaning O) where
-  module _ (p : Params) (b : Bounds) (own : b ≡ bounds_of p) (op : O) where
+  module _ (p : Params) (op : O) where
     -- the values that an operation reads of a store's objects
-    pub own_read : (file : List ℕ) (laid : Laid) (objects : List ℕ) (values : List (List ℕ)) → objects ≡ (meaning b).reads op → values ≡ map (values_in laid file) objects
+    pub own_read : (file : List ℕ) (laid : Laid) (objects : List ℕ) (values : List (List ℕ)) → objects ≡ (meaning_in meaning p).reads op → values ≡ map (values_in laid file) objects
         → values ≡ read_values (meaning_in meaning p) (values_in laid file) op
-    own_read file laid objects values are read = read ∙ ap (map (values_in laid file)) (are ∙ ap (λ (x : Bounds). (meaning x).reads op) own)
+    own_read file laid objects values are read = read ∙ ap (map (values_in laid file)) are
 
     -- what its check says of them is what refuses it
-    pub refused_by_check : (s : State) (values : List (List ℕ)) (answer : Option Refusal) → (meaning b).shape op ≡ None → values ≡ read_values (meaning_in meaning p) s op
-        → (meaning b).check op values ≡ answer → refusal_of (meaning_in meaning p) s op ≡ answer
-    refused_by_check s values answer shape read is =
-        or_none ((meaning_in meaning p).shape op) ((meaning_in meaning p).check op (read_values (meaning_in meaning p) s op)) (subst (λ (x : Bounds). (meaning x).shape op ≡ None) own shape)
-        ∙ ap (λ (l : List (List ℕ)). (meaning_in meaning p).check op l) (sym read) ∙ subst (λ (x : Bounds). (meaning x).check op values ≡ answer) own is
+    pub refused_by_check : (b : Bounds) → b ≡ bounds_of p → (s : State) (values : List (List ℕ)) (answer : Option Refusal) → None ≡ (meaning b).shape op → values ≡ read_values (meaning_in meaning p) s op
+        → answer ≡ (meaning b).check op values → refusal_of (meaning_in meaning p) s op ≡ answer
+    refused_by_check b own s values answer shape read is =
+        or_none ((meaning_in meaning p).shape op) ((meaning_in meaning p).check op (read_values (meaning_in meaning p) s op)) (subst (λ (x : Bounds). (meaning x).shape op ≡ None) own (sym shape))
+        ∙ ap (λ (l : List (List ℕ)). (meaning_in meaning p).check op l) (sym read) ∙ subst (λ (x : Bounds). (meaning x).check op values ≡ answer) own (sym is)
 
   module _ (bounded : (b : Bounds) → HasBounds b (meaning b)) (lawful : (b : Bounds) → IsSmall b → IsLawful (meaning b)) where
     module _ (p : Params) (range : IsInRange p) (op : O) (grammar : IsInGrammar (meaning_in meaning p) op) where
@@ -83,31 +83,26 @@ module _ {O : Type 0} (meaning : Bounds → Meaning O) where
         short = subst (λ (n : ℕ). All (λ v. length v ≤ n) values) (sym cap_is) short;
       }
 
-      -- and so are those that it makes
-      pub made_count : (read made : List (List ℕ)) (objects : List ℕ) → FitsReads (meaning_in meaning p) op read → made ≡ (meaning_in meaning p).effect op read
-          → objects ≡ (meaning_in meaning p).writes op → length made ≡ length objects
-      made_count read made objects fits is are =
-          ap (λ (l : List (List ℕ)). length l) is ∙ (law.made op read grammar fits).0 ∙ ap (λ (l : List ℕ). length l) (sym are)
-
-      pub made_short : (read made : List (List ℕ)) → FitsReads (meaning_in meaning p) op read → made ≡ (meaning_in meaning p).effect op read → All (λ v. length v ≤ p.cap) made
-      made_short read made fits is = subst (λ (n : ℕ). All (λ v. length v ≤ n) made) cap_is
-          (subst (λ (l : List (List ℕ)). All (λ v. length v ≤ (meaning_in meaning p).cap) l) (sym is) (law.made op read grammar fits).1)
-
     module _ (p : Params) (d : Disk) (it : Parts) (w : World O) (shows : Shows (meaning_in meaning p) p d it w) where
       pub range_shown : IsInRange p
       range_shown = subst (λ (q : Params). IsInRange q) shows.store.params shows.store.laid.slots.whole.in_range
 
       -- an operation reads what it reads in the world
-      pub same_read : (op : O) → IsInGrammar (meaning_in meaning p) op
+      same_read : (op : O) → IsInGrammar (meaning_in meaning p) op
           → read_values (meaning_in meaning p) (values_in it.store.objects (d.reads Objects)) op ≡ read_values (meaning_in meaning p) (λ x. (w.cache x).value) op
       same_read op grammar = same_values p.objects ((meaning_in meaning p).reads op) (values_in it.store.objects (d.reads Objects)) (λ x. (w.cache x).value) (reads_below p range_shown op grammar)
           (λ x below. ap (λ (c : Cell). c.value) (cell_shown (meaning_in meaning p) p (d.reads Objects) it.store w shows.store x below))
 
       -- and is refused as it is there
-      pub same_refusal : (op : O) → refusal_of (meaning_in meaning it.store.objects.slots.params) (values_in it.store.objects (d.reads Objects)) op ≡ refusal_in (meaning_in meaning p) w op
+      same_refusal : (op : O) → refusal_of (meaning_in meaning it.store.objects.slots.params) (values_in it.store.objects (d.reads Objects)) op ≡ refusal_in (meaning_in meaning p) w op
       same_refusal op =
           ap (λ (q : Params). refusal_of (meaning_in meaning q) (values_in it.store.objects (d.reads Objects)) op) shows.store.params
           ∙ or_same ((meaning_in meaning p).shape op) _ _ (λ grammar. ap (λ (l : List (List ℕ)). (meaning_in meaning p).check op l) (same_read op grammar))
+
+      pub refused_here : (op : O) (r : Refusal)
+          → (d.tells_files → IsLaidOn it.store.objects (d.reads Objects) → refusal_of (meaning_in meaning it.store.objects.slots.params) (values_in it.store.objects (d.reads Objects)) op ≡ Some r)
+          → refusal_in (meaning_in meaning p) w op ≡ Some r
+      refused_here op r refused = sym (same_refusal op) ∙ refused shows.told shows.store.laid
 
       module _ (op : O) (values : List (List ℕ)) (ready : IsReady meaning it.store.objects.slots.params op values)
           (read : values ≡ read_values (meaning_in meaning it.store.objects.slots.params) (values_in it.store.objects (d.reads Objects)) op) where

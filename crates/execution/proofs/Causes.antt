@@ -1,22 +1,25 @@
 -- Each answer comes exactly where its cause holds.
 use Rattle.std.proofs.Common.{◌≡◌, ◌∙◌, subst, ℕ, ◌+◌, ◌<◌, length, refl, arith, inl, inr, ⊎_elim}
-use Rattle.std.specs.Prelude.{Bool, None, Some, Ok, Err}
+use Rattle.std.specs.Prelude.{Bool, None, Ok, Err}
 use Rattle.disk_model.specs.Disk.{Disk, Stays}
-use Rattle.oper_core.specs.Meaning.{Meaning, IsInGrammar}
+use Rattle.disk_model.specs.declared.machine.FileNo.TheVariants.{Objects}
+use Rattle.oper_core.specs.Meaning.{Meaning, HasBounds, IsSmall, IsLawful, IsInGrammar}
 use Rattle.oper_core.specs.declared.bounds.Bounds.{Bounds}
-use Rattle.oper_core.specs.declared.refusal.Refusal.{Refusal}
 use Rattle.formats.specs.declared.params.Params.{Params}
 use Rattle.log_frames.specs.LogView.{used_of}
 use Rattle.explain_core.specs.World.{World}
-use Rattle.cache_manager.specs.Appended.{next_number}
-use Rattle.cache_manager.specs.LongSlot.{long_untold}
-use Rattle.cache_manager.specs.Parts.{Parts, Shows, meaning_in}
+use Rattle.running_store.specs.Appended.{next_number}
+use Rattle.running_store.specs.Commands.{HasPlaceBelow, command_length}
+use Rattle.running_store.specs.Laid.{IsLaidOn, values_in}
+use Rattle.running_store.specs.LongSlot.{long_untold}
+use Rattle.running_store.specs.Parts.{Parts, Shows, meaning_in}
 use Rattle.execution.specs.Answers.{HasCause}
 use Rattle.execution.specs.Counted.{accepted_shown}
-use Rattle.execution.specs.Courses.{command_length, refusal_in}
-use Rattle.execution.specs.Failures.{HasPlace, IsAdmitFailure, LacksPlace}
+use Rattle.execution.specs.Courses.{refusal_in}
+use Rattle.execution.specs.Failures.{IsAdmitFailure, IsAdmittedOn, LacksPlace}
 use Rattle.execution.specs.declared.exec_err.ExecErr.{ExecErr}
 use Rattle.execution.specs.declared.exec_err.ExecErr.TheVariants.{Refused, DiskFault, Damaged, LogFull, LsnEnd, Memory}
+use Rattle.execution.proofs.Admitted.{refused_here}
 use Rattle.execution.proofs.Placed.{long_is, needed_is}
 
 module _ {O : Type 0} (meaning : Bounds → Meaning O) (grouped : Bool) (p : Params) (d new : Disk) (it : Parts) (w : World O) (shows : Shows (meaning_in meaning p) p d it w) (op : O) where
@@ -30,14 +33,15 @@ module _ {O : Type 0} (meaning : Bounds → Meaning O) (grouped : Bool) (p : Par
   same = shows.store.params
 
   -- one that is not admitted
-  pub admit_cause : (e : ExecErr) → Stays d new → IsAdmitFailure meaning q op d new it.store.objects e → ((r : Refusal) → e ≡ Refused r → refusal_in m w op ≡ Some r)
+  pub admit_cause : (bounded : (b : Bounds) → HasBounds b (meaning b)) (laws : (b : Bounds) → IsSmall b → IsLawful (meaning b)) (e : ExecErr) → Stays d new → IsAdmitFailure meaning q op d new it.store.objects e
+      → (d.tells_files → IsLaidOn it.store.objects (d.reads Objects) → IsAdmittedOn (meaning_in meaning q) (values_in it.store.objects (d.reads Objects)) op (Err e))
       → (e ≡ DiskFault → IsInGrammar (meaning_in meaning q) op × (0 < length ((meaning_in meaning q).reads op))) → HasCause grouped m p.limit w (used_of it.log.log) op (Err e)
-  admit_cause (Refused refusal) stays fails refused fault = refused refusal refl
-  admit_cause DiskFault stays fails refused fault = inl (subst (λ (b : Params). IsInGrammar (meaning_in meaning b) op × (0 < length ((meaning_in meaning b).reads op))) same (fault refl))
-  admit_cause (Damaged file place) stays fails refused fault = long_untold it.store.objects.slots fails.object file place stays shows.told shows.store.laid.slots fails.slot
-  admit_cause (LogFull used need limit) stays fails refused fault = absurd fails
-  admit_cause (LsnEnd number) stays fails refused fault = absurd fails
-  admit_cause Memory stays fails refused fault = tt
+  admit_cause bounded laws (Refused refusal) stays fails shown fault = refused_here meaning bounded laws p d it w shows op refusal shown
+  admit_cause bounded laws DiskFault stays fails shown fault = inl (subst (λ (b : Params). IsInGrammar (meaning_in meaning b) op × (0 < length ((meaning_in meaning b).reads op))) same (fault refl))
+  admit_cause bounded laws (Damaged file place) stays fails shown fault = long_untold it.store.objects.slots fails.object file place stays shows.told shows.store.laid.slots fails.slot
+  admit_cause bounded laws (LogFull used need limit) stays fails shown fault = absurd fails
+  admit_cause bounded laws (LsnEnd number) stays fails shown fault = absurd fails
+  admit_cause bounded laws Memory stays fails shown fault = tt
 
   module _ (accepted : refusal_in m w op ≡ None) where
     -- one that gets no place
@@ -58,7 +62,7 @@ module _ {O : Type 0} (meaning : Bounds → Meaning O) (grouped : Bool) (p : Par
     lacks_cause Memory lacks = absurd lacks
 
     -- one that is done
-    pub done_cause : (n : ℕ) → HasPlace p.limit it.log (command_length m op) → n ≡ it.log.accepted + 1 → HasCause grouped m p.limit w (used_of it.log.log) op (Ok n)
+    pub done_cause : (n : ℕ) → HasPlaceBelow p.limit it.log (command_length m op) → n ≡ it.log.accepted + 1 → HasCause grouped m p.limit w (used_of it.log.log) op (Ok n)
     done_cause n place is =
         let room = place.room in
         let number = place.number in

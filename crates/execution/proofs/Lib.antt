@@ -1,9 +1,6 @@
 pub mod Results
 pub mod Admitted
 pub mod Placed
-pub mod Kept
-pub mod Takes
-pub mod Executed
 pub mod Causes
 pub mod MayTake
 pub mod Unadmitted

@@ -11,10 +11,11 @@ use Rattle.explain_core.specs.Sound.{IsSound}
 use Rattle.explain_core.specs.StableLaws.{commands_of-append}
 use Rattle.explain_core.specs.World.{World, Step, step, run, end_of, AreAllowed, IsLive}
 use Rattle.explain_core.specs.World.Step.{Append}
-use Rattle.cache_manager.specs.Courses.{Course, course, force_steps, grown, is_through}
-use Rattle.cache_manager.specs.Courses.Stop.{Through}
-use Rattle.cache_manager.specs.Running.{IsRunning, KeepsSound, MayBeTaken}
-use Rattle.execution.specs.Courses.{append_course, command_length, exec_course, refusal_in, unless_refused, unplaced_steps}
+use Rattle.running_store.specs.Commands.{command_length}
+use Rattle.running_store.specs.Courses.{Course, course, force_steps, grown, is_through}
+use Rattle.running_store.specs.Courses.Stop.{Through}
+use Rattle.running_store.specs.Running.{IsRunning, KeepsSound, MayBeTaken}
+use Rattle.execution.specs.Courses.{append_course, exec_course, refusal_in, unless_refused, unplaced_steps}
 use Rattle.execution.specs.Taken.{MayExec}
 
 -- steps that may be taken, and after which the world is sound and live, with the group and the commands that it had

@@ -1,5 +1,5 @@
 -- The course of a command that nothing refuses, by the log in memory.
-use Rattle.std.proofs.Common.{◌≡◌, ◌∙◌, sym, ap, ℕ, ◌<◌, ◌≤◌, Bool, true, false, [], ◌∷◌, arith, refl, inl, inr, ⊎_elim, Option, None, Some, Err}
+use Rattle.std.proofs.Common.{◌≡◌, ◌∙◌, sym, ap, ℕ, ◌<◌, ◌≤◌, Bool, true, false, [], ◌∷◌, arith, refl, inl, inr, ⊎_elim, Option, None, Some}
 use Rattle.std.specs.Prelude.{◌^◌, nat_lt, nat_le}
 use Rattle.std.proofs.lemmas.Bool.{lt-ltb, le-ltb, le-leb, lt-leb, cond-true, cond-false, cases_lt}
 use Rattle.disk_model.specs.Disk.{Disk}
@@ -10,17 +10,15 @@ use Rattle.log_frames.specs.LogView.{used_of}
 use Rattle.explain_core.specs.History.Member.{Command}
 use Rattle.explain_core.specs.World.{World, end_of}
 use Rattle.explain_core.specs.World.Step.{Append}
-use Rattle.cache_manager.specs.Appended.{next_number}
-use Rattle.cache_manager.specs.Courses.{Course, course, grown}
-use Rattle.cache_manager.specs.Courses.Stop.{Through, Full, At_end}
-use Rattle.cache_manager.specs.Growth.{growth_shown}
-use Rattle.cache_manager.specs.Parts.{Parts, Shows}
-use Rattle.cache_manager.specs.Taking.{Ending}
-use Rattle.execution.specs.Answers.{ending_of_exec}
-use Rattle.execution.specs.Courses.{append_course, command_length, exec_course, needed, refusal_in, unless_refused, unplaced_steps}
-use Rattle.execution.specs.Failures.{HasPlace, LacksPlace, length_with, needed_by}
-use Rattle.execution.specs.declared.exec_err.ExecErr.{ExecErr}
-use Rattle.execution.specs.declared.exec_err.ExecErr.TheVariants.{Refused, DiskFault, Damaged, LogFull, LsnEnd, Memory}
+use Rattle.running_store.specs.Appended.{next_number}
+use Rattle.running_store.specs.Commands.{HasPlaceBelow, command_length, length_with}
+use Rattle.running_store.specs.Courses.{Course, course, grown}
+use Rattle.running_store.specs.Courses.Stop.{Through, Full, At_end}
+use Rattle.running_store.specs.Growth.{growth_shown}
+use Rattle.running_store.specs.Parts.{Parts, Shows}
+use Rattle.execution.specs.Courses.{append_course, exec_course, needed, refusal_in, unless_refused, unplaced_steps}
+use Rattle.execution.specs.Failures.{LacksPlace, needed_by}
+use Rattle.execution.specs.declared.exec_err.ExecErr.TheVariants.{DiskFault, LogFull, LsnEnd}
 
 module _ {O : Type 0} (m : Meaning O) (grouped : Bool) (limit : ℕ) (op : O) (w : World O) (used : ℕ) where
   -- a command that is refused takes no step
@@ -51,7 +49,7 @@ module _ {O : Type 0} (m : Meaning O) (p : Params) (d : Disk) (it : Parts) (w : 
   number_is : it.log.next ≡ end_of w
   number_is = next_number m p d it w shows
 
-  pub done_is : HasPlace limit it.log n → whole ≡ course (Append (Command op) ∷ []) (length_with it.log n) Through
+  pub done_is : HasPlaceBelow limit it.log n → whole ≡ course (Append (Command op) ∷ []) (length_with it.log n) Through
   done_is place =
       let fits = place.room in
       let low = place.number in
@@ -73,45 +71,15 @@ module _ {O : Type 0} (m : Meaning O) (p : Params) (d : Disk) (it : Parts) (w : 
       ∙ cond-true (nat_le (2 ^ 62) (end_of w)) _ _ (le-leb (2 ^ 62) (end_of w) (omega (arith, last, number_is)))
       ∙ ap (λ (k : ℕ). course (unplaced_steps m grouped w) used (At_end k)) (sym number_is)
 
-  -- the steps and the length where the command gets no place
-  pub record IsStopped (e : ExecErr) : Type 0 where
-    pub steps : whole.steps ≡ unplaced_steps m grouped w
-    pub used : whole.used ≡ used_of it.log.log
-    pub ending : ((e ≡ DiskFault) → ⊥) → ending_of_exec (Err e) ≡ Ending.Stopped whole.stop
+  -- the course of one that gets no place is the force, and why it gets none; where the force fails, its steps alone are told
+  pub full_here : (held need most : ℕ) → LacksPlace grouped limit it.log n (LogFull held need most) → course (unplaced_steps m grouped w) used (Full held need most) ≡ whole
+  full_here held need most lacks = let same = lacks.2 ∙ needed_is grouped in (λ i. course (unplaced_steps m grouped w) used (Full (lacks.1 i) (same i) (lacks.3 i))) ∙ sym (full_is lacks.0)
 
-  end_anyway : 2 ^ 62 ≤ it.log.next → whole.steps ≡ unplaced_steps m grouped w
-  end_anyway last = elim (cases_lt limit (length_with it.log n)) [
-    | inl over ↦ ap (λ (c : Course O). c.steps) (full_is over)
-    | inr fits ↦ ap (λ (c : Course O). c.steps) (end_is fits last)
+  pub end_here : (number : ℕ) → LacksPlace grouped limit it.log n (LsnEnd number) → course (unplaced_steps m grouped w) used (At_end number) ≡ whole
+  end_here number lacks = (λ i. course (unplaced_steps m grouped w) used (At_end (lacks.2 i))) ∙ sym (end_is lacks.0 lacks.1)
+
+  pub unforced_here : LacksPlace grouped limit it.log n DiskFault → unplaced_steps m grouped w ≡ whole.steps
+  unforced_here lacks = elim (cases_lt limit (length_with it.log n)) [
+    | inl over ↦ sym (ap (λ (c : Course O). c.steps) (full_is over))
+    | inr fits ↦ sym (ap (λ (c : Course O). c.steps) (end_is fits (⊎_elim (λ over. absurd (omega (arith, over, fits))) (λ last. last) lacks.1)))
   ]
-
-  used_anyway : 2 ^ 62 ≤ it.log.next → whole.used ≡ used_of it.log.log
-  used_anyway last = elim (cases_lt limit (length_with it.log n)) [
-    | inl over ↦ ap (λ (c : Course O). c.used) (full_is over)
-    | inr fits ↦ ap (λ (c : Course O). c.used) (end_is fits last)
-  ]
-
-  pub stopped_is : (e : ExecErr) → LacksPlace grouped limit it.log n e → IsStopped e
-  stopped_is (Refused refusal) lacks = absurd lacks
-  stopped_is (LogFull held need most) lacks =
-      let is = full_is lacks.0 in
-      let need_is = lacks.2 ∙ needed_is grouped in
-      record {
-        steps = ap (λ (c : Course O). c.steps) is;
-        used = ap (λ (c : Course O). c.used) is;
-        ending = λ other. (λ i. Ending.Stopped (Full (lacks.1 i) (need_is i) (lacks.3 i))) ∙ ap (λ (c : Course O). Ending.Stopped c.stop) (sym is);
-      }
-  stopped_is (LsnEnd number) lacks =
-      let is = end_is lacks.0 lacks.1 in
-      record {
-        steps = ap (λ (c : Course O). c.steps) is;
-        used = ap (λ (c : Course O). c.used) is;
-        ending = λ other. (λ i. Ending.Stopped (At_end (lacks.2 i))) ∙ ap (λ (c : Course O). Ending.Stopped c.stop) (sym is);
-      }
-  stopped_is DiskFault lacks = record {
-    steps = ⊎_elim (λ over. ap (λ (c : Course O). c.steps) (full_is over)) (λ last. end_anyway last) lacks.1;
-    used = ⊎_elim (λ over. ap (λ (c : Course O). c.used) (full_is over)) (λ last. used_anyway last) lacks.1;
-    ending = λ other. absurd (other refl);
-  }
-  stopped_is (Damaged file place) lacks = absurd lacks
-  stopped_is Memory lacks = absurd lacks

@@ -1,163 +1,137 @@
 -- What holds of a command that gets no place in the log.
-use Rattle.std.proofs.Common.{◌≡◌, ◌≢◌, ◌∙◌, sym, subst, ap, ℕ, ◌+◌, List, [], ◌∷◌, refl, arith}
-use Rattle.std.specs.Prelude.{◌<◌, ◌≤◌, ◌^◌, Bool, true, false, None, Err}
-use Rattle.disk_model.specs.Disk.{Disk, Rises, Runs, In, Any, Same, Stays}
-use Rattle.disk_model.specs.Moments.{runs_join}
-use Rattle.disk_model.specs.declared.machine.FileNo.{FileNo}
-use Rattle.disk_model.specs.declared.machine.FileNo.TheVariants.{Objects}
+use Rattle.std.proofs.Common.{◌≡◌, ◌∙◌, sym, subst, ap, ℕ, ◌+◌, List, [], ◌∷◌, refl, arith}
+use Rattle.std.specs.Prelude.{◌<◌, ◌≤◌, ◌^◌, Bool, true, false, None, Result, Ok, Err}
+use Rattle.disk_model.specs.Disk.{Disk, Rises}
 use Rattle.oper_core.specs.Meaning.{Meaning}
 use Rattle.oper_core.specs.declared.bounds.Bounds.{Bounds}
 use Rattle.formats.specs.declared.params.Params.{Params}
 use Rattle.log_frames.specs.LogView.{used_of, growth_of}
 use Rattle.log_records.specs.RecordLog.{RecordLogView}
-use Rattle.explain_core.specs.World.{World, run}
+use Rattle.stable_objects.specs.SlotsView.{SlotsView}
+use Rattle.explain_core.specs.World.{World, Step}
 use Rattle.standing.specs.Moments.{TakesSome}
-use Rattle.cache_manager.specs.Courses.{Stop}
-use Rattle.cache_manager.specs.Courses.Stop.{Full, At_end}
-use Rattle.cache_manager.specs.Finished.{IsQuiet}
-use Rattle.cache_manager.specs.Flushed.{AreEarly}
-use Rattle.cache_manager.specs.Forced.{IsForced}
-use Rattle.cache_manager.specs.Kept.{IsAttached, KeepsLog}
-use Rattle.cache_manager.specs.Laid.{IsLaidOn}
-use Rattle.cache_manager.specs.Parts.{AreInUse, Parts, Shows, meaning_in}
-use Rattle.cache_manager.specs.Taking.{ArePartsInUse, Ending, Takes}
-use Rattle.execution.specs.Answers.{ending_of_exec}
-use Rattle.execution.specs.Courses.{command_length, exec_course, refusal_in, unplaced_steps}
-use Rattle.execution.specs.Done.{IsUnplaced, LogWithout}
-use Rattle.execution.specs.Failures.{IsAdmissible, IsExecFailure, LacksPlace, length_with, needed_by}
+use Rattle.running_store.specs.AfterReads.{fetch_takes, fetch_then}
+use Rattle.running_store.specs.Calls.{IsCall, IsFailed, IsForce, failed_of}
+use Rattle.running_store.specs.Commands.{command_length, length_with}
+use Rattle.running_store.specs.Courses.{Course, course}
+use Rattle.running_store.specs.Courses.Stop.{Full, At_end}
+use Rattle.running_store.specs.Fetched.{IsFetched}
+use Rattle.running_store.specs.Fetches.{IsFetch}
+use Rattle.running_store.specs.Parts.{Shows, Store, meaning_in}
+use Rattle.running_store.specs.StoreView.{StoreView, length_of, params_of}
+use Rattle.running_store.specs.Taking.{Ending, Takes}
+use Rattle.running_store.specs.TakesLaws.{takes_failed, takes_same}
+use Rattle.running_store.specs.Unchanged.{IsSameLog}
+use Rattle.execution.specs.Answers.{HasCause, ending_of_error, stop_of_exec}
+use Rattle.execution.specs.Courses.{exec_course, refusal_in, unplaced_steps}
+use Rattle.execution.specs.Done.{IsForcedOutside, IsOutcome, IsUnplaced, LogWithout}
+use Rattle.execution.specs.Failures.{IsAdmissible, IsExecFailure, LacksPlace, needed_by}
 use Rattle.execution.specs.Stops.{StopsCommand}
 use Rattle.execution.specs.declared.exec_err.ExecErr.{ExecErr}
 use Rattle.execution.specs.declared.exec_err.ExecErr.TheVariants.{Refused, DiskFault, Damaged, LogFull, LsnEnd, Memory}
-use Rattle.execution.proofs.Takes.{takes_stopped, takes_unforced}
+use Rattle.execution.proofs.Causes.{lacks_cause}
+use Rattle.execution.proofs.Placed.{end_here, full_here, unforced_here}
 
--- reads of slots, and then a call on one file, say nothing
-pub reads_quiet : (file : FileNo) (old mid new : Disk) → Stays old mid → Runs (In file Any) Same mid new → IsQuiet old new
-reads_quiet file old mid new stays runs = runs_join old mid new (λ a b. b ≡ a) (In file Any) (λ a b. Unit {0}) (λ a b same. tt) (λ a b c same then. tt) stays runs
+-- outside groups it is a force
+pub forced_outside : {T E : Type 0} (grouped : Bool) → grouped ≡ false → (before after : StoreView) (r : Result T E) → IsForce before after r → IsForcedOutside grouped before after r
+forced_outside grouped outside before after (Ok value) is = (subst (λ (b : Bool). IsUnplaced b before.parts.log after.parts.log) (sym outside) is.0, is.1)
+forced_outside grouped outside before after (Err e) is = (outside, is)
+
+-- a store whose disk failed is as it was
+pub failed_left : (before after : StoreView) → after ≡ failed_of before → IsSameLog before.parts.log after.parts.log × (after.parts.store ≡ before.parts.store)
+failed_left before after is = (subst (λ (s : StoreView). IsSameLog before.parts.log s.parts.log) (sym is) refl, ap (λ (s : StoreView). s.parts.store) is)
 
 -- a record of n bytes makes the log longer by n + 5 at most
 growth_most : (pending : List ℕ) (n : ℕ) → growth_of pending n ≤ n + 5
 growth_most [] n = omega arith
 growth_most (byte ∷ bytes) n = omega arith
 
--- a fault of a call is one of the calls together
-pub rises_later : (old mid new : Disk) → Stays old mid → Rises mid.disk_faults new.disk_faults → Rises old.disk_faults new.disk_faults
-rises_later old mid new stays rises low = let more = rises low in omega (arith, more, stays.time.disk_faults)
-
--- the log after it is as long, and has the same numbers
-pub record IsAlike (before after : RecordLogView) : Type 0 where
-  pub bounds : after.bounds ≡ before.bounds
-  pub next : after.next ≡ before.next
-  pub active : after.log.active ≡ before.log.active
-
-forced_alike : (before after : RecordLogView) → IsForced before after → IsAlike before after
-forced_alike before after is = record {
-  bounds = ap (λ (r : RecordLogView). r.bounds) is;
-  next = ap (λ (r : RecordLogView). r.next) is;
-  active = ap (λ (r : RecordLogView). r.log.active) is;
-}
-
-same_alike : (before after : RecordLogView) → after ≡ record before { log = record before.log { room = after.log.room } } → IsAlike before after
-same_alike before after is = record {
-  bounds = ap (λ (r : RecordLogView). r.bounds) is;
-  next = ap (λ (r : RecordLogView). r.next) is;
-  active = ap (λ (r : RecordLogView). r.log.active) is;
-}
-
-unplaced_alike : (grouped : Bool) (before after : RecordLogView) → IsUnplaced grouped before after → IsAlike before after
-unplaced_alike true before after is = same_alike before after is
-unplaced_alike false before after is = forced_alike before after is
-
--- and it is as long
-unplaced_long : (grouped : Bool) (before after : RecordLogView) → IsUnplaced grouped before after → used_of after.log ≡ used_of before.log
-unplaced_long true before after is = ap (λ (r : RecordLogView). used_of r.log) is
-unplaced_long false before after is = ap (λ (r : RecordLogView). used_of r.log) is
-
-pub unlogged_alike : (grouped : Bool) (before after : RecordLogView) (e : ExecErr) → LogWithout grouped before after e → IsAlike before after
-unlogged_alike grouped before after (Refused refusal) is = same_alike before after is
-unlogged_alike grouped before after DiskFault is = same_alike before after is
-unlogged_alike grouped before after (Damaged file place) is = same_alike before after is
-unlogged_alike grouped before after (LogFull used need limit) is = unplaced_alike grouped before after is
-unlogged_alike grouped before after (LsnEnd number) is = unplaced_alike grouped before after is
-unlogged_alike grouped before after Memory is = same_alike before after is
-
--- parts with such a log are in use, and attached
-module _ (here : Parts) (log : RecordLogView) (alike : IsAlike here.log log) where
-  pub alike_in_use : ArePartsInUse here → ArePartsInUse (record { log = log; store = here.store })
-  alike_in_use used = record {
-    bounds = alike.bounds ∙ used.bounds;
-    store = subst (λ (n : ℕ). AreInUse here.store.objects.slots.params n here.store) (sym alike.next) used.store;
-    early = subst (λ (n : ℕ). AreEarly n here.store.objects) (sym alike.next) used.early;
-  }
-
-  pub alike_attached : {O : Type 0} (meaning : Bounds → Meaning O) (mid new : Disk) → Runs (In here.log.log.active Any) Same mid new → KeepsLog meaning mid new here.log log → IsAttached meaning mid here
-      → IsAttached meaning new (record { log = log; store = here.store })
-  alike_attached meaning mid new runs keeps attached told =
-      let told_mid = runs.time.files_told.1 told in
-      let was = attached told_mid in
-      let same : new.reads Objects ≡ mid.reads Objects = (runs.reads told_mid).others Objects (λ is. was.1.keeps.in_force.a_log (sym is)) in
-      (subst (λ (f : List ℕ). IsLaidOn here.store.objects f) (sym same) was.0, keeps told_mid was.1)
-
--- why it gets none, in the terms of the log after it
-module _ (limit : ℕ) (before after : RecordLogView) (n : ℕ) (low : before.next ≤ 2 ^ 62) where
-  full_stops : (grouped : Bool) (used need most : ℕ) → limit < length_with before n → used ≡ used_of before.log → need ≡ needed_by grouped before n → most ≡ limit → IsUnplaced grouped before after
+-- why a record of n bytes gets none, in the terms of the log after it
+module _ (limit : ℕ) (before after : RecordLogView) (n : ℕ) where
+  pub full_stops : (grouped : Bool) (used need most : ℕ) → limit < length_with before n → used ≡ used_of before.log → need ≡ needed_by grouped before n → most ≡ limit → IsUnplaced grouped before after
       → StopsCommand grouped limit after (Full used need most)
-  full_stops true used need most over held needs is log = (held ∙ sym (unplaced_long true before after log), omega (arith, over, held, needs, is), is)
+  full_stops true used need most over held needs is log = (held ∙ sym (ap (λ (r : RecordLogView). used_of r.log) log), omega (arith, over, held, needs, is), is)
   full_stops false used need most over held needs is log = (
-    held ∙ sym (unplaced_long false before after log),
+    held ∙ sym (ap (λ (r : RecordLogView). used_of r.log) log),
     ap (λ (r : RecordLogView). r.log.pending) log,
     omega (arith, over, held, needs, is, growth_most before.log.pending n),
     is,
   )
 
-  end_stops : (grouped : Bool) (number : ℕ) → 2 ^ 62 ≤ before.next → number ≡ before.next → IsUnplaced grouped before after → StopsCommand grouped limit after (At_end number)
-  end_stops true number last is log = (is ∙ sym (ap (λ (r : RecordLogView). r.next) log), omega (arith, last, is, low))
-  end_stops false number last is log = (is ∙ sym (ap (λ (r : RecordLogView). r.next) log), ap (λ (r : RecordLogView). r.log.pending) log, omega (arith, last, is, low))
+  pub end_stops : (grouped : Bool) (number : ℕ) → before.next ≤ 2 ^ 62 → 2 ^ 62 ≤ before.next → number ≡ before.next → IsUnplaced grouped before after → StopsCommand grouped limit after (At_end number)
+  end_stops true number low last is log = (is ∙ sym (ap (λ (r : RecordLogView). r.next) log), omega (arith, last, is, low))
+  end_stops false number low last is log = (is ∙ sym (ap (λ (r : RecordLogView). r.next) log), ap (λ (r : RecordLogView). r.log.pending) log, omega (arith, last, is, low))
 
-  pub lacks_stops : (grouped : Bool) (e : ExecErr) → LacksPlace grouped limit before n e → LogWithout grouped before after e → (stop : Stop) → ending_of_exec (Err e) ≡ Ending.Stopped stop → StopsCommand grouped limit after stop
-  lacks_stops grouped (Refused refusal) lacks log stop is = absurd lacks
-  lacks_stops grouped DiskFault lacks log stop is = cc is
-  lacks_stops grouped (Damaged file place) lacks log stop is = absurd lacks
-  lacks_stops grouped (LogFull used need most) lacks log stop is =
-      let same : Full used need most ≡ stop = cc is in
-      subst (λ (s : Stop). StopsCommand grouped limit after s) same (full_stops grouped used need most lacks.0 lacks.1 lacks.2 lacks.3 log)
-  lacks_stops grouped (LsnEnd number) lacks log stop is =
-      let same : At_end number ≡ stop = cc is in
-      subst (λ (s : Stop). StopsCommand grouped limit after s) same (end_stops grouped number lacks.1 lacks.2 log)
-  lacks_stops grouped Memory lacks log stop is = absurd lacks
-
-module _ {O : Type 0} (meaning : Bounds → Meaning O) (grouped : Bool) (op : O) (old mid new : Disk) (before after : Parts) (stays : Stays old mid) where
+-- after a fetch
+module _ {O : Type 0} (meaning : Bounds → Meaning O) (grouped : Bool) (op : O) (old mid new : Disk) (before here after : StoreView) (is : IsFetch old mid before here ⊥) where
   abbrev p : Params
-  p = before.store.objects.slots.params
+  p = params_of before
 
-  abbrev Lacks : ExecErr → Type 0
-  Lacks e = LacksPlace grouped p.limit before.log (command_length (meaning_in meaning p) op) e
+  abbrev whole : Meaning O → World O → ℕ → Course O
+  whole m w used = exec_course m grouped p.limit op w used
 
-  pub lacks_failure : (e : ExecErr) → Lacks e → IsAdmissible meaning p op → (e ≡ DiskFault → Rises mid.disk_faults new.disk_faults) → IsExecFailure meaning grouped old new before op e
+  abbrev Lacks : Meaning O → ExecErr → Type 0
+  Lacks m e = LacksPlace grouped p.limit before.parts.log (command_length m op) e
+
+  same_params : params_of here ≡ p
+  same_params = ap (λ (s : SlotsView). s.params) is.read.fetched.slots
+
+  -- why it gets none, by the store before
+  pub lacks_before : (n : ℕ) (e : ExecErr) → n ≡ command_length (meaning_in meaning p) op → LacksPlace grouped (params_of here).limit here.parts.log n e → Lacks (meaning_in meaning p) e
+  lacks_before n e long lacks =
+      subst (λ (l : RecordLogView). LacksPlace grouped p.limit l (command_length (meaning_in meaning p) op) e) is.log
+      (subst (λ (q : Params). LacksPlace grouped q.limit here.parts.log (command_length (meaning_in meaning p) op) e) same_params (subst (λ (k : ℕ). LacksPlace grouped (params_of here).limit here.parts.log k e) long lacks))
+
+  lacks_shown : (e : ExecErr) → Lacks (meaning_in meaning p) e → (q : Params) → p ≡ q → Lacks (meaning_in meaning q) e
+  lacks_shown e lacks q same = subst (λ (r : Params). Lacks (meaning_in meaning r) e) same lacks
+
+  pub unplaced_call : (ending : Ending) → IsCall meaning mid new here after 0 (StopsCommand grouped (params_of here).limit) ending → IsCall meaning old new before after 0 (StopsCommand grouped p.limit) ending
+  unplaced_call ending call =
+      fetch_then old mid before here is meaning new after 0 (StopsCommand grouped p.limit) ending
+      (subst (λ (q : Params). IsCall meaning mid new here after 0 (StopsCommand grouped q.limit) ending) same_params call)
+
+  lacks_failure : (e : ExecErr) → Lacks (meaning_in meaning p) e → IsAdmissible meaning p op → (IsFailed (ending_of_error e) → Rises old.disk_faults new.disk_faults) → IsExecFailure meaning grouped old new before.parts op e
   lacks_failure (Refused refusal) lacks admissible rises = absurd lacks
-  lacks_failure DiskFault lacks admissible rises = rises_later old mid new stays (rises refl)
+  lacks_failure DiskFault lacks admissible rises = rises tt
   lacks_failure (Damaged file place) lacks admissible rises = absurd lacks
   lacks_failure (LogFull used need most) lacks admissible rises = (admissible, lacks)
   lacks_failure (LsnEnd number) lacks admissible rises = (admissible, lacks)
   lacks_failure Memory lacks admissible rises = absurd lacks
 
-  module _ (accepted : (q : Params) (w : World O) → Shows (meaning_in meaning q) q old before w → refusal_in (meaning_in meaning q) w op ≡ None)
-      (forcing : mid.tells_moments → (q : Params) (w : World O) → Shows (meaning_in meaning q) q old before w → TakesSome (meaning_in meaning q) q mid new w (unplaced_steps (meaning_in meaning q) grouped w)) where
-    lacks_in : (e : ExecErr) → Lacks e → (q : Params) (w : World O) → Shows (meaning_in meaning q) q old before w → LacksPlace grouped p.limit before.log (command_length (meaning_in meaning q) op) e
-    lacks_in e lacks q w shows = subst (λ (r : Params). LacksPlace grouped p.limit before.log (command_length (meaning_in meaning r) op) e) shows.store.params lacks
+  pub unplaced_outcome : (e : ExecErr) → Lacks (meaning_in meaning p) e → IsAdmissible meaning p op → (IsFailed (ending_of_error e) → Rises old.disk_faults new.disk_faults)
+      → LogWithout grouped here.parts.log after.parts.log e × (after.parts.store ≡ here.parts.store) → IsOutcome meaning grouped old new before.parts after.parts op (Err e)
+  unplaced_outcome e lacks admissible rises left = (
+    record {
+      log = subst (λ (l : RecordLogView). LogWithout grouped l after.parts.log e) is.log left.0;
+      objects = subst (λ (s : Store). IsFetched before.parts.store.objects s.objects) (sym left.1) is.read.fetched;
+      entries = ap (λ (s : Store). s.entries) left.1 ∙ is.entries;
+    },
+    lacks_failure e lacks admissible rises,
+  )
 
-    pub lacks_takes : (e : ExecErr) → Lacks e
-        → ((q : Params) (w : World O) → Shows (meaning_in meaning q) q old before w → e ≢ DiskFault → Shows (meaning_in meaning q) q new after (run (meaning_in meaning q) w (unplaced_steps (meaning_in meaning q) grouped w)))
-        → LogWithout grouped before.log after.log e
-        → Takes meaning old new before after (λ m w used. exec_course m grouped p.limit op w used) (ending_of_exec (Err e))
-    lacks_takes (Refused refusal) lacks forced log = absurd lacks
-    lacks_takes DiskFault lacks forced log = takes_unforced meaning grouped op old before mid new after DiskFault stays accepted (lacks_in DiskFault lacks) forcing
-    lacks_takes (Damaged file place) lacks forced log = absurd lacks
-    lacks_takes (LogFull used need most) lacks forced log =
-        let other : LogFull used need most ≢ DiskFault = λ is. cc is in
-        takes_stopped meaning grouped op old before mid new after (LogFull used need most) stays accepted (lacks_in (LogFull used need most) lacks) forcing other (λ q w shows. forced q w shows other)
-        (unplaced_long grouped before.log after.log log)
-    lacks_takes (LsnEnd number) lacks forced log =
-        let other : LsnEnd number ≢ DiskFault = λ is. cc is in
-        takes_stopped meaning grouped op old before mid new after (LsnEnd number) stays accepted (lacks_in (LsnEnd number) lacks) forcing other (λ q w shows. forced q w shows other)
-        (unplaced_long grouped before.log after.log log)
-    lacks_takes Memory lacks forced log = absurd lacks
+  module _ (accepted : (q : Params) (w : World O) → Shows (meaning_in meaning q) q old before.parts w → refusal_in (meaning_in meaning q) w op ≡ None) where
+    pub unplaced_takes : (e : ExecErr) → Lacks (meaning_in meaning p) e → Takes meaning mid new here.parts after.parts (λ m w used. course (unplaced_steps m grouped w) used (stop_of_exec e)) (ending_of_error e)
+        → Takes meaning old new before.parts after.parts whole (ending_of_error e)
+    unplaced_takes e lacks takes = by_error e lacks (fetch_takes old mid before here ⊥ is meaning new after.parts (λ m w used. course (unplaced_steps m grouped w) used (stop_of_exec e)) (ending_of_error e) takes)
+      where
+        by_error : (e : ExecErr) → Lacks (meaning_in meaning p) e → Takes meaning old new before.parts after.parts (λ m w used. course (unplaced_steps m grouped w) used (stop_of_exec e)) (ending_of_error e)
+            → Takes meaning old new before.parts after.parts whole (ending_of_error e)
+        by_error (Refused refusal) lacks takes = absurd lacks
+        by_error DiskFault lacks takes = takes_failed meaning old new before.parts after.parts whole
+            (λ told q w shows.
+            let m = meaning_in meaning q in
+            subst (λ (l : List (Step O)). TakesSome m q old new w l) (unforced_here m q old before.parts w shows grouped p.limit op (accepted q w shows) (lacks_shown DiskFault lacks q shows.store.params))
+            (takes.moments told q w shows))
+        by_error (Damaged file place) lacks takes = absurd lacks
+        by_error (LogFull held need most) lacks takes =
+            takes_same meaning old new before.parts after.parts (λ m w used. course (unplaced_steps m grouped w) used (Full held need most)) whole (Ending.Stopped (Full held need most))
+            (λ q w shows. full_here (meaning_in meaning q) q old before.parts w shows grouped p.limit op (accepted q w shows) held need most (lacks_shown (LogFull held need most) lacks q shows.store.params)) takes
+        by_error (LsnEnd number) lacks takes =
+            takes_same meaning old new before.parts after.parts (λ m w used. course (unplaced_steps m grouped w) used (At_end number)) whole (Ending.Stopped (At_end number))
+            (λ q w shows. end_here (meaning_in meaning q) q old before.parts w shows grouped p.limit op (accepted q w shows) number (lacks_shown (LsnEnd number) lacks q shows.store.params)) takes
+        by_error Memory lacks takes = absurd lacks
+
+    pub unplaced_cause : (e : ExecErr) → Lacks (meaning_in meaning p) e → (q : Params) (w : World O) → Shows (meaning_in meaning q) q old before.parts w → HasCause grouped (meaning_in meaning q) q.limit w (length_of before) op (Err e)
+    unplaced_cause e lacks q w shows =
+        lacks_cause meaning grouped q old new before.parts w shows op (accepted q w shows) e
+        (subst (λ (r : Params). LacksPlace grouped r.limit before.parts.log (command_length (meaning_in meaning r) op) e) shows.store.params lacks)

@@ -3,23 +3,36 @@ use Rattle.std.specs.Prelude.{◌≡◌, ◌⊎◌, ◌+◌, ◌<◌, ◌≤◌,
 use Rattle.oper_core.specs.Meaning.{Meaning, IsInGrammar}
 use Rattle.explain_core.specs.History.{commands_of}
 use Rattle.explain_core.specs.World.{World, end_of}
-use Rattle.cache_manager.specs.Courses.{grown}
-use Rattle.cache_manager.specs.Courses.Stop.{Full, At_end}
-use Rattle.cache_manager.specs.Taking.{Ending}
-use Rattle.cache_manager.specs.Taking.Ending.{Done, Stopped, Short, Failed}
-use Rattle.execution.specs.Courses.{command_length, needed, refusal_in}
+use Rattle.running_store.specs.Courses.{Stop, grown}
+use Rattle.running_store.specs.Courses.Stop.{Through, Full, At_end}
+use Rattle.running_store.specs.Taking.{Ending}
+use Rattle.running_store.specs.Taking.Ending.{Done, Stopped, Short, Failed}
+use Rattle.running_store.specs.Commands.{command_length}
+use Rattle.execution.specs.Courses.{needed, refusal_in}
 use Rattle.execution.specs.declared.exec_err.ExecErr.{ExecErr}
 use Rattle.execution.specs.declared.exec_err.ExecErr.TheVariants.{Refused, DiskFault, Damaged, LogFull, LsnEnd, Memory}
 
 -- How a command ended, in the terms of its course: one that is refused has taken all of its course, which is none.
-abbrev pub ending_of_exec : Result ℕ ExecErr → Ending
-ending_of_exec (Ok n) = Done
-ending_of_exec (Err (Refused refusal)) = Done
-ending_of_exec (Err DiskFault) = Failed
-ending_of_exec (Err (Damaged file place)) = Short
-ending_of_exec (Err (LogFull used need limit)) = Stopped (Full used need limit)
-ending_of_exec (Err (LsnEnd number)) = Stopped (At_end number)
-ending_of_exec (Err Memory) = Short
+abbrev pub ending_of_error : ExecErr → Ending
+ending_of_error (Refused refusal) = Done
+ending_of_error DiskFault = Failed
+ending_of_error (Damaged file place) = Short
+ending_of_error (LogFull used need limit) = Stopped (Full used need limit)
+ending_of_error (LsnEnd number) = Stopped (At_end number)
+ending_of_error Memory = Short
+
+abbrev pub ending_of_exec : {T : Type 0} → Result T ExecErr → Ending
+ending_of_exec (Ok value) = Done
+ending_of_exec (Err e) = ending_of_error e
+
+-- what stops a command that is answered so
+abbrev pub stop_of_exec : ExecErr → Stop
+stop_of_exec (Refused refusal) = Through
+stop_of_exec DiskFault = Through
+stop_of_exec (Damaged file place) = Through
+stop_of_exec (LogFull used need limit) = Full used need limit
+stop_of_exec (LsnEnd number) = At_end number
+stop_of_exec Memory = Through
 
 module _ {O : Type 0} (grouped : Bool) (m : Meaning O) (limit : ℕ) (w : World O) (used : ℕ) (op : O) where
   -- its record fits in a log of this length, in which it begins a block where nothing waits

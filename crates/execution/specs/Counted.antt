@@ -9,8 +9,8 @@ use Rattle.explain_core.specs.History.{Member, commands_of}
 use Rattle.explain_core.specs.StableLaws.{commands_of-append}
 use Rattle.explain_core.specs.World.{World}
 use Rattle.standing.specs.Members.{commands-members}
-use Rattle.cache_manager.specs.Forced.{all_members}
-use Rattle.cache_manager.specs.Parts.{Parts, Shows}
+use Rattle.running_store.specs.Forced.{all_members}
+use Rattle.running_store.specs.Parts.{Parts, Shows}
 
 -- so many commands were accepted since the store was made
 pub accepted_shown : {O : Type 0} (m : Meaning O) (p : Params) (d : Disk) (it : Parts) (w : World O) → Shows m p d it w → it.log.accepted ≡ length (commands_of w.history)

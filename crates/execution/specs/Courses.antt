@@ -5,8 +5,9 @@ use Rattle.oper_core.specs.declared.refusal.Refusal.{Refusal}
 use Rattle.explain_core.specs.History.Member.{Command}
 use Rattle.explain_core.specs.World.{World, Step, end_of}
 use Rattle.explain_core.specs.World.Step.{Append}
-use Rattle.cache_manager.specs.Courses.{Course, course, force_steps, grown, record_length, waits}
-use Rattle.cache_manager.specs.Courses.Stop.{Through, Full, At_end}
+use Rattle.running_store.specs.Commands.{command_length}
+use Rattle.running_store.specs.Courses.{Course, course, force_steps, grown, waits}
+use Rattle.running_store.specs.Courses.Stop.{Through, Full, At_end}
 
 -- the course of a command that nothing refuses, and of one that is refused: none
 abbrev pub unless_refused : {O : Type 0} → ℕ → Course O → Option Refusal → Course O
@@ -14,10 +15,6 @@ unless_refused used accepted None = accepted
 unless_refused used accepted (Some refusal) = course [] used Through
 
 module _ {O : Type 0} (m : Meaning O) where
-  -- the bytes of a command's record
-  abbrev pub command_length : O → ℕ
-  command_length op = record_length m (Command op)
-
   -- the first refusal that a command meets on the values of the world's objects
   abbrev pub refusal_in : World O → O → Option Refusal
   refusal_in w op = refusal_of m (λ x. (w.cache x).value) op
@@ -36,7 +33,7 @@ module _ {O : Type 0} (m : Meaning O) where
   -- what waits is forced, unless a group is open (`grouped`).
   abbrev pub append_course : Bool → ℕ → O → World O → ℕ → Course O
   append_course grouped limit op w used =
-      let n = command_length op in
+      let n = command_length m op in
       if nat_lt limit (grown m w used n) then course (unplaced_steps grouped w) used (Full used (needed grouped w n) limit)
       else (if nat_le (2 ^ 62) (end_of w) then course (unplaced_steps grouped w) used (At_end (end_of w)) else course (Append (Command op) ∷ []) (grown m w used n) Through)
 

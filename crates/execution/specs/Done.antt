@@ -1,17 +1,20 @@
 -- What a command leaves of the parts, on every machine.
-use Rattle.std.specs.Prelude.{◌≡◌, ◌+◌, ℕ, Bool, true, false, [], ◌∷◌, ◌++◌}
+use Rattle.std.specs.Prelude.{◌≡◌, ◌+◌, ℕ, Bool, true, false, [], ◌∷◌, ◌++◌, Result, Ok, Err}
+use Rattle.disk_model.specs.Disk.{Disk}
 use Rattle.oper_core.specs.Meaning.{Meaning}
 use Rattle.oper_core.specs.declared.bounds.Bounds.{Bounds}
 use Rattle.formats.specs.Records.{record_code}
 use Rattle.formats.specs.declared.record.Record.TheVariants.{Command as Logged}
 use Rattle.log_records.specs.RecordLog.{RecordLogView}
 use Rattle.explain_core.specs.History.Member.{Command}
-use Rattle.cache_manager.specs.Fetched.{IsFetched}
-use Rattle.cache_manager.specs.Forced.{IsForced}
-use Rattle.cache_manager.specs.Parts.{Parts, entry_of, meaning_in}
-use Rattle.execution.specs.Courses.{command_length}
-use Rattle.execution.specs.Failures.{HasPlace, IsAdmissible}
-use Rattle.execution.specs.Unchanged.{IsSameLog}
+use Rattle.running_store.specs.Calls.{failed_of, with_log}
+use Rattle.running_store.specs.Fetched.{IsFetched}
+use Rattle.running_store.specs.Forced.{IsForced}
+use Rattle.running_store.specs.Parts.{Parts, entry_of, meaning_in}
+use Rattle.running_store.specs.StoreView.{StoreView}
+use Rattle.execution.specs.Failures.{IsAdmissible, IsExecFailure}
+use Rattle.running_store.specs.Unchanged.{IsSameLog}
+use Rattle.running_store.specs.Commands.{command_length, HasPlaceBelow}
 use Rattle.execution.specs.declared.exec_err.ExecErr.{ExecErr}
 use Rattle.execution.specs.declared.exec_err.ExecErr.TheVariants.{LogFull, LsnEnd}
 
@@ -27,7 +30,7 @@ IsLogWith m op before log = log ≡ record before {
 -- others, and the graph has its entry.
 pub record IsDone {O : Type 0} (meaning : Bounds → Meaning O) (before after : Parts) (op : O) (n : ℕ) : Type 0 where
   pub admissible : IsAdmissible meaning before.store.objects.slots.params op
-  pub place : HasPlace before.store.objects.slots.params.limit before.log (command_length (meaning_in meaning before.store.objects.slots.params) op)
+  pub place : HasPlaceBelow before.store.objects.slots.params.limit before.log (command_length (meaning_in meaning before.store.objects.slots.params) op)
   pub log : IsLogWith (meaning_in meaning before.store.objects.slots.params) op before.log after.log
   pub nth : n ≡ before.log.accepted + 1
   pub slots : after.store.objects.slots ≡ before.store.objects.slots
@@ -44,8 +47,19 @@ LogWithout grouped before log (LogFull used need limit) = IsUnplaced grouped bef
 LogWithout grouped before log (LsnEnd number) = IsUnplaced grouped before log
 LogWithout grouped before log e = IsSameLog before log
 
+-- such a force: the store is as it was but for its log, or the disk failed, which it does outside groups alone
+abbrev pub IsForcedOutside : {T E : Type 0} → Bool → StoreView → StoreView → Result T E → Type 0
+IsForcedOutside grouped before after (Ok value) = IsUnplaced grouped before.parts.log after.parts.log × (after ≡ with_log before after.parts.log)
+IsForcedOutside grouped before after (Err e) = (grouped ≡ false) × (after ≡ failed_of before)
+
 -- A command was not done: the log has no record of it, nothing but slots was read, and the graph is as it was.
 pub record IsUndone (grouped : Bool) (before after : Parts) (e : ExecErr) : Type 0 where
   pub log : LogWithout grouped before.log after.log e
   pub objects : IsFetched before.store.objects after.store.objects
   pub entries : after.store.entries ≡ before.store.entries
+
+-- What holds on every machine of a command: where it is done its record waits, and it has its entry; where it is not the log
+-- has none, and nothing but slots was read. The answer has a cause.
+abbrev pub IsOutcome : {O : Type 0} → (Bounds → Meaning O) → Bool → Disk → Disk → Parts → Parts → O → Result ℕ ExecErr → Type 0
+IsOutcome meaning grouped old new before after op (Ok n) = IsDone meaning before after op n
+IsOutcome meaning grouped old new before after op (Err e) = IsUndone grouped before after e × IsExecFailure meaning grouped old new before op e

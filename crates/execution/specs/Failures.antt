@@ -1,8 +1,9 @@
 -- Why a command is not done, on every machine.
-use Rattle.std.specs.Prelude.{◌≡◌, ◌⊎◌, ◌+◌, ◌<◌, ◌≤◌, ◌^◌, ⊤, ℕ, Bool, true, false, List, length, None, Some}
+use Rattle.std.specs.Prelude.{◌≡◌, ◌⊎◌, ◌+◌, ◌<◌, ◌≤◌, ◌^◌, ⊤, ℕ, Bool, true, false, List, length, None, Some, Result, Ok, Err}
 use Rattle.disk_model.specs.Disk.{Disk, Rises}
 use Rattle.disk_model.specs.declared.machine.FileNo.{FileNo}
-use Rattle.oper_core.specs.Meaning.{Meaning, FitsReads}
+use Rattle.oper_core.specs.Meaning.{Meaning, FitsReads, read_values, refusal_of}
+use Rattle.oper_core.specs.State.{State}
 use Rattle.oper_core.specs.declared.bounds.Bounds.{Bounds}
 use Rattle.oper_core.specs.declared.refusal.Refusal.{Refusal}
 use Rattle.formats.specs.declared.params.Params.{Params}
@@ -10,10 +11,10 @@ use Rattle.log_frames.specs.LogView.{used_of, growth_of}
 use Rattle.log_records.specs.RecordLog.{RecordLogView}
 use Rattle.stable_objects.specs.declared.slot_err.SlotErr.{SlotErr}
 use Rattle.stable_objects.specs.declared.slot_err.SlotErr.TheVariants as of_slots
-use Rattle.cache_manager.specs.Laid.{Laid}
-use Rattle.cache_manager.specs.LongSlot.{HasLongSlot}
-use Rattle.cache_manager.specs.Parts.{Parts, meaning_in}
-use Rattle.execution.specs.Courses.{command_length}
+use Rattle.running_store.specs.Laid.{Laid}
+use Rattle.running_store.specs.LongSlot.{HasLongSlot}
+use Rattle.running_store.specs.Parts.{Parts, meaning_in}
+use Rattle.running_store.specs.Commands.{HasPlaceBelow, IsReady, command_length, length_with}
 use Rattle.execution.specs.declared.exec_err.ExecErr.{ExecErr}
 use Rattle.execution.specs.declared.exec_err.ExecErr.TheVariants.{Refused, DiskFault, Damaged, LogFull, LsnEnd, Memory}
 
@@ -23,15 +24,6 @@ exec_from_slots of_slots.NotAStore = Memory
 exec_from_slots of_slots.DiskFault = DiskFault
 exec_from_slots (of_slots.Damaged file place) = Damaged file place
 exec_from_slots of_slots.Memory = Memory
-
--- the log's length with a record of n bytes more
-abbrev pub length_with : RecordLogView → ℕ → ℕ
-length_with log n = used_of log.log + growth_of log.log.pending n
-
--- the log has room below the limit for a record of n bytes, and a number is left for it
-pub record HasPlace (limit : ℕ) (log : RecordLogView) (n : ℕ) : Type 0 where
-  pub room : length_with log n ≤ limit
-  pub number : log.next < 2 ^ 62
 
 -- so many bytes a record of n bytes needs that gets no place: within a group (`grouped`) nothing is forced, and it goes behind
 -- what waits
@@ -63,15 +55,9 @@ module _ {O : Type 0} (meaning : Bounds → Meaning O) (p : Params) (op : O) whe
   abbrev m : Meaning O
   m = meaning_in meaning p
 
-  -- nothing refuses it on these values, which it may read
-  pub record IsReady (values : List (List ℕ)) : Type 0 where
-    pub shape : m.shape op ≡ None
-    pub fits : FitsReads m op values
-    pub check : m.check op values ≡ None
-
   -- nothing refuses it on some values that it may read
   abbrev pub IsAdmissible : Type 0
-  IsAdmissible = (values : List (List ℕ)) × IsReady values
+  IsAdmissible = (values : List (List ℕ)) × IsReady meaning p op values
 
   -- it is refused whatever the values are, or else on some values that it may read
   abbrev pub IsRefused : Refusal → Type 0
@@ -89,6 +75,16 @@ module _ {O : Type 0} (meaning : Bounds → Meaning O) (p : Params) (op : O) whe
   IsAdmitFailure old new objects Memory = NeedsMemory
   IsAdmitFailure old new objects e = IsReadFailure old new (HasLongSlot new objects.slots (m.reads op)) e
 
+-- What an admission answers where the objects have these values: it read theirs, and what is refused is refused on them.
+abbrev pub IsAdmittedOn : {O : Type 0} → Meaning O → State → O → Result (List (List ℕ) × ℕ) ExecErr → Type 0
+IsAdmittedOn m state op (Ok pair) = pair.0 ≡ read_values m state op
+IsAdmittedOn m state op (Err (Refused refusal)) = refusal_of m state op ≡ Some refusal
+IsAdmittedOn m state op (Err DiskFault) = ⊤
+IsAdmittedOn m state op (Err (Damaged file place)) = ⊤
+IsAdmittedOn m state op (Err (LogFull used need limit)) = ⊤
+IsAdmittedOn m state op (Err (LsnEnd number)) = ⊤
+IsAdmittedOn m state op (Err Memory) = ⊤
+
 module _ {O : Type 0} (meaning : Bounds → Meaning O) (grouped : Bool) (old new : Disk) (before : Parts) (op : O) where
   abbrev p : Params
   p = before.store.objects.slots.params
@@ -102,5 +98,5 @@ module _ {O : Type 0} (meaning : Bounds → Meaning O) (grouped : Bool) (old new
   abbrev pub IsExecFailure : ExecErr → Type 0
   IsExecFailure (LogFull used need limit) = IsAdmissible meaning p op × LacksPlace grouped p.limit before.log n (LogFull used need limit)
   IsExecFailure (LsnEnd number) = IsAdmissible meaning p op × LacksPlace grouped p.limit before.log n (LsnEnd number)
-  IsExecFailure Memory = NeedsMemory meaning p op ⊎ (IsAdmissible meaning p op × HasPlace p.limit before.log n)
+  IsExecFailure Memory = NeedsMemory meaning p op ⊎ (IsAdmissible meaning p op × HasPlaceBelow p.limit before.log n)
   IsExecFailure e = IsAdmitFailure meaning p op old new before.store.objects e

@@ -1,7 +1,7 @@
 pub mod Courses
 pub mod Answers
 pub mod Failures
-pub mod Unchanged
+pub mod Endings
 pub mod Done
 pub mod Stops
 pub mod Counted

@@ -2,9 +2,9 @@
 use Rattle.std.specs.Prelude.{◌≡◌, ◌+◌, ◌<◌, ◌^◌, ℕ, Bool, true, false}
 use Rattle.log_frames.specs.LogView.{used_of}
 use Rattle.log_records.specs.RecordLog.{RecordLogView}
-use Rattle.cache_manager.specs.Courses.{Stop}
-use Rattle.cache_manager.specs.Courses.Stop.{Through, Full, At_end, Worn}
-use Rattle.cache_manager.specs.Kept.{StopsAt}
+use Rattle.running_store.specs.Courses.{Stop}
+use Rattle.running_store.specs.Courses.Stop.{Through, Full, At_end, Worn}
+use Rattle.running_store.specs.Kept.{StopsAt}
 
 -- within a group a record has no room behind what waits, in a log of so many bytes at most, or no number is left for it
 abbrev pub StopsWithin : ℕ → RecordLogView → Stop → Type 0

@@ -6,8 +6,8 @@ use Rattle.oper_core.specs.declared.refusal.Refusal.{Refusal}
 use Rattle.explain_core.specs.History.{commands_of}
 use Rattle.explain_core.specs.Sound.{IsSound}
 use Rattle.explain_core.specs.World.{World, run, AreAllowed, IsLive}
-use Rattle.cache_manager.specs.Courses.{is_through}
-use Rattle.cache_manager.specs.Courses.Stop.{Through}
+use Rattle.running_store.specs.Courses.{is_through}
+use Rattle.running_store.specs.Courses.Stop.{Through}
 use Rattle.execution.specs.Courses.{exec_course, refusal_in}
 
 -- The steps of a command's course may be taken, also while a group is open in the world. After them the world is sound and

@@ -1,45 +1,39 @@
 // Whether a command's record has a place in the log.
-ghost use Rattle.std.specs.Prelude.{◌≡◌, ◌≢◌, ◌<◌, ◌≤◌, ◌+◌, ◌^◌, false, OnOk, OnErr, IfErr, IsErr, IsErrOf};
-ghost use Rattle.disk_model.specs.Disk.{Rises, Runs, In, Any, Same};
-ghost use Rattle.formats.specs.declared.params.Params.{Params as Numbers};
-ghost use Rattle.explain_core.specs.World.{World, run};
-ghost use Rattle.standing.specs.Moments.{TakesSome};
-ghost use Rattle.cache_manager.specs.Kept.{KeepsLog};
-ghost use Rattle.cache_manager.specs.Parts.{Store, Shows, meaning_in};
+ghost use Rattle.std.specs.Prelude.{◌≡◌, ◌<◌, ◌+◌, ◌^◌, false, OnOk, IfErr};
+ghost use Rattle.running_store.specs.Calls.{IsCall, Never, ending_of_force};
+ghost use Rattle.running_store.specs.Courses.{course};
+ghost use Rattle.running_store.specs.Courses.Stop.{Through};
+ghost use Rattle.running_store.specs.StoreView.{params_of};
+ghost use Rattle.running_store.specs.Taking.{Takes};
+ghost use Rattle.running_store.specs.Commands.{HasPlaceBelow};
+ghost use Rattle.execution.specs.Answers.{ending_of_exec, stop_of_exec};
 ghost use Rattle.execution.specs.Courses.{unplaced_steps};
-ghost use Rattle.execution.specs.Done.{IsUnplaced, LogWithout};
-ghost use Rattle.execution.specs.Failures.{HasPlace, LacksPlace, needed_by};
+ghost use Rattle.execution.specs.Done.{IsForcedOutside, LogWithout};
+ghost use Rattle.execution.specs.Failures.{LacksPlace, needed_by};
+ghost use Rattle.execution.specs.Stops.{StopsCommand};
 
 use crate::exec_err::ExecErr;
-use cache_manager::force_all;
 use disk_model::{Failed, Machine};
 use formats::{BLOCK_HEAD, NUMBERS_END};
 use log_records::RecordLog;
 use oper_core::Oper;
+use running_store::Store;
 
 // Forces all that waits, but nothing while a group is open.
 fn force_outside<O: Oper, M: Machine>(
-    log: &mut RecordLog<O>,
+    store: &mut Store<O>,
     machine: &mut M,
     grouped: bool,
 ) -> Result<(), Failed>
-    ensures unplaced { OnOk result (IsUnplaced grouped log.old log.new) }
-    ensures runs { Runs (In log.old.log.active Any) Same (M.disk machine.old) (M.disk machine.new) }
-    ensures shows { (p : Numbers) (it : Store) (w : World O) → let m = meaning_in O.meaning p in
-        Shows m p (M.disk machine.old) (record { log = log.old; store = it }) w →
-        OnOk result (Shows m p (M.disk machine.new) (record { log = log.new; store = it }) (run m w (unplaced_steps m grouped w))) }
-    ensures moments { (M.disk machine.old).tells_moments → (p : Numbers) (it : Store) (w : World O) → let m = meaning_in O.meaning p in
-        Shows m p (M.disk machine.old) (record { log = log.old; store = it }) w →
-        TakesSome m p (M.disk machine.old) (M.disk machine.new) w (unplaced_steps m grouped w) }
-    ensures keeps { OnOk result (KeepsLog O.meaning (M.disk machine.old) (M.disk machine.new) log.old log.new) }
-    ensures kept { OnErr result (log.new ≡ log.old) }
-    ensures outside { IsErr result → grouped ≡ false }
-    ensures cause { IsErr result → Rises (M.disk machine.old).disk_faults (M.disk machine.new).disk_faults }
+    requires unbroken { store.old.broken ≡ false }
+    ensures call { IsCall O.meaning (M.disk machine.old) (M.disk machine.new) store.old store.new 0 Never (ending_of_force result) }
+    ensures takes { Takes O.meaning (M.disk machine.old) (M.disk machine.new) store.old.parts store.new.parts (λ m w used. course (unplaced_steps m grouped w) used Through) (ending_of_force result) }
+    ensures forced { IsForcedOutside grouped store.old store.new result }
 {
     if grouped {
         return Ok(());
     }
-    force_all(log, machine)
+    store.force(machine)
 }
 
 // How many bytes a record of this length needs that has no place.
@@ -53,40 +47,33 @@ fn needed<O: Oper>(log: &RecordLog<O>, length: u64, grouped: bool) -> u64
     length + BLOCK_HEAD as u64
 }
 
-// Requires that the log has a place below the limit, and a number, for a record of this length. Where it has none, all that
-// waits is forced, unless a group is open.
+// Requires that the log has a place below the store's limit, and a number, for a record of this length. Where it has none,
+// all that waits is forced, unless a group is open.
 pub(crate) fn require_place<O: Oper, M: Machine>(
-    log: &mut RecordLog<O>,
+    store: &mut Store<O>,
     machine: &mut M,
-    limit: u64,
     length: u64,
     grouped: bool,
 ) -> Result<(), ExecErr>
+    requires unbroken { store.old.broken ≡ false }
     requires range { (0 < length) × (length < 2 ^ 63 + 9) }
-    requires low { limit ≤ 2 ^ 62 }
-    ensures has { OnOk result (HasPlace limit log.old length) }
-    ensures untouched { OnOk result ((machine.new ≡ machine.old) × (log.new ≡ log.old)) }
-    ensures lacks { IfErr result (LacksPlace grouped limit log.old length) }
-    ensures log { IfErr result (LogWithout grouped log.old log.new) }
-    ensures runs { OnErr result (Runs (In log.old.log.active Any) Same (M.disk machine.old) (M.disk machine.new)) }
-    ensures shows { (p : Numbers) (it : Store) (w : World O) → let m = meaning_in O.meaning p in
-        Shows m p (M.disk machine.old) (record { log = log.old; store = it }) w →
-        IfErr result (λ e. e ≢ ExecErr.DiskFault → Shows m p (M.disk machine.new) (record { log = log.new; store = it }) (run m w (unplaced_steps m grouped w))) }
-    ensures moments { (M.disk machine.old).tells_moments → (p : Numbers) (it : Store) (w : World O) → let m = meaning_in O.meaning p in
-        Shows m p (M.disk machine.old) (record { log = log.old; store = it }) w →
-        OnErr result (TakesSome m p (M.disk machine.old) (M.disk machine.new) w (unplaced_steps m grouped w)) }
-    ensures keeps { IfErr result (λ e. e ≢ ExecErr.DiskFault → KeepsLog O.meaning (M.disk machine.old) (M.disk machine.new) log.old log.new) }
-    ensures fault { IsErrOf result ExecErr.DiskFault → Rises (M.disk machine.old).disk_faults (M.disk machine.new).disk_faults }
+    ensures has { OnOk result (HasPlaceBelow (params_of store.old).limit store.old.parts.log length × (machine.new ≡ machine.old) × (store.new ≡ store.old)) }
+    ensures lacks { IfErr result (LacksPlace grouped (params_of store.old).limit store.old.parts.log length) }
+    ensures left { IfErr result (λ e. LogWithout grouped store.old.parts.log store.new.parts.log e × (store.new.parts.store ≡ store.old.parts.store)) }
+    ensures call { IsCall O.meaning (M.disk machine.old) (M.disk machine.new) store.old store.new 0 (StopsCommand grouped (params_of store.old).limit) (ending_of_exec result) }
+    ensures takes { IfErr result (λ e. Takes O.meaning (M.disk machine.old) (M.disk machine.new) store.old.parts store.new.parts
+        (λ m w used. course (unplaced_steps m grouped w) used (stop_of_exec e)) (ending_of_exec result)) }
 {
-    let used = log.used();
-    if length > limit || limit.saturating_sub(used) < log.growth(length) {
-        let need = needed(log, length, grouped);
-        force_outside(log, machine, grouped)?;
+    let limit = store.params().limit as u64;
+    let used = store.log().used();
+    if length > limit || limit.saturating_sub(used) < store.log().growth(length) {
+        let need = needed(store.log(), length, grouped);
+        force_outside(store, machine, grouped)?;
         return Err(ExecErr::LogFull { used, need, limit });
     }
-    let number = log.next();
+    let number = store.log().next();
     if number >= NUMBERS_END {
-        force_outside(log, machine, grouped)?;
+        force_outside(store, machine, grouped)?;
         return Err(ExecErr::LsnEnd { number });
     }
     Ok(())

@@ -1,4 +1,4 @@
-use Rattle.cache_manager.specs.Running.{KeepsSound}
+use Rattle.running_store.specs.Running.{KeepsSound}
 use Rattle.execution.proofs.MayTake.{may_exec}
 use Rattle.execution.proofs.laws.exec_may_be_taken.Goals as goal
 

@@ -1,43 +1,32 @@
-use Rattle.std.proofs.Common.{sym, subst, List, [], ◌++◌, Bool, Result, Ok, Err, OnOk}
-use Rattle.disk_model.specs.Disk.{Disk}
-use Rattle.oper_core.specs.Meaning.{Meaning}
-use Rattle.oper_core.specs.declared.bounds.Bounds.{Bounds}
-use Rattle.formats.specs.declared.record.Record.{Record}
-use Rattle.log_records.specs.RecordLog.{RecordLogView, Keeps}
-use Rattle.explain_core.specs.World.{run}
-use Rattle.standing.specs.Moments.{TakesSome}
-use Rattle.cache_manager.specs.Forced.{IsForced}
-use Rattle.cache_manager.specs.Kept.{KeepsLog}
-use Rattle.cache_manager.specs.KeptLaws.{forced_log}
-use Rattle.cache_manager.specs.Parts.{Shows, meaning_in}
-use Rattle.cache_manager.specs.Stored.{stays_shown, store_shown}
+use Rattle.std.proofs.Common.{sym, subst, refl, Bool}
+use Rattle.running_store.specs.Calls.{Never, call_none}
+use Rattle.running_store.specs.Courses.{course}
+use Rattle.running_store.specs.Courses.Stop.{Through}
+use Rattle.running_store.specs.Taking.{Takes}
+use Rattle.running_store.specs.Taking.Ending.{Done}
+use Rattle.running_store.specs.TakesLaws.{takes_none}
+use Rattle.running_store.specs.Calls.{ending_of_force}
 use Rattle.execution.specs.Courses.{unplaced_steps}
+use Rattle.execution.specs.Done.{IsUnplaced}
+use Rattle.execution.proofs.Unplaced.{forced_outside}
 use Rattle.execution.proofs.placing.force_outside.Goals as goal
 
--- a force keeps the log, where it is Ok
-forced_kept : {T E O : Type 0} (meaning : Bounds → Meaning O) (old new : Disk) (log later : RecordLogView) (r : Result T E) → OnOk r (IsForced log later)
-    → (old.tells_files → (stable pending : List (Record O)) → Keeps (meaning log.bounds) old log stable pending → OnOk r (Keeps (meaning log.bounds) new later (stable ++ pending) []))
-    → OnOk r (KeepsLog meaning old new log later)
-forced_kept meaning old new log later (Ok n) forced keeps = forced_log meaning old new log later forced keeps
-forced_kept meaning old new log later (Err e) forced keeps = tt
+pub returns-then-grouped-clause-call : goal.returns-then-grouped-clause-call
+returns-then-grouped-clause-call g c = call_none g.O.Oper.meaning (g.M.Machine.disk c.args.machine.now) c.args.store.now Never (g.met.M.Machine.lawful c.args.machine.now) c.requires.unbroken
 
-pub returns-then-grouped-clause-shows : goal.returns-then-grouped-clause-shows
-unfolding run
-returns-then-grouped-clause-shows g c p it w shows =
-    let m = meaning_in g.O.Oper.meaning p in
-    subst (λ (b : Bool). Shows m p (g.M.Machine.disk c.args.machine.now) (record { log = c.args.log.now; store = it }) (run m w (unplaced_steps m b w))) (sym c.if-grouped.true) shows
-
-pub returns-then-grouped-clause-moments : goal.returns-then-grouped-clause-moments
-returns-then-grouped-clause-moments g c told p it w shows =
-    let m = meaning_in g.O.Oper.meaning p in
+pub returns-then-grouped-clause-takes : goal.returns-then-grouped-clause-takes
+returns-then-grouped-clause-takes g c =
     let d = g.M.Machine.disk c.args.machine.now in
-    stays_shown m p d it w (unplaced_steps m c.args.grouped w) (g.met.M.Machine.lawful c.args.machine.now) told (store_shown m p d (record { log = c.args.log.now; store = it }) w shows)
+    let it = c.args.store.now.parts in
+    subst (λ (b : Bool). Takes g.O.Oper.meaning d d it it (λ m w used. course (unplaced_steps m b w) used Through) Done) (sym c.if-grouped.true) (takes_none g.O.Oper.meaning d it (g.met.M.Machine.lawful c.args.machine.now))
 
-pub returns-clause-moments : goal.returns-clause-moments
-returns-clause-moments g c told p it w shows =
-    let m = meaning_in g.O.Oper.meaning p in
-    subst (λ (b : Bool). TakesSome m p (g.M.Machine.disk c.args.machine.now) (g.M.Machine.disk c.force_all.new.machine) w (unplaced_steps m b w)) (sym c.if-grouped.false) (c.force_all.ensures.moments told p it w shows)
+pub returns-then-grouped-clause-forced : goal.returns-then-grouped-clause-forced
+returns-then-grouped-clause-forced g c = let log = c.args.store.now.parts.log in (subst (λ (b : Bool). IsUnplaced b log log) (sym c.if-grouped.true) refl, refl)
 
-pub returns-clause-keeps : goal.returns-clause-keeps
-returns-clause-keeps g c =
-    forced_kept g.O.Oper.meaning (g.M.Machine.disk c.args.machine.now) (g.M.Machine.disk c.force_all.new.machine) c.args.log.now c.force_all.new.log c.force_all.result c.force_all.ensures.forced c.force_all.ensures.keeps
+pub returns-clause-takes : goal.returns-clause-takes
+returns-clause-takes g c =
+    subst (λ (b : Bool). Takes g.O.Oper.meaning (g.M.Machine.disk c.args.machine.now) (g.M.Machine.disk c.force.new.machine) c.args.store.now.parts c.force.new.self.parts (λ m w used. course (unplaced_steps m b w) used Through) (ending_of_force c.force.result))
+    (sym c.if-grouped.false) c.force.ensures.takes
+
+pub returns-clause-forced : goal.returns-clause-forced
+returns-clause-forced g c = forced_outside c.args.grouped c.if-grouped.false c.args.store.now c.force.new.self c.force.result c.force.ensures.forced

@@ -1,36 +1,137 @@
-use Rattle.std.proofs.Common.{rules}
-use Rattle.execution.proofs.Results.{if_fault, on_err_anyway}
+use Rattle.std.proofs.Common.{◌≡◌, ap, ◌<◌, ◌≤◌, arith, inl, inr, refl, rules}
+use Rattle.std.specs.Prelude.{◌^◌, IfErr}
+use Rattle.log_records.specs.RecordLog.{RecordLogView}
+use Rattle.running_store.specs.AfterReads.{call_stopped}
+use Rattle.running_store.specs.Calls.{IsCall, Never, call_as, call_none}
+use Rattle.running_store.specs.Commands.{length_with}
+use Rattle.running_store.specs.Courses.{course}
+use Rattle.running_store.specs.Courses.Stop.{Full, At_end}
+use Rattle.running_store.specs.StoreView.{StoreView, params_of}
+use Rattle.running_store.specs.Taking.{Ending, Takes}
+use Rattle.running_store.specs.TakesLaws.{takes_stop}
+use Rattle.execution.specs.Answers.{ending_of_exec, stop_of_exec}
+use Rattle.execution.specs.Courses.{unplaced_steps}
+use Rattle.execution.specs.Done.{LogWithout}
+use Rattle.execution.specs.Failures.{LacksPlace}
+use Rattle.execution.specs.Stops.{StopsCommand}
+use Rattle.execution.specs.declared.exec_err.ExecErr.TheVariants.{DiskFault}
+use Rattle.execution.proofs.Results.{at_err}
+use Rattle.execution.proofs.Unplaced.{end_stops, failed_left, full_stops}
 use Rattle.execution.proofs.placing.require_place.Goals as goal
 
-pub returns-in_err-force_outside-clause-moments : goal.returns-in_err-force_outside-clause-moments
-returns-in_err-force_outside-clause-moments g c told p it w shows = on_err_anyway c.from_residual.result _ (c.force_outside.ensures.moments told p it w shows)
+pub returns-in_err-force_outside-clause-lacks : goal.returns-in_err-force_outside-clause-lacks
+returns-in_err-force_outside-clause-lacks g c =
+    let store : StoreView = c.args.store.now in
+    let limit = (params_of store).limit in
+    let over : limit < length_with store.parts.log c.args.length = search rules in
+    at_err (λ r. IfErr r (LacksPlace c.args.grouped limit store.parts.log c.args.length)) c.from_residual.result DiskFault c.from_residual.ensures.1 (c.in_err-force_outside.ensures.forced.0, inl over)
 
-pub returns-in_err-force_outside-2-clause-moments : goal.returns-in_err-force_outside-2-clause-moments
-returns-in_err-force_outside-2-clause-moments g c told p it w shows = on_err_anyway c.from_residual-in_err-force_outside-2.result _ (c.force_outside-then-number-ge-NUMBERS_END.ensures.moments told p it w shows)
+pub returns-in_err-force_outside-clause-left : goal.returns-in_err-force_outside-clause-left
+returns-in_err-force_outside-clause-left g c =
+    let before : StoreView = c.args.store.now in
+    let after : StoreView = c.force_outside.new.store in
+    at_err (λ r. IfErr r (λ e. LogWithout c.args.grouped before.parts.log after.parts.log e × (after.parts.store ≡ before.parts.store))) c.from_residual.result DiskFault c.from_residual.ensures.1
+    (failed_left before after c.in_err-force_outside.ensures.forced.1)
 
-pub returns-then-length-limit-clause-shows : goal.returns-then-length-limit-clause-shows
-returns-then-length-limit-clause-shows g c p it w shows other = c.in_ok-force_outside.ensures.shows p it w shows
+pub returns-in_err-force_outside-clause-call : goal.returns-in_err-force_outside-clause-call
+returns-in_err-force_outside-clause-call g c =
+    let old = g.M.Machine.disk c.args.machine.now in
+    let new = g.M.Machine.disk c.force_outside.new.machine in
+    let before : StoreView = c.args.store.now in
+    let after : StoreView = c.force_outside.new.store in
+    let stops = StopsCommand c.args.grouped (params_of before).limit in
+    at_err (λ r. IsCall g.O.Oper.meaning old new before after 0 stops (ending_of_exec r)) c.from_residual.result DiskFault c.from_residual.ensures.1
+    (call_as g.O.Oper.meaning old new before after 0 0 Never stops Ending.Failed refl (λ stop is. cc) c.in_err-force_outside.ensures.call)
 
-pub returns-then-number-ge-NUMBERS_END-clause-shows : goal.returns-then-number-ge-NUMBERS_END-clause-shows
-returns-then-number-ge-NUMBERS_END-clause-shows g c p it w shows other = c.in_ok-force_outside-2.ensures.shows p it w shows
-
-pub returns-then-length-limit-clause-keeps : goal.returns-then-length-limit-clause-keeps
-returns-then-length-limit-clause-keeps g c other = c.in_ok-force_outside.ensures.keeps
-
-pub returns-then-number-ge-NUMBERS_END-clause-keeps : goal.returns-then-number-ge-NUMBERS_END-clause-keeps
-returns-then-number-ge-NUMBERS_END-clause-keeps g c other = c.in_ok-force_outside-2.ensures.keeps
-
-pub returns-in_err-force_outside-clause-keeps : goal.returns-in_err-force_outside-clause-keeps
-returns-in_err-force_outside-clause-keeps g c = if_fault c.from_residual.result _ c.from_residual.ensures.1
-
-pub returns-in_err-force_outside-2-clause-keeps : goal.returns-in_err-force_outside-2-clause-keeps
-returns-in_err-force_outside-2-clause-keeps g c = if_fault c.from_residual-in_err-force_outside-2.result _ c.from_residual-in_err-force_outside-2.ensures.1
-
-pub returns-clause-has : goal.returns-clause-has
-returns-clause-has g c = search rules
+pub returns-in_err-force_outside-clause-takes : goal.returns-in_err-force_outside-clause-takes
+returns-in_err-force_outside-clause-takes g c =
+    let old = g.M.Machine.disk c.args.machine.now in
+    let new = g.M.Machine.disk c.force_outside.new.machine in
+    let before : StoreView = c.args.store.now in
+    let after : StoreView = c.force_outside.new.store in
+    at_err (λ r. IfErr r (λ e. Takes g.O.Oper.meaning old new before.parts after.parts (λ m w used. course (unplaced_steps m c.args.grouped w) used (stop_of_exec e)) (ending_of_exec r))) c.from_residual.result DiskFault c.from_residual.ensures.1
+    c.in_err-force_outside.ensures.takes
 
 pub returns-then-length-limit-clause-lacks : goal.returns-then-length-limit-clause-lacks
 returns-then-length-limit-clause-lacks g c = search rules
 
+pub returns-then-length-limit-clause-left : goal.returns-then-length-limit-clause-left
+returns-then-length-limit-clause-left g c = let is = c.in_ok-force_outside.ensures.forced in (is.0, ap (λ (s : StoreView). s.parts.store) is.1)
+
+pub returns-then-length-limit-clause-call : goal.returns-then-length-limit-clause-call
+returns-then-length-limit-clause-call g c =
+    let before : StoreView = c.args.store.now in
+    let after : StoreView = c.force_outside.new.store in
+    let limit = (params_of before).limit in
+    let lacks = returns-then-length-limit-clause-lacks g c in
+    call_stopped g.O.Oper.meaning (g.M.Machine.disk c.args.machine.now) (g.M.Machine.disk c.force_outside.new.machine) before after 0 (StopsCommand c.args.grouped limit) (Full c.used-used.result c.needed-need.result c.params-limit.result.limit)
+    (full_stops limit before.parts.log after.parts.log c.args.length c.args.grouped c.used-used.result c.needed-need.result c.params-limit.result.limit lacks.0 lacks.1 lacks.2 lacks.3 c.in_ok-force_outside.ensures.forced.0)
+    c.in_ok-force_outside.ensures.call
+
+pub returns-then-length-limit-clause-takes : goal.returns-then-length-limit-clause-takes
+returns-then-length-limit-clause-takes g c =
+    takes_stop g.O.Oper.meaning (g.M.Machine.disk c.args.machine.now) (g.M.Machine.disk c.force_outside.new.machine) c.args.store.now.parts c.force_outside.new.store.parts
+    (λ m w. unplaced_steps m c.args.grouped w) (Full c.used-used.result c.needed-need.result c.params-limit.result.limit) c.in_ok-force_outside.ensures.takes
+
+pub returns-in_err-force_outside-2-clause-lacks : goal.returns-in_err-force_outside-2-clause-lacks
+returns-in_err-force_outside-2-clause-lacks g c =
+    let store : StoreView = c.args.store.now in
+    let limit = (params_of store).limit in
+    let last : 2 ^ 62 ≤ store.parts.log.next = omega (arith, c.if-number-ge-NUMBERS_END.true, c.next-number.ensures, ap (λ (l : RecordLogView). l.next) c.log-2.ensures) in
+    at_err (λ r. IfErr r (LacksPlace c.args.grouped limit store.parts.log c.args.length)) c.from_residual-in_err-force_outside-2.result DiskFault c.from_residual-in_err-force_outside-2.ensures.1
+    (c.in_err-force_outside-2.ensures.forced.0, inr last)
+
+pub returns-in_err-force_outside-2-clause-left : goal.returns-in_err-force_outside-2-clause-left
+returns-in_err-force_outside-2-clause-left g c =
+    let before : StoreView = c.args.store.now in
+    let after : StoreView = c.force_outside-then-number-ge-NUMBERS_END.new.store in
+    at_err (λ r. IfErr r (λ e. LogWithout c.args.grouped before.parts.log after.parts.log e × (after.parts.store ≡ before.parts.store))) c.from_residual-in_err-force_outside-2.result DiskFault c.from_residual-in_err-force_outside-2.ensures.1
+    (failed_left before after c.in_err-force_outside-2.ensures.forced.1)
+
+pub returns-in_err-force_outside-2-clause-call : goal.returns-in_err-force_outside-2-clause-call
+returns-in_err-force_outside-2-clause-call g c =
+    let old = g.M.Machine.disk c.args.machine.now in
+    let new = g.M.Machine.disk c.force_outside-then-number-ge-NUMBERS_END.new.machine in
+    let before : StoreView = c.args.store.now in
+    let after : StoreView = c.force_outside-then-number-ge-NUMBERS_END.new.store in
+    let stops = StopsCommand c.args.grouped (params_of before).limit in
+    at_err (λ r. IsCall g.O.Oper.meaning old new before after 0 stops (ending_of_exec r)) c.from_residual-in_err-force_outside-2.result DiskFault c.from_residual-in_err-force_outside-2.ensures.1
+    (call_as g.O.Oper.meaning old new before after 0 0 Never stops Ending.Failed refl (λ stop is. cc) c.in_err-force_outside-2.ensures.call)
+
+pub returns-in_err-force_outside-2-clause-takes : goal.returns-in_err-force_outside-2-clause-takes
+returns-in_err-force_outside-2-clause-takes g c =
+    let old = g.M.Machine.disk c.args.machine.now in
+    let new = g.M.Machine.disk c.force_outside-then-number-ge-NUMBERS_END.new.machine in
+    let before : StoreView = c.args.store.now in
+    let after : StoreView = c.force_outside-then-number-ge-NUMBERS_END.new.store in
+    at_err (λ r. IfErr r (λ e. Takes g.O.Oper.meaning old new before.parts after.parts (λ m w used. course (unplaced_steps m c.args.grouped w) used (stop_of_exec e)) (ending_of_exec r))) c.from_residual-in_err-force_outside-2.result DiskFault c.from_residual-in_err-force_outside-2.ensures.1
+    c.in_err-force_outside-2.ensures.takes
+
 pub returns-then-number-ge-NUMBERS_END-clause-lacks : goal.returns-then-number-ge-NUMBERS_END-clause-lacks
 returns-then-number-ge-NUMBERS_END-clause-lacks g c = search rules
+
+pub returns-then-number-ge-NUMBERS_END-clause-left : goal.returns-then-number-ge-NUMBERS_END-clause-left
+returns-then-number-ge-NUMBERS_END-clause-left g c = let is = c.in_ok-force_outside-2.ensures.forced in (is.0, ap (λ (s : StoreView). s.parts.store) is.1)
+
+pub returns-then-number-ge-NUMBERS_END-clause-call : goal.returns-then-number-ge-NUMBERS_END-clause-call
+returns-then-number-ge-NUMBERS_END-clause-call g c =
+    let before : StoreView = c.args.store.now in
+    let after : StoreView = c.force_outside-then-number-ge-NUMBERS_END.new.store in
+    let limit = (params_of before).limit in
+    let lacks = returns-then-number-ge-NUMBERS_END-clause-lacks g c in
+    let used = c.params-limit.ensures.in_use c.requires.unbroken in
+    call_stopped g.O.Oper.meaning (g.M.Machine.disk c.args.machine.now) (g.M.Machine.disk c.force_outside-then-number-ge-NUMBERS_END.new.machine) before after 0 (StopsCommand c.args.grouped limit) (At_end c.next-number.result)
+    (end_stops limit before.parts.log after.parts.log c.args.length c.args.grouped c.next-number.result used.store.low lacks.1 lacks.2 c.in_ok-force_outside-2.ensures.forced.0) c.in_ok-force_outside-2.ensures.call
+
+pub returns-then-number-ge-NUMBERS_END-clause-takes : goal.returns-then-number-ge-NUMBERS_END-clause-takes
+returns-then-number-ge-NUMBERS_END-clause-takes g c =
+    takes_stop g.O.Oper.meaning (g.M.Machine.disk c.args.machine.now) (g.M.Machine.disk c.force_outside-then-number-ge-NUMBERS_END.new.machine) c.args.store.now.parts c.force_outside-then-number-ge-NUMBERS_END.new.store.parts
+    (λ m w. unplaced_steps m c.args.grouped w) (At_end c.next-number.result) c.in_ok-force_outside-2.ensures.takes
+
+pub returns-clause-has : goal.returns-clause-has
+returns-clause-has g c = search rules
+
+pub returns-clause-call : goal.returns-clause-call
+returns-clause-call g c =
+    let limit = (params_of c.args.store.now).limit in
+    call_none g.O.Oper.meaning (g.M.Machine.disk c.args.machine.now) c.args.store.now (StopsCommand c.args.grouped limit) (g.met.M.Machine.lawful c.args.machine.now) c.requires.unbroken
