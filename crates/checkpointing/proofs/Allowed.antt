@@ -1,70 +1,44 @@
 -- The steps of a checkpoint, of a restart's check and of a trim may be taken, and add no command.
-use Rattle.std.proofs.Common.{◌≡◌, sym, subst, ℕ, List, [], ◌∷◌, ◌++◌, length, refl, arith, inl, inr}
+use Rattle.std.proofs.Common.{◌≡◌, sym, subst, ℕ, List, [], ◌∷◌, ◌++◌, length, refl, arith, inl, inr, ◌⊎◌, ⊎_elim}
 use Rattle.std.specs.Prelude.{⊤, nat_lt, nat_le, ◌^◌, ◌+◌}
 use Rattle.std.proofs.lemmas.Bool.{cases_Bool, or_parts, ltb-false, cond_both, cond-true, cond-false}
 use Rattle.oper_core.specs.Meaning.{Meaning}
 use Rattle.explain_core.specs.RunLaws.{allowed-append}
 use Rattle.explain_core.specs.World.{World, Step, step, run, IsLive, NoGroup, AreAllowed}
-use Rattle.explain_core.specs.World.Step.{Begin, End, Append, Block_gate, Check, Slot_gate, Removal, Header_gate, Replay, Crash}
-use Rattle.cache_manager.specs.Courses.{Course, course, and_then, buffered, force_course, force_steps, grown, is_through, room_steps, waits}
-use Rattle.cache_manager.specs.Courses.Stop.{Through, Full, Worn}
-use Rattle.cache_manager.specs.Logged.{log_limit}
-use Rattle.cache_manager.specs.Running.{AreUpkeep, IsRunning, KeepsSound, MayBeTaken, may_be_taken, running_after}
+use Rattle.explain_core.specs.World.Step.{Block_gate, Check, Header_gate}
+use Rattle.running_store.specs.Courses.{Course, course, and_then, buffered, force_course, force_steps, grown, is_through, room_steps, waits}
+use Rattle.running_store.specs.Courses.Stop.{Through, Full, Worn}
+use Rattle.running_store.specs.Logged.{log_limit}
+use Rattle.running_store.specs.Running.{AreUpkeep, IsRunning, KeepsSound, MayBeTaken, may_be_taken, running_after}
+use Rattle.running_store.specs.RewriteLaws.{gate_allowed}
+use Rattle.running_store.specs.Rewrites.{check_length, new_base, rewrite_course, trimmed, trimmed_file}
 use Rattle.cache_manager.specs.Upkeep.{upkeep_append}
-use Rattle.checkpointing.specs.Courses.{check_course, check_length, check_steps, checkpoint_course, closing_course, last_epoch, logged_course, new_base, rewrite_course, trim_course, trimmed, trimmed_file}
-use Rattle.checkpointing.proofs.Base.{trim_allowed}
+use Rattle.checkpointing.specs.Courses.{check_course, check_steps, checkpoint_course, closing_course, last_epoch, logged_course, trim_course}
 
 -- steps on the log alone, which may be taken wherever calls are made
-abbrev IsPlain : {O : Type 0} → Step O → Type 0
-IsPlain Begin = ⊥
-IsPlain End = ⊥
-IsPlain (Append member) = ⊥
-IsPlain Block_gate = ⊤
-IsPlain Check = ⊤
-IsPlain (Slot_gate node x) = ⊥
-IsPlain (Removal node) = ⊥
-IsPlain (Header_gate base) = ⊥
-IsPlain Replay = ⊥
-IsPlain Crash = ⊥
-
 abbrev ArePlain : {O : Type 0} → List (Step O) → Type 0
 ArePlain [] = ⊤
-ArePlain (s ∷ steps) = IsPlain s × ArePlain steps
+ArePlain (s ∷ steps) = ((s ≡ Block_gate) ⊎ (s ≡ Check)) × ArePlain steps
 
 module _ {O : Type 0} (m : Meaning O) where
   plain_allowed : (w : World O) (steps : List (Step O)) → ArePlain steps → IsLive w → NoGroup w → AreAllowed m w steps
   unfolding step
   plain_allowed w [] are live alone = tt
-  plain_allowed w (Begin ∷ steps) are live alone = absurd are.0
-  plain_allowed w (End ∷ steps) are live alone = absurd are.0
-  plain_allowed w (Append member ∷ steps) are live alone = absurd are.0
-  plain_allowed w (Block_gate ∷ steps) are live alone = ((live, alone), plain_allowed (step m w Block_gate) steps are.1 live alone)
-  plain_allowed w (Check ∷ steps) are live alone = ((live, alone), plain_allowed (step m w Check) steps are.1 live alone)
-  plain_allowed w (Slot_gate node x ∷ steps) are live alone = absurd are.0
-  plain_allowed w (Removal node ∷ steps) are live alone = absurd are.0
-  plain_allowed w (Header_gate base ∷ steps) are live alone = absurd are.0
-  plain_allowed w (Replay ∷ steps) are live alone = absurd are.0
-  plain_allowed w (Crash ∷ steps) are live alone = absurd are.0
+  plain_allowed w (s ∷ steps) are live alone =
+      let P : Step O → Type 0 = λ t. AreAllowed m w (t ∷ steps) in
+      ⊎_elim (λ is. subst P (sym is) ((live, alone), plain_allowed (step m w Block_gate) steps are.1 live alone)) (λ is. subst P (sym is) ((live, alone), plain_allowed (step m w Check) steps are.1 live alone)) are.0
 
   plain_upkeep : (steps : List (Step O)) → ArePlain steps → AreUpkeep steps
   plain_upkeep [] are = tt
-  plain_upkeep (Begin ∷ steps) are = absurd are.0
-  plain_upkeep (End ∷ steps) are = absurd are.0
-  plain_upkeep (Append member ∷ steps) are = absurd are.0
-  plain_upkeep (Block_gate ∷ steps) are = (tt, plain_upkeep steps are.1)
-  plain_upkeep (Check ∷ steps) are = (tt, plain_upkeep steps are.1)
-  plain_upkeep (Slot_gate node x ∷ steps) are = absurd are.0
-  plain_upkeep (Removal node ∷ steps) are = absurd are.0
-  plain_upkeep (Header_gate base ∷ steps) are = absurd are.0
-  plain_upkeep (Replay ∷ steps) are = absurd are.0
-  plain_upkeep (Crash ∷ steps) are = absurd are.0
+  plain_upkeep (s ∷ steps) are =
+      let P : Step O → Type 0 = λ t. AreUpkeep (t ∷ steps) in ⊎_elim (λ is. subst P (sym is) (tt, plain_upkeep steps are.1)) (λ is. subst P (sym is) (tt, plain_upkeep steps are.1)) are.0
 
   plain_append : (xs ys : List (Step O)) → ArePlain xs → ArePlain ys → ArePlain (xs ++ ys)
   plain_append [] ys first second = second
   plain_append (x ∷ xs) ys first second = (first.0, plain_append xs ys first.1 second)
 
   plain_force : (w : World O) → ArePlain (force_steps m w)
-  plain_force w = cond_both (waits m w) (Block_gate ∷ []) [] (λ (l : List (Step O)). ArePlain l) (λ some. (tt, tt)) (λ none. tt)
+  plain_force w = cond_both (waits m w) (Block_gate ∷ []) [] (λ (l : List (Step O)). ArePlain l) (λ some. (inl refl, tt)) (λ none. tt)
 
   plain_room : (w : World O) (n : ℕ) → ArePlain (room_steps m w n)
   plain_room w n = cond_both (nat_lt (2 ^ 30) (buffered m w + n)) (force_steps m w) [] (λ (l : List (Step O)). ArePlain l) (λ long. plain_force w) (λ short. tt)
@@ -72,7 +46,7 @@ module _ {O : Type 0} (m : Meaning O) where
   plain_logged : (w : World O) (used : ℕ) → ArePlain (logged_course m w used).steps
   plain_logged w used =
       let n = check_length m w in
-      cond_both (nat_lt log_limit (grown m w used n)) (course [] used (Full used (n + 5) log_limit)) (course check_steps (grown m w used n) Through) (λ (c : Course O). ArePlain c.steps) (λ full. tt) (λ fits. (tt, (tt, tt)))
+      cond_both (nat_lt log_limit (grown m w used n)) (course [] used (Full used (n + 5) log_limit)) (course check_steps (grown m w used n) Through) (λ (c : Course O). ArePlain c.steps) (λ full. tt) (λ fits. (inr refl, (inl refl, tt)))
 
   plain_check : (w : World O) (used : ℕ) → ArePlain (check_course m w used).steps
   plain_check w used =
@@ -117,7 +91,7 @@ module _ {O : Type 0} (m : Meaning O) where
     rewrite_allowed : (used : ℕ) → AreAllowed m v (rewrite_course m v used).steps
     rewrite_allowed used =
         cond_both (nat_lt log_limit (trimmed_file m v)) (course [] used (Full used (trimmed_file m v) log_limit)) (course (Header_gate (new_base m v) ∷ []) (trimmed m v) Through) (λ (c : Course O). AreAllowed m v c.steps) (λ full. tt)
-        (λ fits. (trim_allowed m v forced_running.sound forced_running.live forced_running.alone forced_all, tt))
+        (λ fits. (gate_allowed m v forced_running.sound forced_running.live forced_running.alone forced_all, tt))
 
     rewrite_upkeep : (used : ℕ) → AreUpkeep (rewrite_course m v used).steps
     rewrite_upkeep used =

@@ -1,4 +1,4 @@
--- The least of a check's starts and of its next number is where a trim lets the log begin, and it may begin there.
+-- The least of a check's starts and of its next number is where a trim lets the log begin.
 use Rattle.std.proofs.Common.{◌≡◌, sym, subst, ℕ, zero, suc, ◌<◌, ◌≤◌, List, [], ◌∷◌, length, map, refl, arith, inl, inr, Option, Some}
 use Rattle.std.specs.Prelude.{All, IsTrue, IfSome, ◌==◌, slice_get}
 use Rattle.std.proofs.lemmas.Bool.{both_ways, cases_lt, and_parts, and_from, or_cases, or_left, eqb-true, eq-eqb}
@@ -15,9 +15,8 @@ use Rattle.explain_core.specs.GraphLaws.{accepted-in_grammar}
 use Rattle.explain_core.specs.History.{Member, IsMember, value_at, writes_some}
 use Rattle.explain_core.specs.History.Member.{Command, Identity}
 use Rattle.explain_core.specs.Sound.{IsSound}
-use Rattle.explain_core.specs.World.{World, IsAllowed, IsLive, NoGroup, end_of, graph_access}
-use Rattle.explain_core.specs.World.Step.{Header_gate}
-use Rattle.checkpointing.specs.Courses.{new_base}
+use Rattle.explain_core.specs.World.{World, end_of, graph_access}
+use Rattle.running_store.specs.Rewrites.{new_base}
 
 -- the member at a place
 member_at : {X : Type 0} (h : List X) (k : ℕ) → k < length h → (x : X) × (slice_get h k ≡ Some x)
@@ -78,17 +77,3 @@ module _ {O : Type 0} (m : Meaning O) (law : IsLawful m) (w : World O) (sound : 
         let there = (and_parts (w.graph s.1) _ (subst (λ (a : Access). IsTrue (a.writes s.1 s.0)) same is.0)).0 in
         low.2 s.1 (omega (arith, (sound.graph s.1 there).1, sound.next.1)) there) starts least) in
         omega (arith, under, over)
-
--- where all is forced the header's gate of a trim may be opened
-pub trim_allowed : {O : Type 0} (m : Meaning O) (w : World O) → IsSound m w → IsLive w → NoGroup w → w.forced ≡ length w.history → IsAllowed m w (Header_gate (new_base m w))
-trim_allowed m w sound live alone all =
-    let low = least-is w.graph (end_of w) in (
-      live,
-      (all, alone),
-      elim (cases_lt (new_base m w) (end_of w)) [
-        | inl below ↦ (sound.graph (new_base m w) (low.1 below)).0
-        | inr past ↦ omega (arith, past, sound.next.0, sound.next.1)
-      ],
-      omega (arith, low.0, live),
-      λ n there. low.2 n (omega (arith, (sound.graph n there).1, sound.next.1)) there,
-    )

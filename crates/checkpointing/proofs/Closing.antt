@@ -1,10 +1,9 @@
 -- A checkpoint and the check of a restart take their courses by that of a check.
-use Rattle.std.proofs.Common.{◌≡◌, ◌∙◌, sym, subst, ap, ℕ, List, [], ◌++◌, refl, inl, inr, ◌⊎◌, ⊎_elim, Option, Some, None}
-use Rattle.std.specs.Prelude.{IsFalse, Result, Ok, Err, IsErrAnd}
+use Rattle.std.proofs.Common.{◌≡◌, ◌∙◌, sym, subst, ap, ℕ, false, List, [], ◌++◌, refl, arith, inl, inr, Option, Some, None}
+use Rattle.std.specs.Prelude.{IsFalse, Ok, Err}
 use Rattle.std.proofs.lemmas.Bool.{cases_Bool, cond-true, cond-false}
 use Rattle.std.proofs.lemmas.List.{append-nil}
-use Rattle.std.proofs.lemmas.Result.{err_from_is_err_and}
-use Rattle.disk_model.specs.Disk.{Disk, Runs, Same, Files}
+use Rattle.disk_model.specs.Disk.{Disk}
 use Rattle.oper_core.specs.Meaning.{Meaning}
 use Rattle.oper_core.specs.declared.bounds.Bounds.{Bounds}
 use Rattle.formats.specs.declared.params.Params.{Params}
@@ -14,16 +13,23 @@ use Rattle.explain_core.specs.RunLaws.{run-append}
 use Rattle.explain_core.specs.Taken.{IsAfterSome, after_longer}
 use Rattle.explain_core.specs.World.{World, Step, run}
 use Rattle.standing.specs.Moments.{TakesSome, moments_longer, moments_twice}
-use Rattle.cache_manager.specs.Courses.{Course, Stop, course, force_steps, is_through}
-use Rattle.cache_manager.specs.Courses.Stop.{Through, Full}
-use Rattle.cache_manager.specs.Logged.{log_limit}
-use Rattle.cache_manager.specs.Parts.{Parts, Shows, meaning_in}
-use Rattle.cache_manager.specs.Taking.{Ending, Follows, Takes, ending_of as ended}
-use Rattle.cache_manager.specs.Taking.Ending.{Done, Stopped, Short, Failed}
-use Rattle.cache_manager.specs.declared.install_err.InstallErr.{InstallErr}
-use Rattle.cache_manager.specs.declared.install_err.InstallErr.TheVariants.{LogFull, LsnEnd, DiskFault, Memory}
+use Rattle.running_store.specs.CallLaws.{unbroken_after}
+use Rattle.running_store.specs.Calls.{IsCall, Never, call_as, call_twice}
+use Rattle.running_store.specs.Courses.{Course, Stop, course, force_course, force_steps, is_through}
+use Rattle.running_store.specs.Courses.Stop.{Through, Full}
+use Rattle.running_store.specs.Finished.{IsQuiet}
+use Rattle.running_store.specs.Forced.{IsForced}
+use Rattle.running_store.specs.Kept.{StopsAt}
+use Rattle.running_store.specs.Logged.{log_limit}
+use Rattle.running_store.specs.Parts.{Parts, Shows, meaning_in}
+use Rattle.running_store.specs.StoreView.{StoreView}
+use Rattle.running_store.specs.Taking.{Ending, Follows, Takes}
+use Rattle.running_store.specs.Taking.Ending.{Done, Stopped, Short, Failed}
 use Rattle.checkpointing.specs.Courses.{check_course, checkpoint_course, closing_course}
-use Rattle.checkpointing.specs.Left.{check_ending}
+use Rattle.checkpointing.specs.Left.{Overlong, check_ending, ending_of_close}
+use Rattle.checkpointing.specs.declared.close_err.CloseErr.{CloseErr}
+use Rattle.checkpointing.specs.declared.close_err.CloseErr.TheVariants as of_closing
+use Rattle.checkpointing.proofs.Ended.{call_ends, call_on, unstopped}
 
 module _ {O : Type 0} (m : Meaning O) (w : World O) (used : ℕ) where
   abbrev check : Course O
@@ -69,9 +75,11 @@ module _ {O : Type 0} (meaning : Bounds → Meaning O) (old new : Disk) (before 
     moments = longer_moments Done takes;
   }
 
-  -- there is no memory
-  pub checkpoint_short : Takes meaning old new before after (λ m w used. check_course m w used) Short → Takes meaning old new before after (λ m w used. checkpoint_course m w used) Short
-  checkpoint_short takes = record {
+  -- it fails
+  pub checkpoint_fails : (e : CloseErr) → Takes meaning old new before after (λ m w used. check_course m w used) (ending_of_close {T = Unit {0}} (Err e))
+      → Takes meaning old new before after (λ m w used. checkpoint_course m w used) (ending_of_close {T = Unit {0}} (Err e))
+  checkpoint_fails of_closing.DiskFault takes = record { follows = λ p w shows. tt; moments = longer_moments Failed takes }
+  checkpoint_fails of_closing.Memory takes = record {
     follows = λ p w shows.
         let m = meaning_in meaning p in
         let more = longer m w n in
@@ -80,93 +88,81 @@ module _ {O : Type 0} (meaning : Bounds → Meaning O) (old new : Disk) (before 
     moments = longer_moments Short takes;
   }
 
-  -- the disk fails
-  pub checkpoint_failed : Takes meaning old new before after (λ m w used. check_course m w used) Failed → Takes meaning old new before after (λ m w used. checkpoint_course m w used) Failed
-  checkpoint_failed takes = record { follows = λ p w shows. tt; moments = longer_moments Failed takes }
+  closing_moments : (ending : Ending) → Takes meaning old new before after (λ m w used. check_course m w used) ending → old.tells_moments → (p : Params) (w : World O) → Shows (meaning_in meaning p) p old before w
+      → TakesSome (meaning_in meaning p) p old new w (closing_course (meaning_in meaning p) w n).steps
+  closing_moments ending takes told p w shows = takes.moments told p w shows
 
   -- whether a check has a place or not, it ends a restart
-  closed : (ending : Ending) → Takes meaning old new before after (λ m w used. check_course m w used) ending
-      → ((p : Params) (w : World O) → Shows (meaning_in meaning p) p old before w → Follows (meaning_in meaning p) p new after w (closing_course (meaning_in meaning p) w n) Done)
-      → Takes meaning old new before after (λ m w used. closing_course m w used) Done
-  closed ending takes done = record { follows = done; moments = λ told p w shows. takes.moments told p w shows }
+  pub closing_done : (log : RecordLogView) (placed : Option ℕ) → Takes meaning old new before after (λ m w used. check_course m w used) (check_ending log (Ok placed)) → Takes meaning old new before after (λ m w used. closing_course m w used) Done
+  closing_done log None takes = record { follows = λ p w shows. let is = takes.follows p w shows in (refl, record { shows = is.1.shows; used = is.1.used }); moments = closing_moments _ takes }
+  closing_done log (Some need) takes = record { follows = λ p w shows. let is = takes.follows p w shows in (refl, record { shows = is.1.shows; used = is.1.used }); moments = closing_moments _ takes }
 
-  pub closing_done : Takes meaning old new before after (λ m w used. check_course m w used) Done → Takes meaning old new before after (λ m w used. closing_course m w used) Done
-  closing_done takes = closed Done takes (λ p w shows. let is = takes.follows p w shows in (refl, record { shows = is.1.shows; used = is.1.used }))
-
-  pub closing_full : (stop : Stop) → Takes meaning old new before after (λ m w used. check_course m w used) (Stopped stop) → Takes meaning old new before after (λ m w used. closing_course m w used) Done
-  closing_full stop takes = closed (Stopped stop) takes (λ p w shows. let is = takes.follows p w shows in (refl, record { shows = is.1.shows; used = is.1.used }))
-
-  pub closing_short : Takes meaning old new before after (λ m w used. check_course m w used) Short → Takes meaning old new before after (λ m w used. closing_course m w used) Short
-  closing_short takes = record { follows = λ p w shows. takes.follows p w shows; moments = λ told p w shows. takes.moments told p w shows }
-
-  pub closing_failed : Takes meaning old new before after (λ m w used. check_course m w used) Failed → Takes meaning old new before after (λ m w used. closing_course m w used) Failed
-  closing_failed takes = record { follows = λ p w shows. tt; moments = λ told p w shows. takes.moments told p w shows }
+  pub closing_fails : (e : CloseErr) → Takes meaning old new before after (λ m w used. check_course m w used) (ending_of_close {T = Unit {0}} (Err e))
+      → Takes meaning old new before after (λ m w used. closing_course m w used) (ending_of_close {T = Unit {0}} (Err e))
+  closing_fails of_closing.DiskFault takes = record { follows = λ p w shows. tt; moments = closing_moments Failed takes }
+  closing_fails of_closing.Memory takes = record { follows = λ p w shows. takes.follows p w shows; moments = closing_moments Short takes }
 
 -- the check has no place, and what waits is forced
-module _ {O : Type 0} (meaning : Bounds → Meaning O) {step : Files → Files → Type 0} (old mid new : Disk) (before here after : Parts) (stop : Stop) (stopped : IsFalse (is_through stop)) (runs : Runs step Same old mid)
-    (takes : Takes meaning old mid before here (λ m w used. check_course m w used) (Stopped stop))
-    (taken : mid.tells_moments → (p : Params) (u : World O) → Shows (meaning_in meaning p) p mid here u → TakesSome (meaning_in meaning p) p mid new u (force_steps (meaning_in meaning p) u)) where
-  forced_moments : old.tells_moments → (p : Params) (w : World O) → Shows (meaning_in meaning p) p old before w → TakesSome (meaning_in meaning p) p old new w (checkpoint_course (meaning_in meaning p) w (used_of before.log.log)).steps
-  forced_moments told p w shows =
+module _ {O : Type 0} (meaning : Bounds → Meaning O) (old mid new : Disk) (before here after : Parts) (stop : Stop) (stopped : IsFalse (is_through stop)) (quiet : IsQuiet old mid)
+    (takes : Takes meaning old mid before here (λ m w used. check_course m w used) (Stopped stop)) where
+  forced_moments : (ending : Ending) → Takes meaning mid new here after (λ m w used. force_course m w used) ending → old.tells_moments → (p : Params) (w : World O) → Shows (meaning_in meaning p) p old before w
+      → TakesSome (meaning_in meaning p) p old new w (checkpoint_course (meaning_in meaning p) w (used_of before.log.log)).steps
+  forced_moments ending force told p w shows =
       let m = meaning_in meaning p in
       let is = takes.follows p w shows in
       let n = used_of before.log.log in
       let c = check_course m w n in
       let v = run m w c.steps in
       subst (λ (e : Course O). TakesSome m p old new w e.steps) (sym (stopped_is m w n stop stopped is.0))
-      (moments_twice m p old mid new w c.steps (force_steps m v) (runs.said shows.told) (takes.moments told p w shows) (taken (runs.time.moments_told.0 told) p v is.1.shows))
+      (moments_twice m p old mid new w c.steps (force_steps m v) (quiet.said shows.told) (takes.moments told p w shows) (force.moments (quiet.time.moments_told.0 told) p v is.1.shows))
 
-  pub checkpoint_unforced : Takes meaning old new before after (λ m w used. checkpoint_course m w used) Failed
-  checkpoint_unforced = record { follows = λ p w shows. tt; moments = forced_moments }
+  pub checkpoint_unforced : Takes meaning mid new here after (λ m w used. force_course m w used) Failed → Takes meaning old new before after (λ m w used. checkpoint_course m w used) Failed
+  checkpoint_unforced force = record { follows = λ p w shows. tt; moments = forced_moments Failed force }
 
-  pub checkpoint_full : ((p : Params) (u : World O) → Shows (meaning_in meaning p) p mid here u → Shows (meaning_in meaning p) p new after (run (meaning_in meaning p) u (force_steps (meaning_in meaning p) u)))
-      → used_of after.log.log ≡ used_of here.log.log → Takes meaning old new before after (λ m w used. checkpoint_course m w used) (Stopped stop)
-  checkpoint_full force used = record {
+  pub checkpoint_full : Takes meaning mid new here after (λ m w used. force_course m w used) Done → Takes meaning old new before after (λ m w used. checkpoint_course m w used) (Stopped stop)
+  checkpoint_full force = record {
     follows = λ p w shows.
         let m = meaning_in meaning p in
         let is = takes.follows p w shows in
         let n = used_of before.log.log in
         let c = check_course m w n in
-        let v = run m w c.steps in
+        let done = force.follows p (run m w c.steps) is.1.shows in
         subst (λ (e : Course O). Follows m p new after w e (Stopped stop)) (sym (stopped_is m w n stop stopped is.0)) (
           is.0,
           record {
-            shows = subst (λ (u : World O). Shows m p new after u) (sym (run-append m w c.steps (force_steps m v))) (force p v is.1.shows);
-            used = used ∙ is.1.used;
+            shows = subst (λ (u : World O). Shows m p new after u) (sym (run-append m w c.steps (force_steps m (run m w c.steps)))) done.1.shows;
+            used = done.1.used ∙ is.1.used;
           },
         );
-    moments = forced_moments;
+    moments = forced_moments Done force;
   }
 
--- an error that is handed on ends a call as it ended the call below
-pub ends_as : {T : Type 0} (r : Result T InstallErr) (e : InstallErr) → IsErrAnd r (λ k. k ≡ e) → ended {T = Unit {0}} (Err e) ≡ ended r
-ends_as {T} r e is = let q = err_from_is_err_and r is in both e ∙ ap (λ (k : InstallErr). ended {T = T} (Err k)) (sym q.2) ∙ ap (λ (k : Result T InstallErr). ended k) (sym q.1)
-  where
-    both : (k : InstallErr) → ended {T = Unit {0}} (Err k) ≡ ended {T = T} (Err k)
-    both (LogFull len need limit) = refl
-    both (LsnEnd number) = refl
-    both DiskFault = refl
-    both Memory = refl
+module _ {O : Type 0} (meaning : Bounds → Meaning O) (old new : Disk) (before after : StoreView) where
+  -- an error of a check is no stop
+  pub refused_call : (then : RecordLogView → Stop → Type 0) (e : CloseErr) → IsCall meaning old new before after 0 Overlong (ending_of_close {T = Unit {0}} (Err e)) → IsCall meaning old new before after 0 then (ending_of_close {T = Unit {0}} (Err e))
+  refused_call then e is = call_as meaning old new before after 0 0 Overlong then (ending_of_close {T = Unit {0}} (Err e)) refl (λ stop ends none. absurd (unstopped e stop ends)) is
 
--- a check fails by lack of memory, or by a fault
-module _ {O : Type 0} (meaning : Bounds → Meaning O) (old new : Disk) (before after : Parts) (e : InstallErr) (only : (e ≡ Memory) ⊎ (e ≡ DiskFault))
-    (takes : Takes meaning old new before after (λ m w used. check_course m w used) (ended {T = Unit {0}} (Err e))) where
-  pub checkpoint_fails : Takes meaning old new before after (λ m w used. checkpoint_course m w used) (ended {T = Unit {0}} (Err e))
-  checkpoint_fails = ⊎_elim
-      (λ short. subst (λ (k : InstallErr). Takes meaning old new before after (λ m w used. checkpoint_course m w used) (ended {T = Unit {0}} (Err k))) (sym short)
-      (checkpoint_short meaning old new before after (subst (λ (k : InstallErr). Takes meaning old new before after (λ m w used. check_course m w used) (ended {T = Unit {0}} (Err k))) short takes)))
-      (λ fault. subst (λ (k : InstallErr). Takes meaning old new before after (λ m w used. checkpoint_course m w used) (ended {T = Unit {0}} (Err k))) (sym fault)
-      (checkpoint_failed meaning old new before after (subst (λ (k : InstallErr). Takes meaning old new before after (λ m w used. check_course m w used) (ended {T = Unit {0}} (Err k))) fault takes))) only
+  -- nor does it stop a restart that the check has no place
+  pub closing_call : (placed : Option ℕ) → IsCall meaning old new before after 0 Overlong (check_ending after.parts.log (Ok placed)) → IsCall meaning old new before after 0 Never Done
+  closing_call None is = call_ends meaning old new before after Overlong Never Done Done (λ failed. failed) (λ failed. failed) tt is
+  closing_call (Some need) is = call_ends meaning old new before after Overlong Never (Stopped (Full (used_of after.parts.log.log) need log_limit)) Done (λ failed. failed) (λ failed. failed) tt is
 
-  pub closing_fails : Takes meaning old new before after (λ m w used. closing_course m w used) (ended {T = Unit {0}} (Err e))
-  closing_fails = ⊎_elim
-      (λ short. subst (λ (k : InstallErr). Takes meaning old new before after (λ m w used. closing_course m w used) (ended {T = Unit {0}} (Err k))) (sym short)
-      (closing_short meaning old new before after (subst (λ (k : InstallErr). Takes meaning old new before after (λ m w used. check_course m w used) (ended {T = Unit {0}} (Err k))) short takes)))
-      (λ fault. subst (λ (k : InstallErr). Takes meaning old new before after (λ m w used. closing_course m w used) (ended {T = Unit {0}} (Err k))) (sym fault)
-      (closing_failed meaning old new before after (subst (λ (k : InstallErr). Takes meaning old new before after (λ m w used. check_course m w used) (ended {T = Unit {0}} (Err k))) fault takes))) only
+  pub unbroken_placed : (placed : Option ℕ) → IsCall meaning old new before after 0 Overlong (check_ending after.parts.log (Ok placed)) → after.broken ≡ false
+  unbroken_placed placed is = unbroken_after meaning old new before after 0 Never (closing_call placed is)
 
--- it is done, or has no place
-pub closing_ok : {O : Type 0} (meaning : Bounds → Meaning O) (old new : Disk) (before after : Parts) (log : RecordLogView) (placed : Option ℕ) → Takes meaning old new before after (λ m w used. check_course m w used) (check_ending log (Ok placed))
-    → Takes meaning old new before after (λ m w used. closing_course m w used) Done
-closing_ok meaning old new before after log None takes = closing_done meaning old new before after takes
-closing_ok meaning old new before after log (Some need) takes = closing_full meaning old new before after (Full (used_of log.log) need log_limit) takes
+  -- once what waits is forced, a checkpoint says that the check has no place
+  pub full_call : (mid : Disk) (here : StoreView) (used need : ℕ) → used ≡ used_of here.parts.log.log → IsCall meaning old mid before here 0 Overlong (check_ending here.parts.log (Ok (Some need))) → IsCall meaning mid new here after 0 Never Done
+      → IsForced here.parts.log after.parts.log → IsCall meaning old new before after 0 (StopsAt log_limit) (Stopped (Full used need log_limit))
+  full_call mid here used need same first second forced =
+      let over = first.stopped (Full (used_of here.parts.log.log) need log_limit) refl in
+      let length = ap (λ (r : RecordLogView). used_of r.log) forced in
+      call_ends meaning old new before after Never (StopsAt log_limit) Done (Stopped (Full used need log_limit)) (λ failed. failed) (λ failed. failed)
+      (same ∙ sym length, ap (λ (r : RecordLogView). r.log.pending) forced, omega (arith, over.1, same), refl)
+      (call_twice meaning old mid new before here after 0 0 Never Never Done (call_ends meaning old mid before here Overlong Never (Stopped (Full (used_of here.parts.log.log) need log_limit)) Done (λ failed. failed) (λ failed. failed) tt first) second)
+
+  pub unforced_call : (mid : Disk) (here : StoreView) (need : ℕ) → IsCall meaning old mid before here 0 Overlong (check_ending here.parts.log (Ok (Some need))) → IsCall meaning mid new here after 0 Never Failed
+      → IsCall meaning old new before after 0 (StopsAt log_limit) Failed
+  unforced_call mid here need first second =
+      call_twice meaning old mid new before here after 0 0 Never (StopsAt log_limit) Failed
+      (call_ends meaning old mid before here Overlong Never (Stopped (Full (used_of here.parts.log.log) need log_limit)) Done (λ failed. failed) (λ failed. failed) tt first)
+      (call_on meaning mid new here after Never (StopsAt log_limit) Failed second)

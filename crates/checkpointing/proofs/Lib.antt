@@ -1,12 +1,7 @@
+mod Ended
 mod Starts
-mod Checked
-mod Tails
-mod Base
-mod Then
-mod Rewritten
-mod Stays
 mod CheckLogs
 mod Closing
-mod Trims
-mod Kept
+mod Base
+mod Trimmed
 mod Allowed

@@ -22,9 +22,10 @@ use Rattle.write_graph.specs.Objects.{IsWriter, IsWritten}
 use Rattle.explain_core.specs.GraphLaws.{graph-within}
 use Rattle.explain_core.specs.Sound.{IsSound}
 use Rattle.explain_core.specs.World.{World, graph_access}
-use Rattle.cache_manager.specs.Buffered.{start_bytes}
+use Rattle.running_store.specs.Buffered.{start_bytes}
+use Rattle.running_store.specs.Checks.{IsCheckHere}
 use Rattle.log_records.specs.RecordLog.{RecordLogView}
-use Rattle.checkpointing.specs.Checks.{is_in_log, IsCheckHere}
+use Rattle.checkpointing.specs.Checks.{is_in_log}
 
 -- the objects of starts
 abbrev pub firsts : List (ℕ × ℕ) → List ℕ

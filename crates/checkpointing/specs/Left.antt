@@ -1,26 +1,51 @@
 -- How the calls end, and what they leave on every machine.
-use Rattle.std.specs.Prelude.{◌≡◌, ◌<◌, ⊤, ℕ, Option, None, Some, Result, Ok, Err}
+use Rattle.std.specs.Prelude.{◌≡◌, ◌+◌, ◌<◌, ⊤, ℕ, Option, None, Some, Result, Ok, Err}
 use Rattle.disk_model.specs.declared.machine.FileNo.{FileNo}
 use Rattle.log_frames.specs.LogView.{used_of}
 use Rattle.log_records.specs.RecordLog.{RecordLogView}
-use Rattle.cache_manager.specs.Courses.Stop.{Full, Worn}
-use Rattle.cache_manager.specs.Logged.{log_limit}
-use Rattle.cache_manager.specs.Taking.{Ending, ending_of as ended}
-use Rattle.cache_manager.specs.Taking.Ending.{Done, Stopped, Short, Failed}
-use Rattle.cache_manager.specs.declared.install_err.InstallErr.{InstallErr}
+use Rattle.running_store.specs.Courses.{Stop}
+use Rattle.running_store.specs.Courses.Stop.{Through, Full, At_end, Worn}
+use Rattle.running_store.specs.Logged.{log_limit}
+use Rattle.running_store.specs.Parts.{Parts}
+use Rattle.running_store.specs.Taking.{Ending}
+use Rattle.running_store.specs.Taking.Ending.{Done, Stopped, Short, Failed}
+use Rattle.checkpointing.specs.declared.check_err.CheckErr.{CheckErr}
+use Rattle.checkpointing.specs.declared.check_err.CheckErr.TheVariants as of_check
+use Rattle.checkpointing.specs.declared.close_err.CloseErr.{CloseErr}
+use Rattle.checkpointing.specs.declared.close_err.CloseErr.TheVariants as of_closing
 use Rattle.checkpointing.specs.declared.trim_err.TrimErr.{TrimErr}
 use Rattle.checkpointing.specs.declared.trim_err.TrimErr.TheVariants.{Exhausted, DiskFault, Damaged, LogFull, Memory}
 
--- no number is given, and no command is added
-pub record KeepsCounts (before after : RecordLogView) : Type 0 where
-  pub next : after.next ≡ before.next
-  pub accepted : after.accepted ≡ before.accepted
+-- no number is given, and no command is added; the objects and the graph are as they were
+pub record KeepsCounts (before after : Parts) : Type 0 where
+  pub next : after.log.next ≡ before.log.next
+  pub accepted : after.log.accepted ≡ before.log.accepted
+  pub same : after.store ≡ before.store
+
+-- how a call ended that answers so
+abbrev pub ending_of_close : {T : Type 0} → Result T CloseErr → Ending
+ending_of_close (Ok value) = Done
+ending_of_close (Err of_closing.DiskFault) = Failed
+ending_of_close (Err of_closing.Memory) = Short
 
 -- how the taking of a check ends: where it has no place in the log, a block of it needs so many bytes more
-abbrev pub check_ending : RecordLogView → Result (Option ℕ) InstallErr → Ending
+abbrev pub check_ending : RecordLogView → Result (Option ℕ) CloseErr → Ending
 check_ending log (Ok None) = Done
 check_ending log (Ok (Some need)) = Stopped (Full (used_of log.log) need log_limit)
-check_ending log (Err e) = ended {T = Unit {0}} (Err e)
+check_ending log (Err e) = ending_of_close {T = Unit {0}} (Err e)
+
+-- it is stopped only where the log would be longer than the limit
+abbrev pub Overlong : RecordLogView → Stop → Type 0
+Overlong log Through = ⊥
+Overlong log (Full used need limit) = (used ≡ used_of log.log) × (limit < used + need) × (limit ≡ log_limit)
+Overlong log (At_end number) = ⊥
+Overlong log (Worn epoch) = ⊥
+
+abbrev pub ending_of_check : {T : Type 0} → Result T CheckErr → Ending
+ending_of_check (Ok value) = Done
+ending_of_check (Err (of_check.LogFull used need limit)) = Stopped (Full used need limit)
+ending_of_check (Err of_check.DiskFault) = Failed
+ending_of_check (Err of_check.Memory) = Short
 
 -- How a trim ends. Of a damaged log nothing was rewritten, as without memory.
 abbrev pub ending_of : {T : Type 0} → Result T TrimErr → Ending

@@ -2,7 +2,8 @@
 use Rattle.std.specs.Prelude.{ℕ}
 use Rattle.explain_core.specs.World.{World, run}
 use Rattle.explain_core.specs.declared.byte_op.ByteOp.{ByteOp}
-use Rattle.cache_manager.specs.Courses.{Course, install_course}
+use Rattle.running_store.specs.Courses.{Course}
+use Rattle.cache_manager.specs.InstallCourses.{install_course}
 use Rattle.cache_manager.specs.Worked.{two_objects, apart_put}
 use Rattle.checkpointing.specs.Courses.{checkpoint_course, closing_course, trim_course}
 

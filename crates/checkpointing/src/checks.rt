@@ -1,71 +1,51 @@
 // Checks: a checkpoint, and the one with which a restart ends.
-ghost use Rattle.std.specs.Prelude.{◌⊎◌, ℕ, IsOk, OnOk, IsErrOf};
-ghost use Rattle.disk_model.specs.Disk.{Rises, IsSettled};
-ghost use Rattle.cache_manager.specs.Finished.{IsQuiet};
-ghost use Rattle.cache_manager.specs.Kept.{AreKept, StopsOnly};
-ghost use Rattle.cache_manager.specs.Logged.{log_limit};
-ghost use Rattle.cache_manager.specs.Parts.{parts};
-ghost use Rattle.cache_manager.specs.Taking.{ArePartsInUse, Takes, ending_of};
+ghost use Rattle.std.specs.Prelude.{◌≡◌, false};
+ghost use Rattle.running_store.specs.Calls.{IsCall, Never};
+ghost use Rattle.running_store.specs.Kept.{StopsAt};
+ghost use Rattle.running_store.specs.Logged.{log_limit};
+ghost use Rattle.running_store.specs.Taking.{Takes};
 ghost use Rattle.checkpointing.specs.Courses.{checkpoint_course, closing_course};
-ghost use Rattle.checkpointing.specs.Left.{KeepsCounts};
+ghost use Rattle.checkpointing.specs.Left.{KeepsCounts, ending_of_check, ending_of_close};
 
 use crate::logging::{LOG_LIMIT, take_check};
-use cache_manager::{InstallErr, Objects, force_all};
+use crate::{CheckErr, CloseErr};
 use disk_model::Machine;
-use log_records::RecordLog;
 use oper_core::Oper;
-use write_graph::WriteGraph;
+use running_store::Store;
 
 /// Takes a check of where a redo begins now, and forces it. Where the log has no room for it, what waits is forced, and
-/// `LogFull` says how long the log then is, and what a block of the check would add. It never answers `LsnEnd`.
+/// `LogFull` says how long the log then is, and what a block of the check would add.
 pub fn checkpoint<O: Oper, M: Machine>(
-    log: &mut RecordLog<O>,
-    objects: &Objects,
-    graph: &WriteGraph,
+    store: &mut Store<O>,
     machine: &mut M,
-) -> Result<(), InstallErr>
-    requires in_use { ArePartsInUse (parts log.old objects.now graph.now.entries) }
-    ensures takes { Takes O.meaning (M.disk machine.old) (M.disk machine.new) (parts log.old objects.now graph.now.entries)
-        (parts log.new objects.now graph.now.entries) (λ m w used. checkpoint_course m w used) (ending_of result) }
-    ensures quiet { IsQuiet (M.disk machine.old) (M.disk machine.new) }
-    ensures kept { IsErrOf result InstallErr.DiskFault ⊎ AreKept O.meaning (M.disk machine.old) (M.disk machine.new)
-        (parts log.old objects.now graph.now.entries) (parts log.new objects.now graph.now.entries) }
-    ensures counts { KeepsCounts log.old log.new }
-    ensures stops { StopsOnly log_limit log.new (ending_of result) }
-    ensures numbered { (number : ℕ) → IsErrOf result (InstallErr.LsnEnd number) → ⊥ }
-    ensures cause { IsErrOf result InstallErr.DiskFault → Rises (M.disk machine.old).disk_faults (M.disk machine.new).disk_faults }
+) -> Result<(), CheckErr>
+    requires unbroken { store.old.broken ≡ false }
+    ensures call { IsCall O.meaning (M.disk machine.old) (M.disk machine.new) store.old store.new 0 (StopsAt log_limit) (ending_of_check result) }
+    ensures takes { Takes O.meaning (M.disk machine.old) (M.disk machine.new) store.old.parts store.new.parts (λ m w used. checkpoint_course m w used) (ending_of_check result) }
+    ensures counts { KeepsCounts store.old.parts store.new.parts }
 {
-    let Some(need) = take_check::<O, M>(log, objects, graph, machine)? else {
+    let Some(need) = take_check(store, machine)? else {
         return Ok(());
     };
-    let used = log.used();
-    force_all(log, machine)?;
-    Err(InstallErr::LogFull {
+    let used = store.log().used();
+    store.force(machine)?;
+    Err(CheckErr::LogFull {
         used,
         need,
         limit: LOG_LIMIT,
     })
 }
 
-/// Takes a check of where a redo begins now and forces it, where the log has room for it; else it takes none. It answers
-/// neither `LogFull` nor `LsnEnd`.
+/// Takes a check of where a redo begins now and forces it, where the log has room for it; else it takes none.
 pub fn closing_check<O: Oper, M: Machine>(
-    log: &mut RecordLog<O>,
-    objects: &Objects,
-    graph: &WriteGraph,
+    store: &mut Store<O>,
     machine: &mut M,
-) -> Result<(), InstallErr>
-    requires in_use { ArePartsInUse (parts log.old objects.now graph.now.entries) }
-    ensures takes { Takes O.meaning (M.disk machine.old) (M.disk machine.new) (parts log.old objects.now graph.now.entries)
-        (parts log.new objects.now graph.now.entries) (λ m w used. closing_course m w used) (ending_of result) }
-    ensures quiet { IsQuiet (M.disk machine.old) (M.disk machine.new) }
-    ensures kept { IsErrOf result InstallErr.DiskFault ⊎ AreKept O.meaning (M.disk machine.old) (M.disk machine.new)
-        (parts log.old objects.now graph.now.entries) (parts log.new objects.now graph.now.entries) }
-    ensures settled { IsSettled (M.disk machine.old) → OnOk result (IsSettled (M.disk machine.new)) }
-    ensures counts { KeepsCounts log.old log.new }
-    ensures only { (IsErrOf result InstallErr.DiskFault ⊎ IsErrOf result InstallErr.Memory) ⊎ IsOk result }
-    ensures cause { IsErrOf result InstallErr.DiskFault → Rises (M.disk machine.old).disk_faults (M.disk machine.new).disk_faults }
+) -> Result<(), CloseErr>
+    requires unbroken { store.old.broken ≡ false }
+    ensures call { IsCall O.meaning (M.disk machine.old) (M.disk machine.new) store.old store.new 0 Never (ending_of_close result) }
+    ensures takes { Takes O.meaning (M.disk machine.old) (M.disk machine.new) store.old.parts store.new.parts (λ m w used. closing_course m w used) (ending_of_close result) }
+    ensures counts { KeepsCounts store.old.parts store.new.parts }
 {
-    take_check::<O, M>(log, objects, graph, machine)?;
+    take_check(store, machine)?;
     Ok(())
 }

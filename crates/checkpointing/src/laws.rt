@@ -2,7 +2,7 @@ ghost use Rattle.std.specs.Prelude.{ℕ};
 ghost use Rattle.oper_core.specs.Meaning.{IsSmall};
 ghost use Rattle.oper_core.specs.declared.bounds.Bounds.{Bounds};
 ghost use Rattle.explain_core.specs.World.{World};
-ghost use Rattle.cache_manager.specs.Running.{IsRunning, MayBeTaken};
+ghost use Rattle.running_store.specs.Running.{IsRunning, MayBeTaken};
 ghost use Rattle.checkpointing.specs.Courses.{checkpoint_course, closing_course, trim_course};
 
 use oper_core::Oper;

@@ -1,7 +1,7 @@
 ghost use Rattle.std.specs.Prelude.{◌≡◌, ◌^◌, [], ◌∷◌};
 ghost use Rattle.explain_core.specs.World.Step.{Block_gate, Check, Header_gate};
-ghost use Rattle.cache_manager.specs.Courses.{course};
-ghost use Rattle.cache_manager.specs.Courses.Stop.{Full, Through, Worn};
+ghost use Rattle.running_store.specs.Courses.{course};
+ghost use Rattle.running_store.specs.Courses.Stop.{Full, Through, Worn};
 ghost use Rattle.checkpointing.specs.Worked.{checkpoint_both, closing_both, trim_both, trim_one};
 
 /// Two objects are put and not installed: a check has a start for each, so its record has 37 bytes, which go into the block

@@ -1,4 +1,4 @@
-use Rattle.cache_manager.specs.Running.{KeepsSound}
+use Rattle.running_store.specs.Running.{KeepsSound}
 use Rattle.checkpointing.proofs.Allowed.{closing_taken}
 use Rattle.checkpointing.proofs.laws.closing_check_may_be_taken.Goals as goal
 

@@ -1,137 +1,161 @@
-use Rattle.std.proofs.Common.{◌≡◌, sym, subst, ap, inr, ℕ, ◌+◌, ◌-◌, ◌*◌, ◌<◌, ◌≤◌, length, arith}
-use Rattle.oper_core.specs.declared.bounds.Bounds.{Bounds}
-use Rattle.formats.specs.Objects.{bounds_of}
+use Rattle.std.proofs.Common.{◌≡◌, ◌∙◌, subst, ap, ℕ, ◌+◌, ◌-◌, ◌*◌, ◌<◌, ◌≤◌, length, refl, arith, Option}
+use Rattle.std.specs.Prelude.{Result}
 use Rattle.log_frames.specs.LogView.{used_of, growth_of}
 use Rattle.log_records.specs.RecordLog.{RecordLogView}
-use Rattle.explain_core.specs.World.{step}
-use Rattle.explain_core.specs.World.Step.{Check}
-use Rattle.cache_manager.specs.Forced.{IsForced}
-use Rattle.cache_manager.specs.Growth.{growth_some}
-use Rattle.cache_manager.specs.Kept.{HasLog}
-use Rattle.cache_manager.specs.KeptLaws.{forced_log, roomed_log}
-use Rattle.cache_manager.specs.Logged.{log_limit}
-use Rattle.cache_manager.specs.Parts.{Shows}
-use Rattle.cache_manager.specs.Taking.{Follows}
-use Rattle.cache_manager.specs.Taking.Ending.{Short}
-use Rattle.checkpointing.specs.Checks.{IsCheckHere}
+use Rattle.running_store.specs.CallLaws.{unbroken_after}
+use Rattle.running_store.specs.Calls.{IsCall, Never, call_none, call_twice}
+use Rattle.running_store.specs.Checks.{checked_call, checked_takes}
+use Rattle.running_store.specs.Courses.Stop.{Full}
+use Rattle.running_store.specs.Growth.{growth_some}
+use Rattle.running_store.specs.Logged.{log_limit}
+use Rattle.running_store.specs.Taking.{Takes}
+use Rattle.running_store.specs.Taking.Ending.{Done, Short, Failed, Stopped}
+use Rattle.running_store.specs.Writes.{unwritten_call, unwritten_takes}
+use Rattle.running_store.specs.Written.{room_is_place}
 use Rattle.checkpointing.specs.Courses.{logged_course}
-use Rattle.checkpointing.proofs.Checked.{with_check, check_used, checked_log, checked_shows, check_shows, check_moments}
-use Rattle.checkpointing.proofs.CheckLogs.{full_follows, short_follows, logged_follows, logged_moments, none_moments}
-use Rattle.checkpointing.proofs.Kept.{by_fault}
+use Rattle.checkpointing.specs.Left.{Overlong, check_ending}
+use Rattle.checkpointing.specs.declared.close_err.CloseErr.{CloseErr}
+use Rattle.checkpointing.specs.declared.close_err.CloseErr.TheVariants.{DiskFault, Memory}
+use Rattle.checkpointing.proofs.CheckLogs.{growth_low, takes_full, takes_logged}
+use Rattle.checkpointing.proofs.Ended.{call_ends, call_on, counts_checked, counts_forced, counts_none, counts_twice, is_err}
 use Rattle.checkpointing.proofs.logging.log_check.Goals as goal
 
--- a growth below what is left below the limit
-fits : (used limit left growth other : ℕ) → growth ≤ left → left ≡ limit - used → 0 < growth → other ≡ growth → used + other ≤ limit
-fits used limit left growth other low is some same = omega (arith, low, is, some, same)
+-- what a record of so many bytes would add to the log, beside what is left below the limit
+module _ (given log : RecordLogView) (same : given ≡ log) (limit used n k growth left : ℕ) (used_is : used ≡ used_of given.log) (n_is : n ≡ k) (growth_is : growth ≡ growth_of given.log.pending n) (left_is : left ≡ limit - used) where
+  grows : growth ≡ growth_of log.log.pending k
+  grows = growth_is ∙ (λ i. growth_of (same i).log.pending (n_is i))
 
-pub returns-then-saturating_sub-growth-clause-follows : goal.returns-then-saturating_sub-growth-clause-follows
-returns-then-saturating_sub-growth-clause-follows g c = λ p it v shows now.
-    let m = g.O.Oper.meaning (bounds_of p) in
+  is_used : used ≡ used_of log.log
+  is_used = used_is ∙ ap (λ (l : RecordLogView). used_of l.log) same
+
+  over : left < growth → limit < used_of log.log + growth_of log.log.pending k
+  over past = omega (arith, past, left_is, is_used, grows)
+
+  fits : growth ≤ left → 0 < k → used_of log.log + growth_of log.log.pending k ≤ limit
+  fits low some = omega (arith, low, left_is, is_used, grows, growth_some log.log.pending k some)
+
+pub returns-then-saturating_sub-growth-clause-call : goal.returns-then-saturating_sub-growth-clause-call
+returns-then-saturating_sub-growth-clause-call g c =
     let d = g.M.Machine.disk c.args.machine.now in
-    let log = c.args.log.now in
-    let here = subst (λ (b : Bounds). IsCheckHere (g.O.Oper.meaning b) log c.args.table) shows.bounds c.requires.check in
-    full_follows m p d log it v shows c.args.table now here (c.check_bytes-n.result + 5) (omega (arith, c.check_bytes-n.ensures))
-    (omega (arith, c.if-saturating_sub-growth.true, c.saturating_sub.ensures, c.used.ensures, c.growth.ensures, ap (λ (k : ℕ). growth_of log.log.pending k) c.check_bytes-n.ensures))
+    let it = c.args.store.now in
+    let log = it.parts.log in
+    let n = 13 + 12 * length c.args.table.starts in
+    let past : log_limit < used_of log.log + growth_of log.log.pending n =
+    over c.log-log.result.now log c.log-log.ensures log_limit c.used.result c.check_bytes-n.result n c.growth.result c.saturating_sub.result c.used.ensures c.check_bytes-n.ensures c.growth.ensures c.saturating_sub.ensures c.if-saturating_sub-growth.true in
+    call_ends g.O.Oper.meaning d d it it Never Overlong Done (Stopped (Full (used_of log.log) (c.check_bytes-n.result + 5) log_limit)) (λ failed. failed) (λ failed. failed)
+    (refl, omega (arith, past, growth_low log.log.pending n, c.check_bytes-n.ensures), refl) (call_none g.O.Oper.meaning d it Never (g.met.M.Machine.lawful c.args.machine.now) c.requires.unbroken)
 
-pub returns-then-saturating_sub-growth-clause-moments : goal.returns-then-saturating_sub-growth-clause-moments
-returns-then-saturating_sub-growth-clause-moments g c = λ told p it v shows now.
-    let m = g.O.Oper.meaning (bounds_of p) in
+pub returns-then-saturating_sub-growth-clause-takes : goal.returns-then-saturating_sub-growth-clause-takes
+returns-then-saturating_sub-growth-clause-takes g c = λ now.
     let d = g.M.Machine.disk c.args.machine.now in
-    let log = c.args.log.now in
-    let here = subst (λ (b : Bounds). IsCheckHere (g.O.Oper.meaning b) log c.args.table) shows.bounds c.requires.check in
-    none_moments m p d log it v shows c.args.table now here (g.met.M.Machine.lawful c.args.machine.now) told
+    let it = c.args.store.now in
+    let log = it.parts.log in
+    let n = 13 + 12 * length c.args.table.starts in
+    let past : log_limit < used_of log.log + growth_of log.log.pending n =
+    over c.log-log.result.now log c.log-log.ensures log_limit c.used.result c.check_bytes-n.result n c.growth.result c.saturating_sub.result c.used.ensures c.check_bytes-n.ensures c.growth.ensures c.saturating_sub.ensures c.if-saturating_sub-growth.true in
+    takes_full g.O.Oper.meaning d it.parts c.args.table c.requires.check now (g.met.M.Machine.lawful c.args.machine.now) (used_of log.log) (c.check_bytes-n.result + 5) refl (omega (arith, c.check_bytes-n.ensures)) past
 
-pub returns-in_default-clause-follows : goal.returns-in_default-clause-follows
-returns-in_default-clause-follows g c = λ p it v shows now.
-    let m = g.O.Oper.meaning (bounds_of p) in
+pub returns-then-saturating_sub-growth-clause-counts : goal.returns-then-saturating_sub-growth-clause-counts
+returns-then-saturating_sub-growth-clause-counts g c = counts_none c.args.store.now
+
+pub append_check-requires-clause-place : goal.append_check-requires-clause-place
+append_check-requires-clause-place g c =
+    let log = c.args.store.now.parts.log in
+    let n = 13 + 12 * length c.args.table.starts in
+    room_is_place log.log n n refl c.requires.room
+    (fits c.log-log.result.now log c.log-log.ensures log_limit c.used.result c.check_bytes-n.result n c.growth.result c.saturating_sub.result c.used.ensures c.check_bytes-n.ensures c.growth.ensures c.saturating_sub.ensures
+    c.if-saturating_sub-growth.false (omega arith))
+
+pub returns-in_err-append_check-clause-call : goal.returns-in_err-append_check-clause-call
+returns-in_err-append_check-clause-call g c =
     let d = g.M.Machine.disk c.args.machine.now in
-    let log = c.args.log.now in
-    let here = subst (λ (b : Bounds). IsCheckHere (g.O.Oper.meaning b) log c.args.table) shows.bounds c.requires.check in
-    let after = c.append.new.self in
-    subst (λ (r : RecordLogView). Follows m p d (record { log = r; store = it }) v (logged_course m v (used_of log.log)) Short) (sym c.in_default.ensures.err)
-    (short_follows m p d log it v shows c.args.table now here after.log.room)
+    let it = c.args.store.now in
+    let after = c.append_check.new.self in
+    subst (λ (r : Result (Option ℕ) CloseErr). IsCall g.O.Oper.meaning d d it after 0 Overlong (check_ending after.parts.log r)) (is_err c.from_residual.result Memory c.from_residual.ensures.1)
+    (call_on g.O.Oper.meaning d d it after Never Overlong Short (unwritten_call g.O.Oper.meaning it after c.requires.unbroken d (g.met.M.Machine.lawful c.args.machine.now) c.in_err-append_check.ensures))
 
-pub returns-in_default-clause-moments : goal.returns-in_default-clause-moments
-returns-in_default-clause-moments g c = λ told p it v shows now.
-    let m = g.O.Oper.meaning (bounds_of p) in
+pub returns-in_err-append_check-clause-takes : goal.returns-in_err-append_check-clause-takes
+returns-in_err-append_check-clause-takes g c = λ now.
     let d = g.M.Machine.disk c.args.machine.now in
-    let log = c.args.log.now in
-    let here = subst (λ (b : Bounds). IsCheckHere (g.O.Oper.meaning b) log c.args.table) shows.bounds c.requires.check in
-    none_moments m p d log it v shows c.args.table now here (g.met.M.Machine.lawful c.args.machine.now) told
+    let it = c.args.store.now in
+    let after = c.append_check.new.self in
+    subst (λ (r : Result (Option ℕ) CloseErr). Takes g.O.Oper.meaning d d it.parts after.parts (λ m w used. logged_course m w used) (check_ending after.parts.log r)) (is_err c.from_residual.result Memory c.from_residual.ensures.1)
+    (unwritten_takes g.O.Oper.meaning it after c.requires.unbroken d (g.met.M.Machine.lawful c.args.machine.now) c.in_err-append_check.ensures (λ m w used. logged_course m w used))
 
-pub returns-in_err-force_all-clause-moments : goal.returns-in_err-force_all-clause-moments
-returns-in_err-force_all-clause-moments g c = λ told p it v shows now.
-    let m = g.O.Oper.meaning (bounds_of p) in
+pub returns-in_err-append_check-clause-counts : goal.returns-in_err-append_check-clause-counts
+returns-in_err-append_check-clause-counts g c = counts_checked c.args.store.now c.append_check.new.self g.O.Oper.meaning c.args.table c.append_check.result c.append_check.ensures
+
+pub force-requires : goal.force-requires
+force-requires g c =
     let d = g.M.Machine.disk c.args.machine.now in
-    let new = g.M.Machine.disk c.force_all.new.machine in
-    let log = c.args.log.now in
-    let table = c.args.table in
-    let here = subst (λ (b : Bounds). IsCheckHere (g.O.Oper.meaning b) log table) shows.bounds c.requires.check in
-    let after = c.append.new.self in
-    let eq : after ≡ with_check m log table after.log.room = subst (λ (b : Bounds). after ≡ with_check (g.O.Oper.meaning b) log table after.log.room) shows.bounds c.in-Ok.ensures.ok in
-    let sound = c.check_keeps.ensures (bounds_of p) v shows.running.sound (shows.running.live, shows.running.alone) in
-    let u = step m v Check in
-    let shown = subst (λ (r : RecordLogView). Shows m p d (record { log = r; store = it }) u) (sym eq) (checked_shows m log table after.log.room p d it v shows now here sound) in
-    let growth = ap (λ (k : ℕ). growth_of log.log.pending k) c.check_bytes-n.ensures in
-    let room = fits (used_of log.log) log_limit c.saturating_sub.result c.growth.result (growth_of log.log.pending (13 + 12 * length table.starts)) c.if-saturating_sub-growth.false (omega (arith, c.saturating_sub.ensures, c.used.ensures))
-    (omega (arith, c.growth.ensures, growth, growth_some log.log.pending (13 + 12 * length table.starts) (omega arith))) (omega (arith, c.growth.ensures, growth)) in
-    logged_moments m p d log it v shows table now here new room
-    (check_moments m log table after.log.room p d it v shows now here sound new (g.met.M.Machine.lawful c.args.machine.now) told (c.force_all.ensures.moments told p it u shown))
+    let it = c.args.store.now in
+    let here = c.append_check.new.self in
+    record { unbroken = unbroken_after g.O.Oper.meaning d d it here 0 Never (checked_call g.O.Oper.meaning it here c.requires.unbroken d (g.met.M.Machine.lawful c.args.machine.now) c.args.table c.in_ok-append_check.ensures) }
 
-pub returns-clause-moments : goal.returns-clause-moments
-returns-clause-moments g c = λ told p it v shows now.
-    let m = g.O.Oper.meaning (bounds_of p) in
-    let d = g.M.Machine.disk c.args.machine.now in
-    let new = g.M.Machine.disk c.force_all.new.machine in
-    let log = c.args.log.now in
-    let table = c.args.table in
-    let here = subst (λ (b : Bounds). IsCheckHere (g.O.Oper.meaning b) log table) shows.bounds c.requires.check in
-    let after = c.append.new.self in
-    let eq : after ≡ with_check m log table after.log.room = subst (λ (b : Bounds). after ≡ with_check (g.O.Oper.meaning b) log table after.log.room) shows.bounds c.in-Ok.ensures.ok in
-    let sound = c.check_keeps.ensures (bounds_of p) v shows.running.sound (shows.running.live, shows.running.alone) in
-    let u = step m v Check in
-    let shown = subst (λ (r : RecordLogView). Shows m p d (record { log = r; store = it }) u) (sym eq) (checked_shows m log table after.log.room p d it v shows now here sound) in
-    let growth = ap (λ (k : ℕ). growth_of log.log.pending k) c.check_bytes-n.ensures in
-    let room = fits (used_of log.log) log_limit c.saturating_sub.result c.growth.result (growth_of log.log.pending (13 + 12 * length table.starts)) c.if-saturating_sub-growth.false (omega (arith, c.saturating_sub.ensures, c.used.ensures))
-    (omega (arith, c.growth.ensures, growth, growth_some log.log.pending (13 + 12 * length table.starts) (omega arith))) (omega (arith, c.growth.ensures, growth)) in
-    logged_moments m p d log it v shows table now here new room
-    (check_moments m log table after.log.room p d it v shows now here sound new (g.met.M.Machine.lawful c.args.machine.now) told (c.force_all.ensures.moments told p it u shown))
-
-pub returns-clause-follows : goal.returns-clause-follows
-returns-clause-follows g c = λ p it v shows now.
-    let m = g.O.Oper.meaning (bounds_of p) in
-    let d = g.M.Machine.disk c.args.machine.now in
-    let new = g.M.Machine.disk c.force_all.new.machine in
-    let log = c.args.log.now in
-    let table = c.args.table in
-    let here = subst (λ (b : Bounds). IsCheckHere (g.O.Oper.meaning b) log table) shows.bounds c.requires.check in
-    let after = c.append.new.self in
-    let last = c.force_all.new.log in
-    let eq : after ≡ with_check m log table after.log.room = subst (λ (b : Bounds). after ≡ with_check (g.O.Oper.meaning b) log table after.log.room) shows.bounds c.in-Ok.ensures.ok in
-    let sound = c.check_keeps.ensures (bounds_of p) v shows.running.sound (shows.running.live, shows.running.alone) in
-    let u = step m v Check in
-    let shown = subst (λ (r : RecordLogView). Shows m p d (record { log = r; store = it }) u) (sym eq) (checked_shows m log table after.log.room p d it v shows now here sound) in
-    let growth = ap (λ (k : ℕ). growth_of log.log.pending k) c.check_bytes-n.ensures in
-    let room = fits (used_of log.log) log_limit c.saturating_sub.result c.growth.result (growth_of log.log.pending (13 + 12 * length table.starts)) c.if-saturating_sub-growth.false (omega (arith, c.saturating_sub.ensures, c.used.ensures))
-    (omega (arith, c.growth.ensures, growth, growth_some log.log.pending (13 + 12 * length table.starts) (omega arith))) (omega (arith, c.growth.ensures, growth)) in
-    let forced = subst (λ (r : RecordLogView). IsForced r last) eq c.in_ok-force_all.ensures.forced in
-    logged_follows m p d log it v shows table now here new last room (check_used m log table after.log.room last forced here.bytes)
-    (check_shows m log table after.log.room p d it v shows now here sound new last (c.in_ok-force_all.ensures.shows p it u shown))
-
-pub returns-then-saturating_sub-growth-clause-keeps : goal.returns-then-saturating_sub-growth-clause-keeps
-returns-then-saturating_sub-growth-clause-keeps g c = inr (λ told has. has)
-
-pub returns-in_default-clause-keeps : goal.returns-in_default-clause-keeps
-returns-in_default-clause-keeps g c = inr (roomed_log g.O.Oper.meaning (g.M.Machine.disk c.args.machine.now) c.args.log.now c.append.new.self c.in_default.ensures.err)
-
-pub returns-in_err-force_all-clause-keeps : goal.returns-in_err-force_all-clause-keeps
-returns-in_err-force_all-clause-keeps g c = by_fault c.from_residual.result c.from_residual.ensures.1
-
-pub returns-clause-keeps : goal.returns-clause-keeps
-returns-clause-keeps g c = inr (λ told has.
+pub returns-in_err-force-clause-call : goal.returns-in_err-force-clause-call
+returns-in_err-force-clause-call g c =
     let meaning = g.O.Oper.meaning in
     let d = g.M.Machine.disk c.args.machine.now in
-    let log = c.args.log.now in
-    let after = c.append.new.self in
-    let appended = subst (λ (r : RecordLogView). HasLog (meaning r.bounds) d r) (sym c.in-Ok.ensures.ok) (checked_log (meaning log.bounds) log c.args.table after.log.room d c.requires.check has) in
-    forced_log meaning d (g.M.Machine.disk c.force_all.new.machine) after c.force_all.new.log c.in_ok-force_all.ensures.forced c.in_ok-force_all.ensures.keeps told appended)
+    let new = g.M.Machine.disk c.force.new.machine in
+    let it = c.args.store.now in
+    let here = c.append_check.new.self in
+    let after = c.force.new.self in
+    let first = checked_call meaning it here c.requires.unbroken d (g.met.M.Machine.lawful c.args.machine.now) c.args.table c.in_ok-append_check.ensures in
+    subst (λ (r : Result (Option ℕ) CloseErr). IsCall meaning d new it after 0 Overlong (check_ending after.parts.log r)) (is_err c.from_residual-in_err-force.result DiskFault c.from_residual-in_err-force.ensures.1)
+    (call_twice meaning d d new it here after 0 0 Never Overlong Failed first (call_on meaning d new here after Never Overlong Failed c.in_err-force.ensures.call))
+
+pub returns-in_err-force-clause-takes : goal.returns-in_err-force-clause-takes
+returns-in_err-force-clause-takes g c = λ now.
+    let meaning = g.O.Oper.meaning in
+    let d = g.M.Machine.disk c.args.machine.now in
+    let new = g.M.Machine.disk c.force.new.machine in
+    let it = c.args.store.now in
+    let here = c.append_check.new.self in
+    let after = c.force.new.self in
+    let table = c.args.table in
+    let n = 13 + 12 * length table.starts in
+    let lawful = g.met.M.Machine.lawful c.args.machine.now in
+    let is = c.in_ok-append_check.ensures in
+    subst (λ (r : Result (Option ℕ) CloseErr). Takes meaning d new it.parts after.parts (λ m w used. logged_course m w used) (check_ending after.parts.log r))
+    (is_err c.from_residual-in_err-force.result DiskFault c.from_residual-in_err-force.ensures.1)
+    (takes_logged meaning d it.parts table c.requires.check now new here.parts after.parts Failed (checked_call meaning it here c.requires.unbroken d lawful table is).quiet
+    (fits c.log-log.result.now it.parts.log c.log-log.ensures log_limit c.used.result c.check_bytes-n.result n c.growth.result c.saturating_sub.result c.used.ensures c.check_bytes-n.ensures c.growth.ensures c.saturating_sub.ensures
+    c.if-saturating_sub-growth.false (omega arith))
+    (checked_takes meaning it here c.requires.unbroken d lawful table is c.check_keeps.ensures now) c.in_err-force.ensures.takes)
+
+pub returns-in_err-force-clause-counts : goal.returns-in_err-force-clause-counts
+returns-in_err-force-clause-counts g c =
+    counts_twice c.args.store.now c.append_check.new.self c.force.new.self (counts_checked c.args.store.now c.append_check.new.self g.O.Oper.meaning c.args.table c.append_check.result c.append_check.ensures)
+    (counts_forced c.append_check.new.self c.force.new.self c.force.result c.force.ensures.forced)
+
+pub returns-clause-call : goal.returns-clause-call
+returns-clause-call g c =
+    let meaning = g.O.Oper.meaning in
+    let d = g.M.Machine.disk c.args.machine.now in
+    let new = g.M.Machine.disk c.force.new.machine in
+    let it = c.args.store.now in
+    let here = c.append_check.new.self in
+    let after = c.force.new.self in
+    call_twice meaning d d new it here after 0 0 Never Overlong Done (checked_call meaning it here c.requires.unbroken d (g.met.M.Machine.lawful c.args.machine.now) c.args.table c.in_ok-append_check.ensures)
+    (call_on meaning d new here after Never Overlong Done c.in_ok-force.ensures.call)
+
+pub returns-clause-takes : goal.returns-clause-takes
+returns-clause-takes g c = λ now.
+    let meaning = g.O.Oper.meaning in
+    let d = g.M.Machine.disk c.args.machine.now in
+    let new = g.M.Machine.disk c.force.new.machine in
+    let it = c.args.store.now in
+    let here = c.append_check.new.self in
+    let table = c.args.table in
+    let n = 13 + 12 * length table.starts in
+    let lawful = g.met.M.Machine.lawful c.args.machine.now in
+    let is = c.in_ok-append_check.ensures in
+    takes_logged meaning d it.parts table c.requires.check now new here.parts c.force.new.self.parts Done (checked_call meaning it here c.requires.unbroken d lawful table is).quiet
+    (fits c.log-log.result.now it.parts.log c.log-log.ensures log_limit c.used.result c.check_bytes-n.result n c.growth.result c.saturating_sub.result c.used.ensures c.check_bytes-n.ensures c.growth.ensures c.saturating_sub.ensures
+    c.if-saturating_sub-growth.false (omega arith))
+    (checked_takes meaning it here c.requires.unbroken d lawful table is c.check_keeps.ensures now) c.in_ok-force.ensures.takes
+
+pub returns-clause-counts : goal.returns-clause-counts
+returns-clause-counts g c =
+    counts_twice c.args.store.now c.append_check.new.self c.force.new.self (counts_checked c.args.store.now c.append_check.new.self g.O.Oper.meaning c.args.table c.append_check.result c.append_check.ensures)
+    (counts_forced c.append_check.new.self c.force.new.self c.force.result c.force.ensures.forced)

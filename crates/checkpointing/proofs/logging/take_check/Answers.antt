@@ -1,36 +1,76 @@
-use Rattle.std.proofs.Common.{subst, ℕ, inl, inr, ⊎_elim}
-use Rattle.explain_core.specs.World.{run}
-use Rattle.standing.specs.Moments.{TakesSome}
-use Rattle.cache_manager.specs.Courses.{room_steps}
-use Rattle.cache_manager.specs.KeptLaws.{log_twice}
-use Rattle.cache_manager.specs.Parts.{Parts, Shows, meaning_in, parts, store}
-use Rattle.cache_manager.specs.Taking.{Ending, Takes}
-use Rattle.checkpointing.specs.Courses.{check_course}
-use Rattle.checkpointing.specs.Left.{check_ending}
-use Rattle.checkpointing.proofs.CheckLogs.{ends_failed, ends_short, no_room, room_kept, room_then, takes_nothing}
-use Rattle.checkpointing.proofs.Kept.{by_fault, runs_on_log}
+use Rattle.std.proofs.Common.{subst, ℕ, Option}
+use Rattle.std.specs.Prelude.{Result}
+use Rattle.running_store.specs.CallLaws.{unbroken_after}
+use Rattle.running_store.specs.Calls.{IsCall, Never, call_none, call_twice}
+use Rattle.running_store.specs.Taking.{Takes}
+use Rattle.running_store.specs.Taking.Ending.{Done, Short, Failed}
+use Rattle.running_store.specs.TakesLaws.{takes_both, takes_first, takes_nothing}
+use Rattle.checkpointing.specs.Courses.{check_course, logged_course}
+use Rattle.checkpointing.specs.Left.{Overlong, check_ending}
+use Rattle.checkpointing.specs.declared.close_err.CloseErr.{CloseErr}
+use Rattle.checkpointing.specs.declared.close_err.CloseErr.TheVariants.{DiskFault, Memory}
+use Rattle.checkpointing.proofs.CheckLogs.{here_roomed, now_here, room_course, taken_roomed, takes_room}
+use Rattle.checkpointing.proofs.Ended.{call_ends, call_on, counts_none, counts_roomed, counts_twice, is_err}
 use Rattle.checkpointing.proofs.logging.take_check.Goals as goal
+
+pub returns-in_err-table-clause-call : goal.returns-in_err-table-clause-call
+returns-in_err-table-clause-call g c =
+    let d = g.M.Machine.disk c.args.machine.now in
+    let it = c.args.store.now in
+    subst (λ (r : Result (Option ℕ) CloseErr). IsCall g.O.Oper.meaning d d it it 0 Overlong (check_ending it.parts.log r)) (is_err c.from_residual.result Memory c.from_residual.ensures.1)
+    (call_ends g.O.Oper.meaning d d it it Never Overlong Done Short (λ failed. failed) (λ failed. failed) tt (call_none g.O.Oper.meaning d it Never (g.met.M.Machine.lawful c.args.machine.now) c.requires.unbroken))
 
 pub returns-in_err-table-clause-takes : goal.returns-in_err-table-clause-takes
 returns-in_err-table-clause-takes g c =
-    let meaning = g.O.Oper.meaning in
     let d = g.M.Machine.disk c.args.machine.now in
-    let before : Parts = parts c.args.log.now c.args.objects.now c.args.graph.now.entries in
-    subst (λ (k : Ending). Takes meaning d d before before (λ m w used. check_course m w used) k) (ends_short c.args.log.now c.from_residual.result c.from_residual.ensures.1)
-    (takes_nothing meaning d before (λ m w used. check_course m w used) (g.met.M.Machine.lawful c.args.machine.now))
+    let it = c.args.store.now.parts in
+    subst (λ (r : Result (Option ℕ) CloseErr). Takes g.O.Oper.meaning d d it it (λ m w used. check_course m w used) (check_ending it.log r)) (is_err c.from_residual.result Memory c.from_residual.ensures.1)
+    (takes_nothing g.O.Oper.meaning d it (g.met.M.Machine.lawful c.args.machine.now) (λ m w used. check_course m w used))
+
+pub returns-in_err-table-clause-counts : goal.returns-in_err-table-clause-counts
+returns-in_err-table-clause-counts g c = counts_none c.args.store.now
+
+pub returns-in_err-make_block_room-clause-call : goal.returns-in_err-make_block_room-clause-call
+returns-in_err-make_block_room-clause-call g c =
+    let d = g.M.Machine.disk c.args.machine.now in
+    let new = g.M.Machine.disk c.make_block_room.new.machine in
+    let it = c.args.store.now in
+    let after = c.make_block_room.new.self in
+    subst (λ (r : Result (Option ℕ) CloseErr). IsCall g.O.Oper.meaning d new it after 0 Overlong (check_ending after.parts.log r))
+    (is_err c.from_residual-in_err-make_block_room.result DiskFault c.from_residual-in_err-make_block_room.ensures.1)
+    (call_on g.O.Oper.meaning d new it after Never Overlong Failed c.in_err-make_block_room.ensures.call)
 
 pub returns-in_err-make_block_room-clause-takes : goal.returns-in_err-make_block_room-clause-takes
 returns-in_err-make_block_room-clause-takes g c =
     let meaning = g.O.Oper.meaning in
     let d = g.M.Machine.disk c.args.machine.now in
     let new = g.M.Machine.disk c.make_block_room.new.machine in
-    let it = store c.args.objects.now c.args.graph.now.entries in
+    let it = c.args.store.now.parts in
+    let after = c.make_block_room.new.self.parts in
     let table = c.in_ok-table.table in
-    let before : Parts = parts c.args.log.now c.args.objects.now c.args.graph.now.entries in
-    let after : Parts = parts c.make_block_room.new.log c.args.objects.now c.args.graph.now.entries in
-    subst (λ (k : Ending). Takes meaning d new before after (λ m w used. check_course m w used) k) (ends_failed c.make_block_room.new.log c.from_residual-in_err-make_block_room.result c.from_residual-in_err-make_block_room.ensures.1)
-    (no_room meaning d c.args.log.now it table c.in_ok-table.ensures.here c.in_ok-table.ensures.now new after
-    (λ told p w shows. subst (λ (k : ℕ). TakesSome (meaning_in meaning p) p d new w (room_steps (meaning_in meaning p) w k)) c.check_bytes.ensures (c.make_block_room.ensures.moments told p it w shows)))
+    subst (λ (r : Result (Option ℕ) CloseErr). Takes meaning d new it after (λ m w used. check_course m w used) (check_ending after.log r))
+    (is_err c.from_residual-in_err-make_block_room.result DiskFault c.from_residual-in_err-make_block_room.ensures.1)
+    (takes_first meaning (λ m w used. room_course m w used) (λ m w used. logged_course m w used) d new it after Failed tt
+    (takes_room meaning d it table c.in_ok-table.ensures.here (now_here meaning table d it c.in_ok-table.ensures.now) c.check_bytes.result c.check_bytes.ensures new after Failed c.in_err-make_block_room.ensures.takes))
+
+pub returns-in_err-make_block_room-clause-counts : goal.returns-in_err-make_block_room-clause-counts
+returns-in_err-make_block_room-clause-counts g c = counts_roomed c.args.store.now c.make_block_room.new.self c.make_block_room.result c.make_block_room.ensures.same
+
+pub log_check-requires-clause-unbroken : goal.log_check-requires-clause-unbroken
+log_check-requires-clause-unbroken g c =
+    unbroken_after g.O.Oper.meaning (g.M.Machine.disk c.args.machine.now) (g.M.Machine.disk c.make_block_room.new.machine) c.args.store.now c.make_block_room.new.self 0 Never c.in_ok-make_block_room.ensures.call
+
+pub log_check-requires-clause-check : goal.log_check-requires-clause-check
+log_check-requires-clause-check g c =
+    here_roomed g.O.Oper.meaning c.in_ok-table.table c.args.store.now c.make_block_room.new.self c.in_ok-make_block_room.ensures.same c.in_ok-table.ensures.here
+
+pub returns-clause-call : goal.returns-clause-call
+returns-clause-call g c =
+    let d = g.M.Machine.disk c.args.machine.now in
+    let mid = g.M.Machine.disk c.make_block_room.new.machine in
+    let new = g.M.Machine.disk c.log_check.new.machine in
+    let last = c.log_check.new.store in
+    call_twice g.O.Oper.meaning d mid new c.args.store.now c.make_block_room.new.self last 0 0 Never Overlong (check_ending last.parts.log c.log_check.result) c.in_ok-make_block_room.ensures.call c.log_check.ensures.call
 
 pub returns-clause-takes : goal.returns-clause-takes
 returns-clause-takes g c =
@@ -38,34 +78,14 @@ returns-clause-takes g c =
     let d = g.M.Machine.disk c.args.machine.now in
     let mid = g.M.Machine.disk c.make_block_room.new.machine in
     let new = g.M.Machine.disk c.log_check.new.machine in
-    let it = store c.args.objects.now c.args.graph.now.entries in
+    let it = c.args.store.now in
+    let here = c.make_block_room.new.self in
+    let last = c.log_check.new.store in
     let table = c.in_ok-table.table in
-    let log = c.args.log.now in
-    let here = c.make_block_room.new.log in
-    let last = c.log_check.new.log in
-    room_then meaning d log it table c.in_ok-table.ensures.here c.in_ok-table.ensures.now mid new here last log.log.active (check_ending last c.log_check.result) c.make_block_room.ensures.runs
-    (room_kept log here c.in_ok-make_block_room.ensures.forced) c.in_ok-make_block_room.ensures.same.used
-    (λ told p w shows. subst (λ (k : ℕ). TakesSome (meaning_in meaning p) p d mid w (room_steps (meaning_in meaning p) w k)) c.check_bytes.ensures (c.make_block_room.ensures.moments told p it w shows))
-    (λ p w shows. subst (λ (k : ℕ). Shows (meaning_in meaning p) p mid (record { log = here; store = it }) (run (meaning_in meaning p) w (room_steps (meaning_in meaning p) w k))) c.check_bytes.ensures (c.in_ok-make_block_room.ensures.shows p it w shows))
-    (λ p v shows now. c.log_check.ensures.follows p it v shows now)
-    (λ told p v shows now. c.log_check.ensures.moments told p it v shows now)
+    let room = takes_room meaning d it.parts table c.in_ok-table.ensures.here (now_here meaning table d it.parts c.in_ok-table.ensures.now) c.check_bytes.result c.check_bytes.ensures mid here.parts Done c.in_ok-make_block_room.ensures.takes in
+    takes_both meaning (λ m w used. room_course m w used) (λ m w used. logged_course m w used) d mid new it.parts here.parts last.parts (check_ending last.parts.log c.log_check.result) c.in_ok-make_block_room.ensures.call.quiet room
+    (c.log_check.ensures.takes (now_here meaning table mid here.parts (taken_roomed meaning table it here c.in_ok-make_block_room.ensures.same c.in_ok-table.ensures.now)))
 
-pub returns-clause-runs : goal.returns-clause-runs
-returns-clause-runs g c =
-    let log = c.args.log.now in
-    let here = c.make_block_room.new.log in
-    runs_on_log (g.M.Machine.disk c.args.machine.now) (g.M.Machine.disk c.make_block_room.new.machine) (g.M.Machine.disk c.log_check.new.machine) log here (room_kept log here c.in_ok-make_block_room.ensures.forced)
-    c.make_block_room.ensures.runs c.log_check.ensures.runs
-
-pub returns-in_err-table-clause-keeps : goal.returns-in_err-table-clause-keeps
-returns-in_err-table-clause-keeps g c = inr (λ told has. has)
-
-pub returns-in_err-make_block_room-clause-keeps : goal.returns-in_err-make_block_room-clause-keeps
-returns-in_err-make_block_room-clause-keeps g c = by_fault c.from_residual-in_err-make_block_room.result c.from_residual-in_err-make_block_room.ensures.1
-
-pub returns-clause-keeps : goal.returns-clause-keeps
-returns-clause-keeps g c =
-    let mid = g.M.Machine.disk c.make_block_room.new.machine in
-    ⊎_elim (λ fault. inl fault)
-    (λ keeps. inr (log_twice g.O.Oper.meaning (g.M.Machine.disk c.args.machine.now) mid (g.M.Machine.disk c.log_check.new.machine) c.args.log.now c.make_block_room.new.log c.log_check.new.log
-    (λ told. c.make_block_room.ensures.runs.time.files_told.0 told) c.in_ok-make_block_room.ensures.keeps keeps)) c.log_check.ensures.keeps
+pub returns-clause-counts : goal.returns-clause-counts
+returns-clause-counts g c =
+    counts_twice c.args.store.now c.make_block_room.new.self c.log_check.new.store (counts_roomed c.args.store.now c.make_block_room.new.self c.make_block_room.result c.make_block_room.ensures.same) c.log_check.ensures.counts

@@ -1,240 +1,215 @@
-use Rattle.std.proofs.Common.{◌≡◌, ◌∙◌, sym, subst, ap, ℕ, ◌<◌, ◌≤◌, List, [], inr, refl, arith}
-use Rattle.std.specs.Prelude.{All, Err}
+use Rattle.std.proofs.Common.{◌≡◌, ◌∙◌, sym, subst, ap, ◌<◌, [], arith, ⊎_elim}
+use Rattle.std.specs.Prelude.{Err, Result}
 use Rattle.std.proofs.lemmas.Result.{err_from_is_err_and}
-use Rattle.disk_model.specs.Disk.{Runs, In, Any, Same, Rises}
-use Rattle.disk_model.specs.declared.machine.FileNo.{FileNo}
-use Rattle.formats.specs.InForce.{other_of}
-use Rattle.log_frames.specs.LogView.{used_of}
+use Rattle.disk_model.specs.Disk.{Rises}
 use Rattle.log_records.specs.Loading.{IsTailFault}
 use Rattle.log_records.specs.RecordLog.{RecordLogView}
 use Rattle.log_records.specs.Rewriting.{IsNewLength}
-use Rattle.cache_manager.specs.Courses.{force_course}
-use Rattle.cache_manager.specs.Courses.Stop.{Worn}
-use Rattle.cache_manager.specs.Finished.{quiet_twice}
-use Rattle.cache_manager.specs.Kept.{AreKept}
-use Rattle.cache_manager.specs.KeptLaws.{forced_log, log_twice, stays_log}
-use Rattle.cache_manager.specs.Parts.{Parts, parts, store}
-use Rattle.cache_manager.specs.Taking.{Ending, Takes}
-use Rattle.cache_manager.specs.Taking.Ending.{Done, Short, Stopped}
+use Rattle.running_store.specs.CallLaws.{unbroken_after}
+use Rattle.running_store.specs.Calls.{IsCall, Never, call_none, call_twice}
+use Rattle.running_store.specs.Courses.Stop.{Worn}
+use Rattle.running_store.specs.Kept.{StopsAt}
+use Rattle.running_store.specs.Logged.{log_limit}
+use Rattle.running_store.specs.Rewrites.{ending_of_rewrite, rewrite_course}
+use Rattle.running_store.specs.StoreView.{StoreView}
+use Rattle.running_store.specs.Taking.{Ending, Takes}
+use Rattle.running_store.specs.Taking.Ending.{Done, Failed, Short, Stopped}
+use Rattle.running_store.specs.TakesLaws.{takes_nothing}
 use Rattle.checkpointing.specs.Causes.{from_log}
-use Rattle.checkpointing.specs.Courses.{last_epoch, rewrite_course, trim_course}
+use Rattle.checkpointing.specs.Courses.{last_epoch, trim_course}
 use Rattle.checkpointing.specs.Left.{DamagedBy, ending_of}
+use Rattle.checkpointing.specs.declared.trim_err.TrimErr.{TrimErr}
 use Rattle.checkpointing.specs.declared.trim_err.TrimErr.TheVariants.{DiskFault, Memory}
-use Rattle.checkpointing.proofs.CheckLogs.{takes_nothing}
-use Rattle.checkpointing.proofs.Checked.{forced_same}
-use Rattle.checkpointing.proofs.Kept.{kept_beside, kept_in_force, rewritten_keeps}
-use Rattle.checkpointing.proofs.Trims.{damage_told, ends_by, long_told, may_rewrite, rewrite_done, rewrite_ends, trim_then, trim_unforced, trim_worn, unless_fault}
+use Rattle.checkpointing.proofs.Ended.{call_ends, call_on, counts_forced, counts_none, counts_rewritten, counts_twice, is_err, trim_ends}
+use Rattle.checkpointing.proofs.Trimmed.{damage_told, kept_from, least_next, least_of, long_told, may_rewrite, none_damaged, trim_then, trim_unforced, trim_worn}
 use Rattle.checkpointing.proofs.trimming.trim.Goals as goal
+
+pub returns-then-epoch-ge-NUMBERS_END-clause-call : goal.returns-then-epoch-ge-NUMBERS_END-clause-call
+returns-then-epoch-ge-NUMBERS_END-clause-call g c =
+    let d = g.M.Machine.disk c.args.machine.now in
+    let it = c.args.store.now in
+    let same : c.epoch-epoch.result ≡ it.parts.log.log.header.epoch = c.epoch-epoch.ensures.value ∙ ap (λ (l : RecordLogView). l.log.header.epoch) c.log.ensures in
+    call_ends g.O.Oper.meaning d d it it Never (StopsAt log_limit) Done (Stopped (Worn c.epoch-epoch.result)) (λ failed. failed) (λ failed. failed)
+    (same, omega (arith, c.if-epoch-ge-NUMBERS_END.true, c.epoch-epoch.ensures.last)) (call_none g.O.Oper.meaning d it Never (g.met.M.Machine.lawful c.args.machine.now) c.requires.unbroken)
 
 pub returns-then-epoch-ge-NUMBERS_END-clause-takes : goal.returns-then-epoch-ge-NUMBERS_END-clause-takes
 returns-then-epoch-ge-NUMBERS_END-clause-takes g c =
-    let meaning = g.O.Oper.meaning in
-    let d = g.M.Machine.disk c.args.machine.now in
-    let epoch = c.args.log.now.log.header.epoch in
-    let before : Parts = parts c.args.log.now c.args.objects.now c.args.graph.now.entries in
-    subst (λ (n : ℕ). Takes meaning d d before before (λ m w used. trim_course m epoch w used) (Stopped (Worn n))) (sym c.epoch-epoch.ensures.value)
-    (trim_worn meaning d before epoch (omega (arith, c.if-epoch-ge-NUMBERS_END.true, c.epoch-epoch.ensures.value)) (g.met.M.Machine.lawful c.args.machine.now))
+    let it = c.args.store.now.parts in
+    let same : c.epoch-epoch.result ≡ it.log.log.header.epoch = c.epoch-epoch.ensures.value ∙ ap (λ (l : RecordLogView). l.log.header.epoch) c.log.ensures in
+    trim_worn g.O.Oper.meaning (g.M.Machine.disk c.args.machine.now) it it.log.log.header.epoch c.epoch-epoch.result same (omega (arith, c.if-epoch-ge-NUMBERS_END.true, same)) (g.met.M.Machine.lawful c.args.machine.now)
 
-pub returns-in_err-force_all-clause-takes : goal.returns-in_err-force_all-clause-takes
-returns-in_err-force_all-clause-takes g c =
-    let meaning = g.O.Oper.meaning in
+pub returns-then-epoch-ge-NUMBERS_END-clause-counts : goal.returns-then-epoch-ge-NUMBERS_END-clause-counts
+returns-then-epoch-ge-NUMBERS_END-clause-counts g c = counts_none c.args.store.now
+
+pub returns-in_err-force-clause-call : goal.returns-in_err-force-clause-call
+returns-in_err-force-clause-call g c =
     let d = g.M.Machine.disk c.args.machine.now in
-    let new = g.M.Machine.disk c.force_all.new.machine in
-    let epoch = c.args.log.now.log.header.epoch in
-    let it = store c.args.objects.now c.args.graph.now.entries in
-    let before : Parts = parts c.args.log.now c.args.objects.now c.args.graph.now.entries in
-    let after : Parts = parts c.force_all.new.log c.args.objects.now c.args.graph.now.entries in
-    subst (λ (k : Ending). Takes meaning d new before after (λ m w used. trim_course m epoch w used) k) (ends_by c.from_residual.result DiskFault c.from_residual.ensures.1)
-    (trim_unforced meaning epoch (omega (arith, c.if-epoch-ge-NUMBERS_END.false, c.epoch-epoch.ensures.value)) d new before after
-    (record { follows = λ p w shows. tt; moments = λ told p w shows. c.force_all.ensures.moments told p it w shows }))
+    let new = g.M.Machine.disk c.force.new.machine in
+    let it = c.args.store.now in
+    let after = c.force.new.self in
+    subst (λ (r : Result (Unit {0}) TrimErr). IsCall g.O.Oper.meaning d new it after 0 (StopsAt log_limit) (ending_of r)) (is_err c.from_residual.result DiskFault c.from_residual.ensures.1)
+    (call_on g.O.Oper.meaning d new it after Never (StopsAt log_limit) Failed c.in_err-force.ensures.call)
+
+pub returns-in_err-force-clause-takes : goal.returns-in_err-force-clause-takes
+returns-in_err-force-clause-takes g c =
+    let d = g.M.Machine.disk c.args.machine.now in
+    let new = g.M.Machine.disk c.force.new.machine in
+    let it = c.args.store.now.parts in
+    let epoch = it.log.log.header.epoch in
+    let after = c.force.new.self.parts in
+    let early : epoch < last_epoch = omega (arith, c.if-epoch-ge-NUMBERS_END.false, c.epoch-epoch.ensures.value, ap (λ (l : RecordLogView). l.log.header.epoch) c.log.ensures) in
+    subst (λ (r : Result (Unit {0}) TrimErr). Takes g.O.Oper.meaning d new it after (λ m w used. trim_course m epoch w used) (ending_of r)) (is_err c.from_residual.result DiskFault c.from_residual.ensures.1)
+    (trim_unforced g.O.Oper.meaning epoch early d new it after c.in_err-force.ensures.takes)
+
+pub returns-in_err-force-clause-counts : goal.returns-in_err-force-clause-counts
+returns-in_err-force-clause-counts g c = counts_forced c.args.store.now c.force.new.self c.force.result c.force.ensures.forced
+
+pub check_now-requires : goal.check_now-requires
+check_now-requires g c =
+    record { unbroken = unbroken_after g.O.Oper.meaning (g.M.Machine.disk c.args.machine.now) (g.M.Machine.disk c.force.new.machine) c.args.store.now c.force.new.self 0 Never c.in_ok-force.ensures.call }
+
+pub returns-in_err-table-clause-call : goal.returns-in_err-table-clause-call
+returns-in_err-table-clause-call g c =
+    let d = g.M.Machine.disk c.args.machine.now in
+    let new = g.M.Machine.disk c.force.new.machine in
+    let it = c.args.store.now in
+    let after = c.force.new.self in
+    subst (λ (r : Result (Unit {0}) TrimErr). IsCall g.O.Oper.meaning d new it after 0 (StopsAt log_limit) (ending_of r)) (is_err c.from_residual-in_err-table.result Memory c.from_residual-in_err-table.ensures.1)
+    (call_ends g.O.Oper.meaning d new it after Never (StopsAt log_limit) Done Short (λ failed. failed) (λ failed. failed) tt c.in_ok-force.ensures.call)
 
 pub returns-in_err-table-clause-takes : goal.returns-in_err-table-clause-takes
 returns-in_err-table-clause-takes g c =
-    let meaning = g.O.Oper.meaning in
     let d = g.M.Machine.disk c.args.machine.now in
-    let mid = g.M.Machine.disk c.force_all.new.machine in
-    let epoch = c.args.log.now.log.header.epoch in
-    let it = store c.args.objects.now c.args.graph.now.entries in
-    let before : Parts = parts c.args.log.now c.args.objects.now c.args.graph.now.entries in
-    let here : Parts = parts c.force_all.new.log c.args.objects.now c.args.graph.now.entries in
-    let forced : Takes meaning d mid before here (λ m w used. force_course m w used) Done = record {
-      follows = λ p w shows. (refl, record { shows = c.in_ok-force_all.ensures.shows p it w shows; used = ap (λ (r : RecordLogView). used_of r.log) c.in_ok-force_all.ensures.forced });
-      moments = λ told p w shows. c.force_all.ensures.moments told p it w shows;
-    } in
-    subst (λ (k : Ending). Takes meaning d mid before here (λ m w used. trim_course m epoch w used) k) (ends_by c.from_residual-in_err-table.result Memory c.from_residual-in_err-table.ensures.1)
-    (trim_then meaning epoch (omega (arith, c.if-epoch-ge-NUMBERS_END.false, c.epoch-epoch.ensures.value)) d mid mid before here here Short c.force_all.ensures.runs forced
-    (takes_nothing meaning mid here (λ m v used. rewrite_course m v used) (g.met.M.Machine.lawful c.force_all.new.machine)))
+    let new = g.M.Machine.disk c.force.new.machine in
+    let it = c.args.store.now.parts in
+    let epoch = it.log.log.header.epoch in
+    let after = c.force.new.self.parts in
+    let early : epoch < last_epoch = omega (arith, c.if-epoch-ge-NUMBERS_END.false, c.epoch-epoch.ensures.value, ap (λ (l : RecordLogView). l.log.header.epoch) c.log.ensures) in
+    subst (λ (r : Result (Unit {0}) TrimErr). Takes g.O.Oper.meaning d new it after (λ m w used. trim_course m epoch w used) (ending_of r)) (is_err c.from_residual-in_err-table.result Memory c.from_residual-in_err-table.ensures.1)
+    (trim_then g.O.Oper.meaning epoch early d new it after new after Short c.force.ensures.call.quiet c.in_ok-force.ensures.takes
+    (takes_nothing g.O.Oper.meaning new after (g.met.M.Machine.lawful c.force.new.machine) (λ m v used. rewrite_course m v used)))
 
-pub returns-in_err-table-clause-kept : goal.returns-in_err-table-clause-kept
-returns-in_err-table-clause-kept g c =
-    let d = g.M.Machine.disk c.args.machine.now in
-    let new = g.M.Machine.disk c.force_all.new.machine in
-    let log = c.args.log.now in
-    let later = c.force_all.new.log in
-    let forced = c.in_ok-force_all.ensures.forced in
-    inr (kept_in_force g.O.Oper.meaning d new log later (store c.args.objects.now c.args.graph.now.entries) (forced_same log later forced) c.force_all.ensures.runs
-    (forced_log g.O.Oper.meaning d new log later forced c.in_ok-force_all.ensures.keeps) c.requires.in_use)
+pub returns-in_err-table-clause-counts : goal.returns-in_err-table-clause-counts
+returns-in_err-table-clause-counts g c = counts_forced c.args.store.now c.force.new.self c.force.result c.force.ensures.forced
 
--- no start is below the base
-each_start : (base : ℕ) (given starts : List (ℕ × ℕ)) → given ≡ starts → All (λ s. base ≤ s.1) given → All (λ s. base ≤ s.1) starts
-each_start base given starts same each = subst (λ (l : List (ℕ × ℕ)). All (λ s. base ≤ s.1) l) same each
+pub rewrite-requires-clause-unbroken : goal.rewrite-requires-clause-unbroken
+rewrite-requires-clause-unbroken g c = unbroken_after g.O.Oper.meaning (g.M.Machine.disk c.args.machine.now) (g.M.Machine.disk c.force.new.machine) c.args.store.now c.force.new.self 0 Never c.in_ok-force.ensures.call
 
-pub rewrite-requires : goal.rewrite-requires
-rewrite-requires g c =
-    let log = c.force_all.new.log in
+pub rewrite-requires-clause-epoch : goal.rewrite-requires-clause-epoch
+rewrite-requires-clause-epoch g c =
+    omega (arith, c.if-epoch-ge-NUMBERS_END.false, c.epoch-epoch.ensures.value, ap (λ (l : RecordLogView). l.log.header.epoch) c.log.ensures, ap (λ (l : RecordLogView). l.log.header.epoch) c.in_ok-force.ensures.forced.0)
+
+pub rewrite-requires-clause-rewritable : goal.rewrite-requires-clause-rewritable
+rewrite-requires-clause-rewritable g c =
+    let log = c.force.new.self.parts.log in
     let table = c.in_ok-table.table in
-    let check = c.in_ok-table.ensures.here in
-    let least = c.least_start-base in
-    let next = c.next.ensures in
-    let starts = c.as_slice.ensures in
-    may_rewrite (g.O.Oper.meaning log.bounds) log table least.result check (ap (λ (r : RecordLogView). r.log.pending) c.in_ok-force_all.ensures.forced)
-    (least.ensures.greatest log.log.header.base (omega (arith, check.ahead, next)) (each_start log.log.header.base table.starts c.as_slice.result.now (sym starts) check.placed.from_base))
-    (omega (arith, least.ensures.next, next)) (each_start least.result c.as_slice.result.now table.starts starts least.ensures.each)
+    may_rewrite (g.O.Oper.meaning log.bounds) log table c.least_start-base.result c.in_ok-table.ensures.here (ap (λ (r : RecordLogView). r.log.pending) c.in_ok-force.ensures.forced.0)
+    (least_of log table c.least_start-base.result c.next.result c.as_slice.result.now (c.next.ensures ∙ ap (λ (l : RecordLogView). l.next) c.log-2.ensures) c.as_slice.ensures c.least_start-base.ensures.next c.least_start-base.ensures.each
+    c.least_start-base.ensures.greatest)
+
+pub returns-in_err-rewrite-clause-call : goal.returns-in_err-rewrite-clause-call
+returns-in_err-rewrite-clause-call g c =
+    let d = g.M.Machine.disk c.args.machine.now in
+    let mid = g.M.Machine.disk c.force.new.machine in
+    let new = g.M.Machine.disk c.rewrite.new.machine in
+    let it = c.args.store.now in
+    let after = c.rewrite.new.self in
+    let e = c.in_err-rewrite.field-0.0 in
+    subst (λ (k : Ending). IsCall g.O.Oper.meaning d new it after 0 (StopsAt log_limit) k) (trim_ends c.from_residual-in_err-rewrite.result e c.from_residual-in_err-rewrite.ensures.1)
+    (call_twice g.O.Oper.meaning d mid new it c.force.new.self after 0 0 Never (StopsAt log_limit) (ending_of_rewrite {T = Unit {0}} (Err e)) c.in_ok-force.ensures.call c.in_err-rewrite.ensures.call)
 
 pub returns-in_err-rewrite-clause-takes : goal.returns-in_err-rewrite-clause-takes
 returns-in_err-rewrite-clause-takes g c =
     let meaning = g.O.Oper.meaning in
     let d = g.M.Machine.disk c.args.machine.now in
-    let mid = g.M.Machine.disk c.force_all.new.machine in
-    let new = g.M.Machine.disk c.rewrite.new.m in
-    let epoch = c.args.log.now.log.header.epoch in
-    let it = store c.args.objects.now c.args.graph.now.entries in
-    let log = c.force_all.new.log in
+    let mid = g.M.Machine.disk c.force.new.machine in
+    let new = g.M.Machine.disk c.rewrite.new.machine in
+    let it = c.args.store.now.parts in
+    let here = c.force.new.self.parts in
+    let after = c.rewrite.new.self.parts in
+    let epoch = it.log.log.header.epoch in
+    let early : epoch < last_epoch = omega (arith, c.if-epoch-ge-NUMBERS_END.false, c.epoch-epoch.ensures.value, ap (λ (l : RecordLogView). l.log.header.epoch) c.log.ensures) in
     let table = c.in_ok-table.table in
-    let check = c.in_ok-table.ensures.here in
-    let least = c.least_start-base in
-    let next = c.next.ensures in
-    let starts = c.as_slice.ensures in
-    let none = ap (λ (r : RecordLogView). r.log.pending) c.in_ok-force_all.ensures.forced in
-    let from = least.ensures.greatest log.log.header.base (omega (arith, check.ahead, next)) (each_start log.log.header.base table.starts c.as_slice.result.now (sym starts) check.placed.from_base) in
-    let high : least.result ≤ log.next = omega (arith, least.ensures.next, next) in
-    let each = each_start least.result c.as_slice.result.now table.starts starts least.ensures.each in
-    let greatest : (k : ℕ) → k ≤ log.next → All (λ s. k ≤ s.1) table.starts → k ≤ least.result = λ k le all. least.ensures.greatest k (omega (arith, le, next)) (each_start k table.starts c.as_slice.result.now (sym starts) all) in
-    let before : Parts = parts c.args.log.now c.args.objects.now c.args.graph.now.entries in
-    let here : Parts = parts log c.args.objects.now c.args.graph.now.entries in
-    let early : epoch < last_epoch = omega (arith, c.if-epoch-ge-NUMBERS_END.false, c.epoch-epoch.ensures.value) in
-    let same_epoch = ap (λ (r : RecordLogView). r.log.header.epoch) c.in_ok-force_all.ensures.forced in
+    let kept = kept_from meaning g.met.O.Oper.lawful mid here table c.in_ok-table.ensures.now c.least_start-base.result
+    (least_of here.log table c.least_start-base.result c.next.result c.as_slice.result.now (c.next.ensures ∙ ap (λ (l : RecordLogView). l.next) c.log-2.ensures) c.as_slice.ensures c.least_start-base.ensures.next c.least_start-base.ensures.each
+    c.least_start-base.ensures.greatest) in
     let e = c.in_err-rewrite.field-0.0 in
-    let forced : Takes meaning d mid before here (λ m w used. force_course m w used) Done = record {
-      follows = λ p w shows. (refl, record { shows = c.in_ok-force_all.ensures.shows p it w shows; used = ap (λ (r : RecordLogView). used_of r.log) c.in_ok-force_all.ensures.forced });
-      moments = λ told p w shows. c.force_all.ensures.moments told p it w shows;
-    } in
-    let rewritten = rewrite_ends meaning g.met.O.Oper.lawful mid log it none table check c.in_ok-table.ensures.now least.result from high each greatest new c.rewrite.ensures.any_moment c.rewrite.ensures.long
-    (IsTailFault (meaning log.bounds) new log.log) (Rises mid.disk_faults new.disk_faults) e (omega (arith, early, same_epoch)) c.in_err-rewrite.ensures.cause c.in_err-rewrite.ensures.refused in
-    subst (λ (k : Ending). Takes meaning d new before (parts c.rewrite.new.self c.args.objects.now c.args.graph.now.entries) (λ m w used. trim_course m epoch w used) k)
-    (ends_by c.from_residual-in_err-rewrite.result (from_log e) c.from_residual-in_err-rewrite.ensures.1)
-    (subst (λ (r : RecordLogView). Takes meaning d new before (parts r c.args.objects.now c.args.graph.now.entries) (λ m w used. trim_course m epoch w used) (ending_of {T = Unit {0}} (Err (from_log e)))) (sym c.in_err-rewrite.ensures.kept)
-    (trim_then meaning epoch early d mid new before here here (ending_of {T = Unit {0}} (Err (from_log e))) c.force_all.ensures.runs forced rewritten))
+    subst (λ (k : Ending). Takes meaning d new it after (λ m w used. trim_course m epoch w used) k) (trim_ends c.from_residual-in_err-rewrite.result e c.from_residual-in_err-rewrite.ensures.1)
+    (trim_then meaning epoch early d new it after mid here (ending_of_rewrite {T = Unit {0}} (Err e)) c.force.ensures.call.quiet c.in_ok-force.ensures.takes (c.in_err-rewrite.ensures.takes kept))
 
-pub returns-in_err-rewrite-clause-quiet : goal.returns-in_err-rewrite-clause-quiet
-returns-in_err-rewrite-clause-quiet g c =
-    quiet_twice c.args.log.now.log.active (other_of c.force_all.new.log.log.active) (g.M.Machine.disk c.args.machine.now) (g.M.Machine.disk c.force_all.new.machine) (g.M.Machine.disk c.rewrite.new.m)
-    c.force_all.ensures.runs c.rewrite.ensures.runs
+pub returns-in_err-rewrite-clause-counts : goal.returns-in_err-rewrite-clause-counts
+returns-in_err-rewrite-clause-counts g c =
+    counts_twice c.args.store.now c.force.new.self c.rewrite.new.self (counts_forced c.args.store.now c.force.new.self c.force.result c.force.ensures.forced)
+    (counts_rewritten c.force.new.self c.rewrite.new.self c.least_start-base.result c.rewrite.result c.rewrite.ensures.rewritten)
 
-pub returns-in_err-rewrite-clause-kept : goal.returns-in_err-rewrite-clause-kept
-returns-in_err-rewrite-clause-kept g c =
-    let d = g.M.Machine.disk c.args.machine.now in
-    let mid = g.M.Machine.disk c.force_all.new.machine in
-    let new = g.M.Machine.disk c.rewrite.new.m in
-    let before = c.args.log.now in
-    let here = c.force_all.new.log in
-    let it = store c.args.objects.now c.args.graph.now.entries in
-    let same = forced_same before here c.in_ok-force_all.ensures.forced in
-    let runs = subst (λ (f : FileNo). Runs (In (other_of f) Any) Same mid new) same.active c.rewrite.ensures.runs in
-    let meaning = g.O.Oper.meaning in
-    unless_fault c.from_residual-in_err-rewrite.result c.in_err-rewrite.field-0.0 c.from_residual-in_err-rewrite.ensures.1
-    (λ other. subst (λ (r : RecordLogView). AreKept meaning d new (record { log = before; store = it }) (record { log = r; store = it })) (sym c.in_err-rewrite.ensures.kept)
-    (kept_beside meaning d mid new before here it same.bounds same.next
-    (λ told has.
-    let told_mid = c.force_all.ensures.runs.time.files_told.0 told in
-    stays_log (meaning here.bounds) mid new here told_mid (c.in_err-rewrite.ensures.refused other) (forced_log meaning d mid before here c.in_ok-force_all.ensures.forced c.in_ok-force_all.ensures.keeps told has))
-    c.force_all.ensures.runs runs c.requires.in_use))
+pub returns-in_err-rewrite-clause-undamaged : goal.returns-in_err-rewrite-clause-undamaged
+returns-in_err-rewrite-clause-undamaged g c = λ told attached.
+    let call = c.in_ok-force.ensures.call in
+    let told_mid = call.quiet.time.files_told.0 told in
+    let has = ⊎_elim (λ failed. absurd failed) (λ keeps. keeps attached told_mid) call.attached in
+    let p = err_from_is_err_and c.from_residual-in_err-rewrite.result c.from_residual-in_err-rewrite.ensures.1 in
+    rw (p.1, p.2) (none_damaged c.in_err-rewrite.field-0.0 (c.in_err-rewrite.ensures.undamaged told_mid has.1))
 
 pub returns-in_err-rewrite-clause-damage : goal.returns-in_err-rewrite-clause-damage
 returns-in_err-rewrite-clause-damage g c =
-    let mid = g.M.Machine.disk c.force_all.new.machine in
-    let new = g.M.Machine.disk c.rewrite.new.m in
-    let log = c.force_all.new.log in
+    let mid = g.M.Machine.disk c.force.new.machine in
+    let new = g.M.Machine.disk c.rewrite.new.machine in
+    let log = c.force.new.self.parts.log in
     let m = g.O.Oper.meaning log.bounds in
     let e = c.in_err-rewrite.field-0.0 in
     let told = damage_told (Rises mid.disk_faults new.disk_faults) (IsTailFault m new log.log) (IsNewLength m mid log c.least_start-base.result c.in_ok-table.table) log.log e c.in_err-rewrite.ensures.cause in
     let p = err_from_is_err_and c.from_residual-in_err-rewrite.result c.from_residual-in_err-rewrite.ensures.1 in
-    rw (p.1, p.2) (subst (λ (r : RecordLogView). DamagedBy (IsTailFault (g.O.Oper.meaning r.bounds) new r.log) (from_log e)) (sym c.in_err-rewrite.ensures.kept) told)
+    rw (p.1, p.2) (subst (λ (l : RecordLogView). DamagedBy (IsTailFault (g.O.Oper.meaning l.bounds) new l.log) (from_log e)) (sym (ap (λ (s : StoreView). s.parts.log) c.in_err-rewrite.ensures.rewritten)) told)
+
+pub returns-in_err-rewrite-clause-long : goal.returns-in_err-rewrite-clause-long
+returns-in_err-rewrite-clause-long g c =
+    let mid = g.M.Machine.disk c.force.new.machine in
+    let new = g.M.Machine.disk c.rewrite.new.machine in
+    let log = c.force.new.self.parts.log in
+    let m = g.O.Oper.meaning log.bounds in
+    let told = long_told (Rises mid.disk_faults new.disk_faults) (IsTailFault m new log.log) (IsNewLength m mid log c.least_start-base.result c.in_ok-table.table) log.log c.in_err-rewrite.field-0.0 c.in_err-rewrite.ensures.cause in
+    let p = err_from_is_err_and c.from_residual-in_err-rewrite.result c.from_residual-in_err-rewrite.ensures.1 in
+    rw (p.1, p.2) told
+
+pub returns-clause-call : goal.returns-clause-call
+returns-clause-call g c =
+    let d = g.M.Machine.disk c.args.machine.now in
+    let mid = g.M.Machine.disk c.force.new.machine in
+    let new = g.M.Machine.disk c.rewrite.new.machine in
+    call_twice g.O.Oper.meaning d mid new c.args.store.now c.force.new.self c.rewrite.new.self 0 0 Never (StopsAt log_limit) Done c.in_ok-force.ensures.call c.in_ok-rewrite.ensures.call
 
 pub returns-clause-takes : goal.returns-clause-takes
 returns-clause-takes g c =
     let meaning = g.O.Oper.meaning in
     let d = g.M.Machine.disk c.args.machine.now in
-    let mid = g.M.Machine.disk c.force_all.new.machine in
-    let new = g.M.Machine.disk c.rewrite.new.m in
-    let epoch = c.args.log.now.log.header.epoch in
-    let it = store c.args.objects.now c.args.graph.now.entries in
-    let log = c.force_all.new.log in
-    let last = c.rewrite.new.self in
+    let mid = g.M.Machine.disk c.force.new.machine in
+    let new = g.M.Machine.disk c.rewrite.new.machine in
+    let it = c.args.store.now.parts in
+    let here = c.force.new.self.parts in
+    let after = c.rewrite.new.self.parts in
+    let epoch = it.log.log.header.epoch in
+    let early : epoch < last_epoch = omega (arith, c.if-epoch-ge-NUMBERS_END.false, c.epoch-epoch.ensures.value, ap (λ (l : RecordLogView). l.log.header.epoch) c.log.ensures) in
     let table = c.in_ok-table.table in
-    let check = c.in_ok-table.ensures.here in
-    let least = c.least_start-base in
-    let next = c.next.ensures in
-    let starts = c.as_slice.ensures in
-    let none = ap (λ (r : RecordLogView). r.log.pending) c.in_ok-force_all.ensures.forced in
-    let from = least.ensures.greatest log.log.header.base (omega (arith, check.ahead, next)) (each_start log.log.header.base table.starts c.as_slice.result.now (sym starts) check.placed.from_base) in
-    let high : least.result ≤ log.next = omega (arith, least.ensures.next, next) in
-    let each = each_start least.result c.as_slice.result.now table.starts starts least.ensures.each in
-    let greatest : (k : ℕ) → k ≤ log.next → All (λ s. k ≤ s.1) table.starts → k ≤ least.result = λ k le all. least.ensures.greatest k (omega (arith, le, next)) (each_start k table.starts c.as_slice.result.now (sym starts) all) in
-    let before : Parts = parts c.args.log.now c.args.objects.now c.args.graph.now.entries in
-    let here : Parts = parts log c.args.objects.now c.args.graph.now.entries in
-    let early : epoch < last_epoch = omega (arith, c.if-epoch-ge-NUMBERS_END.false, c.epoch-epoch.ensures.value) in
-    let forced : Takes meaning d mid before here (λ m w used. force_course m w used) Done = record {
-      follows = λ p w shows. (refl, record { shows = c.in_ok-force_all.ensures.shows p it w shows; used = ap (λ (r : RecordLogView). used_of r.log) c.in_ok-force_all.ensures.forced });
-      moments = λ told p w shows. c.force_all.ensures.moments told p it w shows;
-    } in
-    let rewritten = rewrite_done meaning g.met.O.Oper.lawful mid log it none table check c.in_ok-table.ensures.now least.result from high each greatest new c.rewrite.ensures.any_moment c.rewrite.ensures.long
-    last c.header_gate_keeps.ensures (λ told. c.rewrite.ensures.runs.time.files_told.0 told) (λ told. c.rewrite.ensures.runs.reads told) c.in_ok-rewrite.ensures.made.1 c.in_ok-rewrite.ensures.acknowledged in
-    trim_then meaning epoch early d mid new before here (parts last c.args.objects.now c.args.graph.now.entries) Done c.force_all.ensures.runs forced rewritten
+    let kept = kept_from meaning g.met.O.Oper.lawful mid here table c.in_ok-table.ensures.now c.least_start-base.result
+    (least_of here.log table c.least_start-base.result c.next.result c.as_slice.result.now (c.next.ensures ∙ ap (λ (l : RecordLogView). l.next) c.log-2.ensures) c.as_slice.ensures c.least_start-base.ensures.next c.least_start-base.ensures.each
+    c.least_start-base.ensures.greatest) in
+    trim_then meaning epoch early d new it after mid here Done c.force.ensures.call.quiet c.in_ok-force.ensures.takes (c.in_ok-rewrite.ensures.takes kept)
 
-pub returns-clause-quiet : goal.returns-clause-quiet
-returns-clause-quiet g c =
-    quiet_twice c.args.log.now.log.active (other_of c.force_all.new.log.log.active) (g.M.Machine.disk c.args.machine.now) (g.M.Machine.disk c.force_all.new.machine) (g.M.Machine.disk c.rewrite.new.m)
-    c.force_all.ensures.runs c.rewrite.ensures.runs
+pub returns-clause-counts : goal.returns-clause-counts
+returns-clause-counts g c =
+    counts_twice c.args.store.now c.force.new.self c.rewrite.new.self (counts_forced c.args.store.now c.force.new.self c.force.result c.force.ensures.forced)
+    (counts_rewritten c.force.new.self c.rewrite.new.self c.least_start-base.result c.rewrite.result c.rewrite.ensures.rewritten)
 
-pub returns-clause-kept : goal.returns-clause-kept
-returns-clause-kept g c =
-    let d = g.M.Machine.disk c.args.machine.now in
-    let mid = g.M.Machine.disk c.force_all.new.machine in
-    let new = g.M.Machine.disk c.rewrite.new.m in
-    let before = c.args.log.now in
-    let here = c.force_all.new.log in
-    let last = c.rewrite.new.self in
-    let it = store c.args.objects.now c.args.graph.now.entries in
-    let same = forced_same before here c.in_ok-force_all.ensures.forced in
-    let runs = subst (λ (f : FileNo). Runs (In (other_of f) Any) Same mid new) same.active c.rewrite.ensures.runs in
-    let is = c.in_ok-rewrite.ensures.rewritten.2 in
-    let meaning = g.O.Oper.meaning in
-    let forced = c.in_ok-force_all.ensures.forced in
-    let bounds = ap (λ (r : RecordLogView). r.bounds) is in
-    inr (kept_beside meaning d mid new before last it (bounds ∙ same.bounds) (ap (λ (r : RecordLogView). r.next) is ∙ same.next)
-    (log_twice meaning d mid new before here last (λ told. c.force_all.ensures.runs.time.files_told.0 told) (forced_log meaning d mid before here forced c.in_ok-force_all.ensures.keeps)
-    (rewritten_keeps meaning mid new here last c.least_start-base.result c.in_ok-table.table (ap (λ (r : RecordLogView). r.log.pending) forced) bounds
-    (λ told stable keeps. (c.in_ok-rewrite.ensures.acknowledged told stable keeps).0)))
-    c.force_all.ensures.runs runs c.requires.in_use)
-
-pub returns-in_err-rewrite-clause-long : goal.returns-in_err-rewrite-clause-long
-returns-in_err-rewrite-clause-long g c =
-    let mid = g.M.Machine.disk c.force_all.new.machine in
-    let new = g.M.Machine.disk c.rewrite.new.m in
-    let log = c.force_all.new.log in
-    let m = g.O.Oper.meaning log.bounds in
-    let e = c.in_err-rewrite.field-0.0 in
-    let told = long_told (Rises mid.disk_faults new.disk_faults) (IsTailFault m new log.log) (IsNewLength m mid log c.least_start-base.result c.in_ok-table.table) log.log e c.in_err-rewrite.ensures.cause in
-    let p = err_from_is_err_and c.from_residual-in_err-rewrite.result c.from_residual-in_err-rewrite.ensures.1 in
-    rw (p.1, p.2) told
+pub returns-clause-epoch : goal.returns-clause-epoch
+returns-clause-epoch g c = omega (arith, c.in_ok-rewrite.ensures.rewritten.epoch, ap (λ (l : RecordLogView). l.log.header.epoch) c.in_ok-force.ensures.forced.0)
 
 pub returns-clause-emptied : goal.returns-clause-emptied
 returns-clause-emptied g c = λ empty.
-    let log = c.force_all.new.log in
-    let least = c.least_start-base in
-    let none : c.as_slice.result.now ≡ [] = c.as_slice.ensures ∙ c.in_ok-table.ensures.none empty in
-    let all : All (λ s. c.next.result ≤ s.1) c.as_slice.result.now = each_start c.next.result [] c.as_slice.result.now (sym none) (λ k d below. absurd (omega (arith, below))) in
-    let high = least.ensures.greatest c.next.result (omega arith) all in
-    let is = c.in_ok-rewrite.ensures.rewritten.2 in
-    ap (λ (r : RecordLogView). r.log.header.base) is ∙ omega (arith, high, least.ensures.next, c.next.ensures) ∙ sym (ap (λ (r : RecordLogView). r.next) is)
+    let here = c.force.new.self in
+    let log = here.parts.log in
+    let table = c.in_ok-table.table in
+    let entries : here.parts.store.entries ≡ [] = ap (λ (s : StoreView). s.parts.store.entries) c.in_ok-force.ensures.forced.1 ∙ empty in
+    let least = least_of log table c.least_start-base.result c.next.result c.as_slice.result.now (c.next.ensures ∙ ap (λ (l : RecordLogView). l.next) c.log-2.ensures) c.as_slice.ensures c.least_start-base.ensures.next c.least_start-base.ensures.each
+    c.least_start-base.ensures.greatest in
+    let is = c.in_ok-rewrite.ensures.rewritten in
+    is.begins ∙ least_next log table c.least_start-base.result least (c.in_ok-table.ensures.none entries) ∙ sym is.next

@@ -1,0 +1,125 @@
+-- A trim takes its course by those of a force and of a rewrite.
+use Rattle.std.proofs.Common.{◌≡◌, ◌∙◌, sym, subst, ap, ℕ, ◌<◌, ◌≤◌, List, [], arith}
+use Rattle.std.specs.Prelude.{All, nat_le}
+use Rattle.std.proofs.lemmas.Bool.{lt-leb, le-leb, cond-true, cond-false}
+use Rattle.disk_model.specs.Disk.{Disk, IsDisk}
+use Rattle.disk_model.specs.declared.machine.FileNo.{FileNo}
+use Rattle.disk_model.specs.declared.machine.FileNo.TheVariants.{Objects}
+use Rattle.oper_core.specs.Meaning.{Meaning, IsLawful, IsSmall}
+use Rattle.oper_core.specs.declared.bounds.Bounds.{Bounds}
+use Rattle.checkpoint.specs.declared.table.Table.{Table}
+use Rattle.formats.specs.Objects.{IsObjectsFile, bounds_of}
+use Rattle.formats.specs.declared.params.Params.{Params}
+use Rattle.log_frames.specs.LogView.{LogView, used_of}
+use Rattle.log_frames.specs.Reading.{TellsDamage}
+use Rattle.log_frames.specs.declared.log_err.LogErr.{LogErr}
+use Rattle.log_frames.specs.declared.log_err.LogErr.TheVariants as of_log
+use Rattle.log_records.specs.RecordLog.{RecordLogView}
+use Rattle.log_records.specs.Rewriting.{IsRewritable, RewriteFails}
+use Rattle.explain_core.specs.World.{World}
+use Rattle.standing.specs.OneStable.{small_store}
+use Rattle.running_store.specs.Appended.{next_number}
+use Rattle.running_store.specs.Checks.{IsCheckHere}
+use Rattle.running_store.specs.Courses.{and_then, course, force_course}
+use Rattle.running_store.specs.Courses.Stop.{Worn}
+use Rattle.running_store.specs.Finished.{IsQuiet}
+use Rattle.running_store.specs.Parts.{Parts, Shows, meaning_in}
+use Rattle.running_store.specs.Rewrites.{IsKeptFrom, rewrite_course}
+use Rattle.running_store.specs.Taking.{Ending, Takes}
+use Rattle.running_store.specs.Taking.Ending.{Done, Stopped, Failed}
+use Rattle.running_store.specs.TakesLaws.{takes_both, takes_first, takes_none, takes_same, takes_stop}
+use Rattle.checkpointing.specs.Causes.{from_log}
+use Rattle.checkpointing.specs.Checks.{IsTakenBy}
+use Rattle.checkpointing.specs.Courses.{last_epoch, trim_course}
+use Rattle.checkpointing.specs.Left.{DamagedBy, IsTooLong}
+use Rattle.checkpointing.proofs.Base.{base_is}
+use Rattle.checkpointing.proofs.CheckLogs.{taken_here}
+
+-- the log has had its last epoch
+pub trim_worn : {O : Type 0} (meaning : Bounds → Meaning O) (d : Disk) (it : Parts) (epoch told : ℕ) → told ≡ epoch → last_epoch ≤ epoch → IsDisk d → Takes meaning d d it it (λ m w used. trim_course m epoch w used) (Stopped (Worn told))
+trim_worn meaning d it epoch told same last lawful =
+    takes_same meaning d d it it (λ m w used. course [] used (Worn told)) (λ m w used. trim_course m epoch w used) (Stopped (Worn told))
+    (λ p w shows. ap (λ (k : ℕ). course [] (used_of it.log.log) (Worn k)) same ∙ sym (cond-true (nat_le last_epoch epoch) _ _ (le-leb last_epoch epoch last)))
+    (takes_stop meaning d d it it (λ m w. []) (Worn told) (takes_none meaning d it lawful))
+
+module _ {O : Type 0} (meaning : Bounds → Meaning O) (epoch : ℕ) (early : epoch < last_epoch) (old new : Disk) (before after : Parts) where
+  trims : (ending : Ending) → Takes meaning old new before after (λ m w used. and_then m w (force_course m w used) (λ v used. rewrite_course m v used)) ending → Takes meaning old new before after (λ m w used. trim_course m epoch w used) ending
+  trims ending =
+      takes_same meaning old new before after (λ m w used. and_then m w (force_course m w used) (λ v used. rewrite_course m v used)) (λ m w used. trim_course m epoch w used) ending
+      (λ p w shows. sym (cond-false (nat_le last_epoch epoch) _ _ (lt-leb last_epoch epoch early)))
+
+  -- the force fails
+  pub trim_unforced : Takes meaning old new before after (λ m w used. force_course m w used) Failed → Takes meaning old new before after (λ m w used. trim_course m epoch w used) Failed
+  trim_unforced takes = trims Failed (takes_first meaning (λ m w used. force_course m w used) (λ m v used. rewrite_course m v used) old new before after Failed tt takes)
+
+  -- it is done, and then the log is rewritten, or not
+  pub trim_then : (mid : Disk) (here : Parts) (ending : Ending) → IsQuiet old mid → Takes meaning old mid before here (λ m w used. force_course m w used) Done → Takes meaning mid new here after (λ m v used. rewrite_course m v used) ending
+      → Takes meaning old new before after (λ m w used. trim_course m epoch w used) ending
+  trim_then mid here ending quiet first second =
+      trims ending (takes_both meaning (λ m w used. force_course m w used) (λ m v used. rewrite_course m v used) old mid new before here after ending quiet first second)
+
+-- the least of a check's starts and of the log's next number
+pub record IsLeastStart (log : RecordLogView) (table : Table) (base : ℕ) : Type 0 where
+  pub next : base ≤ log.next
+  pub each : All (λ s. base ≤ s.1) table.starts
+  pub greatest : (k : ℕ) → k ≤ log.next → All (λ s. k ≤ s.1) table.starts → k ≤ base
+
+pub least_of : (log : RecordLogView) (table : Table) (base next : ℕ) (starts : List (ℕ × ℕ)) → next ≡ log.next → starts ≡ table.starts → base ≤ next → All (λ s. base ≤ s.1) starts → ((k : ℕ) → k ≤ next → All (λ s. k ≤ s.1) starts → k ≤ base)
+    → IsLeastStart log table base
+least_of log table base next starts number same low each greatest = record {
+  next = omega (arith, low, number);
+  each = subst (λ (l : List (ℕ × ℕ)). All (λ s. base ≤ s.1) l) same each;
+  greatest = λ k below all. greatest k (omega (arith, below, number)) (subst (λ (l : List (ℕ × ℕ)). All (λ s. k ≤ s.1) l) (sym same) all);
+}
+
+-- from there on a log may be rewritten
+pub may_rewrite : {O : Type 0} (m : Meaning O) (log : RecordLogView) (table : Table) (base : ℕ) → IsCheckHere m log table → log.log.pending ≡ [] → IsLeastStart log table base → IsRewritable m log base table
+may_rewrite m log table base check none least = record {
+  waits = none;
+  low = least.greatest log.log.header.base check.ahead check.placed.from_base;
+  high = least.next;
+  place = record { next_is = check.placed.next_is; rising = check.placed.rising; there = check.placed.there; from_base = least.each; before = check.placed.before };
+  grammar = check.grammar;
+  short = omega (arith, check.bytes, check.few);
+}
+
+-- and of each world that is shown the log then begins there
+pub kept_from : {O : Type 0} (meaning : Bounds → Meaning O) → ((b : Bounds) → IsSmall b → IsLawful (meaning b)) → (d : Disk) (it : Parts) (table : Table) → IsTakenBy meaning it table → (base : ℕ) → IsLeastStart it.log table base
+    → (p : Params) (w : World O) → Shows (meaning_in meaning p) p d it w → IsKeptFrom (meaning_in meaning p) w base table
+kept_from meaning lawful d it table so base least p w shows =
+    let m = meaning_in meaning p in
+    let law : IsLawful m = lawful (bounds_of p) (small_store p (d.reads Objects) (subst (λ (q : Params). IsObjectsFile q (d.reads Objects)) shows.store.params shows.store.laid.slots.whole)) in
+    let number = next_number m p d it w shows in
+    let taken = taken_here meaning table d it so p w shows in
+    record {
+      now = taken.now;
+      starts = base_is m law w shows.running.sound it.store.entries shows.store.accesses table.starts taken.objects taken.least base least.each (omega (arith, least.next, number)) (λ k low all. least.greatest k (omega (arith, low, number)) all);
+    }
+
+-- where there is no start it is the next number
+pub least_next : (log : RecordLogView) (table : Table) (base : ℕ) → IsLeastStart log table base → table.starts ≡ [] → base ≡ log.next
+least_next log table base least none =
+    let high = least.greatest log.next (omega arith) (subst (λ (l : List (ℕ × ℕ)). All (λ s. log.next ≤ s.1) l) (sym none) (λ k d below. absurd (omega (arith, below)))) in omega (arith, high, least.next)
+
+-- what is reported to be damaged, or to be too long
+module _ (rises : Type 0) (fault : FileNo → ℕ → Type 0) (length_is : ℕ → Type 0) (log : LogView) where
+  pub damage_told : (e : LogErr) → RewriteFails rises fault length_is log e → DamagedBy fault (from_log e)
+  damage_told of_log.DiskFault cause = tt
+  damage_told (of_log.LogFull len need limit) cause = tt
+  damage_told (of_log.Damaged file place) cause = cause.0
+  damage_told (of_log.Exhausted epoch) cause = tt
+  damage_told of_log.Memory cause = tt
+
+  pub long_told : (e : LogErr) → RewriteFails rises fault length_is log e → IsTooLong (from_log e)
+  long_told of_log.DiskFault cause = tt
+  long_told (of_log.LogFull len need limit) cause = cause.3
+  long_told (of_log.Damaged file place) cause = tt
+  long_told (of_log.Exhausted epoch) cause = tt
+  long_told of_log.Memory cause = tt
+
+pub none_damaged : (e : LogErr) → (TellsDamage e → ⊥) → DamagedBy (λ file place. ⊥) (from_log e)
+none_damaged of_log.DiskFault none = tt
+none_damaged (of_log.LogFull len need limit) none = tt
+none_damaged (of_log.Damaged file place) none = none tt
+none_damaged (of_log.Exhausted epoch) none = tt
+none_damaged of_log.Memory none = tt

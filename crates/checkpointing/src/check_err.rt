@@ -1,0 +1,40 @@
+ghost use Rattle.std.specs.Prelude.{◌≡◌};
+ghost use Rattle.checkpointing.specs.declared.check_err.CheckErr.TheVariants.{DiskFault};
+ghost use Rattle.checkpointing.specs.Causes.{of_close};
+
+use crate::CloseErr;
+use disk_model::Failed;
+use thiserror::Error;
+
+/// Why no checkpoint was taken.
+#[derive(Debug, Drop, Error)]
+pub enum CheckErr {
+    /// The log has no room for the check.
+    #[error("the log is full: {used} bytes are used, {need} more are needed, the limit is {limit}")]
+    LogFull { used: u64, need: u64, limit: u64 },
+    /// The disk failed.
+    #[error("the disk failed")]
+    DiskFault,
+    /// Out of memory.
+    #[error("out of memory")]
+    Memory,
+}
+
+impl From<CloseErr> for CheckErr {
+    ghost from_gives = { λ cause e. e ≡ of_close cause };
+
+    fn from(cause: CloseErr) -> Self {
+        match cause {
+            CloseErr::DiskFault => CheckErr::DiskFault,
+            CloseErr::Memory => CheckErr::Memory,
+        }
+    }
+}
+
+impl From<Failed> for CheckErr {
+    ghost from_gives = { λ _ e. e ≡ DiskFault };
+
+    fn from(_: Failed) -> Self {
+        CheckErr::DiskFault
+    }
+}
