@@ -26,10 +26,10 @@ use Rattle.explain_core.specs.World as core
 use Rattle.standing.specs.Crashed.{crashed-cache, crashed-graph}
 use Rattle.standing.specs.Standing.{stored}
 use Rattle.analysis_pass.specs.Analysis.{PlanView}
-use Rattle.cache_manager.specs.Courses.{is_identity_at}
-use Rattle.cache_manager.specs.Laid.{cell_or, id_at}
-use Rattle.cache_manager.specs.LaidLaws.{id_told}
-use Rattle.cache_manager.specs.Parts.{Store, ShowsStore}
+use Rattle.running_store.specs.Courses.{is_identity_at}
+use Rattle.running_store.specs.Laid.{cell_or, id_at}
+use Rattle.running_store.specs.LaidLaws.{id_told}
+use Rattle.running_store.specs.Parts.{Store, ShowsStore}
 use Rattle.redo_pass.specs.Redo.{IsDue}
 use Rattle.redo_pass.specs.Replayed.{IsNext, is_due}
 

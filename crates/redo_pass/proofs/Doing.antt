@@ -1,11 +1,13 @@
 -- How far a redo has come in the log's records, over the calls that read the next one.
-use Rattle.std.proofs.Common.{◌≡◌, ◌∙◌, refl, sym, ap, subst, ℕ, ◌≤◌, Option, None, Some, List, [], ◌∷◌, ◌++◌, arith, append_assoc}
+use Rattle.std.proofs.Common.{◌≡◌, ◌∙◌, refl, sym, ap, subst, ℕ, ◌<◌, Bool, true, false, Option, None, Some, List, [], ◌∷◌, ◌++◌, arith, append_assoc}
+use Rattle.std.specs.Prelude.{All, Err}
 use Rattle.std.proofs.lemmas.List.{append-nil, append_cancel_left}
-use Rattle.disk_model.specs.Disk.{Files, Disk, IsDisk, Runs, In, Any, Same, Stays, IsSettled}
-use Rattle.disk_model.specs.Moments.{agreed_before, runs_none, runs_then_stays, stays_settled}
+use Rattle.std.proofs.lemmas.List.Elements.{All-nil}
+use Rattle.disk_model.specs.Disk.{Any, Disk, Files, In, IsDisk, IsSettled, Rises, Runs, Same, Stays}
+use Rattle.disk_model.specs.Moments.{agreed_before}
 use Rattle.disk_model.specs.declared.machine.FileNo.{FileNo}
 use Rattle.disk_model.specs.declared.machine.FileNo.TheVariants.{Objects}
-use Rattle.oper_core.specs.Meaning.{Meaning}
+use Rattle.oper_core.specs.Meaning.{IsSmall, Meaning, state_after}
 use Rattle.oper_core.specs.declared.bounds.Bounds.{Bounds}
 use Rattle.formats.specs.Objects.{bounds_of}
 use Rattle.formats.specs.Records.{IsRecord, Rise}
@@ -19,28 +21,45 @@ use Rattle.log_records.specs.NumberedLaws.{given_first, given_all, given_rise, l
 use Rattle.log_records.specs.NumberedReader.{NumberedReaderView, IsReadingNumbered, AreAllNumbered, HasGiven}
 use Rattle.log_records.specs.RecordLog.{RecordLogView, Keeps}
 use Rattle.log_records.specs.Rewriting.{numbered_from}
-use Rattle.stable_objects.specs.SlotsView.{SlotsView, AreOf}
+use Rattle.stable_objects.specs.SlotsView.{SlotsView}
 use Rattle.dirty_cache.specs.Contents.{held}
+use Rattle.install_order.specs.declared.entry.Entry.{Entry}
+use Rattle.write_graph.specs.Graph.{numbers}
+use Rattle.explain_core.specs.History.{commands_of}
+use Rattle.explain_core.specs.KeptLog.{kept_stable, turns_kept}
 use Rattle.explain_core.specs.Sound.{IsSound}
 use Rattle.explain_core.specs.Turns.{turns}
-use Rattle.explain_core.specs.World.{World, run, step}
+use Rattle.explain_core.specs.World.{World, Step, IsAllStable, IsLive, run, step}
 use Rattle.explain_core.specs.World.Step.{Replay}
+use Rattle.standing.specs.Crashed.{crashed-graph, crashed-stable}
 use Rattle.standing.specs.Moments.{TakesSome}
+use Rattle.standing.specs.OneStable.{small_store}
+use Rattle.standing.specs.Shown.{IsUnseen}
 use Rattle.standing.specs.Standing.{FilesShow}
 use Rattle.analysis_pass.specs.Analysis.{PlanView}
-use Rattle.cache_manager.specs.Flushed.{AreEarly}
-use Rattle.cache_manager.specs.Laid.{Laid, IsLaidOn}
-use Rattle.cache_manager.specs.LongSlot.{HasLongSlot, IsLongSlot, long_untold}
-use Rattle.cache_manager.specs.Parts.{Store, AreInUse, ShowsStore}
-use Rattle.cache_manager.specs.Stored.{keeps_beside}
-use Rattle.redo_pass.specs.Causes.{FailsBy, IsSlotFault, from_log}
-use Rattle.redo_pass.specs.Progress.{SoFar}
-use Rattle.redo_pass.specs.Redo.{IsLogDue}
-use Rattle.redo_pass.specs.Replayed.{IsNextRecord, after_record}
-use Rattle.redo_pass.proofs.Ends.{at}
-use Rattle.redo_pass.proofs.Fronts.{due_members, reached, reached_rise}
-use Rattle.redo_pass.proofs.Limits.{takes_none}
-use Rattle.redo_pass.proofs.Loops.{IsOn, begun, begun_in_use, next_is, on_record, stays_moments, join_moments}
+use Rattle.running_store.specs.Beside.{IsBeside, objects_none}
+use Rattle.running_store.specs.Calls.{IsCall, Never, call_none}
+use Rattle.running_store.specs.Faults.{is_log_fault}
+use Rattle.running_store.specs.LongSlot.{HasLongSlot, IsLongSlot, long_untold}
+use Rattle.running_store.specs.Parts.{Parts, Store, ShowsStore, StoreShows}
+use Rattle.running_store.specs.Stored.{keeps_beside}
+use Rattle.running_store.specs.StoreView.{StoreView, next_of, params_of}
+use Rattle.running_store.specs.Taking.{ArePartsInUse, Ending}
+use Rattle.running_store.specs.Taking.Ending.{Done}
+use Rattle.cache_manager.specs.Endings.{ending_of_thin}
+use Rattle.cache_manager.specs.declared.thin_err.ThinErr.{ThinErr}
+use Rattle.redo_pass.specs.Causes.{FailsBy, IsSlotFault, ending_of_redo, from_installs, from_log}
+use Rattle.redo_pass.specs.Progress.{IsAbove, IsLimited, SoFar}
+use Rattle.redo_pass.specs.Redo.{IsLogDue, IsRedone, redo_steps}
+use Rattle.redo_pass.specs.Replayed.{IsNextRecord, IsReplay, after_record}
+use Rattle.redo_pass.specs.Rising.{IsBelow}
+use Rattle.redo_pass.proofs.Ends.{at, ended}
+use Rattle.redo_pass.proofs.Failing.{log_failed, never_stopped, rises_of, thin_ends}
+use Rattle.redo_pass.proofs.Fronts.{due_members, reached, reached_more, reached_rise}
+use Rattle.redo_pass.proofs.Goes.{limited_so_far, turns_are_steps}
+use Rattle.redo_pass.proofs.Leaves.{IsPart, fetch_log, part_fetch, part_laid, part_replay, part_settled, part_twice}
+use Rattle.redo_pass.proofs.Limits.{store_shows_now, takes_none}
+use Rattle.redo_pass.proofs.Loops.{IsOn, begun, behind_above, is_above, join_moments, next_is, on_record, stays_moments}
 
 -- of all records that are due these were done, and the redo of the world has come to the others
 pub record IsLeft {O : Type 0} (m : Meaning O) (p : Params) (files : Files) (it : Store) (limit : ℕ) (w : World O) (all done : List (Record O)) : Type 0 where
@@ -60,196 +79,256 @@ pub record IsOnWith {O : Type 0} (m : Meaning O) (p : Params) (files : Files) (i
   pub split : all ≡ (done ++ r ∷ []) ++ rest
   pub on : IsOn m p limit w files it rest
 
--- since the redo of this log began, the objects being these, so many of its records were done
-pub record IsDone {O : Type 0} (meaning : Bounds → Meaning O) (limit : ℕ) (plan : PlanView) (log : RecordLogView) (first : Laid) (old mid : Disk) (now : Store) (given : List (Record O)) : Type 0 where
-  pub runs : Runs (In Objects Any) Same old mid
-  pub settled : IsSettled old → IsSettled mid
-  pub of_file : old.tells_files → AreOf first.slots (old.reads Objects) → AreOf now.objects.slots (mid.reads Objects)
-  pub laid : old.tells_files → IsLaidOn first (old.reads Objects) → IsLaidOn now.objects (mid.reads Objects)
-  pub in_use : AreInUse first.slots.params (reached 0 given) now
-  pub early : AreEarly log.next first → AreEarly log.next now.objects
-  pub shown : old.tells_files → IsSettled old → (p : Params) (w : World O) → (to : IsLogDue (meaning (bounds_of p)) p old log first.slots plan w)
-      → IsLeft (meaning (bounds_of p)) p mid.reads now limit w (numbered_from plan.start to.stable) given
-  pub moments : old.tells_moments → IsSettled old → (p : Params) (w : World O) → IsLogDue (meaning (bounds_of p)) p old log first.slots plan w
+-- the redo of the world is due, with the log and the slots of this store
+abbrev pub IsToDo : {O : Type 0} → (Bounds → Meaning O) → PlanView → StoreView → Disk → Params → World O → Type 0
+IsToDo meaning plan first old p w = IsLogDue (meaning (bounds_of p)) p old first.parts.log first.parts.store.objects.slots plan w
+
+-- Since the redo of this store began, so many records of its log were done.
+pub record IsDone {O : Type 0} (meaning : Bounds → Meaning O) (limit : ℕ) (plan : PlanView) (first : StoreView) (old mid : Disk) (now : StoreView) (given : List (Record O)) : Type 0 where
+  pub part : IsPart meaning old mid first now Done
+  pub above : All (λ n. n < reached 0 given) (numbers now.parts.store.entries)
+  pub shown : old.tells_files → IsSettled old → (p : Params) (w : World O) → (to : IsToDo meaning plan first old p w)
+      → IsLeft (meaning (bounds_of p)) p mid.reads now.parts.store limit w (numbered_from plan.start to.stable) given
+  pub moments : old.tells_moments → IsSettled old → (p : Params) (w : World O) → IsToDo meaning plan first old p w
       → (n : ℕ) × TakesSome (meaning (bounds_of p)) p old mid w (turns (meaning (bounds_of p)) limit n w)
 
--- the records that the reader has given were done
-pub record IsDoing {O : Type 0} (meaning : Bounds → Meaning O) (limit : ℕ) (plan : PlanView) (log : RecordLogView) (first : Laid) (old mid : Disk) (now : Store) (reader : NumberedReaderView) : Type 0 where
-  pub given : List (Record O)
-  pub done : IsDone meaning limit plan log first old mid now given
+-- some records were done, and the reader has given these
+pub record IsAt {O : Type 0} (meaning : Bounds → Meaning O) (limit : ℕ) (plan : PlanView) (first : StoreView) (old mid : Disk) (now : StoreView) (reader : NumberedReaderView) (done given : List (Record O)) : Type 0 where
+  pub so_far : IsDone meaning limit plan first old mid now done
   pub from : reader.from ≡ plan.start
-  pub bounds : reader.records.bounds ≡ log.bounds
-  pub reading : IsReadingNumbered (meaning log.bounds) mid log reader given
+  pub bounds : reader.records.bounds ≡ first.parts.log.bounds
+  pub reading : IsReadingNumbered (meaning reader.records.bounds) mid first.parts.log reader given
 
--- the reader has given one more, which is not done yet
-pub record IsNext {O : Type 0} (meaning : Bounds → Meaning O) (limit : ℕ) (plan : PlanView) (log : RecordLogView) (first : Laid) (old mid : Disk) (now : Store) (reader : NumberedReaderView) (given : List (Record O)) (r : Record O) : Type 0 where
-  pub done : IsDone meaning limit plan log first old mid now given
-  pub from : reader.from ≡ plan.start
-  pub bounds : reader.records.bounds ≡ log.bounds
-  pub reading : IsReadingNumbered (meaning log.bounds) mid log reader (given ++ r ∷ [])
+-- those that it has given were done
+abbrev pub IsDoing : {O : Type 0} → (Bounds → Meaning O) → ℕ → PlanView → StoreView → Disk → Disk → StoreView → NumberedReaderView → Type 0
+IsDoing {O} meaning limit plan first old mid now reader = (given : List (Record O)) × IsAt meaning limit plan first old mid now reader given given
 
-module _ {O : Type 0} (meaning : Bounds → Meaning O) (limit : ℕ) (plan : PlanView) (log : RecordLogView) (first : Laid) (old : Disk) where
-  -- none was
-  pub done_none : (now : Store) → IsDisk old → now.objects ≡ first → ((x : ℕ) → held first.cache x ≡ None) → now.entries ≡ [] → IsDone meaning limit plan log first old old now []
-  done_none now lawful same none empty =
-      let cached : (x : ℕ) → held now.objects.cache x ≡ None = λ x. ap (λ (l : Laid). held l.cache x) same ∙ none x in
-      record {
-        runs = runs_none old (In Objects Any) (λ files. record { changed = tt; others = λ other ne. refl }) lawful;
-        settled = λ is. is;
-        of_file = λ told is. subst (λ (l : Laid). AreOf l.slots (old.reads Objects)) (sym same) is;
-        laid = λ told is. subst (λ (l : Laid). IsLaidOn l (old.reads Objects)) (sym same) is;
-        in_use = subst (λ (l : Laid). AreInUse l.slots.params 0 now) same (begun_in_use now cached empty);
-        early = λ early. subst (λ (l : Laid). AreEarly log.next l) (sym same) early;
-        shown = λ told settled p w to.
-            let m = meaning (bounds_of p) in
-            record {
-              later = numbered_from plan.start to.stable;
-              split = refl;
-              so_far = begun m p limit w old.reads first.slots plan (numbered_from plan.start to.stable) now to.due (ap (λ (l : Laid). l.slots) same) cached empty
-                  (due_members m p old.reads first.slots plan to.stable w to.due);
-            };
-        moments = λ moments settled p w to.
-            let m = meaning (bounds_of p) in
-            (0, takes_none m p limit w old lawful moments settled to.due.found.shows (turns m limit 0 w));
-      }
+-- some turns are some of the steps of the redo
+pub steps_of : {O : Type 0} (m : Meaning O) (p : Params) (limit : ℕ) {old new : Disk} {log : RecordLogView} {slots : SlotsView} {plan : PlanView} (w : World O) → IsLogDue m p old log slots plan w
+    → (n : ℕ) × TakesSome m p old new w (turns m limit n w) → TakesSome m p old new w (redo_steps m limit w)
+steps_of m p limit {old} {new} w to some = turns_are_steps m p limit w (λ n. ap (λ (f : ℕ → Bool). f n) (crashed-graph m w to.due.found.crashed)) old new some.0 some.1
 
-  module _ (mid : Disk) (now : Store) (given : List (Record O)) (done : IsDone meaning limit plan log first old mid now given) where
-    -- what a crash leaves over a call that changes nothing
-    pub still_moments : (next : Disk) → Stays mid next → old.tells_moments → IsSettled old → (p : Params) (w : World O) → IsLogDue (meaning (bounds_of p)) p old log first.slots plan w
-        → (n : ℕ) × TakesSome (meaning (bounds_of p)) p old next w (turns (meaning (bounds_of p)) limit n w)
-    still_moments next kept moments settled p w to =
+module _ {O : Type 0} {meaning : Bounds → Meaning O} {limit : ℕ} {plan : PlanView} {first : StoreView} {old : Disk} where
+  -- none was done
+  pub done_none : IsDisk old → first.broken ≡ false → ((x : ℕ) → held first.parts.store.objects.cache x ≡ None) × (first.parts.store.entries ≡ []) → IsDone meaning limit plan first old old first []
+  done_none lawful fine empty = record {
+    part = record { call = call_none meaning old first Never lawful fine; objects = objects_none old first lawful };
+    above = subst (λ (es : List Entry). All (λ n. n < 0) (numbers es)) (sym empty.1) (All-nil (λ n. n < 0));
+    shown = λ told settled p w to.
         let m = meaning (bounds_of p) in
-        let told = done.runs.begins.telling moments in
+        let slots = first.parts.store.objects.slots in
+        record {
+          later = numbered_from plan.start to.stable;
+          split = refl;
+          so_far = begun m p limit w old.reads slots plan (numbered_from plan.start to.stable) first.parts.store to.due refl empty.0 empty.1
+              (due_members m p old.reads slots plan to.stable w to.due);
+        };
+    moments = λ told settled p w to. let m = meaning (bounds_of p) in (0, takes_none m p limit w old lawful told settled to.due.found.shows (turns m limit 0 w));
+  }
+
+  module _ {mid : Disk} {now : StoreView} {given : List (Record O)} (done : IsDone meaning limit plan first old mid now given) where
+    settled_now : IsSettled old → IsSettled mid
+    settled_now = part_settled done.part
+
+    -- what a crash leaves over a call that changes nothing
+    pub still_moments : {next : Disk} → Stays mid next → old.tells_moments → IsSettled old → (p : Params) (w : World O) → IsToDo meaning plan first old p w → (n : ℕ) × TakesSome (meaning (bounds_of p)) p old next w (turns (meaning (bounds_of p)) limit n w)
+    still_moments {next} kept moments settled p w to =
+        let m = meaning (bounds_of p) in
+        let runs = done.part.objects.runs in
+        let told = runs.begins.telling moments in
         let so = (done.shown told settled p w to).so_far in
         let v = run m w (turns m limit so.turned w) in
         let before = done.moments moments settled p w to in
-        let still = stays_moments m p limit w mid next v (turns m limit 0 v) (done.runs.time.moments_told.0 moments) (done.settled settled) kept so.shown.files_show in
-        join_moments m p limit w old mid next before.0 so.turned 0 (done.runs.said told) before.1 still
+        let still = stays_moments m p limit w mid next v (turns m limit 0 v) (runs.time.moments_told.0 moments) (settled_now settled) kept so.shown.files_show in
+        join_moments m p limit w old mid next before.0 so.turned 0 (runs.said told) before.1 still
 
     -- such a call
-    pub done_still : (next : Disk) → Stays mid next → IsDone meaning limit plan log first old next now given
-    done_still next kept = record {
-      runs = runs_then_stays old mid next (In Objects Any) done.runs kept;
-      settled = λ is file. stays_settled mid next file kept (done.settled is file);
-      of_file = λ told is. subst (λ (f : Files). AreOf now.objects.slots (f Objects)) (sym (kept.reads (done.runs.time.files_told.0 told))) (done.of_file told is);
-      laid = λ told is. subst (λ (f : Files). IsLaidOn now.objects (f Objects)) (sym (kept.reads (done.runs.time.files_told.0 told))) (done.laid told is);
-      in_use = done.in_use;
-      early = done.early;
-      shown = λ told settled p w to.
-          let left = done.shown told settled p w to in
-          record {
-            later = left.later;
-            split = left.split;
-            so_far = subst (λ (f : Files). SoFar (meaning (bounds_of p)) p f now limit w left.later) (sym (kept.reads (done.runs.time.files_told.0 told))) left.so_far;
-          };
-      moments = λ moments settled p w to. still_moments next kept moments settled p w to;
-    }
+    pub done_still : {next : Disk} {after : StoreView} → Stays mid next → after ≡ record now { broken = false } → IsDone meaning limit plan first old next after given
+    done_still {next} {after} kept same =
+        let parts : after.parts ≡ now.parts = ap (λ (s : StoreView). s.parts) same in
+        let read = part_fetch meaning Done (fetch_log {fault = ⊥} kept same (λ is. cc, λ none. absurd none)) (λ none. none, λ none. none) (λ stop is. cc) (λ none. absurd none) in
+        record {
+          part = part_twice done.part read;
+          above = subst (λ (it : Parts). All (λ n. n < reached 0 given) (numbers it.store.entries)) (sym parts) done.above;
+          shown = λ told settled p w to.
+              let left = done.shown told settled p w to in
+              let told_mid = done.part.objects.runs.time.files_told.0 told in
+              record {
+                later = left.later;
+                split = left.split;
+                so_far = subst (λ (f : Files). SoFar (meaning (bounds_of p)) p f after.parts.store limit w left.later) (sym (kept.reads told_mid))
+                    (subst (λ (it : Parts). SoFar (meaning (bounds_of p)) p mid.reads it.store limit w left.later) (sym parts) left.so_far);
+              };
+          moments = still_moments kept;
+        }
 
     -- such a call finds too long a value in the slot of one of these objects
-    pub slot_fault : (next : Disk) (after : SlotsView) (objects : List ℕ) (file : FileNo) (place : ℕ) → Stays mid next → after ≡ now.objects.slots → HasLongSlot next now.objects.slots objects file place
-        → IsSlotFault old next first.slots after file place
-    slot_fault next after objects file place kept same long = record {
-      never = λ told is. long_untold now.objects.slots long.object file place kept (done.runs.time.files_told.0 told) (done.of_file told is) long.slot;
-      params = ap (λ (s : SlotsView). s.params) same ∙ done.in_use.params;
+    pub slot_fault : ((x : ℕ) → held first.parts.store.objects.cache x ≡ None) → {next : Disk} {after : SlotsView} {objects : List ℕ} {file : FileNo} {place : ℕ} → Stays mid next → after ≡ now.parts.store.objects.slots
+        → HasLongSlot next now.parts.store.objects.slots objects file place → IsSlotFault old next first.parts.store.objects.slots after file place
+    slot_fault none {next} {after} {objects} {file} {place} kept same long = record {
+      never = λ told is.
+          let laid = part_laid done.part told (record { slots = is; clean = λ x e clean had. let h : None ≡ Some e = sym (none x) ∙ had in cc }) in
+          long_untold now.parts.store.objects.slots long.object file place kept (done.part.objects.runs.time.files_told.0 told) laid.slots long.slot;
+      params = ap (λ (s : SlotsView). s.params) same ∙ done.part.call.params;
       object = long.object;
       long = subst (λ (s : SlotsView). IsLongSlot next s long.object file place) (sym same) long.slot;
     }
 
-    -- what is read now may be the files
-    reads_agree : old.tells_files → mid.agrees mid.reads
-    reads_agree told = done.runs.ends.agreeing (done.runs.time.files_told.0 told)
+    module _ (used : ArePartsInUse first.parts) (told : old.tells_files) (settled : IsSettled old) (p : Params) (w : World O) (to : IsToDo meaning plan first old p w) (codes : HasCodes (meaning (bounds_of p))) where
+      abbrev pub log : RecordLogView
+      log = first.parts.log
 
-    -- the log's records are where they were
-    keeps_on : (told : old.tells_files) (settled : IsSettled old) (p : Params) (w : World O) → (to : IsLogDue (meaning (bounds_of p)) p old log first.slots plan w) → Keeps (meaning (bounds_of p)) mid log to.stable []
-    keeps_on told settled p w to = keeps_beside (meaning (bounds_of p)) p old mid log to.stable [] (done.runs.reads told).others (done.settled settled) to.keeps
+      -- what is read now may be the files
+      agree : mid.agrees mid.reads
+      agree = done.part.objects.runs.ends.agreeing (done.part.objects.runs.time.files_told.0 told)
 
-    module _ (bounds : log.bounds ≡ bounds_of first.slots.params) (told : old.tells_files) (settled : IsSettled old) (p : Params) (w : World O) (to : IsLogDue (meaning (bounds_of p)) p old log first.slots plan w) (codes : HasCodes (meaning (bounds_of p))) where
+      -- the log's records are where they were
+      keeps : Keeps (meaning (bounds_of p)) mid log to.stable []
+      keeps = keeps_beside (meaning (bounds_of p)) p old mid log to.stable [] (done.part.objects.runs.reads told).others (settled_now settled) to.keeps
+
       same_bounds : log.bounds ≡ bounds_of p
-      same_bounds = bounds ∙ ap (λ (q : Params). bounds_of q) to.due.params
+      same_bounds = used.bounds ∙ ap (λ (q : Params). bounds_of q) to.due.params
 
       -- the reader has given one more
-      pub next_left : (reader : NumberedReaderView) (r : Record O) → reader.from ≡ plan.start → IsReadingNumbered (meaning log.bounds) mid log reader (given ++ r ∷ [])
-          → IsLeftWith (meaning (bounds_of p)) p mid.reads now limit w (numbered_from plan.start to.stable) given r
-      next_left reader r from reading =
+      pub next_left : {reader : NumberedReaderView} {r : Record O} → reader.from ≡ plan.start → reader.records.bounds ≡ log.bounds → IsReadingNumbered (meaning reader.records.bounds) mid log reader (given ++ r ∷ [])
+          → IsLeftWith (meaning (bounds_of p)) p mid.reads now.parts.store limit w (numbered_from plan.start to.stable) given r
+      next_left {reader} {r} from bounds reading =
           let m = meaning (bounds_of p) in
-          let own = subst (λ (b : Bounds). IsReadingNumbered (meaning b) mid log reader (given ++ r ∷ [])) same_bounds reading in
-          let front = given_first m codes mid log reader (given ++ r ∷ []) to.stable [] (reads_agree told) (keeps_on told settled p w to) own in
+          let own = subst (λ (b : Bounds). IsReadingNumbered (meaning b) mid log reader (given ++ r ∷ [])) (bounds ∙ same_bounds) reading in
+          let front = given_first m codes mid log reader (given ++ r ∷ []) to.stable [] agree keeps own in
           let all : numbered_from plan.start to.stable ≡ (given ++ r ∷ []) ++ front.0 = ap (λ (n : ℕ). numbered_from n to.stable) (sym from) ∙ front.1 in
           let left = done.shown told settled p w to in
           let here : left.later ≡ r ∷ front.0 = append_cancel_left given left.later (r ∷ front.0) (sym left.split ∙ all ∙ append_assoc given (r ∷ []) front.0) in
-          record { rest = front.0; split = all; so_far = subst (λ (l : List (Record O)). SoFar m p mid.reads now limit w l) here left.so_far }
+          record { rest = front.0; split = all; so_far = subst (λ (l : List (Record O)). SoFar m p mid.reads now.parts.store limit w l) here left.so_far }
 
-      -- which was done by a call that leaves the machine as it is
-      pub next_on : (reader : NumberedReaderView) (r : Record O) → reader.from ≡ plan.start → IsReadingNumbered (meaning log.bounds) mid log reader (given ++ r ∷ [])
-          → (next : Disk) (after : Store) → Stays mid next → ((n : ℕ) → IsSound (meaning (bounds_of p)) (at (meaning (bounds_of p)) limit w n))
-          → ((v : World O) → IsSound (meaning (bounds_of p)) v → FilesShow (meaning (bounds_of p)) p mid.reads v → FilesShow (meaning (bounds_of p)) p mid.reads (step (meaning (bounds_of p)) v Replay))
-          → ((v : World O) → IsSound (meaning (bounds_of p)) v → ShowsStore (meaning (bounds_of p)) p (mid.reads Objects) now v → IsNextRecord v plan.table r
-          → ShowsStore (meaning (bounds_of p)) p (mid.reads Objects) after (after_record (meaning (bounds_of p)) v r))
-          → IsOnWith (meaning (bounds_of p)) p next.reads after limit w (numbered_from plan.start to.stable) given r
-      next_on reader r from reading next after kept sound unseen goes =
+      -- or it has given all, and the redo is over
+      pub all_done : {from : ℕ} → from ≡ plan.start → AreAllNumbered (meaning log.bounds) mid log from given
+          → ((n x : ℕ) → IsLive (at (meaning (bounds_of p)) limit w n) → ((at (meaning (bounds_of p)) limit w n).cache x).value ≡ state_after (meaning (bounds_of p)) (commands_of w.history) x)
+          → IsRedone (meaning (bounds_of p)) p mid.reads now.parts.store limit w
+      all_done {from} is ended_there map =
           let m = meaning (bounds_of p) in
-          let left = next_left reader r from reading in
+          let own = subst (λ (b : Bounds). AreAllNumbered (meaning b) mid log from given) same_bounds ended_there in
+          let all : numbered_from plan.start to.stable ≡ given = ap (λ (n : ℕ). numbered_from n to.stable) (sym is) ∙ given_all m codes mid log from given to.stable [] agree keeps own in
+          let left = done.shown told settled p w to in
+          let none : left.later ≡ [] = append_cancel_left given left.later [] (sym left.split ∙ all ∙ sym (append-nil given)) in
+          ended m limit w p mid.reads now.parts.store (λ n. ap (λ (f : ℕ → Bool). f n) (crashed-graph m w to.due.found.crashed)) map
+          (subst (λ (l : List (Record O)). SoFar m p mid.reads now.parts.store limit w l) none left.so_far)
+
+  -- what the next call of the reader gives
+  module _ {mid : Disk} (next : Disk) {now : StoreView} {before : NumberedReaderView} (after : NumberedReaderView) (found : Option (Record O)) (is : IsDoing meaning limit plan first old mid now before)
+      (gives : (other : RecordLogView) (given : List (Record O)) → IsReadingNumbered (meaning before.records.bounds) mid other before given → HasGiven (meaning before.records.bounds) next other after given found) where
+    pub next_given : {r : Record O} {later : StoreView} → Stays mid next → later ≡ record now { broken = false } → after ≡ record before { records = after.records } → after.records.bounds ≡ before.records.bounds → found ≡ Some r
+        → IsAt meaning limit plan first old next later after is.0 (is.0 ++ r ∷ [])
+    next_given {r} kept still same bounds one = record {
+      so_far = done_still is.1.so_far kept still;
+      from = ap (λ (v : NumberedReaderView). v.from) same ∙ is.1.from;
+      bounds = bounds ∙ is.1.bounds;
+      reading = subst (λ (b : Bounds). IsReadingNumbered (meaning b) next first.parts.log after (is.0 ++ r ∷ [])) (sym bounds)
+          (subst (λ (o : Option (Record O)). HasGiven (meaning before.records.bounds) next first.parts.log after is.0 o) one (gives first.parts.log is.0 is.1.reading));
+    }
+
+    pub none_given : found ≡ None → AreAllNumbered (meaning first.parts.log.bounds) next first.parts.log after.from is.0
+    none_given none = subst (λ (b : Bounds). AreAllNumbered (meaning b) next first.parts.log after.from is.0) is.1.bounds
+        (subst (λ (o : Option (Record O)). HasGiven (meaning before.records.bounds) next first.parts.log after is.0 o) none (gives first.parts.log is.0 is.1.reading))
+
+  module _ {mid : Disk} {now : StoreView} {reader : NumberedReaderView} {given : List (Record O)} (r : Record O) (is : IsAt meaning limit plan first old mid now reader given (given ++ r ∷ [])) (used : ArePartsInUse first.parts) where
+    -- it is of the grammar, and its number is above those before
+    pub next_in_grammar : IsRecord (meaning (bounds_of (params_of now))) r
+    next_in_grammar = subst (λ (q : Params). IsRecord (meaning (bounds_of q)) r) (sym is.so_far.part.call.params)
+        (subst (λ (b : Bounds). IsRecord (meaning b) r) (is.bounds ∙ used.bounds) (last_in_grammar (meaning reader.records.bounds) mid first.parts.log reader given r is.reading))
+
+    rising : Rise (reached 0 given) (next_of first) (r ∷ [])
+    rising = (reached_rise 0 (next_of first) given (r ∷ []) (omega arith) (given_rise (meaning reader.records.bounds) mid first.parts.log reader (given ++ r ∷ []) 0 (next_of first) (omega arith) (omega arith) is.reading)).1
+
+    pub next_above : IsAbove now r
+    next_above = is_above (reached 0 given) now r is.so_far.above (subst (λ (l : RecordLogView). Rise (reached 0 given) l.next (r ∷ [])) (sym is.so_far.part.objects.log) rising)
+
+    -- The record is replayed.
+    module _ {next : Disk} {after : StoreView} (replayed : IsReplay mid next now after (λ k. IsBelow k r) ⊥)
+        (shown : mid.tells_files → (p : Params) (w : World O) → IsSound (meaning (bounds_of p)) w → ShowsStore (meaning (bounds_of p)) p (mid.reads Objects) now.parts.store w → IsNextRecord w plan.table r
+        → ShowsStore (meaning (bounds_of p)) p (mid.reads Objects) after.parts.store (after_record (meaning (bounds_of p)) w r))
+        (codes : (b : Bounds) → IsSmall b → HasCodes (meaning b))
+        (sound : (b : Bounds) (w : World O) (limit n : ℕ) → IsSmall b → IsSound (meaning b) w → IsAllStable w → IsSound (meaning b) (run (meaning b) w (turns (meaning b) limit n w)))
+        (unseen : (p : Params) (files : Files) (w : World O) (next : Step O) → IsSound (meaning (bounds_of p)) w → IsUnseen next → FilesShow (meaning (bounds_of p)) p files w → FilesShow (meaning (bounds_of p)) p files (step (meaning (bounds_of p)) w next)) where
+      abbrev all_of : (p : Params) (w : World O) → IsToDo meaning plan first old p w → List (Record O)
+      all_of p w to = numbered_from plan.start to.stable
+
+      pub part_on : IsPart meaning old next first after Done
+      part_on = part_twice is.so_far.part (part_replay meaning Done replayed (λ stop ends. cc) (λ none. absurd none))
+
+      above_on : All (λ n. n < reached 0 (given ++ r ∷ [])) (numbers after.parts.store.entries)
+      above_on = subst (λ (k : ℕ). All (λ n. n < k) (numbers after.parts.store.entries)) (sym (reached_more 0 given r))
+          (behind_above (reached 0 given) (next_of first) now.parts.store.entries after.parts.store.entries r is.so_far.above rising
+          (λ k low all. replayed.set.entries k low (subst (λ (es : List Entry). All (λ n. n < k) (numbers es)) (sym replayed.read.entries) all)))
+
+      sound_at : (p : Params) (w : World O) → IsToDo meaning plan first old p w → (n : ℕ) → IsSound (meaning (bounds_of p)) (at (meaning (bounds_of p)) limit w n)
+      sound_at p w to n =
+          let found = to.due.found in
+          sound (bounds_of p) w limit n (small_store p (old.reads Objects) found.shows.objects) found.sound (crashed-stable (meaning (bounds_of p)) w found.crashed found.sound)
+
+      next_on : old.tells_files → IsSettled old → (p : Params) (w : World O) → (to : IsToDo meaning plan first old p w) → IsOnWith (meaning (bounds_of p)) p next.reads after.parts.store limit w (all_of p w to) given r
+      next_on told settled p w to =
+          let m = meaning (bounds_of p) in
+          let told_mid = is.so_far.part.objects.runs.time.files_told.0 told in
+          let left = next_left is.so_far used told settled p w to (codes (bounds_of p) (small_store p (old.reads Objects) to.due.found.shows.objects)) is.from is.bounds is.reading in
           let so = left.so_far in
           let v = at m limit w so.turned in
-          let shows = goes v (sound so.turned) so.shown.store_shows (next_is m p limit w plan.table to.due.table so.turned r left.rest so.members) in
-          let on = on_record m p limit w mid.reads now after r left.rest so (unseen v (sound so.turned) so.shown.files_show) shows in
+          let shows = shown told_mid p v (sound_at p w to so.turned) so.shown.store_shows (next_is m p limit w plan.table to.due.table so.turned r left.rest so.members) in
+          let on = on_record m p limit w mid.reads now.parts.store after.parts.store r left.rest so (unseen p mid.reads v Replay (sound_at p w to so.turned) tt so.shown.files_show) shows in
           record {
             rest = left.rest;
             split = left.split;
-            on = subst (λ (f : Files). IsOn m p limit w f after left.rest) (sym (kept.reads (done.runs.time.files_told.0 told))) on;
+            on = subst (λ (f : Files). IsOn m p limit w f after.parts.store left.rest) (sym (replayed.read.read.stays.reads told_mid)) on;
           }
 
-      -- or the reader has given all
-      pub none_left : (from : ℕ) → from ≡ plan.start → AreAllNumbered (meaning log.bounds) mid log from given → SoFar (meaning (bounds_of p)) p mid.reads now limit w []
-      none_left from is ended =
+      stable_at : (p : Params) (w : World O) → IsToDo meaning plan first old p w → (n : ℕ) → IsAllStable (at (meaning (bounds_of p)) limit w n)
+      stable_at p w to n =
           let m = meaning (bounds_of p) in
-          let own = subst (λ (b : Bounds). AreAllNumbered (meaning b) mid log from given) same_bounds ended in
-          let all : numbered_from plan.start to.stable ≡ given = ap (λ (n : ℕ). numbered_from n to.stable) (sym is) ∙ given_all m codes mid log from given to.stable [] (reads_agree told) (keeps_on told settled p w to) own in
-          let left = done.shown told settled p w to in
-          let none : left.later ≡ [] = append_cancel_left given left.later [] (sym left.split ∙ all ∙ sym (append-nil given)) in
-          subst (λ (l : List (Record O)). SoFar m p mid.reads now limit w l) none left.so_far
+          kept_stable w (at m limit w n) (turns_kept m limit n w) (crashed-stable m w to.due.found.crashed to.due.found.sound)
 
-  -- what the next call of the reader gives
-  module _ (mid next : Disk) (now : Store) (before after : NumberedReaderView) (found : Option (Record O)) (is : IsDoing meaning limit plan log first old mid now before) where
-    -- the call was told so
-    abbrev pub Gives : Type 0
-    Gives = (other : RecordLogView) (given : List (Record O)) → IsReadingNumbered (meaning before.records.bounds) mid other before given → HasGiven (meaning before.records.bounds) next other after given found
+      shows_on : (told : old.tells_files) (settled : IsSettled old) (p : Params) (w : World O) (to : IsToDo meaning plan first old p w) → StoreShows (meaning (bounds_of p)) p next after.parts.store (at (meaning (bounds_of p)) limit w (next_on told settled p w to).on.turned)
+      shows_on told settled p w to =
+          let m = meaning (bounds_of p) in
+          let on = (next_on told settled p w to).on in
+          store_shows_now m p next after.parts.store (at m limit w on.turned) (part_on.objects.runs.time.files_told.0 told) (part_settled part_on settled)
+          (sound_at p w to on.turned) (stable_at p w to on.turned) on.shown.files_show on.shown.store_shows
 
-    has_given : Gives → HasGiven (meaning log.bounds) next log after is.given found
-    has_given gives = subst (λ (b : Bounds). HasGiven (meaning b) next log after is.given found) is.bounds
-        (gives log is.given (subst (λ (b : Bounds). IsReadingNumbered (meaning b) mid log before is.given) (sym is.bounds) is.reading))
+      -- Thin nodes are installed after it.
+      module _ {new : Disk}
+          (takes : next.tells_moments → (p : Params) (w : World O) → StoreShows (meaning (bounds_of p)) p next after.parts.store w → IsAllStable w
+          → (turned : ℕ) × TakesSome (meaning (bounds_of p)) p next new w (turns (meaning (bounds_of p)) limit turned w)) where
+        pub moments_on : old.tells_moments → IsSettled old → (p : Params) (w : World O) → IsToDo meaning plan first old p w → (n : ℕ) × TakesSome (meaning (bounds_of p)) p old new w (turns (meaning (bounds_of p)) limit n w)
+        moments_on moments settled p w to =
+            let m = meaning (bounds_of p) in
+            let runs = part_on.objects.runs in
+            let told = runs.begins.telling moments in
+            let turned = (next_on told settled p w to).on.turned in
+            let still = still_moments is.so_far replayed.read.read.stays moments settled p w to in
+            let installs = takes (runs.time.moments_told.0 moments) p (at m limit w turned) (shows_on told settled p w to) (stable_at p w to turned) in
+            join_moments m p limit w old next new still.0 turned installs.0 (runs.said told) still.1 installs.1
 
-    pub next_given : (r : Record O) → Stays mid next → after ≡ record before { records = after.records } → after.records.bounds ≡ before.records.bounds → found ≡ Some r → Gives
-        → IsNext meaning limit plan log first old next now after is.given r
-    next_given r kept same bounds one gives = record {
-      done = done_still mid now is.given is.done next kept;
-      from = ap (λ (v : NumberedReaderView). v.from) same ∙ is.from;
-      bounds = bounds ∙ is.bounds;
-      reading = subst (λ (o : Option (Record O)). HasGiven (meaning log.bounds) next log after is.given o) one (has_given gives);
-    }
-
-    pub none_given : found ≡ None → Gives → AreAllNumbered (meaning log.bounds) next log after.from is.given
-    none_given none gives = subst (λ (o : Option (Record O)). HasGiven (meaning log.bounds) next log after is.given o) none (has_given gives)
-
-  module _ (mid : Disk) (now : Store) (reader : NumberedReaderView) (given : List (Record O)) (r : Record O) (is : IsNext meaning limit plan log first old mid now reader given r) where
-    -- it is of the grammar, and its number is above those before
-    pub next_in_grammar : IsRecord (meaning log.bounds) r
-    next_in_grammar = last_in_grammar (meaning log.bounds) mid log reader given r is.reading
-
-    pub next_rises : (end : ℕ) → log.next ≤ end → (reached 0 given ≤ end) × Rise (reached 0 given) end (r ∷ [])
-    next_rises end low = reached_rise 0 end given (r ∷ []) (omega arith) (given_rise (meaning log.bounds) mid log reader (given ++ r ∷ []) 0 end (omega arith) low is.reading)
+        pub done_on : {last : StoreView} → IsPart meaning next new after last Done → ((k : ℕ) → All (λ n. n < k) (numbers after.parts.store.entries) → All (λ n. n < k) (numbers last.parts.store.entries))
+            → ((p : Params) (w : World O) → StoreShows (meaning (bounds_of p)) p next after.parts.store w → IsAllStable w → IsLimited (meaning (bounds_of p)) p new.reads last.parts.store limit w)
+            → IsDone meaning limit plan first old new last (given ++ r ∷ [])
+        done_on {last} part entries limited = record {
+          part = part_twice part_on part;
+          above = entries (reached 0 (given ++ r ∷ [])) above_on;
+          shown = λ told settled p w to.
+              let m = meaning (bounds_of p) in
+              let is = next_on told settled p w to in
+              record {
+                later = is.rest;
+                split = is.split;
+                so_far = limited_so_far m p limit w new.reads last.parts.store is.on.turned is.rest (limited p (at m limit w is.on.turned) (shows_on told settled p w to) (stable_at p w to is.on.turned)) is.on.members;
+              };
+          moments = moments_on;
+        }
 
     -- and the reader may go on when the objects have changed
-    pub reads_on : (next new : Disk) → Stays mid next → Runs (In Objects Any) Same next new → IsReadingNumbered (meaning log.bounds) new log reader (given ++ r ∷ [])
-    reads_on next new kept runs =
-        goes_on_beside (meaning log.bounds) mid new log reader (given ++ r ∷ [])
+    pub reads_on : {next new : Disk} → Stays mid next → Runs (In Objects Any) Same next new → IsReadingNumbered (meaning reader.records.bounds) new first.parts.log reader (given ++ r ∷ [])
+    reads_on {next} {new} kept runs =
+        goes_on_beside (meaning reader.records.bounds) mid new first.parts.log reader (given ++ r ∷ [])
         (λ files agrees. let was = runs.agreed files agrees in (was.0, agreed_before kept was.0 was.1, was.2.others)) is.reading
-
--- the numbers of the records that were given are below the log's next one
-pub given_reach : {O : Type 0} (meaning : Bounds → Meaning O) (mid : Disk) (log : RecordLogView) (reader : NumberedReaderView) (given : List (Record O)) → IsReadingNumbered (meaning log.bounds) mid log reader given → reached 0 given ≤ log.next
-given_reach meaning mid log reader given reading =
-    let rise = given_rise (meaning log.bounds) mid log reader given 0 log.next (omega arith) (omega arith) reading in
-    (reached_rise 0 log.next given [] (omega arith) (subst (λ (l : List (Record _)). Rise 0 log.next l) (sym (append-nil given)) rise)).0
 
 -- why the log is not read
 pub log_fails : (rises rises' : Type 0) (fault fault' : FileNo → ℕ → Type 0) (e : LogErr) → (rises → rises') → ((file : FileNo) (place : ℕ) → fault file place → fault' file place)
@@ -259,3 +338,19 @@ log_fails rises rises' fault fault' (of_log.LogFull used need limit) risen there
 log_fails rises rises' fault fault' (of_log.Damaged file place) risen there fails = there file place fails
 log_fails rises rises' fault fault' (of_log.Exhausted epoch) risen there fails = tt
 log_fails rises rises' fault fault' of_log.Memory risen there fails = tt
+
+-- a call that fails as the log is read
+pub part_log : {O : Type 0} (T : Type 0) (meaning : Bounds → Meaning O) {old new : Disk} {before after : StoreView} (fault : FileNo → ℕ → Type 0) (why : LogErr) → Stays old new → after ≡ record before { broken = is_log_fault why }
+    → frames.FailsBy (Rises old.disk_faults new.disk_faults) fault why → IsPart meaning old new before after (ending_of_redo {T = T} (Err (from_log why)))
+part_log T meaning {old} {new} fault why stays same fails =
+    let rises = Rises old.disk_faults new.disk_faults in
+    part_fetch meaning (ending_of_redo {T = T} (Err (from_log why))) (fetch_log {fault = is_log_fault why ≡ true} stays same (λ is. is, λ is. is)) (log_failed T why)
+    (never_stopped {T = T} (Err (from_log why))) (rises_of T rises fault (from_log why) (log_fails rises rises fault fault why (λ risen. risen) (λ file place there. there) fails))
+
+-- and one that fails as a thin node is installed
+pub part_thin : {O : Type 0} (S T : Type 0) {meaning : Bounds → Meaning O} {old new : Disk} {before after : StoreView} (why : ThinErr) → IsCall meaning old new before after 0 Never (ending_of_thin {T = S} (Err why)) → IsBeside old new before after
+    → IsPart meaning old new before after (ending_of_redo {T = T} (Err (from_installs why)))
+part_thin S T {meaning} {old} {new} {before} {after} why call beside = record {
+  call = subst (λ (e : Ending). IsCall meaning old new before after 0 Never e) (thin_ends S T why) call;
+  objects = beside.objects;
+}

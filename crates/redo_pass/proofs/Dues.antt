@@ -1,5 +1,6 @@
 -- The objects that are due, taken one after the other.
 use Rattle.std.proofs.Common.{◌≡◌, ◌∙◌, sym, ap, ℕ, ◌+◌, ◌<◌, ◌==◌, ◌&&◌, ◌||◌, Bool, true, false, List, [], ◌∷◌, ◌++◌, length, take, slice_index, refl}
+use Rattle.std.proofs.Math.Bool.{or-false}
 use Rattle.std.proofs.lemmas.Bool.{eqb-true}
 use Rattle.std.proofs.lemmas.List.{take_more}
 use Rattle.std.proofs.lemmas.List.Folds.{list_any-append}
@@ -7,11 +8,7 @@ use Rattle.oper_core.specs.State.{is_among}
 
 -- an object more in a list
 pub among_more : (due : List ℕ) (o x : ℕ) → is_among x (due ++ o ∷ []) ≡ (is_among x due || (x == o))
-among_more due o x = list_any-append (λ y. x == y) due (o ∷ []) ∙ ap (λ (b : Bool). is_among x due || b) (or_false (x == o))
-  where
-    or_false : (b : Bool) → (b || false) ≡ b
-    or_false true = refl
-    or_false false = refl
+among_more due o x = list_any-append (λ y. x == y) due (o ∷ []) ∙ ap (λ (b : Bool). is_among x due || b) (or-false (x == o))
 
 -- tests of two objects that are one where they count
 cases : (e t s a : Bool) → (e ≡ true → s ≡ t) → ((a && t) || (e && s)) ≡ ((a || e) && t)
@@ -25,11 +22,7 @@ cases true false s a same = ap (λ (b : Bool). (a && false) || b) (same refl) �
     none : (b : Bool) → ((b && false) || false) ≡ ((b || true) && false)
     none true = refl
     none false = refl
-cases false t s true same = or_false t
-  where
-    or_false : (b : Bool) → (b || false) ≡ b
-    or_false true = refl
-    or_false false = refl
+cases false t s true same = or-false t
 cases false t s false same = refl
 
 -- the due ones among one object more

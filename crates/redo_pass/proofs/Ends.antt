@@ -16,7 +16,7 @@ use Rattle.explain_core.specs.Turns.{has_work, must_install, thin_name, thin_ste
 use Rattle.explain_core.specs.World.{World, Step, run, end_of, IsLive, node_named}
 use Rattle.explain_core.specs.World.Step.{Slot_gate, Removal, Replay}
 use Rattle.standing.specs.Standing.{FilesShow}
-use Rattle.cache_manager.specs.Parts.{Store, ShowsStore}
+use Rattle.running_store.specs.Parts.{Store, ShowsStore}
 use Rattle.redo_pass.specs.Progress.{SoFar}
 use Rattle.redo_pass.specs.Redo.{IsRedone, redone_world}
 

@@ -1,7 +1,8 @@
 -- One record more is replayed, and nodes are installed after it: how far a redo then has come.
-use Rattle.std.proofs.Common.{◌≡◌, ◌∙◌, sym, ap, subst, ℕ, zero, suc, ◌+◌, ◌-◌, ◌<◌, ◌≤◌, false, Some, List, [], ◌∷◌, length, arith, inl, inr}
-use Rattle.std.specs.Prelude.{◌*◌, slice_get}
+use Rattle.std.proofs.Common.{◌≡◌, ◌∙◌, sym, ap, subst, ℕ, zero, suc, ◌+◌, ◌-◌, ◌≤◌, false, Some, List, length, arith, inl, inr}
+use Rattle.std.specs.Prelude.{◌*◌}
 use Rattle.std.proofs.lemmas.Bool.{cases_lt}
+use Rattle.std.proofs.lemmas.Option.{slice_get_within}
 use Rattle.disk_model.specs.Disk.{Files, Disk}
 use Rattle.disk_model.specs.declared.machine.FileNo.TheVariants.{Objects}
 use Rattle.oper_core.specs.Meaning.{Meaning}
@@ -16,30 +17,29 @@ use Rattle.explain_core.specs.World.{World, Step, step, run, end_of}
 use Rattle.explain_core.specs.World.Step.{Replay}
 use Rattle.standing.specs.Moments.{TakesSome, moments_longer}
 use Rattle.standing.specs.Standing.{FilesShow}
-use Rattle.cache_manager.specs.Parts.{Store, ShowsStore}
+use Rattle.running_store.specs.Parts.{Store, ShowsStore}
 use Rattle.redo_pass.specs.Progress.{HasTurned, SoFar, IsLimited}
 use Rattle.redo_pass.specs.Redo.{redo_steps}
 use Rattle.redo_pass.specs.Rising.{AreMembers}
 use Rattle.redo_pass.proofs.Ends.{at, no_more}
 
 -- a number that some member has is within the history
-member_within : {X : Type 0} (l : List X) (k : ℕ) (x : X) → slice_get l k ≡ Some x → k < length l
-member_within [] k x is = cc
-member_within (y ∷ l) zero x is = omega arith
-member_within (y ∷ l) (suc k) x is = let r = member_within l k x is in omega (arith, r)
-
 pub numbered_within : {O : Type 0} (h : List (Member O)) (n : ℕ) (it : Member O) → numbered h n ≡ Some it → n ≤ length h
 numbered_within h zero it is = omega arith
-numbered_within h (suc n) it is = let r = member_within h n it is in omega (arith, r)
+numbered_within h (suc n) it is = let r = slice_get_within h n it is in omega (arith, r)
 
 module _ {O : Type 0} (m : Meaning O) (p : Params) (limit : ℕ) (w : World O) where
   -- the next member is replayed: that is one turn more
-  pub replay_turned : (files : Files) (it after : Store) (turned : ℕ) → must_install m limit (at m limit w turned) ≡ false → (at m limit w turned).next ≤ length w.history
-      → FilesShow m p files (step m (at m limit w turned) Replay) → ShowsStore m p (files Objects) after (step m (at m limit w turned) Replay) → HasTurned m p files after limit w (turned + 1)
-  replay_turned files it after turned enough left files_show store_shows =
+  pub replay_on : (turned : ℕ) → must_install m limit (at m limit w turned) ≡ false → (at m limit w turned).next ≤ length w.history → step m (at m limit w turned) Replay ≡ at m limit w (turned + 1)
+  replay_on turned enough left =
       let v = at m limit w turned in
       let old : v.next ≤ length v.history = omega (arith, left, ap (λ (h : List (Member O)). length h) (turns_kept m limit turned w).history) in
-      let same : step m v Replay ≡ at m limit w (turned + 1) = sym (run_replay m limit v enough old) ∙ sym (run_join m limit turned 1 w) in
+      sym (run_replay m limit v enough old) ∙ sym (run_join m limit turned 1 w)
+
+  pub replay_turned : (files : Files) (after : Store) (turned : ℕ) → must_install m limit (at m limit w turned) ≡ false → (at m limit w turned).next ≤ length w.history
+      → FilesShow m p files (step m (at m limit w turned) Replay) → ShowsStore m p (files Objects) after (step m (at m limit w turned) Replay) → HasTurned m p files after limit w (turned + 1)
+  replay_turned files after turned enough left files_show store_shows =
+      let same = replay_on turned enough left in
       record {
         files_show = subst (λ (u : World O). FilesShow m p files u) same files_show;
         store_shows = subst (λ (u : World O). ShowsStore m p (files Objects) after u) same store_shows;

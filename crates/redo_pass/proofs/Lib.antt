@@ -13,3 +13,4 @@ mod Small
 mod Dues
 mod Replaying
 mod Failing
+mod Leaves

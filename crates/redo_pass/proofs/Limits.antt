@@ -1,22 +1,31 @@
 -- The installs of thin nodes after a record, one after the other.
-use Rattle.std.proofs.Common.{◌≡◌, ◌∙◌, sym, ap, subst, ℕ, ◌+◌, ◌<◌, ◌≤◌, Bool, true, false, ◌&&◌, nat_lt, if◌then◌else◌, List, [], ◌∷◌, refl, inl, inr}
+use Rattle.std.proofs.Common.{◌≡◌, ◌∙◌, sym, ap, subst, ℕ, ◌+◌, ◌<◌, ◌≤◌, Bool, true, false, ◌&&◌, nat_lt, if◌then◌else◌, List, [], ◌∷◌, length, refl, inl, inr, ⊎_elim}
 use Rattle.std.specs.Prelude.{IsTrue}
 use Rattle.std.proofs.lemmas.Bool.{cases_Bool, and_from, cond-true, cond-false, lt-ltb, le-ltb}
 use Rattle.disk_model.specs.Disk.{Files, Disk, IsDisk, IsSettled}
 use Rattle.disk_model.specs.Moments.{started}
 use Rattle.disk_model.specs.declared.machine.FileNo.TheVariants.{Objects}
-use Rattle.oper_core.specs.Meaning.{Meaning}
+use Rattle.dirty_cache.specs.Contents.{AreDirty}
+use Rattle.oper_core.specs.Meaning.{IsSmall, Meaning}
+use Rattle.oper_core.specs.declared.bounds.Bounds.{Bounds}
+use Rattle.formats.specs.Objects.{bounds_of}
 use Rattle.formats.specs.declared.params.Params.{Params}
 use Rattle.install_order.specs.Computed.{some_below, least_below}
-use Rattle.explain_core.specs.KeptLog.{run_zero}
+use Rattle.explain_core.specs.KeptLog.{kept_stable, run_zero, turns_kept}
 use Rattle.explain_core.specs.TurnLaws.{run_join, run_install, turns_none}
 use Rattle.explain_core.specs.Turns.{dirty_in, has_thin, has_work, thin_name, thin_steps, must_install, turns}
 use Rattle.explain_core.specs.Sound.{IsSound}
 use Rattle.explain_core.specs.World.{World, Step, step, run, node_named, IsAllStable}
 use Rattle.explain_core.specs.World.Step.{Slot_gate, Removal}
-use Rattle.standing.specs.Moments.{TakesSome, moments_none, moments_install}
+use Rattle.standing.specs.Moments.{TakesSome, moments_none, moments_install, moments_turns}
+use Rattle.standing.specs.OneStable.{small_store}
 use Rattle.standing.specs.Standing.{FilesShow}
-use Rattle.cache_manager.specs.Parts.{Store, ShowsStore, StoreShows}
+use Rattle.running_store.specs.Beside.{IsBeside, beside_none, beside_twice}
+use Rattle.running_store.specs.Calls.{IsCall, Never, call_none, call_twice}
+use Rattle.running_store.specs.Laid.{Laid}
+use Rattle.running_store.specs.Parts.{Store, ShowsStore, StoreShows}
+use Rattle.running_store.specs.StoreView.{StoreView}
+use Rattle.running_store.specs.Taking.Ending.{Done}
 use Rattle.redo_pass.specs.Progress.{IsLimiting, IsLimited}
 use Rattle.redo_pass.proofs.Ends.{at}
 
@@ -34,16 +43,6 @@ never : (b : Bool) → (b && false) ≡ false
 never true = refl
 never false = refl
 
--- the world after the install of its thin node, if there is one
-abbrev pub after_thin : {O : Type 0} → Meaning O → Bool → World O → World O
-after_thin m found w = if found then run m w (thin_steps m w) else w
-
--- A thin node was found exactly where the world has one, and files and store show the world after its install.
-pub record IsThinInstalled {O : Type 0} (m : Meaning O) (p : Params) (files : Files) (it : Store) (found : Bool) (w : World O) : Type 0 where
-  pub exactly : has_thin m w ≡ found
-  pub files_show : FilesShow m p files (after_thin m found w)
-  pub store_shows : ShowsStore m p (files Objects) it (after_thin m found w)
-
 run_none : {O : Type 0} (m : Meaning O) (w : World O) → run m w [] ≡ w
 unfolding run
 run_none m w = refl
@@ -53,23 +52,13 @@ pub store_shows_now : {O : Type 0} (m : Meaning O) (p : Params) (d : Disk) (it :
     → StoreShows m p d it w
 store_shows_now m p d it w told settled sound stable files shows = record { told = told; settled = settled; sound = sound; alone = stable.1; store = shows; files = files }
 
--- what an install leaves
-pub thin_installed : {O : Type 0} (m : Meaning O) (p : Params) (d : Disk) (it : Store) (found : Bool) (w : World O) → (found ≡ has_thin m w) × StoreShows m p d it (run m w (if found then thin_steps m w else []))
-    → IsThinInstalled m p d.reads it found w
-thin_installed m p d it true w is = record { exactly = sym is.0; files_show = is.1.files; store_shows = is.1.store }
-thin_installed m p d it false w is = record {
-  exactly = sym is.0;
-  files_show = subst (λ (v : _). FilesShow m p d.reads v) (run_none m w) is.1.files;
-  store_shows = subst (λ (v : _). ShowsStore m p (d.reads Objects) it v) (run_none m w) is.1.store;
-}
+must : {O : Type 0} (m : Meaning O) (limit : ℕ) (v : World O) → limit < dirty_in m v → has_thin m v ≡ true → IsTrue (must_install m limit v)
+must m limit v many thin = and_from (nat_lt limit (dirty_in m v)) (has_thin m v) (lt-ltb limit (dirty_in m v) many) thin
 
 module _ {O : Type 0} (m : Meaning O) (p : Params) (limit : ℕ) where
-  must : (v : World O) → limit < dirty_in m v → has_thin m v ≡ true → IsTrue (must_install m limit v)
-  must v many thin = and_from (nat_lt limit (dirty_in m v)) (has_thin m v) (lt-ltb limit (dirty_in m v) many) thin
-
   -- what a crash leaves of an install is what it leaves of one turn
   pub one_moments : (mid new : Disk) (v : World O) → limit < dirty_in m v → has_thin m v ≡ true → TakesSome m p mid new v (if has_thin m v then thin_steps m v else []) → TakesSome m p mid new v (turns m limit 1 v)
-  one_moments mid new v many thin some = moments_install m p mid new v limit (must v many thin) (subst (λ (l : List (Step O)). TakesSome m p mid new v l) (cond-true (has_thin m v) (thin_steps m v) [] thin) some)
+  one_moments mid new v many thin some = moments_install m p mid new v limit (must m limit v many thin) (subst (λ (l : List (Step O)). TakesSome m p mid new v l) (cond-true (has_thin m v) (thin_steps m v) [] thin) some)
 
   -- what a crash leaves of one call is what it leaves of some turns
   pub thin_moments : (mid new : Disk) (v : World O) → limit < dirty_in m v → TakesSome m p mid new v (if has_thin m v then thin_steps m v else []) → (c : ℕ) × TakesSome m p mid new v (turns m limit c v)
@@ -101,34 +90,101 @@ module _ {O : Type 0} (m : Meaning O) (p : Params) (limit : ℕ) where
     pub limited_few : (files : Files) (it : Store) (so : IsLimiting m p files it limit w) → dirty_in m (at m limit w so.turned) ≤ limit → IsLimited m p files it limit w
     limited_few files it so few = record { limiting = so; enough = ap (λ (b : Bool). b && has_thin m (at m limit w so.turned)) (le-ltb limit (dirty_in m (at m limit w so.turned)) few) }
 
-    -- no node is thin
-    pub limited_none : (files after : Files) (it now : Store) (found : Bool) (so : IsLimiting m p files it limit w) → found ≡ false → IsThinInstalled m p after now found (at m limit w so.turned) → IsLimited m p after now limit w
-    limited_none files after it now found so none is =
-        let v = at m limit w so.turned in
-        let here = subst (λ (b : Bool). IsThinInstalled m p after now b v) none is in
-        record {
-          limiting = record { turned = so.turned; shown = record { files_show = here.files_show; store_shows = here.store_shows }; next = so.next };
-          enough = ap (λ (b : Bool). nat_lt limit (dirty_in m v) && b) here.exactly ∙ never (nat_lt limit (dirty_in m v));
-        }
+-- as many objects are dirty as the cache counts
+pub dirty_is : {O : Type 0} (meaning : Bounds → Meaning O) (mid : Disk) (objects : Laid) (it : Store) (count : ℕ)
+    → ((p : Params) (file : List ℕ) (it : Store) (w : World O) (objects : List ℕ) → ShowsStore (meaning (bounds_of p)) p file it w → AreDirty it.objects.cache objects → dirty_in (meaning (bounds_of p)) w ≡ length objects)
+    → objects ≡ it.objects → (listed : List ℕ) × AreDirty objects.cache listed × (count ≡ length listed) → (p : Params) (w : World O) → ShowsStore (meaning (bounds_of p)) p (mid.reads Objects) it w → dirty_in (meaning (bounds_of p)) w ≡ count
+dirty_is meaning mid objects it count counts same listed p w shows =
+    counts p (mid.reads Objects) it w listed.0 shows (subst (λ (l : Laid). AreDirty l.cache listed.0) same listed.1) ∙ sym listed.2
 
-    -- one was installed
-    pub limiting_more : (files after : Files) (it now : Store) (found : Bool) (so : IsLimiting m p files it limit w) → found ≡ true → limit < dirty_in m (at m limit w so.turned)
-        → IsThinInstalled m p after now found (at m limit w so.turned) → IsLimiting m p after now limit w
-    limiting_more files after it now found so some many is =
-        let v = at m limit w so.turned in
-        let here = subst (λ (b : Bool). IsThinInstalled m p after now b v) some is in
-        let same : run m v (thin_steps m v) ≡ at m limit w (so.turned + 1) = sym (run_install m limit v (must v many here.exactly)) ∙ sym (run_join m limit so.turned 1 w) in
-        record {
-          turned = so.turned + 1;
-          shown = record {
-            files_show = subst (λ (u : World O). FilesShow m p after u) same here.files_show;
-            store_shows = subst (λ (u : World O). ShowsStore m p (after Objects) now u) same here.store_shows;
-          };
-          next = ap (λ (u : World O). u.next) (sym same) ∙ thin_next m v ∙ so.next;
-        }
+-- Thin nodes were installed, one after the other: some turns of the redo of each world that was shown.
+pub record HasLimited {O : Type 0} (meaning : Bounds → Meaning O) (limit : ℕ) (old mid : Disk) (before now : StoreView) : Type 0 where
+  pub call : IsCall meaning old mid before now 0 Never Done
+  pub beside : IsBeside old mid before now
+  pub shown : (p : Params) (w : World O) → StoreShows (meaning (bounds_of p)) p old before.parts.store w → IsAllStable w
+      → (so : IsLimiting (meaning (bounds_of p)) p mid.reads now.parts.store limit w) × (old.tells_moments → TakesSome (meaning (bounds_of p)) p old mid w (turns (meaning (bounds_of p)) limit so.turned w))
 
-    -- that is one turn more
-    pub more_turned : (files after : Files) (it now : Store) (found : Bool) (so : IsLimiting m p files it limit w) (some : found ≡ true) (many : limit < dirty_in m (at m limit w so.turned))
-        (is : IsThinInstalled m p after now found (at m limit w so.turned)) → so.turned + 1 ≡ (limiting_more files after it now found so some many is).turned
-    unfolding limiting_more
-    more_turned files after it now found so some many is = refl
+module _ {O : Type 0} {meaning : Bounds → Meaning O} {limit : ℕ} {old : Disk} {before : StoreView} where
+  pub limited_start : IsDisk old → before.broken ≡ false → HasLimited meaning limit old old before before
+  limited_start lawful fine = record {
+    call = call_none meaning old before Never lawful fine;
+    beside = beside_none old before lawful;
+    shown = λ p w shows stable.
+        let m = meaning (bounds_of p) in
+        let so = limiting_none m p limit w old.reads before.parts.store shows.files shows.store in
+        (so, λ told. takes_none m p limit w old lawful told shows.settled shows.files (turns m limit so.turned w));
+  }
+
+  module _ {mid : Disk} {now : StoreView} (so_far : HasLimited meaning limit old mid before now)
+      (sound : (b : Bounds) (w : World O) (limit n : ℕ) → IsSmall b → IsSound (meaning b) w → IsAllStable w → IsSound (meaning b) (run (meaning b) w (turns (meaning b) limit n w)))
+      (many : (p : Params) (w : World O) → ShowsStore (meaning (bounds_of p)) p (mid.reads Objects) now.parts.store w → limit < dirty_in (meaning (bounds_of p)) w) where
+    stable_at : (p : Params) (w : World O) (n : ℕ) → IsAllStable w → IsAllStable (at (meaning (bounds_of p)) limit w n)
+    stable_at p w n stable = kept_stable w (at (meaning (bounds_of p)) limit w n) (turns_kept (meaning (bounds_of p)) limit n w) stable
+
+    -- the store shows the world after these turns
+    shown_at : (p : Params) (w : World O) → StoreShows (meaning (bounds_of p)) p old before.parts.store w → IsAllStable w → (so : IsLimiting (meaning (bounds_of p)) p mid.reads now.parts.store limit w)
+        → StoreShows (meaning (bounds_of p)) p mid now.parts.store (at (meaning (bounds_of p)) limit w so.turned)
+    shown_at p w shows stable so =
+        let m = meaning (bounds_of p) in
+        store_shows_now m p mid now.parts.store (at m limit w so.turned) (so_far.call.quiet.time.files_told.0 shows.told) (⊎_elim (λ failed. absurd failed) (λ kept. kept shows.settled) so_far.call.settled)
+        (sound (bounds_of p) w limit so.turned (small_store p (old.reads Objects) shows.files.objects) shows.sound stable) (stable_at p w so.turned stable) so.shown.files_show so.shown.store_shows
+
+    module _ {new : Disk} (thin : mid.tells_moments → (p : Params) (w : World O) → StoreShows (meaning (bounds_of p)) p mid now.parts.store w → IsAllStable w
+        → TakesSome (meaning (bounds_of p)) p mid new w (if has_thin (meaning (bounds_of p)) w then thin_steps (meaning (bounds_of p)) w else [])) where
+      -- what a crash leaves of one more call
+      pub limited_moments : old.tells_moments → (p : Params) (w : World O) → StoreShows (meaning (bounds_of p)) p old before.parts.store w → IsAllStable w
+          → (turned : ℕ) × TakesSome (meaning (bounds_of p)) p old new w (turns (meaning (bounds_of p)) limit turned w)
+      limited_moments told p w shows stable =
+          let m = meaning (bounds_of p) in
+          let first = so_far.shown p w shows stable in
+          let so = first.0 in
+          let v = at m limit w so.turned in
+          let more = thin_moments m p limit mid new v (many p v so.shown.store_shows) (thin (so_far.call.quiet.time.moments_told.0 told) p v (shown_at p w shows stable so) (stable_at p w so.turned stable)) in
+          (so.turned + more.0, moments_turns m p old mid new w limit so.turned more.0 (so_far.call.quiet.said shows.told) (first.1 told) more.1)
+
+      module _ {found : Bool} (after : StoreView) (finds : (p : Params) (w : World O) → StoreShows (meaning (bounds_of p)) p mid now.parts.store w → IsAllStable w → (found ≡ has_thin (meaning (bounds_of p)) w)
+          × StoreShows (meaning (bounds_of p)) p new after.parts.store (run (meaning (bounds_of p)) w (if found then thin_steps (meaning (bounds_of p)) w else []))) where
+        installed : (b : Bool) → found ≡ b → (p : Params) (w : World O) → StoreShows (meaning (bounds_of p)) p old before.parts.store w → IsAllStable w → (so : IsLimiting (meaning (bounds_of p)) p mid.reads now.parts.store limit w)
+            → (b ≡ has_thin (meaning (bounds_of p)) (at (meaning (bounds_of p)) limit w so.turned))
+            × StoreShows (meaning (bounds_of p)) p new after.parts.store (run (meaning (bounds_of p)) (at (meaning (bounds_of p)) limit w so.turned) (if b then thin_steps (meaning (bounds_of p)) (at (meaning (bounds_of p)) limit w so.turned) else []))
+        installed b is p w shows stable so =
+            let m = meaning (bounds_of p) in
+            let v = at m limit w so.turned in
+            subst (λ (f : Bool). (f ≡ has_thin m v) × StoreShows m p new after.parts.store (run m v (if f then thin_steps m v else []))) is (finds p v (shown_at p w shows stable so) (stable_at p w so.turned stable))
+
+        -- there was none
+        pub limited_last : found ≡ false → (p : Params) (w : World O) → StoreShows (meaning (bounds_of p)) p old before.parts.store w → IsAllStable w → IsLimited (meaning (bounds_of p)) p new.reads after.parts.store limit w
+        limited_last none p w shows stable =
+            let m = meaning (bounds_of p) in
+            let so = (so_far.shown p w shows stable).0 in
+            let v = at m limit w so.turned in
+            let is = installed false none p w shows stable so in
+            let here = subst (λ (u : World O). StoreShows m p new after.parts.store u) (run_none m v) is.1 in
+            record {
+              limiting = record { turned = so.turned; shown = record { files_show = here.files; store_shows = here.store }; next = so.next };
+              enough = ap (λ (b : Bool). nat_lt limit (dirty_in m v) && b) (sym is.0) ∙ never (nat_lt limit (dirty_in m v));
+            }
+
+        -- or one was installed: that is one turn more
+        pub limited_more : found ≡ true → IsCall meaning mid new now after 0 Never Done → IsBeside mid new now after → HasLimited meaning limit old new before after
+        limited_more some call beside = record {
+          call = call_twice meaning old mid new before now after 0 0 Never Never Done so_far.call call;
+          beside = beside_twice old mid new before now after (λ set. so_far.call.broken.0 set) so_far.beside beside;
+          shown = λ p w shows stable.
+              let m = meaning (bounds_of p) in
+              let first = so_far.shown p w shows stable in
+              let so = first.0 in
+              let v = at m limit w so.turned in
+              let dirty = many p v so.shown.store_shows in
+              let is = installed true some p w shows stable so in
+              let same : run m v (thin_steps m v) ≡ at m limit w (so.turned + 1) = sym (run_install m limit v (must m limit v dirty (sym is.0))) ∙ sym (run_join m limit so.turned 1 w) in
+              let here = subst (λ (u : World O). StoreShows m p new after.parts.store u) same is.1 in (
+                record {
+                  turned = so.turned + 1;
+                  shown = record { files_show = here.files; store_shows = here.store };
+                  next = ap (λ (u : World O). u.next) (sym same) ∙ thin_next m v ∙ so.next;
+                },
+                λ told. moments_turns m p old mid new w limit so.turned 1 (so_far.call.quiet.said shows.told) (first.1 told)
+                    (one_moments m p limit mid new v dirty (sym is.0) (thin (so_far.call.quiet.time.moments_told.0 told) p v (shown_at p w shows stable so) (stable_at p w so.turned stable))),
+              );
+        }

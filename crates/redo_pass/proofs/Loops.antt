@@ -1,8 +1,7 @@
 -- The loop of a redo: how it begins, one record of it, and what a crash leaves meanwhile.
-use Rattle.std.proofs.Common.{◌≡◌, ◌∙◌, sym, ap, subst, ℕ, ◌+◌, ◌^◌, ◌<◌, ◌≤◌, Bool, false, not, ◌&&◌, nat_lt, None, Some, List, [], ◌∷◌, ◌++◌, length, refl, arith}
+use Rattle.std.proofs.Common.{◌≡◌, ◌∙◌, sym, ap, subst, ℕ, ◌+◌, ◌<◌, Bool, false, not, ◌&&◌, nat_lt, None, Some, List, [], ◌∷◌, ◌++◌, refl, arith}
 use Rattle.std.specs.Prelude.{All}
 use Rattle.std.proofs.lemmas.Bool.{eq-eqb, le-ltb}
-use Rattle.std.proofs.lemmas.List.Elements.{All-nil}
 use Rattle.disk_model.specs.Disk.{Files, Disk, IsSettled, Stays, Same}
 use Rattle.disk_model.specs.Moments.{first_call, from_reads}
 use Rattle.disk_model.specs.Silent.{silent_twice}
@@ -22,7 +21,7 @@ use Rattle.explain_core.specs.CountLaws.{count_same, count_none}
 use Rattle.explain_core.specs.History.{Member, numbered}
 use Rattle.explain_core.specs.KeptLog.{run_zero, turns_kept}
 use Rattle.explain_core.specs.Taken.{after_longer, after_behind}
-use Rattle.explain_core.specs.TurnLaws.{turns_join, run_join, run_replay}
+use Rattle.explain_core.specs.TurnLaws.{turns_join}
 use Rattle.explain_core.specs.Turns.{is_dirty_in, dirty_in, has_thin, must_install, turns}
 use Rattle.explain_core.specs.World.{World, Step, step, plan_of}
 use Rattle.explain_core.specs.World.Step.{Replay}
@@ -31,52 +30,29 @@ use Rattle.standing.specs.Members.{table_of}
 use Rattle.standing.specs.Moments.{ShowsSome, TakesSome, moments_none}
 use Rattle.standing.specs.Standing.{FilesShow}
 use Rattle.analysis_pass.specs.Analysis.{PlanView}
-use Rattle.cache_manager.specs.Parts.{Store, ShowsStore, AreInUse}
+use Rattle.running_store.specs.Parts.{Store, ShowsStore}
+use Rattle.running_store.specs.StoreView.{StoreView, next_of}
 use Rattle.redo_pass.specs.Progress.{HasTurned, SoFar, IsAbove}
 use Rattle.redo_pass.specs.Redo.{IsDue}
 use Rattle.redo_pass.specs.Replayed.{IsNextRecord, after_record}
 use Rattle.redo_pass.specs.Rising.{AreMembers, IsBelow}
-use Rattle.redo_pass.proofs.Begins.{empty_shows, some_held}
+use Rattle.redo_pass.proofs.Begins.{empty_shows}
 use Rattle.redo_pass.proofs.Ends.{at}
 use Rattle.redo_pass.proofs.Fronts.{behind}
-use Rattle.redo_pass.proofs.Goes.{numbered_within}
-
--- what is in use below a number is so below a greater one
-pub in_use_later : (p : Params) (low next : ℕ) (it : Store) → low ≤ next → next ≤ 2 ^ 62 → AreInUse p low it → AreInUse p next it
-in_use_later p low next it le most is = record {
-  params = is.params;
-  low = most;
-  above = λ k d within. omega (arith, is.above k d within, le);
-  dirty = λ x e dirty had. let parts = is.dirty x e dirty had in (parts.0, omega (arith, parts.1, le));
-  clean = is.clean;
-}
-
--- nothing is in use yet
-pub begun_in_use : (it : Store) → ((x : ℕ) → held it.objects.cache x ≡ None) → it.entries ≡ [] → AreInUse it.objects.slots.params 0 it
-begun_in_use it none empty = record {
-  params = refl;
-  low = omega arith;
-  above = subst (λ (es : List Entry). All (λ n. n < 0) (numbers es)) (sym empty) (All-nil (λ n. n < 0));
-  dirty = λ x e is had. absurd (some_held _ _ is (none x));
-  clean = λ x e is had. let h : None ≡ Some e = sym (none x) ∙ had in cc;
-}
+use Rattle.redo_pass.proofs.Goes.{numbered_within, replay_on, replay_turned}
 
 -- a record's number is above all in the graph
-pub is_above : {O : Type 0} (p : Params) (low : ℕ) (it : Store) (r : Record O) (rest : List (Record O)) → AreInUse p low it → Rise low (2 ^ 62) (r ∷ rest) → IsAbove it.entries r
-is_above p low it (Command number op) rest is rise = (rise.1, λ k d within. omega (arith, is.above k d within, rise.0))
-is_above p low it (Identity number x value) rest is rise = (rise.1, λ k d within. omega (arith, is.above k d within, rise.0))
-is_above p low it (Check t) rest is rise = tt
+pub is_above : {O : Type 0} (low : ℕ) (it : StoreView) (r : Record O) → All (λ n. n < low) (numbers it.parts.store.entries) → Rise low (next_of it) (r ∷ []) → IsAbove it r
+is_above low it (Command number op) all rise = (λ k d within. omega (arith, all k d within, rise.0), rise.1)
+is_above low it (Identity number x value) all rise = (λ k d within. omega (arith, all k d within, rise.0), rise.1)
+is_above low it (Check t) all rise = tt
 
-pub behind_rise : {O : Type 0} (low end : ℕ) (r : Record O) (rest : List (Record O)) → low ≤ end → Rise low end (r ∷ rest) → (behind low r ≤ end) × Rise (behind low r) end rest
-behind_rise low end (Command number op) rest le rise = (omega (arith, rise.1), rise.2)
-behind_rise low end (Identity number x value) rest le rise = (omega (arith, rise.1), rise.2)
-behind_rise low end (Check t) rest le rise = (le, rise)
-
-pub behind_in_use : {O : Type 0} (p : Params) (low : ℕ) (before after : Store) (r : Record O) (rest : List (Record O)) → AreInUse p low before → Rise low (2 ^ 62) (r ∷ rest)
-    → ((next : ℕ) → IsBelow next r → AreInUse p next before → AreInUse p next after) → AreInUse p (behind low r) after
-behind_in_use p low before after (Command number op) rest is rise goes = goes (number + 1) (omega arith) (in_use_later p low (number + 1) before (omega (arith, rise.0)) (omega (arith, rise.1)) is)
-behind_in_use p low before after (Identity number x value) rest is rise goes = goes (number + 1) (omega arith) (in_use_later p low (number + 1) before (omega (arith, rise.0)) (omega (arith, rise.1)) is)
-behind_in_use p low before after (Check t) rest is rise goes = goes low tt is
+-- and those in it are below the next one after it
+pub behind_above : {O : Type 0} (low end : ℕ) (before after : List Entry) (r : Record O) → All (λ n. n < low) (numbers before) → Rise low end (r ∷ [])
+    → ((k : ℕ) → IsBelow k r → All (λ n. n < k) (numbers before) → All (λ n. n < k) (numbers after)) → All (λ n. n < behind low r) (numbers after)
+behind_above low end before after (Command number op) all rise goes = goes (number + 1) (omega arith) (λ k d within. omega (arith, all k d within, rise.0))
+behind_above low end before after (Identity number x value) all rise goes = goes (number + 1) (omega arith) (λ k d within. omega (arith, all k d within, rise.0))
+behind_above low end before after (Check t) all rise goes = goes low tt all
 
 module _ {O : Type 0} (m : Meaning O) (p : Params) (limit : ℕ) (w : World O) where
   -- no record is replayed yet
@@ -117,26 +93,22 @@ module _ {O : Type 0} (m : Meaning O) (p : Params) (limit : ℕ) (w : World O) w
   unfolding step
   next_number v = refl
 
-  member_on : (files : Files) (it after : Store) (n : ℕ) (member : Member O) (rest : List (Record O)) → must_install m limit (at m limit w n) ≡ false → numbered w.history (at m limit w n).next ≡ Some member
+  member_on : (files : Files) (after : Store) (n : ℕ) (member : Member O) (rest : List (Record O)) → must_install m limit (at m limit w n) ≡ false → numbered w.history (at m limit w n).next ≡ Some member
       → AreMembers w.history ((at m limit w n).next + 1) rest → FilesShow m p files (step m (at m limit w n) Replay) → ShowsStore m p (files Objects) after (step m (at m limit w n) Replay) → IsOn files after rest
-  member_on files it after n member rest enough is left files_show store_shows =
+  member_on files after n member rest enough is left files_show store_shows =
       let v = at m limit w n in
-      let old : v.next ≤ length v.history = omega (arith, numbered_within w.history v.next member is, ap (λ (h : List (Member O)). length h) (turns_kept m limit n w).history) in
-      let same : step m v Replay ≡ at m limit w (n + 1) = sym (run_replay m limit v enough old) ∙ sym (run_join m limit n 1 w) in
+      let within = numbered_within w.history v.next member is in
       record {
         turned = n + 1;
-        shown = record {
-          files_show = subst (λ (u : World O). FilesShow m p files u) same files_show;
-          store_shows = subst (λ (u : World O). ShowsStore m p (files Objects) after u) same store_shows;
-        };
-        members = subst (λ (k : ℕ). AreMembers w.history k rest) (sym (next_number v) ∙ ap (λ (u : World O). u.next) same) left;
+        shown = replay_turned m p limit w files after n enough within files_show store_shows;
+        members = subst (λ (k : ℕ). AreMembers w.history k rest) (sym (next_number v) ∙ ap (λ (u : World O). u.next) (replay_on m p limit w n enough within)) left;
       }
 
   -- one record more was replayed
   pub on_record : (files : Files) (it after : Store) (r : Record O) (rest : List (Record O)) (so : SoFar m p files it limit w (r ∷ rest)) → FilesShow m p files (step m (at m limit w so.turned) Replay)
       → ShowsStore m p (files Objects) after (after_record m (at m limit w so.turned) r) → IsOn files after rest
-  on_record files it after (Command number op) rest so files_show store_shows = member_on files it after so.turned _ rest so.enough so.members.1 so.members.2 files_show store_shows
-  on_record files it after (Identity number x value) rest so files_show store_shows = member_on files it after so.turned _ rest so.enough so.members.1 so.members.2 files_show store_shows
+  on_record files it after (Command number op) rest so files_show store_shows = member_on files after so.turned _ rest so.enough so.members.1 so.members.2 files_show store_shows
+  on_record files it after (Identity number x value) rest so files_show store_shows = member_on files after so.turned _ rest so.enough so.members.1 so.members.2 files_show store_shows
   on_record files it after (Check t) rest so files_show store_shows = record { turned = so.turned; shown = record { files_show = so.shown.files_show; store_shows = store_shows }; members = so.members }
 
   -- a call that changes nothing

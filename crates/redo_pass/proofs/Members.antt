@@ -3,6 +3,7 @@
 use Rattle.std.proofs.Common.{◌≡◌, sym, ap, subst, ℕ, zero, suc, ◌+◌, ◌≤◌, nat_le, inl, inr, List, [], ◌∷◌, length, drop, arith, Some}
 use Rattle.std.specs.Prelude.{slice_get}
 use Rattle.std.proofs.lemmas.Bool.{cases_Bool, cond-true, cond-false, leb-true, leb-false, le-leb}
+use Rattle.std.proofs.lemmas.Option.{slice_get_within}
 use Rattle.oper_core.specs.Meaning.{Meaning}
 use Rattle.formats.specs.Records.{AreRecords}
 use Rattle.formats.specs.declared.record.Record.{Record}
@@ -39,11 +40,6 @@ none_left zero (y ∷ l) is = cc
 none_left (suc i) [] is = omega arith
 none_left (suc i) (y ∷ l) is = let r = none_left i l is in omega (arith, r)
 
-within : {X : Type 0} (l : List X) (k : ℕ) (x : X) → slice_get l k ≡ Some x → suc k ≤ length l
-within [] k x is = cc
-within (y ∷ l) zero x is = omega arith
-within (y ∷ l) (suc k) x is = let r = within l k x is in omega (arith, r)
-
 one_more : (i : ℕ) → suc (suc i) ≡ suc i + 1
 one_more i = omega arith
 
@@ -53,11 +49,11 @@ module _ {O : Type 0} (m : Meaning O) (base : ℕ) (h : List (Member O)) where
   members_are i (Command number op ∷ records) low placed are =
       let here = dropped i h (a_command op) (members_of records) are in
       let next = subst (λ (k : ℕ). AreRecords m base k records) (sym (one_more i)) placed.2 in
-      (placed.1.0, here.0, subst (λ (k : ℕ). AreMembers h k records) (one_more i) (members_are (suc i) records (within h i (a_command op) here.0) next here.1))
+      (placed.1.0, here.0, subst (λ (k : ℕ). AreMembers h k records) (one_more i) (members_are (suc i) records (slice_get_within h i (a_command op) here.0) next here.1))
   members_are i (Identity number x value ∷ records) low placed are =
       let here = dropped i h (an_identity x value) (members_of records) are in
       let next = subst (λ (k : ℕ). AreRecords m base k records) (sym (one_more i)) placed.2 in
-      (placed.1.0, here.0, subst (λ (k : ℕ). AreMembers h k records) (one_more i) (members_are (suc i) records (within h i (an_identity x value) here.0) next here.1))
+      (placed.1.0, here.0, subst (λ (k : ℕ). AreMembers h k records) (one_more i) (members_are (suc i) records (slice_get_within h i (an_identity x value) here.0) next here.1))
   members_are i (Check table ∷ records) low placed are = members_are i records low placed.2 are
 
 module _ {O : Type 0} (start : ℕ) (h : List (Member O)) where

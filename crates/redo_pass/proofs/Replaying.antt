@@ -1,30 +1,31 @@
--- What the replay of a member enters, in a store in use and in one that shows a world.
+-- What the replay of a member enters in a store that shows a world.
 use Rattle.std.proofs.Common.{◌≡◌, ◌∙◌, sym, subst, ap, ℕ, ◌<◌, ◌≤◌, ◌&&◌, ◌||◌, ◌==◌, nat_lt, nat_le, if◌then◌else◌, Bool, true, false, List, [], ◌∷◌, length, map, refl, arith, inl, inr, Option, Some, None}
 use Rattle.std.specs.Prelude.{All}
 use Rattle.std.proofs.lemmas.Bool.{cases_Bool, both_ways, and_parts, ltb-true, cond-true, cond-false, eq-eqb, or_cases, eqb-true, false_from_ne_true}
-use Rattle.std.proofs.lemmas.List.{map-append}
-use Rattle.std.proofs.lemmas.List.Elements.{All-append, All-cons, All-head, All-tail}
+use Rattle.std.proofs.lemmas.List.Elements.{All-head, All-tail}
+use Rattle.std.proofs.lemmas.Map.Views.{All-from_any}
+use Rattle.std.specs.Cmp.{nat_eq_equiv}
 use Rattle.oper_core.specs.Meaning.{Meaning}
 use Rattle.oper_core.specs.State.{is_among, value_for}
 use Rattle.checkpoint.specs.declared.table.Table.{Table}
 use Rattle.checkpoint.specs.RedoStarts.{redo_from}
 use Rattle.formats.specs.declared.params.Params.{Params}
-use Rattle.stable_objects.specs.SlotsView.{SlotsView, id_in}
+use Rattle.stable_objects.specs.SlotsView.{id_in}
 use Rattle.dirty_cache.specs.Contents.{held, is_dirty}
 use Rattle.dirty_cache.specs.declared.entry.Entry.{Entry as Pair}
 use Rattle.install_order.specs.Computed.{some_below}
 use Rattle.install_order.specs.NodeLaws.{some-from, some-gives}
 use Rattle.install_order.specs.declared.entry.Entry.{Entry}
-use Rattle.write_graph.specs.Graph.{numbers}
 use Rattle.explain_core.specs.History.{Member, numbered, reads_of, writes_of, effect_of, writes_some}
 use Rattle.explain_core.specs.Sound.{IsSound}
 use Rattle.explain_core.specs.World.{World, step, is_redone, plan_of}
 use Rattle.explain_core.specs.World.Step.{Replay}
-use Rattle.cache_manager.specs.Fetched.{IsFetched, fetched-in_use, fetched-shows}
-use Rattle.cache_manager.specs.Joins.{cell_shown}
-use Rattle.cache_manager.specs.Laid.{Laid, IsLaidOn, KeepsCells, id_at, lsn_or, values_in}
-use Rattle.cache_manager.specs.Parts.{Store, ShowsStore, AreInUse, entry_of, store}
-use Rattle.redo_pass.specs.Replayed.{IsEntered, IsNext, is_due, with_entry}
+use Rattle.running_store.specs.Entered.{IsEntered}
+use Rattle.running_store.specs.Fetched.{IsFetched, fetched-shows}
+use Rattle.running_store.specs.Joins.{cell_shown}
+use Rattle.running_store.specs.Laid.{Laid, IsLaidOn, KeepsCells, id_at, lsn_or, values_in}
+use Rattle.running_store.specs.Parts.{Store, ShowsStore, AreInUse, entry_of, store}
+use Rattle.redo_pass.specs.Replayed.{IsNext, is_due, with_entry}
 use Rattle.redo_pass.proofs.Begins.{due_shown}
 use Rattle.redo_pass.proofs.Replays.{store_replayed}
 
@@ -49,9 +50,6 @@ and_cases true a there = there refl
 and_cases false a there = refl
 
 module _ (due : List ℕ) (e : Entry) (made : List (List ℕ)) (before after : Store) (is : IsEntered before after due e made) (writes : (x : ℕ) → is_among x due ≡ true → is_among x e.writes ≡ true) where
-  pair_of : ℕ → Pair
-  pair_of x = record { lsn = e.number; bytes = value_for x e.writes made }
-
   held_is : (x : ℕ) → held after.objects.cache x ≡ (if is_among x due then Some (record { lsn = e.number; bytes = value_for x e.writes made }) else held before.objects.cache x)
   held_is x = is.held x ∙ set_cases (is_among x due) (is_among x e.writes) (Some (record { lsn = e.number; bytes = value_for x e.writes made })) (held before.objects.cache x) (writes x)
 
@@ -69,41 +67,33 @@ slot_most p next it x used = by_entry (held it.objects.cache x) refl
       | inr clean ↦ omega (arith, used.clean x pair clean had, ap (λ (h : Option Pair). lsn_or h (id_in it.objects.slots x)) had)
     ]
 
-some_is : (a b c : Option Pair) (e f : Pair) → a ≡ b → b ≡ Some e → a ≡ Some f → e.lsn ≡ f.lsn
-some_is a b c e f one two three = ap (λ (o : Option Pair). lsn_or o 0) (sym two ∙ sym one ∙ three)
+-- reading slots raises no identifier
+pub read_ids : (p : Params) (next : ℕ) (it : Store) (after : Laid) (x : ℕ) → AreInUse p next it → IsFetched it.objects after → id_at after x ≤ id_at it.objects x
+read_ids p next it after x used is = by_entry (held after.cache x) refl
+  where
+    low : id_in it.objects.slots x ≤ id_at it.objects x
+    low = slot_most p next it x used
 
--- a store in use is in use with a member entered, below each number above its own
-pub entered_in_use : (p : Params) (next : ℕ) (before : Store) (mid : Laid) (after : Store) (table : Table) (due : List ℕ) (e : Entry) (made : List (List ℕ)) → AreInUse p next before → IsFetched before.objects mid
-    → IsEntered (store mid before.entries) after due e made → ((x : ℕ) → is_among x due ≡ is_due table before.objects e.number e.writes x) → e.number < next → AreInUse p next after
-entered_in_use p next before mid after table due e made used fetched is dues low =
-    let between : AreInUse p next (store mid before.entries) = fetched-in_use p next before mid used fetched in
-    let parts : (x : ℕ) → is_among x due ≡ true → (is_among x e.writes ≡ true) × (id_at before.objects x < e.number) = λ x there.
-    let both = and_parts (is_among x e.writes) (nat_lt (id_at before.objects x) e.number && nat_le (redo_from table x) e.number) (sym (dues x) ∙ there) in
-    (both.0, ltb-true (id_at before.objects x) e.number (and_parts (nat_lt (id_at before.objects x) e.number) (nat_le (redo_from table x) e.number) both.1).0) in
-    let writes : (x : ℕ) → is_among x due ≡ true → is_among x e.writes ≡ true = λ x there. (parts x there).0 in
-    let held_after = held_is due e made (store mid before.entries) after is writes in
-    let dirty_after = dirty_is due e made (store mid before.entries) after is writes in
-    let slots : after.objects.slots ≡ before.objects.slots = is.slots ∙ fetched.slots in
-    record {
-      params = ap (λ (s : SlotsView). s.params) slots ∙ used.params;
-      low = used.low;
-      above = subst (λ (l : List ℕ). All (λ n. n < next) l) (sym (ap numbers is.entries ∙ map-append (λ (f : Entry). f.number) before.entries (e ∷ [])))
-          (All-append (λ n. n < next) (numbers before.entries) (e.number ∷ []) used.above (All-cons (λ n. n < next) e.number [] low (λ k d below. absurd (omega (arith, below)))));
-      dirty = λ x pair dirty had. elim (cases_Bool (is_among x due)) [
-        | inl set ↦
-            let lsn : e.number ≡ pair.lsn = ap (λ (o : Option Pair). lsn_or o 0) (sym (cond-true (is_among x due) _ (held mid.cache x) set) ∙ sym (held_after x) ∙ had) in
-            (omega (arith, slot_most p next before x used, (parts x set).1, lsn, ap (λ (s : SlotsView). id_in s x) slots), omega (arith, lsn, low))
-        | inr left ↦
-            let was = between.dirty x pair (sym (ap (λ (b : Bool). b || is_dirty mid.cache x) left) ∙ sym (dirty_after x) ∙ dirty) (sym (cond-false (is_among x due) _ (held mid.cache x) left) ∙ sym (held_after x) ∙ had) in
-            (subst (λ (s : SlotsView). id_in s x < pair.lsn) (sym is.slots) was.0, was.1)
-      ];
-      clean = λ x pair clean had. elim (cases_Bool (is_among x due)) [
-        | inl set ↦ absurd (both_ways _ clean (dirty_after x ∙ ap (λ (b : Bool). b || is_dirty mid.cache x) set))
-        | inr left ↦
-            between.clean x pair (sym (ap (λ (b : Bool). b || is_dirty mid.cache x) left) ∙ sym (dirty_after x) ∙ clean) (sym (cond-false (is_among x due) _ (held mid.cache x) left) ∙ sym (held_after x) ∙ had)
-            ∙ ap (λ (s : SlotsView). id_in s x) (sym is.slots)
-      ];
-    }
+    here : (o : Option Pair) → held after.cache x ≡ o → id_at after x ≡ lsn_or o (id_in it.objects.slots x)
+    here o had = (λ i. lsn_or (had i) (id_in (is.slots i) x))
+
+    by_entry : (o : Option Pair) → held after.cache x ≡ o → id_at after x ≤ id_at it.objects x
+    by_entry None none = omega (arith, here None none, low)
+    by_entry (Some pair) had = elim (is.held x pair had) [
+      | inl was ↦ omega (arith, here (Some pair) had, ap (λ (h : Option Pair). lsn_or h (id_in it.objects.slots x)) was)
+      | inr read ↦ omega (arith, here (Some pair) had, read.id, low)
+    ]
+
+-- an object that is due is one that the record writes, and its identifier is lower
+due_parts : (table : Table) (it : Laid) (n : ℕ) (writes : List ℕ) (x : ℕ) → is_due table it n writes x ≡ true → (is_among x writes ≡ true) × (id_at it x < n)
+due_parts table it n writes x due =
+    let both = and_parts (is_among x writes) (nat_lt (id_at it x) n && nat_le (redo_from table x) n) due in
+    (both.0, ltb-true (id_at it x) n (and_parts (nat_lt (id_at it x) n) (nat_le (redo_from table x) n) both.1).0)
+
+-- so it is in the store that is entered
+pub due_later : (table : Table) (it after : Laid) (n : ℕ) (writes due : List ℕ) → ((x : ℕ) → is_among x due ≡ is_due table it n writes x) → ((x : ℕ) → id_at after x ≤ id_at it x) → All (λ x. id_at after x < n) due
+due_later table it after n writes due dues ids =
+    All-from_any nat_eq_equiv (λ x. id_at after x < n) due (λ x there. let low = (due_parts table it n writes x (sym (dues x) ∙ there)).1 in let here = ids x in omega (arith, low, here))
 
 module _ {O : Type 0} (m : Meaning O) (p : Params) (file : List ℕ) (before : Store) (w : World O) (table : Table) (n : ℕ) (member : Member O) (due : List ℕ)
     (sound : IsSound m w) (shows : ShowsStore m p file before w) (next : IsNext w table n member) (bounds : m.objects ≡ p.objects) (writes : All (λ x. x < p.objects) (writes_of m member))
@@ -142,7 +132,7 @@ module _ {O : Type 0} (m : Meaning O) (p : Params) (file : List ℕ) (before : S
     is_here = subst (λ (f : Entry). IsEntered (store mid before.entries) after due f made) (e_is ∙ ap (λ (k : ℕ). entry_of m k member) next.here) is
 
     in_writes : (x : ℕ) → is_among x due ≡ true → is_among x (writes_of m member) ≡ true
-    in_writes x is_in = (and_parts (is_among x (writes_of m member)) _ (sym (dues x) ∙ is_in)).0
+    in_writes x is_in = (due_parts table before.objects n (writes_of m member) x (sym (dues x) ∙ is_in)).0
 
     read : map (values_in before.objects file) (reads_of m member) ≡ map (λ (x : ℕ). (w.cache x).value) (reads_of m member)
     read = map_same (values_in before.objects file) (λ x. (w.cache x).value) p.objects (reads_of m member) (λ x below. ap (λ c. c.value) (cell_shown m p file before w shows x below)) reads

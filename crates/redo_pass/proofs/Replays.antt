@@ -1,6 +1,7 @@
 -- A store that shows a world in the middle of a redo shows, with the next member replayed, the world after that step.
 use Rattle.std.proofs.Common.{◌≡◌, ◌∙◌, sym, subst, ap, ℕ, ◌<◌, Bool, true, false, List, [], ◌∷◌, map, refl, arith, inl, inr, Option, Some}
 use Rattle.std.specs.Prelude.{◌||◌, ◌&&◌, ◌==◌, nat_lt, nat_le}
+use Rattle.std.proofs.Math.Bool.{or-false}
 use Rattle.std.proofs.lemmas.Bool.{cases_eq, cases_Bool, both_ways, eq-eqb, ne_eqb, cond-true, cond-false, and_parts, ltb-true}
 use Rattle.std.proofs.lemmas.List.{map-append}
 use Rattle.std.proofs.lemmas.List.Folds.{list_any-append}
@@ -24,36 +25,26 @@ use Rattle.explain_core.specs.Sound.{IsSound}
 use Rattle.explain_core.specs.World.{World, step, graph_access, is_redone, plan_of}
 use Rattle.explain_core.specs.World.Step.{Replay}
 use Rattle.standing.specs.Standing.{stored}
-use Rattle.cache_manager.specs.Laid.{cell_or}
-use Rattle.cache_manager.specs.Courses.{is_identity_at, is_identity_some}
-use Rattle.cache_manager.specs.Parts.{Store, ShowsStore, entry_of, is_identity}
+use Rattle.running_store.specs.Laid.{cell_or}
+use Rattle.running_store.specs.Courses.{is_identity_at, is_identity_some}
+use Rattle.running_store.specs.Parts.{Store, ShowsStore, entry_of, is_identity}
 use Rattle.redo_pass.specs.Replayed.{IsReplayed, with_entry}
 
-or_false : (b : Bool) → (b || false) ≡ b
-or_false true = refl
-or_false false = refl
-
 joined : (p q g old a b : Bool) → p ≡ true → q ≡ true → g ≡ false → old ≡ (g && a) → a ≡ b → (old || ((p && b) || false)) ≡ (((q && true) || g) && a)
-joined p q g old a b e f k o s = rw (o, e, f, k, s) (or_false b)
+joined p q g old a b e f k o s = rw (o, e, f, k, s) (or-false b)
 
 apart : (p q g old a b : Bool) → p ≡ false → q ≡ false → old ≡ (g && a) → (old || ((p && b) || false)) ≡ (((q && true) || g) && a)
-apart p q g old a b e f o = rw (o, e, f) (or_false (g && a))
+apart p q g old a b e f o = rw (o, e, f) (or-false (g && a))
 
 unjoined : (q g old a : Bool) → old ≡ (g && a) → old ≡ (((q && false) || g) && a)
 unjoined true g old a o = o
 unjoined false g old a o = o
 
-members_joined : (a g q r : Bool) → a ≡ g → r ≡ q → (a || (r || false)) ≡ ((q && true) || g)
-members_joined true true true true e f = refl
-members_joined true true false false e f = refl
-members_joined false false true true e f = refl
-members_joined false false false false e f = refl
-members_joined true false q r e f = cc
-members_joined false true q r e f = cc
-members_joined true true true false e f = cc
-members_joined true true false true e f = cc
-members_joined false false true false e f = cc
-members_joined false false false true e f = cc
+swapped : (g q : Bool) → (g || (q || false)) ≡ ((q && true) || g)
+swapped true true = refl
+swapped true false = refl
+swapped false true = refl
+swapped false false = refl
 
 members_unjoined : (g q : Bool) → g ≡ ((q && false) || g)
 members_unjoined g true = refl
@@ -80,7 +71,7 @@ module _ {O : Type 0} (m : Meaning O) (w : World O) (entries : List Entry) (memb
   members_after : (some : Bool) (n : ℕ) → is_among n (numbers (with_entry some entries new)) ≡ (((n == w.next) && some) || w.graph n)
   members_after true n =
       ap (λ (l : List ℕ). is_among n l) (map-append (λ (e : Entry). e.number) entries (new ∷ [])) ∙ list_any-append (λ y. n == y) (numbers entries) (w.next ∷ [])
-      ∙ members_joined (is_among n (numbers entries)) (w.graph n) (n == w.next) (n == w.next) (members n) refl
+      ∙ ap (λ (b : Bool). b || ((n == w.next) || false)) (members n) ∙ swapped (w.graph n) (n == w.next)
   members_after false n = members n ∙ members_unjoined (w.graph n) (n == w.next)
 
   reads_after : (some : Bool) (n y : ℕ) → reads_at (with_entry some entries new) n y ≡ ((((n == w.next) && some) || w.graph n) && reads_some m (numbered w.history n) y)

@@ -1,5 +1,5 @@
 -- Why a redo fails.
-use Rattle.std.specs.Prelude.{◌≡◌, ◌≢◌, ◌⊎◌, ⊤, ℕ}
+use Rattle.std.specs.Prelude.{◌≡◌, ◌≢◌, ◌⊎◌, ⊤, ℕ, Result, Ok, Err}
 use Rattle.disk_model.specs.Disk.{Disk}
 use Rattle.disk_model.specs.declared.machine.FileNo.{FileNo}
 use Rattle.disk_model.specs.declared.machine.FileNo.TheVariants.{Objects}
@@ -11,9 +11,11 @@ use Rattle.log_records.specs.Loading.{IsTailFault}
 use Rattle.stable_objects.specs.SlotsView.{SlotsView, AreOf}
 use Rattle.stable_objects.specs.declared.slot_err.SlotErr.{SlotErr}
 use Rattle.stable_objects.specs.declared.slot_err.SlotErr.TheVariants as of_slots
-use Rattle.cache_manager.specs.LongSlot.{IsLongSlot}
-use Rattle.cache_manager.specs.declared.install_err.InstallErr.{InstallErr}
-use Rattle.cache_manager.specs.declared.install_err.InstallErr.TheVariants as of_installs
+use Rattle.running_store.specs.LongSlot.{IsLongSlot}
+use Rattle.running_store.specs.Taking.{Ending}
+use Rattle.running_store.specs.Taking.Ending.{Done, Short, Failed}
+use Rattle.cache_manager.specs.declared.thin_err.ThinErr.{ThinErr}
+use Rattle.cache_manager.specs.declared.thin_err.ThinErr.TheVariants as of_installs
 use Rattle.redo_pass.specs.declared.redo_err.RedoErr.{RedoErr}
 use Rattle.redo_pass.specs.declared.redo_err.RedoErr.TheVariants.{DiskFault, Damaged, Memory}
 
@@ -24,10 +26,8 @@ from_slots of_slots.DiskFault = DiskFault
 from_slots (of_slots.Damaged file place) = Damaged file place
 from_slots of_slots.Memory = Memory
 
--- what a fault of an install is called here; an install that takes no log knows no full one, and takes no number
-abbrev pub from_installs : InstallErr → RedoErr
-from_installs (of_installs.LogFull used need limit) = Memory
-from_installs (of_installs.LsnEnd number) = Memory
+-- what a fault of an install is called here
+abbrev pub from_installs : ThinErr → RedoErr
 from_installs of_installs.DiskFault = DiskFault
 from_installs of_installs.Memory = Memory
 
@@ -38,6 +38,13 @@ from_log (of_log.LogFull used need limit) = Memory
 from_log (of_log.Damaged file place) = Damaged file place
 from_log (of_log.Exhausted epoch) = Memory
 from_log of_log.Memory = Memory
+
+-- how a redo ended; it may be made again where a file was damaged
+abbrev pub ending_of_redo : {T : Type 0} → Result T RedoErr → Ending
+ending_of_redo (Ok value) = Done
+ending_of_redo (Err DiskFault) = Failed
+ending_of_redo (Err (Damaged file place)) = Short
+ending_of_redo (Err Memory) = Short
 
 -- by a fault of the disk, which then counts it, by a fault in a file, or out of memory
 abbrev pub FailsBy : Type 0 → (FileNo → ℕ → Type 0) → RedoErr → Type 0

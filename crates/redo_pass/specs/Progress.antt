@@ -1,17 +1,17 @@
 -- How far a redo has come.
-use Rattle.std.specs.Prelude.{◌≡◌, ◌<◌, ◌^◌, ⊤, ℕ, false, List, All}
+use Rattle.std.specs.Prelude.{◌≡◌, ◌<◌, ⊤, ℕ, false, List, All}
 use Rattle.disk_model.specs.Disk.{Files}
 use Rattle.disk_model.specs.declared.machine.FileNo.TheVariants.{Objects}
 use Rattle.oper_core.specs.Meaning.{Meaning}
 use Rattle.formats.specs.declared.params.Params.{Params}
 use Rattle.formats.specs.declared.record.Record.{Record}
 use Rattle.formats.specs.declared.record.Record.TheVariants.{Command, Identity, Check}
-use Rattle.install_order.specs.declared.entry.Entry.{Entry}
 use Rattle.write_graph.specs.Graph.{numbers}
 use Rattle.explain_core.specs.Turns.{must_install, turns}
 use Rattle.explain_core.specs.World.{World, run}
 use Rattle.standing.specs.Standing.{FilesShow}
-use Rattle.cache_manager.specs.Parts.{Store, ShowsStore}
+use Rattle.running_store.specs.Parts.{Store, ShowsStore}
+use Rattle.running_store.specs.StoreView.{StoreView, next_of}
 use Rattle.redo_pass.specs.Rising.{AreMembers}
 
 -- so many turns of the redo of this world were taken: files and store show the world after them
@@ -37,8 +37,8 @@ pub record IsLimited {O : Type 0} (m : Meaning O) (p : Params) (files : Files) (
   pub limiting : IsLimiting m p files it limit w
   pub enough : must_install m limit (run m w (turns m limit limiting.turned w)) ≡ false
 
--- the record's number is one that a store may give, and above those of the entries; a check has none
-abbrev pub IsAbove : {O : Type 0} → List Entry → Record O → Type 0
-IsAbove entries (Command number op) = (number < 2 ^ 62) × All (λ n. n < number) (numbers entries)
-IsAbove entries (Identity number x value) = (number < 2 ^ 62) × All (λ n. n < number) (numbers entries)
-IsAbove entries (Check table) = ⊤
+-- the record's number is one of the store's, and above those of the entries; a check has none
+abbrev pub IsAbove : {O : Type 0} → StoreView → Record O → Type 0
+IsAbove it (Command number op) = All (λ n. n < number) (numbers it.parts.store.entries) × (number < next_of it)
+IsAbove it (Identity number x value) = All (λ n. n < number) (numbers it.parts.store.entries) × (number < next_of it)
+IsAbove it (Check table) = ⊤

@@ -14,7 +14,7 @@ use Rattle.explain_core.specs.World.{World, Step, run, end_of, plan_of, IsLive}
 use Rattle.standing.specs.Members.{table_of}
 use Rattle.standing.specs.Standing.{FilesShow, IsFound}
 use Rattle.analysis_pass.specs.Analysis.{PlanView}
-use Rattle.cache_manager.specs.Parts.{Store, ShowsStore}
+use Rattle.running_store.specs.Parts.{Store, ShowsStore}
 use Rattle.redo_pass.specs.Rising.{AreMembers}
 
 -- The world is the one that a restart finds in the files: they show it, it is sound, and it is as a crash leaves it. The

@@ -1,5 +1,6 @@
 -- What the replay of one record reads, and what it changes: in memory, and of a world.
-use Rattle.std.specs.Prelude.{◌≡◌, ◌&&◌, ◌||◌, ⊤, ℕ, Bool, true, false, nat_lt, nat_le, if◌then◌else◌, Some, List, [], ◌∷◌, ◌++◌}
+use Rattle.std.specs.Prelude.{◌≡◌, ◌<◌, ◌&&◌, ◌||◌, ⊤, ℕ, Bool, true, false, nat_lt, nat_le, if◌then◌else◌, All, Some, List, [], ◌∷◌, ◌++◌}
+use Rattle.disk_model.specs.Disk.{Disk}
 use Rattle.oper_core.specs.Meaning.{Meaning}
 use Rattle.oper_core.specs.State.{is_among, value_for}
 use Rattle.checkpoint.specs.RedoStarts.{redo_from}
@@ -9,13 +10,16 @@ use Rattle.formats.specs.declared.record.Record.TheVariants.{Command, Identity, 
 use Rattle.dirty_cache.specs.Contents.{held, is_dirty}
 use Rattle.install_order.specs.Computed.{some_below}
 use Rattle.install_order.specs.declared.entry.Entry.{Entry}
+use Rattle.write_graph.specs.Graph.{numbers}
 use Rattle.explain_core.specs.History.{Member, numbered, writes_of}
 use Rattle.explain_core.specs.History.Member.{Command as a_command, Identity as an_identity}
 use Rattle.explain_core.specs.World.{World, step, is_redone, plan_of}
 use Rattle.explain_core.specs.World.Step.{Replay}
 use Rattle.standing.specs.Members.{table_of}
-use Rattle.cache_manager.specs.Laid.{Laid, id_at, with_chosen}
-use Rattle.cache_manager.specs.Parts.{Store, entry_of}
+use Rattle.running_store.specs.Fetches.{IsFetch}
+use Rattle.running_store.specs.Laid.{IsLaidOn, Laid, id_at}
+use Rattle.running_store.specs.Parts.{Store, entry_of}
+use Rattle.running_store.specs.StoreView.{StoreView}
 
 -- the objects that a record reads: those that its command reads, or none
 abbrev pub read_by : {O : Type 0} → Meaning O → Record O → List ℕ
@@ -33,14 +37,6 @@ abbrev pub with_entry : Bool → List Entry → Entry → List Entry
 with_entry true entries e = entries ++ e ∷ []
 with_entry false entries e = entries
 
--- Some objects that the entry's member writes are set: they are cached under its number, each with the value made for it,
--- and are dirty; and the graph has the entry.
-pub record IsEntered (before after : Store) (due : List ℕ) (e : Entry) (made : List (List ℕ)) : Type 0 where
-  pub slots : after.objects.slots ≡ before.objects.slots
-  pub held : (x : ℕ) → held after.objects.cache x ≡ with_chosen (held before.objects.cache) e.number due e.writes made x
-  pub dirty : (x : ℕ) → is_dirty after.objects.cache x ≡ ((is_among x due && is_among x e.writes) || is_dirty before.objects.cache x)
-  pub entries : after.entries ≡ before.entries ++ e ∷ []
-
 -- The member that is next in the world is replayed: exactly the objects that the world's replay sets are cached under its
 -- number, with the values made, and they are dirty; the graph has an entry of it exactly where there are such objects.
 pub record IsReplayed {O : Type 0} (m : Meaning O) (w : World O) (it : Member O) (made : List (List ℕ)) (before after : Store) : Type 0 where
@@ -49,6 +45,22 @@ pub record IsReplayed {O : Type 0} (m : Meaning O) (w : World O) (it : Member O)
       ≡ (if is_redone m w x then Some (record { lsn = w.next; bytes = value_for x (writes_of m it) made }) else held before.objects.cache x)
   pub dirty : (x : ℕ) → is_dirty after.objects.cache x ≡ (is_redone m w x || is_dirty before.objects.cache x)
   pub entries : after.entries ≡ with_entry (some_below m.objects (is_redone m w)) before.entries (entry_of m w.next it)
+
+-- Objects were set in memory by a record whose number is below each of these, or none were: the slots and the log stay, and what is
+-- laid on a file is so still.
+pub record IsInMemory (before after : StoreView) (within : ℕ → Type 0) : Type 0 where
+  pub slots : after.parts.store.objects.slots ≡ before.parts.store.objects.slots
+  pub log : after.parts.log ≡ before.parts.log
+  pub identities : after.identities ≡ before.identities
+  pub flag : after.broken ≡ before.broken
+  pub laid : (file : List ℕ) → IsLaidOn before.parts.store.objects file → IsLaidOn after.parts.store.objects file
+  pub entries : (k : ℕ) → within k → All (λ n. n < k) (numbers before.parts.store.entries) → All (λ n. n < k) (numbers after.parts.store.entries)
+
+-- slots were read before that
+pub record IsReplay (old new : Disk) (before after : StoreView) (within : ℕ → Type 0) (failed : Type 0) : Type 0 where
+  pub here : StoreView
+  pub read : IsFetch old new before here failed
+  pub set : IsInMemory here after within
 
 -- the member has the next number to replay in the world, and the table is that of the world's plan
 pub record IsNext {O : Type 0} (w : World O) (table : Table) (n : ℕ) (it : Member O) : Type 0 where

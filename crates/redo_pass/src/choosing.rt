@@ -2,12 +2,12 @@
 ghost use Rattle.std.specs.Prelude.{◌≡◌, ◌<◌, ◌≤◌, ◌+◌, ◌==◌, ◌&&◌, ◌||◌, ℕ, All, nat_lt, nat_le, length};
 ghost use Rattle.oper_core.specs.State.{is_among};
 ghost use Rattle.checkpoint.specs.RedoStarts.{redo_from};
-ghost use Rattle.cache_manager.specs.Laid.{id_at};
+ghost use Rattle.running_store.specs.Laid.{id_at};
 ghost use Rattle.redo_pass.specs.Replayed.{is_due};
 
 use analysis_pass::Plan;
-use cache_manager::Objects;
 use oper_core::Objs;
+use running_store::Objects;
 
 /// Those of the objects that a replay of the record with this number, which writes them, sets.
 pub(crate) fn due_among(plan: &Plan, objects: &Objects, number: u64, writes: &[u32]) -> Objs

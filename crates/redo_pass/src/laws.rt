@@ -18,7 +18,7 @@ ghost use Rattle.explain_core.specs.World.Step.{Replay, Crash};
 ghost use Rattle.explain_core.specs.Turns.{must_install, turns};
 ghost use Rattle.standing.specs.Standing.{FilesShow, IsFound};
 ghost use Rattle.analysis_pass.specs.Analysis.{PlanView, plan_table, least_start};
-ghost use Rattle.cache_manager.specs.Parts.{Store, ShowsStore};
+ghost use Rattle.running_store.specs.Parts.{Store, ShowsStore};
 ghost use Rattle.redo_pass.specs.Progress.{HasTurned, SoFar, IsLimited};
 ghost use Rattle.redo_pass.specs.Redo.{IsDue, IsRedone, redone_world};
 ghost use Rattle.redo_pass.specs.Replayed.{IsReplayed, IsNext, is_due};

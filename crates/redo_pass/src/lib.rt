@@ -1,14 +1,11 @@
 //! The redo: what a restart does to have every object again as the log says.
 //!
-//! The one contract is [`redo`]: of each world of the theory that a restart finds in the files, all steps of its redo are
-//! taken, and at each moment each image shows the world after some first ones of these. The crate depends on analysis_pass
-//! for where a redo starts, on cache_manager for the objects and for the install of a thin node, on write_graph for the
-//! graph that it makes, on explain_core and standing for worlds, on formats for the records, and on log_records for the log
-//! that they are read from.
+//! The one contract is [`redo`]: of each world of the theory that a restart finds in the files, all steps of its redo
+//! are taken, and at each moment each image shows the world after some first ones of these. It works on a `Store` of
+//! running_store whose files are read, by the plan of analysis_pass, and installs thin nodes by cache_manager.
 #![tactic(auto)]
 
 mod choosing;
-mod entering;
 mod laws;
 mod limit;
 mod redo_err;

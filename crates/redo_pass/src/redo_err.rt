@@ -1,9 +1,9 @@
 ghost use Rattle.std.specs.Prelude.{◌≡◌};
 ghost use Rattle.redo_pass.specs.Causes.{from_slots, from_installs, from_log};
-ghost use Rattle.redo_pass.specs.declared.redo_err.RedoErr.TheVariants.{DiskFault, Memory as OutOfMemory};
+ghost use Rattle.redo_pass.specs.declared.redo_err.RedoErr.TheVariants.{Memory as OutOfMemory};
 
-use cache_manager::InstallErr;
-use disk_model::{Failed, FileNo};
+use cache_manager::ThinErr;
+use disk_model::FileNo;
 use log_frames::LogErr;
 use oper_core::Memory;
 use stable_objects::SlotErr;
@@ -36,14 +36,6 @@ impl From<SlotErr> for RedoErr {
     }
 }
 
-impl From<Failed> for RedoErr {
-    ghost from_gives = { λ _ e. e ≡ DiskFault };
-
-    fn from(_: Failed) -> Self {
-        RedoErr::DiskFault
-    }
-}
-
 impl From<Memory> for RedoErr {
     ghost from_gives = { λ _ e. e ≡ OutOfMemory };
 
@@ -52,15 +44,13 @@ impl From<Memory> for RedoErr {
     }
 }
 
-impl From<InstallErr> for RedoErr {
+impl From<ThinErr> for RedoErr {
     ghost from_gives = { λ cause e. e ≡ from_installs cause };
 
-    // An install that takes no log knows no full one, and takes no number.
-    fn from(cause: InstallErr) -> Self {
+    fn from(cause: ThinErr) -> Self {
         match cause {
-            InstallErr::DiskFault => RedoErr::DiskFault,
-            InstallErr::LogFull { .. } | InstallErr::LsnEnd { .. } | InstallErr::Memory =>
-                RedoErr::Memory,
+            ThinErr::DiskFault => RedoErr::DiskFault,
+            ThinErr::Memory => RedoErr::Memory,
         }
     }
 }

@@ -1,5 +1,5 @@
 //! A test crate: the tests of explain_core, dirty_cache, identity_writes and analysis_pass, and those of redo_pass and
-//! cache_manager over files. The library is empty.
+//! running_store over files. The library is empty.
 //!
 //! They stand apart so that the proofs of those crates are made once, and not a second time with their tests.
 #![tactic(auto)]

@@ -1,17 +1,15 @@
 // A redo on a machine in memory: that it succeeds, and what it leaves in the graph, in the objects and in the slots.
 use crate::logs::{BEHIND_THREE, CHECKED, LOGGED, SWAPPED, THREE_PUTS, with_block, with_slot};
-use crate::redone::{ALL, Redone, counts, hold, run_redo};
-use cache_manager::Objects;
+use crate::redone::{ALL, Redone, begun, counts, hold, run_redo};
 use disk_model::{Crash, FileNo, Machine, MemMachine};
 use std::alloc::Global;
 use std::test::Fail;
 
 // Whether the slots of a machine have these values.
 fn slots_hold(alloc: Global, mut machine: MemMachine, values: &[&[u8]]) -> Result<bool, Fail> {
-    let mut objects = Objects::load(alloc, &mut machine, 2)?;
-    let are_held = hold(&mut objects, &mut machine, values);
-    drop(objects);
-    drop(machine);
+    let (mut store, plan) = begun(alloc, &mut machine)?;
+    let are_held = hold(&mut store, &mut machine, values);
+    drop((store, plan, machine));
     Ok(are_held)
 }
 
@@ -19,10 +17,7 @@ fn slots_hold(alloc: Global, mut machine: MemMachine, values: &[&[u8]]) -> Resul
 type Left = (u64, [u64; 2]);
 
 fn leaves(it: &Redone, left: Left) -> bool {
-    match &it.graph {
-        Some(graph) => (it.start, counts(graph, &it.objects)) == left,
-        None => false,
-    }
+    it.ends && (it.start, counts(&it.store)) == left
 }
 
 // Whether a redo within this limit leaves this, the objects have these values, and the slots these.
@@ -35,7 +30,7 @@ fn gives(
 ) -> Result<bool, Fail> {
     let mut it = run_redo(alloc, machine, limit, ALL)?;
     let is_left = leaves(&it, left);
-    let are_held = hold(&mut it.objects, &mut it.machine, values[0]);
+    let are_held = hold(&mut it.store, &mut it.machine, values[0]);
     let are_stable = slots_hold(alloc, it.into_machine().crash(Crash::Old), values[1])?;
     Ok(is_left & are_held & are_stable)
 }

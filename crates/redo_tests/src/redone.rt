@@ -1,17 +1,18 @@
 // A store whose log is done again.
-ghost use Rattle.std.specs.Prelude.{◌≡◌, ℕ, None, IfOk};
+ghost use Rattle.std.specs.Prelude.{◌≡◌, ◌<◌, ◌≤◌, ◌^◌, ℕ, None, [], false, IfOk, OnOk};
 ghost use Rattle.dirty_cache.specs.Contents.{held};
-ghost use Rattle.formats.specs.Objects.{bounds_of};
+ghost use Rattle.running_store.specs.Flushed.{AreEarly};
 
 use analysis_pass::{Plan, analyse};
-use cache_manager::Objects;
 use checkpoint::Table;
-use disk_model::{Fuse, MemMachine};
+use disk_model::{FileNo, Fuse, MemMachine};
 use log_frames::LogErr;
 use log_records::RecordLog;
 use op_codec::AllOps;
 use oper_core::Bounds;
 use redo_pass::{Tuning, redo};
+use running_store::{Objects, Store};
+use stable_objects::SlotErr;
 use std::alloc::Global;
 use std::test::Fail;
 use write_graph::WriteGraph;
@@ -19,12 +20,12 @@ use write_graph::WriteGraph;
 // More calls than a redo makes.
 pub const ALL: u64 = 1000;
 
-// What a redo leaves: no graph where it fails. It began at the number `start`.
+// What a redo leaves, and whether it ended. It began at the number `start`.
 #[derive(Drop)]
 pub struct Redone {
     pub machine: MemMachine,
-    pub objects: Objects,
-    pub graph: Option<WriteGraph>,
+    pub store: Store<AllOps>,
+    pub ends: bool,
     pub start: u64,
 }
 
@@ -41,23 +42,37 @@ fn loaded(
     machine: &mut MemMachine,
     b: Bounds,
 ) -> Result<(RecordLog<AllOps>, Option<Table>), LogErr>
-    ensures { IfOk result (λ it. it.0.bounds ≡ b) }
+    ensures bounds { IfOk result (λ it. it.0.bounds ≡ b) }
+    ensures next { IfOk result (λ it. (1 ≤ it.0.next) × (it.0.next ≤ 2 ^ 62)) }
 {
     RecordLog::load_checked(alloc, machine, b)
 }
 
-// The objects of a machine, its log, and the plan by which that has to be done again.
-fn begun(
-    alloc: Global,
-    machine: &mut MemMachine,
-) -> Result<(Objects, RecordLog<AllOps>, Plan), Fail>
-    ensures empty { IfOk result (λ it. (x : ℕ) → held it.0.cache x ≡ None) }
-    ensures bounds { IfOk result (λ it. it.1.bounds ≡ bounds_of it.0.slots.params) }
+// Refuses objects of which a slot is late.
+fn refuse_late(objects: &Objects, next: u64) -> Result<(), SlotErr>
+    requires { 0 < next }
+    ensures { OnOk result (AreEarly next objects.now) }
 {
+    match objects.first_late(next) {
+        Some(place) => Err(SlotErr::Damaged {
+            file: FileNo::Objects,
+            place,
+        }),
+        None => Ok(()),
+    }
+}
+
+// The store of a machine's files, and the plan by which its log has to be done again.
+pub fn begun(alloc: Global, machine: &mut MemMachine) -> Result<(Store<AllOps>, Plan), Fail>
+    ensures unbroken { IfOk result (λ it. it.0.broken ≡ false) }
+    ensures empty { IfOk result (λ it. ((x : ℕ) → held it.0.parts.store.objects.cache x ≡ None) × (it.0.parts.store.entries ≡ [])) }
+{
+    let graph = WriteGraph::new(alloc)?;
     let objects = Objects::load(alloc, machine, 2)?;
     let (log, last) = loaded(alloc, machine, objects.bounds())?;
+    refuse_late(&objects, log.next())?;
     let plan = analyse(alloc, log.base(), last);
-    Ok((objects, log, plan))
+    Ok((Store::new(alloc, log, objects, graph), plan))
 }
 
 // A redo that leaves so many objects dirty.
@@ -75,40 +90,40 @@ pub fn run_redo(
     limit: usize,
     calls: u64,
 ) -> Result<Redone, Fail> {
-    let (mut objects, log, plan) = begun(alloc, &mut machine)?;
+    let (mut store, plan) = begun(alloc, &mut machine)?;
     let mut fuse = Fuse::new(machine, calls);
-    let answer = redo(alloc, &plan, &log, &mut objects, &mut fuse, within(limit));
+    let ends = redo(&plan, &mut store, &mut fuse, within(limit)).is_ok();
     Ok(Redone {
         machine: fuse.into_inner(),
-        objects,
-        graph: answer.ok(),
+        store,
+        ends,
         start: plan.start(),
     })
 }
 
 // Whether an object has this value.
-fn holds(objects: &mut Objects, machine: &mut MemMachine, object: u32, value: &[u8]) -> bool {
-    if object >= objects.params().objects {
+fn holds(store: &mut Store<AllOps>, machine: &mut MemMachine, object: u32, value: &[u8]) -> bool {
+    if store.is_broken() || object >= store.params().objects {
         return false;
     }
-    match objects.fetch(machine, object) {
-        Ok(()) => objects.value(object) == value,
+    match store.fetch(machine, object) {
+        Ok(()) => store.objects().value(object) == value,
         Err(_) => false,
     }
 }
 
 // Whether the first objects have these values.
-pub fn hold(objects: &mut Objects, machine: &mut MemMachine, values: &[&[u8]]) -> bool {
+pub fn hold(store: &mut Store<AllOps>, machine: &mut MemMachine, values: &[&[u8]]) -> bool {
     let mut all = true;
     for (object, value) in values.iter().enumerate() {
         if let Ok(object) = u32::try_from(object) {
-            all &= holds(objects, machine, object, *value);
+            all &= holds(store, machine, object, *value);
         }
     }
     all
 }
 
 // How many entries the graph has, and how many objects are dirty.
-pub fn counts(graph: &WriteGraph, objects: &Objects) -> [u64; 2] {
-    [graph.len(), objects.dirty_count() as u64]
+pub fn counts(store: &Store<AllOps>) -> [u64; 2] {
+    [store.graph().len(), store.objects().dirty_count() as u64]
 }

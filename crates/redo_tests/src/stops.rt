@@ -28,14 +28,14 @@ fn stopped(
     how: Crash,
 ) -> Result<(bool, MemMachine), Fail> {
     let it = run_redo(alloc, machine, limit, calls)?;
-    let ends = it.graph.is_some();
+    let ends = it.ends;
     Ok((ends, it.into_machine().crash(how)))
 }
 
 // Whether a redo ends, and gives these values.
 fn gives(alloc: Global, machine: MemMachine, limit: usize, values: &[&[u8]]) -> Result<bool, Fail> {
     let mut it = run_redo(alloc, machine, limit, ALL)?;
-    let given = it.graph.is_some() & hold(&mut it.objects, &mut it.machine, values);
+    let given = it.ends & hold(&mut it.store, &mut it.machine, values);
     drop(it);
     Ok(given)
 }

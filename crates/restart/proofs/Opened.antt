@@ -1,8 +1,8 @@
 -- What a load makes of the files, and why it fails.
-use Rattle.std.proofs.Common.{◌≡◌, ◌<◌, ◌≤◌, ◌+◌, ◌*◌, ℕ, Bool, true, false, nat_lt, if◌then◌else◌, inl, inr, List, [], map, refl, sym, ap, ◌∙◌, subst, arith, Err}
-use Rattle.std.specs.Prelude.{None, Option, IsErrOf}
+use Rattle.std.proofs.Common.{◌≡◌, ◌<◌, ◌≤◌, ◌+◌, ◌*◌, ◌^◌, ℕ, Bool, true, false, if◌then◌else◌, List, [], map, refl, sym, ap, ◌∙◌, subst, arith, Err}
+use Rattle.std.specs.Prelude.{All, None, Some, Option, IsErrOf}
 use Rattle.std.proofs.lemmas.List.{append-nil}
-use Rattle.std.proofs.lemmas.Bool.{cases_lt}
+use Rattle.std.proofs.lemmas.List.Elements.{All-nil}
 use Rattle.disk_model.specs.Disk.{Files, Disk, Rises, Stays, IsSettled}
 use Rattle.disk_model.specs.Moments.{agreed_before, stays_settled, stays_twice, told_agrees}
 use Rattle.disk_model.specs.declared.machine.FileNo.{FileNo}
@@ -24,10 +24,11 @@ use Rattle.log_frames.specs.declared.log_err.LogErr.TheVariants as of_log
 use Rattle.stable_objects.specs.Laws.{one_store, params_of_file, gate_is_open}
 use Rattle.stable_objects.specs.Reading as slots
 use Rattle.stable_objects.specs.SlotLaws.{none_late, late_slot, is_late}
-use Rattle.stable_objects.specs.SlotsView.{SlotsView, IsLate, head, holder_in, id_in}
+use Rattle.stable_objects.specs.SlotsView.{SlotsView, IsLate}
 use Rattle.stable_objects.specs.declared.slot_err.SlotErr.{SlotErr}
 use Rattle.stable_objects.specs.declared.slot_err.SlotErr.TheVariants as of_slots
 use Rattle.dirty_cache.specs.Contents.{held}
+use Rattle.install_order.specs.declared.entry.Entry.{Entry}
 use Rattle.log_records.specs.CodecLaws.{HasCodes}
 use Rattle.log_records.specs.Loading.{IsLoadFault}
 use Rattle.log_records.specs.Loading as load
@@ -35,8 +36,12 @@ use Rattle.log_records.specs.RecordLog.{RecordLogView, Keeps, IsHeldIn, IsLoaded
 use Rattle.log_records.specs.RecordReader.{AreAll}
 use Rattle.log_records.specs.Uniqueness.{one_grouping}
 use Rattle.analysis_pass.specs.Analysis.{PlanView, table_or, least_start}
-use Rattle.cache_manager.specs.Laid.{Laid, IsLaidOn}
-use Rattle.cache_manager.specs.Parts.{meaning_in}
+use Rattle.write_graph.specs.Graph.{numbers}
+use Rattle.running_store.specs.Early as early
+use Rattle.running_store.specs.Laid.{Laid, IsLaidOn}
+use Rattle.running_store.specs.Parts.{Parts, meaning_in, parts}
+use Rattle.running_store.specs.StoreView.{StoreView, view_of}
+use Rattle.running_store.specs.Taking.{ArePartsInUse}
 use Rattle.restart.specs.Causes.{FailsBy, IsNoDamage, from_log, from_slots}
 use Rattle.restart.specs.DamageLaws.{codes_in, no_late_slot}
 use Rattle.restart.specs.Loading.{IsFiled, IsRead, IsReady}
@@ -96,15 +101,6 @@ IsLateAt slots next place =
 pub holder_two : (b : Bool) → (if b then 1 else 0) < 2
 holder_two true = omega arith
 holder_two false = omega arith
-
--- where no slot is late, each identifier is below the next number
-early_slots : (slots : SlotsView) (next : ℕ) → 1 ≤ next → ((x s : ℕ) → IsLate slots next x s → ⊥) → (x : ℕ) → x < slots.params.objects → id_in slots x < next
-early_slots slots next low none x below =
-    let s = holder_in slots x in
-    elim (cases_lt (id_in slots x) next) [
-      | inl before ↦ before
-      | inr past ↦ absurd (none x s (omega (arith, low, past), below, holder_two (nat_lt (head slots x 0) (head slots x 1)), past))
-    ]
 
 -- slots that are whole report none, and no closed gate
 pub slots_unharmed : (e : SlotErr) → slots.IsNoDamage e → IsNoDamage (from_slots e)
@@ -194,7 +190,7 @@ module _ {O : Type 0} (meaning : Bounds → Meaning O) where
   pub record HasLog (old last : Disk) (objects : Laid) (view : RecordLogView) (check : Option Table) : Type 0 where
     pub slots : HasSlots old last objects
     pub bounds : view.bounds ≡ bounds_of objects.slots.params
-    pub low : 1 ≤ view.next
+    pub numbered : (1 ≤ view.next) × (view.next ≤ 2 ^ 62)
     pub log : (files : Files) → last.agrees files → IsLogOfStore (meaning_in meaning objects.slots.params) files view check
     pub read : old.tells_files → (it : IsLogOfStore (meaning_in meaning objects.slots.params) old.reads view check) × Keeps (meaning_in meaning objects.slots.params) last view (records_of it.groups) []
 
@@ -214,15 +210,15 @@ module _ {O : Type 0} (meaning : Bounds → Meaning O) where
       )
 
   pub has_log : ((b : Bounds) → HasBounds b (meaning b)) → ((b : Bounds) → IsSmall b → IsLawful (meaning b)) → (old mid last : Disk) (objects : Laid) (b : Bounds) (view : RecordLogView) (check : Option Table)
-      → HasSlots old mid objects → Stays mid last → b ≡ bounds_of objects.slots.params → view.bounds ≡ b → 1 ≤ view.next
+      → HasSlots old mid objects → Stays mid last → b ≡ bounds_of objects.slots.params → view.bounds ≡ b → (1 ≤ view.next) × (view.next ≤ 2 ^ 62)
       → (mid.tells_files → (it : IsLoaded (meaning b) b mid last view) × (check ≡ last_check (records_of it.groups)))
       → ((files : Files) → last.agrees files → IsHeldIn (meaning b) files view)
       → (records : List (Record O)) × AreAll (meaning b) last view.log records × (view.next ≡ next_after view.log.header.base records) × (check ≡ last_check records)
       → HasLog old last objects view check
-  has_log bounded lawful old mid last objects b view check has kept bounds own low loaded held counted = record {
+  has_log bounded lawful old mid last objects b view check has kept bounds own numbered loaded held counted = record {
     slots = slots_on old mid last objects has kept;
     bounds = own ∙ bounds;
-    low = low;
+    numbered = numbered;
     log = λ files agrees.
         let laid = has.laid files (agreed_before kept files agrees) in
         let codes = subst (λ (x : Bounds). HasCodes (meaning x)) (sym bounds) (codes_in meaning bounded lawful objects.slots.params laid.slots.whole.in_range) in
@@ -271,39 +267,56 @@ module _ {O : Type 0} (meaning : Bounds → Meaning O) where
           });
         }
 
-    -- what is loaded is what these files hold
-    abbrev pub is_filed : (files : Files) (plan : PlanView) (base : ℕ) → IsLaidOn objects (files Objects) → IsLogOfStore (meaning_in meaning objects.slots.params) files view check
-        → ((x s : ℕ) → IsLate objects.slots view.next x s → ⊥) → base ≡ view.log.header.base → plan.table ≡ table_or base check → plan.start ≡ least_start plan.table.next plan.table.starts
-        → IsFiled meaning files objects view plan
-    is_filed files plan base laid log none base_is table start = record {
-      laid = laid;
-      groups = log.groups;
-      file = log.file;
-      planned = record {
-        table = table ∙ (λ i. table_or (base_is i) (log.check_is i));
-        start = start;
-      };
-      none_late = λ x s below two is_open.
-          let late = none_late objects.slots (files Objects) view.next laid.slots has.low none x s below two is_open in
-          omega (arith, late, log.next_is);
-    }
+    module _ (none : (x s : ℕ) → IsLate objects.slots view.next x s → ⊥) (entries : List Entry) (empty : entries ≡ []) where
+      -- what is loaded is in use
+      pub are_in_use : ArePartsInUse (parts view objects entries)
+      are_in_use = record {
+        bounds = has.bounds;
+        store = record {
+          params = refl;
+          low = has.numbered.1;
+          above = subst (λ (l : List Entry). All (λ n. n < view.next) (numbers l)) (sym empty) (All-nil (λ n. n < view.next));
+          dirty = λ x pair is had. let e : None ≡ Some pair = sym (has.slots.empty x) ∙ had in cc;
+          clean = λ x pair is had. let e : None ≡ Some pair = sym (has.slots.empty x) ∙ had in cc;
+        };
+        early = early.none_late view.next objects (omega (arith, has.numbered.0)) none;
+      }
 
-    -- and where the machine reports its files, they are those
-    pub is_read : (plan : PlanView) (base : ℕ) → old.tells_files → ((x s : ℕ) → IsLate objects.slots view.next x s → ⊥)
-        → base ≡ view.log.header.base → plan.table ≡ table_or base check → plan.start ≡ least_start plan.table.next plan.table.starts
-        → IsRead meaning old.reads last objects view plan
-    is_read plan base told none base_is table start = record {
-      filed = is_filed old.reads plan base (slots_told old last objects has.slots told) (has.read told).0 none base_is table start;
-      keeps = (has.read told).1;
-    }
+      -- The store that is made of it.
+      module _ (it : StoreView) (made : it ≡ view_of view objects entries 0 false) where
+        pub is_ready : IsReady last it
+        is_ready = subst (λ (s : StoreView). IsReady last s) (sym made) (record {
+          settled = has.slots.settled;
+          fresh = record { unbroken = refl; uncounted = refl };
+          empty = (has.slots.empty, empty);
+          bounds = has.bounds;
+        })
 
-    pub is_ready : ((x s : ℕ) → IsLate objects.slots view.next x s → ⊥) → IsReady last objects view
-    is_ready none = record {
-      settled = has.slots.settled;
-      empty = has.slots.empty;
-      bounds = has.bounds;
-      early = early_slots objects.slots view.next has.low none;
-    }
+        module _ (plan : PlanView) (base : ℕ) (base_is : base ≡ view.log.header.base) (table : plan.table ≡ table_or base check) (start : plan.start ≡ least_start plan.table.next plan.table.starts) where
+          abbrev filed : (files : Files) → IsLaidOn objects (files Objects) → IsLogOfStore (meaning_in meaning objects.slots.params) files view check → IsFiled meaning files (parts view objects entries) plan
+          filed files laid log = record {
+            laid = laid;
+            groups = log.groups;
+            file = log.file;
+            planned = record {
+              table = table ∙ (λ i. table_or (base_is i) (log.check_is i));
+              start = start;
+            };
+            none_late = λ x s below two is_open.
+                let late = none_late objects.slots (files Objects) view.next laid.slots has.numbered.0 none x s below two is_open in
+                omega (arith, late, log.next_is);
+          }
+
+          -- it is what these files hold
+          pub is_filed : (files : Files) → last.agrees files → IsFiled meaning files it.parts plan
+          is_filed files agrees = subst (λ (s : StoreView). IsFiled meaning files s.parts plan) (sym made) (filed files (has.slots.laid files agrees) (has.log files agrees))
+
+          -- and where the machine reports its files, they are those
+          pub is_read : old.tells_files → IsRead meaning old.reads last it.parts plan
+          is_read told = subst (λ (s : StoreView). IsRead meaning old.reads last s.parts plan) (sym made) (record {
+            filed = filed old.reads (slots_told old last objects has.slots told) (has.read told).0;
+            keeps = (has.read told).1;
+          })
 
   -- a late slot is no slot of files that meet their format
   pub late_never : ((b : Bounds) → HasBounds b (meaning b)) → ((b : Bounds) → IsSmall b → IsLawful (meaning b)) → (old last : Disk) (objects : Laid) (view : RecordLogView) (check : Option Table) (next place : ℕ)
@@ -312,11 +325,11 @@ module _ {O : Type 0} (meaning : Bounds → Meaning O) where
       no_late_slot meaning bounded lawful old.reads place image (late_fault old last objects view check has next place same at old.reads (told_agrees has.slots.kept told))
 
   -- files that hold what was loaded meet their format
-  abbrev pub filed_well_formed : (files : Files) (objects : Laid) (view : RecordLogView) (plan : PlanView) → IsFiled meaning files objects view plan → IsWellFormed meaning files
-  filed_well_formed files objects view plan is = record {
-    params = objects.slots.params;
-    active = view.log.active;
-    header = view.log.header;
+  abbrev pub filed_well_formed : (files : Files) (it : Parts) (plan : PlanView) → IsFiled meaning files it plan → IsWellFormed meaning files
+  filed_well_formed files it plan is = record {
+    params = it.store.objects.slots.params;
+    active = it.log.log.active;
+    header = it.log.log.header;
     groups = is.groups;
     objects = is.laid.slots.whole;
     log = is.file;

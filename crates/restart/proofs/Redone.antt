@@ -1,8 +1,8 @@
--- What a redo of what was loaded makes of the world.
-use Rattle.std.proofs.Common.{◌≡◌, ◌∙◌, sym, ap, subst, ℕ, zero, suc, ◌++◌, ◌-◌, ◌*◌, List, [], ◌∷◌, map, take, drop, refl, arith, ⊎_elim, inr, nat_lt, ◌<◌, ◌≢◌, Err, IsErrOf}
+-- What a redo of what was loaded makes of the world, and the check after it.
+use Rattle.std.proofs.Common.{◌≡◌, ◌∙◌, sym, ap, subst, ℕ, zero, suc, ◌++◌, ◌-◌, ◌*◌, List, [], ◌∷◌, map, refl, arith, ⊎_elim, inr, nat_lt, ◌<◌, ◌≢◌, Err}
 use Rattle.std.proofs.lemmas.List.{drop_all}
-use Rattle.disk_model.specs.Disk.{Files, Disk, IsDisk, Runs, Stays, In, Any, Same, IsSettled}
-use Rattle.disk_model.specs.Moments.{agreed_before, started}
+use Rattle.disk_model.specs.Disk.{Files, Disk, Stays, IsSettled}
+use Rattle.disk_model.specs.Moments.{agreed_before}
 use Rattle.disk_model.specs.declared.machine.FileNo.{FileNo}
 use Rattle.disk_model.specs.declared.machine.FileNo.TheVariants.{Objects}
 use Rattle.oper_core.specs.Meaning.{Meaning, HasBounds, IsLawful, IsSmall}
@@ -12,7 +12,7 @@ use Rattle.formats.specs.Objects.{bounds_of, slot_place}
 use Rattle.formats.specs.Records.{IsRecordLog, payload_of, records_of}
 use Rattle.formats.specs.declared.params.Params.{Params}
 use Rattle.formats.specs.declared.record.Record.{Record}
-use Rattle.log_frames.specs.LogView.{LogView}
+use Rattle.log_frames.specs.LogView.{LogView, used_of}
 use Rattle.log_records.specs.CodecLaws.{HasCodes}
 use Rattle.log_records.specs.Loading.{IsTailFault}
 use Rattle.log_records.specs.RecordLog.{RecordLogView, Keeps}
@@ -20,8 +20,8 @@ use Rattle.log_records.specs.Rewriting.{numbered_from}
 use Rattle.log_records.specs.Uniqueness.{one_records, no_record_fault}
 use Rattle.stable_objects.specs.Reading.{IsLongValue}
 use Rattle.stable_objects.specs.SlotsView.{SlotsView, AreOf, head, holder_in}
-use Rattle.install_order.specs.declared.entry.Entry.{Entry}
 use Rattle.explain_core.specs.KeptLog.{AreQuiet, IsQuiet, quiet_turn, turns_kept, kept_stable}
+use Rattle.explain_core.specs.RunLaws.{run-append}
 use Rattle.explain_core.specs.Sound.{IsSound}
 use Rattle.explain_core.specs.TurnLaws.{turns_next, turns_none}
 use Rattle.explain_core.specs.Turns.{turn, turns}
@@ -29,52 +29,51 @@ use Rattle.explain_core.specs.World.{World, Step, step, run, end_of}
 use Rattle.explain_core.specs.World.Step.{Begin, End, Append, Block_gate, Check as Take_check, Slot_gate, Removal, Header_gate, Replay, Crash}
 use Rattle.standing.specs.Crashed.{crashed-pending, crashed-stable}
 use Rattle.standing.specs.Members.{members_of, tables_in}
-use Rattle.standing.specs.Moments.{TakesSome, moments_none}
+use Rattle.standing.specs.Moments.{TakesSome, moments_longer, moments_twice}
 use Rattle.standing.specs.Standing.{FilesShow}
 use Rattle.analysis_pass.specs.Analysis.{PlanView, plan_table, least_start}
-use Rattle.cache_manager.specs.Flushed.{AreEarly}
-use Rattle.cache_manager.specs.Laid.{Laid}
-use Rattle.cache_manager.specs.Parts.{AreInUse, Shows, ShowsLog, parts, store}
-use Rattle.cache_manager.specs.Stored.{keeps_beside}
-use Rattle.cache_manager.specs.Taking.{ArePartsInUse}
-use Rattle.redo_pass.specs.Redo.{IsDue, IsLogDue, IsRedone, redone_world}
+use Rattle.running_store.specs.Beside.{IsOnObjects}
+use Rattle.running_store.specs.Calls.{IsCall, IsFailed, Never}
+use Rattle.running_store.specs.Courses.{Course}
+use Rattle.running_store.specs.Parts.{Parts, Shows, ShowsLog, meaning_in}
+use Rattle.running_store.specs.Stored.{keeps_beside}
+use Rattle.running_store.specs.StoreView.{StoreView}
+use Rattle.running_store.specs.Taking.{Ending, IsAfter, Takes}
+use Rattle.running_store.specs.Taking.Ending.{Done}
+use Rattle.checkpointing.specs.Courses.{closing_course}
+use Rattle.checkpointing.specs.Left.{ending_of_close}
+use Rattle.checkpointing.specs.declared.close_err.CloseErr.{CloseErr}
+use Rattle.checkpointing.specs.declared.close_err.CloseErr.TheVariants as of_check
+use Rattle.redo_pass.specs.Redo.{IsDue, IsLogDue, IsRedone, redo_steps, redone_world}
 use Rattle.redo_pass.specs.Causes as again
 use Rattle.redo_pass.specs.declared.redo_err.RedoErr.{RedoErr}
 use Rattle.redo_pass.specs.declared.redo_err.RedoErr.TheVariants as of_redo
-use Rattle.restart.specs.Causes.{FailsBy, from_redo}
-use Rattle.restart.specs.Damage.{IsReadAsDamaged}
+use Rattle.restart.specs.Causes.{FailsBy, ending_of_opening, from_check, from_redo}
+use Rattle.restart.specs.Courses.{opening_course}
+use Rattle.restart.specs.Damage.{IsFoundInRedo, IsReadAsDamaged}
 use Rattle.restart.specs.DamageLaws.{codes_in}
-use Rattle.restart.specs.Loading.{IsFiled}
+use Rattle.restart.specs.Loading.{IsFiled, IsRead}
 use Rattle.restart.specs.Redoing.{IsToRedo}
-use Rattle.restart.specs.declared.restart_err.RestartErr.TheVariants.{Damaged}
-use Rattle.restart.proofs.Judged.{fault_of, redo_rises}
 use Rattle.restart.proofs.Opened.{filed_well_formed, holder_two}
 
--- what is stable of a check that waits, and of the commands before the base, no quiet step changes
-record IsRestKept {O : Type 0} (w v : World O) : Type 0 where
-  pending : v.pending ≡ w.pending
-  commands_before : v.commands_before ≡ w.commands_before
-
-step_rest : {O : Type 0} (m : Meaning O) (w : World O) (s : Step O) → IsQuiet s → IsRestKept w (step m w s)
+-- no quiet step changes what is stable of a check that waits
+step_pending : {O : Type 0} (m : Meaning O) (w : World O) (s : Step O) → IsQuiet s → (step m w s).pending ≡ w.pending
 unfolding step
-step_rest m w Begin q = absurd q
-step_rest m w End q = absurd q
-step_rest m w (Append member) q = absurd q
-step_rest m w Block_gate q = absurd q
-step_rest m w Take_check q = absurd q
-step_rest m w (Slot_gate node x) q = record { pending = refl; commands_before = refl }
-step_rest m w (Removal node) q = record { pending = refl; commands_before = refl }
-step_rest m w (Header_gate base) q = absurd q
-step_rest m w Replay q = record { pending = refl; commands_before = refl }
-step_rest m w Crash q = absurd q
+step_pending m w Begin q = absurd q
+step_pending m w End q = absurd q
+step_pending m w (Append member) q = absurd q
+step_pending m w Block_gate q = absurd q
+step_pending m w Take_check q = absurd q
+step_pending m w (Slot_gate node x) q = refl
+step_pending m w (Removal node) q = refl
+step_pending m w (Header_gate base) q = absurd q
+step_pending m w Replay q = refl
+step_pending m w Crash q = absurd q
 
-run_rest : {O : Type 0} (m : Meaning O) (w : World O) (steps : List (Step O)) → AreQuiet steps → IsRestKept w (run m w steps)
+run_pending : {O : Type 0} (m : Meaning O) (w : World O) (steps : List (Step O)) → AreQuiet steps → (run m w steps).pending ≡ w.pending
 unfolding run
-run_rest m w [] q = record { pending = refl; commands_before = refl }
-run_rest m w (s ∷ steps) q =
-    let first = step_rest m w s q.0 in
-    let then = run_rest m (step m w s) steps q.1 in
-    record { pending = then.pending ∙ first.pending; commands_before = then.commands_before ∙ first.commands_before }
+run_pending m w [] q = refl
+run_pending m w (s ∷ steps) q = run_pending m (step m w s) steps q.1 ∙ step_pending m w s q.0
 
 quiet_append : {O : Type 0} (xs ys : List (Step O)) → AreQuiet xs → AreQuiet ys → AreQuiet (xs ++ ys)
 quiet_append [] ys a b = b
@@ -86,83 +85,95 @@ quiet_turns {O} m limit (suc n) w =
     let first = turn m limit w in
     subst (λ (l : List (Step O)). AreQuiet l) (sym (turns_next m limit n w)) (quiet_append first (turns m limit n (run m w first)) (quiet_turn m limit w) (quiet_turns m limit n (run m w first)))
 
--- no step was taken yet
-pub moments_here : {O : Type 0} (m : Meaning O) (p : Params) (w : World O) (d : Disk) (steps : List (Step O)) → IsDisk d → d.tells_moments → IsSettled d → FilesShow m p d.reads w → TakesSome m p d d w steps
-moments_here m p w d steps disk told settled shows = moments_none m p d d w steps (started d _ (λ c s left. record {
-  silent = disk.said_now told c s left;
-  holds = subst (λ (f : Files). FilesShow m p f w) (λ i file. sym (settled file told c s left) i) shows;
-}))
+module _ {O : Type 0} (meaning : Bounds → Meaning O) (p : Params) (codes : HasCodes (meaning_in meaning p)) (d : Disk) (before : StoreView) (plan : PlanView) (w : World O) (to : IsToRedo (meaning_in meaning p) p d before.parts plan w) where
+  abbrev m : Meaning O
+  m = meaning_in meaning p
 
-module _ {O : Type 0} (m : Meaning O) (codes : HasCodes m) (p : Params) (d : Disk) (objects : Laid) (log : RecordLogView) (plan : PlanView) (w : World O) (to : IsToRedo m p d objects log plan w) where
-  -- the log and its records are those in which the world was found
-  same_log : (log.log.active ≡ to.found.shows.active) × (log.log.header ≡ to.found.shows.header) × (records_of to.keeps.groups ≡ records_of to.found.shows.groups)
-  same_log = one_records m codes log.log.active to.found.shows.active log.log.header to.found.shows.header to.keeps.groups to.found.shows.groups d.reads
-      (record { in_force = to.keeps.in_force; log = to.keeps.file }) to.found.shows.log
+  abbrev it : Parts
+  it = before.parts
 
-  pub same_records : to.stable ≡ records_of to.found.shows.groups
-  same_records = sym to.keeps.stable_are ∙ same_log.2
-
-  pub same_base : log.log.header.base ≡ to.found.shows.header.base
-  same_base = ap (λ (h : Header). h.base) same_log.1
+  -- the log and its records are those in which files show a world
+  same_log : (e : Disk) (v : World O) (shows : FilesShow m p e.reads v) (keeps : Keeps m e it.log to.stable []) → (it.log.log.header ≡ shows.header) × (to.stable ≡ records_of shows.groups)
+  same_log e v shows keeps =
+      let same = one_records m codes it.log.log.active shows.active it.log.log.header shows.header keeps.groups shows.groups e.reads (record { in_force = keeps.in_force; log = keeps.file }) shows.log in
+      (same.1, sym keeps.stable_are ∙ same.2)
 
   -- its redo is due, by the plan of these records
   pub is_due : ((slots : SlotsView) (plan : PlanView) → slots.params ≡ p → AreOf slots (d.reads Objects) → plan.table ≡ plan_table to.found.shows.header.base (records_of to.found.shows.groups)
       → plan.start ≡ least_start plan.table.next plan.table.starts → IsDue m p d.reads slots plan (numbered_from plan.start (records_of to.found.shows.groups)) w)
-      → IsLogDue m p d log objects.slots plan w
+      → IsLogDue m p d it.log it.store.objects.slots plan w
   is_due due =
       let planned = to.planned in
+      let same = same_log d w to.found.shows to.keeps in
       record {
         stable = to.stable;
         keeps = to.keeps;
-        due = subst (λ (l : List (Record O)). IsDue m p d.reads objects.slots plan (numbered_from plan.start l) w) (sym same_records)
-            (due objects.slots plan to.params to.of_file (planned.table ∙ (λ i. plan_table (same_base i) (same_records i))) planned.start);
+        due = subst (λ (l : List (Record O)). IsDue m p d.reads it.store.objects.slots plan (numbered_from plan.start l) w) (sym same.1)
+            (due it.store.objects.slots plan to.params to.of_file (planned.table ∙ (λ i. plan_table (same.0 i).base (same.1 i))) planned.start);
       }
 
-  -- After the redo parts and files show its world.
-  module _ (new : Disk) (limit : ℕ) (after : Laid) (entries : List Entry) (runs : Runs (In Objects Any) Same d new) (settled : IsSettled new) where
+  module _ (limit : ℕ) where
     abbrev later : World O
     later = redone_world m limit w
 
-    redone_log : d.tells_files → ShowsLog m new log later
-    redone_log told =
-        let n = 2 * (end_of w - w.next) in
-        let shows = to.found.shows in
-        let kept = turns_kept m limit n w in
-        let rest = run_rest m w (turns m limit n w) (quiet_turns m limit n w) in
-        let stable = crashed-stable m w to.found.crashed to.found.sound in
-        let all = kept_stable w later kept stable in
-        record {
-          stable = to.stable;
-          pending = [];
-          keeps = keeps_beside m p d new log to.stable [] (runs.reads told).others settled to.keeps;
-          base = same_base ∙ shows.base ∙ sym kept.base;
-          commands_before = ap (λ (h : Header). h.commands) same_log.1 ∙ shows.commands_before ∙ sym rest.commands_before;
-          forced = ap (λ (l : List (Record O)). members_of l) same_records ∙ shows.members
-              ∙ sym (λ i. drop (kept.base i - 1) (take (kept.forced i) (kept.history i)));
-          waiting = sym (drop_all later.forced later.history (omega (arith, all.0)));
-          tables = ap (λ (l : List (Record O)). tables_in l) same_records ∙ shows.tables ∙ sym kept.tables;
-          pending_tables = sym (rest.pending ∙ crashed-pending m w to.found.crashed);
-        }
+    -- the check with which the opening ends
+    abbrev closing : Course O
+    closing = closing_course m later (used_of it.log.log)
 
-    pub redone_shows : d.tells_files → IsSound m later → IsRedone m p new.reads (store after entries) limit w → Shows m p new (parts log after entries) later
-    redone_shows told sound redone =
-        let n = 2 * (end_of w - w.next) in
-        let kept = turns_kept m limit n w in
-        let stable = crashed-stable m w to.found.crashed to.found.sound in
-        record {
-          told = runs.time.files_told.0 told;
-          running = record { sound = sound; live = redone.live; alone = (kept_stable w later kept stable).1 };
-          bounds = to.bounds;
-          store = redone.store_shows;
-          log = redone_log told;
-        }
+    -- what a crash leaves within the redo is after some first steps of the opening
+    pub redo_moments : (new : Disk) → TakesSome m p d new w (redo_steps m limit w) → TakesSome m p d new w (opening_course m limit w (used_of it.log.log)).steps
+    redo_moments new first = moments_longer m p d new w (redo_steps m limit w) closing.steps first
 
--- what is in use after a redo is so for the log
-pub parts_in_use : (p : Params) (log : RecordLogView) (objects : Laid) (entries : List Entry) → log.bounds ≡ bounds_of p
-    → AreInUse p log.next (store objects entries) → AreEarly log.next objects → ArePartsInUse (parts log objects entries)
-parts_in_use p log objects entries bounds used early =
-    let same : p ≡ objects.slots.params = sym used.params in
-    record { bounds = bounds ∙ ap (λ (q : Params). bounds_of q) same; store = subst (λ (q : Params). AreInUse q log.next (store objects entries)) same used; early = early }
+    -- After the redo parts and files show its world.
+    module _ (new : Disk) (after : StoreView) (call : IsCall meaning d new before after 0 Never Done) (objects : IsOnObjects d new before after) where
+      settled : IsSettled new
+      settled = ⊎_elim (λ failed. absurd failed) (λ kept. kept to.keeps.settled) call.settled
+
+      redone_log : FilesShow m p new.reads later → ShowsLog m new it.log later
+      redone_log shows =
+          let n = 2 * (end_of w - w.next) in
+          let keeps = keeps_beside m p d new it.log to.stable [] (objects.runs.reads to.told).others settled to.keeps in
+          let same = same_log new later shows keeps in
+          let all = kept_stable w later (turns_kept m limit n w) (crashed-stable m w to.found.crashed to.found.sound) in
+          record {
+            stable = to.stable;
+            pending = [];
+            keeps = keeps;
+            base = ap (λ (h : Header). h.base) same.0 ∙ shows.base;
+            commands_before = ap (λ (h : Header). h.commands) same.0 ∙ shows.commands_before;
+            forced = ap (λ (l : List (Record O)). members_of l) same.1 ∙ shows.members;
+            waiting = sym (drop_all later.forced later.history (omega (arith, all.0)));
+            tables = ap (λ (l : List (Record O)). tables_in l) same.1 ∙ shows.tables;
+            pending_tables = sym (run_pending m w (turns m limit n w) (quiet_turns m limit n w) ∙ crashed-pending m w to.found.crashed);
+          }
+
+      redone_shows : IsSound m later → IsRedone m p new.reads after.parts.store limit w → Shows m p new after.parts later
+      redone_shows sound redone =
+          let n = 2 * (end_of w - w.next) in
+          let kept = turns_kept m limit n w in
+          let stable = crashed-stable m w to.found.crashed to.found.sound in
+          subst (λ (log : RecordLogView). Shows m p new (record { log = log; store = after.parts.store }) later) (sym objects.log) (record {
+            told = objects.runs.time.files_told.0 to.told;
+            running = record { sound = sound; live = redone.live; alone = (kept_stable w later kept stable).1 };
+            bounds = to.bounds;
+            store = redone.store_shows;
+            log = redone_log redone.files_show;
+          })
+
+      -- Then the check is taken.
+      module _ (last : Disk) (there : Parts) (sound : IsSound m later) (redone : IsRedone m p new.reads after.parts.store limit w) where
+        pub opened_after : Takes meaning new last after.parts there (λ m w used. closing_course m w used) Done → IsAfter m p last there w (opening_course m limit w (used_of it.log.log))
+        opened_after takes =
+            let is = subst (λ (log : RecordLogView). IsAfter m p last there later (closing_course m later (used_of log.log))) objects.log (takes.follows p later (redone_shows sound redone)).1 in
+            record { shows = subst (λ (v : World O). Shows m p last there v) (sym (run-append m w (redo_steps m limit w) closing.steps)) is.shows; used = is.used }
+
+        -- and what a crash leaves within it is after some first steps of the opening
+        pub check_moments : {ending : Ending} → d.tells_moments → TakesSome m p d new w (redo_steps m limit w) → Takes meaning new last after.parts there (λ m w used. closing_course m w used) ending
+            → TakesSome m p d last w (opening_course m limit w (used_of it.log.log)).steps
+        check_moments told first takes =
+            let then = takes.moments (objects.runs.time.moments_told.0 told) p later (redone_shows sound redone) in
+            moments_twice m p d new last w (redo_steps m limit w) closing.steps (objects.runs.said to.told) first
+            (subst (λ (log : RecordLogView). TakesSome m p new last later (closing_course m later (used_of log.log)).steps) objects.log then)
 
 -- Where a log's file is as in some files, which hold whole records, none of them is reported to be damaged.
 pub no_tail_fault : {O : Type 0} (m : Meaning O) → HasCodes m → (d : Disk) (log : LogView) (groups : List (List (Record O))) (was now : Files) (file : FileNo) (place : ℕ)
@@ -171,64 +182,70 @@ no_tail_fault m codes d log groups was now file place holds same agrees fault =
     let here = subst (IsRecordLog m log.header groups) (sym same) holds in
     no_record_fault m codes log.header groups (now log.active) place here (fault.1 now agrees (map (payload_of m) groups) here.log)
 
--- why a redo fails
-redo_fails : (rises : Type 0) (fault : FileNo → ℕ → Type 0) (e : RedoErr) → again.FailsBy rises fault e → FailsBy rises ⊥ fault (from_redo e)
-redo_fails rises fault of_redo.DiskFault fails = fails
-redo_fails rises fault (of_redo.Damaged file place) fails = fails
-redo_fails rises fault of_redo.Memory fails = tt
+-- why a redo fails, and how the opening then ends
+pub redo_fails : (rises : Type 0) (fault there : FileNo → ℕ → Type 0) (e : RedoErr) → ((file : FileNo) (place : ℕ) → fault file place → there file place) → again.FailsBy rises fault e → FailsBy rises ⊥ there (from_redo e)
+redo_fails rises fault there of_redo.DiskFault so fails = fails
+redo_fails rises fault there (of_redo.Damaged file place) so fails = so file place fails
+redo_fails rises fault there of_redo.Memory so fails = tt
 
-module _ {O : Type 0} (meaning : Bounds → Meaning O) (bounded : (b : Bounds) → HasBounds b (meaning b)) (lawful : (b : Bounds) → IsSmall b → IsLawful (meaning b)) (d new : Disk) (log : RecordLogView) (runs : Runs (In Objects Any) Same d new) where
-  redo_never : (before after : SlotsView) (file : FileNo) (place : ℕ) → log.bounds ≡ bounds_of before.params → again.IsRedoFault (meaning log.bounds) d new log.log before after file place
-      → d.tells_files → AreOf before (d.reads Objects) → (stable : List (Record O)) → Keeps (meaning log.bounds) d log stable [] → ⊥
-  redo_never before after file place bounds fault told of stable keeps =
-      let codes = subst (λ (b : Bounds). HasCodes (meaning b)) (sym bounds) (codes_in meaning bounded lawful before.params of.whole.in_range) in
+pub redo_ends : (e : RedoErr) → again.ending_of_redo {T = Unit {0}} (Err e) ≡ ending_of_opening {T = Unit {0}} (Err (from_redo e))
+redo_ends of_redo.DiskFault = refl
+redo_ends (of_redo.Damaged file place) = refl
+redo_ends of_redo.Memory = refl
+
+-- and why the check does
+pub check_fails : (rises closed : Type 0) (fault : FileNo → ℕ → Type 0) (e : CloseErr) → (IsFailed (ending_of_close {T = Unit {0}} (Err e)) → rises) → FailsBy rises closed fault (from_check e)
+check_fails rises closed fault of_check.DiskFault rose = rose tt
+check_fails rises closed fault of_check.Memory rose = tt
+
+pub check_ends : (e : CloseErr) → ending_of_close {T = Unit {0}} (Err e) ≡ ending_of_opening {T = Unit {0}} (Err (from_check e))
+check_ends of_check.DiskFault = refl
+check_ends of_check.Memory = refl
+
+module _ {O : Type 0} (meaning : Bounds → Meaning O) (bounded : (b : Bounds) → HasBounds b (meaning b)) (lawful : (b : Bounds) → IsSmall b → IsLawful (meaning b)) (old d new : Disk) (kept : Stays old d) (it after : Parts) (plan : PlanView)
+    (bounds : it.log.bounds ≡ bounds_of it.store.objects.slots.params) (file : FileNo) (place : ℕ) (found : IsFoundInRedo meaning d new it after file place) where
+  abbrev q : Params
+  q = it.store.objects.slots.params
+
+  -- Of files that were loaded the redo reads no record that breaks its format.
+  no_tail : (was now : Files) → IsFiled meaning was it plan → now it.log.log.active ≡ was it.log.log.active → new.agrees now
+      → (it.log.log.active ≢ Objects → IsTailFault (meaning it.log.bounds) new it.log.log file place) → ⊥
+  no_tail was now is same agrees tail =
+      no_tail_fault (meaning_in meaning q) (codes_in meaning bounded lawful q is.laid.slots.whole.in_range) new it.log.log is.groups was now file place is.file.log same agrees
+      (subst (λ (b : Bounds). IsTailFault (meaning b) new it.log.log file place) bounds (tail is.file.in_force.a_log))
+
+  -- where the machine reports its files, the redo finds no fault in those that were loaded
+  pub redo_never : old.tells_files → IsRead meaning old.reads d it plan → ⊥
+  redo_never told read =
+      let told_d = kept.time.files_told.0 told in
+      let reads = kept.reads told in
       ⊎_elim
-      (λ (slot : again.IsSlotFault d new before after file place). slot.never told of)
-      (λ (tail : log.log.active ≢ Objects → IsTailFault (meaning log.bounds) new log.log file place).
-      no_tail_fault (meaning log.bounds) codes new log.log keeps.groups d.reads new.reads file place keeps.file ((runs.reads told).others log.log.active keeps.in_force.a_log)
-      (runs.ends.agreeing (runs.time.files_told.0 told)) (tail keeps.in_force.a_log))
-      fault
-
-  -- never by damage, where the machine reports its files and they are those that were loaded
-  pub redo_told : (rises : Type 0) (before after : SlotsView) (e : RedoErr) → log.bounds ≡ bounds_of before.params → again.FailsBy rises (again.IsRedoFault (meaning log.bounds) d new log.log before after) e
-      → FailsBy rises ⊥ (λ file place. d.tells_files → AreOf before (d.reads Objects) → (stable : List (Record O)) → Keeps (meaning log.bounds) d log stable [] → ⊥) (from_redo e)
-  redo_told rises before after e bounds fails =
-      let fault = again.IsRedoFault (meaning log.bounds) d new log.log before after in
-      redo_rises rises rises ⊥ fault _ (from_redo e) (λ risen. risen) (λ file place is. redo_never before after file place bounds is) (redo_fails rises fault e fails)
-
-  -- the damage that it reports is a fault
-  pub redo_reports : {T : Type 0} (rises : Type 0) (before after : SlotsView) (e : RedoErr) → again.FailsBy rises (again.IsRedoFault (meaning log.bounds) d new log.log before after) e
-      → (file : FileNo) (place : ℕ) → IsErrOf {T = T} (Err (from_redo e)) (Damaged file place) → again.IsRedoFault (meaning log.bounds) d new log.log before after file place
-  redo_reports rises before after e fails =
-      let fault = again.IsRedoFault (meaning log.bounds) d new log.log before after in
-      fault_of rises ⊥ fault (from_redo e) (redo_fails rises fault e fails)
+      (λ (slot : again.IsSlotFault d new it.store.objects.slots after.store.objects.slots file place).
+      slot.never told_d (subst (λ (f : Files). AreOf it.store.objects.slots (f Objects)) (sym reads) read.filed.laid.slots))
+      (no_tail old.reads new.reads read.filed ((found.runs.reads told_d).others it.log.log.active read.filed.file.in_force.a_log ∙ ap (λ (f : Files). f it.log.log.active) reads) (found.runs.ends.agreeing (found.runs.time.files_told.0 told_d)))
+      found.fault
 
   -- In all files that agree at its end, a slot has too long a value, and before the redo they met their format.
-  pub redo_damages : (old : Disk) → Stays old d → (objects after : Laid) (plan : PlanView) (file : FileNo) (place : ℕ) → log.bounds ≡ bounds_of objects.slots.params → ((files : Files) → d.agrees files → IsFiled meaning files objects log plan)
-      → again.IsRedoFault (meaning log.bounds) d new log.log objects.slots after.slots file place → IsReadAsDamaged meaning old new file place
-  redo_damages old kept objects after plan file place bounds filed fault files agrees =
-      let was = runs.agreed files agrees in
+  pub redo_damages : ((files : Files) → d.agrees files → IsFiled meaning files it plan) → IsReadAsDamaged meaning old new file place
+  redo_damages filed files agrees =
+      let was = found.runs.agreed files agrees in
       let is = filed was.0 was.1 in
-      let q = objects.slots.params in
-      let m = meaning (bounds_of q) in
       ⊎_elim
-      (λ (slot : again.IsSlotFault d new objects.slots after.slots file place).
+      (λ (slot : again.IsSlotFault d new it.store.objects.slots after.store.objects.slots file place).
       let x = slot.object in
       let long = slot.long in
-      let s = holder_in after.slots x in
+      let s = holder_in after.store.objects.slots x in
       inr (record {
         loaded = was.0;
         before = agreed_before kept was.0 was.1;
-        formed = filed_well_formed meaning was.0 objects log plan is;
+        formed = filed_well_formed meaning was.0 it plan is;
         others = was.2.others;
         file_is = long.file_is;
         object = x;
         below = subst (λ (p : Params). x < p.objects) slot.params long.below;
         slot = s;
-        two = holder_two (nat_lt (head after.slots x 0) (head after.slots x 1));
+        two = holder_two (nat_lt (head after.store.objects.slots x 0) (head after.store.objects.slots x 1));
         long = subst (λ (p : Params). IsLongValue p.cap (slot_place p.cap x s) (files Objects) place) slot.params (long.long files agrees);
       }))
-      (λ (tail : log.log.active ≢ Objects → IsTailFault (meaning log.bounds) new log.log file place).
-      absurd (no_tail_fault m (codes_in meaning bounded lawful q is.laid.slots.whole.in_range) new log.log is.groups was.0 files file place is.file.log (was.2.others log.log.active is.file.in_force.a_log) agrees
-      (subst (λ (b : Bounds). IsTailFault (meaning b) new log.log file place) bounds (tail is.file.in_force.a_log))))
-      fault
+      (λ tail. absurd (no_tail was.0 files is (was.2.others it.log.log.active is.file.in_force.a_log) agrees tail))
+      found.fault

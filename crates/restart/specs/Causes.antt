@@ -1,12 +1,14 @@
 -- Why a store is not opened.
-use Rattle.std.specs.Prelude.{⊤, ℕ}
+use Rattle.std.specs.Prelude.{⊤, ℕ, Result, Ok, Err}
 use Rattle.disk_model.specs.declared.machine.FileNo.{FileNo}
 use Rattle.log_frames.specs.declared.log_err.LogErr.{LogErr}
 use Rattle.log_frames.specs.declared.log_err.LogErr.TheVariants as of_log
 use Rattle.stable_objects.specs.declared.slot_err.SlotErr.{SlotErr}
 use Rattle.stable_objects.specs.declared.slot_err.SlotErr.TheVariants as of_slots
-use Rattle.cache_manager.specs.declared.install_err.InstallErr.{InstallErr}
-use Rattle.cache_manager.specs.declared.install_err.InstallErr.TheVariants as of_check
+use Rattle.running_store.specs.Taking.{Ending}
+use Rattle.running_store.specs.Taking.Ending.{Done, Short, Failed}
+use Rattle.checkpointing.specs.declared.close_err.CloseErr.{CloseErr}
+use Rattle.checkpointing.specs.declared.close_err.CloseErr.TheVariants as of_check
 use Rattle.redo_pass.specs.declared.redo_err.RedoErr.{RedoErr}
 use Rattle.redo_pass.specs.declared.redo_err.RedoErr.TheVariants as of_redo
 use Rattle.restart.specs.declared.restart_err.RestartErr.{RestartErr}
@@ -33,10 +35,8 @@ from_redo of_redo.DiskFault = DiskFault
 from_redo (of_redo.Damaged file place) = Damaged file place
 from_redo of_redo.Memory = Memory
 
--- and where the check does, which is made only where it has room, and takes no number
-abbrev pub from_check : InstallErr → RestartErr
-from_check (of_check.LogFull used need limit) = Memory
-from_check (of_check.LsnEnd number) = Memory
+-- and where the check does
+abbrev pub from_check : CloseErr → RestartErr
 from_check of_check.DiskFault = DiskFault
 from_check of_check.Memory = Memory
 
@@ -54,3 +54,11 @@ IsNoDamage NotAStore = ⊥
 IsNoDamage (Damaged file place) = ⊥
 IsNoDamage DiskFault = ⊤
 IsNoDamage Memory = ⊤
+
+-- how the opening of a store that was loaded ended
+abbrev pub ending_of_opening : {T : Type 0} → Result T RestartErr → Ending
+ending_of_opening (Ok value) = Done
+ending_of_opening (Err DiskFault) = Failed
+ending_of_opening (Err NotAStore) = Short
+ending_of_opening (Err (Damaged file place)) = Short
+ending_of_opening (Err Memory) = Short

@@ -3,10 +3,14 @@ use Rattle.std.specs.Prelude.{ℕ, ◌∷◌}
 use Rattle.oper_core.specs.Meaning.{Meaning}
 use Rattle.explain_core.specs.World.{World, step}
 use Rattle.explain_core.specs.World.Step.{Crash}
-use Rattle.cache_manager.specs.Courses.{Course, course, and_then}
-use Rattle.cache_manager.specs.Courses.Stop.{Through}
+use Rattle.running_store.specs.Courses.{Course, course, and_then}
+use Rattle.running_store.specs.Courses.Stop.{Through}
 use Rattle.checkpointing.specs.Courses.{closing_course}
 use Rattle.redo_pass.specs.Redo.{redo_steps}
+
+-- all turns of the redo, and after them a check, where the log has room for one
+abbrev pub opening_course : {O : Type 0} → Meaning O → ℕ → World O → ℕ → Course O
+opening_course m limit w used = and_then m w (course (redo_steps m limit w) used Through) (λ v used. closing_course m v used)
 
 -- a crash, and all turns of the redo
 abbrev pub redo_course : {O : Type 0} → Meaning O → ℕ → World O → ℕ → Course O

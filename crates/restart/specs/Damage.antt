@@ -1,6 +1,6 @@
 -- What the files are where a restart reports that they are damaged, or no store, on any machine.
 use Rattle.std.specs.Prelude.{◌≡◌, ◌⊎◌, ◌<◌, ℕ, Result, IsErrOf}
-use Rattle.disk_model.specs.Disk.{Files, Disk, OthersStay}
+use Rattle.disk_model.specs.Disk.{Files, Disk, OthersStay, Runs, In, Any, Same}
 use Rattle.disk_model.specs.declared.machine.FileNo.{FileNo}
 use Rattle.disk_model.specs.declared.machine.FileNo.TheVariants.{Objects}
 use Rattle.oper_core.specs.Meaning.{Meaning}
@@ -9,7 +9,8 @@ use Rattle.formats.specs.Bytes.{IsClosedAt}
 use Rattle.formats.specs.FirstFault.{IsDamaged}
 use Rattle.formats.specs.Objects.{slot_place}
 use Rattle.stable_objects.specs.Reading.{IsLongValue}
-use Rattle.cache_manager.specs.Parts.{Parts}
+use Rattle.running_store.specs.Parts.{Parts}
+use Rattle.redo_pass.specs.Causes.{IsRedoFault}
 use Rattle.restart.specs.WellFormed.{IsWellFormed}
 use Rattle.restart.specs.declared.restart_err.RestartErr.{RestartErr}
 use Rattle.restart.specs.declared.restart_err.RestartErr.TheVariants.{NotAStore, Damaged}
@@ -33,6 +34,11 @@ pub record IsDamagedSince {O : Type 0} (meaning : Bounds → Meaning O) (old : D
 -- what a redo finds.
 abbrev pub IsReadAsDamaged : {O : Type 0} → (Bounds → Meaning O) → Disk → Disk → FileNo → ℕ → Type 0
 IsReadAsDamaged meaning old new file place = (files : Files) → new.agrees files → IsDamaged meaning files file place ⊎ IsDamagedSince meaning old files file place
+
+-- A redo, which changed the objects file alone, found this fault.
+pub record IsFoundInRedo {O : Type 0} (meaning : Bounds → Meaning O) (old new : Disk) (before after : Parts) (file : FileNo) (place : ℕ) : Type 0 where
+  pub runs : Runs (In Objects Any) Same old new
+  pub fault : IsRedoFault (meaning before.log.bounds) old new before.log.log before.store.objects.slots after.store.objects.slots file place
 
 -- Where a restart reports damage, all files that agree with what was read are read as damaged there. Where it finds no store,
 -- the objects gate is closed in all of them.

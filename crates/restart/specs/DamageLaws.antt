@@ -17,7 +17,7 @@ use Rattle.log_frames.specs.Laws.{first_is_log_fault, no_first_log_fault, one_lo
 use Rattle.log_records.specs.CodecLaws.{HasCodes, has_codes}
 use Rattle.log_records.specs.Uniqueness.{log_of, one_records, no_record_fault, one_record_fault, broken_log}
 use Rattle.stable_objects.specs.Laws.{params_of_file, first_is_fault, no_first_fault, one_objects_fault}
-use Rattle.cache_manager.specs.Parts.{meaning_in}
+use Rattle.running_store.specs.Parts.{meaning_in}
 use Rattle.restart.specs.WellFormed.{IsWellFormed}
 
 -- the records of a log have one next number

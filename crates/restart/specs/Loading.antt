@@ -1,5 +1,5 @@
 -- What is read of the files before anything is done again.
-use Rattle.std.specs.Prelude.{◌≡◌, ◌<◌, ℕ, None, List, []}
+use Rattle.std.specs.Prelude.{◌≡◌, ◌<◌, ℕ, false, None, List, []}
 use Rattle.disk_model.specs.Disk.{Files, Disk, IsSettled}
 use Rattle.disk_model.specs.declared.machine.FileNo.TheVariants.{Objects}
 use Rattle.oper_core.specs.Meaning.{Meaning}
@@ -8,19 +8,25 @@ use Rattle.formats.specs.Bytes.{IsOpenAt}
 use Rattle.formats.specs.Objects.{bounds_of, slot_place, identifier_at}
 use Rattle.formats.specs.Records.{HoldsRecordLog, records_of, next_after}
 use Rattle.formats.specs.declared.record.Record.{Record}
-use Rattle.log_records.specs.RecordLog.{RecordLogView, Keeps}
+use Rattle.log_records.specs.RecordLog.{Keeps}
 use Rattle.analysis_pass.specs.Analysis.{PlanView, plan_table, least_start}
 use Rattle.dirty_cache.specs.Contents.{held}
-use Rattle.cache_manager.specs.Flushed.{AreEarly}
-use Rattle.cache_manager.specs.Laid.{Laid, IsLaidOn}
+use Rattle.running_store.specs.Laid.{IsLaidOn}
+use Rattle.running_store.specs.Parts.{Parts, meaning_in}
+use Rattle.running_store.specs.StoreView.{StoreView, params_of}
 
--- On every machine: it is settled, no object is cached, the log is one of the store, and the identifiers of the slots are
--- below its next number.
-pub record IsReady (d : Disk) (objects : Laid) (log : RecordLogView) : Type 0 where
+-- the store is not broken, and none of its identity writes is counted yet
+pub record IsFresh (it : StoreView) : Type 0 where
+  pub unbroken : it.broken ≡ false
+  pub uncounted : it.identities ≡ 0
+
+-- On every machine: it is settled, the store is fresh, no object is cached, the graph has no entries, and the log is one of
+-- the store.
+pub record IsReady (d : Disk) (it : StoreView) : Type 0 where
   pub settled : IsSettled d
-  pub empty : (x : ℕ) → held objects.cache x ≡ None
-  pub bounds : log.bounds ≡ bounds_of objects.slots.params
-  pub early : AreEarly log.next objects
+  pub fresh : IsFresh it
+  pub empty : ((x : ℕ) → held it.parts.store.objects.cache x ≡ None) × (it.parts.store.entries ≡ [])
+  pub bounds : it.parts.log.bounds ≡ bounds_of (params_of it)
 
 -- the plan is by the last check among all records of a log that begins at this base
 pub record IsPlanned {O : Type 0} (base : ℕ) (all : List (Record O)) (plan : PlanView) : Type 0 where
@@ -29,15 +35,15 @@ pub record IsPlanned {O : Type 0} (base : ℕ) (all : List (Record O)) (plan : P
 
 -- What is loaded is that of these files: the objects are those of the slots, the log in force holds some records, by which the
 -- plan is, and no open slot has the number of a later one.
-pub record IsFiled {O : Type 0} (meaning : Bounds → Meaning O) (files : Files) (objects : Laid) (log : RecordLogView) (plan : PlanView) : Type 0 where
-  pub laid : IsLaidOn objects (files Objects)
+pub record IsFiled {O : Type 0} (meaning : Bounds → Meaning O) (files : Files) (it : Parts) (plan : PlanView) : Type 0 where
+  pub laid : IsLaidOn it.store.objects (files Objects)
   pub groups : List (List (Record O))
-  pub file : HoldsRecordLog (meaning (bounds_of objects.slots.params)) log.log.active log.log.header groups files
-  pub planned : IsPlanned log.log.header.base (records_of groups) plan
-  pub none_late : (x s : ℕ) → x < objects.slots.params.objects → s < 2 → IsOpenAt (slot_place objects.slots.params.cap x s) (files Objects)
-      → identifier_at (slot_place objects.slots.params.cap x s) (files Objects) < next_after log.log.header.base (records_of groups)
+  pub file : HoldsRecordLog (meaning_in meaning it.store.objects.slots.params) it.log.log.active it.log.log.header groups files
+  pub planned : IsPlanned it.log.log.header.base (records_of groups) plan
+  pub none_late : (x s : ℕ) → x < it.store.objects.slots.params.objects → s < 2 → IsOpenAt (slot_place it.store.objects.slots.params.cap x s) (files Objects)
+      → identifier_at (slot_place it.store.objects.slots.params.cap x s) (files Objects) < next_after it.log.log.header.base (records_of groups)
 
 -- where the machine reports its files: what is loaded is that of them, and the log keeps its records
-pub record IsRead {O : Type 0} (meaning : Bounds → Meaning O) (files : Files) (d : Disk) (objects : Laid) (log : RecordLogView) (plan : PlanView) : Type 0 where
-  pub filed : IsFiled meaning files objects log plan
-  pub keeps : Keeps (meaning (bounds_of objects.slots.params)) d log (records_of filed.groups) []
+pub record IsRead {O : Type 0} (meaning : Bounds → Meaning O) (files : Files) (d : Disk) (it : Parts) (plan : PlanView) : Type 0 where
+  pub filed : IsFiled meaning files it plan
+  pub keeps : Keeps (meaning_in meaning it.store.objects.slots.params) d it.log (records_of filed.groups) []

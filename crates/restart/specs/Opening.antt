@@ -14,15 +14,15 @@ use Rattle.explain_core.specs.Sound.{IsSound}
 use Rattle.explain_core.specs.World.{World, Step}
 use Rattle.standing.specs.Moments.{ShowsSome}
 use Rattle.standing.specs.Standing.{FilesShow}
-use Rattle.cache_manager.specs.Kept.{IsAttached}
-use Rattle.cache_manager.specs.Parts.{Parts, parts}
-use Rattle.cache_manager.specs.Taking.{ArePartsInUse}
+use Rattle.running_store.specs.Kept.{IsAttached}
+use Rattle.running_store.specs.Parts.{Parts}
+use Rattle.running_store.specs.StoreView.{StoreView}
+use Rattle.running_store.specs.Taking.{ArePartsInUse}
 use Rattle.restart.specs.Causes.{IsNoDamage}
 use Rattle.restart.specs.Starts.{OrAtStart}
 use Rattle.restart.specs.WellFormed.{IsWellFormed}
 use Rattle.restart.specs.declared.restart_err.RestartErr.{RestartErr}
 use Rattle.restart.specs.declared.restart_err.RestartErr.TheVariants.{DiskFault, NotAStore, Damaged, Memory}
-use Rattle.restart.specs.declared.restarted.Restarted.{Restarted}
 
 -- The machine reports its files, which need not be settled; what reads give shows the world, which is sound, and there the
 -- log in force has this length.
@@ -61,7 +61,7 @@ pub record IsJudged {O : Type 0} (meaning : Bounds → Meaning O) (old new : Dis
 abbrev pub OpensThrough : {O : Type 0} → Meaning O → Params → Disk → Disk → World O → List (Step O) → Type 0
 OpensThrough m p old new w steps = LeavesOnly old new (OrAtStart old (IsSilent (ShowsSome m p w steps) old.said))
 
--- the parts that a restart answers
-abbrev pub opened : {O : Type 0} → Result (Restarted O) RestartErr → Result Parts RestartErr
-opened (Ok it) = Ok (parts it.log it.objects it.graph.entries)
+-- the parts of the store that a restart answers
+abbrev pub opened : Result StoreView RestartErr → Result Parts RestartErr
+opened (Ok it) = Ok it.parts
 opened (Err cause) = Err cause

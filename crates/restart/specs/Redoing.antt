@@ -7,21 +7,22 @@ use Rattle.formats.specs.Objects.{bounds_of}
 use Rattle.formats.specs.declared.params.Params.{Params}
 use Rattle.formats.specs.declared.record.Record.{Record}
 use Rattle.stable_objects.specs.SlotsView.{AreOf}
-use Rattle.log_records.specs.RecordLog.{RecordLogView, Keeps}
+use Rattle.log_records.specs.RecordLog.{Keeps}
 use Rattle.explain_core.specs.History.{commands_of}
 use Rattle.explain_core.specs.World.{World}
 use Rattle.standing.specs.Standing.{IsFound}
 use Rattle.analysis_pass.specs.Analysis.{PlanView}
-use Rattle.cache_manager.specs.Laid.{Laid}
+use Rattle.running_store.specs.Parts.{Parts}
 use Rattle.restart.specs.Loading.{IsPlanned}
 
--- The world is the one that a restart finds in the files. The slots are those of the objects file, the log is that of the
+-- The machine reports its files, and the world is the one that a restart finds in them. The slots are those of the objects file, the log is that of the
 -- files, in which nothing waits, and the plan is by its records.
-pub record IsToRedo {O : Type 0} (m : Meaning O) (p : Params) (d : Disk) (objects : Laid) (log : RecordLogView) (plan : PlanView) (w : World O) : Type 0 where
+pub record IsToRedo {O : Type 0} (m : Meaning O) (p : Params) (d : Disk) (it : Parts) (plan : PlanView) (w : World O) : Type 0 where
+  pub told : d.tells_files
   pub found : IsFound m p d.reads (commands_of w.history) w
-  pub params : objects.slots.params ≡ p
-  pub bounds : log.bounds ≡ bounds_of p
-  pub of_file : AreOf objects.slots (d.reads Objects)
+  pub params : it.store.objects.slots.params ≡ p
+  pub bounds : it.log.bounds ≡ bounds_of p
+  pub of_file : AreOf it.store.objects.slots (d.reads Objects)
   pub stable : List (Record O)
-  pub keeps : Keeps m d log stable []
-  pub planned : IsPlanned log.log.header.base stable plan
+  pub keeps : Keeps m d it.log stable []
+  pub planned : IsPlanned it.log.log.header.base stable plan

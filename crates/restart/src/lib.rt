@@ -1,22 +1,20 @@
 //! How a store is opened: the files are read, the redo is done, and a check is logged.
 //!
-//! The one contract is [`restart`]: of each world of the theory that the files show, the course of a restart is taken, a
-//! crash, the turns of the redo and a check, and at each moment each image shows the world after some first steps of it;
-//! files that break their format are reported so, at the place of the first check that fails, and stay as they are. The
-//! crate depends on stable_objects and log_records for what is read, on analysis_pass and redo_pass for the redo, on
-//! checkpointing for the check, on cache_manager for the parts of a running store, on explain_core and standing for worlds,
-//! on formats for what the files are, and on disk_model for the machine.
+//! The one contract is [`restart`]: of each world of the theory that the files show, the course of a restart is taken,
+//! a crash, the turns of the redo and a check, and at each moment each image shows the world after some first steps of
+//! it; files that break their format are reported so, at the place of the first check that fails, and stay as they are.
+//!
+//! It depends on running_store, whose store it makes of what was read and answers, on redo_pass, which does the redo on it,
+//! and on checkpointing, which takes the check.
 #![tactic(auto)]
 
 mod laws;
 mod loading;
-mod redoing;
+mod opening;
 mod restart_err;
-mod restarted;
 mod restarting;
 
 pub use laws::{a_restart_may_be_made, one_damage};
 pub use redo_pass::Tuning;
 pub use restart_err::RestartErr;
-pub use restarted::Restarted;
 pub use restarting::restart;

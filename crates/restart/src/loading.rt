@@ -1,5 +1,5 @@
 // The files of a store are read.
-ghost use Rattle.std.specs.Prelude.{◌≡◌, ◌<◌, ℕ, IfOk, IfErr, IsErrOf};
+ghost use Rattle.std.specs.Prelude.{◌<◌, IfOk, IfErr, IsErrOf};
 ghost use Rattle.disk_model.specs.Disk.{Files, Rises, Stays};
 ghost use Rattle.disk_model.specs.declared.machine.FileNo.TheVariants.{Objects as ObjectsFile};
 ghost use Rattle.formats.specs.Bytes.{IsClosedAt, IsOpenAt};
@@ -10,32 +10,26 @@ ghost use Rattle.restart.specs.WellFormed.{IsWellFormed};
 
 use crate::RestartErr;
 use analysis_pass::{Plan, analyse};
-use cache_manager::Objects;
 use disk_model::{FileNo, Machine, settle};
 use log_records::RecordLog;
-use oper_core::Oper;
+use oper_core::{Memory, Oper};
+use running_store::{Objects, Store};
 use std::alloc::Global;
+use write_graph::WriteGraph;
 
-// What the files hold: the slots, of which no object is cached yet, and the log; and the plan that its last check makes.
-#[derive(Drop)]
-pub(crate) struct Loaded<O: Oper> {
-    pub(crate) objects: Objects,
-    pub(crate) log: RecordLog<O>,
-    pub(crate) plan: Plan,
-}
-
-// Syncs the files, and reads them. Each record of the log is checked, and the last check's table is kept. The records are
-// read once more as they are done again.
+/// Syncs the files, and reads them: the slots, of which no object is cached yet, the log, and the plan that its last check
+/// makes. Each record of the log is checked, and the last check's table is kept. The records are read once more as they are
+/// done again.
 pub(crate) fn load<O: Oper, M: Machine>(
     alloc: Global,
     machine: &mut M,
     clean: usize,
-) -> Result<Loaded<O>, RestartErr>
+) -> Result<(Store<O>, Plan), RestartErr>
     requires some { 0 < clean }
     ensures kept { Stays (M.disk machine.old) (M.disk machine.new) }
-    ensures ready { IfOk result (λ it. IsReady (M.disk machine.new) it.objects it.log) }
-    ensures read { (M.disk machine.old).tells_files → IfOk result (λ it. IsRead O.meaning (M.disk machine.old).reads (M.disk machine.new) it.objects it.log it.plan) }
-    ensures formed { (files : Files) → (M.disk machine.new).agrees files → IfOk result (λ it. IsFiled O.meaning files it.objects it.log it.plan) }
+    ensures ready { IfOk result (λ it. IsReady (M.disk machine.new) it.0) }
+    ensures read { (M.disk machine.old).tells_files → IfOk result (λ it. IsRead O.meaning (M.disk machine.old).reads (M.disk machine.new) it.0.parts it.1) }
+    ensures formed { (files : Files) → (M.disk machine.new).agrees files → IfOk result (λ it. IsFiled O.meaning files it.0.parts it.1) }
     ensures whole { (M.disk machine.old).tells_files → IsWellFormed O.meaning (M.disk machine.old).reads → IfErr result IsNoDamage }
     ensures cause { IfErr result (FailsBy (Rises (M.disk machine.old).disk_faults (M.disk machine.new).disk_faults)
         ((files : Files) → (M.disk machine.new).agrees files → IsClosedAt 0 (files ObjectsFile))
@@ -53,5 +47,11 @@ pub(crate) fn load<O: Oper, M: Machine>(
         });
     }
     let plan = analyse(alloc, log.base(), last);
-    Ok(Loaded { objects, log, plan })
+    match WriteGraph::new(alloc) {
+        Ok(graph) => Ok((Store::new(alloc, log, objects, graph), plan)),
+        Err(Memory) => {
+            drop((objects, log, plan));
+            Err(RestartErr::Memory)
+        }
+    }
 }

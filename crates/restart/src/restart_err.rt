@@ -2,7 +2,7 @@ ghost use Rattle.std.specs.Prelude.{◌≡◌};
 ghost use Rattle.restart.specs.Causes.{from_check, from_log, from_redo, from_slots};
 ghost use Rattle.restart.specs.declared.restart_err.RestartErr.TheVariants.{DiskFault, Memory as OutOfMemory};
 
-use cache_manager::InstallErr;
+use checkpointing::CloseErr;
 use disk_model::{Failed, FileNo};
 use log_frames::LogErr;
 use redo_pass::RedoErr;
@@ -81,15 +81,13 @@ impl From<RedoErr> for RestartErr {
     }
 }
 
-impl From<InstallErr> for RestartErr {
+impl From<CloseErr> for RestartErr {
     ghost from_gives = { λ cause e. e ≡ from_check cause };
 
-    // The check is made only where the log has room for it, and it takes no number.
-    fn from(cause: InstallErr) -> Self {
+    fn from(cause: CloseErr) -> Self {
         match cause {
-            InstallErr::DiskFault => RestartErr::DiskFault,
-            InstallErr::LogFull { .. } | InstallErr::LsnEnd { .. } | InstallErr::Memory =>
-                RestartErr::Memory,
+            CloseErr::DiskFault => RestartErr::DiskFault,
+            CloseErr::Memory => RestartErr::Memory,
         }
     }
 }

@@ -3,7 +3,7 @@ use Rattle.std.specs.Prelude.{nat_lt, nat_le}
 use Rattle.std.proofs.lemmas.List.{take_all}
 use Rattle.oper_core.specs.State.{is_among}
 use Rattle.checkpoint.specs.RedoStarts.{redo_from}
-use Rattle.cache_manager.specs.Laid.{id_at}
+use Rattle.running_store.specs.Laid.{id_at}
 use Rattle.redo_pass.proofs.Dues.{due_next}
 use Rattle.redo_pass.proofs.choosing.due_among.Goals as goal
 

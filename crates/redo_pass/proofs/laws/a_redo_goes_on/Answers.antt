@@ -14,7 +14,7 @@ returns-clause-replayed g c p files after limit turned w sound crashed enough le
     let v = run m w (turns m limit turned w) in
     let small = small_store p (files Objects) files_show.objects in
     let sound_then = c.turns_keep.ensures.sound (bounds_of p) w limit turned small sound (crashed-stable m w crashed sound) in
-    replay_turned m p limit w files after after turned enough left (c.unseen_steps_change_nothing.ensures p files v Replay sound_then tt files_show) store_shows
+    replay_turned m p limit w files after turned enough left (c.unseen_steps_change_nothing.ensures p files v Replay sound_then tt files_show) store_shows
 
 pub returns-clause-limited : goal.returns-clause-limited
 returns-clause-limited g c p files it limit turned w rest is members = limited_so_far (g.O.Oper.meaning (bounds_of p)) p limit w files it turned rest is members

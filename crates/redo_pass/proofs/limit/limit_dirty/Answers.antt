@@ -1,198 +1,80 @@
-use Rattle.std.proofs.Common.{◌≡◌, ◌∙◌, sym, subst, ℕ, ◌+◌, ◌^◌, ◌<◌, true, refl, arith}
-use Rattle.disk_model.specs.Disk.{Files, Disk, Runs, Same, Any, In}
-use Rattle.disk_model.specs.Moments.{runs_none, runs_twice}
-use Rattle.disk_model.specs.declared.machine.FileNo.TheVariants.{Objects as ObjectsFile}
+use Rattle.std.proofs.Common.{Bool, false, subst, arith}
+use Rattle.std.specs.Prelude.{Err}
+use Rattle.std.proofs.lemmas.Bool.{false_from_ne_true}
 use Rattle.formats.specs.Objects.{bounds_of}
-use Rattle.formats.specs.declared.params.Params.{Params}
-use Rattle.explain_core.specs.KeptLog.{kept_stable}
-use Rattle.explain_core.specs.Turns.{dirty_in, has_thin, turns}
+use Rattle.explain_core.specs.Turns.{turns}
 use Rattle.explain_core.specs.World.{run}
-use Rattle.standing.specs.Moments.{TakesSome, moments_turns}
-use Rattle.standing.specs.OneStable.{small_store}
-use Rattle.cache_manager.specs.Parts.{Store, AreInUse}
-use Rattle.redo_pass.proofs.Limits.{limiting_none, takes_none, limited_few, limited_none, limiting_more, thin_moments, one_moments, more_turned, thin_installed, store_shows_now}
+use Rattle.running_store.specs.Beside.{beside_twice}
+use Rattle.running_store.specs.Calls.{IsCall, Never, call_twice}
+use Rattle.running_store.specs.Taking.{Ending}
+use Rattle.running_store.specs.Taking.Ending.{Done}
+use Rattle.cache_manager.specs.Endings.{ending_of_thin}
+use Rattle.redo_pass.proofs.Failing.{as_error, thin_same}
+use Rattle.redo_pass.proofs.Limits.{dirty_is, limited_few, limited_last, limited_moments, limited_more, limited_start}
 use Rattle.redo_pass.proofs.limit.limit_dirty.Goals as goal
 
-any_twice : (a b c : Files) → In ObjectsFile Any a b → In ObjectsFile Any b c → In ObjectsFile Any a c
-any_twice a b c first second = record { changed = tt; others = λ other ne. second.others other ne ∙ first.others other ne }
-
-runs_more : (old mid new : Disk) → Runs (In ObjectsFile Any) Same old mid → Runs (In ObjectsFile Any) Same mid new → Runs (In ObjectsFile Any) Same old new
-runs_more old mid new first second = runs_twice old mid new (In ObjectsFile Any) any_twice first second
-
-pub loop-objects-init : goal.loop-objects-init
-loop-objects-init g c =
-    let old = g.M.Machine.disk c.args.machine.now in
-    let before : Store = record { objects = c.args.objects.now; entries = c.args.graph.now.entries } in
-    let lawful = g.met.M.Machine.lawful c.args.machine.now in
-    record {
-      runs = runs_none old (In ObjectsFile Any) (λ files. record { changed = tt; others = λ other ne. refl }) lawful;
-      settled = λ is. is;
-      of_file = λ told is. is;
-      laid = λ told is. is;
-      in_use = λ p next is. is;
-      early = λ p next is early. early;
-      shown = λ told settled p w sound stable files_show store_shows. limiting_none (g.O.Oper.meaning (bounds_of p)) p c.args.limit w old.reads before files_show store_shows;
-      moments = λ moments settled p w sound stable files_show store_shows.
-          let m = g.O.Oper.meaning (bounds_of p) in
-          let so = limiting_none m p c.args.limit w old.reads before files_show store_shows in
-          (so, takes_none m p c.args.limit w old lawful moments settled files_show (turns m c.args.limit so.turned w));
-    }
+pub loop-store-init : goal.loop-store-init
+loop-store-init g c = limited_start (g.met.M.Machine.lawful c.args.machine.now) c.requires.unbroken
 
 pub install_thin-requires : goal.install_thin-requires
-install_thin-requires g c =
-    let now : Store = record { objects = c.loop-objects.objects; entries = c.loop-objects.graph.entries } in
-    let is = c.loop-objects.invariant.in_use c.args.objects.now.slots.params (2 ^ 62) c.requires.in_use in
-    (2 ^ 62, subst (λ (q : Params). AreInUse q (2 ^ 62) now) (sym is.params) is)
+install_thin-requires g c = record { unbroken = false_from_ne_true c.loop-store.store.broken (λ set. c.loop-store.invariant.call.broken.0 set) }
 
-pub returns-in_err-install_thin-clause-runs : goal.returns-in_err-install_thin-clause-runs
-returns-in_err-install_thin-clause-runs g c =
-    runs_more (g.M.Machine.disk c.args.machine.now) (g.M.Machine.disk c.loop-objects.machine) (g.M.Machine.disk c.install_thin.new.machine) c.loop-objects.invariant.runs c.install_thin.ensures.runs
+pub returns-in_err-install_thin-clause-call : goal.returns-in_err-install_thin-clause-call
+returns-in_err-install_thin-clause-call g c =
+    let old = g.M.Machine.disk c.args.machine.now in
+    let new = g.M.Machine.disk c.install_thin.new.machine in
+    let why = c.in_err-install_thin.field-0.0 in
+    let all = call_twice g.O.Oper.meaning old (g.M.Machine.disk c.loop-store.machine) new c.args.store.now c.loop-store.store c.install_thin.new.store 0 0 Never Never (ending_of_thin {T = Bool} (Err why)) c.loop-store.invariant.call
+    c.in_err-install_thin.ensures.call in
+    as_error (λ r. IsCall g.O.Oper.meaning old new c.args.store.now c.install_thin.new.store 0 Never (ending_of_thin r)) c.from_residual.result why c.from_residual.ensures.1
+    (subst (λ (e : Ending). IsCall g.O.Oper.meaning old new c.args.store.now c.install_thin.new.store 0 Never e) (thin_same Bool (Unit {0}) why) all)
+
+pub returns-in_err-install_thin-clause-beside : goal.returns-in_err-install_thin-clause-beside
+returns-in_err-install_thin-clause-beside g c =
+    beside_twice (g.M.Machine.disk c.args.machine.now) (g.M.Machine.disk c.loop-store.machine) (g.M.Machine.disk c.install_thin.new.machine) c.args.store.now c.loop-store.store c.install_thin.new.store
+    (λ set. c.loop-store.invariant.call.broken.0 set) c.loop-store.invariant.beside c.install_thin.ensures.beside
 
 pub returns-in_err-install_thin-clause-any_moment : goal.returns-in_err-install_thin-clause-any_moment
-returns-in_err-install_thin-clause-any_moment g c = λ moments settled p w sound stable files_show store_shows.
-    let old = g.M.Machine.disk c.args.machine.now in
-    let mid = g.M.Machine.disk c.loop-objects.machine in
-    let new = g.M.Machine.disk c.install_thin.new.machine in
-    let m = g.O.Oper.meaning (bounds_of p) in
-    let limit = c.args.limit in
-    let so_far = c.loop-objects.invariant in
-    let told = so_far.runs.begins.telling moments in
-    let first = so_far.moments moments settled p w sound stable files_show store_shows in
-    let so = first.0 in
-    let v = run m w (turns m limit so.turned w) in
-    let small = small_store p (old.reads ObjectsFile) files_show.objects in
-    let sound_v = c.turns_keep.ensures.sound (bounds_of p) w limit so.turned small sound stable in
-    let stable_v = kept_stable w v (c.turns_keep.ensures.log (bounds_of p) w limit so.turned) stable in
-    let listed = c.dirty_count.ensures in
-    let counted = c.dirty_objects_are_counted.ensures p (mid.reads ObjectsFile) (record { objects = c.loop-objects.objects; entries = c.loop-objects.graph.entries }) v listed.0 so.shown.store_shows listed.1 in
-    let many : limit < dirty_in m v = omega (arith, c.loop-objects-test.true, listed.2, counted) in
-    let thin = c.install_thin.ensures.moments (so_far.runs.time.moments_told.0 moments) p v (store_shows_now m p mid (record { objects = c.loop-objects.objects; entries = c.loop-objects.graph.entries }) v (so_far.runs.time.files_told.0 told) (so_far.settled settled) sound_v stable_v so.shown.files_show so.shown.store_shows) stable_v in
-    let more = thin_moments m p limit mid new v many thin in
-    (so.turned + more.0, moments_turns m p old mid new w limit so.turned more.0 (so_far.runs.said told) first.1 more.1)
+returns-in_err-install_thin-clause-any_moment g c =
+    let count = dirty_is g.O.Oper.meaning (g.M.Machine.disk c.loop-store.machine) c.objects.result.now c.loop-store.store.parts.store c.dirty_count.result c.dirty_objects_are_counted.ensures c.objects.ensures c.dirty_count.ensures in
+    limited_moments c.loop-store.invariant c.turns_keep.ensures.sound (λ p w shows. omega (arith, c.loop-store-test.true, count p w shows)) c.install_thin.ensures.moments
 
-pub returns-then-not-branch-clause-runs : goal.returns-then-not-branch-clause-runs
-returns-then-not-branch-clause-runs g c =
-    runs_more (g.M.Machine.disk c.args.machine.now) (g.M.Machine.disk c.loop-objects.machine) (g.M.Machine.disk c.install_thin.new.machine) c.loop-objects.invariant.runs c.install_thin.ensures.runs
+pub returns-then-not-branch-clause-call : goal.returns-then-not-branch-clause-call
+returns-then-not-branch-clause-call g c =
+    call_twice g.O.Oper.meaning (g.M.Machine.disk c.args.machine.now) (g.M.Machine.disk c.loop-store.machine) (g.M.Machine.disk c.install_thin.new.machine) c.args.store.now c.loop-store.store c.install_thin.new.store 0 0 Never Never Done c.loop-store.invariant.call c.in_ok-install_thin.ensures.call
 
-pub returns-then-not-branch-clause-settled : goal.returns-then-not-branch-clause-settled
-returns-then-not-branch-clause-settled g c = λ settled. c.in_ok-install_thin.ensures.settled (c.loop-objects.invariant.settled settled)
-
-pub returns-then-not-branch-clause-of_file : goal.returns-then-not-branch-clause-of_file
-returns-then-not-branch-clause-of_file g c = λ told is. c.in_ok-install_thin.ensures.of_file (c.loop-objects.invariant.runs.time.files_told.0 told) (c.loop-objects.invariant.of_file told is)
-
-pub returns-then-not-branch-clause-laid : goal.returns-then-not-branch-clause-laid
-returns-then-not-branch-clause-laid g c = λ told is. c.in_ok-install_thin.ensures.laid (c.loop-objects.invariant.runs.time.files_told.0 told) (c.loop-objects.invariant.laid told is)
-
-pub returns-then-not-branch-clause-in_use : goal.returns-then-not-branch-clause-in_use
-returns-then-not-branch-clause-in_use g c = λ p next is. c.in_ok-install_thin.ensures.in_use p next (c.loop-objects.invariant.in_use p next is)
-
-pub returns-then-not-branch-clause-early : goal.returns-then-not-branch-clause-early
-returns-then-not-branch-clause-early g c = λ p next is early.
-    c.in_ok-install_thin.ensures.early p next (c.loop-objects.invariant.in_use p next is) (c.loop-objects.invariant.early p next is early)
+pub returns-then-not-branch-clause-beside : goal.returns-then-not-branch-clause-beside
+returns-then-not-branch-clause-beside g c =
+    beside_twice (g.M.Machine.disk c.args.machine.now) (g.M.Machine.disk c.loop-store.machine) (g.M.Machine.disk c.install_thin.new.machine) c.args.store.now c.loop-store.store c.install_thin.new.store
+    (λ set. c.loop-store.invariant.call.broken.0 set) c.loop-store.invariant.beside c.install_thin.ensures.beside
 
 pub returns-then-not-branch-clause-limited : goal.returns-then-not-branch-clause-limited
-returns-then-not-branch-clause-limited g c = λ told settled p w sound stable files_show store_shows.
-    let old = g.M.Machine.disk c.args.machine.now in
-    let mid = g.M.Machine.disk c.loop-objects.machine in
-    let new = g.M.Machine.disk c.install_thin.new.machine in
-    let m = g.O.Oper.meaning (bounds_of p) in
-    let limit = c.args.limit in
-    let so_far = c.loop-objects.invariant in
-    let so = so_far.shown told settled p w sound stable files_show store_shows in
-    let v = run m w (turns m limit so.turned w) in
-    let small = small_store p (old.reads ObjectsFile) files_show.objects in
-    let sound_v = c.turns_keep.ensures.sound (bounds_of p) w limit so.turned small sound stable in
-    let stable_v = kept_stable w v (c.turns_keep.ensures.log (bounds_of p) w limit so.turned) stable in
-    limited_none m p limit w mid.reads new.reads (record { objects = c.loop-objects.objects; entries = c.loop-objects.graph.entries }) (record { objects = c.install_thin.new.objects; entries = c.install_thin.new.graph.entries })
-    c.in_ok-install_thin.field-0 so c.if-not-branch.true
-    (thin_installed m p new (record { objects = c.install_thin.new.objects; entries = c.install_thin.new.graph.entries }) c.in_ok-install_thin.field-0 v
-    (c.in_ok-install_thin.ensures.shows p v (store_shows_now m p mid (record { objects = c.loop-objects.objects; entries = c.loop-objects.graph.entries }) v (so_far.runs.time.files_told.0 told) (so_far.settled settled) sound_v stable_v so.shown.files_show so.shown.store_shows) stable_v))
+returns-then-not-branch-clause-limited g c =
+    let count = dirty_is g.O.Oper.meaning (g.M.Machine.disk c.loop-store.machine) c.objects.result.now c.loop-store.store.parts.store c.dirty_count.result c.dirty_objects_are_counted.ensures c.objects.ensures c.dirty_count.ensures in
+    limited_last c.loop-store.invariant c.turns_keep.ensures.sound (λ p w shows. omega (arith, c.loop-store-test.true, count p w shows)) c.install_thin.ensures.moments c.install_thin.new.store c.in_ok-install_thin.ensures.shows c.if-not-branch.true
 
 pub returns-then-not-branch-clause-any_moment : goal.returns-then-not-branch-clause-any_moment
-returns-then-not-branch-clause-any_moment g c = λ moments settled p w sound stable files_show store_shows.
-    let old = g.M.Machine.disk c.args.machine.now in
-    let mid = g.M.Machine.disk c.loop-objects.machine in
-    let new = g.M.Machine.disk c.install_thin.new.machine in
-    let m = g.O.Oper.meaning (bounds_of p) in
-    let limit = c.args.limit in
-    let so_far = c.loop-objects.invariant in
-    let told = so_far.runs.begins.telling moments in
-    let first = so_far.moments moments settled p w sound stable files_show store_shows in
-    let so = first.0 in
-    let v = run m w (turns m limit so.turned w) in
-    let small = small_store p (old.reads ObjectsFile) files_show.objects in
-    let sound_v = c.turns_keep.ensures.sound (bounds_of p) w limit so.turned small sound stable in
-    let stable_v = kept_stable w v (c.turns_keep.ensures.log (bounds_of p) w limit so.turned) stable in
-    let listed = c.dirty_count.ensures in
-    let counted = c.dirty_objects_are_counted.ensures p (mid.reads ObjectsFile) (record { objects = c.loop-objects.objects; entries = c.loop-objects.graph.entries }) v listed.0 so.shown.store_shows listed.1 in
-    let many : limit < dirty_in m v = omega (arith, c.loop-objects-test.true, listed.2, counted) in
-    let thin = c.install_thin.ensures.moments (so_far.runs.time.moments_told.0 moments) p v (store_shows_now m p mid (record { objects = c.loop-objects.objects; entries = c.loop-objects.graph.entries }) v (so_far.runs.time.files_told.0 told) (so_far.settled settled) sound_v stable_v so.shown.files_show so.shown.store_shows) stable_v in
-    let more = thin_moments m p limit mid new v many thin in
-    (so.turned + more.0, moments_turns m p old mid new w limit so.turned more.0 (so_far.runs.said told) first.1 more.1)
+returns-then-not-branch-clause-any_moment g c =
+    let count = dirty_is g.O.Oper.meaning (g.M.Machine.disk c.loop-store.machine) c.objects.result.now c.loop-store.store.parts.store c.dirty_count.result c.dirty_objects_are_counted.ensures c.objects.ensures c.dirty_count.ensures in
+    limited_moments c.loop-store.invariant c.turns_keep.ensures.sound (λ p w shows. omega (arith, c.loop-store-test.true, count p w shows)) c.install_thin.ensures.moments
 
-pub returns-clause-any_moment : goal.returns-clause-any_moment
-returns-clause-any_moment g c = λ moments settled p w sound stable files_show store_shows.
-    let first = c.loop-objects.invariant.moments moments settled p w sound stable files_show store_shows in
-    (first.0.turned, first.1)
+pub loop-store-preserved : goal.loop-store-preserved
+loop-store-preserved g c =
+    let count = dirty_is g.O.Oper.meaning (g.M.Machine.disk c.loop-store.machine) c.objects.result.now c.loop-store.store.parts.store c.dirty_count.result c.dirty_objects_are_counted.ensures c.objects.ensures c.dirty_count.ensures in
+    limited_more c.loop-store.invariant c.turns_keep.ensures.sound (λ p w shows. omega (arith, c.loop-store-test.true, count p w shows)) c.install_thin.ensures.moments c.install_thin.new.store c.in_ok-install_thin.ensures.shows c.if-not-branch.false c.in_ok-install_thin.ensures.call c.install_thin.ensures.beside
+
+pub returns-clause-call : goal.returns-clause-call
+returns-clause-call g c = c.loop-store.invariant.call
+
+pub returns-clause-beside : goal.returns-clause-beside
+returns-clause-beside g c = c.loop-store.invariant.beside
 
 pub returns-clause-limited : goal.returns-clause-limited
-returns-clause-limited g c = λ told settled p w sound stable files_show store_shows.
-    let mid = g.M.Machine.disk c.loop-objects.machine in
+returns-clause-limited g c = λ p w shows stable.
     let m = g.O.Oper.meaning (bounds_of p) in
-    let limit = c.args.limit in
-    let so = c.loop-objects.invariant.shown told settled p w sound stable files_show store_shows in
-    let v = run m w (turns m limit so.turned w) in
-    let now : Store = record { objects = c.loop-objects.objects; entries = c.loop-objects.graph.entries } in
-    let listed = c.dirty_count.ensures in
-    let counted = c.dirty_objects_are_counted.ensures p (mid.reads ObjectsFile) now v listed.0 so.shown.store_shows listed.1 in
-    limited_few m p limit w mid.reads now so (omega (arith, c.loop-objects-test.false, listed.2, counted))
+    let count = dirty_is g.O.Oper.meaning (g.M.Machine.disk c.loop-store.machine) c.objects.result.now c.loop-store.store.parts.store c.dirty_count.result c.dirty_objects_are_counted.ensures c.objects.ensures c.dirty_count.ensures in
+    let so = (c.loop-store.invariant.shown p w shows stable).0 in
+    limited_few m p c.args.limit w (g.M.Machine.disk c.loop-store.machine).reads c.loop-store.store.parts.store so (omega (arith, c.loop-store-test.false, count p (run m w (turns m c.args.limit so.turned w)) so.shown.store_shows))
 
-pub loop-objects-preserved : goal.loop-objects-preserved
-loop-objects-preserved g c =
-    let old = g.M.Machine.disk c.args.machine.now in
-    let mid = g.M.Machine.disk c.loop-objects.machine in
-    let new = g.M.Machine.disk c.install_thin.new.machine in
-    let limit = c.args.limit in
-    let so_far = c.loop-objects.invariant in
-    let now : Store = record { objects = c.loop-objects.objects; entries = c.loop-objects.graph.entries } in
-    let after : Store = record { objects = c.install_thin.new.objects; entries = c.install_thin.new.graph.entries } in
-    let listed = c.dirty_count.ensures in
-    record {
-      runs = runs_more old mid new so_far.runs c.install_thin.ensures.runs;
-      settled = λ settled. c.in_ok-install_thin.ensures.settled (so_far.settled settled);
-      of_file = λ told is. c.in_ok-install_thin.ensures.of_file (so_far.runs.time.files_told.0 told) (so_far.of_file told is);
-      laid = λ told is. c.in_ok-install_thin.ensures.laid (so_far.runs.time.files_told.0 told) (so_far.laid told is);
-      in_use = λ p next is. c.in_ok-install_thin.ensures.in_use p next (so_far.in_use p next is);
-      early = λ p next is early. c.in_ok-install_thin.ensures.early p next (so_far.in_use p next is) (so_far.early p next is early);
-      shown = λ told settled p w sound stable files_show store_shows.
-          let m = g.O.Oper.meaning (bounds_of p) in
-          let so = so_far.shown told settled p w sound stable files_show store_shows in
-          let v = run m w (turns m limit so.turned w) in
-          let small = small_store p (old.reads ObjectsFile) files_show.objects in
-          let sound_v = c.turns_keep.ensures.sound (bounds_of p) w limit so.turned small sound stable in
-          let stable_v = kept_stable w v (c.turns_keep.ensures.log (bounds_of p) w limit so.turned) stable in
-          let counted = c.dirty_objects_are_counted.ensures p (mid.reads ObjectsFile) now v listed.0 so.shown.store_shows listed.1 in
-          let many : limit < dirty_in m v = omega (arith, c.loop-objects-test.true, listed.2, counted) in
-          limiting_more m p limit w mid.reads new.reads now after c.in_ok-install_thin.field-0 so c.if-not-branch.false many
-          (thin_installed m p new (record { objects = c.install_thin.new.objects; entries = c.install_thin.new.graph.entries }) c.in_ok-install_thin.field-0 v
-          (c.in_ok-install_thin.ensures.shows p v (store_shows_now m p mid (record { objects = c.loop-objects.objects; entries = c.loop-objects.graph.entries }) v (so_far.runs.time.files_told.0 told) (so_far.settled settled) sound_v stable_v so.shown.files_show so.shown.store_shows) stable_v));
-      moments = λ moments settled p w sound stable files_show store_shows.
-          let m = g.O.Oper.meaning (bounds_of p) in
-          let told = so_far.runs.begins.telling moments in
-          let first = so_far.moments moments settled p w sound stable files_show store_shows in
-          let so = first.0 in
-          let v = run m w (turns m limit so.turned w) in
-          let small = small_store p (old.reads ObjectsFile) files_show.objects in
-          let sound_v = c.turns_keep.ensures.sound (bounds_of p) w limit so.turned small sound stable in
-          let stable_v = kept_stable w v (c.turns_keep.ensures.log (bounds_of p) w limit so.turned) stable in
-          let counted = c.dirty_objects_are_counted.ensures p (mid.reads ObjectsFile) now v listed.0 so.shown.store_shows listed.1 in
-          let many : limit < dirty_in m v = omega (arith, c.loop-objects-test.true, listed.2, counted) in
-          let is = thin_installed m p new after c.in_ok-install_thin.field-0 v
-          (c.in_ok-install_thin.ensures.shows p v (store_shows_now m p mid now v (so_far.runs.time.files_told.0 told) (so_far.settled settled) sound_v stable_v so.shown.files_show so.shown.store_shows) stable_v) in
-          let thin = c.install_thin.ensures.moments (so_far.runs.time.moments_told.0 moments) p v (store_shows_now m p mid (record { objects = c.loop-objects.objects; entries = c.loop-objects.graph.entries }) v (so_far.runs.time.files_told.0 told) (so_far.settled settled) sound_v stable_v so.shown.files_show so.shown.store_shows) stable_v in
-          let has : has_thin m v ≡ true = is.exactly ∙ c.if-not-branch.false in (
-            limiting_more m p limit w mid.reads new.reads now after c.in_ok-install_thin.field-0 so c.if-not-branch.false many is,
-            subst (λ (n : ℕ). TakesSome m p old new w (turns m limit n w)) (more_turned m p limit w mid.reads new.reads now after c.in_ok-install_thin.field-0 so c.if-not-branch.false many is)
-                (moments_turns m p old mid new w limit so.turned 1 (so_far.runs.said told) first.1 (one_moments m p limit mid new v many has thin)),
-          );
-    }
+pub returns-clause-any_moment : goal.returns-clause-any_moment
+returns-clause-any_moment g c = λ told p w shows stable. let first = c.loop-store.invariant.shown p w shows stable in (first.0.turned, first.1 told)

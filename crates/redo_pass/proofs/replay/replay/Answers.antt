@@ -8,23 +8,24 @@ use Rattle.formats.specs.declared.record.Record.{Record}
 use Rattle.formats.specs.declared.record.Record.TheVariants.{Identity}
 use Rattle.explain_core.specs.Sound.{IsSound}
 use Rattle.explain_core.specs.World.{World}
-use Rattle.cache_manager.specs.LongSlot.{HasLongSlot}
-use Rattle.cache_manager.specs.Parts.{AreInUse, ShowsStore, store}
-use Rattle.redo_pass.specs.Causes.{FailsBy}
-use Rattle.redo_pass.specs.Replayed.{IsNextRecord, after_record, read_by}
+use Rattle.running_store.specs.Calls.{IsFailed}
+use Rattle.running_store.specs.LongSlot.{HasLongSlot}
+use Rattle.running_store.specs.Parts.{ShowsStore}
+use Rattle.redo_pass.specs.Causes.{FailsBy, ending_of_redo}
+use Rattle.redo_pass.specs.Replayed.{IsNextRecord, IsReplay, after_record, read_by}
 use Rattle.redo_pass.specs.Rising.{IsBelow}
+use Rattle.redo_pass.proofs.Leaves.{replay_memory}
 use Rattle.redo_pass.proofs.replay.replay.Goals as goal
 
-pub returns-in-Command-clause-in_use : goal.returns-in-Command-clause-in_use
-returns-in-Command-clause-in_use g c =
-    let before = store c.args.objects.now c.args.graph.now.entries in
-    let after = store c.replay_command.new.objects c.replay_command.new.graph.entries in
-    subst (λ (r : Record g.row.O.Denot). OnOk c.replay_command.result ((p : Params) (next : ℕ) → IsBelow next r → AreInUse p next before → AreInUse p next after)) (sym c.in-Command.is) c.replay_command.ensures.in_use
+pub returns-in-Command-clause-replayed : goal.returns-in-Command-clause-replayed
+returns-in-Command-clause-replayed g c =
+    subst (λ (r : Record g.row.O.Denot). IsReplay (g.M.Machine.disk c.args.machine.now) (g.M.Machine.disk c.replay_command.new.machine) c.args.store.now c.replay_command.new.store (λ k. IsBelow k r)
+    (IsFailed (ending_of_redo c.replay_command.result))) (sym c.in-Command.is) c.replay_command.ensures.replayed
 
 pub returns-in-Command-clause-shown : goal.returns-in-Command-clause-shown
 returns-in-Command-clause-shown g c = λ told.
-    let before = store c.args.objects.now c.args.graph.now.entries in
-    let after = store c.replay_command.new.objects c.replay_command.new.graph.entries in
+    let before = c.args.store.now.parts.store in
+    let after = c.replay_command.new.store.parts.store in
     let file = (g.M.Machine.disk c.args.machine.now).reads Objects in
     subst (λ (r : Record g.row.O.Denot). OnOk c.replay_command.result ((p : Params) (w : World g.row.O.Denot) → IsSound (g.O.Oper.meaning (bounds_of p)) w → ShowsStore (g.O.Oper.meaning (bounds_of p)) p file before w
     → IsNextRecord w c.args.plan.now.table r → ShowsStore (g.O.Oper.meaning (bounds_of p)) p file after (after_record (g.O.Oper.meaning (bounds_of p)) w r))) (sym c.in-Command.is) (c.replay_command.ensures.shown told)
@@ -33,19 +34,22 @@ pub returns-in-Command-clause-cause : goal.returns-in-Command-clause-cause
 returns-in-Command-clause-cause g c =
     let old = g.M.Machine.disk c.args.machine.now in
     let new = g.M.Machine.disk c.replay_command.new.machine in
-    let slots = c.args.objects.now.slots in
+    let slots = c.args.store.now.parts.store.objects.slots in
     subst (λ (r : Record g.row.O.Denot). IfErr c.replay_command.result (FailsBy (Rises old.disk_faults new.disk_faults) (HasLongSlot new slots (read_by (g.O.Oper.meaning (bounds_of slots.params)) r))))
     (sym c.in-Command.is) c.replay_command.ensures.cause
 
-pub returns-in-Identity-clause-in_use : goal.returns-in-Identity-clause-in_use
-returns-in-Identity-clause-in_use g c = λ p next below used.
-    c.in_ok-replay_identity-in-Identity.ensures.in_use p next (subst (λ (r : Record g.row.O.Denot). IsBelow next r) c.in-Identity.is below) used
+pub returns-in-Identity-clause-replayed : goal.returns-in-Identity-clause-replayed
+returns-in-Identity-clause-replayed g c =
+    let d = g.M.Machine.disk c.args.machine.now in
+    subst (λ (r : Record g.row.O.Denot). IsReplay d d c.args.store.now c.replay_identity.new.store (λ k. IsBelow k r) ⊥) (sym c.in-Identity.is)
+    (replay_memory (g.met.M.Machine.lawful c.args.machine.now) c.requires.unbroken (λ none. none)
+    c.replay_identity.ensures.same)
 
 pub returns-in-Identity-clause-shown : goal.returns-in-Identity-clause-shown
 returns-in-Identity-clause-shown g c = λ told p w sound shows next.
     let m = g.O.Oper.meaning (bounds_of p) in
     let file = (g.M.Machine.disk c.args.machine.now).reads Objects in
-    let after = store c.replay_identity.new.objects c.replay_identity.new.graph.entries in
+    let after = c.replay_identity.new.store.parts.store in
     let is : c.args.record ≡ Identity c.in-Identity.number c.in-Identity.object c.as_slice.result.now = c.in-Identity.is ∙ ap (λ (v : List ℕ). Identity c.in-Identity.number c.in-Identity.object v) (sym c.as_slice.ensures) in
     subst (λ (r : Record g.row.O.Denot). ShowsStore m p file after (after_record m w r)) (sym is)
     (c.in_ok-replay_identity-in-Identity.ensures.shown p file w sound shows (subst (λ (r : Record g.row.O.Denot). IsNextRecord w c.args.plan.now.table r) is next))

@@ -1,9 +1,26 @@
-use Rattle.std.proofs.Common.{ℕ, subst}
+use Rattle.std.proofs.Common.{◌≡◌, ℕ, subst}
 use Rattle.std.proofs.lemmas.Result.{err_from_is_err_and}
 use Rattle.disk_model.specs.Moments.{stays_then, told_agrees}
 use Rattle.stable_objects.specs.SlotsView.{IsLate}
-use Rattle.restart.proofs.Opened.{three_stay, has_slots, has_log, slots_gate, slots_fail, slots_refused, slots_unharmed, log_fails, log_unharmed, late_fails, late_never, is_filed, is_read, is_ready}
+use Rattle.restart.proofs.Opened.{HasLog, three_stay, has_slots, has_log, slots_gate, slots_fail, slots_refused, slots_unharmed, log_fails, log_unharmed, late_fails, late_never, are_in_use, is_filed, is_read, is_ready}
+use Rattle.restart.proofs.loading.load.Given.{Over}
+use Rattle.restart.proofs.loading.load.Goals.{After-drop-in-Some, In-Ok}
 use Rattle.restart.proofs.loading.load.Goals as goal
+
+loaded_late : (g : Over) (c : After-drop-in-Some g) → HasLog g.O.Oper.meaning (g.M.Machine.disk c.args.machine.now) (g.M.Machine.disk c.load_checked.new.m) c.in_ok-objects.objects c.in_ok-log.log c.in_ok-log.last
+loaded_late g c =
+    has_log g.O.Oper.meaning g.met.O.Oper.bounded g.met.O.Oper.lawful (g.M.Machine.disk c.args.machine.now) (g.M.Machine.disk c.load.new.machine) (g.M.Machine.disk c.load_checked.new.m) c.in_ok-objects.objects c.bounds.result c.in_ok-log.log c.in_ok-log.last
+    (has_slots (g.M.Machine.disk c.args.machine.now) (g.M.Machine.disk c.settle.new.machine) (g.M.Machine.disk c.load.new.machine) c.in_ok-objects.objects c.settle.ensures.kept c.in_ok-settle.ensures.settled c.load.ensures.kept c.in_ok-objects.ensures.read c.in_ok-objects.ensures.empty)
+    c.load_checked.ensures.kept c.bounds.ensures c.in_ok-log.ensures.bounds c.in_ok-log.ensures.next c.in_ok-log.ensures.read c.in_ok-log.ensures.held c.in_ok-log.ensures.counted
+
+loaded : (g : Over) (c : In-Ok g) → HasLog g.O.Oper.meaning (g.M.Machine.disk c.args.machine.now) (g.M.Machine.disk c.load_checked.new.m) c.in_ok-objects.objects c.in_ok-log.log c.in_ok-log.last
+loaded g c =
+    has_log g.O.Oper.meaning g.met.O.Oper.bounded g.met.O.Oper.lawful (g.M.Machine.disk c.args.machine.now) (g.M.Machine.disk c.load.new.machine) (g.M.Machine.disk c.load_checked.new.m) c.in_ok-objects.objects c.bounds.result c.in_ok-log.log c.in_ok-log.last
+    (has_slots (g.M.Machine.disk c.args.machine.now) (g.M.Machine.disk c.settle.new.machine) (g.M.Machine.disk c.load.new.machine) c.in_ok-objects.objects c.settle.ensures.kept c.in_ok-settle.ensures.settled c.load.ensures.kept c.in_ok-objects.ensures.read c.in_ok-objects.ensures.empty)
+    c.load_checked.ensures.kept c.bounds.ensures c.in_ok-log.ensures.bounds c.in_ok-log.ensures.next c.in_ok-log.ensures.read c.in_ok-log.ensures.held c.in_ok-log.ensures.counted
+
+none_late : (g : Over) (c : In-Ok g) → (x s : ℕ) → IsLate c.in_ok-objects.objects.slots c.in_ok-log.log.next x s → ⊥
+none_late g c = subst (λ (n : ℕ). (x s : ℕ) → IsLate c.in_ok-objects.objects.slots n x s → ⊥) c.next.ensures c.in_default.ensures.none
 
 pub returns-in_err-objects-clause-cause : goal.returns-in_err-objects-clause-cause
 returns-in_err-objects-clause-cause g c =
@@ -28,24 +45,20 @@ returns-in_err-log-clause-kept g c =
 
 pub returns-in_err-log-clause-whole : goal.returns-in_err-log-clause-whole
 returns-in_err-log-clause-whole g c told image =
-    let has_objects = has_slots (g.M.Machine.disk c.args.machine.now) (g.M.Machine.disk c.settle.new.machine) (g.M.Machine.disk c.load.new.machine) c.in_ok-objects.objects
-    c.settle.ensures.kept c.in_ok-settle.ensures.settled c.load.ensures.kept c.in_ok-objects.ensures.read c.in_ok-objects.ensures.empty in
-    let told_mid = has_objects.kept.time.files_told.0 told in
+    let has = has_slots (g.M.Machine.disk c.args.machine.now) (g.M.Machine.disk c.settle.new.machine) (g.M.Machine.disk c.load.new.machine) c.in_ok-objects.objects c.settle.ensures.kept c.in_ok-settle.ensures.settled c.load.ensures.kept c.in_ok-objects.ensures.read c.in_ok-objects.ensures.empty in
     let p = err_from_is_err_and c.from_residual-in_err-log.result c.from_residual-in_err-log.ensures.1 in
-    rw (p.1, p.2) (log_unharmed g.O.Oper.meaning (g.M.Machine.disk c.args.machine.now) (g.M.Machine.disk c.load.new.machine) c.in_ok-objects.objects c.bounds.result c.in_err-log.field-0.0 has_objects c.bounds.ensures told image (c.in_err-log.ensures.whole told_mid))
+    rw (p.1, p.2) (log_unharmed g.O.Oper.meaning (g.M.Machine.disk c.args.machine.now) (g.M.Machine.disk c.load.new.machine) c.in_ok-objects.objects c.bounds.result c.in_err-log.field-0.0 has c.bounds.ensures told image (c.in_err-log.ensures.whole (has.kept.time.files_told.0 told)))
 
 pub returns-in_err-log-clause-cause : goal.returns-in_err-log-clause-cause
 returns-in_err-log-clause-cause g c =
-    let has_objects = has_slots (g.M.Machine.disk c.args.machine.now) (g.M.Machine.disk c.settle.new.machine) (g.M.Machine.disk c.load.new.machine) c.in_ok-objects.objects
-    c.settle.ensures.kept c.in_ok-settle.ensures.settled c.load.ensures.kept c.in_ok-objects.ensures.read c.in_ok-objects.ensures.empty in
+    let has = has_slots (g.M.Machine.disk c.args.machine.now) (g.M.Machine.disk c.settle.new.machine) (g.M.Machine.disk c.load.new.machine) c.in_ok-objects.objects c.settle.ensures.kept c.in_ok-settle.ensures.settled c.load.ensures.kept c.in_ok-objects.ensures.read c.in_ok-objects.ensures.empty in
     let p = err_from_is_err_and c.from_residual-in_err-log.result c.from_residual-in_err-log.ensures.1 in
-    rw (p.1, p.2) (log_fails g.O.Oper.meaning (g.M.Machine.disk c.args.machine.now) (g.M.Machine.disk c.load.new.machine) (g.M.Machine.disk c.load_checked.new.m) c.in_ok-objects.objects c.bounds.result c.in_err-log.field-0.0 has_objects c.load_checked.ensures.kept c.bounds.ensures c.in_err-log.ensures.cause)
+    rw (p.1, p.2) (log_fails g.O.Oper.meaning (g.M.Machine.disk c.args.machine.now) (g.M.Machine.disk c.load.new.machine) (g.M.Machine.disk c.load_checked.new.m) c.in_ok-objects.objects c.bounds.result c.in_err-log.field-0.0 has c.load_checked.ensures.kept c.bounds.ensures c.in_err-log.ensures.cause)
 
 pub returns-in_err-log-clause-memory : goal.returns-in_err-log-clause-memory
 returns-in_err-log-clause-memory g c told refused =
-    let has_objects = has_slots (g.M.Machine.disk c.args.machine.now) (g.M.Machine.disk c.settle.new.machine) (g.M.Machine.disk c.load.new.machine) c.in_ok-objects.objects
-    c.settle.ensures.kept c.in_ok-settle.ensures.settled c.load.ensures.kept c.in_ok-objects.ensures.read c.in_ok-objects.ensures.empty in
-    slots_gate (g.M.Machine.disk c.args.machine.now) (g.M.Machine.disk c.load.new.machine) c.in_ok-objects.objects has_objects told
+    let has = has_slots (g.M.Machine.disk c.args.machine.now) (g.M.Machine.disk c.settle.new.machine) (g.M.Machine.disk c.load.new.machine) c.in_ok-objects.objects c.settle.ensures.kept c.in_ok-settle.ensures.settled c.load.ensures.kept c.in_ok-objects.ensures.read c.in_ok-objects.ensures.empty in
+    slots_gate (g.M.Machine.disk c.args.machine.now) (g.M.Machine.disk c.load.new.machine) c.in_ok-objects.objects has told
 
 pub returns-in-Some-clause-kept : goal.returns-in-Some-clause-kept
 returns-in-Some-clause-kept g c =
@@ -53,47 +66,37 @@ returns-in-Some-clause-kept g c =
 
 pub returns-in-Some-clause-whole : goal.returns-in-Some-clause-whole
 returns-in-Some-clause-whole g c told image =
-    let has_objects = has_slots (g.M.Machine.disk c.args.machine.now) (g.M.Machine.disk c.settle.new.machine) (g.M.Machine.disk c.load.new.machine) c.in_ok-objects.objects
-    c.settle.ensures.kept c.in_ok-settle.ensures.settled c.load.ensures.kept c.in_ok-objects.ensures.read c.in_ok-objects.ensures.empty in
-    let has = has_log g.O.Oper.meaning g.met.O.Oper.bounded g.met.O.Oper.lawful (g.M.Machine.disk c.args.machine.now) (g.M.Machine.disk c.load.new.machine) (g.M.Machine.disk c.load_checked.new.m) c.in_ok-objects.objects c.bounds.result c.in_ok-log.log c.in_ok-log.last
-    has_objects c.load_checked.ensures.kept c.bounds.ensures c.in_ok-log.ensures.bounds c.in_ok-log.ensures.low c.in_ok-log.ensures.read c.in_ok-log.ensures.held c.in_ok-log.ensures.counted in
-    absurd (late_never g.O.Oper.meaning g.met.O.Oper.bounded g.met.O.Oper.lawful (g.M.Machine.disk c.args.machine.now) (g.M.Machine.disk c.load_checked.new.m) c.in_ok-objects.objects c.in_ok-log.log c.in_ok-log.last c.next.result c.in-Some.place has c.next.ensures c.in-Some.ensures.some told image)
+    absurd (late_never g.O.Oper.meaning g.met.O.Oper.bounded g.met.O.Oper.lawful (g.M.Machine.disk c.args.machine.now) (g.M.Machine.disk c.load_checked.new.m) c.in_ok-objects.objects c.in_ok-log.log c.in_ok-log.last c.next.result c.in-Some.place (loaded_late g c) c.next.ensures c.in-Some.ensures.some told image)
 
 pub returns-in-Some-clause-cause : goal.returns-in-Some-clause-cause
 returns-in-Some-clause-cause g c =
-    let has_objects = has_slots (g.M.Machine.disk c.args.machine.now) (g.M.Machine.disk c.settle.new.machine) (g.M.Machine.disk c.load.new.machine) c.in_ok-objects.objects
-    c.settle.ensures.kept c.in_ok-settle.ensures.settled c.load.ensures.kept c.in_ok-objects.ensures.read c.in_ok-objects.ensures.empty in
-    let has = has_log g.O.Oper.meaning g.met.O.Oper.bounded g.met.O.Oper.lawful (g.M.Machine.disk c.args.machine.now) (g.M.Machine.disk c.load.new.machine) (g.M.Machine.disk c.load_checked.new.m) c.in_ok-objects.objects c.bounds.result c.in_ok-log.log c.in_ok-log.last
-    has_objects c.load_checked.ensures.kept c.bounds.ensures c.in_ok-log.ensures.bounds c.in_ok-log.ensures.low c.in_ok-log.ensures.read c.in_ok-log.ensures.held c.in_ok-log.ensures.counted in
-    late_fails g.O.Oper.meaning (g.M.Machine.disk c.args.machine.now) (g.M.Machine.disk c.load_checked.new.m) c.in_ok-objects.objects c.in_ok-log.log c.in_ok-log.last has c.next.result c.in-Some.place c.next.ensures c.in-Some.ensures.some
+    late_fails g.O.Oper.meaning (g.M.Machine.disk c.args.machine.now) (g.M.Machine.disk c.load_checked.new.m) c.in_ok-objects.objects c.in_ok-log.log c.in_ok-log.last (loaded_late g c) c.next.result c.in-Some.place c.next.ensures c.in-Some.ensures.some
 
-pub returns-clause-kept : goal.returns-clause-kept
-returns-clause-kept g c =
+pub returns-in-Err-clause-kept : goal.returns-in-Err-clause-kept
+returns-in-Err-clause-kept g c =
     three_stay (g.M.Machine.disk c.args.machine.now) (g.M.Machine.disk c.settle.new.machine) (g.M.Machine.disk c.load.new.machine) (g.M.Machine.disk c.load_checked.new.m) c.settle.ensures.kept c.load.ensures.kept c.load_checked.ensures.kept
 
-pub returns-clause-ready : goal.returns-clause-ready
-returns-clause-ready g c =
-    let has_objects = has_slots (g.M.Machine.disk c.args.machine.now) (g.M.Machine.disk c.settle.new.machine) (g.M.Machine.disk c.load.new.machine) c.in_ok-objects.objects
-    c.settle.ensures.kept c.in_ok-settle.ensures.settled c.load.ensures.kept c.in_ok-objects.ensures.read c.in_ok-objects.ensures.empty in
-    let has = has_log g.O.Oper.meaning g.met.O.Oper.bounded g.met.O.Oper.lawful (g.M.Machine.disk c.args.machine.now) (g.M.Machine.disk c.load.new.machine) (g.M.Machine.disk c.load_checked.new.m) c.in_ok-objects.objects c.bounds.result c.in_ok-log.log c.in_ok-log.last
-    has_objects c.load_checked.ensures.kept c.bounds.ensures c.in_ok-log.ensures.bounds c.in_ok-log.ensures.low c.in_ok-log.ensures.read c.in_ok-log.ensures.held c.in_ok-log.ensures.counted in
-    is_ready g.O.Oper.meaning (g.M.Machine.disk c.args.machine.now) (g.M.Machine.disk c.load_checked.new.m) c.in_ok-objects.objects c.in_ok-log.log c.in_ok-log.last has
-    (subst (λ (n : ℕ). (x s : ℕ) → IsLate c.in_ok-objects.objects.slots n x s → ⊥) c.next.ensures c.in_default.ensures.none)
+pub returns-in-Err-clause-memory : goal.returns-in-Err-clause-memory
+returns-in-Err-clause-memory g c told refused =
+    let has = has_slots (g.M.Machine.disk c.args.machine.now) (g.M.Machine.disk c.settle.new.machine) (g.M.Machine.disk c.load.new.machine) c.in_ok-objects.objects c.settle.ensures.kept c.in_ok-settle.ensures.settled c.load.ensures.kept c.in_ok-objects.ensures.read c.in_ok-objects.ensures.empty in
+    slots_gate (g.M.Machine.disk c.args.machine.now) (g.M.Machine.disk c.load.new.machine) c.in_ok-objects.objects has told
 
-pub returns-clause-read : goal.returns-clause-read
-returns-clause-read g c told =
-    let has_objects = has_slots (g.M.Machine.disk c.args.machine.now) (g.M.Machine.disk c.settle.new.machine) (g.M.Machine.disk c.load.new.machine) c.in_ok-objects.objects
-    c.settle.ensures.kept c.in_ok-settle.ensures.settled c.load.ensures.kept c.in_ok-objects.ensures.read c.in_ok-objects.ensures.empty in
-    let has = has_log g.O.Oper.meaning g.met.O.Oper.bounded g.met.O.Oper.lawful (g.M.Machine.disk c.args.machine.now) (g.M.Machine.disk c.load.new.machine) (g.M.Machine.disk c.load_checked.new.m) c.in_ok-objects.objects c.bounds.result c.in_ok-log.log c.in_ok-log.last
-    has_objects c.load_checked.ensures.kept c.bounds.ensures c.in_ok-log.ensures.bounds c.in_ok-log.ensures.low c.in_ok-log.ensures.read c.in_ok-log.ensures.held c.in_ok-log.ensures.counted in
-    is_read g.O.Oper.meaning (g.M.Machine.disk c.args.machine.now) (g.M.Machine.disk c.load_checked.new.m) c.in_ok-objects.objects c.in_ok-log.log c.in_ok-log.last has c.analyse-plan.result c.base.result told
-    (subst (λ (n : ℕ). (x s : ℕ) → IsLate c.in_ok-objects.objects.slots n x s → ⊥) c.next.ensures c.in_default.ensures.none) c.base.ensures.value c.analyse-plan.ensures.table c.analyse-plan.ensures.start
+pub new-requires-in-Ok : goal.new-requires-in-Ok
+new-requires-in-Ok g c =
+    are_in_use g.O.Oper.meaning (g.M.Machine.disk c.args.machine.now) (g.M.Machine.disk c.load_checked.new.m) c.in_ok-objects.objects c.in_ok-log.log c.in_ok-log.last (loaded g c) (none_late g c) c.in-Ok.graph.entries c.in-Ok.ensures
 
-pub returns-clause-formed : goal.returns-clause-formed
-returns-clause-formed g c files agrees =
-    let has_objects = has_slots (g.M.Machine.disk c.args.machine.now) (g.M.Machine.disk c.settle.new.machine) (g.M.Machine.disk c.load.new.machine) c.in_ok-objects.objects
-    c.settle.ensures.kept c.in_ok-settle.ensures.settled c.load.ensures.kept c.in_ok-objects.ensures.read c.in_ok-objects.ensures.empty in
-    let has = has_log g.O.Oper.meaning g.met.O.Oper.bounded g.met.O.Oper.lawful (g.M.Machine.disk c.args.machine.now) (g.M.Machine.disk c.load.new.machine) (g.M.Machine.disk c.load_checked.new.m) c.in_ok-objects.objects c.bounds.result c.in_ok-log.log c.in_ok-log.last
-    has_objects c.load_checked.ensures.kept c.bounds.ensures c.in_ok-log.ensures.bounds c.in_ok-log.ensures.low c.in_ok-log.ensures.read c.in_ok-log.ensures.held c.in_ok-log.ensures.counted in
-    is_filed g.O.Oper.meaning (g.M.Machine.disk c.args.machine.now) (g.M.Machine.disk c.load_checked.new.m) c.in_ok-objects.objects c.in_ok-log.log c.in_ok-log.last has files c.analyse-plan.result c.base.result (has.slots.laid files agrees) (has.log files agrees)
-    (subst (λ (n : ℕ). (x s : ℕ) → IsLate c.in_ok-objects.objects.slots n x s → ⊥) c.next.ensures c.in_default.ensures.none) c.base.ensures.value c.analyse-plan.ensures.table c.analyse-plan.ensures.start
+pub returns-in-Ok-clause-kept : goal.returns-in-Ok-clause-kept
+returns-in-Ok-clause-kept g c =
+    three_stay (g.M.Machine.disk c.args.machine.now) (g.M.Machine.disk c.settle.new.machine) (g.M.Machine.disk c.load.new.machine) (g.M.Machine.disk c.load_checked.new.m) c.settle.ensures.kept c.load.ensures.kept c.load_checked.ensures.kept
+
+pub returns-in-Ok-clause-ready : goal.returns-in-Ok-clause-ready
+returns-in-Ok-clause-ready g c =
+    is_ready g.O.Oper.meaning (g.M.Machine.disk c.args.machine.now) (g.M.Machine.disk c.load_checked.new.m) c.in_ok-objects.objects c.in_ok-log.log c.in_ok-log.last (loaded g c.before) (none_late g c.before) c.in-Ok.graph.entries c.in-Ok.ensures c.new-in-Ok.result c.new-in-Ok.ensures
+
+pub returns-in-Ok-clause-read : goal.returns-in-Ok-clause-read
+returns-in-Ok-clause-read g c =
+    is_read g.O.Oper.meaning (g.M.Machine.disk c.args.machine.now) (g.M.Machine.disk c.load_checked.new.m) c.in_ok-objects.objects c.in_ok-log.log c.in_ok-log.last (loaded g c.before) (none_late g c.before) c.in-Ok.graph.entries c.in-Ok.ensures c.new-in-Ok.result c.new-in-Ok.ensures c.analyse-plan.result c.base.result c.base.ensures.value c.analyse-plan.ensures.table c.analyse-plan.ensures.start
+
+pub returns-in-Ok-clause-formed : goal.returns-in-Ok-clause-formed
+returns-in-Ok-clause-formed g c =
+    is_filed g.O.Oper.meaning (g.M.Machine.disk c.args.machine.now) (g.M.Machine.disk c.load_checked.new.m) c.in_ok-objects.objects c.in_ok-log.log c.in_ok-log.last (loaded g c.before) (none_late g c.before) c.in-Ok.graph.entries c.in-Ok.ensures c.new-in-Ok.result c.new-in-Ok.ensures c.analyse-plan.result c.base.result c.base.ensures.value c.analyse-plan.ensures.table c.analyse-plan.ensures.start
