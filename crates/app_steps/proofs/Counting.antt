@@ -1,28 +1,15 @@
 -- How many steps are accepted, as they are counted one after the other.
-use Rattle.std.proofs.Common.{◌≡◌, ◌≢◌, ◌∙◌, sym, subst, ap, ℕ, zero, suc, ◌+◌, ◌-◌, ◌<◌, ◌≤◌, List, [], ◌∷◌, ◌++◌, replicate, refl, inl, inr, ◌⊎◌, ⊎_elim, Option, None, Some, arith, append_assoc}
-use Rattle.std.specs.Prelude.{is_some, if◌then◌else◌, Result, Ok, Err}
-use Rattle.std.specs.Result.{result_err}
+use Rattle.std.proofs.Common.{◌≡◌, ◌∙◌, sym, ap, ℕ, zero, suc, ◌+◌, ◌-◌, ◌<◌, List, [], ◌∷◌, ◌++◌, replicate, refl, inl, inr, Option, None, Some, arith, append_assoc}
+use Rattle.std.specs.Prelude.{is_some}
 use Rattle.std.proofs.lemmas.Bool.{cond-true, cond-false}
 use Rattle.std.proofs.lemmas.List.{append-nil, replicate-append-replicate}
-use Rattle.disk_model.specs.Disk.{Disk}
 use Rattle.oper_core.specs.declared.refusal.Refusal.{Refusal}
-use Rattle.oper_core.specs.declared.refusal.Refusal.TheVariants.{NoInput}
 use Rattle.formats.specs.declared.params.Params.{Params}
 use Rattle.op_codec.specs.AllOps.{all_meaning}
 use Rattle.op_codec.specs.declared.all_ops.AllOps.{AllOps}
-use Rattle.explain_core.specs.World.{World}
-use Rattle.cache_manager.specs.Courses.{Stop}
-use Rattle.cache_manager.specs.Courses.Stop.{Full, At_end}
-use Rattle.cache_manager.specs.Taking.{Ending}
-use Rattle.cache_manager.specs.Taking.Ending.{Done, Stopped}
-use Rattle.execution.specs.declared.exec_err.ExecErr.{ExecErr}
-use Rattle.execution.specs.declared.exec_err.ExecErr.TheVariants.{Refused, LogFull, LsnEnd, DiskFault, Damaged, Memory}
-use Rattle.store_engine.specs.Engine.{EngineView, HasCause, Holds}
 use Rattle.store_engine.specs.Store.{refusal_after}
-use Rattle.command_lists.specs.Lists.{AddsFront, AreCalls, ComesNext, IsCutOff, ending_of}
-use Rattle.command_lists.specs.ListLaws.{all_hold, refused_calls}
-use Rattle.command_lists.specs.Steps.{HasRun}
-use Rattle.app_steps.specs.Steps.{EndsSo, HasAnswer, IsRefusedAtOnce, step_of, steps, steps_accepted}
+use Rattle.store_engine.specs.Lists.{ComesNext}
+use Rattle.app_steps.specs.Steps.{step_of, steps, steps_accepted}
 
 -- one step after others
 pub one_behind : (k app : ℕ) → replicate k (step_of app) ++ step_of app ∷ [] ≡ replicate (k + 1) (step_of app)

@@ -1,5 +1,5 @@
 -- What a run makes of engine and files, and answers, where its next step is not done, and where all are.
-use Rattle.std.proofs.Common.{◌≡◌, ◌≢◌, ◌∙◌, sym, subst, ap, ℕ, suc, ◌+◌, ◌-◌, ◌<◌, List, [], ◌∷◌, ◌++◌, replicate, refl, ⊎_elim, Option, None, Some, arith}
+use Rattle.std.proofs.Common.{◌≡◌, ◌≢◌, ◌∙◌, sym, subst, ap, ℕ, ◌+◌, ◌-◌, ◌<◌, List, [], ◌∷◌, ◌++◌, replicate, refl, Option, None, Some, arith}
 use Rattle.std.specs.Prelude.{unwrap_or, Result, Ok, Err}
 use Rattle.std.proofs.lemmas.List.{append-nil}
 use Rattle.std.specs.Result.{result_err}
@@ -9,19 +9,18 @@ use Rattle.oper_core.specs.declared.refusal.Refusal.TheVariants.{NoInput}
 use Rattle.formats.specs.declared.params.Params.{Params}
 use Rattle.op_codec.specs.AllOps.{all_meaning}
 use Rattle.op_codec.specs.declared.all_ops.AllOps.{AllOps}
-use Rattle.explain_core.specs.World.{World}
-use Rattle.cache_manager.specs.Courses.{Stop}
-use Rattle.cache_manager.specs.Courses.Stop.{Full, At_end}
-use Rattle.cache_manager.specs.Taking.Ending.{Done, Stopped}
+use Rattle.running_store.specs.Courses.{Stop}
+use Rattle.running_store.specs.Courses.Stop.{Full, At_end}
+use Rattle.running_store.specs.Taking.Ending.{Done, Stopped}
 use Rattle.execution.specs.declared.exec_err.ExecErr.{ExecErr}
 use Rattle.execution.specs.declared.exec_err.ExecErr.TheVariants.{Refused, LogFull, LsnEnd, DiskFault, Damaged, Memory}
 use Rattle.store_engine.specs.Engine.{EngineView, HasCause, Holds, group_size}
 use Rattle.store_engine.specs.Store.{refusal_after}
-use Rattle.command_lists.specs.Laws.{CallsBehind, ExecDone, ExecFailed, ExecRefused, ExecStopped}
-use Rattle.command_lists.specs.Lists.{AddsFront, AreCalls, IsCutOff, ending_of}
-use Rattle.command_lists.specs.ListLaws.{all_hold, refused_calls}
-use Rattle.command_lists.specs.Steps.{HasRun}
-use Rattle.app_steps.specs.Steps.{EndsSo, HasAnswer, IsRefusedAtOnce, step_of, steps, steps_accepted}
+use Rattle.store_engine.specs.ListSteps.{CallsBehind, ExecDone, ExecFailed, ExecRefused, ExecStopped}
+use Rattle.store_engine.specs.Lists.{AddsFront, AreCalls, IsCutOff, ending_of}
+use Rattle.store_engine.specs.ListLaws.{all_hold, refused_calls}
+use Rattle.store_engine.specs.Commands.{HasRun}
+use Rattle.app_steps.specs.Steps.{EndsSo, HasAnswer, step_of, steps, steps_accepted}
 use Rattle.app_steps.proofs.Counting.{IsUnderWay, after, all_done, all_refused, behind_done, behind_next, comes_next, goes_on, none_count, one_behind}
 
 -- what is made so far: so many steps, and they are among those that are accepted

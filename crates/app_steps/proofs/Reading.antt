@@ -1,25 +1,24 @@
 -- So many steps of an application read as many bytes of its input.
-use Rattle.std.proofs.Common.{◌≡◌, ◌∙◌, sym, subst, ap, ℕ, zero, suc, ◌+◌, ◌*◌, ◌%◌, ◌^◌, ◌<◌, ◌≤◌, Bool, true, false, inl, inr, List, [], ◌∷◌, ◌++◌, length, take, drop, replicate, refl, Option, None, Some, arith, append_assoc, length-append}
+use Rattle.std.proofs.Common.{◌≡◌, ◌∙◌, sym, ap, ℕ, zero, suc, ◌+◌, ◌*◌, ◌%◌, ◌^◌, ◌<◌, ◌≤◌, Bool, true, false, inl, inr, List, [], ◌∷◌, ◌++◌, length, take, drop, replicate, refl, Option, None, Some, arith, append_assoc, length-append}
 use Rattle.std.specs.Prelude.{◌&&◌, ◌||◌, ◌==◌, nat_lt, min, is_some, unwrap_or, if◌then◌else◌}
 use Rattle.std.specs.List.{fold}
-use Rattle.std.proofs.Math.Nat.{eq-zero-or-pos, mod-add-mod, mod-eq_of_lt, mod-lt}
-use Rattle.std.proofs.lemmas.Bool.{cond-true, eq-eqb, lt-ltb}
+use Rattle.std.proofs.Math.Nat.{eq-zero-or-pos, mod-add-mod, mod-eq_of_lt}
+use Rattle.std.proofs.lemmas.Bool.{eq-eqb, lt-ltb}
 use Rattle.std.proofs.lemmas.List.{append-nil}
 use Rattle.std.proofs.lemmas.List.Sums.{fold-append}
 use Rattle.oper_core.specs.State.{State, start, with_values}
-use Rattle.oper_core.specs.Meaning.{Meaning, after, or_else, unless}
+use Rattle.oper_core.specs.Meaning.{after, or_else, unless}
 use Rattle.oper_core.specs.declared.refusal.Refusal.{Refusal}
 use Rattle.oper_core.specs.declared.refusal.Refusal.TheVariants.{NoObject, NotApp, NoInput}
-use Rattle.formats.specs.Objects.{bounds_of}
 use Rattle.formats.specs.declared.params.Params.{Params}
-use Rattle.op_meaning.specs.AppState.{Application, IsApplication, app_check, app_of, new_application, state_code, state_in, stepped}
+use Rattle.op_meaning.specs.AppState.{Application, app_of, new_application, state_code, state_in, stepped}
 use Rattle.op_meaning.specs.AppStateLaws.{state_in-state_code}
 use Rattle.op_meaning.specs.Rows.{if_applicable}
 use Rattle.op_meaning.specs.Table.{exec_check}
 use Rattle.op_codec.specs.AllOps.{all_meaning}
 use Rattle.op_codec.specs.declared.all_ops.AllOps.{AllOps}
 use Rattle.store_engine.specs.Store.{meaning_in, refusal_after, state_of}
-use Rattle.app_steps.specs.Runs.{IsRunnable, Read, after_steps, has_read, read_byte, read_bytes}
+use Rattle.app_steps.specs.Runs.{IsRunnable, after_steps, has_read, read_byte}
 use Rattle.app_steps.specs.Steps.{step_of, steps_accepted}
 use Rattle.app_steps.proofs.Counting.{none_count, step_counts}
 

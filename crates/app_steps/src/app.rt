@@ -4,16 +4,15 @@ ghost use Rattle.formats.specs.declared.params.Params.{Params};
 ghost use Rattle.op_codec.specs.AllOps.{all_meaning};
 ghost use Rattle.op_codec.specs.declared.all_ops.AllOps.{AllOps as Command};
 ghost use Rattle.store_engine.specs.Engine.{Holds};
-ghost use Rattle.command_lists.specs.Lists.{AddsFront, AreCalls, ending_of};
-ghost use Rattle.command_lists.specs.Steps.{HasRun};
+ghost use Rattle.store_engine.specs.Lists.{AddsFront, AreCalls, ending_of};
+ghost use Rattle.store_engine.specs.Commands.{HasRun};
 ghost use Rattle.app_steps.specs.Steps.{EndsSo, HasAnswer, drain_of, feed_of, step_of, steps};
 
-use command_lists::{calls_go_on, exec_goes_on, nothing_is_made};
 use disk_model::Machine;
 use op_codec::AllOps;
 use op_meaning::{AppRead, AppWrite, Exec};
 use oper_core::Refusal;
-use store_engine::{Engine, ExecErr};
+use store_engine::{Engine, ExecErr, calls_go_on, exec_goes_on, nothing_is_made};
 
 /// An application: the object that holds its state.
 #[derive(Clone, Copy)]
@@ -51,8 +50,7 @@ impl App {
         ensures run { HasRun all_meaning (M.disk machine.old) (M.disk machine.new) engine.old engine.new (feed_of self.now.app from) result }
         ensures calls { AreCalls all_meaning (M.disk machine.old) (M.disk machine.new) engine.old engine.new (result_err result) }
     {
-        command_lists::exec(
-            engine,
+        engine.exec(
             machine,
             AllOps::AppRead(AppRead {
                 app: self.app,
@@ -71,7 +69,7 @@ impl App {
         ensures run { HasRun all_meaning (M.disk machine.old) (M.disk machine.new) engine.old engine.new (step_of self.now.app) result }
         ensures calls { AreCalls all_meaning (M.disk machine.old) (M.disk machine.new) engine.old engine.new (result_err result) }
     {
-        command_lists::exec(engine, machine, AllOps::Exec(Exec { app: self.app }))
+        engine.exec(machine, AllOps::Exec(Exec { app: self.app }))
     }
 
     /// Makes the application's output the value of an object. It answers as `Engine::exec` does.
@@ -85,11 +83,7 @@ impl App {
         ensures run { HasRun all_meaning (M.disk machine.old) (M.disk machine.new) engine.old engine.new (drain_of self.now.app to) result }
         ensures calls { AreCalls all_meaning (M.disk machine.old) (M.disk machine.new) engine.old engine.new (result_err result) }
     {
-        command_lists::exec(
-            engine,
-            machine,
-            AllOps::AppWrite(AppWrite { app: self.app, to }),
-        )
+        engine.exec(machine, AllOps::AppWrite(AppWrite { app: self.app, to }))
     }
 
     /// Does steps until `most` are done or one is refused. It answers how many were done.

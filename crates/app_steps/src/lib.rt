@@ -1,10 +1,8 @@
 //! An application whose state is an object's value, run one step at a time.
 //!
-//! The one contract is [`App`]: each of its calls is a command of the engine, and a run is as many steps as are accepted one
-//! after the other, at most so many as are asked for. What a run makes of engine and files, wherever it ends, is what
-//! command_lists says of several commands. The crate depends on that, on store_engine for the engine, on op_codec and
-//! op_meaning for the operations, on oper_core for refusals, on formats for a store's numbers, and on disk_model for the
-//! machine.
+//! The one contract is [`App`]: each of its calls is a command of the engine, and a run is as many steps as are
+//! accepted one after the other, at most so many as are asked for. What a run makes of engine and files, wherever it
+//! ends, is what store_engine says of several commands.
 #![tactic(auto)]
 
 mod app;

@@ -1,6 +1,6 @@
 -- What a command leaves of the commands that engine and files stand for.
 use Rattle.std.proofs.Common.{◌≡◌, ◌∙◌, sym, subst, ap, ℕ, zero, suc, ◌+◌, ◌-◌, ◌≤◌, Bool, true, false, List, [], ◌∷◌, ◌++◌, length, take, refl, arith, inl, inr, ◌⊎◌, ⊎_elim, Option, Some, None, length-append, if◌then◌else◌}
-use Rattle.std.specs.Prelude.{◌^◌, ◌||◌, nat_lt, nat_le, Result, Ok, Err, OnOk, OnErr, IfOk, IfErr, IfSome}
+use Rattle.std.specs.Prelude.{◌^◌, ◌||◌, nat_lt, nat_le, Result, Ok, Err, OnOk, OnErr, IfErr, IfSome}
 use Rattle.std.specs.Option.{is_some}
 use Rattle.std.proofs.Math.Path.{fun_ext}
 use Rattle.std.proofs.lemmas.Bool.{cond_both, cond-true, cond-false, lt-ltb, le-ltb}
@@ -14,7 +14,6 @@ use Rattle.oper_core.specs.declared.refusal.Refusal.{Refusal}
 use Rattle.formats.specs.Objects.{bounds_of}
 use Rattle.formats.specs.declared.params.Params.{Params}
 use Rattle.log_records.specs.RecordLog.{RecordLogView}
-use Rattle.stable_objects.specs.SlotsView.{SlotsView}
 use Rattle.explain_core.specs.History.{Member, commands_of}
 use Rattle.explain_core.specs.History.Member.{Command}
 use Rattle.explain_core.specs.RunLaws.{Begins, begins-all, begins-allowed}
@@ -25,24 +24,31 @@ use Rattle.explain_core.specs.World.{World, Step, Table, step, run, end_of, IsLi
 use Rattle.explain_core.specs.World.Step.{Append, Block_gate}
 use Rattle.standing.specs.Moments.{ShowsSome, TakesSome}
 use Rattle.standing.specs.Standing.{FilesShow}
-use Rattle.cache_manager.specs.Appended.{next_number}
-use Rattle.cache_manager.specs.Courses.{Course, force_steps, grown, is_through, waits}
-use Rattle.cache_manager.specs.Parts.{Parts, Shows}
-use Rattle.cache_manager.specs.Taking.{Ending, Follows, Takes}
-use Rattle.cache_manager.specs.Taking.Ending.{Done, Stopped, Short, Failed}
+use Rattle.running_store.specs.Appended.{next_number}
+use Rattle.running_store.specs.Courses.{Course, force_steps, grown, is_through, waits}
+use Rattle.running_store.specs.Parts.{Shows}
+use Rattle.running_store.specs.StoreView.{StoreView, length_of}
+use Rattle.running_store.specs.Taking.{Ending, Follows, Takes}
+use Rattle.running_store.specs.Taking.Ending.{Done, Stopped, Short, Failed}
+use Rattle.running_store.specs.Commands.{command_length}
 use Rattle.cache_manager.specs.Upkeep.{upkeep_force}
 use Rattle.execution.specs.Answers as of_world
 use Rattle.execution.specs.Answers.{ending_of_exec}
 use Rattle.execution.specs.Counted.{accepted_shown}
-use Rattle.execution.specs.Courses.{append_course, command_length, exec_course, needed, refusal_in, unless_refused, unplaced_steps}
-use Rattle.execution.specs.Done.{IsDone, IsUndone, IsUnplaced, LogWithout}
-use Rattle.execution.specs.Failures.{IsExecFailure}
+use Rattle.execution.specs.Courses.{append_course, exec_course, needed, refusal_in, unless_refused, unplaced_steps}
+use Rattle.execution.specs.Done as of_store_command
+use Rattle.execution.specs.Done.{IsUndone}
+use Rattle.execution.specs.Stops.{StopsCommand}
 use Rattle.execution.specs.Taken.{MayExec}
 use Rattle.execution.specs.declared.exec_err.ExecErr.{ExecErr}
 use Rattle.execution.specs.declared.exec_err.ExecErr.TheVariants.{Refused, LogFull, LsnEnd, DiskFault, Damaged, Memory}
-use Rattle.store_engine.specs.Engine.{EngineView, Between, FollowsIn, HasCause, Holds, IsFailed, IsOutcome, Kept, ShowsIn, TakesIn, accepted_in, commands_since, forced_in, group_size, needed_in, params_of, used_in}
+use Rattle.running_store.specs.Calls as of_store
+use Rattle.running_store.specs.Calls.{IsFailed}
+use Rattle.store_engine.specs.Engine.{EngineView, Between, FollowsIn, HasCause, Holds, Kept, ShowsIn, TakesIn, accepted_in, commands_since, engine_of, forced_in, group_size, needed_in, params_of, used_in}
 use Rattle.store_engine.specs.Grouping.{AreInside, front_inside, stays_inside, ungrouped}
 use Rattle.store_engine.specs.Store.{meaning_in, refusal_after}
+use Rattle.store_engine.specs.Commands.{HasRun}
+use Rattle.store_engine.proofs.Calls.{call_of, fine}
 use Rattle.store_engine.proofs.Counts.{forced_shown, commands-members_of}
 use Rattle.store_engine.proofs.Grouped.{waits_none}
 use Rattle.store_engine.proofs.Holding.{IsGroupCounted, IsLiveMap, Stand, holds_accepted, holds_forced}
@@ -350,34 +356,49 @@ module _ {O : Type 0} (meaning : Bounds → Meaning O) (p : Params) (old new : D
   exec_cause map counted (Err (Damaged file place)) cause = cause
   exec_cause map counted (Err Memory) cause = tt
 
--- What a command leaves on every machine of the numbers of the store and of the log.
-module _ {O : Type 0} (meaning : Bounds → Meaning O) (grouped : Bool) (before after : Parts) (op : O) where
-  pub params_kept : (r : Result ℕ ExecErr) → IfOk r (IsDone meaning before after op) → IfErr r (IsUndone grouped before after) → after.store.objects.slots.params ≡ before.store.objects.slots.params
-  params_kept (Ok n) done undone = ap (λ (s : SlotsView). s.params) done.slots
-  params_kept (Err e) done undone = ap (λ (s : SlotsView). s.params) undone.objects.slots
+-- what the call on the store says of a command, by the flag that says whether a group is open
+pub record IsExecuted {O : Type 0} (meaning : Bounds → Meaning O) (old new : Disk) (store later : StoreView) (op : O) (r : Result ℕ ExecErr) (grouped : Bool) : Type 0 where
+  pub call : of_store.IsCall meaning old new store later 0 (StopsCommand grouped store.parts.store.objects.slots.params.limit) (ending_of_exec r)
+  pub takes : Takes meaning old new store.parts later.parts (λ m w used. exec_course m grouped store.parts.store.objects.slots.params.limit op w used) (ending_of_exec r)
+  pub exactly : (p : Params) (w : World O) → Shows (meaning_in meaning p) p old store.parts w → of_world.HasCause grouped (meaning_in meaning p) p.limit w (length_of store) op r
+  pub outcome : of_store_command.IsOutcome meaning grouped old new store.parts later.parts op r
 
-  next_unplaced : (g : Bool) → IsUnplaced g before.log after.log → after.log.next ≡ before.log.next
-  next_unplaced true log = ap (λ (l : RecordLogView). l.next) log
-  next_unplaced false log = ap (λ (l : RecordLogView). l.next) log
+-- the engine says the same, of what it shows
+module _ {O : Type 0} (meaning : Bounds → Meaning O) (old new : Disk) (store later : StoreView) (group : Option ℕ) (op : O) (r : Result ℕ ExecErr) (grouped : Bool) (flag : grouped ≡ is_some group)
+    (executed : IsExecuted meaning old new store later op r grouped) (keeps : KeepsRuns meaning) (may : MayExecAll meaning store.parts.store.objects.slots.params.limit op) where
+  it : IsExecuted meaning old new store later op r (is_some group)
+  it = subst (λ (b : Bool). IsExecuted meaning old new store later op r b) flag executed
 
-  next_without : (e : ExecErr) → LogWithout grouped before.log after.log e → after.log.next ≡ before.log.next
-  next_without (LogFull used need limit) log = next_unplaced grouped log
-  next_without (LsnEnd number) log = next_unplaced grouped log
-  next_without (Refused refusal) log = ap (λ (l : RecordLogView). l.next) log
-  next_without DiskFault log = ap (λ (l : RecordLogView). l.next) log
-  next_without (Damaged file place) log = ap (λ (l : RecordLogView). l.next) log
-  next_without Memory log = ap (λ (l : RecordLogView). l.next) log
+  abbrev before : EngineView
+  before = engine_of store group
 
-  pub next_rises : (r : Result ℕ ExecErr) → IfOk r (IsDone meaning before after op) → IfErr r (IsUndone grouped before after) → before.log.next ≤ after.log.next
-  next_rises (Ok n) done undone = omega (arith, ap (λ (l : RecordLogView). l.next) done.log)
-  next_rises (Err e) done undone = omega (arith, next_without e undone.log)
+  abbrev after : EngineView
+  after = engine_of later group
 
--- what holds of a command on every machine, by its answer
-pub outcome_of : {O : Type 0} (meaning : Bounds → Meaning O) (old new : Disk) (before : EngineView) (after : Parts) (op : O) (r : Result ℕ ExecErr) (grouped : Bool) → grouped ≡ is_some before.group
-    → IfOk r (IsDone meaning before.parts after op) → IfErr r (IsUndone grouped before.parts after)
-    → IfErr r (IsExecFailure meaning grouped old new before.parts op) → IsOutcome meaning old new before after op r
-outcome_of meaning old new before after op (Ok n) grouped is done undone failure = done
-outcome_of meaning old new before after op (Err e) grouped is done undone failure = (
-  subst (λ (g : Bool). IsUndone g before.parts after e) is undone,
-  subst (λ (g : Bool). IsExecFailure meaning g old new before.parts op e) is failure,
-)
+  taken : TakesIn meaning old new before after (λ m w used. exec_course m (is_some w.group) (params_of before).limit op w used) (ending_of_exec r)
+  taken = exec_takes meaning old new before after op r (is_some group) refl keeps may refl (fine meaning old new store later 0 _ (ending_of_exec r) it.call) it.takes
+
+  cause : (p : Params) (w : World O) → ShowsIn meaning p old before w → of_world.HasCause (is_some w.group) (meaning_in meaning p) p.limit w (used_in before) op r
+  cause p w shows =
+      let m = meaning_in meaning p in
+      subst (λ (o : Option ℕ). of_world.HasCause (is_some o) m p.limit w (used_in before) op r) (sym shows.group)
+      (world_cause (is_some group) m p.limit w (used_in before) op r (it.exactly p (ungrouped w) shows.shows))
+
+  undone : IfErr r (IsUndone (is_some group) before.parts after.parts)
+  undone = by_answer r it.outcome
+    where
+      by_answer : (r : Result ℕ ExecErr) → of_store_command.IsOutcome meaning (is_some group) old new store.parts later.parts op r → IfErr r (IsUndone (is_some group) before.parts after.parts)
+      by_answer (Ok n) outcome = tt
+      by_answer (Err e) outcome = outcome.0
+
+  pub ran : ((p : Params) → Stand meaning p) → ((p : Params) → IsLiveMap (meaning_in meaning p)) → ((p : Params) → IsGroupCounted (meaning_in meaning p)) → HasRun meaning old new before after op r
+  ran stand map counted = record {
+    call = call_of meaning old new store later 0 _ (ending_of_exec r) it.call (params_of before).limit group (λ log stop at. at);
+    takes = taken;
+    ok = λ p commands holds. exec_ok meaning p old new before after op keeps may refl commands holds r (taken.follows p holds.world holds.shows) (cause p holds.world holds.shows);
+    err = λ p commands holds. exec_err meaning p old new before after op keeps may refl commands holds r (taken.follows p holds.world holds.shows) (cause p holds.world holds.shows) (is_some group) undone;
+    images = λ told p commands holds. exec_images meaning p old new before after op keeps may refl commands holds (stand p) (taken.moments told p holds.world holds.shows);
+    answers = cause;
+    exactly = λ p commands holds. exec_cause meaning p old new before after op keeps may refl commands holds (map p) (counted p) r (cause p holds.world holds.shows);
+    outcome = it.outcome;
+  }

@@ -11,8 +11,8 @@ use Rattle.explain_core.specs.History.Member.{Command, Identity}
 use Rattle.explain_core.specs.StableLaws.{commands_of-append}
 use Rattle.explain_core.specs.World.{World}
 use Rattle.standing.specs.Members.{commands-members}
-use Rattle.cache_manager.specs.Appended.{base_below}
-use Rattle.cache_manager.specs.Parts.{Parts, Shows}
+use Rattle.running_store.specs.Appended.{base_below}
+use Rattle.running_store.specs.Parts.{Parts, Shows}
 
 module _ {O : Type 0} where
   pub commands-split : (f : ℕ) (h : List (Member O)) → commands_of h ≡ commands_of (take f h) ++ commands_of (drop f h)

@@ -9,10 +9,11 @@ use Rattle.install_order.specs.NodeLaws.{least-is}
 use Rattle.explain_core.specs.RunLaws.{run-append}
 use Rattle.explain_core.specs.World.{World, Step, step, run, end_of}
 use Rattle.explain_core.specs.World.Step.{Block_gate, Header_gate}
-use Rattle.cache_manager.specs.Courses.{Course, force_steps, waits}
-use Rattle.cache_manager.specs.Courses.Stop.{Through}
-use Rattle.cache_manager.specs.Logged.{log_limit}
-use Rattle.checkpointing.specs.Courses.{last_epoch, new_base, rewrite_course, trim_course, trimmed_file}
+use Rattle.running_store.specs.Courses.{Course, force_steps, waits}
+use Rattle.running_store.specs.Courses.Stop.{Through}
+use Rattle.running_store.specs.Logged.{log_limit}
+use Rattle.running_store.specs.Rewrites.{new_base, rewrite_course, trimmed_file}
+use Rattle.checkpointing.specs.Courses.{last_epoch, trim_course}
 use Rattle.store_engine.specs.Emptied.{IsEmptied}
 
 module _ {O : Type 0} (m : Meaning O) (w : World O) (none : (n : ℕ) → IsFalse (w.graph n)) where

@@ -7,11 +7,12 @@ use Rattle.oper_core.specs.declared.bounds.Bounds.{Bounds}
 use Rattle.formats.specs.declared.params.Params.{Params}
 use Rattle.log_frames.specs.LogView.{used_of}
 use Rattle.explain_core.specs.World.{World, Step, run}
-use Rattle.cache_manager.specs.Courses.{Course}
-use Rattle.cache_manager.specs.Parts.{Shows}
-use Rattle.cache_manager.specs.Taking.{Ending, Follows, Takes}
-use Rattle.cache_manager.specs.Taking.Ending.{Done, Stopped, Short, Failed}
-use Rattle.store_engine.specs.Engine.{EngineView, FollowsIn, IsFailed, ShowsIn, TakesIn}
+use Rattle.running_store.specs.Courses.{Course}
+use Rattle.running_store.specs.Parts.{Shows}
+use Rattle.running_store.specs.Taking.{Ending, Follows, Takes}
+use Rattle.running_store.specs.Taking.Ending.{Done, Stopped, Short, Failed}
+use Rattle.running_store.specs.Calls.{IsFailed}
+use Rattle.store_engine.specs.Engine.{EngineView, FollowsIn, ShowsIn, TakesIn}
 use Rattle.store_engine.specs.Grouping.{AreInside, same_waits, ungrouped_alone}
 use Rattle.store_engine.specs.Store.{meaning_in}
 

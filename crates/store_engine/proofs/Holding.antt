@@ -19,11 +19,11 @@ use Rattle.explain_core.specs.Sound.{IsGroup, IsSound}
 use Rattle.explain_core.specs.World.{World, IsLive, end_of}
 use Rattle.standing.specs.Members.{members_of}
 use Rattle.standing.specs.Standing.{FilesShow, StandsFor}
-use Rattle.cache_manager.specs.Appended.{next_number}
-use Rattle.cache_manager.specs.Forced.{files_shown}
-use Rattle.cache_manager.specs.Joins.{cell_shown}
-use Rattle.cache_manager.specs.Laid.{values_in}
-use Rattle.cache_manager.specs.Parts.{Shows}
+use Rattle.running_store.specs.Appended.{next_number}
+use Rattle.running_store.specs.Forced.{files_shown}
+use Rattle.running_store.specs.Joins.{cell_shown}
+use Rattle.running_store.specs.Laid.{values_in}
+use Rattle.running_store.specs.Parts.{Shows}
 use Rattle.execution.specs.Counted.{accepted_shown}
 use Rattle.store_engine.specs.Grouping.{ungrouped}
 use Rattle.store_engine.specs.Engine.{EngineView, Holds, InEachImage, Says, accepted_in, commands_since, forced_in, group_size, used_in}

@@ -17,12 +17,13 @@ use Rattle.explain_core.specs.Taken.{IsAfterSome}
 use Rattle.explain_core.specs.World.{World, Step, run, AreAllowed}
 use Rattle.standing.specs.Moments.{ShowsSome}
 use Rattle.standing.specs.Standing.{StandsFor}
-use Rattle.cache_manager.specs.Courses.{Course}
-use Rattle.cache_manager.specs.Parts.{Parts, Shows}
-use Rattle.cache_manager.specs.Running.{IsRunning, MayBeTaken}
-use Rattle.cache_manager.specs.Taking.{Ending, Follows, Takes}
-use Rattle.cache_manager.specs.Taking.Ending.{Done, Stopped, Short, Failed}
-use Rattle.store_engine.specs.Engine.{EngineView, Between, Holds, IsFailed, Kept, KeepsCommands, accepted_in, forced_in}
+use Rattle.running_store.specs.Courses.{Course}
+use Rattle.running_store.specs.Parts.{Parts, Shows}
+use Rattle.running_store.specs.Running.{IsRunning, MayBeTaken}
+use Rattle.running_store.specs.Taking.{Ending, Follows, Takes}
+use Rattle.running_store.specs.Taking.Ending.{Done, Stopped, Short, Failed}
+use Rattle.running_store.specs.Calls.{IsFailed}
+use Rattle.store_engine.specs.Engine.{EngineView, Between, Holds, Kept, KeepsCommands, accepted_in, forced_in}
 use Rattle.store_engine.specs.Store.{meaning_in}
 use Rattle.store_engine.proofs.Counts.{forced_shown}
 use Rattle.store_engine.proofs.Grouped.{alone_shown, shown_alone}

@@ -7,8 +7,7 @@ pub mod Stops
 pub mod Keeping
 pub mod Ways
 pub mod Calls
-pub mod Checks
-pub mod Forces
+pub mod Works
 pub mod Begins
 pub mod Fetching
 pub mod Stats
@@ -18,3 +17,10 @@ pub mod Reopening
 pub mod LaidOut
 pub mod Commands
 pub mod Emptied
+pub mod ListCourses
+pub mod ListEndings
+pub mod ListFronts
+pub mod ListStart
+pub mod ListRuns
+pub mod ListFetches
+pub mod ListMachines

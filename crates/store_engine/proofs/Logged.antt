@@ -4,8 +4,8 @@ use Rattle.oper_core.specs.Meaning.{Meaning}
 use Rattle.explain_core.specs.History.Member.{Command, Identity}
 use Rattle.explain_core.specs.World.{World, Step, step, run}
 use Rattle.explain_core.specs.World.Step.{Begin, End, Append, Block_gate, Check, Slot_gate, Removal, Header_gate, Replay, Crash}
-use Rattle.cache_manager.specs.Courses.{logged_by, logged_in}
-use Rattle.cache_manager.specs.Running.{IsUpkeep, AreUpkeep}
+use Rattle.cache_manager.specs.InstallCourses.{logged_by, logged_in}
+use Rattle.running_store.specs.Running.{IsUpkeep, AreUpkeep}
 
 module _ {O : Type 0} (m : Meaning O) where
   one_longer : (w : World O) (s : Step O) → IsUpkeep s → length (step m w s).history ≡ length w.history + length (logged_by s)

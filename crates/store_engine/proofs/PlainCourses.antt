@@ -7,12 +7,13 @@ use Rattle.install_order.specs.Computed.{some_below, least_below}
 use Rattle.explain_core.specs.Turns.{turn, turns, thin_steps, thin_name, has_work, must_install}
 use Rattle.explain_core.specs.World.{World, Step, run, end_of, node_named}
 use Rattle.explain_core.specs.World.Step.{Slot_gate, Removal, Replay, Header_gate}
-use Rattle.cache_manager.specs.Courses.{Course, course, grown, is_through, force_steps, force_course, room_steps}
-use Rattle.cache_manager.specs.Courses.Stop.{Through, Full}
-use Rattle.cache_manager.specs.Logged.{log_limit}
-use Rattle.cache_manager.specs.Running.{AreUpkeep}
+use Rattle.running_store.specs.Courses.{Course, course, grown, is_through, force_steps, force_course, room_steps}
+use Rattle.running_store.specs.Courses.Stop.{Through, Full}
+use Rattle.running_store.specs.Logged.{log_limit}
+use Rattle.running_store.specs.Running.{AreUpkeep}
+use Rattle.running_store.specs.Rewrites.{check_length, new_base, rewrite_course, trimmed, trimmed_file}
 use Rattle.cache_manager.specs.Upkeep.{upkeep_append, upkeep_either, upkeep_force, upkeep_room, upkeep_then}
-use Rattle.checkpointing.specs.Courses.{check_course, check_length, check_steps, checkpoint_course, closing_course, logged_course, last_epoch, new_base, rewrite_course, trim_course, trimmed, trimmed_file}
+use Rattle.checkpointing.specs.Courses.{check_course, check_steps, checkpoint_course, closing_course, logged_course, last_epoch, trim_course}
 use Rattle.redo_pass.specs.Redo.{redo_steps}
 use Rattle.store_engine.proofs.Steps.{ArePlain, plain_append}
 

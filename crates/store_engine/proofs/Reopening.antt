@@ -1,6 +1,6 @@
 -- A restart keeps the commands that the files stand for, and all of them are forced after it.
 use Rattle.std.proofs.Common.{◌≡◌, ◌∙◌, sym, subst, ap, ℕ, ◌≤◌, List, [], ◌∷◌, ◌++◌, length, take, drop, refl, arith, inl, ⊎_elim, None}
-use Rattle.std.specs.Prelude.{Result, Ok, Err, IfOk, false}
+use Rattle.std.specs.Prelude.{false}
 use Rattle.disk_model.specs.Disk.{Files, Disk, LeavesOnly}
 use Rattle.disk_model.specs.Silent.{IsSilent}
 use Rattle.oper_core.specs.Meaning.{Meaning, IsSmall}
@@ -13,16 +13,14 @@ use Rattle.explain_core.specs.World.{World, Step, step, run, AreAllowed}
 use Rattle.explain_core.specs.World.Step.{Crash}
 use Rattle.standing.specs.Moments.{ShowsSome}
 use Rattle.standing.specs.Standing.{IsFound, StandsFor}
-use Rattle.cache_manager.specs.Kept.{IsAttached}
-use Rattle.cache_manager.specs.Parts.{Parts, Shows}
-use Rattle.cache_manager.specs.Taking.{IsAfter}
+use Rattle.running_store.specs.Parts.{Parts, Shows}
+use Rattle.running_store.specs.Taking.{IsAfter}
 use Rattle.checkpointing.specs.Courses.{closing_course}
 use Rattle.redo_pass.specs.Redo.{redo_steps}
 use Rattle.restart.specs.Courses.{redo_course, restart_course}
 use Rattle.restart.specs.Opening.{OpensThrough}
 use Rattle.restart.specs.Starts.{OrAtStart, or_weaker}
-use Rattle.restart.specs.declared.restart_err.RestartErr.{RestartErr}
-use Rattle.store_engine.specs.Engine.{EngineView, Between, Holds, IsAttached as AreAttached, forced_in, opened}
+use Rattle.store_engine.specs.Engine.{EngineView, Between, Holds, forced_in}
 use Rattle.store_engine.specs.Store.{meaning_in}
 use Rattle.store_engine.proofs.Counts.{commands-fewer, forced_shown}
 use Rattle.store_engine.proofs.Grouped.{shown_alone}
@@ -90,13 +88,11 @@ module _ {O : Type 0} (meaning : Bounds → Meaning O) (p : Params) (old new : D
   m = meaning_in meaning p
 
   -- engine and files stand for the commands of the files
-  pub restart_holds : (r : Result EngineView RestartErr) → IfOk r (λ (e : EngineView). (e.broken ≡ false) × (e.group ≡ None) × (e.identities ≡ 0)) → IfOk r (λ (e : EngineView). IsAfter m p new e.parts w (restart_course m dirty w used))
-      → IfOk r (λ (e : EngineView). Holds meaning p new e commands × (forced_in e ≡ length commands))
-  restart_holds (Ok e) fresh after = (
-    record { world = run m w (restart_course m dirty w used).steps; shows = shown_alone meaning p new e (run m w (restart_course m dirty w used).steps) fresh.0 fresh.1 after.shows; commands_are = restart_keeps m p old.reads commands w found dirty used },
+  pub restart_holds : (e : EngineView) → e.broken ≡ false → e.group ≡ None → IsAfter m p new e.parts w (restart_course m dirty w used) → Holds meaning p new e commands × (forced_in e ≡ length commands)
+  restart_holds e fine alone after = (
+    record { world = run m w (restart_course m dirty w used).steps; shows = shown_alone meaning p new e (run m w (restart_course m dirty w used).steps) fine alone after.shows; commands_are = restart_keeps m p old.reads commands w found dirty used },
     restart_forced m p old.reads commands w found dirty used new e.parts after.shows,
   )
-  restart_holds (Err cause) fresh after = tt
 
   restart_between : IsSmall (bounds_of p) → KeepsRuns meaning → Stand meaning p → AreAllowed m w (restart_course m dirty w used).steps → (files : Files) (said : List ℕ)
       → IsSilent (ShowsSome m p w (restart_course m dirty w used).steps) old.said files said → Between meaning p old None (length commands) (length commands) commands files said
@@ -121,8 +117,3 @@ module _ {O : Type 0} (meaning : Bounds → Meaning O) (p : Params) (old new : D
       → OpensThrough m p old new w (restart_course m dirty w used).steps → LeavesOnly old new (OrAtStart old (Between meaning p old None (length commands) (length commands) commands))
   restart_images small keeps stand may moments =
       or_weaker old new (IsSilent (ShowsSome m p w (restart_course m dirty w used).steps) old.said) (Between meaning p old None (length commands) (length commands) commands) moments (restart_between small keeps stand may)
-
-pub ready_engine : {O : Type 0} (meaning : Bounds → Meaning O) (new : Disk) (r : Result EngineView RestartErr) → IfOk r (λ (e : EngineView). (e.broken ≡ false) × (e.group ≡ None) × (e.identities ≡ 0)) → IfOk (opened r) (IsAttached meaning new)
-    → IfOk r (λ (e : EngineView). (e.broken ≡ false) × (e.group ≡ None) × (e.identities ≡ 0) × AreAttached meaning new e)
-ready_engine meaning new (Ok e) fresh attached = (fresh.0, fresh.1, fresh.2, attached)
-ready_engine meaning new (Err cause) fresh attached = tt

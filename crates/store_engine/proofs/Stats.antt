@@ -19,7 +19,7 @@ use Rattle.explain_core.specs.GraphLaws.{graph-within}
 use Rattle.explain_core.specs.Sound.{IsSound}
 use Rattle.explain_core.specs.Turns.{count_below}
 use Rattle.explain_core.specs.World.{World, end_of, graph_access, node_named}
-use Rattle.cache_manager.specs.Parts.{Store, ShowsStore}
+use Rattle.running_store.specs.Parts.{Store, ShowsStore}
 
 -- numbers after one that rise with it rise
 rising-tail : (x : ℕ) (xs : List ℕ) → IsStrictlyIncreasing (x ∷ xs) → IsStrictlyIncreasing xs

@@ -10,7 +10,7 @@ use Rattle.explain_core.specs.RunLaws.{Begins}
 use Rattle.explain_core.specs.StableLaws.{commands_of-append}
 use Rattle.explain_core.specs.World.{World, Step, step, run}
 use Rattle.explain_core.specs.World.Step.{Begin, End, Append, Block_gate, Check, Slot_gate, Removal, Header_gate, Replay, Crash}
-use Rattle.cache_manager.specs.Running.{IsUpkeep, AreUpkeep}
+use Rattle.running_store.specs.Running.{IsUpkeep, AreUpkeep}
 use Rattle.store_engine.specs.Grouping.{IsInside, AreInside}
 use Rattle.store_engine.proofs.Counts.{take-commands, commands-fewer}
 

@@ -17,11 +17,11 @@ use Rattle.explain_core.specs.History.Member.{Command, Identity}
 use Rattle.explain_core.specs.Sound.{IsGroup}
 use Rattle.explain_core.specs.World.{World}
 use Rattle.standing.specs.Members.{next-members}
-use Rattle.cache_manager.specs.Appended.{base_below, next_number}
-use Rattle.cache_manager.specs.Buffered.{buffered_shown}
-use Rattle.cache_manager.specs.Courses.{Stop, records_length, tables_length}
-use Rattle.cache_manager.specs.Courses.Stop.{Through, Full, At_end, Worn}
-use Rattle.cache_manager.specs.Kept.{StopsAt}
+use Rattle.running_store.specs.Appended.{base_below, next_number}
+use Rattle.running_store.specs.Buffered.{buffered_shown}
+use Rattle.running_store.specs.Courses.{Stop, records_length, tables_length}
+use Rattle.running_store.specs.Courses.Stop.{Through, Full, At_end, Worn}
+use Rattle.running_store.specs.Kept.{StopsAt}
 use Rattle.execution.specs.Stops.{StopsWithin}
 use Rattle.store_engine.specs.Engine.{EngineView, ShowsIn, SaysStop, SaysStopWithin, InEachImage, group_bytes, records_of as bytes_of}
 use Rattle.store_engine.specs.Grouping.{ungrouped}

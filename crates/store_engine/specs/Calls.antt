@@ -1,6 +1,7 @@
 -- What the calls say that no group allows: where none is open, and where one is.
-use Rattle.std.specs.Prelude.{◌≡◌, ◌+◌, ◌≤◌, ℕ, false, List, [], ◌∷◌, ◌++◌, length, None, Some, Result, Ok, Err, IfOk, IfErr, OnOk, OnErr, IsErrOf}
+use Rattle.std.specs.Prelude.{◌≡◌, ◌+◌, ◌≤◌, ℕ, false, List, [], ◌∷◌, ◌++◌, length, Option, None, Some, Result, Ok, Err, IfOk, IfErr, OnOk, OnErr, IsErrOf}
 use Rattle.disk_model.specs.Disk.{Disk}
+use Rattle.disk_model.specs.declared.machine.Failed.{Failed}
 use Rattle.disk_model.specs.declared.machine.FileNo.{FileNo}
 use Rattle.oper_core.specs.Meaning.{Meaning}
 use Rattle.oper_core.specs.declared.bounds.Bounds.{Bounds}
@@ -9,44 +10,68 @@ use Rattle.log_records.specs.Loading.{IsTailFault}
 use Rattle.dirty_cache.specs.Contents.{is_dirty}
 use Rattle.explain_core.specs.World.{World}
 use Rattle.explain_core.specs.World.Step.{Begin, End}
-use Rattle.cache_manager.specs.Courses.{Course, course, force_course, force_steps, install_course, drain_course, removals}
-use Rattle.cache_manager.specs.Courses.Stop.{Through}
-use Rattle.cache_manager.specs.Logged.{log_limit}
-use Rattle.cache_manager.specs.Taking.{ending_of}
+use Rattle.running_store.specs.Courses.{Course, course, force_course, force_steps}
+use Rattle.cache_manager.specs.InstallCourses.{install_course, drain_course, removals}
+use Rattle.running_store.specs.Courses.Stop.{Through}
+use Rattle.running_store.specs.Logged.{log_limit}
+use Rattle.running_store.specs.Calls.{ending_of_force}
+use Rattle.cache_manager.specs.Endings.{ending_of}
 use Rattle.cache_manager.specs.Told.{IsInstall, TellsParts}
 use Rattle.cache_manager.specs.declared.install.Install.{Install}
 use Rattle.cache_manager.specs.declared.install_err.InstallErr.{InstallErr}
 use Rattle.cache_manager.specs.declared.install_err.InstallErr.TheVariants as of_install
 use Rattle.checkpointing.specs.Courses.{checkpoint_course, trim_course}
 use Rattle.checkpointing.specs.Left as of_trim
-use Rattle.checkpointing.specs.Left.{IsTooLong}
+use Rattle.checkpointing.specs.Left.{IsTooLong, ending_of_check}
+use Rattle.checkpointing.specs.declared.check_err.CheckErr.{CheckErr}
+use Rattle.checkpointing.specs.declared.check_err.CheckErr.TheVariants as of_checking
 use Rattle.checkpointing.specs.declared.trim_err.TrimErr.{TrimErr}
 use Rattle.checkpointing.specs.declared.trim_err.TrimErr.TheVariants as of_trimming
-use Rattle.store_engine.specs.Engine.{EngineView, Holds, IsAttached, IsCall, KeepsCommands, ShowsIn, TakesIn, ending_of_force, forced_in, logged_since, used_in}
+use Rattle.store_engine.specs.Engine.{EngineView, Holds, IsAttached, IsCall, KeepsCommands, ShowsIn, TakesIn, forced_in, logged_since, used_in}
 use Rattle.store_engine.specs.Store.{meaning_in}
-use Rattle.store_engine.specs.declared.force_err.ForceErr.{ForceErr}
 use Rattle.store_engine.specs.declared.work_err.WorkErr.{WorkErr}
 use Rattle.store_engine.specs.declared.work_err.WorkErr.TheVariants.{InGroup, LogFull, LsnEnd, Exhausted, DiskFault, Damaged, Memory}
 
--- what the calls below answer, as the engine answers it
-abbrev pub work_of_force : {T : Type 0} → Result T ForceErr → Result T WorkErr
-work_of_force (Ok value) = Ok value
-work_of_force (Err e) = Err DiskFault
+-- a call is refused while a group is open that has so many commands
+abbrev pub refused_in : Option ℕ → Result (Unit {0}) WorkErr
+refused_in None = Ok tt
+refused_in (Some size) = Err (InGroup size)
+
+-- why the calls below were not done, as the engine answers it
+abbrev pub work_from_install : InstallErr → WorkErr
+work_from_install (of_install.LogFull used need limit) = LogFull used need limit
+work_from_install (of_install.LsnEnd number) = LsnEnd number
+work_from_install of_install.DiskFault = DiskFault
+work_from_install of_install.Memory = Memory
+
+abbrev pub work_from_check : CheckErr → WorkErr
+work_from_check (of_checking.LogFull used need limit) = LogFull used need limit
+work_from_check of_checking.DiskFault = DiskFault
+work_from_check of_checking.Memory = Memory
+
+abbrev pub work_from_trim : TrimErr → WorkErr
+work_from_trim (of_trimming.Exhausted epoch) = Exhausted epoch
+work_from_trim of_trimming.DiskFault = DiskFault
+work_from_trim (of_trimming.Damaged file place) = Damaged file place
+work_from_trim (of_trimming.LogFull used need limit) = LogFull used need limit
+work_from_trim of_trimming.Memory = Memory
+
+-- what they answer
+abbrev pub work_of : {T E : Type 0} → (E → WorkErr) → Result T E → Result T WorkErr
+work_of from (Ok value) = Ok value
+work_of from (Err e) = Err (from e)
+
+abbrev pub work_of_force : {T E : Type 0} → Result T E → Result T WorkErr
+work_of_force = work_of (λ e. DiskFault)
 
 abbrev pub work_of_install : {T : Type 0} → Result T InstallErr → Result T WorkErr
-work_of_install (Ok value) = Ok value
-work_of_install (Err (of_install.LogFull used need limit)) = Err (LogFull used need limit)
-work_of_install (Err (of_install.LsnEnd number)) = Err (LsnEnd number)
-work_of_install (Err of_install.DiskFault) = Err DiskFault
-work_of_install (Err of_install.Memory) = Err Memory
+work_of_install = work_of work_from_install
+
+abbrev pub work_of_check : {T : Type 0} → Result T CheckErr → Result T WorkErr
+work_of_check = work_of work_from_check
 
 abbrev pub work_of_trim : {T : Type 0} → Result T TrimErr → Result T WorkErr
-work_of_trim (Ok value) = Ok value
-work_of_trim (Err (of_trimming.Exhausted epoch)) = Err (Exhausted epoch)
-work_of_trim (Err of_trimming.DiskFault) = Err DiskFault
-work_of_trim (Err (of_trimming.Damaged file place)) = Err (Damaged file place)
-work_of_trim (Err (of_trimming.LogFull used need limit)) = Err (LogFull used need limit)
-work_of_trim (Err of_trimming.Memory) = Err Memory
+work_of_trim = work_of work_from_trim
 
 -- the course of the beginning of a group: what waits is forced first
 abbrev pub begin_course : {O : Type 0} → Meaning O → World O → ℕ → Course O
@@ -64,7 +89,7 @@ pub record IsRefused {T : Type 0} {M : Type 0} (size : ℕ) (old new : M) (befor
 
 module _ {O : Type 0} (meaning : Bounds → Meaning O) (old new : Disk) (before after : EngineView) where
   -- the log was forced, or the disk failed
-  pub record IsForcing (answer : Result ℕ ForceErr) : Type 0 where
+  pub record IsForcing (answer : Result ℕ Failed) : Type 0 where
     pub call : IsCall meaning log_limit old new before after 0 (ending_of_force answer)
     pub takes : TakesIn meaning old new before after (λ m w used. force_course m w used) (ending_of_force answer)
     pub commands : KeepsCommands meaning old new before after (ending_of_force answer)
@@ -92,11 +117,10 @@ module _ {O : Type 0} (meaning : Bounds → Meaning O) (old new : Disk) (before 
     pub clean : (p : Params) (w : World O) → ShowsIn meaning p old before w → OnOk answer ((x : ℕ) → is_dirty after.parts.store.objects.cache x ≡ false)
 
   -- a check was taken and forced
-  pub record IsChecking {T : Type 0} (answer : Result T InstallErr) : Type 0 where
-    pub call : IsCall meaning log_limit old new before after 0 (ending_of answer)
-    pub takes : TakesIn meaning old new before after (λ m w used. checkpoint_course m w used) (ending_of answer)
-    pub commands : KeepsCommands meaning old new before after (ending_of answer)
-    pub numbered : (number : ℕ) → IsErrOf answer (of_install.LsnEnd number) → ⊥
+  pub record IsChecking {T : Type 0} (answer : Result T CheckErr) : Type 0 where
+    pub call : IsCall meaning log_limit old new before after 0 (ending_of_check answer)
+    pub takes : TakesIn meaning old new before after (λ m w used. checkpoint_course m w used) (ending_of_check answer)
+    pub commands : KeepsCommands meaning old new before after (ending_of_check answer)
 
   -- the log was rewritten
   pub record IsTrimming {T : Type 0} (answer : Result T TrimErr) : Type 0 where
@@ -111,7 +135,7 @@ module _ {O : Type 0} (meaning : Bounds → Meaning O) (old new : Disk) (before 
     pub emptied : before.parts.store.entries ≡ [] → OnOk answer (after.parts.log.log.header.base ≡ after.parts.log.next)
 
   -- the log was forced, and a group is open that has no command yet; or the disk failed
-  pub record IsBeginning {T : Type 0} (answer : Result T ForceErr) : Type 0 where
+  pub record IsBeginning {T : Type 0} (answer : Result T Failed) : Type 0 where
     pub call : IsCall meaning log_limit old new before (record after { group = before.group }) 0 (ending_of_force answer)
     pub takes : TakesIn meaning old new before after (λ m w used. begin_course m w used) (ending_of_force answer)
     pub commands : KeepsCommands meaning old new before after (ending_of_force answer)

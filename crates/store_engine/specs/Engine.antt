@@ -12,26 +12,25 @@ use Rattle.formats.specs.Log.{Header}
 use Rattle.formats.specs.declared.params.Params.{Params}
 use Rattle.log_frames.specs.Creating.{IsNewLog}
 use Rattle.log_frames.specs.LogView.{used_of}
-use Rattle.log_records.specs.RecordLog.{RecordLogView}
 use Rattle.stable_objects.specs.Making.{IsNewFile}
 use Rattle.dirty_cache.specs.Contents.{held}
 use Rattle.install_order.specs.Computed.{least_below}
-use Rattle.install_order.specs.declared.entry.Entry.{Entry}
 use Rattle.explain_core.specs.History.{commands_of}
 use Rattle.explain_core.specs.Sound.{IsSound}
 use Rattle.explain_core.specs.Taken.{IsAfterSome}
 use Rattle.explain_core.specs.Turns.{count_below, dirty_in}
 use Rattle.explain_core.specs.World.{World, run, end_of, node_named}
 use Rattle.standing.specs.Moments.{TakesSome}
-use Rattle.cache_manager.specs.Courses.{Course, Stop}
-use Rattle.cache_manager.specs.Courses.Stop.{Through, Full, At_end, Worn}
-use Rattle.cache_manager.specs.Kept as of_parts
-use Rattle.cache_manager.specs.Laid.{Laid, values_in}
-use Rattle.cache_manager.specs.Parts.{Parts, Shows, parts}
-use Rattle.cache_manager.specs.Taking.{ArePartsInUse, Ending}
-use Rattle.cache_manager.specs.Taking.Ending.{Done, Stopped, Short, Failed}
-use Rattle.execution.specs.Done.{IsDone, IsUndone}
-use Rattle.execution.specs.Failures.{IsExecFailure}
+use Rattle.running_store.specs.Calls.{IsFailed}
+use Rattle.running_store.specs.Courses.{Course, Stop}
+use Rattle.running_store.specs.Courses.Stop.{Through, Full, At_end, Worn}
+use Rattle.running_store.specs.Kept as of_parts
+use Rattle.running_store.specs.Laid.{values_in}
+use Rattle.running_store.specs.Parts.{Parts, Shows}
+use Rattle.running_store.specs.StoreView.{StoreView}
+use Rattle.running_store.specs.Taking.{Ending}
+use Rattle.running_store.specs.Taking.Ending.{Done, Stopped, Short, Failed}
+use Rattle.execution.specs.Done as of_command
 use Rattle.execution.specs.Stops.{StopsCommand}
 use Rattle.execution.specs.declared.exec_err.ExecErr.{ExecErr}
 use Rattle.execution.specs.declared.exec_err.ExecErr.TheVariants.{Refused, LogFull, LsnEnd, DiskFault, Damaged, Memory}
@@ -51,9 +50,9 @@ pub record EngineView : Type 0 where
   -- the disk failed
   pub broken : Bool
 
--- the engine that these parts make
-abbrev pub view_of : RecordLogView → Laid → List Entry → ℕ → Option ℕ → Bool → EngineView
-view_of log objects entries identities group broken = record { parts = parts log objects entries; identities = identities; group = group; broken = broken }
+-- the engine of this store, whose open group began with this number
+abbrev pub engine_of : StoreView → Option ℕ → EngineView
+engine_of store group = record { parts = store.parts; identities = store.identities; group = group; broken = store.broken }
 
 -- the numbers of its store
 abbrev pub params_of : EngineView → Params
@@ -90,28 +89,9 @@ needed_in (Some (suc k)) n = n
 abbrev pub IsCached : EngineView → ℕ → Type 0
 IsCached engine x = IsSome (held engine.parts.store.objects.cache x)
 
--- what holds of the parts of an engine that is not broken: they are in use, no more identity writes were logged than there
--- are numbers below the next, and the open group began with one of these or with the next
-pub record IsUsable (it : Parts) (identities : ℕ) (group : Option ℕ) : Type 0 where
-  pub in_use : ArePartsInUse it
-  pub counted : identities ≤ it.log.next
-  pub begun : IfSome group (λ n. n ≤ it.log.next)
-
 -- this is true of the files and of whatever a crash now leaves of them
 abbrev pub InEachImage : Disk → (Files → Type 0) → Type 0
 InEachImage d P = P d.reads × (d.tells_moments → (files : Files) (said : List ℕ) → d.left_since d.clock files said → P files)
-
--- the disk failed
-abbrev pub IsFailed : Ending → Type 0
-IsFailed Done = ⊥
-IsFailed (Stopped stop) = ⊥
-IsFailed Short = ⊥
-IsFailed Failed = ⊤
-
--- how a call ended that fails with the disk alone
-abbrev pub ending_of_force : {T E : Type 0} → Result T E → Ending
-ending_of_force (Ok value) = Done
-ending_of_force (Err e) = Failed
 
 -- what an opening answers, without the counts of the engine
 abbrev pub opened : Result EngineView RestartErr → Result Parts RestartErr
@@ -161,11 +141,9 @@ module _ {O : Type 0} (meaning : Bounds → Meaning O) where
     pub attached : IsAttached old before → IsAttached new after
     pub broken : (after.broken ≡ true) ↔ failed
 
-  -- What holds on every machine of a command: where it is done its record waits, and it has its entry; where it is not the
-  -- log has none, and nothing but slots was read. The answer has a cause.
+  -- what holds on every machine of a command
   abbrev pub IsOutcome : Disk → Disk → EngineView → Parts → O → Result ℕ ExecErr → Type 0
-  IsOutcome old new before after op (Ok n) = IsDone meaning before.parts after op n
-  IsOutcome old new before after op (Err e) = IsUndone (is_some before.group) before.parts after e × IsExecFailure meaning (is_some before.group) old new before.parts op e
+  IsOutcome old new before after op answer = of_command.IsOutcome meaning (is_some before.group) old new before.parts after op answer
 
   -- Engine and files show the world, which is sound. The same group is open in both, or none; what the parts show is the
   -- world but for that. Within a group no check waits, since all that waited was forced as it began.

@@ -6,9 +6,9 @@ use Rattle.disk_model.specs.declared.machine.FileNo.TheVariants.{Objects}
 use Rattle.oper_core.specs.Meaning.{Meaning}
 use Rattle.oper_core.specs.declared.bounds.Bounds.{Bounds}
 use Rattle.stable_objects.specs.SlotsView.{SlotsView, AreOf}
-use Rattle.cache_manager.specs.LongSlot.{IsLongSlot, long_never, long_untold}
-use Rattle.cache_manager.specs.Kept.{IsAttached}
-use Rattle.cache_manager.specs.Parts.{Parts}
+use Rattle.running_store.specs.LongSlot.{IsLongSlot, long_never, long_untold}
+use Rattle.running_store.specs.Kept.{IsAttached}
+use Rattle.running_store.specs.Parts.{Parts}
 
 module _ {O : Type 0} (meaning : Bounds → Meaning O) {old new : Disk} (before : Parts) {object : ℕ} {file : FileNo} {place : ℕ} where
   -- where a call leaves the files as they are

@@ -1,10 +1,9 @@
 -- Why an object is not fetched, on every machine.
-use Rattle.std.specs.Prelude.{◌≡◌, ◌<◌, ◌≤◌, ⊤, ℕ, Result, Ok, Err}
+use Rattle.std.specs.Prelude.{◌≡◌, ◌<◌, ◌≤◌, ℕ, Result, Ok, Err}
 use Rattle.disk_model.specs.Disk.{Disk}
 use Rattle.oper_core.specs.declared.refusal.Refusal.TheVariants.{NoObject}
 use Rattle.stable_objects.specs.declared.slot_err.SlotErr.{SlotErr}
-use Rattle.stable_objects.specs.declared.slot_err.SlotErr.TheVariants as of_slot
-use Rattle.cache_manager.specs.LongSlot.{IsLongSlot}
+use Rattle.running_store.specs.LongSlot.{IsLongSlot}
 use Rattle.execution.specs.Failures.{IsReadFailure, exec_from_slots}
 use Rattle.execution.specs.declared.exec_err.ExecErr.{ExecErr}
 use Rattle.execution.specs.declared.exec_err.ExecErr.TheVariants.{Refused}
@@ -19,11 +18,3 @@ IsFetchFailure old new engine object e = (object < (params_of engine).objects) �
 abbrev pub of_slots : {T : Type 0} → Result T SlotErr → Result T ExecErr
 of_slots (Ok value) = Ok value
 of_slots (Err cause) = Err (exec_from_slots cause)
-
--- the disk failed
-abbrev pub HasSlotFailed : {T : Type 0} → Result T SlotErr → Type 0
-HasSlotFailed (Ok value) = ⊥
-HasSlotFailed (Err of_slot.NotAStore) = ⊥
-HasSlotFailed (Err of_slot.DiskFault) = ⊤
-HasSlotFailed (Err (of_slot.Damaged file place)) = ⊥
-HasSlotFailed (Err of_slot.Memory) = ⊥

@@ -7,3 +7,7 @@ pub mod FailureLaws
 pub mod ImageLaws
 pub mod Uniqueness
 pub mod Emptied
+pub mod Lists
+pub mod Commands
+pub mod ListSteps
+pub mod ListLaws

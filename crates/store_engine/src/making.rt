@@ -24,9 +24,8 @@ impl<O: Oper> Engine<O> {
         ensures quiet { (M.disk machine.old).tells_files → (M.disk machine.new).said ≡ (M.disk machine.old).said }
         ensures ok { (M.disk machine.old).tells_files → OnOk result (InEachImage (M.disk machine.new) (IsNewStore O.meaning params)) }
         ensures settled { OnOk result (IsSettled (M.disk machine.new)) }
-        ensures already { (M.disk machine.old).tells_files → IsErrOf result InitErr.AlreadyStore → BeginsStore ((M.disk machine.old).reads Objects) }
-        // Each image then begins a store.
-        ensures already_settled { IsErrOf result InitErr.AlreadyStore → IsSettled (M.disk machine.new) }
+        // Where there is a store, each image then begins it.
+        ensures already { IsErrOf result InitErr.AlreadyStore → IsSettled (M.disk machine.new) × ((M.disk machine.old).tells_files → BeginsStore ((M.disk machine.old).reads Objects)) }
         ensures kept { (M.disk machine.old).tells_files → BeginsStore ((M.disk machine.old).reads Objects) → Stays (M.disk machine.old) (M.disk machine.new) }
         ensures moments { (M.disk machine.old).tells_moments → (BeginsStore ((M.disk machine.old).reads Objects) → ⊥) →
             LeavesOnly (M.disk machine.old) (M.disk machine.new) (OrAtStart (M.disk machine.old) (λ files said. IsNew O.meaning params files × (said ≡ (M.disk machine.old).said))) }

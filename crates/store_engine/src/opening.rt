@@ -3,10 +3,9 @@ ghost use Rattle.std.specs.Prelude.{◌≡◌, ◌<◌, false, List, ℕ, None, 
 ghost use Rattle.disk_model.specs.Disk.{LeavesOnly};
 ghost use Rattle.formats.specs.declared.params.Params.{Params};
 ghost use Rattle.explain_core.specs.World.{World};
-ghost use Rattle.cache_manager.specs.Taking.{ArePartsInUse, IsAfter};
+ghost use Rattle.running_store.specs.Taking.{IsAfter};
 ghost use Rattle.restart.specs.Courses.{restart_course};
 ghost use Rattle.restart.specs.Damage.{IsReported};
-ghost use Rattle.restart.specs.Opening as of_parts;
 ghost use Rattle.restart.specs.Opening.{IsJudged, IsOpening, OpensOn, OpensThrough};
 ghost use Rattle.restart.specs.Starts.{OrAtStart};
 ghost use Rattle.store_engine.specs.Engine.{Opens, Holds, Between, IsAttached, forced_in, opened};
@@ -15,31 +14,8 @@ ghost use Rattle.store_engine.specs.Store.{meaning_in};
 use crate::Engine;
 use disk_model::Machine;
 use oper_core::Oper;
-use restart::{RestartErr, Restarted, Tuning};
+use restart::{RestartErr, Tuning};
 use std::alloc::Global;
-
-// The engine of these parts, none of whose identity writes it has logged.
-fn built<O: Oper>(
-    alloc: Global,
-    answer: Result<Restarted<O>, RestartErr>,
-) -> Result<Engine<O>, RestartErr>
-    requires { IfOk (of_parts.opened answer) ArePartsInUse }
-    ensures same { opened result ≡ of_parts.opened answer }
-    ensures fresh { IfOk result (λ engine. (engine.broken ≡ false) × (engine.group ≡ None) × (engine.identities ≡ 0)) }
-{
-    match answer {
-        Ok(it) => Ok(Engine {
-            alloc,
-            objects: it.objects,
-            log: it.log,
-            graph: it.graph,
-            identities: 0,
-            group: None,
-            broken: false,
-        }),
-        Err(cause) => Err(cause),
-    }
-}
 
 impl<O: Oper> Engine<O> {
     /// Opens the files: what a process before this one left unsynced is synced, the log and the slots are read, what is not
@@ -74,7 +50,7 @@ impl<O: Oper> Engine<O> {
         standing::image_stands::<O>();
         standing::files_show_a_world::<O>();
         restart::a_restart_may_be_made::<O>();
-        let answer = restart::restart(alloc, machine, tuning);
-        built(alloc, answer)
+        let store = restart::restart(alloc, machine, tuning)?;
+        Ok(Engine { store, group: None })
     }
 }

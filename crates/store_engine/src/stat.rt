@@ -4,7 +4,7 @@ ghost use Rattle.dirty_cache.specs.Contents.{AreDirty};
 ghost use Rattle.explain_core.specs.Sound.{IsSound};
 ghost use Rattle.explain_core.specs.World.{World};
 ghost use Rattle.write_graph.specs.Graph.{IsCount, NamesNode};
-ghost use Rattle.cache_manager.specs.Parts.{ShowsStore};
+ghost use Rattle.running_store.specs.Parts.{ShowsStore};
 ghost use Rattle.store_engine.specs.Engine.{IsStat, accepted_in, forced_in, used_in};
 ghost use Rattle.store_engine.specs.Store.{meaning_in};
 
@@ -38,15 +38,15 @@ impl<O: Oper> Engine<O> {
         ensures dirty { (objects : List ℕ) × AreDirty self.now.parts.store.objects.cache objects × (result.dirty ≡ length objects) }
         ensures shown { (p : Params) (file : List ℕ) (w : World O) → IsSound (meaning_in O.meaning p) w → ShowsStore (meaning_in O.meaning p) p file self.now.parts.store w → IsStat O.meaning p w result }
     {
-        cache_manager::dirty_objects_are_counted::<O>();
+        running_store::dirty_objects_are_counted::<O>();
         Stat {
-            nodes: self.graph.node_count(),
-            dirty: self.objects.dirty_count() as u64,
-            uninstalled: self.graph.len(),
-            forced: self.log.forced(),
-            accepted: self.log.accepted(),
-            used: self.log.used(),
-            identities: self.identities,
+            nodes: self.store.graph().node_count(),
+            dirty: self.store.objects().dirty_count() as u64,
+            uninstalled: self.store.graph().len(),
+            forced: self.store.log().forced(),
+            accepted: self.store.log().accepted(),
+            used: self.store.log().used(),
+            identities: self.store.identities(),
         }
     }
 }

@@ -1,5 +1,5 @@
 // What files stand for is fixed by the files.
-ghost use Rattle.std.specs.Prelude.{◌≡◌, ℕ, List};
+ghost use Rattle.std.specs.Prelude.{◌≡◌, List};
 ghost use Rattle.disk_model.specs.Disk.{Files};
 ghost use Rattle.formats.specs.Objects.{bounds_of};
 ghost use Rattle.standing.specs.Standing.{StandsFor};

@@ -1,4 +1,10 @@
-use disk_model::FileNo;
+ghost use Rattle.std.specs.Prelude.{◌≡◌};
+ghost use Rattle.store_engine.specs.Calls.{work_from_check, work_from_install, work_from_trim};
+ghost use Rattle.store_engine.specs.declared.work_err.WorkErr.TheVariants.{DiskFault};
+
+use cache_manager::InstallErr;
+use checkpointing::{CheckErr, TrimErr};
+use disk_model::{Failed, FileNo};
 use thiserror::Error;
 
 /// Why a begin, a force, an install, a drain, a checkpoint or a trim was not done.
@@ -25,4 +31,51 @@ pub enum WorkErr {
     /// Out of memory.
     #[error("out of memory")]
     Memory,
+}
+
+impl From<Failed> for WorkErr {
+    ghost from_gives = { λ _ e. e ≡ DiskFault };
+
+    fn from(_: Failed) -> Self {
+        WorkErr::DiskFault
+    }
+}
+
+impl From<InstallErr> for WorkErr {
+    ghost from_gives = { λ cause e. e ≡ work_from_install cause };
+
+    fn from(cause: InstallErr) -> Self {
+        match cause {
+            InstallErr::LogFull { used, need, limit } => WorkErr::LogFull { used, need, limit },
+            InstallErr::LsnEnd { number } => WorkErr::LsnEnd { number },
+            InstallErr::DiskFault => WorkErr::DiskFault,
+            InstallErr::Memory => WorkErr::Memory,
+        }
+    }
+}
+
+impl From<CheckErr> for WorkErr {
+    ghost from_gives = { λ cause e. e ≡ work_from_check cause };
+
+    fn from(cause: CheckErr) -> Self {
+        match cause {
+            CheckErr::LogFull { used, need, limit } => WorkErr::LogFull { used, need, limit },
+            CheckErr::DiskFault => WorkErr::DiskFault,
+            CheckErr::Memory => WorkErr::Memory,
+        }
+    }
+}
+
+impl From<TrimErr> for WorkErr {
+    ghost from_gives = { λ cause e. e ≡ work_from_trim cause };
+
+    fn from(cause: TrimErr) -> Self {
+        match cause {
+            TrimErr::Exhausted { epoch } => WorkErr::Exhausted { epoch },
+            TrimErr::DiskFault => WorkErr::DiskFault,
+            TrimErr::Damaged { file, place } => WorkErr::Damaged { file, place },
+            TrimErr::LogFull { used, need, limit } => WorkErr::LogFull { used, need, limit },
+            TrimErr::Memory => WorkErr::Memory,
+        }
+    }
 }

@@ -10,14 +10,14 @@ use Rattle.op_codec.specs.AllOps.{all_meaning}
 use Rattle.op_codec.specs.declared.all_ops.AllOps.TheVariants.{Node}
 use Rattle.explain_core.specs.History.{commands_of}
 use Rattle.explain_core.specs.World.{World}
-use Rattle.cache_manager.specs.Taking.{Ending}
-use Rattle.cache_manager.specs.Taking.Ending.{Done, Stopped, Short, Failed}
+use Rattle.running_store.specs.Taking.{Ending}
+use Rattle.running_store.specs.Taking.Ending.{Done, Stopped, Short, Failed}
 use Rattle.execution.specs.declared.exec_err.ExecErr.{ExecErr}
 use Rattle.store_engine.specs.Engine.{EngineView}
 use Rattle.logical_btree.specs.Walk.{size}
 use Rattle.logical_btree.specs.Plan.{Plan, insert_next, insert_plan, is_there}
 use Rattle.logical_btree.specs.declared.refusal.TreeRefusal.TheVariants as refusals
-use Rattle.command_lists.specs.Lists.{AddsFront, IsUnfinished, ending_of}
+use Rattle.store_engine.specs.Lists.{AddsFront, IsUnfinished, ending_of}
 use Rattle.tree_client.specs.Answers.{cause_of, made_of, refused_in}
 use Rattle.tree_client.specs.Finding.{is_last, turn_plan}
 use Rattle.tree_client.specs.Joining.{AddsOn}

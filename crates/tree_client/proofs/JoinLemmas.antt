@@ -7,13 +7,13 @@ use Rattle.formats.specs.declared.params.Params.{Params}
 use Rattle.op_codec.specs.AllOps.{all_meaning}
 use Rattle.explain_core.specs.History.{commands_of}
 use Rattle.explain_core.specs.World.{World}
-use Rattle.cache_manager.specs.Taking.Ending.{Done, Short}
+use Rattle.running_store.specs.Taking.Ending.{Done, Short}
 use Rattle.execution.specs.declared.exec_err.ExecErr.{ExecErr}
 use Rattle.execution.specs.declared.exec_err.ExecErr.TheVariants.{Refused, LogFull, LsnEnd, DiskFault, Damaged, Memory}
 use Rattle.store_engine.specs.Engine.{EngineView, params_of}
-use Rattle.command_lists.specs.Lists.{AddsFront, AreCalls, IsCutOff, ending_of}
-use Rattle.command_lists.specs.Laws.{AddsBehind, CallsBehind, FetchDone, FetchFailed, RunsShort}
-use Rattle.command_lists.specs.Steps.{HasFetched}
+use Rattle.store_engine.specs.Lists.{AddsFront, AreCalls, IsCutOff, ending_of}
+use Rattle.store_engine.specs.ListSteps.{AddsBehind, CallsBehind, FetchDone, FetchFailed, RunsShort}
+use Rattle.store_engine.specs.Commands.{HasFetched}
 use Rattle.std.specs.Prelude.{Result, Ok, Err, IfErr}
 use Rattle.tree_client.specs.Answers.{cause_in, cause_of}
 use Rattle.tree_client.specs.declared.tree_err.TreeErr.{TreeErr}

@@ -13,17 +13,17 @@ use Rattle.op_codec.specs.AllOps.{all_meaning}
 use Rattle.op_codec.specs.declared.all_ops.AllOps.TheVariants.{Node}
 use Rattle.explain_core.specs.History.{commands_of}
 use Rattle.explain_core.specs.World.{World}
-use Rattle.cache_manager.specs.Courses.{Stop}
-use Rattle.cache_manager.specs.Courses.Stop.{Full, At_end}
-use Rattle.cache_manager.specs.Taking.{Ending}
-use Rattle.cache_manager.specs.Taking.Ending.{Done, Stopped}
+use Rattle.running_store.specs.Courses.{Stop}
+use Rattle.running_store.specs.Courses.Stop.{Full, At_end}
+use Rattle.running_store.specs.Taking.{Ending}
+use Rattle.running_store.specs.Taking.Ending.{Done, Stopped}
 use Rattle.execution.specs.declared.exec_err.ExecErr.{ExecErr}
 use Rattle.execution.specs.declared.exec_err.ExecErr.TheVariants.{Refused, LogFull, LsnEnd, DiskFault, Damaged, Memory}
 use Rattle.store_engine.specs.Engine.{EngineView}
 use Rattle.store_engine.specs.Store.{refusal_after}
-use Rattle.command_lists.specs.Lists.{AddsFront, ComesNext, IsCutOff, ending_of}
-use Rattle.command_lists.specs.Laws.{ExecDone, ExecRefused, ExecStopped, ExecFailed}
-use Rattle.command_lists.specs.Steps.{HasRun}
+use Rattle.store_engine.specs.Lists.{AddsFront, ComesNext, IsCutOff, ending_of}
+use Rattle.store_engine.specs.ListSteps.{ExecDone, ExecRefused, ExecStopped, ExecFailed}
+use Rattle.store_engine.specs.Commands.{HasRun}
 use Rattle.tree_client.specs.Answers.{made_of, refused_of}
 use Rattle.tree_client.specs.Due.{IsDue}
 use Rattle.tree_client.specs.Making.{Adds}

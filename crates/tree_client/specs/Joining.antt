@@ -5,11 +5,11 @@ use Rattle.formats.specs.declared.params.Params.{Params}
 use Rattle.op_codec.specs.AllOps.{all_meaning}
 use Rattle.explain_core.specs.History.{commands_of}
 use Rattle.explain_core.specs.World.{World}
-use Rattle.cache_manager.specs.Taking.Ending.{Done}
+use Rattle.running_store.specs.Taking.Ending.{Done}
 use Rattle.execution.specs.declared.exec_err.ExecErr.{ExecErr}
 use Rattle.execution.specs.declared.exec_err.ExecErr.TheVariants.{Memory}
 use Rattle.store_engine.specs.Engine.{EngineView}
-use Rattle.command_lists.specs.Lists.{AddsFront, ending_of}
+use Rattle.store_engine.specs.Lists.{AddsFront, ending_of}
 use Rattle.tree_client.specs.Making.{Adds, Makes, Reads}
 use Rattle.tree_client.specs.Store.{Command, ShowsIn}
 

@@ -5,10 +5,10 @@ use Rattle.formats.specs.declared.params.Params.{Params}
 use Rattle.op_codec.specs.AllOps.{all_meaning}
 use Rattle.explain_core.specs.History.{commands_of}
 use Rattle.explain_core.specs.World.{World}
-use Rattle.cache_manager.specs.Taking.Ending.{Done}
+use Rattle.running_store.specs.Taking.Ending.{Done}
 use Rattle.execution.specs.declared.exec_err.ExecErr.{ExecErr}
 use Rattle.store_engine.specs.Engine.{EngineView}
-use Rattle.command_lists.specs.Lists.{AddsFront, AreCalls, ending_of}
+use Rattle.store_engine.specs.Lists.{AddsFront, AreCalls, ending_of}
 use Rattle.tree_client.specs.Store.{Command, ShowsIn}
 
 module _ (old new : Disk) (before after : EngineView) where

@@ -4,8 +4,8 @@ ghost use Rattle.std.specs.Result.{result_err};
 ghost use Rattle.formats.specs.Objects.{bounds_of};
 ghost use Rattle.formats.specs.declared.params.Params.{Params};
 ghost use Rattle.op_codec.specs.AllOps.{all_meaning};
-ghost use Rattle.cache_manager.specs.Taking.Ending.{Done};
-ghost use Rattle.command_lists.specs.Lists.{AddsFront, AreCalls, ending_of};
+ghost use Rattle.running_store.specs.Taking.Ending.{Done};
+ghost use Rattle.store_engine.specs.Lists.{AddsFront, AreCalls, ending_of};
 ghost use Rattle.logical_btree.specs.Plan.{delete_plan};
 ghost use Rattle.tree_client.specs.Answers.{cause_in, made_of, refused_in};
 ghost use Rattle.tree_client.specs.Store.{Command, Holds, state_of};
@@ -16,11 +16,10 @@ use crate::making::make;
 use crate::tree_err::TreeErr;
 use crate::walking::walk;
 use btree_ops::{NodeOp, Short};
-use command_lists::nothing_is_made;
 use disk_model::Machine;
 use logical_btree::{Tree, commands_are_accepted};
 use op_codec::AllOps;
-use store_engine::Engine;
+use store_engine::{Engine, nothing_is_made};
 
 /// Deletes a key and its value, by one command.
 ///

@@ -3,8 +3,8 @@ ghost use Rattle.std.specs.Prelude.{◌≡◌, [], List, false};
 ghost use Rattle.formats.specs.Objects.{bounds_of};
 ghost use Rattle.formats.specs.declared.params.Params.{Params};
 ghost use Rattle.op_codec.specs.AllOps.{all_meaning};
-ghost use Rattle.cache_manager.specs.Taking.Ending.{Done};
-ghost use Rattle.command_lists.specs.Lists.{AddsFront, AreCalls, ending_of};
+ghost use Rattle.running_store.specs.Taking.Ending.{Done};
+ghost use Rattle.store_engine.specs.Lists.{AddsFront, AreCalls, ending_of};
 ghost use Rattle.logical_btree.specs.Plan.{get_answer};
 ghost use Rattle.tree_client.specs.Answers.{cause_in, told};
 ghost use Rattle.tree_client.specs.Store.{Command, Holds, state_of};
@@ -13,11 +13,10 @@ use crate::finding::value_in;
 use crate::tree_err::TreeErr;
 use crate::walking::walk;
 use btree_ops::Short;
-use command_lists::nothing_is_made;
 use disk_model::Machine;
 use logical_btree::Tree;
 use op_codec::AllOps;
-use store_engine::Engine;
+use store_engine::{Engine, nothing_is_made};
 
 /// The value of a key, if it is there. No command is added.
 ///

@@ -1,11 +1,11 @@
 // What calls make that come one after the other.
 ghost use Rattle.op_codec.specs.AllOps.{all_meaning};
-ghost use Rattle.command_lists.specs.Laws.{CallsBehind};
+ghost use Rattle.store_engine.specs.ListSteps.{CallsBehind};
 ghost use Rattle.tree_client.specs.Joining.{AddsOn, ReadsBehind, ReadsShort};
 
-use command_lists::{calls_go_on, fetch_goes_on, fronts_are_joined};
 use disk_model::Machine;
 use op_codec::AllOps;
+use store_engine::{calls_go_on, fetch_goes_on, fronts_are_joined};
 
 /// A call after calls that only read makes what it makes alone.
 pub(crate) fn reads_go_on<M: Machine>()

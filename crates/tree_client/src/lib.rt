@@ -1,15 +1,12 @@
 //! The calls of an ordered map that stands in a range of a store's objects: `get`, `range`, `insert` and `delete`.
 //!
-//! The one contract: on an engine that stands for a list of commands each call answers what the plan of `logical_btree` on
-//! the map of these commands says, and adds the commands of that plan, or a beginning of them where the log, memory or the
-//! disk ends it. What such commands make of a tree is proved in `logical_btree`: on a range that is a tree each call acts as
-//! on an ordered map (`a_tree_is_an_ordered_map`), a split keeps the tree and its pairs (`a_split_keeps_the_tree`), and no
-//! command of a plan is refused where a value may hold 1,024 bytes (`commands_are_accepted`). A call fetches each node on
-//! its way once, and an insert that splits nothing is one command.
-//!
-//! It depends on store_engine for the engine, on command_lists for what several commands leave, on logical_btree for
-//! trees and plans, on btree_ops and op_codec for nodes and operations, on execution and cache_manager for how a command
-//! ends, and on the machine of disk_model.
+//! The one contract: on an engine that stands for a list of commands each call answers what the plan of `logical_btree`
+//! on the map of these commands says, and adds the commands of that plan, or a beginning of them where the log, memory
+//! or the disk ends it. What such commands make of a tree is proved in `logical_btree`: on a range that is a tree each
+//! call acts as on an ordered map (`a_tree_is_an_ordered_map`), a split keeps the tree and its pairs
+//! (`a_split_keeps_the_tree`), and no command of a plan is refused where a value may hold 1,024 bytes
+//! (`commands_are_accepted`). A call fetches each node on its way once, and an insert that splits nothing is one
+//! command.
 #![tactic(auto)]
 
 mod deleting;

@@ -5,8 +5,8 @@ ghost use Rattle.formats.specs.declared.params.Params.{Params};
 ghost use Rattle.op_codec.specs.AllOps.{all_meaning};
 ghost use Rattle.explain_core.specs.World.{World};
 ghost use Rattle.explain_core.specs.History.{commands_of};
-ghost use Rattle.cache_manager.specs.Taking.Ending.{Done};
-ghost use Rattle.command_lists.specs.Lists.{AreCalls, ending_of};
+ghost use Rattle.running_store.specs.Taking.Ending.{Done};
+ghost use Rattle.store_engine.specs.Lists.{AreCalls, ending_of};
 ghost use Rattle.tree_client.specs.Answers.{cause_in, made_of, refused_of};
 ghost use Rattle.tree_client.specs.Due.{IsDue};
 ghost use Rattle.tree_client.specs.Making.{Adds};
@@ -14,10 +14,9 @@ ghost use Rattle.tree_client.specs.Store.{Command, ShowsIn, state_of};
 
 use crate::tree_err::TreeErr;
 use btree_ops::NodeOp;
-use command_lists::{exec, exec_goes_on, nothing_is_made};
 use disk_model::Machine;
 use op_codec::AllOps;
-use store_engine::Engine;
+use store_engine::{Engine, exec_goes_on, nothing_is_made};
 
 /// Runs a command that is due: it is accepted, or refused as too large where a value may hold fewer than 1,024 bytes.
 pub(crate) fn make<M: Machine>(
@@ -34,7 +33,7 @@ pub(crate) fn make<M: Machine>(
 {
     nothing_is_made(machine, engine);
     exec_goes_on::<AllOps, M>();
-    match exec(engine, machine, AllOps::Node(op)) {
+    match engine.exec(machine, AllOps::Node(op)) {
         Ok(_) => Ok(()),
         Err(cause) => Err(TreeErr::Exec(cause)),
     }

@@ -1,10 +1,10 @@
 // Objects are fetched, and read as nodes.
 ghost use Rattle.std.specs.Prelude.{◌≡◌, ◌<◌, List, ℕ, false, Ok, OnOk, OnErr};
 ghost use Rattle.formats.specs.declared.params.Params.{Params};
-ghost use Rattle.cache_manager.specs.Laid.{values_in};
-ghost use Rattle.cache_manager.specs.Taking.Ending.{Done};
+ghost use Rattle.running_store.specs.Laid.{values_in};
+ghost use Rattle.running_store.specs.Taking.Ending.{Done};
 ghost use Rattle.store_engine.specs.Engine.{IsCached};
-ghost use Rattle.command_lists.specs.Lists.{ending_of};
+ghost use Rattle.store_engine.specs.Lists.{ending_of};
 ghost use Rattle.logical_btree.specs.Walk.{node_at};
 ghost use Rattle.logical_btree.specs.Plan as plans;
 ghost use Rattle.tree_client.specs.Answers.{cause_in};
@@ -14,11 +14,10 @@ ghost use Rattle.tree_client.specs.Store.{Command, Holds, state_of};
 
 use crate::tree_err::TreeErr;
 use btree_ops::Node;
-use command_lists::{fetch, fetch_goes_on, nothing_is_made};
 use disk_model::Machine;
 use logical_btree::Tree;
 use op_codec::AllOps;
-use store_engine::Engine;
+use store_engine::{Engine, fetch_goes_on, nothing_is_made};
 
 /// Sees that an object is cached. An object that there is is not refused.
 fn see<M: Machine>(engine: &mut Engine<AllOps>, machine: &mut M, object: u32) -> Result<(), TreeErr>
@@ -32,7 +31,7 @@ fn see<M: Machine>(engine: &mut Engine<AllOps>, machine: &mut M, object: u32) ->
 {
     nothing_is_made(machine, engine);
     fetch_goes_on::<AllOps, M>();
-    match fetch(engine, machine, object) {
+    match engine.fetch(machine, object) {
         Ok(()) => Ok(()),
         Err(cause) => Err(TreeErr::Exec(cause)),
     }

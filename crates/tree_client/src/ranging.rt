@@ -3,8 +3,8 @@ ghost use Rattle.std.specs.Prelude.{◌≡◌, [], List, false, Ok, Err, IfOk, I
 ghost use Rattle.formats.specs.Objects.{bounds_of};
 ghost use Rattle.formats.specs.declared.params.Params.{Params};
 ghost use Rattle.op_codec.specs.AllOps.{all_meaning};
-ghost use Rattle.cache_manager.specs.Taking.Ending.{Done};
-ghost use Rattle.command_lists.specs.Lists.{AddsFront, AreCalls, ending_of};
+ghost use Rattle.running_store.specs.Taking.Ending.{Done};
+ghost use Rattle.store_engine.specs.Lists.{AddsFront, AreCalls, ending_of};
 ghost use Rattle.logical_btree.specs.Plan.{range_answer};
 ghost use Rattle.tree_client.specs.Answers.{cause_in, cause_of, told};
 ghost use Rattle.tree_client.specs.Store.{Command, Holds, state_of};
@@ -15,12 +15,11 @@ use crate::scanning::{meet, meet_part};
 use crate::tree_err::TreeErr;
 use crate::walking::size;
 use btree_ops::Short;
-use command_lists::nothing_is_made;
 use disk_model::Machine;
 use logical_btree::Tree;
 use op_codec::AllOps;
 use std::alloc::Global;
-use store_engine::Engine;
+use store_engine::{Engine, nothing_is_made};
 
 /// The pairs whose keys are not below `from` and are below `to`, rising. No command is added.
 ///

@@ -1,10 +1,10 @@
 // The pairs of a range of keys.
-ghost use Rattle.std.specs.Prelude.{◌≡◌, ◌<◌, ◌+◌, ◌^◌, ◌++◌, ◌∷◌, [], List, ℕ, false, OnOk, IfErr};
+ghost use Rattle.std.specs.Prelude.{◌≡◌, ◌<◌, ◌+◌, ◌^◌, ◌++◌, ◌∷◌, [], List, false, OnOk, IfErr};
 ghost use Rattle.std.specs.List.{filter};
 ghost use Rattle.formats.specs.declared.params.Params.{Params};
-ghost use Rattle.cache_manager.specs.Taking.Ending.{Done};
+ghost use Rattle.running_store.specs.Taking.Ending.{Done};
 ghost use Rattle.store_engine.specs.Engine.{params_of};
-ghost use Rattle.command_lists.specs.Lists.{ending_of};
+ghost use Rattle.store_engine.specs.Lists.{ending_of};
 ghost use Rattle.logical_btree.specs.Walk as walks;
 ghost use Rattle.tree_client.specs.Answers.{cause_in, cause_of};
 ghost use Rattle.tree_client.specs.Making.{Reads};
@@ -16,11 +16,10 @@ use crate::nodes::node_of;
 use crate::part::{Part, Scan, greater, is_below, lesser};
 use crate::tree_err::TreeErr;
 use btree_ops::{Node, Short};
-use command_lists::nothing_is_made;
 use disk_model::Machine;
 use logical_btree::Tree;
 use op_codec::AllOps;
-use store_engine::Engine;
+use store_engine::{Engine, nothing_is_made};
 
 /// Whether a key is not below one, and below another.
 fn is_asked(key: Short, from: Short, to: Short) -> bool

@@ -1,8 +1,8 @@
 // Free objects of a range, and the splits that take them.
-ghost use Rattle.std.specs.Prelude.{◌≡◌, ◌<◌, ◌≤◌, ◌∷◌, List, ℕ, suc, false, IfOk, IfErr, IfSome};
+ghost use Rattle.std.specs.Prelude.{◌≡◌, ◌<◌, ◌≤◌, ◌∷◌, List, suc, false, IfOk, IfErr, IfSome};
 ghost use Rattle.formats.specs.declared.params.Params.{Params};
-ghost use Rattle.cache_manager.specs.Taking.Ending.{Done};
-ghost use Rattle.command_lists.specs.Lists.{ending_of};
+ghost use Rattle.running_store.specs.Taking.Ending.{Done};
+ghost use Rattle.store_engine.specs.Lists.{ending_of};
 ghost use Rattle.logical_btree.specs.Plan as plans;
 ghost use Rattle.tree_client.specs.Answers.{cause_in, cause_of};
 ghost use Rattle.tree_client.specs.Finding.{IsFirstFree, free_from, split_answer};
@@ -14,10 +14,9 @@ use crate::laws::reads_go_on;
 use crate::nodes::is_free;
 use crate::tree_err::TreeErr;
 use btree_ops::NodeOp;
-use command_lists::nothing_is_made;
 use disk_model::Machine;
 use op_codec::AllOps;
-use store_engine::Engine;
+use store_engine::{Engine, nothing_is_made};
 
 /// The least free object from one on, below another. Objects are fetched up to it alone.
 fn first_free<M: Machine>(

@@ -1,10 +1,10 @@
 // The command that comes next in an insert.
-ghost use Rattle.std.specs.Prelude.{◌≡◌, ◌<◌, ◌≤◌, List, ℕ, suc, false};
+ghost use Rattle.std.specs.Prelude.{◌≡◌, ◌<◌, ◌≤◌, List, suc, false};
 ghost use Rattle.formats.specs.Objects.{bounds_of};
 ghost use Rattle.formats.specs.declared.params.Params.{Params};
-ghost use Rattle.cache_manager.specs.Taking.Ending.{Done};
+ghost use Rattle.running_store.specs.Taking.Ending.{Done};
 ghost use Rattle.store_engine.specs.Engine.{params_of};
-ghost use Rattle.command_lists.specs.Lists.{ending_of};
+ghost use Rattle.store_engine.specs.Lists.{ending_of};
 ghost use Rattle.logical_btree.specs.Plan.{insert_next, split_with};
 ghost use Rattle.tree_client.specs.Answers.{cause_in};
 ghost use Rattle.tree_client.specs.Finding.{free_from, turn_answer};

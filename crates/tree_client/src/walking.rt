@@ -1,9 +1,9 @@
 // The way from the root to a leaf.
-ghost use Rattle.std.specs.Prelude.{◌≡◌, ◌<◌, ◌≤◌, List, ℕ, false, None};
+ghost use Rattle.std.specs.Prelude.{◌≡◌, ◌<◌, ◌≤◌, List, false, None};
 ghost use Rattle.formats.specs.declared.params.Params.{Params};
-ghost use Rattle.cache_manager.specs.Taking.Ending.{Done};
+ghost use Rattle.running_store.specs.Taking.Ending.{Done};
 ghost use Rattle.store_engine.specs.Engine.{params_of};
-ghost use Rattle.command_lists.specs.Lists.{ending_of};
+ghost use Rattle.store_engine.specs.Lists.{ending_of};
 ghost use Rattle.logical_btree.specs.Walk as walks;
 ghost use Rattle.tree_client.specs.Answers.{cause_in};
 ghost use Rattle.tree_client.specs.Finding.{first_of, full_here, way_end};
@@ -15,11 +15,10 @@ use crate::laws::reads_go_on;
 use crate::nodes::node_of;
 use crate::tree_err::TreeErr;
 use btree_ops::{Node, Pairs, Short};
-use command_lists::nothing_is_made;
 use disk_model::Machine;
 use logical_btree::{Tree, child_for, is_full};
 use op_codec::AllOps;
-use store_engine::Engine;
+use store_engine::{Engine, nothing_is_made};
 
 /// The leaf at the end of a way, with its pairs, and the first full node on the way.
 #[derive(Drop)]

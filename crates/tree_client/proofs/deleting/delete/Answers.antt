@@ -7,8 +7,8 @@ use Rattle.op_codec.specs.AllOps.{all_meaning}
 use Rattle.logical_btree.specs.Plan.{Plan, delete_plan}
 use Rattle.logical_btree.specs.declared.refusal.TreeRefusal.{TreeRefusal}
 use Rattle.logical_btree.specs.Walk.{Pair, walk}
-use Rattle.command_lists.specs.Lists.{AddsFront}
-use Rattle.cache_manager.specs.Taking.Ending.{Done}
+use Rattle.store_engine.specs.Lists.{AddsFront}
+use Rattle.running_store.specs.Taking.Ending.{Done}
 use Rattle.tree_client.specs.Answers.{cause_in, made_of, refused_in}
 use Rattle.tree_client.specs.Due.{IsDue}
 use Rattle.tree_client.specs.Store.{Command, state_of}

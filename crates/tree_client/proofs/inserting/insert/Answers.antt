@@ -3,10 +3,10 @@ use Rattle.formats.specs.Objects.{bounds_of}
 use Rattle.formats.specs.declared.params.Params.{Params}
 use Rattle.op_codec.specs.AllOps.{all_meaning}
 use Rattle.explain_core.specs.History.{commands_of}
-use Rattle.cache_manager.specs.Taking.Ending.{Done}
+use Rattle.running_store.specs.Taking.Ending.{Done}
 use Rattle.logical_btree.specs.Plan.{Plan, insert_plan}
 use Rattle.logical_btree.specs.Walk.{size}
-use Rattle.command_lists.specs.Lists.{AddsFront, ending_of}
+use Rattle.store_engine.specs.Lists.{AddsFront, ending_of}
 use Rattle.tree_client.specs.Answers.{cause_of, made_of, refused_in}
 use Rattle.tree_client.specs.Store.{Command, state_of}
 use Rattle.tree_client.proofs.InsertLemmas.{IsUnderWay, answer_planned, as_planned, begins_under_way, holds_now, none_left, now, plan_past, put_on, refused_on, split_on, turn_less}

@@ -3,7 +3,7 @@ use Rattle.formats.specs.declared.params.Params.{Params}
 use Rattle.op_codec.specs.AllOps.{all_meaning}
 use Rattle.explain_core.specs.World.{World}
 use Rattle.logical_btree.specs.Walk.{size}
-use Rattle.command_lists.specs.Lists.{AreCalls}
+use Rattle.store_engine.specs.Lists.{AreCalls}
 use Rattle.tree_client.specs.Store.{Command, ShowsIn}
 use Rattle.tree_client.proofs.InsertLemmas.{IsUnderWay}
 use Rattle.tree_client.proofs.inserting.insert.Given as goal

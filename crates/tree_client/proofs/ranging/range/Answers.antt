@@ -3,8 +3,8 @@ use Rattle.formats.specs.Objects.{bounds_of}
 use Rattle.formats.specs.declared.params.Params.{Params}
 use Rattle.logical_btree.specs.Plan.{range_answer}
 use Rattle.logical_btree.specs.Walk.{scan, scan_from, size}
-use Rattle.cache_manager.specs.Taking.Ending.{Done}
-use Rattle.command_lists.specs.Lists.{ending_of}
+use Rattle.running_store.specs.Taking.Ending.{Done}
+use Rattle.store_engine.specs.Lists.{ending_of}
 use Rattle.tree_client.specs.Answers.{cause_of, told}
 use Rattle.tree_client.specs.Scanning.{AreWithin, span}
 use Rattle.tree_client.specs.Store.{state_of}

@@ -3,8 +3,8 @@ use Rattle.btree_ops.specs.declared.node.Node.{Node}
 use Rattle.logical_btree.specs.Walk.{Pair, is_within, scan_from}
 use Rattle.tree_client.specs.Scanning.{IsBad, span, weight}
 use Rattle.tree_client.specs.Answers.{cause_of}
-use Rattle.command_lists.specs.Lists.{ending_of}
-use Rattle.cache_manager.specs.Taking.Ending.{Done}
+use Rattle.store_engine.specs.Lists.{ending_of}
+use Rattle.running_store.specs.Taking.Ending.{Done}
 use Rattle.tree_client.specs.Store.{state_of}
 use Rattle.tree_client.specs.declared.tree_err.TreeErr.{TreeErr}
 use Rattle.std.specs.List.{filter}

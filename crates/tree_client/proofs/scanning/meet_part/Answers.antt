@@ -3,8 +3,8 @@ use Rattle.formats.specs.declared.params.Params.{Params}
 use Rattle.tree_client.specs.Store.{state_of}
 use Rattle.tree_client.specs.declared.part.Part.{Part}
 use Rattle.oper_core.specs.State.{start}
-use Rattle.cache_manager.specs.Taking.Ending.{Done}
-use Rattle.command_lists.specs.Lists.{ending_of}
+use Rattle.running_store.specs.Taking.Ending.{Done}
+use Rattle.store_engine.specs.Lists.{ending_of}
 use Rattle.tree_client.specs.Answers.{cause_of}
 use Rattle.tree_client.specs.Making.{Reads}
 use Rattle.tree_client.specs.Scanning.{IsBad, part_scan}

@@ -1,6 +1,6 @@
 use Rattle.std.proofs.Common.{◌≡◌, ◌<◌, refl, sym, ◌∙◌, true, false, None, [], arith}
-use Rattle.command_lists.specs.Lists.{ending_of}
-use Rattle.cache_manager.specs.Taking.Ending.{Done}
+use Rattle.store_engine.specs.Lists.{ending_of}
+use Rattle.running_store.specs.Taking.Ending.{Done}
 use Rattle.logical_btree.specs.Plan as plans
 use Rattle.tree_client.specs.Answers.{cause_of}
 use Rattle.tree_client.specs.Store.{state_of}

@@ -1,7 +1,7 @@
 use Rattle.std.proofs.Common.{arith}
 use Rattle.std.specs.Prelude.{None}
 use Rattle.op_codec.specs.AllOps.{all_meaning}
-use Rattle.command_lists.specs.ListLaws.{calls_unbroken}
+use Rattle.store_engine.specs.ListLaws.{calls_unbroken}
 use Rattle.app_steps.proofs.Counting.{begins}
 use Rattle.app_steps.proofs.Ending.{all_answer, all_front, ends_answer, ends_calls, ends_front, one_more}
 use Rattle.app_steps.proofs.app.App.run.Goals as goal

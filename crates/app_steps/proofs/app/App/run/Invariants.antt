@@ -4,7 +4,7 @@ use Rattle.formats.specs.declared.params.Params.{Params}
 use Rattle.op_codec.specs.AllOps.{all_meaning}
 use Rattle.op_codec.specs.declared.all_ops.AllOps.{AllOps}
 use Rattle.store_engine.specs.Engine.{Holds}
-use Rattle.command_lists.specs.Lists.{AreCalls}
+use Rattle.store_engine.specs.Lists.{AreCalls}
 use Rattle.app_steps.proofs.Ending.{IsMade}
 use Rattle.app_steps.proofs.app.App.run.Given as goal
 

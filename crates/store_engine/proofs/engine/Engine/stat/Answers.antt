@@ -2,38 +2,56 @@ use Rattle.std.proofs.Common.{◌≡◌, ◌∙◌, ap, sym, subst, ℕ, List, l
 use Rattle.std.specs.List.Sorted.{IsStrictlyIncreasing}
 use Rattle.formats.specs.Objects.{bounds_of}
 use Rattle.dirty_cache.specs.Contents.{AreDirty}
+use Rattle.install_order.specs.declared.entry.Entry.{Entry}
+use Rattle.log_frames.specs.LogView.{used_of}
+use Rattle.log_records.specs.RecordLog.{RecordLogView}
+use Rattle.running_store.specs.Laid.{Laid}
 use Rattle.write_graph.specs.Graph.{IsCount, NamesNode, numbers}
 use Rattle.store_engine.specs.Engine.{EngineView, accepted_in, forced_in, used_in}
 use Rattle.store_engine.specs.Store.{meaning_in}
 use Rattle.store_engine.proofs.Stats.{entries_counted, nodes_counted, small_in}
+use Rattle.store_engine.proofs.engine.Engine.stat.Given.{Over}
+use Rattle.store_engine.proofs.engine.Engine.stat.Goals.{After-identities}
 use Rattle.store_engine.proofs.engine.Engine.stat.Goals as goal
 
 pub returns-clause-counts : goal.returns-clause-counts
 returns-clause-counts g c = (
-  c.used.ensures ∙ ap (λ (e : EngineView). used_in e) c.self.view_is,
-  c.accepted.ensures ∙ ap (λ (e : EngineView). accepted_in e) c.self.view_is,
-  c.forced.ensures ∙ ap (λ (e : EngineView). forced_in e) c.self.view_is,
-  ap (λ (e : EngineView). e.identities) c.self.view_is,
+  c.used.ensures ∙ ap (λ (l : RecordLogView). used_of l.log) c.log-3.ensures ∙ ap (λ (e : EngineView). used_in e) c.self.view_is,
+  c.accepted.ensures ∙ ap (λ (l : RecordLogView). l.accepted) c.log-2.ensures ∙ ap (λ (e : EngineView). accepted_in e) c.self.view_is,
+  c.forced.ensures ∙ ap (λ (l : RecordLogView). l.forced) c.log.ensures ∙ ap (λ (e : EngineView). forced_in e) c.self.view_is,
+  c.identities.ensures ∙ ap (λ (e : EngineView). e.identities) c.self.view_is,
 )
+
+module _ (g : Over) (c : After-identities g) where
+  entries_are : c.graph.result.now.entries ≡ c.args.self.now.parts.store.entries
+  entries_are = c.graph.ensures ∙ ap (λ (e : EngineView). e.parts.store.entries) c.self.view_is
+
+  listed : c.graph-2.result.now.entries ≡ c.args.self.now.parts.store.entries
+  listed = c.graph-2.ensures ∙ ap (λ (e : EngineView). e.parts.store.entries) c.self.view_is
+
+  nodes : IsCount (NamesNode c.args.self.now.parts.store.entries) c.node_count.result
+  nodes = subst (λ (l : List Entry). IsCount (NamesNode l) c.node_count.result) entries_are c.node_count.ensures.count
+
+  dirty : (objects : List ℕ) × AreDirty c.args.self.now.parts.store.objects.cache objects × (c.dirty_count.result ≡ length objects)
+  dirty =
+      subst (λ (o : Laid). (objects : List ℕ) × AreDirty o.cache objects × (c.dirty_count.result ≡ length objects)) (c.objects.ensures ∙ ap (λ (e : EngineView). e.parts.store.objects) c.self.view_is) c.dirty_count.ensures
 
 pub returns-clause-own : goal.returns-clause-own
-returns-clause-own g c = (
-  c.len.ensures.count ∙ ap (λ (e : EngineView). length e.parts.store.entries) c.self.view_is,
-  subst (λ (e : EngineView). IsCount (NamesNode e.parts.store.entries) c.node_count.result) c.self.view_is c.node_count.ensures.count,
-)
+returns-clause-own g c =
+    let at = (goal.at.returns-clause-own g c).After-identities in (c.len.ensures.count ∙ ap (λ (l : List Entry). length l) (listed g at), nodes g at)
 
 pub returns-clause-dirty : goal.returns-clause-dirty
-returns-clause-dirty g c = subst (λ (e : EngineView). (objects : List ℕ) × AreDirty e.parts.store.objects.cache objects × (c.dirty_count.result ≡ length objects)) c.self.view_is c.dirty_count.ensures
+returns-clause-dirty g c = dirty g (goal.at.returns-clause-dirty g c).After-identities
 
 pub returns-clause-shown : goal.returns-clause-shown
 returns-clause-shown g c = λ p file w sound shows.
+    let at = (goal.at.returns-clause-shown g c).After-identities in
     let m = meaning_in g.O.Oper.meaning p in
-    let lawful = g.met.O.Oper.lawful (bounds_of p) (small_in m p file c.args.self.now.parts.store w shows) in
-    let rising = subst (λ (e : EngineView). IsStrictlyIncreasing (numbers e.parts.store.entries)) c.self.view_is c.len.ensures.rising in
-    let nodes = subst (λ (e : EngineView). IsCount (NamesNode e.parts.store.entries) c.node_count.result) c.self.view_is c.node_count.ensures.count in
-    let dirty = subst (λ (e : EngineView). (objects : List ℕ) × AreDirty e.parts.store.objects.cache objects × (c.dirty_count.result ≡ length objects)) c.self.view_is c.dirty_count.ensures in
+    let it = c.args.self.now.parts.store in
+    let lawful = g.met.O.Oper.lawful (bounds_of p) (small_in m p file it w shows) in
+    let rising = subst (λ (l : List Entry). IsStrictlyIncreasing (numbers l)) (listed g at) c.len.ensures.rising in
     record {
-      nodes = nodes_counted m lawful p file c.args.self.now.parts.store w sound shows c.node_count.result nodes;
-      dirty = dirty.2 ∙ sym (c.dirty_objects_are_counted.ensures p file c.args.self.now.parts.store w dirty.0 shows dirty.1);
-      uninstalled = c.len.ensures.count ∙ ap (λ (e : EngineView). length e.parts.store.entries) c.self.view_is ∙ entries_counted m lawful p file c.args.self.now.parts.store w sound shows rising;
+      nodes = nodes_counted m lawful p file it w sound shows c.node_count.result (nodes g at);
+      dirty = (dirty g at).2 ∙ sym (c.dirty_objects_are_counted.ensures p file it w (dirty g at).0 shows (dirty g at).1);
+      uninstalled = c.len.ensures.count ∙ ap (λ (l : List Entry). length l) (listed g at) ∙ entries_counted m lawful p file it w sound shows rising;
     }

@@ -1,6 +1,0 @@
-use Rattle.command_lists.proofs.Machines.{calls_joined}
-use Rattle.command_lists.proofs.laws.calls_go_on.Goals as goal
-
-pub returns : goal.returns
-returns g c = λ old mid new before between after error first second.
-    calls_joined g.O.Oper.meaning (g.M.Machine.disk old) (g.M.Machine.disk mid) (g.M.Machine.disk new) before between after error (g.met.M.Machine.lawful new) first second

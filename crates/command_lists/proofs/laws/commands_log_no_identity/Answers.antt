@@ -1,5 +1,0 @@
-use Rattle.command_lists.proofs.Courses.{none_logged_in}
-use Rattle.command_lists.proofs.laws.commands_log_no_identity.Goals as goal
-
-pub returns : goal.returns
-returns g c = λ b limit ops w used. none_logged_in (g.O.Oper.meaning b) limit ops w used

@@ -1,4 +1,0 @@
-pub mod Lists
-pub mod Steps
-pub mod Laws
-pub mod ListLaws

@@ -1,0 +1,44 @@
+use Rattle.std.proofs.Common.{◌≡◌, subst, refl, Ok, Err, None}
+use Rattle.std.specs.Prelude.{Result}
+use Rattle.disk_model.specs.Disk.{Disk}
+use Rattle.checkpointing.specs.declared.check_err.CheckErr.{CheckErr}
+use Rattle.store_engine.specs.Calls.{IsChecking}
+use Rattle.store_engine.specs.Engine.{EngineView, engine_of}
+use Rattle.store_engine.proofs.Calls.{as_alone}
+use Rattle.store_engine.proofs.Ways.{error_from}
+use Rattle.store_engine.proofs.Works.{checking}
+use Rattle.store_engine.proofs.engine.Engine.checkpoint.Given.{Over}
+use Rattle.store_engine.proofs.engine.Engine.checkpoint.Goals.{After-checkpoint}
+use Rattle.store_engine.proofs.engine.Engine.checkpoint.Goals as goal
+
+module _ (g : Over) (c : After-checkpoint g) where
+  abbrev old : Disk
+  old = g.M.Machine.disk c.args.machine.now
+
+  abbrev new : Disk
+  new = g.M.Machine.disk c.checkpoint.new.machine
+
+  abbrev after : EngineView
+  after = engine_of c.checkpoint.new.store c.self.inside.group
+
+  worked : c.args.self.now.group ≡ None → IsChecking g.O.Oper.meaning old new c.args.self.now after c.checkpoint.result
+  worked none =
+      as_alone c.self.inside.store c.checkpoint.new.store c.self.inside.group c.args.self.now c.self.view_is none (λ before after. IsChecking g.O.Oper.meaning old new before after c.checkpoint.result)
+      (checking g.O.Oper.meaning old new c.self.inside.store c.checkpoint.new.store (λ b w steps. c.every_run_keeps.ensures.from_sound b w steps) (λ p files w. c.image_stands.ensures p files w) c.checkpoint.result
+      c.checkpoint.ensures.call c.checkpoint.ensures.takes (λ b w used small running. c.checkpoint_may_be_taken.ensures b w used small running))
+
+pub returns-in_err-checkpoint-clause-alone : goal.returns-in_err-checkpoint-clause-alone
+returns-in_err-checkpoint-clause-alone g c = λ none.
+    let at = (goal.at.returns-in_err-checkpoint-clause-alone g c).After-checkpoint in (
+      Err c.in_err-checkpoint.field-0.0,
+      error_from c.from_residual-in_err-checkpoint.result _ c.from_residual-in_err-checkpoint.ensures.1,
+      subst (λ (r : Result _ CheckErr). IsChecking g.O.Oper.meaning (old g at) (new g at) c.args.self.now (after g at) r) c.in_err-checkpoint.was (worked g at none),
+    )
+
+pub returns-clause-alone : goal.returns-clause-alone
+returns-clause-alone g c = λ none.
+    let at = (goal.at.returns-clause-alone g c).After-checkpoint in (
+      Ok c.in_ok-checkpoint.field-0,
+      refl,
+      subst (λ (r : Result _ CheckErr). IsChecking g.O.Oper.meaning (old g at) (new g at) c.args.self.now (after g at) r) c.in_ok-checkpoint.was (worked g at none),
+    )

@@ -1,0 +1,44 @@
+use Rattle.std.proofs.Common.{◌≡◌, subst, refl, Ok, Err, None}
+use Rattle.std.specs.Prelude.{Result}
+use Rattle.disk_model.specs.Disk.{Disk}
+use Rattle.cache_manager.specs.declared.install_err.InstallErr.{InstallErr}
+use Rattle.store_engine.specs.Calls.{IsDraining}
+use Rattle.store_engine.specs.Engine.{EngineView, engine_of}
+use Rattle.store_engine.proofs.Calls.{as_alone}
+use Rattle.store_engine.proofs.Ways.{error_from}
+use Rattle.store_engine.proofs.Works.{draining}
+use Rattle.store_engine.proofs.engine.Engine.drain.Given.{Over}
+use Rattle.store_engine.proofs.engine.Engine.drain.Goals.{After-drain}
+use Rattle.store_engine.proofs.engine.Engine.drain.Goals as goal
+
+module _ (g : Over) (c : After-drain g) where
+  abbrev old : Disk
+  old = g.M.Machine.disk c.args.machine.now
+
+  abbrev new : Disk
+  new = g.M.Machine.disk c.drain.new.machine
+
+  abbrev after : EngineView
+  after = engine_of c.drain.new.store c.self.inside.group
+
+  worked : c.args.self.now.group ≡ None → IsDraining g.O.Oper.meaning old new c.args.self.now after c.drain.result
+  worked none =
+      as_alone c.self.inside.store c.drain.new.store c.self.inside.group c.args.self.now c.self.view_is none (λ before after. IsDraining g.O.Oper.meaning old new before after c.drain.result)
+      (draining g.O.Oper.meaning old new c.self.inside.store c.drain.new.store (λ b w steps. c.every_run_keeps.ensures.from_sound b w steps) (λ p files w. c.image_stands.ensures p files w) c.drain.result
+      c.drain.ensures.call c.drain.ensures.takes c.drain.ensures.count c.drain.ensures.bounded c.drain.ensures.drained c.drain.ensures.clean (λ b w used small running. c.drain_may_be_taken.ensures.taken b 0 w used small running))
+
+pub returns-in_err-drain-clause-alone : goal.returns-in_err-drain-clause-alone
+returns-in_err-drain-clause-alone g c = λ none.
+    let at = (goal.at.returns-in_err-drain-clause-alone g c).After-drain in (
+      Err c.in_err-drain.field-0.0,
+      error_from c.from_residual-in_err-drain.result _ c.from_residual-in_err-drain.ensures.1,
+      subst (λ (r : Result _ InstallErr). IsDraining g.O.Oper.meaning (old g at) (new g at) c.args.self.now (after g at) r) c.in_err-drain.was (worked g at none),
+    )
+
+pub returns-clause-alone : goal.returns-clause-alone
+returns-clause-alone g c = λ none.
+    let at = (goal.at.returns-clause-alone g c).After-drain in (
+      Ok c.in_ok-drain.field-0,
+      refl,
+      subst (λ (r : Result _ InstallErr). IsDraining g.O.Oper.meaning (old g at) (new g at) c.args.self.now (after g at) r) c.in_ok-drain.was (worked g at none),
+    )

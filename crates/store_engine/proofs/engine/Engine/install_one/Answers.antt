@@ -1,0 +1,44 @@
+use Rattle.std.proofs.Common.{◌≡◌, subst, refl, Ok, Err, None}
+use Rattle.std.specs.Prelude.{Result}
+use Rattle.disk_model.specs.Disk.{Disk}
+use Rattle.cache_manager.specs.declared.install_err.InstallErr.{InstallErr}
+use Rattle.store_engine.specs.Calls.{IsInstalling}
+use Rattle.store_engine.specs.Engine.{EngineView, engine_of}
+use Rattle.store_engine.proofs.Calls.{as_alone}
+use Rattle.store_engine.proofs.Ways.{error_from}
+use Rattle.store_engine.proofs.Works.{installing}
+use Rattle.store_engine.proofs.engine.Engine.install_one.Given.{Over}
+use Rattle.store_engine.proofs.engine.Engine.install_one.Goals.{After-install_one}
+use Rattle.store_engine.proofs.engine.Engine.install_one.Goals as goal
+
+module _ (g : Over) (c : After-install_one g) where
+  abbrev old : Disk
+  old = g.M.Machine.disk c.args.machine.now
+
+  abbrev new : Disk
+  new = g.M.Machine.disk c.install_one.new.machine
+
+  abbrev after : EngineView
+  after = engine_of c.install_one.new.store c.self.inside.group
+
+  worked : c.args.self.now.group ≡ None → IsInstalling g.O.Oper.meaning old new c.args.self.now after c.install_one.result
+  worked none =
+      as_alone c.self.inside.store c.install_one.new.store c.self.inside.group c.args.self.now c.self.view_is none (λ before after. IsInstalling g.O.Oper.meaning old new before after c.install_one.result)
+      (installing g.O.Oper.meaning old new c.self.inside.store c.install_one.new.store (λ b w steps. c.every_run_keeps.ensures.from_sound b w steps) (λ p files w. c.image_stands.ensures p files w) c.install_one.result
+      c.install_one.ensures.call c.install_one.ensures.takes c.install_one.ensures.told c.install_one.ensures.tells (λ b w used small running. c.install_may_be_taken.ensures b 0 w used small running))
+
+pub returns-in_err-install_one-clause-alone : goal.returns-in_err-install_one-clause-alone
+returns-in_err-install_one-clause-alone g c = λ none.
+    let at = (goal.at.returns-in_err-install_one-clause-alone g c).After-install_one in (
+      Err c.in_err-install_one.field-0.0,
+      error_from c.from_residual-in_err-install_one.result _ c.from_residual-in_err-install_one.ensures.1,
+      subst (λ (r : Result _ InstallErr). IsInstalling g.O.Oper.meaning (old g at) (new g at) c.args.self.now (after g at) r) c.in_err-install_one.was (worked g at none),
+    )
+
+pub returns-clause-alone : goal.returns-clause-alone
+returns-clause-alone g c = λ none.
+    let at = (goal.at.returns-clause-alone g c).After-install_one in (
+      Ok c.in_ok-install_one.field-0,
+      refl,
+      subst (λ (r : Result _ InstallErr). IsInstalling g.O.Oper.meaning (old g at) (new g at) c.args.self.now (after g at) r) c.in_ok-install_one.was (worked g at none),
+    )

@@ -1,0 +1,44 @@
+use Rattle.std.proofs.Common.{◌≡◌, subst, refl, Ok, Err, None}
+use Rattle.std.specs.Prelude.{Result}
+use Rattle.disk_model.specs.Disk.{Disk}
+use Rattle.checkpointing.specs.declared.trim_err.TrimErr.{TrimErr}
+use Rattle.store_engine.specs.Calls.{IsTrimming}
+use Rattle.store_engine.specs.Engine.{EngineView, engine_of}
+use Rattle.store_engine.proofs.Calls.{as_alone}
+use Rattle.store_engine.proofs.Ways.{error_from}
+use Rattle.store_engine.proofs.Works.{trimming}
+use Rattle.store_engine.proofs.engine.Engine.trim.Given.{Over}
+use Rattle.store_engine.proofs.engine.Engine.trim.Goals.{After-trim}
+use Rattle.store_engine.proofs.engine.Engine.trim.Goals as goal
+
+module _ (g : Over) (c : After-trim g) where
+  abbrev old : Disk
+  old = g.M.Machine.disk c.args.machine.now
+
+  abbrev new : Disk
+  new = g.M.Machine.disk c.trim.new.machine
+
+  abbrev after : EngineView
+  after = engine_of c.trim.new.store c.self.inside.group
+
+  worked : c.args.self.now.group ≡ None → IsTrimming g.O.Oper.meaning old new c.args.self.now after c.trim.result
+  worked none =
+      as_alone c.self.inside.store c.trim.new.store c.self.inside.group c.args.self.now c.self.view_is none (λ before after. IsTrimming g.O.Oper.meaning old new before after c.trim.result)
+      (trimming g.O.Oper.meaning old new c.self.inside.store c.trim.new.store (λ b w steps. c.every_run_keeps.ensures.from_sound b w steps) (λ p files w. c.image_stands.ensures p files w) c.trim.result
+      c.trim.ensures.call c.trim.ensures.takes c.trim.ensures.epoch c.trim.ensures.undamaged c.trim.ensures.damage c.trim.ensures.long c.trim.ensures.emptied (λ b w used small running. c.trim_may_be_taken.ensures b w c.self.inside.store.parts.log.log.header.epoch used small running))
+
+pub returns-in_err-trim-clause-alone : goal.returns-in_err-trim-clause-alone
+returns-in_err-trim-clause-alone g c = λ none.
+    let at = (goal.at.returns-in_err-trim-clause-alone g c).After-trim in (
+      Err c.in_err-trim.field-0.0,
+      error_from c.from_residual-in_err-trim.result _ c.from_residual-in_err-trim.ensures.1,
+      subst (λ (r : Result _ TrimErr). IsTrimming g.O.Oper.meaning (old g at) (new g at) c.args.self.now (after g at) r) c.in_err-trim.was (worked g at none),
+    )
+
+pub returns-clause-alone : goal.returns-clause-alone
+returns-clause-alone g c = λ none.
+    let at = (goal.at.returns-clause-alone g c).After-trim in (
+      Ok c.in_ok-trim.field-0,
+      refl,
+      subst (λ (r : Result _ TrimErr). IsTrimming g.O.Oper.meaning (old g at) (new g at) c.args.self.now (after g at) r) c.in_ok-trim.was (worked g at none),
+    )

@@ -1,0 +1,123 @@
+// The calls that no group allows.
+ghost use Rattle.std.specs.Prelude.{◌≡◌, ℕ, false, None, IfSome, Result};
+ghost use Rattle.disk_model.specs.declared.machine.Failed.{Failed as ForceFailure};
+ghost use Rattle.cache_manager.specs.declared.install.Install.{Install as Installs};
+ghost use Rattle.cache_manager.specs.declared.install_err.InstallErr.{InstallErr as InstallFailure};
+ghost use Rattle.checkpointing.specs.declared.check_err.CheckErr.{CheckErr as CheckFailure};
+ghost use Rattle.checkpointing.specs.declared.trim_err.TrimErr.{TrimErr as TrimFailure};
+ghost use Rattle.store_engine.specs.Calls.{IsBeginning, IsChecking, IsDraining, IsForcing, IsInstalling, IsRefused, IsTrimming, refused_in, work_of_check, work_of_force, work_of_install, work_of_trim};
+ghost use Rattle.store_engine.specs.Engine.{group_size};
+
+use crate::Engine;
+use crate::work_err::WorkErr;
+use cache_manager::Install;
+use disk_model::Machine;
+use oper_core::Oper;
+
+impl<O: Oper> Engine<O> {
+    // Refuses a call while a group is open, with the number of its commands.
+    fn alone(&self) -> Result<(), WorkErr>
+        requires unbroken { self.now.broken ≡ false }
+        ensures { result ≡ refused_in (group_size self.now) }
+    {
+        match self.group() {
+            Some(commands) => Err(WorkErr::InGroup { commands }),
+            None => Ok(()),
+        }
+    }
+
+    /// Forces the log, and opens a group: of the commands from here to its end a crash leaves all or none. In a group it
+    /// answers `InGroup`.
+    pub fn begin<M: Machine>(&mut self, machine: &mut M) -> Result<(), WorkErr>
+        requires unbroken { self.old.broken ≡ false }
+        ensures in_group { IfSome (group_size self.old) (λ size. IsRefused size machine.old machine.new self.old self.new result) }
+        ensures alone { self.old.group ≡ None → (answer : Result _ ForceFailure) × (result ≡ work_of_force answer) × IsBeginning O.meaning (M.disk machine.old) (M.disk machine.new) self.old self.new answer }
+    {
+        explain_core::every_run_keeps::<O>();
+        explain_core::begin_keeps::<O>();
+        standing::image_stands::<O>();
+        cache_manager::force_may_be_taken::<O>();
+        self.alone()?;
+        self.store.force(machine)?;
+        self.group = Some(self.store.log().next());
+        Ok(())
+    }
+
+    /// Forces the log. It answers how many commands are stable now; in a group `InGroup`.
+    pub fn force<M: Machine>(&mut self, machine: &mut M) -> Result<u64, WorkErr>
+        requires unbroken { self.old.broken ≡ false }
+        ensures in_group { IfSome (group_size self.old) (λ size. IsRefused size machine.old machine.new self.old self.new result) }
+        ensures alone { self.old.group ≡ None → (answer : Result ℕ ForceFailure) × (result ≡ work_of_force answer) × IsForcing O.meaning (M.disk machine.old) (M.disk machine.new) self.old self.new answer }
+    {
+        explain_core::every_run_keeps::<O>();
+        standing::image_stands::<O>();
+        cache_manager::force_may_be_taken::<O>();
+        self.alone()?;
+        self.store.force(machine)?;
+        Ok(self.store.log().forced())
+    }
+
+    /// Installs the minimal node of the least name. While it has two objects or more to flush, identity writes of all but
+    /// the longest are logged; then all that waits is forced, the one object, if there is one, is flushed, and the node
+    /// leaves the graph.
+    ///
+    /// It answers `InGroup` in a group, and `LogFull` and `LsnEnd` where an identity write has no place; all that waited is
+    /// forced then.
+    pub fn install_one<M: Machine>(&mut self, machine: &mut M) -> Result<Install, WorkErr>
+        requires unbroken { self.old.broken ≡ false }
+        ensures in_group { IfSome (group_size self.old) (λ size. IsRefused size machine.old machine.new self.old self.new result) }
+        ensures alone { self.old.group ≡ None → (answer : Result Installs InstallFailure) × (result ≡ work_of_install answer) × IsInstalling O.meaning (M.disk machine.old) (M.disk machine.new) self.old self.new answer }
+    {
+        explain_core::every_run_keeps::<O>();
+        standing::image_stands::<O>();
+        cache_manager::install_may_be_taken::<O>();
+        self.alone()?;
+        Ok(cache_manager::install_one(&mut self.store, machine, 0)?)
+    }
+
+    /// Installs the minimal node of the least name until no node is left. It answers how many were installed; in a group
+    /// `InGroup`.
+    pub fn drain<M: Machine>(&mut self, machine: &mut M) -> Result<u64, WorkErr>
+        requires unbroken { self.old.broken ≡ false }
+        ensures in_group { IfSome (group_size self.old) (λ size. IsRefused size machine.old machine.new self.old self.new result) }
+        ensures alone { self.old.group ≡ None → (answer : Result ℕ InstallFailure) × (result ≡ work_of_install answer) × IsDraining O.meaning (M.disk machine.old) (M.disk machine.new) self.old self.new answer }
+    {
+        explain_core::every_run_keeps::<O>();
+        standing::image_stands::<O>();
+        cache_manager::drain_may_be_taken::<O>();
+        self.alone()?;
+        Ok(cache_manager::drain(&mut self.store, machine, 0)?)
+    }
+
+    /// Takes a check of where a redo begins now, and forces it. Where the log has no room for it, what waits is forced, and
+    /// `LogFull` is answered. A check has no number, so `LsnEnd` is not. In a group it answers `InGroup`.
+    pub fn checkpoint<M: Machine>(&mut self, machine: &mut M) -> Result<(), WorkErr>
+        requires unbroken { self.old.broken ≡ false }
+        ensures in_group { IfSome (group_size self.old) (λ size. IsRefused size machine.old machine.new self.old self.new result) }
+        ensures alone { self.old.group ≡ None → (answer : Result _ CheckFailure) × (result ≡ work_of_check answer) × IsChecking O.meaning (M.disk machine.old) (M.disk machine.new) self.old self.new answer }
+    {
+        explain_core::every_run_keeps::<O>();
+        standing::image_stands::<O>();
+        checkpointing::checkpoint_may_be_taken::<O>();
+        self.alone()?;
+        Ok(checkpointing::checkpoint(&mut self.store, machine)?)
+    }
+
+    /// Forces the log and puts another in its place: the commands and identity writes from the least number in the write
+    /// graph on, or none where the graph is empty, and after them a check taken now.
+    ///
+    /// The first that applies is answered: `InGroup`; `Exhausted`, where no greater epoch is left; after the force `Damaged`,
+    /// where the log that is read breaks its format, at the first place where it does, `LogFull` and `Memory`. A log that is
+    /// as the engine left it is never `Damaged`.
+    pub fn trim<M: Machine>(&mut self, machine: &mut M) -> Result<(), WorkErr>
+        requires unbroken { self.old.broken ≡ false }
+        ensures in_group { IfSome (group_size self.old) (λ size. IsRefused size machine.old machine.new self.old self.new result) }
+        ensures alone { self.old.group ≡ None → (answer : Result _ TrimFailure) × (result ≡ work_of_trim answer) × IsTrimming O.meaning (M.disk machine.old) (M.disk machine.new) self.old self.new answer }
+    {
+        explain_core::every_run_keeps::<O>();
+        standing::image_stands::<O>();
+        checkpointing::trim_may_be_taken::<O>();
+        self.alone()?;
+        Ok(checkpointing::trim(&mut self.store, machine)?)
+    }
+}
