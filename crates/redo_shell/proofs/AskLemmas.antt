@@ -9,11 +9,11 @@ use Rattle.formats.specs.Objects.{bounds_of}
 use Rattle.formats.specs.declared.params.Params.{Params}
 use Rattle.oper_core.specs.State.{State}
 use Rattle.op_codec.specs.AllOps.{all_meaning}
-use Rattle.cache_manager.specs.Courses.{course}
-use Rattle.cache_manager.specs.Courses.Stop.{Through}
-use Rattle.cache_manager.specs.Taking.{Ending}
-use Rattle.cache_manager.specs.Taking.Ending.{Done, Stopped, Short, Failed}
-use Rattle.command_lists.specs.Lists.{AddsFront, ending_of}
+use Rattle.running_store.specs.Courses.{course}
+use Rattle.running_store.specs.Courses.Stop.{Through}
+use Rattle.running_store.specs.Taking.{Ending}
+use Rattle.running_store.specs.Taking.Ending.{Done, Stopped, Short, Failed}
+use Rattle.store_engine.specs.Lists.{AddsFront, ending_of}
 use Rattle.logical_btree.specs.Plan.{get_answer, get_on, is_there, range_answer, range_on}
 use Rattle.std.specs.FinMap.Entries.{find}
 use Rattle.btree_ops.specs.Entries.{byte_order}

@@ -11,10 +11,11 @@ use Rattle.oper_core.specs.declared.refusal.Refusal.TheVariants.{NoObject}
 use Rattle.formats.specs.declared.params.Params.{Params}
 use Rattle.explain_core.specs.History.{commands_of}
 use Rattle.explain_core.specs.World.{World, end_of}
-use Rattle.cache_manager.specs.Courses.{Course, Stop, course, grown}
-use Rattle.cache_manager.specs.Courses.Stop.{Through, Full, At_end, Worn}
-use Rattle.command_lists.specs.Lists.{commands_course}
-use Rattle.execution.specs.Courses.{append_course, command_length, needed}
+use Rattle.running_store.specs.Courses.{Course, Stop, course, grown}
+use Rattle.running_store.specs.Courses.Stop.{Through, Full, At_end, Worn}
+use Rattle.store_engine.specs.Lists.{commands_course}
+use Rattle.running_store.specs.Commands.{command_length}
+use Rattle.execution.specs.Courses.{append_course, needed}
 use Rattle.store_engine.specs.Engine.{needed_in}
 use Rattle.script_lines.specs.declared.answer.Counts.{Counts}
 use Rattle.script_lines.specs.Grammar.{Request, put, copy, append, cut, sort, swap, exec, aread, awrite, arun, tinsert, tget, tdelete, trange, get, force, install, drain, checkpoint, trim, begin_group, end_group, stat as asks_stat, skip, AsksFor, IsBad}

@@ -8,13 +8,16 @@ use Rattle.explain_core.specs.History.Member.{Command as Logged_command}
 use Rattle.explain_core.specs.Turns.{count_below, dirty_in}
 use Rattle.explain_core.specs.World.{World, Step, run, end_of}
 use Rattle.explain_core.specs.World.Step.{Append, Begin, Block_gate, Header_gate}
-use Rattle.cache_manager.specs.Courses.{Course, course, is_through, and_then, waits, buffered, grown, force_steps, force_course, room_steps, placed, cached_length, identity_length, identity_steps, identity_course, identities, must_log, others, finish_steps, rounds, has_members, install_course, drains, logged_by, logged_in}
-use Rattle.cache_manager.specs.Courses.Stop.{Through, Full, At_end}
-use Rattle.cache_manager.specs.CourseLaws.{behind_both}
-use Rattle.cache_manager.specs.Running.{AreUpkeep}
+use Rattle.running_store.specs.Courses.{Course, course, is_through, and_then, waits, buffered, grown, force_steps, force_course, room_steps, placed, cached_length, identity_length, identity_steps}
+use Rattle.cache_manager.specs.InstallCourses.{identity_course, identities, must_log, others, finish_steps, rounds, has_members, install_course, drains, logged_by, logged_in}
+use Rattle.running_store.specs.Courses.Stop.{Through, Full, At_end}
+use Rattle.running_store.specs.CourseLaws.{behind_both}
+use Rattle.running_store.specs.Running.{AreUpkeep}
+use Rattle.running_store.specs.Rewrites.{check_length, new_base, rewrite_course, trimmed, trimmed_file}
+use Rattle.running_store.specs.Commands.{command_length}
 use Rattle.cache_manager.specs.Upkeep.{upkeep_append, upkeep_either, upkeep_then, upkeep_force, upkeep_room, upkeep_install, upkeep_drain}
-use Rattle.checkpointing.specs.Courses.{check_course, check_length, check_steps, checkpoint_course, logged_course, last_epoch, new_base, rewrite_course, trim_course, trimmed, trimmed_file}
-use Rattle.execution.specs.Courses.{append_course, command_length, needed, unplaced_steps}
+use Rattle.checkpointing.specs.Courses.{check_course, check_steps, checkpoint_course, logged_course, last_epoch, trim_course}
+use Rattle.execution.specs.Courses.{append_course, needed, unplaced_steps}
 use Rattle.script_lines.specs.Grammar.{Request, install, drain, checkpoint, trim}
 use Rattle.store_engine.specs.Calls.{begin_course}
 use Rattle.redo_shell.specs.Store.{Command}

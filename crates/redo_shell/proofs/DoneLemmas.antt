@@ -22,18 +22,21 @@ use Rattle.explain_core.specs.StableLaws.{commands_of-append}
 use Rattle.explain_core.specs.World.{World, Step, step, run, end_of, IsLive}
 use Rattle.explain_core.specs.World.Step.{Append, Block_gate}
 use Rattle.standing.specs.Moments.{TakesSome}
-use Rattle.cache_manager.specs.Appended.{next_number}
-use Rattle.cache_manager.specs.Courses.{Course, Stop, course, grown, waits, force_steps, force_course, logged_in}
-use Rattle.cache_manager.specs.Courses.Stop.{Through, Full, At_end, Worn}
-use Rattle.cache_manager.specs.Kept.{StopsAt}
-use Rattle.cache_manager.specs.Logged.{log_limit}
-use Rattle.cache_manager.specs.Running.{AreUpkeep, run_upkept}
-use Rattle.cache_manager.specs.Taking.{Ending}
-use Rattle.cache_manager.specs.Taking.Ending.{Done, Stopped, Short, Failed}
+use Rattle.running_store.specs.Calls.{IsFailed}
+use Rattle.running_store.specs.Appended.{next_number}
+use Rattle.running_store.specs.Courses.{Course, Stop, course, grown, waits, force_steps, force_course}
+use Rattle.cache_manager.specs.InstallCourses.{logged_in}
+use Rattle.running_store.specs.Courses.Stop.{Through, Full, At_end, Worn}
+use Rattle.running_store.specs.Kept.{StopsAt}
+use Rattle.running_store.specs.Logged.{log_limit}
+use Rattle.running_store.specs.Running.{AreUpkeep, run_upkept}
+use Rattle.running_store.specs.Taking.{Ending}
+use Rattle.running_store.specs.Taking.Ending.{Done, Stopped, Short, Failed}
+use Rattle.running_store.specs.Commands.{command_length}
 use Rattle.cache_manager.specs.Upkeep.{upkeep_force}
 use Rattle.execution.specs.Answers as of_world
 use Rattle.execution.specs.Answers.{ending_of_exec}
-use Rattle.execution.specs.Courses.{append_course, exec_course, command_length, needed, refusal_in, unless_refused, unplaced_steps}
+use Rattle.execution.specs.Courses.{append_course, exec_course, needed, refusal_in, unless_refused, unplaced_steps}
 use Rattle.execution.specs.Stops.{StopsCommand, StopsWithin}
 use Rattle.execution.specs.declared.exec_err.ExecErr.{ExecErr}
 use Rattle.execution.specs.declared.exec_err.ExecErr.TheVariants.{Refused, LogFull, LsnEnd, DiskFault, Damaged}
@@ -42,7 +45,7 @@ use Rattle.script_lines.specs.Grammar.{Request, AsksFor, begin_group, end_group,
 use Rattle.script_lines.specs.Replies.{Reply, ok, ran, value, pairs, forced, bad, refused, bad_tree, tree_full, in_group, no_group, full, end, object_value, command_count, stat, summary, silence, reply_of}
 use Rattle.script_lines.specs.declared.answer.Answer.{Answer}
 use Rattle.store_engine.specs.Calls.{IsForcing}
-use Rattle.store_engine.specs.Engine.{EngineView, FollowsIn, InEachImage, IsAfterIn, IsOutcome, KeepsCommands, IsFailed, SaysStop, SaysStopWithin, EpochIs, accepted_in, params_of, used_in, forced_in, group_bytes, group_size, logged_since, needed_in}
+use Rattle.store_engine.specs.Engine.{EngineView, FollowsIn, InEachImage, IsAfterIn, IsOutcome, KeepsCommands, SaysStop, SaysStopWithin, EpochIs, accepted_in, params_of, used_in, forced_in, group_bytes, group_size, logged_since, needed_in}
 use Rattle.store_engine.specs.FailureLaws.{still_none_damaged}
 use Rattle.store_engine.specs.Grouping.{ungrouped}
 use Rattle.store_engine.specs.Engine as of_engine
@@ -646,14 +649,14 @@ pub still_whole : {old new : Disk} {before after : EngineView} {most n : ℕ} {e
 still_whole {after = after} call working = false_from_ne_true after.broken (λ e. working (call.broken.0 e))
 
 -- an error of a command that is no fault
-pub works_on : {e : ExecErr} (v : ExecErr) → e ≡ v → (IsFailed (ending_of_exec (Err v)) → ⊥) → IsFailed (ending_of_exec (Err e)) → ⊥
-works_on v is working failed = working (subst (λ (x : ExecErr). IsFailed (ending_of_exec (Err x))) is failed)
+pub works_on : {e : ExecErr} (v : ExecErr) → e ≡ v → (IsFailed (ending_of_exec {T = ℕ} (Err v)) → ⊥) → IsFailed (ending_of_exec {T = ℕ} (Err e)) → ⊥
+works_on v is working failed = working (subst (λ (x : ExecErr). IsFailed (ending_of_exec {T = ℕ} (Err x))) is failed)
 
-pub fails_so : {e : ExecErr} → e ≡ DiskFault → IsFailed (ending_of_exec (Err e))
-fails_so is = subst (λ (x : ExecErr). IsFailed (ending_of_exec (Err x))) (sym is) tt
+pub fails_so : {e : ExecErr} → e ≡ DiskFault → IsFailed (ending_of_exec {T = ℕ} (Err e))
+fails_so is = subst (λ (x : ExecErr). IsFailed (ending_of_exec {T = ℕ} (Err x))) (sym is) tt
 
 -- no slot of an engine with its files is damaged
-pub exec_undamaged : {old new : Disk} (before after : EngineView) {most n : ℕ} (op : Command) {e : ExecErr} (file : FileNo) (place : ℕ) → IsDisk new → IsCall most old new before after n (ending_of_exec (Err e))
+pub exec_undamaged : {old new : Disk} (before after : EngineView) {most n : ℕ} (op : Command) {e : ExecErr} (file : FileNo) (place : ℕ) → IsDisk new → IsCall most old new before after n (ending_of_exec {T = ℕ} (Err e))
     → IsOutcome all_meaning old new before after.parts op (Err e) → e ≡ Damaged file place → old.tells_files → IsAttached old before → ⊥
 exec_undamaged {old} {new} before after op file place disk call outcome is told attached =
     let here = subst (λ (x : ExecErr). IsExecFailure all_meaning (is_some before.group) old new before.parts op x) is outcome.1 in

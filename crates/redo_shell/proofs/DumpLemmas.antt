@@ -11,7 +11,7 @@ use Rattle.formats.specs.declared.params.Params.{Params}
 use Rattle.oper_core.specs.State.{State}
 use Rattle.script_lines.specs.Replies.{object_value, command_count, said_line}
 use Rattle.standing.specs.Standing.{FilesShow}
-use Rattle.cache_manager.specs.Forced.{files_shown}
+use Rattle.running_store.specs.Forced.{files_shown}
 use Rattle.restart.specs.Starts.{OrAtStart, or_weaker, from_settled}
 use Rattle.store_engine.specs.Engine.{EngineView, InEachImage, forced_in}
 use Rattle.store_engine.specs.Grouping.{ungrouped}

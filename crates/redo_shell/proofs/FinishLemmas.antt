@@ -5,6 +5,7 @@ use Rattle.std.specs.Option.{is_some}
 use Rattle.disk_model.specs.Disk.{Disk, LeavesOnly}
 use Rattle.disk_model.specs.Silent.{silent_weaker}
 use Rattle.oper_core.specs.Meaning.{Meaning}
+use Rattle.disk_model.specs.declared.machine.Failed.{Failed as Failure}
 use Rattle.formats.specs.declared.params.Params.{Params}
 use Rattle.op_codec.specs.AllOps.{all_meaning}
 use Rattle.explain_core.specs.History.{Member, commands_of}
@@ -14,11 +15,11 @@ use Rattle.explain_core.specs.World.{World, Step, step, run}
 use Rattle.explain_core.specs.World.Step.{End}
 use Rattle.standing.specs.Moments.{ShowsSome, TakesSome}
 use Rattle.standing.specs.Standing.{FilesShow}
-use Rattle.cache_manager.specs.Courses.{force_course, force_steps}
+use Rattle.running_store.specs.Calls.{IsFailed, ending_of_force}
+use Rattle.running_store.specs.Courses.{force_course, force_steps}
 use Rattle.store_engine.specs.Calls.{IsForcing, work_of_force}
-use Rattle.store_engine.specs.Engine.{EngineView, FollowsIn, IsAfterIn, IsFailed, commands_since, ending_of_force, forced_in, group_size, used_in}
+use Rattle.store_engine.specs.Engine.{EngineView, FollowsIn, IsAfterIn, commands_since, forced_in, group_size, used_in}
 use Rattle.store_engine.specs.Engine as of_engine
-use Rattle.store_engine.specs.declared.force_err.ForceErr.{ForceErr}
 use Rattle.store_engine.specs.declared.work_err.WorkErr.{WorkErr}
 use Rattle.redo_shell.specs.Store.{Between, Command, Holds, Says, ShowsIn, meaning_in}
 use Rattle.redo_shell.specs.Stages.{closing_steps, finish_course}
@@ -39,17 +40,17 @@ end_closes {T} {E} result before mid none some = by_group before.group refl some
 
 -- a force from this engine answers so
 abbrev pub Forces : Disk → Disk → EngineView → EngineView → Result ℕ WorkErr → Type 0
-Forces old new before after result = (answer : Result ℕ ForceErr) × (result ≡ work_of_force answer) × IsForcing all_meaning old new before after answer
+Forces old new before after result = (answer : Result ℕ Failure) × (result ≡ work_of_force answer) × IsForcing all_meaning old new before after answer
 
 pub forces : (old new : Disk) (before mid after : EngineView) (result : Result ℕ WorkErr) → mid ≡ closed_engine before → (mid.group ≡ None → Forces old new mid after result) → Forces old new (closed_engine before) after result
 forces old new before mid after result same alone = subst (λ (e : EngineView). Forces old new e after result) same (alone (ap (λ (e : EngineView). e.group) same))
 
 -- it is done, or fails
-pub force_done : (answer : Result ℕ ForceErr) (result : Result ℕ WorkErr) (n : ℕ) → result ≡ work_of_force answer → result ≡ Ok n → answer ≡ Ok n
+pub force_done : (answer : Result ℕ Failure) (result : Result ℕ WorkErr) (n : ℕ) → result ≡ work_of_force answer → result ≡ Ok n → answer ≡ Ok n
 force_done (Ok m) result n is done = cc (is, done)
 force_done (Err e) result n is done = cc (is, done)
 
-pub force_failed : (answer : Result ℕ ForceErr) (result : Result ℕ WorkErr) (e : WorkErr) → result ≡ work_of_force answer → result ≡ Err e → IsFailed (ending_of_force answer)
+pub force_failed : (answer : Result ℕ Failure) (result : Result ℕ WorkErr) (e : WorkErr) → result ≡ work_of_force answer → result ≡ Err e → IsFailed (ending_of_force answer)
 force_failed (Ok m) result e is failed = cc (is, failed)
 force_failed (Err cause) result e is failed = tt
 
@@ -96,7 +97,7 @@ closed_holds {p} holds shows = record {
 }
 
 -- the force after it
-module _ {p : Params} {d new : Disk} {before after : EngineView} {answer : Result ℕ ForceErr} (it : IsForcing all_meaning d new (closed_engine before) after answer) where
+module _ {p : Params} {d new : Disk} {before after : EngineView} {answer : Result ℕ Failure} (it : IsForcing all_meaning d new (closed_engine before) after answer) where
   pub finish_moments : {commands : List Command} (holds : Holds p d before commands) → Closes p d before holds.world → d.tells_moments → LeavesOnly d new (Between p d None (forced_in before) (length commands) commands)
   finish_moments {commands} holds closes told =
       subst (λ (n : ℕ). LeavesOnly d new (Between p d None (forced_in before) n commands)) holds.says.accepted (it.commands.images told p commands (closed_holds holds (closed_shown holds.shows closes)))
@@ -113,7 +114,7 @@ module _ {p : Params} {d new : Disk} {before after : EngineView} {answer : Resul
   finish_follows n done w shows closes =
       let m = meaning_in p in
       let v = closed_world m w in
-      let taken = subst (λ (r : Result ℕ ForceErr). FollowsIn all_meaning p new after v (force_course m v (used_in before)) (ending_of_force r)) done (it.takes.follows p v (closed_shown shows closes)) in
+      let taken = subst (λ (r : Result ℕ Failure). FollowsIn all_meaning p new after v (force_course m v (used_in before)) (ending_of_force r)) done (it.takes.follows p v (closed_shown shows closes)) in
       record {
         shows = subst (λ (u : World Command). ShowsIn p new after u) (sym (run-append m w (closing_steps w.group) (force_steps m w)))
             (subst (λ (l : List (Step Command)). ShowsIn p new after (run m v l)) (same_force m w) taken.1.shows);
@@ -124,8 +125,8 @@ module _ {p : Params} {d new : Disk} {before after : EngineView} {answer : Resul
       → Holds p new after commands × (forced_in after ≡ length commands) × (after.parts.log.log.pending ≡ [])
   finish_forced n done {commands} holds closes says =
       let here = closed_holds holds (closed_shown holds.shows closes) in
-      let forced = subst (λ (r : Result ℕ ForceErr). IfOk r (λ k. (k ≡ length commands) × (forced_in after ≡ length commands))) done (it.forced p commands here) in (
-        holds_after (subst (λ (r : Result ℕ ForceErr). IsFailed (ending_of_force r) ⊎ of_engine.Kept all_meaning p (closed_engine before) new after commands) done (it.commands.holds p commands here)) says,
+      let forced = subst (λ (r : Result ℕ Failure). IfOk r (λ k. (k ≡ length commands) × (forced_in after ≡ length commands))) done (it.forced p commands here) in (
+        holds_after (subst (λ (r : Result ℕ Failure). IsFailed (ending_of_force r) ⊎ of_engine.Kept all_meaning p (closed_engine before) new after commands) done (it.commands.holds p commands here)) says,
         forced.1,
-        subst (λ (r : Result ℕ ForceErr). OnOk r (after.parts.log.log.pending ≡ [])) done it.empty,
+        subst (λ (r : Result ℕ Failure). OnOk r (after.parts.log.log.pending ≡ [])) done it.empty,
       )

@@ -8,6 +8,7 @@ use Rattle.disk_model.specs.Disk.{Disk, IsDisk, LeavesOnly, Passes}
 use Rattle.disk_model.specs.Moments.{started}
 use Rattle.disk_model.specs.Silent.{IsSilent}
 use Rattle.oper_core.specs.Meaning.{Meaning}
+use Rattle.disk_model.specs.declared.machine.Failed.{Failed as Failure}
 use Rattle.formats.specs.declared.params.Params.{Params}
 use Rattle.op_codec.specs.AllOps.{all_meaning}
 use Rattle.explain_core.specs.History.{Member, commands_of}
@@ -17,8 +18,8 @@ use Rattle.explain_core.specs.World.{World, Step, step, run, end_of}
 use Rattle.explain_core.specs.World.Step.{Begin, End}
 use Rattle.standing.specs.Moments.{ShowsSome, TakesSome}
 use Rattle.standing.specs.Standing.{FilesShow}
-use Rattle.cache_manager.specs.Courses.{force_steps}
-use Rattle.cache_manager.specs.Running.{run_upkept}
+use Rattle.running_store.specs.Courses.{force_steps}
+use Rattle.running_store.specs.Running.{run_upkept}
 use Rattle.cache_manager.specs.Upkeep.{upkeep_force}
 use Rattle.script_lines.specs.Grammar.{AsksFor, begin_group, end_group}
 use Rattle.script_lines.specs.Replies.{no_group, ok, reply_of}
@@ -27,7 +28,6 @@ use Rattle.script_lines.specs.declared.answer.Answer.TheVariants as answers
 use Rattle.store_engine.specs.Calls.{IsBeginning, begin_course, end_course, work_of_force}
 use Rattle.store_engine.specs.Engine.{EngineView, forced_in, group_size, used_in}
 use Rattle.store_engine.specs.Engine as of_engine
-use Rattle.store_engine.specs.declared.force_err.ForceErr.{ForceErr}
 use Rattle.store_engine.specs.declared.grouping.NoGroup.{NoGroup}
 use Rattle.store_engine.specs.declared.work_err.WorkErr.{WorkErr}
 use Rattle.redo_shell.specs.Store.{Between, Command, Holds, IsAttached, ShowsIn, meaning_in}
@@ -52,19 +52,19 @@ use Rattle.redo_shell.proofs.UpkeepLemmas.{still_cause, still_on, still_time, st
 
 -- what the engine says of a beginning outside groups
 abbrev pub BeginsAlone : Disk → Disk → EngineView → EngineView → Result (Unit {0}) WorkErr → Type 0
-BeginsAlone old now before after call = (answer : Result (Unit {0}) ForceErr) × (call ≡ work_of_force answer) × IsBeginning all_meaning old now before after answer
+BeginsAlone old now before after call = (answer : Result (Unit {0}) Failure) × (call ≡ work_of_force answer) × IsBeginning all_meaning old now before after answer
 
 -- a beginning is answered so
-abbrev pub answer_of_begin : Result (Unit {0}) ForceErr → Result Answer Stop
+abbrev pub answer_of_begin : Result (Unit {0}) Failure → Result Answer Stop
 answer_of_begin (Ok value) = Ok answers.Done
 answer_of_begin (Err e) = Err DiskFault
 
-begin_answered : (answer : Result (Unit {0}) ForceErr) → answer_of_work (work_of_force answer) ≡ answer_of_begin answer
+begin_answered : (answer : Result (Unit {0}) Failure) → answer_of_work (work_of_force answer) ≡ answer_of_begin answer
 begin_answered (Ok value) = refl
 begin_answered (Err e) = refl
 
 abbrev pub BegunAlone : Disk → Disk → EngineView → EngineView → Result Answer Stop → Type 0
-BegunAlone old now before after result = (answer : Result (Unit {0}) ForceErr) × (result ≡ answer_of_begin answer) × IsBeginning all_meaning old now before after answer
+BegunAlone old now before after result = (answer : Result (Unit {0}) Failure) × (result ≡ answer_of_begin answer) × IsBeginning all_meaning old now before after answer
 
 pub begun_alone : {old now : Disk} {before after : EngineView} (call : Result (Unit {0}) WorkErr) (result : Result Answer Stop) → BeginsAlone old now before after call → result ≡ answer_of_work call → BegunAlone old now before after result
 begun_alone call result alone is = (alone.0, is ∙ ap (λ r. answer_of_work r) alone.1 ∙ begin_answered alone.0, alone.2)
@@ -126,25 +126,25 @@ module _ (p : Params) (old now : Disk) (before after : EngineView) (commands : L
         is_of = tt;
       }
 
-  begin_ends : (answer : Result (Unit {0}) ForceErr) → IsBeginning all_meaning old now before after answer → IfOk (answer_of_begin answer) (λ a. IsDone p old now before after w commands line (reply_of a))
+  begin_ends : (answer : Result (Unit {0}) Failure) → IsBeginning all_meaning old now before after answer → IfOk (answer_of_begin answer) (λ a. IsDone p old now before after w commands line (reply_of a))
   begin_ends (Ok value) it = begun_done value it
   begin_ends (Err e) it = tt
 
 -- What holds of a beginning by its answer.
-begin_sound : (answer : Result (Unit {0}) ForceErr) → IfErr (answer_of_begin answer) IsUndamaged
+begin_sound : (answer : Result (Unit {0}) Failure) → IfErr (answer_of_begin answer) IsUndamaged
 begin_sound (Ok value) = tt
 begin_sound (Err e) = tt
 
 module _ {old now : Disk} {before after : EngineView} where
-  begin_caused : (answer : Result (Unit {0}) ForceErr) → IsBeginning all_meaning old now before after answer → IfErr (answer_of_begin answer) (λ stop. IsCaused stop old now)
+  begin_caused : (answer : Result (Unit {0}) Failure) → IsBeginning all_meaning old now before after answer → IfErr (answer_of_begin answer) (λ stop. IsCaused stop old now)
   begin_caused (Ok value) it = tt
   begin_caused (Err e) it = it.call.fault tt
 
-  begin_on : (answer : Result (Unit {0}) ForceErr) → IsBeginning all_meaning old now before after answer → IsAttached old before → OnOk (answer_of_begin answer) (IsAttached now after)
+  begin_on : (answer : Result (Unit {0}) Failure) → IsBeginning all_meaning old now before after answer → IsAttached old before → OnOk (answer_of_begin answer) (IsAttached now after)
   begin_on (Ok value) it attached = still_attached it.call (λ f. f) attached
   begin_on (Err e) it attached = tt
 
-  begin_fine : (answer : Result (Unit {0}) ForceErr) → IsBeginning all_meaning old now before after answer → OnOk (answer_of_begin answer) (after.broken ≡ false)
+  begin_fine : (answer : Result (Unit {0}) Failure) → IsBeginning all_meaning old now before after answer → OnOk (answer_of_begin answer) (after.broken ≡ false)
   begin_fine (Ok value) it = still_whole it.call (λ f. f)
   begin_fine (Err e) it = tt
 

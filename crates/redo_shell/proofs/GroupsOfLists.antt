@@ -7,7 +7,7 @@ use Rattle.formats.specs.declared.params.Params.{Params}
 use Rattle.explain_core.specs.History.{Member, commands_of}
 use Rattle.explain_core.specs.StableLaws.{commands_of-append}
 use Rattle.explain_core.specs.World.{World}
-use Rattle.command_lists.specs.Lists.{larger}
+use Rattle.store_engine.specs.Lists.{larger}
 use Rattle.store_engine.specs.Engine.{EngineView, group_size}
 use Rattle.redo_shell.specs.Groups.{begun_after, open_in, size_of}
 use Rattle.redo_shell.specs.Store.{Command, ShowsIn}

@@ -8,9 +8,9 @@ use Rattle.formats.specs.declared.params.Params.{Params}
 use Rattle.log_records.specs.RecordLaws.{keeps_stay}
 use Rattle.op_codec.specs.AllOps.{all_meaning}
 use Rattle.explain_core.specs.World.{World}
-use Rattle.cache_manager.specs.KeptLaws.{shown_attached, stays_log}
-use Rattle.cache_manager.specs.Laid.{IsLaidOn, values_in}
-use Rattle.cache_manager.specs.Parts.{ShowsStore}
+use Rattle.running_store.specs.KeptLaws.{shown_attached, stays_log}
+use Rattle.running_store.specs.Laid.{IsLaidOn, values_in}
+use Rattle.running_store.specs.Parts.{ShowsStore}
 use Rattle.store_engine.specs.Engine.{EngineView, InEachImage, forced_in, used_in}
 use Rattle.store_engine.specs.Engine as of_engine
 use Rattle.store_engine.specs.Grouping.{ungrouped}

@@ -27,20 +27,23 @@ use Rattle.explain_core.specs.History.{Member, commands_of}
 use Rattle.explain_core.specs.History.Member.{Command as Logged, Identity}
 use Rattle.explain_core.specs.RunLaws.{run-append}
 use Rattle.explain_core.specs.World.{World, step, run, end_of}
-use Rattle.cache_manager.specs.CourseLaws.{behind_both, through_is}
-use Rattle.cache_manager.specs.Courses.{Course, Stop, behind, grown, logged_in}
-use Rattle.cache_manager.specs.Courses.Stop.{Through, Full, At_end}
-use Rattle.cache_manager.specs.Taking.{Ending}
-use Rattle.cache_manager.specs.Taking.Ending.{Done, Stopped, Short, Failed}
-use Rattle.command_lists.specs.Lists.{AddsFront, AreCalls, HasReached, IsBehind, IsStoppedAt, IsUndamaged as IsSound, commands_course, ending_of, larger}
-use Rattle.execution.specs.Courses.{append_course, command_length}
+use Rattle.running_store.specs.Calls.{IsFailed}
+use Rattle.running_store.specs.CourseLaws.{behind_both, through_is}
+use Rattle.running_store.specs.Courses.{Course, Stop, behind, grown}
+use Rattle.cache_manager.specs.InstallCourses.{logged_in}
+use Rattle.running_store.specs.Courses.Stop.{Through, Full, At_end}
+use Rattle.running_store.specs.Taking.{Ending}
+use Rattle.running_store.specs.Taking.Ending.{Done, Stopped, Short, Failed}
+use Rattle.store_engine.specs.Lists.{AddsFront, AreCalls, HasReached, IsBehind, IsStoppedAt, IsUndamaged as IsSound, commands_course, ending_of, larger}
+use Rattle.running_store.specs.Commands.{command_length}
+use Rattle.execution.specs.Courses.{append_course}
 use Rattle.execution.specs.declared.exec_err.ExecErr.{ExecErr}
 use Rattle.execution.specs.declared.exec_err.ExecErr.TheVariants as exec_errors
 use Rattle.script_lines.specs.Grammar.{Request, put, copy, append, cut, sort, swap, exec, aread, awrite, arun, tinsert, tdelete, begin_group, end_group, AsksFor}
 use Rattle.script_lines.specs.Replies.{Reply, ok, ran, refused, bad_tree, tree_full, full, end, reply_of}
 use Rattle.script_lines.specs.declared.answer.Answer.{Answer}
 use Rattle.script_lines.specs.declared.answer.Answer.TheVariants as answers
-use Rattle.store_engine.specs.Engine.{EngineView, IsFailed, forced_in, group_size, needed_in, params_of, used_in}
+use Rattle.store_engine.specs.Engine.{EngineView, forced_in, group_size, needed_in, params_of, used_in}
 use Rattle.redo_shell.specs.Store.{IsAttached, IsCall}
 use Rattle.redo_shell.specs.Found.{IsAnswerTo, IsEndedBy, IsDone, IsMade, IsOfEngine}
 use Rattle.redo_shell.specs.Groups.{Regroups, group_after, open_in, size_of}

@@ -6,10 +6,10 @@ use Rattle.oper_core.specs.Meaning.{Meaning}
 use Rattle.oper_core.specs.declared.refusal.Refusal.{Refusal}
 use Rattle.formats.specs.declared.params.Params.{Params}
 use Rattle.explain_core.specs.World.{World}
-use Rattle.cache_manager.specs.Courses.{Course, Stop, course, behind}
-use Rattle.cache_manager.specs.Courses.Stop.{Through, Full, At_end, Worn}
+use Rattle.running_store.specs.Courses.{Course, Stop, course, behind}
+use Rattle.running_store.specs.Courses.Stop.{Through, Full, At_end, Worn}
 use Rattle.execution.specs.Courses.{append_course}
-use Rattle.command_lists.specs.Lists.{commands_course}
+use Rattle.store_engine.specs.Lists.{commands_course}
 use Rattle.op_codec.specs.declared.all_ops.AllOps.TheVariants.{Put, Copy, Append, Cut, Sort, Swap, Exec, AppRead, AppWrite}
 use Rattle.script_lines.specs.Grammar.{Request, put, copy, append, cut, sort, swap, exec, aread, awrite, trim, begin_group, end_group}
 use Rattle.store_engine.specs.Engine.{EngineView}

@@ -8,8 +8,8 @@ use Rattle.oper_core.specs.declared.refusal.Refusal.TheVariants as refusals
 use Rattle.formats.specs.declared.params.Params.{Params}
 use Rattle.app_steps.specs.Steps.{IsRefusedAtOnce, HasAnswer, step_of, steps_accepted}
 use Rattle.btree_ops.specs.declared.node_op.NodeOp.{NodeOp}
-use Rattle.cache_manager.specs.Taking.Ending.{Done, Stopped}
-use Rattle.command_lists.specs.Lists.{AddsFront, AreCalls, ending_of}
+use Rattle.running_store.specs.Taking.Ending.{Done, Stopped}
+use Rattle.store_engine.specs.Lists.{AddsFront, AreCalls, ending_of}
 use Rattle.execution.specs.declared.exec_err.ExecErr.{ExecErr}
 use Rattle.execution.specs.declared.exec_err.ExecErr.TheVariants as exec_errors
 use Rattle.logical_btree.specs.Plan.{Plan, is_there}
@@ -25,7 +25,7 @@ use Rattle.tree_client.specs.declared.tree_err.TreeErr.{TreeErr}
 use Rattle.tree_client.specs.declared.tree_err.TreeErr.TheVariants as tree_errors
 use Rattle.disk_model.specs.Disk.{Disk}
 use Rattle.op_codec.specs.AllOps.{all_meaning}
-use Rattle.cache_manager.specs.Courses.{Stop}
+use Rattle.running_store.specs.Courses.{Stop}
 use Rattle.script_lines.specs.Grammar.{Request}
 use Rattle.store_engine.specs.Engine.{EngineView}
 use Rattle.store_engine.specs.Engine as of_engine

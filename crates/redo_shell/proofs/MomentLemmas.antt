@@ -10,9 +10,9 @@ use Rattle.explain_core.specs.Taken.{after_none}
 use Rattle.explain_core.specs.World.{World}
 use Rattle.standing.specs.Moments.{ShowsSome, TakesSome}
 use Rattle.standing.specs.Standing.{FilesShow}
-use Rattle.cache_manager.specs.Courses.{Course, course}
-use Rattle.cache_manager.specs.Courses.Stop.{Through}
-use Rattle.cache_manager.specs.Forced.{files_shown}
+use Rattle.running_store.specs.Courses.{Course, course}
+use Rattle.running_store.specs.Courses.Stop.{Through}
+use Rattle.running_store.specs.Forced.{files_shown}
 use Rattle.script_lines.specs.Replies.{Reply, said_line}
 use Rattle.store_engine.specs.Engine.{EngineView}
 use Rattle.store_engine.specs.Grouping.{ungrouped}

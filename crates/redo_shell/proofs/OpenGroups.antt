@@ -13,7 +13,7 @@ use Rattle.explain_core.specs.History.Member.{Command as Logged_command, Identit
 use Rattle.explain_core.specs.Sound.{IsGroup, IsSound}
 use Rattle.explain_core.specs.StableLaws.{commands_of-append}
 use Rattle.explain_core.specs.World.{World, end_of}
-use Rattle.cache_manager.specs.Appended.{next_number}
+use Rattle.running_store.specs.Appended.{next_number}
 use Rattle.store_engine.specs.Engine.{EngineView, commands_since, group_size}
 use Rattle.store_engine.specs.Grouping.{ungrouped}
 use Rattle.redo_shell.specs.Groups.{begun_after, open_in, size_of, waiting}

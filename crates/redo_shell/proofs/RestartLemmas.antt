@@ -12,8 +12,8 @@ use Rattle.op_codec.specs.AllOps.{all_meaning}
 use Rattle.explain_core.specs.History.{Member, commands_of}
 use Rattle.explain_core.specs.StableLaws.{commands_of-append}
 use Rattle.explain_core.specs.World.{World, run}
-use Rattle.cache_manager.specs.Parts.{Shows}
-use Rattle.cache_manager.specs.Taking.{IsAfter}
+use Rattle.running_store.specs.Parts.{Shows}
+use Rattle.running_store.specs.Taking.{IsAfter}
 use Rattle.restart.specs.Causes.{IsNoDamage}
 use Rattle.restart.specs.Courses.{restart_course}
 use Rattle.restart.specs.Opening.{OpensOn}

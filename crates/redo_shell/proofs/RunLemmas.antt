@@ -13,9 +13,9 @@ use Rattle.explain_core.specs.History.{commands_of}
 use Rattle.explain_core.specs.World.{World, run}
 use Rattle.standing.specs.Moments.{ShowsSome, TakesSome}
 use Rattle.standing.specs.Standing.{FilesShow}
-use Rattle.cache_manager.specs.Courses.{course}
-use Rattle.cache_manager.specs.Courses.Stop.{Through}
-use Rattle.cache_manager.specs.Forced.{files_shown}
+use Rattle.running_store.specs.Courses.{course}
+use Rattle.running_store.specs.Courses.Stop.{Through}
+use Rattle.running_store.specs.Forced.{files_shown}
 use Rattle.oper_core.specs.declared.refusal.Refusal.TheVariants.{NoObject}
 use Rattle.oper_core.specs.Meaning.{Meaning}
 use Rattle.script_lines.specs.Grammar.{Request, AsksFor, get, skip}

@@ -17,9 +17,9 @@ use Rattle.explain_core.specs.History.{Member, commands_of}
 use Rattle.explain_core.specs.Sound.{IsGroup, IsSound}
 use Rattle.explain_core.specs.StableLaws.{commands_of-append}
 use Rattle.explain_core.specs.World.{World}
-use Rattle.cache_manager.specs.Courses.{Stop}
-use Rattle.cache_manager.specs.Courses.Stop.{Full, At_end, Worn}
-use Rattle.cache_manager.specs.Kept.{StopsAt}
+use Rattle.running_store.specs.Courses.{Stop}
+use Rattle.running_store.specs.Courses.Stop.{Full, At_end, Worn}
+use Rattle.running_store.specs.Kept.{StopsAt}
 use Rattle.execution.specs.Stops.{StopsCommand, StopsWithin}
 use Rattle.store_engine.specs.Engine.{EngineView, InEachImage, SaysStop, SaysStopWithin, forced_in}
 use Rattle.redo_shell.specs.Store.{Command, Says, ShowsIn, Stands, meaning_in}

@@ -6,24 +6,28 @@ use Rattle.std.specs.Result.{IsErrAnd}
 use Rattle.std.proofs.lemmas.Result.{on_ok_weaker}
 use Rattle.disk_model.specs.Disk.{Disk, IsDisk, LeavesOnly, Passes, Rises}
 use Rattle.disk_model.specs.Moments.{passes_none}
+use Rattle.disk_model.specs.declared.machine.Failed.{Failed as Failure}
 use Rattle.disk_model.specs.declared.machine.FileNo.{FileNo}
 use Rattle.formats.specs.declared.params.Params.{Params}
 use Rattle.op_codec.specs.AllOps.{all_meaning}
-use Rattle.cache_manager.specs.Courses.Stop.{Through, Full, At_end, Worn}
-use Rattle.cache_manager.specs.Taking.{Ending, ending_of}
-use Rattle.cache_manager.specs.Taking.Ending.{Done, Stopped, Short, Failed}
+use Rattle.running_store.specs.Calls.{IsFailed}
+use Rattle.running_store.specs.Courses.Stop.{Through, Full, At_end, Worn}
+use Rattle.cache_manager.specs.Endings.{ending_of}
+use Rattle.running_store.specs.Taking.{Ending}
+use Rattle.running_store.specs.Taking.Ending.{Done, Stopped, Short, Failed}
 use Rattle.cache_manager.specs.declared.install.Install.{Install}
 use Rattle.cache_manager.specs.declared.install_err.InstallErr.{InstallErr}
 use Rattle.cache_manager.specs.declared.install_err.InstallErr.TheVariants as of_install
 use Rattle.checkpointing.specs.Left as of_trim
+use Rattle.checkpointing.specs.declared.check_err.CheckErr.{CheckErr}
+use Rattle.checkpointing.specs.declared.check_err.CheckErr.TheVariants as of_checking
 use Rattle.checkpointing.specs.declared.trim_err.TrimErr.{TrimErr}
 use Rattle.checkpointing.specs.declared.trim_err.TrimErr.TheVariants as of_trimming
 use Rattle.script_lines.specs.Grammar.{AsksFor, Request, install, drain, checkpoint, trim}
 use Rattle.script_lines.specs.Replies.{reply_of}
 use Rattle.script_lines.specs.declared.answer.Answer.{Answer}
-use Rattle.store_engine.specs.Calls.{IsChecking, IsDraining, IsForcing, IsInstalling, IsRefused, IsTrimming, work_of_force, work_of_install, work_of_trim}
-use Rattle.store_engine.specs.Engine.{EngineView, IsFailed, forced_in, group_size, logged_since}
-use Rattle.store_engine.specs.declared.force_err.ForceErr.{ForceErr}
+use Rattle.store_engine.specs.Calls.{IsChecking, IsDraining, IsForcing, IsInstalling, IsRefused, IsTrimming, work_of_check, work_of_force, work_of_install, work_of_trim}
+use Rattle.store_engine.specs.Engine.{EngineView, forced_in, group_size, logged_since}
 use Rattle.store_engine.specs.declared.work_err.WorkErr.{WorkErr}
 use Rattle.redo_shell.specs.Store.{Between, Command, Holds, IsAttached}
 use Rattle.redo_shell.specs.Found.{IsAnswerOf, IsBarredIn, IsDone, IsShort, IsUpkept, answer_of_work, answer_of_work_error}
@@ -68,7 +72,7 @@ barred_attached {T} {M} disk old new before after call refused inside attached =
 
 -- what a force says outside groups
 abbrev pub ForcesAlone : Disk → Disk → EngineView → EngineView → Result ℕ WorkErr → Type 0
-ForcesAlone old new before after call = (answer : Result ℕ ForceErr) × (call ≡ work_of_force answer) × IsForcing all_meaning old new before after answer
+ForcesAlone old new before after call = (answer : Result ℕ Failure) × (call ≡ work_of_force answer) × IsForcing all_meaning old new before after answer
 
 abbrev value_of : Result ℕ WorkErr → ℕ
 value_of (Ok n) = n
@@ -81,7 +85,7 @@ HasValue (Err e) = ⊥
 pub forced_alone : {old new : Disk} {before after : EngineView} (n : ℕ) → ForcesAlone old new before after (Ok n) → IsForcing all_meaning old new before after (Ok n)
 forced_alone {old} {new} {before} {after} n alone = by_answer alone.0 alone.1 alone.2
   where
-    by_answer : (answer : Result ℕ ForceErr) → Ok n ≡ work_of_force answer → IsForcing all_meaning old new before after answer → IsForcing all_meaning old new before after (Ok n)
+    by_answer : (answer : Result ℕ Failure) → Ok n ≡ work_of_force answer → IsForcing all_meaning old new before after answer → IsForcing all_meaning old new before after (Ok n)
     by_answer (Ok k) is it = subst (λ (j : ℕ). IsForcing all_meaning old new before after (Ok j)) (sym (ap value_of is)) it
     by_answer (Err e) is it = absurd (subst (λ (r : Result ℕ WorkErr). HasValue r) is tt)
 
@@ -89,7 +93,7 @@ forced_alone {old} {new} {before} {after} n alone = by_answer alone.0 alone.1 al
 pub unforced_alone : {old new : Disk} {before after : EngineView} (error : WorkErr) (result : Result Answer Stop) → ForcesAlone old new before after (Err error) → result ≡ answer_of_work_error error → result ≡ Err DiskFault
 unforced_alone error result alone is = by_answer alone.0 alone.1
   where
-    by_answer : (answer : Result ℕ ForceErr) → Err error ≡ work_of_force answer → result ≡ Err DiskFault
+    by_answer : (answer : Result ℕ Failure) → Err error ≡ work_of_force answer → result ≡ Err DiskFault
     by_answer (Ok k) same = cc same
     by_answer (Err e) same = is ∙ ap (λ r. answer_of_work r) same
 
@@ -107,6 +111,18 @@ install_whole (Err (of_install.LogFull used need limit)) file place is = cc is
 install_whole (Err (of_install.LsnEnd number)) file place is = cc is
 install_whole (Err of_install.DiskFault) file place is = cc is
 install_whole (Err of_install.Memory) file place is = cc is
+
+check_ends : {T : Type 0} (answer : Result T CheckErr) → IsAnswerOf (of_trim.ending_of_check answer) (answer_of_work (work_of_check answer))
+check_ends (Ok value) = refl
+check_ends (Err (of_checking.LogFull used need limit)) = refl
+check_ends (Err of_checking.DiskFault) = refl
+check_ends (Err of_checking.Memory) = (Memory, tt, refl)
+
+check_whole : {T : Type 0} (answer : Result T CheckErr) (file : FileNo) (place : ℕ) → answer_of_work (work_of_check answer) ≡ Err (Damaged file place) → ⊥
+check_whole (Ok value) file place is = cc is
+check_whole (Err (of_checking.LogFull used need limit)) file place is = cc is
+check_whole (Err of_checking.DiskFault) file place is = cc is
+check_whole (Err of_checking.Memory) file place is = cc is
 
 trim_ends : {T : Type 0} (answer : Result T TrimErr) → IsAnswerOf (of_trim.ending_of answer) (answer_of_work (work_of_trim answer))
 trim_ends (Ok value) = refl
@@ -157,20 +173,20 @@ module _ {old new : Disk} {before after : EngineView} {result : Result Answer St
         undamaged = λ told attached file place damaged. install_whole alone.0 file place (sym same ∙ damaged);
       }
 
-  pub checked_upkept : {T : Type 0} (call : Result T WorkErr) → (answer : Result T InstallErr) × (call ≡ work_of_install answer) × IsChecking all_meaning old new before after answer → result ≡ answer_of_work call
+  pub checked_upkept : {T : Type 0} (call : Result T WorkErr) → (answer : Result T CheckErr) × (call ≡ work_of_check answer) × IsChecking all_meaning old new before after answer → result ≡ answer_of_work call
       → IsUpkept old new before after checkpoint result
   checked_upkept call alone is =
       let same = is ∙ ap (λ r. answer_of_work r) alone.1 in
       record {
         epoch = 0;
         logged = 0;
-        ending = ending_of alone.0;
+        ending = of_trim.ending_of_check alone.0;
         call = alone.2.call;
         takes = alone.2.takes;
         commands = alone.2.commands;
         counted = inr (refl, λ m w used. logged_checkpoint m w used);
-        answered = subst (λ (r : Result Answer Stop). IsAnswerOf (ending_of alone.0) r) (sym same) (install_ends alone.0);
-        undamaged = λ told attached file place damaged. install_whole alone.0 file place (sym same ∙ damaged);
+        answered = subst (λ (r : Result Answer Stop). IsAnswerOf (of_trim.ending_of_check alone.0) r) (sym same) (check_ends alone.0);
+        undamaged = λ told attached file place damaged. check_whole alone.0 file place (sym same ∙ damaged);
       }
 
   pub trimmed_upkept : {T : Type 0} (call : Result T WorkErr) → (answer : Result T TrimErr) × (call ≡ work_of_trim answer) × IsTrimming all_meaning old new before after answer → result ≡ answer_of_work call

@@ -6,8 +6,8 @@ use Rattle.disk_model.specs.Silent.{IsSilent}
 use Rattle.formats.specs.declared.params.Params.{Params}
 use Rattle.standing.specs.Moments.{ShowsSome}
 use Rattle.standing.specs.Standing.{FilesShow}
-use Rattle.cache_manager.specs.Courses.{Course, course, force_course}
-use Rattle.cache_manager.specs.Courses.Stop.{Through}
+use Rattle.running_store.specs.Courses.{Course, course, force_course}
+use Rattle.running_store.specs.Courses.Stop.{Through}
 use Rattle.restart.specs.Courses.{restart_course}
 use Rattle.script_lines.specs.Grammar.{force, AsksFor}
 use Rattle.script_lines.specs.Replies.{Reply, said_line}

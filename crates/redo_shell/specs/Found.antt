@@ -1,5 +1,5 @@
 -- How the answer to a line is found, before it is said.
-use Rattle.std.specs.Prelude.{◌≡◌, ◌<◌, ◌≤◌, ◌⊎◌, ◌+◌, ◌^◌, ◌++◌, ⊤, ℕ, IsTrue, List, [], length, Option, None, Some, Result, Ok, Err, IfOk}
+use Rattle.std.specs.Prelude.{◌≡◌, ◌<◌, ◌≤◌, ◌⊎◌, ◌+◌, ◌^◌, ◌++◌, ⊤, ℕ, List, [], length, Option, None, Some, Result, Ok, Err, IfOk}
 use Rattle.std.specs.Option.{is_some}
 use Rattle.disk_model.specs.Disk.{Disk}
 use Rattle.disk_model.specs.declared.machine.FileNo.{FileNo}
@@ -7,17 +7,18 @@ use Rattle.oper_core.specs.Meaning.{Meaning}
 use Rattle.formats.specs.declared.params.Params.{Params}
 use Rattle.explain_core.specs.History.{commands_of}
 use Rattle.explain_core.specs.World.{World}
-use Rattle.cache_manager.specs.Courses.{Stop as CourseStop, logged_in}
-use Rattle.cache_manager.specs.Courses.Stop.{Through, Full, At_end, Worn}
-use Rattle.cache_manager.specs.Logged.{log_limit}
-use Rattle.cache_manager.specs.Taking.{Ending}
-use Rattle.cache_manager.specs.Taking.Ending.{Done, Stopped, Short, Failed}
+use Rattle.running_store.specs.Courses.{Stop as CourseStop}
+use Rattle.cache_manager.specs.InstallCourses.{logged_in}
+use Rattle.running_store.specs.Courses.Stop.{Through, Full, At_end, Worn}
+use Rattle.running_store.specs.Logged.{log_limit}
+use Rattle.running_store.specs.Taking.{Ending}
+use Rattle.running_store.specs.Taking.Ending.{Done, Stopped, Short, Failed}
 use Rattle.oper_core.specs.declared.refusal.Refusal.TheVariants as refusals
 use Rattle.tree_client.specs.declared.tree_err.TreeErr.{TreeErr}
 use Rattle.tree_client.specs.declared.tree_err.TreeErr.TheVariants as tree_errors
 use Rattle.op_codec.specs.AllOps.{all_meaning}
 use Rattle.script_lines.specs.Grammar.{Request, trim, AsksFor}
-use Rattle.command_lists.specs.Lists.{AddsFront, AreCalls, ending_of as ending_of_calls}
+use Rattle.store_engine.specs.Lists.{AddsFront, AreCalls, ending_of as ending_of_calls}
 use Rattle.execution.specs.Stops.{StopsCommand}
 use Rattle.execution.specs.declared.exec_err.ExecErr.{ExecErr}
 use Rattle.execution.specs.declared.exec_err.ExecErr.TheVariants as exec_errors

@@ -1,5 +1,5 @@
 -- When a line gets an answer, as a plain map would answer it.
-use Rattle.std.specs.Prelude.{◌≡◌, ℕ, ◌+◌, ◌^◌, ◌<◌, ◌≤◌, ◌++◌, ◌⊎◌, ⊤, Bool, true, false, IsTrue, List, [], ◌∷◌, length, drop, Option, None, Some}
+use Rattle.std.specs.Prelude.{◌≡◌, ℕ, ◌+◌, ◌^◌, ◌<◌, ◌≤◌, ◌++◌, ◌⊎◌, ⊤, Bool, true, false, IsTrue, List, [], length, Option, None}
 use Rattle.std.specs.Option.{is_some}
 use Rattle.oper_core.specs.declared.refusal.Refusal.TheVariants.{NoObject}
 use Rattle.disk_model.specs.Disk.{Files}

@@ -7,8 +7,9 @@ use Rattle.explain_core.specs.History.{commands_of}
 use Rattle.explain_core.specs.Turns.{count_below, dirty_in}
 use Rattle.explain_core.specs.World.{World, Step, run, end_of}
 use Rattle.explain_core.specs.World.Step.{End}
-use Rattle.cache_manager.specs.Courses.{Course, Stop, course, logged_in, force_course, force_steps, install_course, drain_course}
-use Rattle.cache_manager.specs.Courses.Stop.{Through, Full, At_end, Worn}
+use Rattle.running_store.specs.Courses.{Course, Stop, course, force_course, force_steps}
+use Rattle.cache_manager.specs.InstallCourses.{logged_in, install_course, drain_course}
+use Rattle.running_store.specs.Courses.Stop.{Through, Full, At_end, Worn}
 use Rattle.op_codec.specs.AllOps.{all_meaning}
 use Rattle.script_lines.specs.Grammar.{Request, get, tget, trange, install, drain, checkpoint, trim, begin_group, end_group, AsksFor}
 use Rattle.script_lines.specs.Replies.{Reply, ok, ran, forced, refused, bad_tree, tree_full, full, end, stat}
@@ -19,7 +20,7 @@ use Rattle.restart.specs.Opening.{OpensOn}
 use Rattle.store_engine.specs.Calls.{begin_course, end_course}
 use Rattle.store_engine.specs.Engine.{EngineView, is_name, used_in}
 use Rattle.redo_shell.specs.Store.{Command, meaning_in}
-use Rattle.command_lists.specs.Lists.{commands_course}
+use Rattle.store_engine.specs.Lists.{commands_course}
 use Rattle.redo_shell.specs.Made.{Made, AsksMade}
 use Rattle.redo_shell.specs.Groups.{open_in}
 use Rattle.redo_shell.specs.Replies.{Replies, IsGranted}

@@ -9,7 +9,7 @@ use Rattle.op_codec.specs.declared.all_ops.AllOps.{AllOps}
 use Rattle.op_codec.specs.AllOps.{all_meaning}
 use Rattle.explain_core.specs.History.{commands_of}
 use Rattle.explain_core.specs.World.{World}
-use Rattle.cache_manager.specs.Taking.{Ending}
+use Rattle.running_store.specs.Taking.{Ending}
 use Rattle.store_engine.specs.Store as of_store
 use Rattle.store_engine.specs.Engine as of_engine
 use Rattle.store_engine.specs.Engine.{EngineView, accepted_in, forced_in}

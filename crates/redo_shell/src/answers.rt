@@ -7,7 +7,7 @@ ghost use Rattle.script_lines.specs.Grammar.{AsksFor, force};
 ghost use Rattle.script_lines.specs.Replies.{reply_of};
 ghost use Rattle.explain_core.specs.World.{World};
 ghost use Rattle.standing.specs.Moments.{TakesSome};
-ghost use Rattle.cache_manager.specs.Courses.{force_course};
+ghost use Rattle.running_store.specs.Courses.{force_course};
 ghost use Rattle.execution.specs.Courses.{exec_course};
 ghost use Rattle.store_engine.specs.Engine.{forced_in, params_of, used_in};
 ghost use Rattle.redo_shell.specs.Store.{IsAttached};

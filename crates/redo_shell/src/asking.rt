@@ -14,14 +14,13 @@ use crate::say::say_answer;
 use crate::stop::Stop;
 use crate::work::Question;
 use btree_ops::Short;
-use command_lists::nothing_is_made;
 use disk_model::Machine;
 use logical_btree::Tree;
 use op_codec::AllOps;
 use oper_core::Refusal;
 use script_lines::Answer;
 use std::alloc::Global;
-use store_engine::{Engine, engine_stands};
+use store_engine::{Engine, engine_stands, nothing_is_made};
 use tree_client::TreeErr;
 
 /// What was found in a tree.

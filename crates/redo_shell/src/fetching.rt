@@ -4,7 +4,7 @@ ghost use Rattle.disk_model.specs.Disk.{Stays};
 ghost use Rattle.formats.specs.declared.params.Params.{Params};
 ghost use Rattle.store_engine.specs.Engine.{IsCached};
 ghost use Rattle.redo_shell.specs.Store.{IsAttached};
-ghost use Rattle.cache_manager.specs.Laid.{values_in};
+ghost use Rattle.running_store.specs.Laid.{values_in};
 ghost use Rattle.redo_shell.specs.Stages.{stage_of};
 ghost use Rattle.redo_shell.specs.Store.{Command, Holds, Kept, state_of};
 ghost use Rattle.redo_shell.specs.Run.{IsCaused, IsUndamaged};

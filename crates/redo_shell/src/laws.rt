@@ -11,7 +11,7 @@ ghost use Rattle.script_lines.specs.declared.answer.Counts.{Counts};
 ghost use Rattle.disk_model.specs.Disk.{Passes, IsSettled};
 ghost use Rattle.disk_model.specs.Fuse.{disk_through};
 ghost use Rattle.disk_model.specs.declared.fuse.Fuse.{Fuse};
-ghost use Rattle.cache_manager.specs.Courses.{grown};
+ghost use Rattle.running_store.specs.Courses.{grown};
 ghost use Rattle.explain_core.specs.History.{commands_of};
 ghost use Rattle.store_engine.specs.Engine.{InEachImage};
 ghost use Rattle.redo_shell.specs.Store.{Command, Stands, IsNew, meaning_in, refusal_after, state_of, record_length};

@@ -9,13 +9,6 @@
 //! stays where the log, memory or the disk ends them. Of the commands of a group a crash leaves all or none; a group
 //! that is open at the end of a script is closed, and where the input or the output fails nothing of it stays. A demo
 //! answers a generated script on a store in memory, and says what the plain map's answers to it count to.
-//!
-//! The crate depends on store_engine for the store, on command_lists, app_steps and tree_client for lines that make several
-//! commands, on logical_btree and btree_ops for trees, on command_words for the words, on script_lines for lines and answers,
-//! on demo_script for the script of a demo, on op_codec and op_meaning for the operation that a line asks for, on
-//! explain_core, cache_manager, execution, checkpointing and restart for worlds and the courses of calls, on formats and
-//! standing for what files stand for, on log_records, log_frames and stable_objects for the log and the slots of an engine,
-//! and on the machines and the sources of disk_model.
 #![tactic(auto)]
 
 mod answers;

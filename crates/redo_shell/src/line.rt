@@ -19,13 +19,14 @@ use crate::say::say_answer;
 use crate::stop::Stop;
 use crate::upkeep::{counts_answer, upkeep_answer};
 use crate::work::{Grouping, Making, Upkeep, Work};
-use command_lists::commands_log_no_identity;
 use disk_model::Machine;
 use op_codec::AllOps;
 use oper_core::Refusal;
 use script_lines::{Answer, Next};
 use std::alloc::Global;
-use store_engine::{Engine, engine_stands, identities_are_counted, stop_is_said};
+use store_engine::{
+    Engine, commands_log_no_identity, engine_stands, identities_are_counted, stop_is_said,
+};
 
 /// Runs the command that a line asks for, and says its answer. It reports whether the answer is a refusal.
 fn run_command<M: Machine>(

@@ -8,13 +8,12 @@ use crate::stop::Stop;
 use crate::work::Making;
 use app_steps::App;
 use btree_ops::Short;
-use command_lists::nothing_is_made;
 use disk_model::Machine;
 use logical_btree::Tree;
 use op_codec::AllOps;
 use oper_core::Refusal;
 use script_lines::Answer;
-use store_engine::{Engine, ExecErr};
+use store_engine::{Engine, ExecErr, nothing_is_made};
 use tree_client::TreeErr;
 
 /// What is answered where a command is not done.

@@ -1,8 +1,4 @@
 // Commands and installs by calls of the crates.
-ghost use Rattle.std.specs.Prelude.{IfOk, OnOk};
-ghost use Rattle.cache_manager.specs.Parts.{parts};
-ghost use Rattle.cache_manager.specs.Taking.{ArePartsInUse};
-
 use cache_manager::{InstallErr, install_one};
 use disk_model::Machine;
 use execution::execute;
@@ -10,17 +6,16 @@ use op_codec::AllOps;
 use op_meaning::{Put, Swap};
 use oper_core::{ByteList, Memory};
 use redo_shell::Status;
-use restart::{RestartErr, Restarted, Tuning, restart};
+use restart::{RestartErr, Tuning, restart};
+use running_store::Store;
 use std::alloc::Global;
 
-// The parts of the store of a machine, after a restart that installs while more objects than this are dirty.
+// The store of a machine, after a restart that installs while more objects than this are dirty.
 fn opened<M: Machine>(
     alloc: Global,
     machine: &mut M,
     dirty: usize,
-) -> Result<Restarted<AllOps>, RestartErr>
-    ensures { IfOk result (λ it. ArePartsInUse (parts it.log it.objects it.graph.entries)) }
-{
+) -> Result<Store<AllOps>, RestartErr> {
     let tuning = Tuning {
         clean: 2,
         redo_dirty: dirty,
@@ -29,20 +24,11 @@ fn opened<M: Machine>(
 }
 
 // Whether a command is done.
-fn does<M: Machine>(alloc: Global, it: &mut Restarted<AllOps>, machine: &mut M, op: AllOps) -> bool
-    requires { ArePartsInUse (parts it.old.log it.old.objects it.old.graph.entries) }
-    ensures { ArePartsInUse (parts it.new.log it.new.objects it.new.graph.entries) }
-{
-    execute(
-        alloc,
-        &mut it.log,
-        &mut it.objects,
-        &mut it.graph,
-        machine,
-        op,
-        false,
-    )
-    .is_ok()
+fn does<M: Machine>(it: &mut Store<AllOps>, machine: &mut M, op: AllOps) -> bool {
+    if it.is_broken() {
+        return false;
+    }
+    execute(it, machine, op, false).is_ok()
 }
 
 fn put(alloc: Global, object: u32, value: &[u8]) -> Result<AllOps, Memory> {
@@ -53,21 +39,18 @@ fn put(alloc: Global, object: u32, value: &[u8]) -> Result<AllOps, Memory> {
 // Whether `put 0 aacc`, `put 1 bb` and `swap 0 1` are done.
 fn swaps<M: Machine>(
     alloc: Global,
-    it: &mut Restarted<AllOps>,
+    it: &mut Store<AllOps>,
     machine: &mut M,
-) -> Result<bool, Memory>
-    requires { ArePartsInUse (parts it.old.log it.old.objects it.old.graph.entries) }
-    ensures { OnOk result (ArePartsInUse (parts it.new.log it.new.objects it.new.graph.entries)) }
-{
+) -> Result<bool, Memory> {
     let long = put(alloc, 0, b"\xaa\xcc")?;
     let short = put(alloc, 1, b"\xbb")?;
     let swap = AllOps::Swap(Swap {
         first: 0,
         second: 1,
     });
-    let mut all = does(alloc, it, machine, long);
-    all &= does(alloc, it, machine, short);
-    all &= does(alloc, it, machine, swap);
+    let mut all = does(it, machine, long);
+    all &= does(it, machine, short);
+    all &= does(it, machine, swap);
     Ok(all)
 }
 
@@ -80,11 +63,11 @@ pub fn say<M: Machine>(machine: &mut M, line: &[u8]) -> Result<(), Status> {
 }
 
 // An install.
-fn install<M: Machine>(it: &mut Restarted<AllOps>, machine: &mut M) -> Result<(), Status>
-    requires { ArePartsInUse (parts it.old.log it.old.objects it.old.graph.entries) }
-    ensures { OnOk result (ArePartsInUse (parts it.new.log it.new.objects it.new.graph.entries)) }
-{
-    match install_one(&mut it.log, &mut it.objects, &mut it.graph, machine, 0) {
+fn install<M: Machine>(it: &mut Store<AllOps>, machine: &mut M) -> Result<(), Status> {
+    if it.is_broken() {
+        return Err(Status::DiskFault);
+    }
+    match install_one(it, machine, 0) {
         Ok(_) => Ok(()),
         Err(InstallErr::DiskFault) => Err(Status::DiskFault),
         Err(_) => Err(Status::Memory),
@@ -92,9 +75,7 @@ fn install<M: Machine>(it: &mut Restarted<AllOps>, machine: &mut M) -> Result<()
 }
 
 // Three installs, each of which is said: the node of the swap, that of its identity write, and none.
-fn install_all<M: Machine>(it: &mut Restarted<AllOps>, machine: &mut M) -> Result<(), Status>
-    requires { ArePartsInUse (parts it.old.log it.old.objects it.old.graph.entries) }
-{
+fn install_all<M: Machine>(it: &mut Store<AllOps>, machine: &mut M) -> Result<(), Status> {
     install(it, machine)?;
     say(machine, b"ok\n")?;
     install(it, machine)?;
@@ -106,11 +87,9 @@ fn install_all<M: Machine>(it: &mut Restarted<AllOps>, machine: &mut M) -> Resul
 // Makes two puts and a swap, and installs them.
 fn swap_and_install<M: Machine>(
     alloc: Global,
-    it: &mut Restarted<AllOps>,
+    it: &mut Store<AllOps>,
     machine: &mut M,
-) -> Result<(), Status>
-    requires { ArePartsInUse (parts it.old.log it.old.objects it.old.graph.entries) }
-{
+) -> Result<(), Status> {
     match swaps(alloc, it, machine) {
         Ok(true) => install_all(it, machine),
         _ => Err(Status::Memory),
@@ -120,12 +99,10 @@ fn swap_and_install<M: Machine>(
 // Does so if it is asked to.
 fn swap_if_asked<M: Machine>(
     alloc: Global,
-    it: &mut Restarted<AllOps>,
+    it: &mut Store<AllOps>,
     machine: &mut M,
     swaps: bool,
-) -> Result<(), Status>
-    requires { ArePartsInUse (parts it.old.log it.old.objects it.old.graph.entries) }
-{
+) -> Result<(), Status> {
     if swaps {
         swap_and_install(alloc, it, machine)
     } else {

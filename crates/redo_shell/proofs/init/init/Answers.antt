@@ -49,8 +49,8 @@ returns-in-Err-AlreadyStore-clause-making g c =
     let old = g.M.Machine.disk c.args.machine.now in
     let mid = g.M.Machine.disk c.init.new.machine in
     let new = g.M.Machine.disk c.end_with.new.machine in
-    let begins : old.tells_files → BeginsStore (old.reads Objects) = λ told. c.in-Err-AlreadyStore.ensures.already told (cc (c.in-Err-AlreadyStore.field-0-is)) in
-    let settled : old.tells_files → IsSettled new = λ told. still_settled c.end_with.ensures.runs (c.init.ensures.time.files_told.0 told) (c.in-Err-AlreadyStore.ensures.already_settled (cc (c.in-Err-AlreadyStore.field-0-is))) in
+    let begins : old.tells_files → BeginsStore (old.reads Objects) = (c.in-Err-AlreadyStore.ensures.already (cc (c.in-Err-AlreadyStore.field-0-is))).1 in
+    let settled : old.tells_files → IsSettled new = λ told. still_settled c.end_with.ensures.runs (c.init.ensures.time.files_told.0 told) (c.in-Err-AlreadyStore.ensures.already (cc (c.in-Err-AlreadyStore.field-0-is))).0 in
     record {
       ends = in_made c.end_with.result c.end_with.ensures.status;
       done = λ told is. absurd (not_made c.end_with.result c.end_with.ensures.status is);
