@@ -3,3 +3,4 @@ pub mod Meaning
 pub mod MeaningLaws
 pub mod LittleEndian
 pub mod Cell
+pub mod Family

@@ -8,6 +8,7 @@
 
 mod bounds;
 mod byte_list;
+mod family;
 mod laws;
 mod memory;
 mod objs;
@@ -17,6 +18,7 @@ mod values;
 
 pub use bounds::Bounds;
 pub use byte_list::ByteList;
+pub use family::Family;
 pub use laws::wider_bounds_keep_commands;
 pub use memory::Memory;
 pub use objs::Objs;

@@ -1,20 +1,18 @@
-ghost use Rattle.std.specs.Prelude.{◌≡◌, ◌<◌, ◌≤◌, ◌++◌, [], ◌∷◌, List, ℕ, length, take};
+ghost use Rattle.std.specs.Prelude.{◌≡◌, ◌<◌, ◌≤◌, ◌++◌, [], ◌∷◌, List, ℕ, length};
 
+use arrayvec::ArrayVec;
 use std::marker::Model;
 
 /// A list of at most four object numbers.
 #[derive(Drop)]
 pub struct Objs {
-    items: [u32; 4],
-    count: u32,
+    items: ArrayVec<u32, 4>,
 }
 
 impl Model for Objs {
     ghost Value = { List ℕ };
 
-    ghost view = { λ s. take s.count s.items };
-
-    ghost invariant = { λ s. s.count ≤ 4 };
+    ghost view = { λ s. s.items.items };
 }
 
 impl Objs {
@@ -23,8 +21,7 @@ impl Objs {
         ensures { result ≡ [] }
     {
         Objs {
-            items: [0; 4],
-            count: 0,
+            items: ArrayVec::new(),
         }
     }
 
@@ -32,10 +29,9 @@ impl Objs {
     pub fn one(object: u32) -> Self
         ensures { result ≡ object ∷ [] }
     {
-        Objs {
-            items: [object, 0, 0, 0],
-            count: 1,
-        }
+        let mut objects = Objs::new();
+        objects.push(object);
+        objects
     }
 
     /// Adds an object at the end.
@@ -43,8 +39,7 @@ impl Objs {
         requires { length self.old < 4 }
         ensures { self.new ≡ self.old ++ object ∷ [] }
     {
-        self.items[self.count as usize] = object;
-        self.count += 1;
+        self.items.push(object);
     }
 
     /// The objects, in their order.
@@ -52,6 +47,6 @@ impl Objs {
         ensures value { result.now ≡ self.now }
         ensures few { length self.now ≤ 4 }
     {
-        &self.items[..self.count as usize]
+        self.items.as_slice()
     }
 }

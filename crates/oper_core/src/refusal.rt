@@ -13,6 +13,10 @@ pub enum Refusal {
     BadWidth,
     #[error("NotApp")]
     NotApp,
+    #[error("NotCode")]
+    NotCode,
+    #[error("Halted")]
+    Halted,
     #[error("NoInput")]
     NoInput,
     #[error("NotNode")]
