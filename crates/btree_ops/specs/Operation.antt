@@ -1,5 +1,5 @@
 -- The operations on nodes: what they read and write, when they are refused, what they make, and their codes.
-use Rattle.std.specs.Prelude.{ℕ, ◌==◌, Bool, true, not, ◌&&◌, Option, None, Result, Ok, Err, List, [], ◌∷◌, ◌++◌, drop, map, nat_lt, if◌then◌else◌, option_map, option_and_then}
+use Rattle.std.specs.Prelude.{ℕ, ◌==◌, Bool, true, not, ◌&&◌, Option, None, Result, Ok, Err, List, [], ◌∷◌, ◌++◌, drop, map, nat_le, nat_lt, if◌then◌else◌, option_map, option_and_then}
 use Rattle.std.specs.List.{list_all}
 use Rattle.std.specs.Result.{result_err}
 use Rattle.byteorder.specs.Endian.{little_bytes}
@@ -97,3 +97,7 @@ node_meaning b = record {
   is_encodable = λ op. true;
   code = op_code;
 }
+
+-- the tags of these operations
+abbrev pub is_node_tag : ℕ → Bool
+is_node_tag tag = nat_le 10 tag && nat_le tag 13

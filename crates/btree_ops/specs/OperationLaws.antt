@@ -12,6 +12,7 @@ use Rattle.byteorder.specs.Endian.{little_bytes}
 use Rattle.oper_core.specs.LittleEndian.{length-little_bytes}
 use Rattle.oper_core.specs.State.{is_among}
 use Rattle.oper_core.specs.Meaning.{HasBounds, AreWithin, IsInGrammar, IsLawful, IsSmall, Widens, or_else, unless}
+use Rattle.oper_core.specs.Family.{IsTagged}
 use Rattle.oper_core.specs.declared.bounds.Bounds.{Bounds}
 use Rattle.oper_core.specs.declared.refusal.Refusal.{Refusal}
 use Rattle.oper_core.specs.declared.refusal.Refusal.TheVariants.{NoObject, Same, TooLarge, NoKey, NodeFull}
@@ -21,7 +22,7 @@ use Rattle.btree_ops.specs.EntryLaws.{AreBytes, bytes_behind, both_true, true_bo
 use Rattle.btree_ops.specs.Node.{leaf, inner, node_code, node_in}
 use Rattle.btree_ops.specs.NodeLaws.{node_small}
 use Rattle.btree_ops.specs.Effects.{pairs_of, pairs_to_fill, has, without, put_made, delete_made, leaf_halves, inner_halves, halves_in, behind_branch, behind_child, split_child_with, split_child_made, split_root_made, made_by, where_it_fits}
-use Rattle.btree_ops.specs.Operation.{objects_of, read_by, are_apart, has_keys, op_code, put_in, delete_in, three_in, op_in, values_of, node_meaning}
+use Rattle.btree_ops.specs.Operation.{objects_of, read_by, are_apart, has_keys, op_code, put_in, delete_in, three_in, op_in, values_of, node_meaning, is_node_tag}
 use Rattle.btree_ops.specs.declared.halves.Halves.{Halves}
 use Rattle.btree_ops.specs.declared.made.Made.{Made}
 use Rattle.btree_ops.specs.declared.made.Made.TheVariants.{One, Three}
@@ -558,3 +559,10 @@ node_widens b c within = record {
   accepted = λ op values grammar fits e. ap result_err (fits_wider b.cap c.cap (made_by op values) within.cap e) ∙ e;
   effect = λ op values grammar fits e. ap (λ (r : Result Made Refusal). values_of (objects_of op) r) (fits_wider b.cap c.cap (made_by op values) within.cap e);
 }
+
+-- each code begins with a tag of the family
+pub node_tagged : (b : Bounds) → IsTagged is_node_tag (node_meaning b)
+node_tagged b (Put object key value) = refl
+node_tagged b (Delete object key) = refl
+node_tagged b (SplitChild parent child new) = refl
+node_tagged b (SplitRoot root left right) = refl

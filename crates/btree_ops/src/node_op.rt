@@ -6,7 +6,7 @@ ghost use Rattle.btree_ops.specs.declared.node_op.NodeOp.TheVariants.{SplitChild
 
 use crate::coding::{self, SPLIT_CHILD, SPLIT_ROOT};
 use crate::{Made, Short, leaf, split};
-use oper_core::{Bounds, Memory, Objs, Oper, Refusal, Values};
+use oper_core::{Bounds, Family, Memory, Objs, Oper, Refusal, Values};
 use std::alloc::Global;
 
 /// In a store whose objects hold fewer bytes the operations are refused.
@@ -203,4 +203,17 @@ impl Oper for NodeOp {
     ghost lawful = { node_lawful };
 
     ghost widens = { node_widens };
+}
+
+impl Family for NodeOp {
+    ghost use Rattle.btree_ops.specs.Operation.{is_node_tag};
+    ghost use Rattle.btree_ops.specs.OperationLaws.{node_tagged};
+
+    ghost has_tag = { is_node_tag };
+
+    fn owns(tag: u8) -> bool {
+        10 <= tag && tag <= 13
+    }
+
+    ghost tagged = { node_tagged };
 }

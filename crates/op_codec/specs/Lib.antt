@@ -1,2 +1,4 @@
+pub mod Sum
+pub mod SumLaws
 pub mod AllOps
-pub mod AllOpsLaws
+pub mod Tags

@@ -2,8 +2,7 @@
 ghost use Rattle.std.specs.Prelude.{◌≡◌, [], List, ℕ, Some, map};
 ghost use Rattle.oper_core.specs.declared.bounds.Bounds.{Bounds};
 ghost use Rattle.oper_core.specs.declared.refusal.Refusal.{Refusal};
-ghost use Rattle.op_codec.specs.AllOps.{all_meaning};
-ghost use Rattle.op_codec.specs.declared.all_ops.AllOps.{AllOps};
+ghost use Rattle.op_codec.specs.AllOps.{AllOps, all_meaning};
 
 /// Where an operation is refused for the values that it reads, it makes every object that it writes empty. So a restart,
 /// which refuses nothing, may do it on any values.

@@ -1,5 +1,6 @@
+pub mod Codes
 pub mod Moved
+pub mod ReadOps
 pub mod ReadState
 pub mod ReadNumbers
-pub mod Reading
 pub mod RecordLemmas

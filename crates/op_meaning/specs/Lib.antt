@@ -2,8 +2,6 @@ pub mod AppState
 pub mod AppStateLaws
 pub mod Order
 pub mod OrderLaws
-pub mod Put
-pub mod PutLaws
 pub mod Rows
 pub mod RowLaws
 pub mod Table

@@ -1,30 +1,31 @@
 -- What every operation of the table meets.
-use Rattle.std.proofs.Common.{◌≡◌, ◌<◌, ◌≤◌, ◌^◌, ◌⊎◌, inl, inr, ℕ, not, Bool, true, false, Option, None, Some, List, [], ◌∷◌, ◌++◌, length, map, drop, slice_index, refl, sym, ap, subst, ◌∙◌, arith, append_assoc}
-use Rattle.std.specs.Prelude.{nat_eq, nat_lt, All, flat_map}
+use Rattle.std.proofs.Common.{◌≡◌, ◌≢◌, ◌+◌, ◌*◌, ◌<◌, ◌≤◌, ◌^◌, ◌⊎◌, inl, inr, ℕ, not, Bool, true, false, Option, None, Some, unwrap_or, is_some, List, [], ◌∷◌, ◌++◌, length, map, take, drop, slice_index, refl, sym, ap, subst, ◌∙◌, arith, append_assoc, length-append}
+use Rattle.std.specs.Prelude.{nat_eq, nat_le, nat_lt, All, flat_map}
 use Rattle.std.specs.List.{IsDistinct, AllByRecursion, list_all}
 use Rattle.std.proofs.lemmas.List.Elements.{All-append, All-cons, All-nil, All-head, All-tail, All-get_or, All-same, All-weaker}
-use Rattle.std.proofs.lemmas.List.{length-map}
+use Rattle.std.proofs.lemmas.List.{length-map, take_at}
 use Rattle.std.proofs.lemmas.Map.Keys.{IsDistinct-cons, IsDistinct-from_apart}
-use Rattle.std.proofs.lemmas.Bool.{lt-ltb, ltb-true, and_parts, or_parts, not-true}
+use Rattle.std.proofs.lemmas.Bool.{le-leb, leb-true, lt-ltb, ltb-true, and_parts, or_parts, not-true}
 use Rattle.byteorder.specs.Endian.{little_bytes}
-use Rattle.oper_core.specs.LittleEndian.{little_bytes-split}
+use Rattle.oper_core.specs.LittleEndian.{length-little_bytes, little_bytes-split}
 use Rattle.oper_core.specs.State.{is_among}
-use Rattle.oper_core.specs.Meaning.{HasBounds, AreWithin, IsInGrammar, IsLawful, IsSmall, StartsWithCode, Widens, unless}
+use Rattle.oper_core.specs.Meaning.{HasBounds, AreWithin, IsInGrammar, IsLawful, IsSmall, StartsWithCode, Widens, or_else, unless}
 use Rattle.oper_core.specs.MeaningLaws.{or_else-none, or_else-both, unless-none}
 use Rattle.oper_core.specs.declared.bounds.Bounds.{Bounds}
 use Rattle.oper_core.specs.declared.refusal.Refusal.{Refusal}
-use Rattle.oper_core.specs.declared.refusal.Refusal.TheVariants.{NoObject, Same}
-use Rattle.op_meaning.specs.Rows.{Row, are_apart, if_applicable, meaning_of, named}
+use Rattle.oper_core.specs.declared.refusal.Refusal.TheVariants.{NoObject, Same, TooLarge}
+use Rattle.op_meaning.specs.Rows.{Names, Row, all_numbers, are_apart, if_applicable, named, names_code, names_shape, numbers_code, rows_meaning, text_code, text_of}
 
 -- ---- what names say
 
--- these are the objects, or one of them
+-- these are none of the objects, or all of them, or one
 abbrev pub IsPart : List ℕ → List ℕ → Type 0
-IsPart some objects = (some ≡ objects) ⊎ ((i : ℕ) × (i < length objects) × (some ≡ slice_index objects i ∷ []))
+IsPart some objects = (some ≡ []) ⊎ ((some ≡ objects) ⊎ ((i : ℕ) × (i < length objects) × (some ≡ slice_index objects i ∷ [])))
 
 part_all : (P : ℕ → Type 0) (some objects : List ℕ) → IsPart some objects → All P objects → All P some
-part_all P some objects (inl all) each = All-same P some objects all each
-part_all P some objects (inr one) each =
+part_all P some objects (inl none) each = All-same P some [] none (All-nil P)
+part_all P some objects (inr (inl all)) each = All-same P some objects all each
+part_all P some objects (inr (inr one)) each =
     All-same P some (slice_index objects one.0 ∷ []) one.2 (All-cons P (slice_index objects one.0) [] (All-get_or P objects one.0 0 one.1 each) (All-nil P))
 
 pub none_apart : IsDistinct nat_eq []
@@ -34,8 +35,9 @@ pub one_apart : (x : ℕ) → IsDistinct nat_eq (x ∷ [])
 one_apart x = IsDistinct-cons nat_eq x [] tt none_apart
 
 part_apart : (some objects : List ℕ) → IsPart some objects → IsDistinct nat_eq objects → IsDistinct nat_eq some
-part_apart some objects (inl all) apart = subst (IsDistinct nat_eq) (sym all) apart
-part_apart some objects (inr one) apart = subst (IsDistinct nat_eq) (sym one.2) (one_apart (slice_index objects one.0))
+part_apart some objects (inl none) apart = subst (IsDistinct nat_eq) (sym none) none_apart
+part_apart some objects (inr (inl all)) apart = subst (IsDistinct nat_eq) (sym all) apart
+part_apart some objects (inr (inr one)) apart = subst (IsDistinct nat_eq) (sym one.2) (one_apart (slice_index objects one.0))
 
 -- every number is below the bound
 pub below : (n : ℕ) (xs : List ℕ) → list_all (λ x. nat_lt x n) xs ≡ true → All (λ x. x < n) xs
@@ -119,10 +121,14 @@ empty_each (v ∷ made) (x ∷ objects) count = ap (λ (rest : List (List ℕ)).
 
 -- ---- codes
 
--- as many numbers with the same bytes in front are the same numbers
+-- what fits one cap fits a larger one
+pub fits_more : (n cap more : ℕ) → cap ≤ more → unless (nat_le n cap) TooLarge ≡ None → unless (nat_le n more) TooLarge ≡ None
+fits_more n cap more le e = let fits = leb-true n cap (unless-none (nat_le n cap) TooLarge e) in rw (le-leb n more (omega (arith, fits))) refl
+
+-- as many numbers with the same bytes in front are the same numbers, and so is what stands after them
 numbers_split : (xs ys rest more : List ℕ) → length xs ≡ length ys → All (λ x. x < 2 ^ 32) xs → All (λ x. x < 2 ^ 32) ys
-    → flat_map (little_bytes 4) xs ++ rest ≡ flat_map (little_bytes 4) ys ++ more → xs ≡ ys
-numbers_split [] [] rest more count fit also same = refl
+    → flat_map (little_bytes 4) xs ++ rest ≡ flat_map (little_bytes 4) ys ++ more → (xs ≡ ys) × (rest ≡ more)
+numbers_split [] [] rest more count fit also same = (refl, same)
 numbers_split [] (y ∷ ys) rest more count fit also same = absurd (omega (arith, count))
 numbers_split (x ∷ xs) [] rest more count fit also same = absurd (omega (arith, count))
 numbers_split (x ∷ xs) (y ∷ ys) rest more count fit also same =
@@ -131,75 +137,145 @@ numbers_split (x ∷ xs) (y ∷ ys) rest more count fit also same =
     let first = All-head (λ x. x < 2 ^ 32) in
     let others = All-tail (λ x. x < 2 ^ 32) in
     let split = little_bytes-split 4 x y _ _ (first x xs fit) (first y ys also) (sym (beside x xs rest) ∙ same ∙ beside y ys more) in
-    let numbers : xs ≡ ys = numbers_split xs ys rest more (omega (arith, count)) (others x xs fit) (others y ys also) split.1 in
-    λ i. split.0 i ∷ numbers i
+    let numbers = numbers_split xs ys rest more (omega (arith, count)) (others x xs fit) (others y ys also) split.1 in
+    (λ i. split.0 i ∷ numbers.0 i, numbers.1)
+
+-- a number has four bytes
+pub length_numbers : (xs : List ℕ) → length (flat_map (little_bytes 4) xs) ≡ 4 * length xs
+length_numbers [] = refl
+length_numbers (x ∷ xs) = omega (arith, length-append (little_bytes 4 x) (flat_map (little_bytes 4) xs), length-little_bytes 4 x, length_numbers xs)
+
+-- how many bytes a code has
+pub length_code : (names : Names) → length (names_code names) ≡ 1 + 4 * (length names.objects + length names.numbers) + length (text_code names.text)
+length_code names =
+    let numbers = length_numbers (all_numbers names) in
+    omega (arith, length-append (numbers_code names.tag (all_numbers names)) (text_code names.text), numbers, length-append names.objects names.numbers)
+
+-- two texts, or none twice, with the same bytes in front are the same
+text_split : (text other : Option (List ℕ)) (rest more : List ℕ) → is_some text ≡ is_some other
+    → length (unwrap_or text []) < 2 ^ 32 → length (unwrap_or other []) < 2 ^ 32
+    → text_code text ++ rest ≡ text_code other ++ more → text ≡ other
+text_split None None rest more kind short also same = refl
+text_split None (Some w) rest more kind short also same = cc
+text_split (Some v) None rest more kind short also same = cc
+text_split (Some v) (Some w) rest more kind short also same =
+    let lengths = little_bytes-split 4 (length v) (length w) (v ++ rest) (w ++ more) short also
+    (sym (append_assoc (little_bytes 4 (length v)) v rest) ∙ same ∙ append_assoc (little_bytes 4 (length w)) w more) in
+    ap Some (sym (take_at v rest (length v) refl) ∙ ap (take (length v)) lengths.1 ∙ take_at w more (length v) (sym lengths.0))
+
+-- each of its numbers has four bytes, and so has the length of its text
+pub record FitsCode (names : Names) : Type 0 where
+  pub numbers : All (λ x. x < 2 ^ 32) (all_numbers names)
+  pub text : length (text_of names) < 2 ^ 32
 
 -- ---- rows
 
--- what makes a row lawful
-pub record IsRow {O : Type 0} (row : Row O) : Type 0 where
-  -- its code names as many objects and numbers for each operation, and says which it is
-  pub count : ℕ
-  pub all : (op : O) → length (row.objects op ++ row.numbers op) ≡ count
-  pub same : (p q : O) → row.objects p ++ row.numbers p ≡ row.objects q ++ row.numbers q → p ≡ q
-  pub reads : (op : O) → IsPart (row.reads op) (row.objects op)
-  pub writes : (op : O) → IsPart (row.writes op) (row.objects op)
-  pub writes_some : (op : O) → 0 < length (row.writes op)
+-- what each row meets by itself
+pub record IsRow (row : Row) : Type 0 where
+  pub reads : IsPart row.names.reads row.names.objects
+  pub writes : IsPart row.names.writes row.names.objects
+  pub writes_some : 0 < length row.names.writes
   -- a value for each object that it writes, none too long where nothing is refused
-  pub made : (op : O) (values : List (List ℕ)) → length (row.made op values) ≡ length (row.writes op)
-  pub short : (b : Bounds) (op : O) (values : List (List ℕ)) → All (λ v. length v ≤ b.cap) values → row.check b op values ≡ None
-      → All (λ v. length v ≤ b.cap) (row.made op values)
+  pub made : (values : List (List ℕ)) → length (row.made values) ≡ length row.names.writes
+  pub short : (b : Bounds) (values : List (List ℕ)) → length (text_of row.names) ≤ b.cap → All (λ v. length v ≤ b.cap) values
+      → row.check b values ≡ None → All (λ v. length v ≤ b.cap) (row.made values)
   -- a larger cap refuses nothing more
-  pub wider : (b c : Bounds) → b.cap ≤ c.cap → (op : O) (values : List (List ℕ)) → row.check b op values ≡ None → row.check c op values ≡ None
+  pub wider : (b c : Bounds) → b.cap ≤ c.cap → (values : List (List ℕ)) → row.check b values ≡ None → row.check c values ≡ None
 
-module _ {O : Type 0} (row : Row O) where
+-- what makes a table lawful: the tag tells how many numbers there are, and whether there is a text, and the tag with
+-- these tells the operation
+pub record AreRows {O : Type 0} (row : O → Row) : Type 0 where
+  pub each : (op : O) → IsRow (row op)
+  pub count : (p q : O) → (row p).names.tag ≡ (row q).names.tag → length (all_numbers (row p).names) ≡ length (all_numbers (row q).names)
+  pub kind : (p q : O) → (row p).names.tag ≡ (row q).names.tag → is_some (row p).names.text ≡ is_some (row q).names.text
+  pub same : (p q : O) → (row p).names.tag ≡ (row q).names.tag → all_numbers (row p).names ≡ all_numbers (row q).names
+      → (row p).names.text ≡ (row q).names.text → p ≡ q
+
+module _ {O : Type 0} (row : O → Row) where
   -- the bounds are those of the meaning
-  pub row_bounded : (b : Bounds) → HasBounds b (meaning_of row b)
-  row_bounded b = record { objects = refl; cap = refl }
+  pub rows_bounded : (b : Bounds) → HasBounds b (rows_meaning row b)
+  rows_bounded b = record { objects = refl; cap = refl }
 
-  module _ (is : IsRow row) where
-    numbers_fit : (b : Bounds) → IsSmall b → (op : O) → IsInGrammar (meaning_of row b) op → All (λ x. x < 2 ^ 32) (row.objects op ++ row.numbers op)
-    numbers_fit b small op e =
-        let names = named_by b (row.objects op) (row.numbers op) e in
-        let bound = small.objects in
-        All-append (λ x. x < 2 ^ 32) (row.objects op) (row.numbers op) (All-weaker (λ x. x < b.objects) (λ x. x < 2 ^ 32) (λ x there. omega (arith, there, bound)) (row.objects op) names.there) names.fit
+  -- what is named in the grammar, and the text is not too long
+  pub shape_says : (b : Bounds) (op : O) → IsInGrammar (rows_meaning row b) op
+      → IsNamed b.objects (row op).names.objects (row op).names.numbers × (length (text_of (row op).names) ≤ b.cap)
+  shape_says b op e =
+      let tests = or_else-none (named b (row op).names.objects (row op).names.numbers) (unless (nat_le (length (text_of (row op).names)) b.cap) TooLarge) e in
+      (named_by b (row op).names.objects (row op).names.numbers tests.0, leb-true (length (text_of (row op).names)) b.cap (unless-none _ _ tests.1))
 
-    one_code_of_row : (b : Bounds) → IsSmall b → (p q : O) (bytes : List ℕ) → StartsWithCode (meaning_of row b) bytes p → StartsWithCode (meaning_of row b) bytes q → p ≡ q
-    one_code_of_row b small p q bytes one two =
-        is.same p q
-        (numbers_split (row.objects p ++ row.numbers p) (row.objects q ++ row.numbers q) one.rest two.rest (is.all p ∙ sym (is.all q))
-        (numbers_fit b small p one.in_grammar) (numbers_fit b small q two.in_grammar) (ap (drop 1) (sym one.split ∙ two.split)))
+  in_grammar_fits : (b : Bounds) → IsSmall b → (op : O) → IsInGrammar (rows_meaning row b) op → FitsCode (row op).names
+  in_grammar_fits b small op e =
+      let says = shape_says b op e in
+      let objects = small.objects in
+      let cap = small.cap in
+      record {
+        numbers = All-append (λ x. x < 2 ^ 32) (row op).names.objects (row op).names.numbers
+            (All-weaker (λ x. x < b.objects) (λ x. x < 2 ^ 32) (λ x there. omega (arith, there, objects)) (row op).names.objects says.0.there) says.0.fit;
+        text = let short = says.1 in omega (arith, short, cap);
+      }
 
-    pub row_lawful : (b : Bounds) → IsSmall b → IsLawful (meaning_of row b)
-    row_lawful b small =
-        let names = λ (op : O). named_by b (row.objects op) (row.numbers op) in
-        record {
-          writes_some = λ op e. is.writes_some op;
-          reads_below = λ op e. part_all (λ x. x < b.objects) (row.reads op) (row.objects op) (is.reads op) (names op e).there;
-          reads_apart = λ op e. part_apart (row.reads op) (row.objects op) (is.reads op) (names op e).apart;
-          writes_below = λ op e. part_all (λ x. x < b.objects) (row.writes op) (row.objects op) (is.writes op) (names op e).there;
-          writes_apart = λ op e. part_apart (row.writes op) (row.objects op) (is.writes op) (names op e).apart;
-          made = λ op values e fits. (
-            if_applicable-count (row.check b op values) (row.made op values) ∙ is.made op values,
-            if_applicable-short b.cap (row.check b op values) (row.made op values) (is.short b op values fits.short),
-          );
-          encodable = λ op e. refl;
-          one_code = one_code_of_row b small;
-        }
+  -- a code beside what follows it
+  pub beside : (op : O) (rest : List ℕ)
+      → names_code (row op).names ++ rest ≡ numbers_code (row op).names.tag (all_numbers (row op).names) ++ (text_code (row op).names.text ++ rest)
+  beside op rest = append_assoc (numbers_code (row op).names.tag (all_numbers (row op).names)) (text_code (row op).names.text) rest
 
-    pub row_widens : (b c : Bounds) → AreWithin b c → Widens (meaning_of row b) (meaning_of row c)
-    row_widens b c within = record {
+  module _ (are : AreRows row) where
+    -- two operations whose codes begin the same bytes are one
+    one_beginning : (p q : O) (bytes rest more : List ℕ) → FitsCode (row p).names → FitsCode (row q).names
+        → bytes ≡ names_code (row p).names ++ rest → bytes ≡ names_code (row q).names ++ more → p ≡ q
+    one_beginning p q bytes rest more fits also one two =
+        let codes = sym (beside p rest) ∙ sym one ∙ two ∙ beside q more in
+        let tags : (row p).names.tag ≡ (row q).names.tag = ap (λ (l : List ℕ). slice_index l 0) codes in
+        let numbers = numbers_split (all_numbers (row p).names) (all_numbers (row q).names) (text_code (row p).names.text ++ rest) (text_code (row q).names.text ++ more)
+        (are.count p q tags) fits.numbers also.numbers (ap (drop 1) codes) in
+        are.same p q tags numbers.0 (text_split (row p).names.text (row q).names.text rest more (are.kind p q tags) fits.text also.text numbers.1)
+
+    one_code_of_rows : (b : Bounds) → IsSmall b → (p q : O) (bytes : List ℕ) → StartsWithCode (rows_meaning row b) bytes p → StartsWithCode (rows_meaning row b) bytes q → p ≡ q
+    one_code_of_rows b small p q bytes one two =
+        one_beginning p q bytes one.rest two.rest (in_grammar_fits b small p one.in_grammar) (in_grammar_fits b small q two.in_grammar) one.split two.split
+
+    -- where bytes begin with the code of an operation that is not in the grammar, they begin with none of the grammar
+    pub no_other : (b : Bounds) → IsSmall b → (p q : O) (bytes rest : List ℕ) → FitsCode (row p).names → bytes ≡ names_code (row p).names ++ rest
+        → names_shape b (row p).names ≢ None → StartsWithCode (rows_meaning row b) bytes q → ⊥
+    no_other b small p q bytes rest fits split refused begins =
+        let one = one_beginning p q bytes rest begins.rest fits (in_grammar_fits b small q begins.in_grammar) split begins.split in
+        refused (ap (λ (op : O). names_shape b (row op).names) one ∙ begins.in_grammar)
+
+    pub rows_lawful : (b : Bounds) → IsSmall b → IsLawful (rows_meaning row b)
+    rows_lawful b small = record {
+      writes_some = λ op e. (are.each op).writes_some;
+      reads_below = λ op e. part_all (λ x. x < b.objects) (row op).names.reads (row op).names.objects (are.each op).reads (shape_says b op e).0.there;
+      reads_apart = λ op e. part_apart (row op).names.reads (row op).names.objects (are.each op).reads (shape_says b op e).0.apart;
+      writes_below = λ op e. part_all (λ x. x < b.objects) (row op).names.writes (row op).names.objects (are.each op).writes (shape_says b op e).0.there;
+      writes_apart = λ op e. part_apart (row op).names.writes (row op).names.objects (are.each op).writes (shape_says b op e).0.apart;
+      made = λ op values e fits. (
+        if_applicable-count ((row op).check b values) ((row op).made values) ∙ (are.each op).made values,
+        if_applicable-short b.cap ((row op).check b values) ((row op).made values) ((are.each op).short b values (shape_says b op e).1 fits.short),
+      );
+      encodable = λ op e.
+          let short = (shape_says b op e).1 in
+          let cap = small.cap in
+          lt-ltb (length (text_of (row op).names)) (2 ^ 32) (omega (arith, short, cap));
+      one_code = one_code_of_rows b small;
+    }
+
+    pub rows_widen : (b c : Bounds) → AreWithin b c → Widens (rows_meaning row b) (rows_meaning row c)
+    rows_widen b c within = record {
       reads = λ op. refl;
       writes = λ op. refl;
       code = λ op. refl;
-      in_grammar = λ op e. named_wider b c (row.objects op) (row.numbers op) within e;
-      accepted = λ op values e fits accepted. is.wider b c within.cap op values accepted;
+      in_grammar = λ op e.
+          let tests = or_else-none (named b (row op).names.objects (row op).names.numbers) (unless (nat_le (length (text_of (row op).names)) b.cap) TooLarge) e in
+          or_else-both (named c (row op).names.objects (row op).names.numbers) (unless (nat_le (length (text_of (row op).names)) c.cap) TooLarge)
+          (named_wider b c (row op).names.objects (row op).names.numbers within tests.0)
+          (fits_more (length (text_of (row op).names)) b.cap c.cap within.cap tests.1);
+      accepted = λ op values e fits accepted. (are.each op).wider b c within.cap values accepted;
       effect = λ op values e fits accepted.
-          ap (λ (r : Option Refusal). if_applicable r (row.made op values)) (is.wider b c within.cap op values accepted ∙ sym accepted);
+          ap (λ (r : Option Refusal). if_applicable r ((row op).made values)) ((are.each op).wider b c within.cap values accepted ∙ sym accepted);
     }
 
     -- what is refused makes every object that it writes empty
-    pub row_refused : (b : Bounds) (op : O) (values : List (List ℕ)) (r : Refusal) → (meaning_of row b).check op values ≡ Some r
-        → (meaning_of row b).effect op values ≡ map (λ x. []) ((meaning_of row b).writes op)
-    row_refused b op values r e =
-        ap (λ (refusal : Option Refusal). if_applicable refusal (row.made op values)) e ∙ empty_each (row.made op values) (row.writes op) (is.made op values)
+    pub rows_refused : (b : Bounds) (op : O) (values : List (List ℕ)) (r : Refusal) → (rows_meaning row b).check op values ≡ Some r
+        → (rows_meaning row b).effect op values ≡ map (λ x. []) ((rows_meaning row b).writes op)
+    rows_refused b op values r e =
+        ap (λ (refusal : Option Refusal). if_applicable refusal ((row op).made values)) e ∙ empty_each ((row op).made values) (row op).names.writes ((are.each op).made values)

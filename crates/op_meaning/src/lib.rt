@@ -6,30 +6,15 @@
 //! codes.
 #![tactic(auto)]
 
-mod app_read;
 mod app_state;
-mod app_write;
-mod append;
-mod copy;
-mod cut;
-mod exec;
+mod effects;
 mod laws;
+mod names;
 mod numbers;
-mod objects;
 mod order;
-mod put;
-mod sort;
-mod swap;
+mod plain_op;
 
-pub use app_read::AppRead;
 pub use app_state::AppState;
-pub use app_write::AppWrite;
-pub use append::Append;
-pub use copy::Copy;
-pub use cut::Cut;
-pub use exec::Exec;
 pub use laws::states_have_one_code;
 pub use order::in_order_is_the_sorted_permutation;
-pub use put::Put;
-pub use sort::Sort;
-pub use swap::Swap;
+pub use plain_op::PlainOp;

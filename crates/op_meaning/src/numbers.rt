@@ -1,32 +1,17 @@
 // Codes that are a tag, and numbers of four bytes each.
-ghost use Rattle.std.specs.Prelude.{◌≡◌, ◌≢◌, ◌≤◌, [], ◌∷◌, ◌++◌, List, ℕ, IfNone, IfSome, OnErr, OnOk, drop, length};
-ghost use Rattle.op_meaning.specs.Rows.{numbers_code};
+ghost use Rattle.std.specs.Prelude.{◌+◌, ◌<◌, ◌^◌, ◌≡◌, ◌≢◌, [], ◌∷◌, ◌++◌, List, ℕ, IfNone, IfSome, Some, drop, length};
+ghost use Rattle.op_meaning.specs.Rows.{numbers_code, text_code};
 
 use byteorder::{ByteOrder, LittleEndian};
-use oper_core::Memory;
-
-/// Appends the code of a tag and at most three numbers. Without memory for it the bytes stay as they are.
-pub(crate) fn write_numbers(out: &mut Vec<u8>, tag: u8, numbers: &[u32]) -> Result<(), Memory>
-    requires { length numbers.now ≤ 3 }
-    ensures ok { OnOk result (out.new.items ≡ out.old.items ++ numbers_code tag numbers.now) }
-    ensures err { OnErr result (out.new.items ≡ out.old.items) }
-{
-    out.reserve(1 + 4 * numbers.len())?;
-    out.push(tag)?;
-    for number in numbers {
-        out.extend_from_slice(&number.to_le_bytes())?;
-    }
-    Ok(())
-}
 
 /// How many bytes a tag and one number have.
-pub(crate) const ONE_NUMBER: usize = 5;
+const ONE_NUMBER: usize = 5;
 
 /// How many bytes a tag and two numbers have.
-pub(crate) const TWO_NUMBERS: usize = 9;
+const TWO_NUMBERS: usize = 9;
 
 /// How many bytes a tag and three numbers have.
-pub(crate) const THREE_NUMBERS: usize = 13;
+const THREE_NUMBERS: usize = 13;
 
 /// The number after this tag, where the bytes begin with such a code.
 pub(crate) fn one_number(tag: u8, bytes: &[u8]) -> Option<u32>
@@ -66,4 +51,21 @@ pub(crate) fn three_numbers(tag: u8, bytes: &[u8]) -> Option<(u32, u32, u32)>
         LittleEndian::read_u32(&bytes[5..]),
         LittleEndian::read_u32(&bytes[9..]),
     ))
+}
+
+/// The number after this tag and the text behind it, where the bytes begin with such a code.
+pub(crate) fn number_and_text(tag: u8, bytes: &[u8]) -> Option<(u32, &[u8])>
+    ensures some { IfSome result (λ n. bytes.now ≡ numbers_code tag (n.0 ∷ []) ++ (text_code (Some n.1.now) ++ drop (9 + length n.1.now) bytes.now)) }
+    ensures fits { IfSome result (λ n. length n.1.now < 2 ^ 32) }
+    ensures none { IfNone result ((x : ℕ) (text rest : List ℕ) → length text < 2 ^ 32 → bytes.now ≢ numbers_code tag (x ∷ []) ++ (text_code (Some text) ++ rest)) }
+{
+    if bytes.len() < TWO_NUMBERS || bytes[0] != tag {
+        return None;
+    }
+    let length = LittleEndian::read_u32(&bytes[5..]) as usize;
+    let rest = &bytes[TWO_NUMBERS..];
+    if rest.len() < length {
+        return None;
+    }
+    Some((LittleEndian::read_u32(&bytes[1..]), &rest[..length]))
 }

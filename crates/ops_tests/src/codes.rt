@@ -1,7 +1,7 @@
 // Bytes that begin with no code, and objects that no command has.
 use btree_ops::NodeOp;
 use op_codec::AllOps;
-use op_meaning::{Append, Copy, Cut, Sort, Swap};
+use op_meaning::PlainOp;
 use oper_core::{Bounds, Oper, Refusal};
 use std::alloc::Global;
 
@@ -71,11 +71,11 @@ const TRIPLES: [(u32, u32, u32, Result<(), Refusal>); 4] = [
 
 fn is_said_of_pairs(from: u32, to: u32, want: Result<(), Refusal>) -> bool {
     [
-        Copy { from, to }.shape(EIGHT),
-        Append { from, to }.shape(EIGHT),
-        Cut { from, to, place: 9 }.shape(EIGHT),
-        Sort { from, to, width: 0 }.shape(EIGHT),
-        Swap {
+        PlainOp::Copy { from, to }.shape(EIGHT),
+        PlainOp::Append { from, to }.shape(EIGHT),
+        PlainOp::Cut { from, to, place: 9 }.shape(EIGHT),
+        PlainOp::Sort { from, to, width: 0 }.shape(EIGHT),
+        PlainOp::Swap {
             first: from,
             second: to,
         }

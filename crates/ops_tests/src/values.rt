@@ -42,12 +42,14 @@ fn a_byte_list_gives_its_bytes_back(rt: HostRuntime) -> Result<(), Fail> {
     Ok(())
 }
 
-const NAMES: [(Refusal, &str); 10] = [
+const NAMES: [(Refusal, &str); 12] = [
     (Refusal::NoObject, "NoObject"),
     (Refusal::Same, "Same"),
     (Refusal::BadPlace, "BadPlace"),
     (Refusal::BadWidth, "BadWidth"),
     (Refusal::NotApp, "NotApp"),
+    (Refusal::NotCode, "NotCode"),
+    (Refusal::Halted, "Halted"),
     (Refusal::NoInput, "NoInput"),
     (Refusal::NotNode, "NotNode"),
     (Refusal::NoKey, "NoKey"),
