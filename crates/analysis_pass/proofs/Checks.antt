@@ -6,8 +6,8 @@ use Rattle.oper_core.specs.Meaning.{Meaning}
 use Rattle.formats.specs.Records.{last_check, IsCheckAt, AreRecords}
 use Rattle.formats.specs.declared.record.Record.{Record}
 use Rattle.formats.specs.declared.record.Record.TheVariants.{Command, Identity, Check}
-use Rattle.checkpoint.specs.RedoStarts.{redo_from}
-use Rattle.checkpoint.specs.declared.table.Table.{Table}
+use Rattle.redo_tables.specs.RedoStarts.{redo_from}
+use Rattle.redo_tables.specs.declared.table.Table.{Table}
 use Rattle.explain_core.specs.World.{start_of}
 use Rattle.analysis_pass.specs.Analysis.{table_or, plan_table, least_start}
 use Rattle.analysis_pass.proofs.Least.{least_start-is, least_start-none}

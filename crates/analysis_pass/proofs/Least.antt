@@ -7,8 +7,8 @@ use Rattle.std.proofs.lemmas.Bool.{cases_eq}
 use Rattle.std.proofs.lemmas.Bool.Decides.{eqb_tells}
 use Rattle.std.proofs.lemmas.List.Elements.{All-head, All-tail}
 use Rattle.std.proofs.lemmas.List.{get_or_default}
-use Rattle.checkpoint.specs.RedoStarts.{start_or, redo_from}
-use Rattle.checkpoint.specs.declared.table.Table.{Table}
+use Rattle.redo_tables.specs.RedoStarts.{start_or, redo_from}
+use Rattle.redo_tables.specs.declared.table.Table.{Table}
 use Rattle.explain_core.specs.World.{least_of, start_of}
 use Rattle.analysis_pass.specs.Analysis.{least_start}
 use Rattle.analysis_pass.proofs.Objects.{start_at}

@@ -1,6 +1,6 @@
 -- Where a redo by the last check of a log starts.
 use Rattle.std.specs.Prelude.{ℕ, min, Option, None, Some, List, [], ◌∷◌}
-use Rattle.checkpoint.specs.declared.table.Table.{Table}
+use Rattle.redo_tables.specs.declared.table.Table.{Table}
 use Rattle.formats.specs.Records.{last_check}
 use Rattle.formats.specs.declared.record.Record.{Record}
 

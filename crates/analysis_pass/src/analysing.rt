@@ -4,7 +4,7 @@ ghost use Rattle.std.specs.List.Sorted.{IsStrictlyIncreasing};
 ghost use Rattle.analysis_pass.specs.Analysis.{table_or, least_start};
 
 use crate::Plan;
-use checkpoint::{Starts, Table};
+use redo_tables::{Starts, Table};
 use std::alloc::Global;
 
 /// The plan of a redo that goes by this table, which is that of the log's last check; where none is given, by one that

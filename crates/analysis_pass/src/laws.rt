@@ -1,7 +1,7 @@
 ghost use Rattle.std.specs.Prelude.{◌≡◌, List, ℕ};
 ghost use Rattle.oper_core.specs.declared.bounds.Bounds.{Bounds};
-ghost use Rattle.checkpoint.specs.RedoStarts.{redo_from};
-ghost use Rattle.checkpoint.specs.declared.table.Table.{Table};
+ghost use Rattle.redo_tables.specs.RedoStarts.{redo_from};
+ghost use Rattle.redo_tables.specs.declared.table.Table.{Table};
 ghost use Rattle.formats.specs.Records.{IsCheckAt, AreRecords};
 ghost use Rattle.formats.specs.declared.record.Record.{Record};
 ghost use Rattle.explain_core.specs.World.{start_of};

@@ -1,8 +1,8 @@
 ghost use Rattle.std.specs.Prelude.{◌≡◌, map};
 ghost use Rattle.std.specs.List.Sorted.{IsStrictlyIncreasing};
-ghost use Rattle.checkpoint.specs.RedoStarts.{start_or, redo_from as starts_from};
+ghost use Rattle.redo_tables.specs.RedoStarts.{start_or, redo_from as starts_from};
 
-use checkpoint::Table;
+use redo_tables::Table;
 use std::marker::Model;
 
 /// Where a redo starts, and from which number on it applies what the records write to each object.
@@ -50,7 +50,7 @@ impl Plan {
         if self.rises {
             search(self.table.starts.as_slice(), object, self.table.next)
         } else {
-            checkpoint::redo_from(&self.table, object)
+            redo_tables::redo_from(&self.table, object)
         }
     }
 }

@@ -26,7 +26,7 @@ pub record HasSameLimits (old new : CallHistory) : Type 0 where
   pub pool : new.pool.bound ≡ old.pool.bound
 
 -- one call more is recorded, with so many bytes
-pub record Takes (count : ℕ) (old new : CallHistory) : Type 0 where
+pub record CallsCounted (count : ℕ) (old new : CallHistory) : Type 0 where
   pub limit : new.limit ≡ old.limit
   pub pool : new.pool.bound ≡ old.pool.bound
   pub calls : length new.entries.items ≡ length old.entries.items + 1

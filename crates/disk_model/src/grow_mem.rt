@@ -1,6 +1,6 @@
 // A machine in memory that grows.
 ghost use Rattle.std.specs.Prelude.{◌≡◌, ◌<◌, ◌≤◌, ◌+◌, ◌-◌, ◌++◌, [], length, take, IfOk, OnOk, OnErr, IsOk, IsErr, IsOkAnd};
-ghost use Rattle.disk_model.specs.Disk.{Files, Rises, Runs, Stays, Same, In, Torn, Holds, SaysFront, IsSettledIn, read_of};
+ghost use Rattle.disk_model.specs.Disk.{Files, Rises, Runs, Stays, Same, In, Torn, HoldsAt, SaysFront, IsSettledIn, read_of};
 ghost use Rattle.disk_model.specs.FilesTold.{lawful_files_told};
 ghost use Rattle.disk_model.specs.Growing.{disk_of, files_of, said_by, HasSameFaults, HoldsTheSame, FailsToWrite, FailsToSay};
 ghost use Rattle.disk_model.specs.declared.machine.FileNo.{FileNo};
@@ -105,7 +105,7 @@ impl Machine for GrowMem {
 
     fn write_at(&mut self, file: FileNo, at: u64, bytes: &[u8]) -> Result<(), Failed>
         ensures runs { Runs (In file (Torn at (length bytes.now))) Same (disk_of self.old) (disk_of self.new) }
-        ensures written { (disk_of self.old).tells_files → OnOk result (In file (Holds at bytes.now) (disk_of self.old).reads (disk_of self.new).reads) }
+        ensures written { (disk_of self.old).tells_files → OnOk result (In file (HoldsAt at bytes.now) (disk_of self.old).reads (disk_of self.new).reads) }
         ensures cause { IsErr result → Rises (disk_of self.old).disk_faults (disk_of self.new).disk_faults }
 
         ensures within { at + length bytes.now ≤ length ((disk_of self.old).reads file) → IsOk result }

@@ -1,7 +1,7 @@
 // The disk model in memory: three files and what was printed, with a record of the calls.
 ghost use Rattle.std.specs.Prelude.{◌≡◌, ◌<◌, ◌≤◌, ◌+◌, ◌++◌, [], ◌∷◌, length, IfOk, IsTrue, ◌↔◌};
 ghost use Rattle.disk_model.specs.Calls.{Matches, changed};
-ghost use Rattle.disk_model.specs.Recorded.{calls_of, first_of, reads_of, synced_of, bound_of, size_in, HasSameLimits, Takes, IsEmpty};
+ghost use Rattle.disk_model.specs.Recorded.{calls_of, first_of, reads_of, synced_of, bound_of, size_in, HasSameLimits, CallsCounted, IsEmpty};
 ghost use Rattle.std.proofs.Props.{props};
 
 use crate::call_history::CallHistory;
@@ -23,7 +23,7 @@ pub struct MemDisk {
 
 impl MemDisk {
     ghost use Rattle.disk_model.specs.declared.machine.FileNo.{FileNo};
-    ghost use Rattle.disk_model.specs.Disk.{Runs, Stays, Same, In, Torn, Holds, SaysFront, IsSettled, IsSettledIn};
+    ghost use Rattle.disk_model.specs.Disk.{Runs, Stays, Same, In, Torn, HoldsAt, SaysFront, IsSettled, IsSettledIn};
     ghost use Rattle.disk_model.specs.Calls.{Write, Sync, Say};
     ghost use Rattle.disk_model.specs.Store.{recorded, state_of, left_after};
 
@@ -84,10 +84,10 @@ impl MemDisk {
         requires call { length self.old.history.entries.items < self.old.history.limit }
         requires room { length self.old.history.pool.bytes.items + length bytes.now ≤ self.old.history.pool.bound }
         ensures runs { Runs (In file (Torn at (length bytes.now))) Same (recorded self.old) (recorded self.new) }
-        ensures written { In file (Holds at bytes.now) (recorded self.old).reads (recorded self.new).reads }
+        ensures written { In file (HoldsAt at bytes.now) (recorded self.old).reads (recorded self.new).reads }
         ensures calls { calls_of self.new.history ≡ calls_of self.old.history ++ Write file at bytes.now ∷ [] }
         ensures first { first_of self.new.files ≡ first_of self.old.files }
-        ensures takes { Takes (length bytes.now) self.old.history self.new.history }
+        ensures takes { CallsCounted (length bytes.now) self.old.history self.new.history }
         ensures bounds { (other : FileNo) → bound_of self.new.files other ≡ bound_of self.old.files other }
     {
         self.files.write(file, at, bytes);
@@ -100,7 +100,7 @@ impl MemDisk {
         ensures settled { IsSettledIn file (recorded self.new) }
         ensures calls { calls_of self.new.history ≡ calls_of self.old.history ++ Sync file ∷ [] }
         ensures first { first_of self.new.files ≡ first_of self.old.files }
-        ensures takes { Takes 0 self.old.history self.new.history }
+        ensures takes { CallsCounted 0 self.old.history self.new.history }
         ensures bounds { (other : FileNo) → bound_of self.new.files other ≡ bound_of self.old.files other }
     {
         self.files.sync(file);
@@ -114,7 +114,7 @@ impl MemDisk {
         ensures all { (recorded self.new).said ≡ (recorded self.old).said ++ bytes.now }
         ensures calls { calls_of self.new.history ≡ calls_of self.old.history ++ Say bytes.now ∷ [] }
         ensures first { first_of self.new.files ≡ first_of self.old.files }
-        ensures takes { Takes (length bytes.now) self.old.history self.new.history }
+        ensures takes { CallsCounted (length bytes.now) self.old.history self.new.history }
         ensures bounds { (other : FileNo) → bound_of self.new.files other ≡ bound_of self.old.files other }
     {
         self.said.append(bytes);

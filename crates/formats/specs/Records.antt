@@ -5,8 +5,8 @@ use Rattle.std.specs.Option.{option_or}
 use Rattle.std.specs.List.Sorted.{IsStrictlyIncreasing}
 use Rattle.byteorder.specs.Endian.{little_bytes}
 use Rattle.oper_core.specs.Meaning.{Meaning, IsInGrammar}
-use Rattle.checkpoint.specs.declared.table.Table.{Table}
-use Rattle.checkpoint.specs.Codec.{IsTable, table_code}
+use Rattle.redo_tables.specs.declared.table.Table.{Table}
+use Rattle.redo_tables.specs.Codec.{IsTable, table_code}
 use Rattle.disk_model.specs.Disk.{Files}
 use Rattle.disk_model.specs.declared.machine.FileNo.{FileNo}
 use Rattle.formats.specs.InForce.{IsInForce}
@@ -48,6 +48,12 @@ abbrev pub next_behind : {O : Type 0} → ℕ → Record O → ℕ
 next_behind next (Command number op) = next + 1
 next_behind next (Identity number x value) = next + 1
 next_behind next (Check table) = next
+
+-- the number that a record has; a check has none
+abbrev pub number_of : {O : Type 0} → Record O → Option ℕ
+number_of (Command number op) = Some number
+number_of (Identity number x value) = Some number
+number_of (Check table) = None
 
 -- the next number after records
 abbrev pub next_after : {O : Type 0} → ℕ → List (Record O) → ℕ
