@@ -13,7 +13,7 @@ use Rattle.explain_core.specs.History.{commands_of, Member, accesses_of, value_a
 use Rattle.explain_core.specs.History.Member.{Command, Identity}
 use Rattle.oper_core.specs.Cell.{Cell}
 use Rattle.explain_core.specs.Explains.{Explains}
-use Rattle.explain_core.specs.World.{World, Table, step, IsLive, end_of, plan_of, MayAppend, set_by}
+use Rattle.explain_core.specs.World.{World, Starts, step, IsLive, end_of, plan_of, MayAppend, set_by}
 use Rattle.explain_core.specs.World.Step.{Append}
 use Rattle.explain_core.specs.Sound.{IsSound, SkipsNothing, and_below}
 use Rattle.explain_core.proofs.Basics.{IsFront, front-append, value_at-append, value_at-same, slice_get-front, slice_get-last}
@@ -66,7 +66,7 @@ may-member {O} m w before (Command op) same may = subst (λ (state : ℕ → Lis
 may-member m w before (Identity x v) same may = (may.0, may.1 ∙ same x)
 
 -- the checks skip nothing of the longer history either
-fits-append : {O : Type 0} (m : Meaning O) (h t : List (Member O)) (i : ℕ → Bool) (base end : ℕ) (table : Table) → end ≤ length h + 1 → SkipsNothing (accesses_of m h) i base end table → SkipsNothing (accesses_of m (h ++ t)) i base end table
+fits-append : {O : Type 0} (m : Meaning O) (h t : List (Member O)) (i : ℕ → Bool) (base end : ℕ) (table : Starts) → end ≤ length h + 1 → SkipsNothing (accesses_of m h) i base end table → SkipsNothing (accesses_of m (h ++ t)) i base end table
 fits-append m h t i base end table le f = record {
   before = λ n x out w. elim (cases_lt (length h) n) [
     | inl lt ↦ omega (arith, f.start x, f.next_within)
@@ -78,7 +78,7 @@ fits-append m h t i base end table le f = record {
   next_within = f.next_within;
 }
 
-all_fit-append : {O : Type 0} (m : Meaning O) (h t : List (Member O)) (i : ℕ → Bool) (base end : ℕ) (tables : List Table) → end ≤ length h + 1 → AllByRecursion (SkipsNothing (accesses_of m h) i base end) tables → AllByRecursion (SkipsNothing (accesses_of m (h ++ t)) i base end) tables
+all_fit-append : {O : Type 0} (m : Meaning O) (h t : List (Member O)) (i : ℕ → Bool) (base end : ℕ) (tables : List Starts) → end ≤ length h + 1 → AllByRecursion (SkipsNothing (accesses_of m h) i base end) tables → AllByRecursion (SkipsNothing (accesses_of m (h ++ t)) i base end) tables
 all_fit-append m h t i base end [] le f = tt
 all_fit-append m h t i base end (x ∷ xs) le f = (fits-append m h t i base end x le f.0, all_fit-append m h t i base end xs le f.1)
 

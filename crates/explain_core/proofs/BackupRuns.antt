@@ -8,7 +8,7 @@ use Rattle.oper_core.specs.Meaning.{Meaning}
 use Rattle.explain_core.specs.History.{Member, accesses_of, value_at, reads_some, writes_some}
 use Rattle.oper_core.specs.Cell.{Cell}
 use Rattle.explain_core.specs.Explains.{Explains}
-use Rattle.explain_core.specs.World.{World, Step, Table, step, IsAllowed, plan_of, work_of}
+use Rattle.explain_core.specs.World.{World, Step, Starts, step, IsAllowed, plan_of, work_of}
 use Rattle.explain_core.specs.World.Step.{Begin, End, Append, Block_gate, Check, Slot_gate, Removal, Header_gate, Replay, Crash}
 use Rattle.explain_core.specs.Sound.{IsSound, SkipsNothing}
 use Rattle.explain_core.specs.Stable.{IsStableOf}
@@ -178,7 +178,7 @@ module _ {O : Type 0} (m : Meaning O) (w : World O) (copied : ℕ) (cells : ℕ 
         | inr set ↦ omega (arith, is.2, set.1, lt)
       ])))
 
-  pub copy-stands : (tables : List Table) → AllByRecursion (SkipsNothing a (installed_in_copy m w copied cells) w.base (length h + 1)) tables → IsStableOf m (copy_of w copied cells tables) h (installed_in_copy m w copied cells)
+  pub copy-stands : (tables : List Starts) → AllByRecursion (SkipsNothing a (installed_in_copy m w copied cells) w.base (length h + 1)) tables → IsStableOf m (copy_of w copied cells tables) h (installed_in_copy m w copied cells)
   copy-stands tables fit =
       let live = sound-stands m w s in
       record {

@@ -10,7 +10,7 @@ use Rattle.install_order.specs.Order.{Access}
 use Rattle.oper_core.specs.Meaning.{Meaning, IsLawful}
 use Rattle.explain_core.specs.History.{Member, IsHistory, IsMember, accesses_of, value_at, commands_of}
 use Rattle.explain_core.specs.Explains.{Explains}
-use Rattle.explain_core.specs.World.{World, Table, step, plan_of, start_of, least_of}
+use Rattle.explain_core.specs.World.{World, Starts, step, plan_of, start_of, least_of}
 use Rattle.explain_core.specs.World.Step.{Crash}
 use Rattle.explain_core.specs.Sound.{IsSound, SkipsNothing, and_below}
 use Rattle.explain_core.proofs.Basics.{IsFront, front-take, value_at-same}
@@ -58,7 +58,7 @@ same-below i k inside n = elim (cases_lt n k) [
 ]
 
 -- the plan skips nothing where the stable checks skip nothing
-pub plan_fits : (a : Access) (installed : ℕ → Bool) (base end : ℕ) (tables : List Table) → base ≤ end → ((n : ℕ) → n < base → IsTrue (installed n)) → AllByRecursion (SkipsNothing a installed base end) tables → SkipsNothing a installed base end (plan_of tables base)
+pub plan_fits : (a : Access) (installed : ℕ → Bool) (base end : ℕ) (tables : List Starts) → base ≤ end → ((n : ℕ) → n < base → IsTrue (installed n)) → AllByRecursion (SkipsNothing a installed base end) tables → SkipsNothing a installed base end (plan_of tables base)
 plan_fits a i base end [] le below all = record {
   before = λ n x out w. elim (cases_lt n base) [ inl lt ↦ absurd (both_ways _ out (below n lt)) | inr ge ↦ ge ];
   start = λ x. omega arith;
@@ -69,7 +69,7 @@ plan_fits a i base end [] le below all = record {
 plan_fits a i base end (t ∷ ts) le below all = all.0
 
 -- a check that skips nothing of the whole skips nothing of the stable front
-fits-front : (t a : Access) (f : ℕ) (installed : ℕ → Bool) (base end : ℕ) (table : Table) → IsFront t a f → SkipsNothing a installed base end table → SkipsNothing t installed base end table
+fits-front : (t a : Access) (f : ℕ) (installed : ℕ → Bool) (base end : ℕ) (table : Starts) → IsFront t a f → SkipsNothing a installed base end table → SkipsNothing t installed base end table
 fits-front t a f i base end table front h = record {
   before = λ n x out w. elim (cases_lt f n) [
     | inl lt ↦ absurd (both_ways _ (front.no_writes n x lt) w)
@@ -81,12 +81,12 @@ fits-front t a f i base end table front h = record {
   next_within = h.next_within;
 }
 
-pub all_fit-front : (t a : Access) (f : ℕ) (installed : ℕ → Bool) (base end : ℕ) (tables : List Table) → IsFront t a f → AllByRecursion (SkipsNothing a installed base end) tables → AllByRecursion (SkipsNothing t installed base end) tables
+pub all_fit-front : (t a : Access) (f : ℕ) (installed : ℕ → Bool) (base end : ℕ) (tables : List Starts) → IsFront t a f → AllByRecursion (SkipsNothing a installed base end) tables → AllByRecursion (SkipsNothing t installed base end) tables
 all_fit-front t a f i base end [] front all = tt
 all_fit-front t a f i base end (x ∷ xs) front all = (fits-front t a f i base end x front all.0, all_fit-front t a f i base end xs front all.1)
 
 -- all below the plan's start are installed
-pub start-installed : {O : Type 0} (m : Meaning O) → IsLawful m → (h : List (Member O)) (installed : ℕ → Bool) (base end : ℕ) (t : Table) → IsHistory m h → end ≤ length h + 1 → SkipsNothing (accesses_of m h) installed base end t → IsTrue (installed 0) → (n : ℕ) → n < start_of m.objects t → IsTrue (installed n)
+pub start-installed : {O : Type 0} (m : Meaning O) → IsLawful m → (h : List (Member O)) (installed : ℕ → Bool) (base end : ℕ) (t : Starts) → IsHistory m h → end ≤ length h + 1 → SkipsNothing (accesses_of m h) installed base end t → IsTrue (installed 0) → (n : ℕ) → n < start_of m.objects t → IsTrue (installed n)
 start-installed m law h installed base end t e le fits first zero lt = first
 start-installed {O} m law h installed base end t e le fits first (suc n) lt = elim (cases_Bool (installed (suc n))) [
   | inl there ↦ there

@@ -7,17 +7,17 @@ use Rattle.install_order.specs.Order.{Access}
 use Rattle.oper_core.specs.Meaning.{Meaning}
 use Rattle.explain_core.specs.History.{Member, accesses_of, value_at}
 use Rattle.explain_core.specs.Explains.{Explains}
-use Rattle.explain_core.specs.World.{World, Table, step, IsLive, NoGroup}
+use Rattle.explain_core.specs.World.{World, Starts, step, IsLive, NoGroup}
 use Rattle.explain_core.specs.World.Step.{Block_gate}
 use Rattle.explain_core.specs.Sound.{IsSound, SkipsNothing}
 use Rattle.explain_core.proofs.Basics.{front-take, value_at-take}
 use Rattle.explain_core.proofs.Core.{Explains-more}
 use Rattle.explain_core.proofs.Groups.{of-none}
 
-fits-later : (a : Access) (i : ℕ → Bool) (base end later : ℕ) (t : Table) → end ≤ later → SkipsNothing a i base end t → SkipsNothing a i base later t
+fits-later : (a : Access) (i : ℕ → Bool) (base end later : ℕ) (t : Starts) → end ≤ later → SkipsNothing a i base end t → SkipsNothing a i base later t
 fits-later a i base end later t le h = record { before = h.before; start = h.start; from_base = h.from_base; next_from_base = h.next_from_base; next_within = omega (arith, h.next_within) }
 
-pub all_fit-later : (a : Access) (i : ℕ → Bool) (base end later : ℕ) (ts : List Table) → end ≤ later → AllByRecursion (SkipsNothing a i base end) ts → AllByRecursion (SkipsNothing a i base later) ts
+pub all_fit-later : (a : Access) (i : ℕ → Bool) (base end later : ℕ) (ts : List Starts) → end ≤ later → AllByRecursion (SkipsNothing a i base end) ts → AllByRecursion (SkipsNothing a i base later) ts
 all_fit-later a i base end later [] le all = tt
 all_fit-later a i base end later (t ∷ ts) le all = (fits-later a i base end later t le all.0, all_fit-later a i base end later ts le all.1)
 

@@ -9,7 +9,7 @@ use Rattle.oper_core.specs.Meaning.{Meaning}
 use Rattle.explain_core.specs.History.{Member, accesses_of, value_at}
 use Rattle.oper_core.specs.Cell.{Cell}
 use Rattle.explain_core.specs.Explains.{Explains}
-use Rattle.explain_core.specs.World.{World, Table, step, end_of, graph_access, work_of}
+use Rattle.explain_core.specs.World.{World, Starts, step, end_of, graph_access, work_of}
 use Rattle.explain_core.specs.World.Step.{Slot_gate, Removal}
 use Rattle.explain_core.specs.Sound.{IsSound, SkipsNothing, and_below}
 use Rattle.explain_core.proofs.Core.{Explains-same, slots-whole}
@@ -30,10 +30,10 @@ may-install m w node s inside none = record {
   right = s.cache_right;
 }
 
-fits-more : (a : Access) (i j : ℕ → Bool) (base end : ℕ) (t : Table) → SkipsNothing a i base end t → SkipsNothing a (λ n. j n || i n) base end t
+fits-more : (a : Access) (i j : ℕ → Bool) (base end : ℕ) (t : Starts) → SkipsNothing a i base end t → SkipsNothing a (λ n. j n || i n) base end t
 fits-more a i j base end t f = record { before = λ n x out w. f.before n x (or_parts (j n) (i n) out).1 w; start = f.start; from_base = f.from_base; next_from_base = f.next_from_base; next_within = f.next_within }
 
-all_fit-more : (a : Access) (i j : ℕ → Bool) (base end : ℕ) (ts : List Table) → AllByRecursion (SkipsNothing a i base end) ts → AllByRecursion (SkipsNothing a (λ n. j n || i n) base end) ts
+all_fit-more : (a : Access) (i j : ℕ → Bool) (base end : ℕ) (ts : List Starts) → AllByRecursion (SkipsNothing a i base end) ts → AllByRecursion (SkipsNothing a (λ n. j n || i n) base end) ts
 all_fit-more a i j base end [] f = tt
 all_fit-more a i j base end (t ∷ ts) f = (fits-more a i j base end t f.0, all_fit-more a i j base end ts f.1)
 

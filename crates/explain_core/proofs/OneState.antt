@@ -8,7 +8,7 @@ use Rattle.oper_core.specs.Meaning.{Meaning, IsLawful, state_after}
 use Rattle.explain_core.specs.History.{Member, accesses_of, value_at, numbered, writes_some, commands_of}
 use Rattle.oper_core.specs.Cell.{Cell}
 use Rattle.explain_core.specs.Explains.{Explains}
-use Rattle.explain_core.specs.World.{World, Table, step, run, replays, plan_of, start_of, end_of, set_by}
+use Rattle.explain_core.specs.World.{World, Starts, step, run, replays, plan_of, start_of, end_of, set_by}
 use Rattle.explain_core.specs.World.Step.{Replay, Crash}
 use Rattle.explain_core.specs.Sound.{IsSound, SkipsNothing, and_below}
 use Rattle.explain_core.specs.Stable.{Stable, IsStableOf, world_of, stable_of}
@@ -46,10 +46,10 @@ slice_get-drop (suc n) [] i = refl
 slice_get-drop (suc n) (x ∷ xs) i = let e : suc n + i ≡ suc (n + i) = omega arith in rw e (slice_get-drop n xs i)
 
 -- the cache after one replay, and after so many
-abbrev redo_cache : {O : Type 0} → Meaning O → Option (Member O) → Table → ℕ → (ℕ → Cell) → ℕ → Cell
+abbrev redo_cache : {O : Type 0} → Meaning O → Option (Member O) → Starts → ℕ → (ℕ → Cell) → ℕ → Cell
 redo_cache m o plan k c = set_by m o (λ x. writes_some m o x && (nat_lt (c x).id k && nat_le (plan.redo_from x) k)) k c
 
-abbrev redo_caches : {O : Type 0} → Meaning O → (ℕ → Option (Member O)) → Table → ℕ → ℕ → (ℕ → Cell) → ℕ → Cell
+abbrev redo_caches : {O : Type 0} → Meaning O → (ℕ → Option (Member O)) → Starts → ℕ → ℕ → (ℕ → Cell) → ℕ → Cell
 redo_caches m members plan k zero c = c
 redo_caches m members plan k (suc n) c = redo_caches m members plan (k + 1) n (redo_cache m (members k) plan k c)
 
@@ -58,7 +58,7 @@ unfolding step run
 run-caches m w zero = refl
 run-caches m w (suc n) = run-caches m (step m w Replay) n
 
-same-caches : {O : Type 0} (m : Meaning O) (f g : ℕ → Option (Member O)) (plan : Table) (k n : ℕ) (c : ℕ → Cell) → ((i : ℕ) → k ≤ i → f i ≡ g i) → redo_caches m f plan k n c ≡ redo_caches m g plan k n c
+same-caches : {O : Type 0} (m : Meaning O) (f g : ℕ → Option (Member O)) (plan : Starts) (k n : ℕ) (c : ℕ → Cell) → ((i : ℕ) → k ≤ i → f i ≡ g i) → redo_caches m f plan k n c ≡ redo_caches m g plan k n c
 same-caches m f g plan k zero c same = refl
 same-caches {O} m f g plan k (suc n) c same =
     ap (λ (o : Option (Member O)). redo_caches m f plan (k + 1) n (redo_cache m o plan k c)) (same k (omega arith))

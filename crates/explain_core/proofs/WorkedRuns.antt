@@ -8,7 +8,7 @@ use Rattle.install_order.specs.NodeLaws.{flushed-iff}
 use Rattle.install_order.specs.Checks.{is_minimal-gives, flushes_only-gives}
 use Rattle.explain_core.specs.declared.byte_op.ByteOp.{ByteOp}
 use Rattle.explain_core.specs.ByteOps.{byte_meaning, byte_lawful}
-use Rattle.explain_core.specs.World.{Step, step, run, AreAllowed, IsReady, new_world, graph_access, work_of, end_of, replays}
+use Rattle.explain_core.specs.World.{Step, step, run, AreAllowed, IsInstallable, new_world, graph_access, work_of, end_of, replays}
 use Rattle.explain_core.specs.World.Step.{Block_gate, Check, Slot_gate, Removal, Header_gate, Crash}
 use Rattle.explain_core.specs.RunLaws.{allowed-append}
 use Rattle.explain_core.specs.Sound.{IsSound}
@@ -37,7 +37,7 @@ within steps may = graph-within (byte_meaning two) two-lawful (after_steps steps
 pub one-more : (steps more : List (Step ByteOp)) → AreAllowed (byte_meaning two) (new_world ByteOp) steps → AreAllowed (byte_meaning two) (after_steps steps) more → AreAllowed (byte_meaning two) (new_world ByteOp) (steps ++ more)
 one-more steps more may then = allowed-append (byte_meaning two) (new_world ByteOp) steps more may then
 
-logged-ready : IsReady (byte_meaning two) (after_steps swap_logged) swap_node
+logged-ready : IsInstallable (byte_meaning two) (after_steps swap_logged) swap_node
 unfolding step run
 logged-ready = (
   (λ n there. all-gives (after_steps swap_logged).graph (1 ∷ 2 ∷ 3 ∷ []) n refl there),
@@ -59,7 +59,7 @@ flushed-allowed = one-more swap_logged (Slot_gate swap_node 0 ∷ []) logged-all
   tt,
 )
 
-flushed-ready : IsReady (byte_meaning two) (after_steps swap_flushed) swap_node
+flushed-ready : IsInstallable (byte_meaning two) (after_steps swap_flushed) swap_node
 unfolding step run
 flushed-ready = (
   (λ n there. all-gives (after_steps swap_flushed).graph (1 ∷ 2 ∷ 3 ∷ []) n refl there),
@@ -100,7 +100,7 @@ in_redo-allowed : AreAllowed (byte_meaning two) (new_world ByteOp) (swap_redone 
 unfolding step run
 in_redo-allowed = one-more swap_flushed (Crash ∷ replays 3) flushed-allowed (tt, (omega arith, (omega arith, (omega arith, tt))))
 
-in_redo-ready : IsReady (byte_meaning two) (after_steps (swap_redone 3)) redone_node
+in_redo-ready : IsInstallable (byte_meaning two) (after_steps (swap_redone 3)) redone_node
 unfolding step run
 in_redo-ready = (
   (λ n there. all-gives (after_steps (swap_redone 3)).graph (2 ∷ 3 ∷ []) n refl there),
@@ -128,7 +128,7 @@ in_redo-only y work =
 gate-allowed : AreAllowed (byte_meaning two) (new_world ByteOp) (swap_redone 3 ++ Slot_gate redone_node 1 ∷ [])
 gate-allowed = one-more (swap_redone 3) (Slot_gate redone_node 1 ∷ []) in_redo-allowed ((in_redo-ready, in_redo-work, in_redo-only), tt)
 
-gate-ready : IsReady (byte_meaning two) (after_steps (swap_redone 3 ++ Slot_gate redone_node 1 ∷ [])) redone_node
+gate-ready : IsInstallable (byte_meaning two) (after_steps (swap_redone 3 ++ Slot_gate redone_node 1 ∷ [])) redone_node
 unfolding step run
 gate-ready = (
   (λ n there. all-gives (after_steps (swap_redone 3 ++ Slot_gate redone_node 1 ∷ [])).graph (2 ∷ 3 ∷ []) n refl there),

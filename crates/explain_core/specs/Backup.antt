@@ -6,7 +6,7 @@ use Rattle.install_order.specs.Computed.{some_below}
 use Rattle.explain_core.specs.History.{Member, numbered, accesses_of}
 use Rattle.explain_core.specs.History.Member.{Identity}
 use Rattle.oper_core.specs.Cell.{Cell}
-use Rattle.explain_core.specs.World.{World, Step, Table, step}
+use Rattle.explain_core.specs.World.{World, Step, Starts, step}
 use Rattle.explain_core.specs.World.Step.{Begin, End, Append, Block_gate, Check, Slot_gate, Removal, Header_gate, Replay, Crash}
 use Rattle.explain_core.specs.Stable.{Stable}
 
@@ -67,7 +67,7 @@ abbrev pub installed_in_copy : {O : Type 0} → Meaning O → World O → ℕ �
 installed_in_copy m w copied cells = backup_installed (accesses_of m (take w.forced w.history)) w.installed (w.forced + 1) copied cells w.slots
 
 -- the copy as the stable parts of a store, with the log as it is, but for its checks
-abbrev pub copy_of : {O : Type 0} → World O → ℕ → (ℕ → Cell) → List Table → Stable O
+abbrev pub copy_of : {O : Type 0} → World O → ℕ → (ℕ → Cell) → List Starts → Stable O
 copy_of w copied cells tables = record {
   slots = backup_of copied cells w.slots;
   tables = tables;

@@ -1,5 +1,5 @@
 -- What a sound world accesses and has is within its bounds and its end.
-use Rattle.std.proofs.Common.{◌≡◌, ◌∙◌, sym, subst, ℕ, zero, suc, ◌<◌, ◌≤◌, false, List, [], ◌∷◌, length, take, refl, ap, arith, inl, inr, Option, None, Some}
+use Rattle.std.proofs.Common.{◌≡◌, sym, subst, ℕ, zero, suc, ◌<◌, ◌≤◌, false, List, [], ◌∷◌, length, take, refl, ap, arith, inl, inr, Option, None, Some}
 use Rattle.std.specs.Prelude.{IsTrue, IsFalse, ◌==◌, All, slice_get, IfSome}
 use Rattle.std.proofs.lemmas.Bool.{cases_lt, both_ways, or_cases, eqb-true, and_parts}
 use Rattle.std.proofs.lemmas.Option.{slice_get_past}
@@ -73,19 +73,3 @@ slice_get-take (x ∷ xs) (suc f) (suc i) lt = slice_get-take xs f i (omega arit
 pub numbered-take : {O : Type 0} (h : List (Member O)) (f n : ℕ) → n ≤ f → numbered (take f h) n ≡ numbered h n
 numbered-take h f zero le = refl
 numbered-take h f (suc n) le = slice_get-take h f n (omega arith)
-
--- past the bound each object is empty under the identifier 0, in the slots and in the cache
-pub slot-past : {O : Type 0} (m : Meaning O) → IsLawful m → (w : World O) → IsSound m w → (x : ℕ) → m.objects ≤ x → w.slots x ≡ record { id = 0; value = [] }
-slot-past m law w s x past = elim (s.slots.origin x) [
-  | inl z ↦ λ i. record { id = z.0 i; value = z.1 i }
-  | inr g ↦
-      let n = (w.slots x).id in
-      let wrote : IsTrue ((accesses_of m w.history).writes n x) = sym (ap (λ o. writes_some m o x) (numbered-take w.history w.forced n (s.installed n g.0))) ∙ g.1 in
-      absurd (omega (arith, written-below m law w s n x wrote, past))
-]
-
-pub cache-past : {O : Type 0} (m : Meaning O) → IsLawful m → (w : World O) → IsSound m w → (x : ℕ) → m.objects ≤ x → w.cache x ≡ record { id = 0; value = [] }
-cache-past m law w s x past = elim (s.cache.origin x) [
-  | inl z ↦ λ i. record { id = z.0 i; value = z.1 i }
-  | inr g ↦ absurd (omega (arith, written-below m law w s (w.cache x).id x g.1, past))
-]

@@ -5,14 +5,14 @@ use Rattle.oper_core.specs.Meaning.{Meaning}
 use Rattle.install_order.specs.Order.{Access}
 use Rattle.explain_core.specs.History.{Member, accesses_of, value_at, IsHistory, IsCommand, commands_of, numbered}
 use Rattle.explain_core.specs.Explains.{Explains}
-use Rattle.explain_core.specs.World.{World, Table, end_of, plan_of}
+use Rattle.explain_core.specs.World.{World, Starts, end_of, plan_of}
 
 -- the installed numbers and those below n
 abbrev pub and_below : ℕ → (ℕ → Bool) → ℕ → Bool
 and_below n installed k = nat_lt k n || installed k
 
 -- a check that skips nothing: no redo start is past an uninstalled write of its object
-pub record SkipsNothing (a : Access) (installed : ℕ → Bool) (base end : ℕ) (t : Table) : Type 0 where
+pub record SkipsNothing (a : Access) (installed : ℕ → Bool) (base end : ℕ) (t : Starts) : Type 0 where
   pub before : (n x : ℕ) → IsFalse (installed n) → IsTrue (a.writes n x) → t.redo_from x ≤ n
   pub start : (x : ℕ) → t.redo_from x ≤ t.next
   pub from_base : (x : ℕ) → base ≤ t.redo_from x

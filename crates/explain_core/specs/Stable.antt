@@ -5,13 +5,13 @@ use Rattle.oper_core.specs.Meaning.{Meaning}
 use Rattle.explain_core.specs.History.{Member, accesses_of, value_at, IsHistory, commands_of}
 use Rattle.oper_core.specs.Cell.{Cell}
 use Rattle.explain_core.specs.Explains.{Explains}
-use Rattle.explain_core.specs.World.{World, Table, plan_of, start_of}
+use Rattle.explain_core.specs.World.{World, Starts, plan_of, start_of}
 use Rattle.explain_core.specs.Sound.{SkipsNothing}
 
 -- the stable parts of a store
 pub record Stable (O : Type 0) : Type 0 where
   pub slots : ℕ → Cell
-  pub tables : List Table  -- the newest first
+  pub tables : List Starts  -- the newest first
   pub base : ℕ
   pub commands_before : ℕ  -- so many commands are before the base
   pub records : List (Member O)  -- the members from the base on

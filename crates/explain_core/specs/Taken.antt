@@ -5,7 +5,7 @@ use Rattle.oper_core.specs.Meaning.{Meaning}
 use Rattle.explain_core.specs.World.{World, Step, run}
 use Rattle.explain_core.specs.RunLaws.{Begins, begins-none, begins-all, begins-longer, begins-behind, run-append}
 use Rattle.explain_core.specs.Turns.{must_install, thin_steps, turns}
-use Rattle.explain_core.specs.TurnLaws.{turns_join, one_turn, install_turn}
+use Rattle.explain_core.specs.TurnLaws.{one_turn, install_turn}
 
 -- after some first steps of the list, none or all among them, the world has P
 pub record IsAfterSome {O : Type 0} (m : Meaning O) (P : World O → Type 0) (w : World O) (steps : List (Step O)) : Type 0 where
@@ -35,16 +35,6 @@ module _ {O : Type 0} (m : Meaning O) (P : World O → Type 0) (w : World O) whe
     holds = subst P (sym (run-append m w xs is.taken)) is.holds;
   }
 
-  -- some turns of a redo, and then some steps of later ones
-  pub after_turns : (limit a b : ℕ) → IsAfterSome m P (run m w (turns m limit a w)) (turns m limit b (run m w (turns m limit a w))) → IsAfterSome m P w (turns m limit (a + b) w)
-  after_turns limit a b is =
-      let xs = turns m limit a w in
-      subst (λ (l : List (Step O)). IsAfterSome m P w l) (sym (turns_join m limit a b w)) (after_behind xs (turns m limit b (run m w xs)) is)
-
   -- some steps of the install of a thin node, where a redo makes one, are some of a turn
   pub after_install : (limit : ℕ) → IsTrue (must_install m limit w) → IsAfterSome m P w (thin_steps m w) → IsAfterSome m P w (turns m limit 1 w)
   after_install limit must is = subst (λ (l : List (Step O)). IsAfterSome m P w l) (sym (one_turn m limit w ∙ install_turn m limit w must)) is
-
-  -- what has P has Q
-  pub after_weaker : (Q : World O → Type 0) (steps : List (Step O)) → ((v : World O) → P v → Q v) → IsAfterSome m P w steps → IsAfterSome m Q w steps
-  after_weaker Q steps so is = record { taken = is.taken; begins = is.begins; holds = so (run m w is.taken) is.holds }

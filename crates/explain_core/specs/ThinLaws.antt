@@ -10,7 +10,7 @@ use Rattle.install_order.specs.Computed.{IsWithin, some_below, least_below, edge
 use Rattle.install_order.specs.NodeLaws.{some-from, some-gives, test-gives, test-from, edge-start, edge-end, reach-gives, node-is, least-is, flushed-iff}
 use Rattle.explain_core.specs.History.{accesses_of}
 use Rattle.oper_core.specs.Cell.{Cell}
-use Rattle.explain_core.specs.World.{World, Step, step, AreAllowed, IsReady, IsAllStable, work_of, end_of, graph_access, node_named}
+use Rattle.explain_core.specs.World.{World, Step, step, AreAllowed, IsInstallable, IsAllStable, work_of, end_of, graph_access, node_named}
 use Rattle.explain_core.specs.World.Step.{Slot_gate, Removal}
 use Rattle.explain_core.specs.Sound.{IsSound}
 use Rattle.explain_core.specs.GraphLaws.{graph-within}
@@ -114,7 +114,7 @@ module _ {O : Type 0} (m : Meaning O) (lawful : IsLawful m) (w : World O) (sound
         chosen_walk w.graph (accesses_of m w.history) name n held_there
         (reach-gives a (edge_test a m.objects end) (λ o p. test-gives a m.objects end o p) end name n (and_parts (reach (edge_test a m.objects end) end name n) _ on).0)
 
-    pub ready : IsReady m w node
+    pub ready : IsInstallable m w node
     ready = (in_graph, ((node-is a m.objects end name is_within).0, no_edge), stable)
 
     pub one_work : (x y : ℕ) → work_of m w node x → work_of m w node y → y ≡ x

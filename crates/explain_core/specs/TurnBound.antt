@@ -46,9 +46,6 @@ count_drop (suc n) p q x f lt here gone = elim (cases_eq x n) [
       omega (arith, top, rest)
 ]
 
-joins : (p : ℕ → Bool) (x : ℕ) (s : Bool) → ℕ → Bool
-joins p x s k = ((k == x) && s) || p k
-
 unjoined : (a s b : Bool) → a ≡ false → ((a && s) || b) ≡ true → b ≡ true
 unjoined true s b none some = absurd (both_ways _ none refl)
 unjoined false s b none some = some

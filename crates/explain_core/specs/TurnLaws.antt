@@ -1,9 +1,8 @@
 -- Turns one after the other.
-use Rattle.std.proofs.Common.{◌≡◌, ◌∙◌, sym, ap, ℕ, zero, suc, ◌+◌, ◌≤◌, List, [], ◌∷◌, ◌++◌, length, take, refl, arith, nat_le}
+use Rattle.std.proofs.Common.{◌≡◌, ◌∙◌, sym, ap, ℕ, zero, suc, ◌+◌, ◌≤◌, List, [], ◌∷◌, ◌++◌, length, refl, arith, nat_le}
 use Rattle.std.specs.Prelude.{IsTrue, IsFalse}
 use Rattle.std.proofs.lemmas.Bool.{cond-true, cond-false, le-leb}
 use Rattle.std.proofs.lemmas.List.{append-nil, append_assoc}
-use Rattle.std.proofs.Math.Seq.{take-append-add}
 use Rattle.oper_core.specs.Meaning.{Meaning}
 use Rattle.explain_core.specs.RunLaws.{run-append}
 use Rattle.explain_core.specs.World.{World, Step, step, run}
@@ -43,14 +42,6 @@ module _ {O : Type 0} (m : Meaning O) (limit : ℕ) where
 
   pub run_join : (a b : ℕ) (w : World O) → run m w (turns m limit (a + b) w) ≡ run m (run m w (turns m limit a w)) (turns m limit b (run m w (turns m limit a w)))
   run_join a b w = ap (run m w) (turns_join a b w) ∙ run-append m w (turns m limit a w) (turns m limit b (run m w (turns m limit a w)))
-
-  -- the world after a beginning of later turns is one after a beginning of all turns
-  pub later_moment : (a b j : ℕ) (w : World O) → run m (run m w (turns m limit a w)) (take j (turns m limit b (run m w (turns m limit a w))))
-      ≡ run m w (take (length (turns m limit a w) + j) (turns m limit (a + b) w))
-  later_moment a b j w =
-      let xs = turns m limit a w in
-      let ys = turns m limit b (run m w xs) in
-      sym (run-append m w xs (take j ys)) ∙ ap (run m w) (sym (take-append-add xs ys j)) ∙ ap (λ (zs : List (Step O)). run m w (take (length xs + j) zs)) (sym (turns_join a b w))
 
   -- one turn
   pub one_turn : (w : World O) → turns m limit 1 w ≡ turn m limit w

@@ -10,7 +10,7 @@ use Rattle.explain_core.specs.History.Member.{Command, Identity}
 use Rattle.oper_core.specs.Cell.{Cell}
 
 -- a check: for each object the number from which a redo applies its writes, and the next number as it was taken
-pub record Table : Type 0 where
+pub record Starts : Type 0 where
   pub redo_from : ℕ → ℕ
   pub next : ℕ
 
@@ -21,8 +21,8 @@ pub record World (O : Type 0) : Type 0 where
   pub slots : ℕ → Cell  -- the stable state
   pub cache : ℕ → Cell
   pub graph : ℕ → Bool  -- the members that the write graph holds
-  pub tables : List Table  -- the stable checks, the newest first
-  pub pending : List Table  -- the checks that are not stable yet
+  pub tables : List Starts  -- the stable checks, the newest first
+  pub pending : List Starts  -- the checks that are not stable yet
   pub base : ℕ  -- the stable log begins with this number
   pub commands_before : ℕ  -- so many commands are before the base
   pub next : ℕ  -- the next number to replay; past the end where nothing is left to replay
@@ -61,11 +61,11 @@ abbrev pub work_of : {O : Type 0} → Meaning O → World O → (ℕ → Bool) �
 work_of m w node x = flush_set_of (graph_access m w) node x × ((w.slots x).id ≢ (w.cache x).id)
 
 -- a check taken now: for each object the least member of the graph that writes it, or the next number
-abbrev pub table_now : {O : Type 0} → Meaning O → World O → Table
+abbrev pub table_now : {O : Type 0} → Meaning O → World O → Starts
 table_now m w = record { redo_from = λ x. least_below (end_of w) (λ n. w.graph n && (accesses_of m w.history).writes n x); next = end_of w }
 
 -- the last stable check; without one a redo applies all from the base on
-abbrev pub plan_of : List Table → ℕ → Table
+abbrev pub plan_of : List Starts → ℕ → Starts
 plan_of [] base = record { redo_from = λ x. base; next = base }
 plan_of (t ∷ ts) base = t
 
@@ -75,7 +75,7 @@ least_of f zero one = one
 least_of f (suc n) one = min (f n) (least_of f n one)
 
 -- where a redo begins
-abbrev pub start_of : ℕ → Table → ℕ
+abbrev pub start_of : ℕ → Starts → ℕ
 start_of objects t = least_of t.redo_from objects t.next
 
 -- the cache after a member with the number n that sets the objects that pass
@@ -101,8 +101,8 @@ MayAppend m w (Command op) = Accepts m (λ x. (w.cache x).value) op
 MayAppend m w (Identity x v) = (x < m.objects) × (v ≡ (w.cache x).value) × NoGroup w
 
 -- a minimal node of the graph, with all members stable and no group open
-abbrev pub IsReady : {O : Type 0} → Meaning O → World O → (ℕ → Bool) → Type 0
-IsReady m w node = ((n : ℕ) → IsTrue (node n) → IsTrue (w.graph n)) × IsMinimal (graph_access m w) node × IsAllStable w
+abbrev pub IsInstallable : {O : Type 0} → Meaning O → World O → (ℕ → Bool) → Type 0
+IsInstallable m w node = ((n : ℕ) → IsTrue (node n) → IsTrue (w.graph n)) × IsMinimal (graph_access m w) node × IsAllStable w
 
 -- a step may be taken
 abbrev pub IsAllowed : {O : Type 0} → Meaning O → World O → Step O → Type 0
@@ -111,8 +111,8 @@ IsAllowed m w End = IsTrue (is_some w.group)
 IsAllowed m w (Append member) = IsLive w × MayAppend m w member
 IsAllowed m w Block_gate = IsLive w × NoGroup w
 IsAllowed m w Check = IsLive w × NoGroup w
-IsAllowed m w (Slot_gate node x) = IsReady m w node × work_of m w node x × ((y : ℕ) → work_of m w node y → y ≡ x)
-IsAllowed m w (Removal node) = IsReady m w node × ((y : ℕ) → work_of m w node y → ⊥)
+IsAllowed m w (Slot_gate node x) = IsInstallable m w node × work_of m w node x × ((y : ℕ) → work_of m w node y → y ≡ x)
+IsAllowed m w (Removal node) = IsInstallable m w node × ((y : ℕ) → work_of m w node y → ⊥)
 IsAllowed m w (Header_gate base) = IsLive w × IsAllStable w × (w.base ≤ base) × (base ≤ w.next) × ((n : ℕ) → IsTrue (w.graph n) → base ≤ n)
 IsAllowed m w Replay = w.next ≤ length w.history
 IsAllowed m w Crash = Unit {0}

@@ -5,7 +5,7 @@ use Rattle.std.proofs.lemmas.Bool.{cases_eq, cases_lt, cases_Bool, both_ways, or
 use Rattle.std.proofs.lemmas.List.{get_or-set_same, get_or-set_other, length-set, get_or_default}
 use Rattle.std.proofs.Math.ListN.{get_or-eq_default}
 use Rattle.oper_core.specs.State.{is_among}
-use Rattle.install_order.specs.Digraph.{Walk, Joined, AreNodes, AreLevels, with_arc, IsOnWay, IsFound, AreWhole, merged}
+use Rattle.install_order.specs.Digraph.{Walk, Joined, AreNodes, AreLevels, with_arc, IsOnWay, IsReached, AreWhole, merged}
 use Rattle.install_order.specs.Digraph.Walk.{Here, Then}
 use Rattle.install_order.specs.MergeLaws.{walk-on, joined-more, nodes-stay, found-way, closure-way, nodes-merged}
 use Rattle.number_lists.specs.Lists.{Lists, list_at, IsFree, IsPushed}
@@ -54,7 +54,7 @@ level_none i = 0
 
 -- the search found what reaches v, without a look past w
 pub found-is : (arcs : List (Option ℕ)) (node : List ℕ) (into : Lists) (vs ws : ℕ) (found : List ℕ) → AreNodes (IsArc arcs) (node_at node) → AreInto arcs node into → IsSearched arcs node into (node_at node vs) (node_at node ws) found →
-    IsFound (IsArc arcs) level_none (λ s. node_at node s == node_at node ws) (λ i. is_among (node_at node i) found) vs
+    IsReached (IsArc arcs) level_none (λ s. node_at node s == node_at node ws) (λ i. is_among (node_at node i) found) vs
 found-is arcs node into vs ws found nodes are is = record {
   start = is.start;
   sound = λ i t. (lift arcs node into (node_at node i) (node_at node vs) i vs nodes are (is.sound (node_at node i) t) refl refl, refl);

@@ -9,7 +9,7 @@ use Rattle.std.proofs.lemmas.List.Kept.{AllPairs-from_increasing}
 use Rattle.std.proofs.lemmas.List.Sorted.{IsNonDecreasingBy-from_default}
 use Rattle.std.proofs.lemmas.Grind.{get_or_default_zero}
 use Rattle.std.proofs.lemmas.Option.{slice_get_read}
-use Rattle.identity_writes.specs.Plan.{IsKept, IsKeptBeside, IsFirstLongest}
+use Rattle.identity_writes.specs.Plan.{IsKeptBeside, IsFirstLongest}
 
 -- rising numbers do not fall
 pub rises : (objects : List ℕ) → IsStrictlyIncreasing objects → IsNonDecreasingBy (λ x. x) objects
@@ -77,15 +77,6 @@ module _ (objects lengths : List ℕ) (copied first place x : ℕ) (rising : IsS
       let low = All-get_or (λ x. x < copied) objects (first + place) 0 there all in
       let high = above (first + place) (omega arith) there in
       omega (arith, low, high)
-
--- where nothing is copied the longest of all is kept
-pub kept_alone : (objects lengths : List ℕ) (x : ℕ) → length lengths ≡ length objects → IsKeptBeside 0 objects lengths x → IsKept objects lengths x
-kept_alone objects lengths x beside is = record {
-  place = is.place;
-  here = is.here;
-  longest = All-from_get_or (λ n. n ≤ slice_index lengths is.place) lengths 0 (λ k low. is.longest k (omega (arith, low, beside)) (omega arith));
-  least = λ other low same. is.least other low (omega arith) same;
-}
 
 -- all are copied where none is left from a place on
 pub all_copied : (objects : List ℕ) (copied first : ℕ) → length objects ≤ first → ((k : ℕ) → k < first → slice_index objects k < copied) → All (λ x. x < copied) objects

@@ -75,16 +75,6 @@ arc-new a b n o p is (From_reader x w r none e) =
     let s = below-reads a b n o x is r in
     subst (λ (k : ℕ). Arc b o k) (sym e) (First_write x s.1 (λ q lt. is.same_writes q x (omega (arith, s.0)) ∙ none q) (s.0, w, (λ q l h. is.same_writes q x h ∙ none q)))
 
--- nobody from the reader on writes x in a
-none-from : (a b : Access) (n x o : ℕ) → IsAdded a b n → NoneBetween b x o n → IsFalse (a.writes o x) → NoWriterFrom a x o
-none-from a b n x o is none off q le = elim (cases_eq q o) [
-  | inl e ↦ subst (λ (k : ℕ). IsFalse (a.writes k x)) (sym e) off
-  | inr ne ↦ elim (cases_lt q n) [
-    | inl lt ↦ sym (is.same_writes q x lt) ∙ none q (omega arith) lt
-    | inr ge ↦ is.no_writes q x ge
-  ]
-]
-
 pub arc-split : (a b : Access) (n o p : ℕ) → IsAdded a b n → Arc b o p → Arc a o p ⊎ NewArc a b n o p
 arc-split a b n o p is (Next_write x w next) = elim (writes-or-new a b n p x is next.1) [
   | inl old ↦

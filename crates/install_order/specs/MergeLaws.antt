@@ -2,7 +2,7 @@
 use Rattle.std.proofs.Common.{◌≡◌, ◌∙◌, sym, subst, ℕ, suc, ◌<◌, ◌≤◌, Bool, refl, arith, inl, inr}
 use Rattle.std.specs.Prelude.{IsTrue, IsFalse, ◌↔◌, ◌⊎◌, ◌==◌}
 use Rattle.std.proofs.lemmas.Bool.{cases_Bool, both_ways, eqb-true, cond-true, cond-false}
-use Rattle.install_order.specs.Digraph.{Walk, Joined, AreNodes, AreLevels, with_arc, IsOnWay, IsRaised, IsFound, AreWhole, merged}
+use Rattle.install_order.specs.Digraph.{Walk, Joined, AreNodes, AreLevels, with_arc, IsOnWay, IsRaised, IsReached, AreWhole, merged}
 use Rattle.install_order.specs.Digraph.Walk.{Here, Then}
 
 pub walk-on : (E : ℕ → ℕ → Type 0) (o m p : ℕ) → Walk E o m → Walk E m p → Walk E o p
@@ -59,11 +59,8 @@ pub walk-levels : (E : ℕ → ℕ → Type 0) (level : ℕ → ℕ) (o p : ℕ)
 walk-levels E level o p are Here = omega arith
 walk-levels E level o p are (Then m q walk arc) = omega (arith, walk-levels E level o m are walk, are m q arc)
 
-pub level-tells : (E : ℕ → ℕ → Type 0) (level : ℕ → ℕ) (v w : ℕ) → AreLevels E level → level v < level w → Walk E w v → ⊥
-level-tells E level v w are lt walk = omega (arith, lt, walk-levels E level w v are walk)
-
 -- what reaches a found number from no lower level is found, or reaches a stop that is found
-pub found-or-stop : (E : ℕ → ℕ → Type 0) (level : ℕ → ℕ) (stop found : ℕ → Bool) (v i p : ℕ) → AreLevels E level → IsFound E level stop found v → IsTrue (found p) → level v ≤ level i → Walk E i p →
+pub found-or-stop : (E : ℕ → ℕ → Type 0) (level : ℕ → ℕ) (stop found : ℕ → Bool) (v i p : ℕ) → AreLevels E level → IsReached E level stop found v → IsTrue (found p) → level v ≤ level i → Walk E i p →
     IsTrue (found i) ⊎ ((s : ℕ) × IsTrue (stop s) × IsTrue (found s) × Walk E i s)
 found-or-stop E level stop found v i p are is held le Here = inl held
 found-or-stop E level stop found v i p are is held le (Then m q walk arc) = elim (cases_Bool (stop q)) [
@@ -101,7 +98,7 @@ raised-way E level raised v w i are is up =
     )
 
 -- after a complete search those on a walk from w to v are what was found of what w reaches
-pub found-way : (E : ℕ → ℕ → Type 0) (node level : ℕ → ℕ) (found : ℕ → Bool) (v w i : ℕ) → AreLevels E level → IsFound E level (λ s. node s == node w) found v → AreNodes E node → AreWhole node found → level v ≤ level w →
+pub found-way : (E : ℕ → ℕ → Type 0) (node level : ℕ → ℕ) (found : ℕ → Bool) (v w i : ℕ) → AreLevels E level → IsReached E level (λ s. node s == node w) found v → AreNodes E node → AreWhole node found → level v ≤ level w →
     IsOnWay E v w i ↔ (Walk E w i × IsTrue (found i))
 found-way E node level found v w i are is nodes whole le = (
   (λ way. (
@@ -119,7 +116,7 @@ found-way E node level found v w i are is nodes whole le = (
 )
 
 -- a set that has w and follows the arcs among what was found has all that is on a walk from w to v
-pub closure-way : (E : ℕ → ℕ → Type 0) (node level : ℕ → ℕ) (found taken : ℕ → Bool) (v w i : ℕ) → AreLevels E level → IsFound E level (λ s. node s == node w) found v → AreNodes E node → AreWhole node found → level v ≤ level w →
+pub closure-way : (E : ℕ → ℕ → Type 0) (node level : ℕ → ℕ) (found taken : ℕ → Bool) (v w i : ℕ) → AreLevels E level → IsReached E level (λ s. node s == node w) found v → AreNodes E node → AreWhole node found → level v ≤ level w →
     IsTrue (taken w) → ((o p : ℕ) → E o p → IsTrue (taken o) → IsTrue (found p) → IsTrue (taken p)) → Walk E w i → IsTrue (found i) → IsTrue (taken i)
 closure-way E node level found taken v w i are is nodes whole le first closed Here held = first
 closure-way E node level found taken v w i are is nodes whole le first closed (Then m q walk arc) held =

@@ -1,4 +1,4 @@
-ghost use Rattle.std.specs.Prelude.{◌≡◌, ℕ, ◌<◌, ◌↔◌, Bool, IsTrue, List, [], ◌∷◌};
+ghost use Rattle.std.specs.Prelude.{◌≡◌, ℕ, ◌<◌, ◌↔◌, Bool, IsTrue, [], ◌∷◌};
 ghost use Rattle.install_order.specs.Order.{Access, Edge, IsExposed, IsNode, IsName, IsMinimal, flush_set_of, IsLastBlindWrite};
 ghost use Rattle.install_order.specs.Computed.{IsWithin, edge_test, node_of, least_below, is_flushed};
 ghost use Rattle.install_order.specs.FirstReads.{FirstReads};

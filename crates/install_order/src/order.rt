@@ -1,4 +1,4 @@
-ghost use Rattle.std.specs.Prelude.{◌≡◌, ℕ, ◌↔◌, IsTrue};
+ghost use Rattle.std.specs.Prelude.{◌≡◌, ◌↔◌, IsTrue};
 ghost use Rattle.oper_core.specs.State.{is_among};
 ghost use Rattle.install_order.specs.Order.{Edge, IsExposed, IsClosed};
 ghost use Rattle.install_order.specs.Entries.{reads_at, writes_at, accesses, set_of};

@@ -1,7 +1,7 @@
 ghost use Rattle.std.specs.Prelude.{◌≡◌, ℕ, suc, ◌<◌, ◌≤◌, ◌==◌, ◌↔◌, ◌⊎◌, Bool, not, IsTrue, IsFalse};
 ghost use Rattle.install_order.specs.Renamed.{IsRenamed, numbers_of, places_of};
 ghost use Rattle.install_order.specs.More.{IsAdded, NewArc};
-ghost use Rattle.install_order.specs.Digraph.{Walk, Joined, AreNodes, AreLevels, with_arc, outside, IsOnWay, IsRaised, IsRaising, lift, merged, IsFound, AreWhole, arcs};
+ghost use Rattle.install_order.specs.Digraph.{Walk, Joined, AreNodes, AreLevels, with_arc, outside, IsOnWay, IsRaised, IsRaising, lift, merged, IsReached, AreWhole, arcs};
 ghost use Rattle.install_order.specs.Order.{Access, Reaches, within, NoEdgeInto, IsNode, IsName, IsLastWriter};
 ghost use Rattle.install_order.specs.Arcs.{Arc, ReachesByArcs, NoArcInto};
 
@@ -41,11 +41,11 @@ pub fn one_arc_more()
         AreNodes (with_arc (arcs e) v w) (merged taken node one) }
     // a complete search against the arcs: what it found and w reaches is on the way, and nothing else
     ensures complete { (e : ℕ → ℕ → Bool) (node level : ℕ → ℕ) (found : ℕ → Bool) (v w i : ℕ) → AreLevels (arcs e) level →
-        IsFound (arcs e) level (λ s. node s == node w) found v → AreNodes (arcs e) node → AreWhole node found → level v ≤ level w →
+        IsReached (arcs e) level (λ s. node s == node w) found v → AreNodes (arcs e) node → AreWhole node found → level v ≤ level w →
         IsOnWay (arcs e) v w i ↔ (Walk (arcs e) w i × IsTrue (found i)) }
     // a set that follows the arcs among what was found has all of it
     ensures taken { (e : ℕ → ℕ → Bool) (node level : ℕ → ℕ) (found taken : ℕ → Bool) (v w i : ℕ) → AreLevels (arcs e) level →
-        IsFound (arcs e) level (λ s. node s == node w) found v → AreNodes (arcs e) node → AreWhole node found → level v ≤ level w →
+        IsReached (arcs e) level (λ s. node s == node w) found v → AreNodes (arcs e) node → AreWhole node found → level v ≤ level w →
         IsTrue (taken w) → ((o p : ℕ) → arcs e o p → IsTrue (taken o) → IsTrue (found p) → IsTrue (taken p)) →
         Walk (arcs e) w i → IsTrue (found i) → IsTrue (taken i) }
     // the levels were raised and v stayed

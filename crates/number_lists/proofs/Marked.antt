@@ -1,13 +1,13 @@
 -- Marks and the rows that sum them up.
-use Rattle.std.proofs.Common.{◌≡◌, ◌≢◌, ◌∙◌, ap, sym, subst, ℕ, zero, suc, ◌+◌, ◌*◌, ◌/◌, ◌<◌, ◌≤◌, Bool, true, false, List, [], ◌∷◌, ◌++◌, length, length-append, refl, arith, inl, inr}
-use Rattle.std.specs.Prelude.{IsTrue, IsFalse, ◌==◌, is_some, Option, None, Some, slice_index, slice_set}
+use Rattle.std.proofs.Common.{◌≡◌, ◌≢◌, ◌∙◌, ap, sym, subst, ℕ, zero, suc, ◌+◌, ◌*◌, ◌/◌, ◌<◌, ◌≤◌, Bool, true, false, List, [], ◌∷◌, ◌++◌, length, refl, arith, inl, inr}
+use Rattle.std.specs.Prelude.{IsTrue, IsFalse, ◌==◌, Option, None, Some, slice_index, slice_set}
 use Rattle.std.specs.List.Sorted.{IsStrictlyIncreasing}
 use Rattle.std.proofs.lemmas.Bool.{cases_eq, cases_lt, both_ways, or_left, or_right, or_cases, eqb-true, eq-eqb, false_from_ne_true}
 use Rattle.std.proofs.lemmas.List.{get_or-set_same, get_or-set_other, length-set}
 use Rattle.std.proofs.Math.ListN.{get_or-eq_default}
 use Rattle.oper_core.specs.State.{is_among}
-use Rattle.number_lists.specs.MarkLaws.{mark-below, mark-was}
-use Rattle.number_lists.specs.Marks.{mark_at, count_marks, IsCount, IsFirst, IsNext, IsFirstBelow, IsEmptyRow, IsFirstRow, IsNextRow, AreSums, AreLevels, IsGrown}
+use Rattle.number_lists.specs.MarkLaws.{mark-was}
+use Rattle.number_lists.specs.Marks.{mark_at, count_marks, IsCount, IsNext, IsFirstBelow, IsEmptyRow, IsNextRow, AreSums, AreLevels, IsGrown}
 
 pub mark-push : (xs : List Bool) (i : ℕ) → mark_at (xs ++ false ∷ []) i ≡ mark_at xs i
 mark-push [] zero = refl
@@ -75,13 +75,6 @@ levels-more low mid high top n lt are =
     let block = row-below (n / 64) (length high) (length mid) row are.highs.size in
     record { mids = sums-more low mid n lt are.mids; highs = sums-more mid high (n / 64) row are.highs; tops = sums-more high top (n / 64 / 64) block are.tops }
 
--- the rows of a number are there
-pub rows-below : (low mid high top : List Bool) (n : ℕ) → n < length low → AreLevels low mid high top → (n / 64 < length mid) × (n / 64 / 64 < length high) × (n / 64 / 64 / 64 < length top)
-rows-below low mid high top n lt are =
-    let row = row-below n (length mid) (length low) lt are.mids.size in
-    let block = row-below (n / 64) (length high) (length mid) row are.highs.size in
-    (row, block, row-below (n / 64 / 64) (length top) (length high) block are.tops.size)
-
 -- the same levels
 pub levels-as : (low a mid b high c top d : List Bool) → a ≡ low → b ≡ mid → c ≡ high → d ≡ top → AreLevels low mid high top → AreLevels a b c d
 levels-as low a mid b high c top d e f g h are =
@@ -133,14 +126,6 @@ levels-grown low mid high top a b c d are e grown_b grown_c grown_d = record {
   tops = sums-grown high top c d are.tops grown_c.same grown_d;
 }
 
-pub grown-same : (entries : ℕ) (rows : List Bool) → entries / 64 < length rows → IsGrown entries rows rows
-grown-same entries rows lt = record { same = λ i. refl; enough = omega (arith, lt); few = omega arith }
-
-pub grown-more : (entries : ℕ) (rows new : List Bool) → entries ≤ 64 * length rows + 64 → new ≡ rows ++ false ∷ [] → IsGrown entries rows new
-grown-more entries rows new le e =
-    let size : length new ≡ length rows + 1 = ap length e ∙ length-append rows (false ∷ []) in
-    record { same = λ i. ap (λ (xs : List Bool). mark_at xs i) e ∙ mark-push rows i; enough = omega (arith, le, size); few = omega (arith, size) }
-
 -- marks are counted
 pub count-push : (xs : List Bool) → count_marks (xs ++ false ∷ []) ≡ count_marks xs
 count-push [] = refl
@@ -165,12 +150,6 @@ pub count-few : (xs : List Bool) → count_marks xs ≤ length xs
 count-few [] = omega arith
 count-few (true ∷ xs) = omega (arith, count-few xs)
 count-few (false ∷ xs) = omega (arith, count-few xs)
-
--- a set mark that was there, or a taken one that was not, changes nothing
-pub set-same : (xs : List Bool) (n : ℕ) (v : Bool) → n < length xs → mark_at xs n ≡ v → xs ≡ slice_set xs n v
-set-same [] n v lt e = refl
-set-same (x ∷ xs) zero v lt e = ap (λ (y : Bool). y ∷ xs) e
-set-same (x ∷ xs) (suc n) v lt e = ap (λ (ys : List Bool). x ∷ ys) (set-same xs n v (omega (arith, lt)) e)
 
 -- the places of the marks, from a number on
 abbrev marked : ℕ → List Bool → List ℕ
@@ -244,50 +223,6 @@ next-row low high q (Some row) are is = record {
   least = λ i le lt. false_from_ne_true _ (λ t. both_ways _ (is.least (i / 64) le lt) (are.there i t));
 }
 
--- what was found in the first row
-pub next-found : (marks : List Bool) (from end : ℕ) (r : Option ℕ) → IsTrue (is_some r) → IsFirstBelow marks from end r → IsNext marks from r
-next-found marks from end None some is = absurd (both_ways false refl some)
-next-found marks from end (Some i) some is = is.0
-
-none-below : (marks : List Bool) (from end : ℕ) (r : Option ℕ) → IsFalse (is_some r) → IsFirstBelow marks from end r → (i : ℕ) → from ≤ i → i < end → IsFalse (mark_at marks i)
-none-below marks from end None out is = is
-none-below marks from end (Some i) out is = absurd (both_ways true out refl)
-
-pub next-none : (marks : List Bool) (from : ℕ) (r : Option ℕ) → IsFalse (is_some r) → IsFirstBelow marks from ((from / 64 + 1) * 64) r → IsNextRow marks (from / 64 + 1) None → (i : ℕ) → from ≤ i → IsFalse (mark_at marks i)
-next-none marks from r out is none i le = elim (cases_lt i ((from / 64 + 1) * 64)) [
-  | inl lt ↦ none-below marks from ((from / 64 + 1) * 64) r out is i le lt
-  | inr ge ↦ none i (omega (arith, ge))
-]
-
-pub next-later : (marks : List Bool) (from row : ℕ) (r found : Option ℕ) → IsFalse (is_some r) → IsFirstBelow marks from ((from / 64 + 1) * 64) r → IsFirstRow marks (from / 64 + 1) row → IsFirstBelow marks (row * 64) (row * 64 + 64) found → IsNext marks from found
-next-later marks from row r None out is first none = absurd (both_ways _ (none first.here.0 (omega (arith, first.here.1)) (omega (arith, first.here.1))) first.here.2)
-next-later marks from row r (Some i) out is first found = record {
-  here = found.0.here;
-  above = omega (arith, found.0.above, first.above);
-  least = λ k le lt. elim (cases_lt k ((from / 64 + 1) * 64)) [
-    | inl low ↦ none-below marks from ((from / 64 + 1) * 64) r out is k le low
-    | inr ge ↦ elim (cases_lt (k / 64) row) [
-      | inl less ↦ first.least k (omega (arith, ge)) less
-      | inr at ↦ found.0.least k (omega (arith, at)) lt
-    ]
-  ];
-}
-
--- whether a row has marks
-pub others-some : (marks : List Bool) (n : ℕ) (r : Option ℕ) → IsFirstBelow marks (n / 64 * 64) (n / 64 * 64 + 64) r → IsTrue (is_some r) → (i : ℕ) × (i / 64 ≡ n / 64) × IsTrue (mark_at marks i)
-others-some marks n None is some = absurd (both_ways false refl some)
-others-some marks n (Some i) is some = (i, omega (arith, is.0.above, is.1), is.0.here)
-
-pub others-none : (marks : List Bool) (n : ℕ) (r : Option ℕ) → IsFirstBelow marks (n / 64 * 64) (n / 64 * 64 + 64) r → IsFalse (is_some r) → IsEmptyRow marks (n / 64)
-others-none marks n r is out i e = none-below marks (n / 64 * 64) (n / 64 * 64 + 64) r out is i (omega (arith, e)) (omega (arith, e))
-
--- the search, step by step
-pub first-more : (marks : List Bool) (from i : ℕ) → ((k : ℕ) → from ≤ k → k < i → IsFalse (mark_at marks k)) → IsFalse (mark_at marks i) → (k : ℕ) → from ≤ k → k < i + 1 → IsFalse (mark_at marks k)
-first-more marks from i none here k le lt = elim (cases_eq k i) [
-  | inl e ↦ subst (λ (j : ℕ). IsFalse (mark_at marks j)) (sym e) here
-  | inr ne ↦ none k le (omega (arith, lt, ne))
-]
-
 -- past the last row there is nothing
 pub next-last : (marks : List Bool) (from : ℕ) (r : Option ℕ) → IsFirstBelow marks from (length marks) r → IsNext marks from r
 next-last marks from None none = λ i le. elim (cases_lt i (length marks)) [
@@ -295,11 +230,3 @@ next-last marks from None none = λ i le. elim (cases_lt i (length marks)) [
   | inr ge ↦ get_or-eq_default marks false ge
 ]
 next-last marks from (Some i) is = is.0
-
-pub mark-low : (marks : List Bool) (from i : ℕ) → IsFirst marks from i → i < length marks
-mark-low marks from i is = mark-below marks i is.here
-
-pub levels-none : AreLevels [] [] [] []
-levels-none =
-    let none : AreSums [] [] = record { there = λ i t. absurd (both_ways false refl t); only = λ r t. absurd (both_ways false refl t); size = omega arith } in
-    record { mids = none; highs = none; tops = none }

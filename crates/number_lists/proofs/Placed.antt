@@ -93,13 +93,6 @@ pub placed-none : (place : List ℕ) → ArePlaced [] place
 unfolding IsDistinct
 placed-none place = record { below = λ i low. absurd (omega arith); at = λ i low. absurd (omega arith); distinct = tt }
 
-pub placed-longer : (members place : List ℕ) (v : ℕ) → ArePlaced members place → ArePlaced members (place ++ v ∷ [])
-placed-longer members place v are = record {
-  below = λ i low. omega (arith, are.below i low, length-append place (v ∷ []));
-  at = λ i low. read-left place (slice_index members i) v (are.below i low) ∙ are.at i low;
-  distinct = are.distinct;
-}
-
 among-more : (k n : ℕ) (xs : List ℕ) → IsTrue (is_among k (xs ++ n ∷ [])) ↔ (IsTrue (is_among k xs) ⊎ (k ≡ n))
 among-more k n [] = ((λ t. elim (or_cases (k == n) false t) [ inl e ↦ inr (eqb-true k n e) | inr r ↦ absurd (both_ways _ refl r) ]), (λ s. elim s [ inl r ↦ absurd (both_ways _ refl r) | inr e ↦ or_left (k == n) false (eq-eqb k n e) ]))
 among-more k n (x ∷ xs) =

@@ -1,4 +1,4 @@
-ghost use Rattle.std.specs.Prelude.{◌≡◌, ℕ, ◌<◌, ◌≤◌, ◌++◌, ◌∷◌, [], length, slice_index, nat_eq, IsTrue, OnOk, MatchOption};
+ghost use Rattle.std.specs.Prelude.{◌≡◌, ℕ, ◌<◌, ◌≤◌, [], length, slice_index, nat_eq, IsTrue, OnOk, MatchOption};
 ghost use Rattle.std.specs.List.{IsDistinct};
 ghost use Rattle.oper_core.specs.State.{is_among};
 ghost use Rattle.number_lists.specs.Links.{follow};

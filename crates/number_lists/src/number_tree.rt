@@ -1,4 +1,4 @@
-ghost use Rattle.std.specs.Prelude.{◌≡◌, ℕ, ◌<◌, ◌≤◌, ◌+◌, ◌*◌, ◌/◌, ◌^◌, ◌++◌, ◌∷◌, ◌↔◌, [], Bool, true, false, IsTrue, IsFalse, OnOk, length, slice_set};
+ghost use Rattle.std.specs.Prelude.{◌≡◌, ℕ, ◌<◌, ◌≤◌, ◌+◌, ◌*◌, ◌/◌, ◌^◌, [], true, false, IsTrue, IsFalse, OnOk, length, slice_set};
 ghost use Rattle.std.specs.Vec.{vec_len, vec_capacity};
 ghost use Rattle.number_lists.specs.Marks.{mark_at, IsCount, IsNext, IsFirstBelow, IsNextRow, IsEmptyRow, AreLevels, IsGrown};
 

@@ -200,8 +200,8 @@ module _ (earlier : List Entry) (e : Entry) (g0 g1 g2 g3 : Graph) (r0 r1 r2 r3 :
   ]
 
   -- a cell of a write has one arc at most
-  write-arc : (x o p c : ℕ) → IsWriteCell all c x → c / 8 ≡ o → WriteLeads b x o p → IsSome (arc_at g3.arcs c) → IsArc g3.arcs o p
-  write-arc x o p c cell at leads some =
+  write-led : (x o p c : ℕ) → IsWriteCell all c x → c / 8 ≡ o → WriteLeads b x o p → IsSome (arc_at g3.arcs c) → arc_at g3.arcs c ≡ Some p
+  write-led x o p c cell at leads some =
       let v = some-value (arc_at g3.arcs c) some in
       let l = leads3 c v.0 v.1 in
       elim l.1 [
@@ -209,7 +209,7 @@ module _ (earlier : List Entry) (e : Entry) (g0 g1 g2 g3 : Graph) (r0 r1 r2 r3 :
         | inr w ↦
             let same : l.0 ≡ x = some-is l.0 x (sym w.0.1 ∙ cell.1) in
             let to : v.0 ≡ p = write-one b x o v.0 p (subst (λ (k : ℕ). WriteLeads b x k v.0) at (subst (λ (y : ℕ). WriteLeads b y (c / 8) v.0) same w.1)) leads in
-            (c, at, v.1 ∙ ap (λ (k : ℕ). Some k) to)
+            v.1 ∙ ap (λ (k : ℕ). Some k) to
       ]
 
   read-arc : (x o p c : ℕ) → IsReadCell all c x → c / 8 ≡ o → ReadLeads b x o p → IsSome (arc_at g3.arcs c) → IsArc g3.arcs o p
@@ -253,7 +253,7 @@ module _ (earlier : List Entry) (e : Entry) (g0 g1 g2 g3 : Graph) (r0 r1 r2 r3 :
   arc-new o p (From_writer x w last q) =
       let there : IsTrue (is_among x e.writes) = sym (writes-new earlier e g0.held s.linked.held x) ∙ w in
       let cell = written-cell x o last in
-      subst (λ (k : ℕ). IsArc g3.arcs o k) (sym q) (write-arc x o n (write_cell earlier o x) cell.1 cell.0 (write-new a b n is x o last w) (last-led x o there last))
+      subst (λ (k : ℕ). IsArc g3.arcs o k) (sym q) (write_cell earlier o x, cell.0, write-led x o n (write_cell earlier o x) cell.1 cell.0 (write-new a b n is x o last w) (last-led x o there last))
   arc-new o p (To_version x w r none last) =
       let there : IsTrue (is_among x e.writes) = sym (writes-new earlier e g0.held s.linked.held x) ∙ w in
       let le : o ≤ n = held-below earlier e g0.held s.linked.held o (and_parts (held_at more o) (is_among x (reads_of all o)) r).0 in
@@ -271,8 +271,32 @@ module _ (earlier : List Entry) (e : Entry) (g0 g1 g2 g3 : Graph) (r0 r1 r2 r3 :
     | inr new ↦ arc-new o p new
   ]
 
+  -- the cell of a write leads to the next one
+  next-is : (x o p : ℕ) → WriteLeads b x o p → arc_at g3.arcs (write_cell all o x) ≡ Some p
+  next-is x o p w =
+      let le : p ≤ n = held-below earlier e g0.held s.linked.held p (and_parts (held_at more p) (is_among x (writes_of all p)) w.1.1).0 in
+      let low : o < n = omega (arith, w.1.0, le) in
+      let was : IsTrue (a.writes o x) = sym (is.same_writes o x low) ∙ w.0 in
+      ap (arc_at g3.arcs) (write-cell-same earlier e g0.held s.linked.held o x low) ∙ (elim (cases_eq p n) [
+        | inl q ↦
+            let last : IsLastWriter a x o = (
+              was,
+              (λ k lt. elim (cases_lt k n) [
+                | inl before ↦ sym (is.same_writes k x before) ∙ w.1.2 k lt (omega (arith, before, q))
+                | inr past ↦ is.no_writes k x past
+              ]),
+            ) in
+            let there : IsTrue (is_among x e.writes) = sym (writes-new earlier e g0.held s.linked.held x) ∙ subst (λ (k : ℕ). IsTrue (b.writes k x)) q w.1.1 in
+            let cell = written-cell x o last in
+            write-led x o p (write_cell earlier o x) cell.1 cell.0 w (last-led x o there last)
+        | inr ne ↦
+            let before : p < n = omega (arith, le, ne) in
+            let leads : WriteLeads a x o p = (was, (w.1.0, sym (is.same_writes p x before) ∙ w.1.1, (λ q l h. sym (is.same_writes q x (omega (arith, h, before))) ∙ w.1.2 q l h))) in
+            kept (write_cell earlier o x) p (s.linked.arcs.next x o p leads)
+      ])
+
   pub arcs-are : AreArcs b all g3.arcs
-  arcs-are = record { only = leads3; all = arcs-all }
+  arcs-are = record { only = leads3; all = arcs-all; next = next-is }
 
   not-written : (x : ℕ) → IsFalse (b.writes n x) → IsTrue (is_among x e.writes) → ⊥
   not-written x off t = both_ways _ off (writes-b x t)

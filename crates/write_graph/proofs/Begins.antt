@@ -1,12 +1,12 @@
 -- Where the entries from a number on begin, and those above it.
-use Rattle.std.proofs.Common.{◌≡◌, ℕ, suc, ◌-◌, ◌<◌, ◌≤◌, List, [], ◌∷◌, length, true, false, arith, inl, inr}
+use Rattle.std.proofs.Common.{◌≡◌, ℕ, ◌-◌, ◌<◌, ◌≤◌, List, [], ◌∷◌, length, true, false, arith}
 use Rattle.std.specs.Prelude.{nat_lt, nat_le, slice_index, slice_index_or}
 use Rattle.std.specs.List.Sorted.{IsPartitionPoint, IsPartitionedBy}
-use Rattle.std.proofs.lemmas.Bool.{cases_lt, ltb-true, ltb-false, leb-true, leb-false}
+use Rattle.std.proofs.lemmas.Bool.{ltb-true, ltb-false, leb-true, leb-false}
 use Rattle.std.proofs.lemmas.List.Sorted.{IsPartitionedBy-ltb, IsPartitionedBy-leb}
 use Rattle.install_order.specs.declared.entry.Entry.{Entry}
 use Rattle.write_graph.specs.Graph.{numbers}
-use Rattle.write_graph.specs.Places.{NeverFall, IsSlotOfNumber}
+use Rattle.write_graph.specs.Places.{NeverFall}
 use Rattle.write_graph.proofs.Held.{number-at, length-numbers}
 
 -- the number of an entry that stands later is no less
@@ -42,19 +42,6 @@ pub after-after : (entries : List Entry) (n from : ℕ) → IsPartitionPoint (λ
 after-after entries n from point i le lt =
     let d = first entries i lt in
     omega (arith, number-at entries i d lt, leb-false (slice_index_or entries i d).number n (point.1 i d le lt))
-
--- the slot before the first with a greater number is the one that has the number
-pub before-after : (entries : List Entry) (n from : ℕ) → ((i : ℕ) → i < from → slice_index (numbers entries) i ≤ n) → ((i : ℕ) → from ≤ i → i < length entries → n < slice_index (numbers entries) i) → from ≤ length entries → IsSlotOfNumber (numbers entries) n (from - 1)
-before-after entries n from before after bound i low at later =
-    let len = length-numbers entries in
-    let lt : i < from = elim (cases_lt i from) [
-      | inl lt ↦ lt
-      | inr ge ↦ absurd (omega (arith, after i (omega (arith, ge)) (omega (arith, low, len)), at))
-    ] in
-    elim (cases_lt (suc i) from) [
-      | inl more ↦ absurd (omega (arith, before (suc i) more, later (suc i) (omega arith) (omega (arith, more, bound, len))))
-      | inr ge ↦ omega (arith, lt, ge)
-    ]
 
 -- where the last number is not greater, none is
 pub before-last : (entries : List Entry) (n count : ℕ) (d : Entry) → NeverFall (numbers entries) → count ≡ length entries → nat_le (slice_index_or entries (count - 1) d).number n ≡ true → (i : ℕ) → i < length entries → slice_index (numbers entries) i ≤ n

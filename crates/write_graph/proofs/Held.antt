@@ -1,10 +1,9 @@
 -- The numbers of a list, and those of the entries.
-use Rattle.std.proofs.Common.{◌≡◌, ◌∙◌, ap, sym, subst, ℕ, zero, suc, ◌<◌, Bool, List, [], ◌∷◌, ◌++◌, length, get_or, refl, arith, inl, inr}
-use Rattle.std.specs.Prelude.{IsTrue, ◌&&◌, ◌==◌, ◌⊎◌, ◌↔◌, slice_index}
+use Rattle.std.proofs.Common.{◌≡◌, ◌∙◌, ap, sym, ℕ, zero, suc, ◌<◌, Bool, List, [], ◌∷◌, ◌++◌, length, get_or, refl, arith, inl, inr}
+use Rattle.std.specs.Prelude.{IsTrue, ◌&&◌, ◌==◌, ◌↔◌, slice_index}
 use Rattle.std.specs.List.{list_any, filter}
 use Rattle.std.proofs.lemmas.Bool.{cases_Bool, both_ways, or_left, or_right, or_cases, and_parts, and_from, eqb-true, eq-eqb}
 use Rattle.std.proofs.lemmas.List.{map-append}
-use Rattle.std.proofs.lemmas.List.Folds.{list_any-append}
 use Rattle.std.proofs.lemmas.Cmp.{nat_eq_equiv}
 use Rattle.std.proofs.lemmas.Map.Made.{is_member-filter}
 use Rattle.oper_core.specs.State.{is_among}
@@ -29,20 +28,6 @@ at-among [] k lt = absurd (omega arith)
 at-among (y ∷ ys) zero lt = or_left (y == y) (is_among y ys) (eq-eqb y y refl)
 at-among (y ∷ ys) (suc k) lt = or_right (slice_index ys k == y) (is_among (slice_index ys k) ys) (at-among ys k (omega arith))
 
--- in a list with one number more are those of the list and that number
-pub among-push : (x y : ℕ) (xs : List ℕ) → IsTrue (is_among x (xs ++ y ∷ [])) → IsTrue (is_among x xs) ⊎ (x ≡ y)
-among-push x y [] e = elim (or_cases (x == y) _ e) [ inl q ↦ inr (eqb-true x y q) | inr r ↦ absurd (both_ways _ refl r) ]
-among-push x y (z ∷ zs) e = elim (or_cases (x == z) (is_among x (zs ++ y ∷ [])) e) [
-  | inl q ↦ inl (or_left (x == z) (is_among x zs) q)
-  | inr r ↦ elim (among-push x y zs r) [ inl s ↦ inl (or_right (x == z) (is_among x zs) s) | inr s ↦ inr s ]
-]
-
-pub among-left : (x : ℕ) (xs ys : List ℕ) → IsTrue (is_among x xs) → IsTrue (is_among x (xs ++ ys))
-among-left x xs ys e = list_any-append (λ y. x == y) xs ys ∙ or_left (is_among x xs) (is_among x ys) e
-
-pub among-last : (x : ℕ) (xs : List ℕ) → IsTrue (is_among x (xs ++ x ∷ []))
-among-last x xs = list_any-append (λ y. x == y) xs (x ∷ []) ∙ or_right (is_among x xs) (is_among x (x ∷ [])) (or_left (x == x) _ (eq-eqb x x refl))
-
 -- the number at a place is that of the entry there
 pub number-at : (entries : List Entry) (i : ℕ) (d : Entry) → i < length entries → slice_index (numbers entries) i ≡ (get_or entries i d).number
 number-at [] i d lt = absurd (omega arith)
@@ -52,10 +37,6 @@ number-at (e ∷ entries) (suc i) d lt = number-at entries i d (omega arith)
 pub length-numbers : (entries : List Entry) → length (numbers entries) ≡ length entries
 length-numbers [] = refl
 length-numbers (e ∷ entries) = ap suc (length-numbers entries)
-
--- the entry at a place has a number of the entries
-pub held-at : (entries : List Entry) (i : ℕ) (d : Entry) → i < length entries → IsTrue (is_among (get_or entries i d).number (numbers entries))
-held-at entries i d lt = subst (λ (n : ℕ). IsTrue (is_among n (numbers entries))) (number-at entries i d lt) (at-among (numbers entries) i (omega (arith, length-numbers entries)))
 
 -- the number of an entry that passes a test is a number of the entries
 pub held-any : (t : Entry → Bool) (entries : List Entry) (n : ℕ) → IsTrue (list_any (λ e. (e.number == n) && t e) entries) → IsTrue (is_among n (numbers entries))
@@ -81,11 +62,6 @@ edge-held entries o p (Lost_version x later lt w none r le wl) = (held-read entr
 pub reached-held : (entries : List Entry) (o p : ℕ) → Reaches (accesses entries) o p → IsTrue (is_among o (numbers entries)) → IsTrue (is_among p (numbers entries))
 reached-held entries o p Here held = held
 reached-held entries o p (Then m q walk edge) held = (edge-held entries m q edge).1
-
--- where a walk begins is the number of an entry, where it ends at one
-pub reaching-held : (entries : List Entry) (o p : ℕ) → Reaches (accesses entries) o p → IsTrue (is_among p (numbers entries)) → IsTrue (is_among o (numbers entries))
-reaching-held entries o p Here held = held
-reaching-held entries o p (Then m q walk edge) held = reaching-held entries o m walk (edge-held entries m q edge).0
 
 -- what a filter keeps
 pub among-filter : (t : ℕ → Bool) (xs : List ℕ) (k : ℕ) → IsTrue (is_among k (filter t xs)) ↔ (IsTrue (is_among k xs) × IsTrue (t k))

@@ -107,12 +107,6 @@ written-on entries slots objects more i slot at is was x = (
   ])),
 )
 
-pub numbers-none : (entries : List Entry) (slots : List ℕ) (k : ℕ) → IsTrue (is_among k []) ↔ IsNumberOf entries (take zero slots) k
-numbers-none entries slots k = ((λ t. absurd (among-none k t)), (λ w. absurd (among-none w.0 w.1)))
-
-pub written-none : (entries : List Entry) (slots : List ℕ) (x : ℕ) → IsTrue (is_among x []) ↔ IsWrittenBy entries (take zero slots) x
-written-none entries slots x = ((λ t. absurd (among-none x t)), (λ w. absurd (among-none w.0 w.1)))
-
 module _ (entries : List Entry) (g : Graph) (rows : Rows) (linked : AreLinked entries g rows) (rising : AreClimbing g.held (numbers entries)) (n : ℕ) (node : ℕ → Bool) (named : IsNodeNamed (held_entries g.held entries) n node) (s : IsSlotOf entries g n node) where
   abbrev view : List Entry
   view = held_entries g.held entries

@@ -1,8 +1,7 @@
 -- One element more of a list, as at a step of a loop.
 use Rattle.std.proofs.Common.{◌≡◌, ◌∙◌, ap, sym, subst, ℕ, zero, suc, ◌+◌, ◌<◌, ◌≤◌, ◌⊎◌, Bool, true, false, not, true≢false, List, [], ◌∷◌, take, length, Some, None, refl, arith, inl, inr}
 use Rattle.std.specs.Prelude.{IsTrue, ◌==◌, slice_get, slice_index}
-use Rattle.std.proofs.lemmas.Bool.{cases_eq, both_ways, or_left, or_right, or_cases, eqb-true, eq-eqb}
-use Rattle.std.proofs.lemmas.List.{take_all}
+use Rattle.std.proofs.lemmas.Bool.{both_ways, or_left, or_right, or_cases, eqb-true, eq-eqb}
 use Rattle.oper_core.specs.State.{is_among}
 use Rattle.write_graph.specs.Places.{place_in}
 use Rattle.write_graph.proofs.Place.{place-here, place-next}
@@ -57,9 +56,6 @@ next-suc x (suc i) (z ∷ zs) at = or_right (x == z) (is_among x (take (suc i) z
 pub among-next : (x i : ℕ) (xs : List ℕ) → slice_get xs i ≡ Some x → IsTrue (is_among x (take (i + 1) xs))
 among-next x i xs at = subst (λ (n : ℕ). IsTrue (is_among x (take n xs))) (next i) (next-suc x i xs at)
 
-pub take-end : (i : ℕ) (xs : List ℕ) → length xs ≤ i → take i xs ≡ xs
-take-end i xs le = take_all i xs le
-
 pub get-index : (xs : List ℕ) (i : ℕ) → i < length xs → slice_get xs i ≡ Some (slice_index xs i)
 get-index [] i lt = absurd (omega (arith, lt))
 get-index (x ∷ xs) zero lt = refl
@@ -78,14 +74,6 @@ place-met x (y ∷ xs) zero not at = place-here x y xs (sym (some-is y x at))
 place-met x (y ∷ xs) (suc i) not at =
     let ne : x ≡ y → ⊥ = λ e. not.none zero (omega arith) (ap (λ (k : ℕ). Some k) (sym e)) in
     place-next x y xs ne ∙ ap suc (place-met x xs i (not-met-tail x y xs i not) at)
-
-pub not-met-more : (x : ℕ) (xs : List ℕ) (i y : ℕ) → NotMet x xs i → slice_get xs i ≡ Some y → (x ≡ y → ⊥) → NotMet x xs (i + 1)
-not-met-more x xs i y not at ne = record {
-  none = λ k lt g. elim (cases_eq k i) [
-    | inl e ↦ ne (sym (some-is y x (sym at ∙ ap (slice_get xs) (sym e) ∙ g)))
-    | inr off ↦ not.none k (omega (arith, lt)) g
-  ];
-}
 
 pub not-met-all : (x : ℕ) (xs : List ℕ) (i : ℕ) → NotMet x xs i → length xs ≤ i → IsTrue (is_among x xs) → ⊥
 not-met-all x [] i not le t = among-none x t

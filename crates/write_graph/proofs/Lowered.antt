@@ -1,5 +1,5 @@
 -- Entries whose numbers are lowered where they are above one.
-use Rattle.std.proofs.Common.{◌≡◌, ◌∙◌, ap, sym, subst, ℕ, zero, suc, ◌+◌, ◌*◌, ◌/◌, ◌%◌, ◌-◌, ◌<◌, ◌≤◌, ◌⊎◌, min, Bool, true, false, List, [], ◌∷◌, ◌++◌, map, set, length, get_or, Some, All, refl, arith, inl, inr}
+use Rattle.std.proofs.Common.{◌≡◌, ◌∙◌, ap, sym, subst, ℕ, zero, suc, ◌+◌, ◌*◌, ◌/◌, ◌%◌, ◌-◌, ◌<◌, ◌≤◌, ◌⊎◌, min, Bool, true, false, List, [], ◌∷◌, ◌++◌, map, set, length, get_or, Option, Some, All, refl, arith, inl, inr}
 use Rattle.std.specs.Prelude.{IsTrue, ◌&&◌, slice_get, slice_index, MatchOption}
 use Rattle.std.proofs.lemmas.Bool.{cases_Bool, cases_eq, cases_lt}
 use Rattle.std.proofs.lemmas.List.{length_push, length-map, length-set, get_or-map, get_or_default, get_or-set_same, get_or-set_other, ext_get_or}
@@ -14,6 +14,7 @@ use Rattle.write_graph.specs.Graph.{numbers}
 use Rattle.write_graph.specs.Cells.{reads_of, writes_of, slot_access, chosen_entries, held_entries, ReadLeads, WriteLeads}
 use Rattle.write_graph.specs.Rows.{Rows, last_cell_of, last_held, waiting_of}
 use Rattle.write_graph.specs.Linked.{AreLinked, AreRows}
+use Rattle.write_graph.specs.Firsts.{AreFirsts}
 use Rattle.write_graph.specs.Lowered.{lowered}
 use Rattle.write_graph.specs.Places.{place_in}
 use Rattle.write_graph.specs.Naming.{AreClimbing}
@@ -122,9 +123,14 @@ module _ (n : ℕ) (entries : List Entry) (g : Graph) (rows : Rows) (linked : Ar
     arcs = record {
       only = carried n entries (λ r w. (c p : ℕ) → arc_at g.arcs c ≡ Some p → leads_by g.held r w c p) linked.arcs.only;
       all = carried n entries (λ r w. (o p : ℕ) → Arc (access_by g.held r w) o p → IsArc g.arcs o p) linked.arcs.all;
+      next = carried n entries (λ r w. (x o p : ℕ) → WriteLeads (access_by g.held r w) x o p → arc_at g.arcs (8 * o + 4 + place_in x (w o)) ≡ Some p) linked.arcs.next;
     };
     rows_are = rows-lowered;
   }
+
+-- the first writers of lowered entries are the same
+pub firsts-lowered : (n : ℕ) (entries : List Entry) (held : List Bool) (firsts : ℕ → Option ℕ) → AreFirsts (slot_access entries held) firsts → AreFirsts (slot_access (map (lowered n) entries) held) firsts
+firsts-lowered n entries held firsts are = carried n entries (λ r w. AreFirsts (access_by held r w) firsts) are
 
 -- where the chosen have no greater numbers, they are as they were
 chosen-lowered : (t : ℕ → Bool) (n : ℕ) (entries : List Entry) → ((i : ℕ) → IsTrue (t i) → i < length entries → slice_index (numbers entries) i ≤ n) → chosen_entries t (map (lowered n) entries) ≡ chosen_entries t entries

@@ -27,12 +27,6 @@ module _ (a b : Access) (n : ℕ) (is : IsAdded a b n) where
     | inr ge ↦ elim (cases_eq k n) [ inl e ↦ inr e | inr ne ↦ absurd (both_ways _ (is.last_reads k x (omega (arith, ge))) r) ]
   ]
 
-  pub writes-of : (k x : ℕ) → IsTrue (b.writes k x) → ((k < n) × IsTrue (a.writes k x)) ⊎ (k ≡ n)
-  writes-of k x r = elim (cases_lt k n) [
-    | inl lt ↦ inl (lt, sym (is.same_writes k x lt) ∙ r)
-    | inr ge ↦ elim (cases_eq k n) [ inl e ↦ inr e | inr ne ↦ absurd (both_ways _ (is.last_writes k x (omega (arith, ge))) r) ]
-  ]
-
   none-up : (x low high : ℕ) → high ≤ n → NoneBetween a x low high → NoneBetween b x low high
   none-up x low high le none q l h = is.same_writes q x (omega (arith, l, h, le)) ∙ none q l h
 

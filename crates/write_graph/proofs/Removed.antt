@@ -13,10 +13,11 @@ use Rattle.install_order.specs.More.{NoWriter, NoWriterFrom}
 use Rattle.graph_nodes.specs.Arcs.{arc_at, node_at, held_at, IsArc}
 use Rattle.graph_nodes.specs.Named.{Graph}
 use Rattle.graph_nodes.specs.Removed.{IsRemoved}
-use Rattle.write_graph.specs.Cells.{reads_of, writes_of, slot_access, ReadLeads, WriteLeads, CellLeads}
+use Rattle.write_graph.specs.Cells.{reads_of, writes_of, slot_access, write_cell, ReadLeads, WriteLeads, CellLeads}
 use Rattle.write_graph.specs.Rows.{Rows, last_of, waiting_of, if_held}
 use Rattle.write_graph.specs.Linked.{AreLinked}
 use Rattle.write_graph.proofs.Loops.{none-some}
+use Rattle.write_graph.proofs.Led.{write-slot}
 
 -- the slots of the node m
 abbrev pub in_node : Graph → ℕ → ℕ → Bool
@@ -66,6 +67,25 @@ module _ (a b : Access) (gone : ℕ → Bool) (none : NoEdgeInto a gone) (same_r
   write-stays x o p out w =
       let out_p = stays-out o p out (Write_write x w.1.0 w.0 w.1.1) in
       (still-writes o x out w.0, (w.1.0, still-writes p x out_p w.1.1, (λ q l h. fewer-writes q x (w.1.2 q l h))))
+
+  -- and was the same
+  pub write-was : (x o p : ℕ) → WriteLeads b x o p → IsFalse (gone o) × WriteLeads a x o p
+  write-was x o p w =
+      let at_o = was-writes o x w.0 in
+      let at_p = was-writes p x w.1.1 in (
+        at_o.0,
+        (
+          at_o.1,
+          (
+            w.1.0,
+            at_p.1,
+            (λ q l h. false_from_ne_true _ (λ v. elim (cases_Bool (gone q)) [
+              | inl there ↦ none o q at_o.0 there (Write_write x l at_o.1 v)
+              | inr out ↦ both_ways _ (w.1.2 q l h) (still-writes q x out v)
+            ])),
+          ),
+        ),
+      )
 
   pub read-stays : (x o p : ℕ) → IsFalse (gone o) → ReadLeads a x o p → ReadLeads b x o p
   read-stays x o p out r = (
@@ -162,6 +182,13 @@ module _ (entries : List Entry) (old new : Graph) (rows : Rows) (m : ℕ) (linke
       let off : node_at old.node (c.0 / 8) ≡ m → ⊥ = λ e. off-node old m o u.0 (ap (node_at old.node) (sym c.1) ∙ e) in
       (c.0, c.1, is.arcs_left c.0 off ∙ c.2)
 
+  next-left : (x o p : ℕ) → WriteLeads b x o p → arc_at new.arcs (write_cell entries o x) ≡ Some p
+  next-left x o p w =
+      let u = write-was a b gone none reads-same writes-same x o p w in
+      let there = (and_parts (held_at old.held o) (is_among x (writes_of entries o)) u.1.0).1 in
+      let at = write-slot entries o x there (linked.few o).1 in
+      is.arcs_left (write_cell entries o x) (λ e. off-node old m o u.0 (ap (node_at old.node) (sym at) ∙ e)) ∙ linked.arcs.next x o p u.1
+
   last-match : (x : ℕ) (o : Option ℕ) → last_of rows x ≡ o → MatchOption (if_held new.held o) (NoWriter b x) (λ w. IsLastWriter b x w)
   last-match x None q = none-stays a b gone none reads-same writes-same x (subst (λ (o : Option ℕ). MatchOption o (NoWriter a x) (λ w. IsLastWriter a x w)) (ap (if_held old.held) q) (linked.rows_are.last x))
   last-match x (Some w) q =
@@ -193,7 +220,7 @@ module _ (entries : List Entry) (old new : Graph) (rows : Rows) (m : ℕ) (linke
     cells = linked.cells;
     few = linked.few;
     nodes = nodes;
-    arcs = record { only = leads; all = arcs-all };
+    arcs = record { only = leads; all = arcs-all; next = next-left };
     rows_are = record {
       below = linked.rows_are.below;
       cells = linked.rows_are.cells;

@@ -3,12 +3,12 @@ use Rattle.std.proofs.Common.{◌≡◌, ◌∙◌, ap, sym, subst, ℕ, ◌+◌
 use Rattle.std.specs.Prelude.{IsTrue, IsFalse, nat_eq, nat_lt, slice_index, slice_index_or, slice_set, MatchOption}
 use Rattle.std.specs.List.{position, position_or_len, list_any}
 use Rattle.std.proofs.lemmas.Bool.{cases_lt, both_ways, lt-ltb, le-ltb, cond-true, cond-false}
-use Rattle.std.proofs.lemmas.List.{get_or-set_same, get_or-set_other, get_or_default}
+use Rattle.std.proofs.lemmas.List.{get_or-set_same, get_or-set_other}
 use Rattle.oper_core.specs.State.{is_among}
 use Rattle.number_lists.specs.Lists.{Lists, list_at, IsEmptied, IsPopped, IsPushed, IsWider}
 use Rattle.indexmap.specs.IndexSet.{insert_key}
 use Rattle.write_graph.specs.Places.{place_in}
-use Rattle.write_graph.specs.Rows.{Rows, last_cell_of, waiting_of, IsLastSet, IsWaiting, IsTaken}
+use Rattle.write_graph.specs.Rows.{Rows, waiting_of, IsLastSet, IsWaiting, IsTaken}
 use Rattle.write_graph.specs.RowTables.{rows_of, AreTables, IsRow}
 use Rattle.write_graph.proofs.Place.{place-is, place-here, place-le, place-one, place-among, place-none, place-left, place-right, read-past, read-more, list-past, index-left, index-last}
 
@@ -22,12 +22,6 @@ find-is x objects r e =
       | inl lt ↦ subst P (sym (e ∙ cond-true (nat_lt n (length objects)) (Some n) None (lt-ltb _ _ lt))) (sym at, lt)
       | inr ge ↦ subst P (sym (e ∙ cond-false (nat_lt n (length objects)) (Some n) None (le-ltb _ _ ge))) (omega (arith, at, ge, place-le x objects))
     ]
-
-pub last-none : (objects : List ℕ) (last : List (Option ℕ)) (waiting : Lists) (room x : ℕ) → AreTables objects last waiting → place_in x objects ≡ length objects → last_cell_of (rows_of objects last waiting room) x ≡ None
-last-none objects last waiting room x are e = read-past last (place_in x objects) None (omega (arith, are.last_rows, e))
-
-pub last-at : (objects : List ℕ) (last : List (Option ℕ)) (waiting : Lists) (room x row : ℕ) (v : Option ℕ) → AreTables objects last waiting → row ≡ place_in x objects → row < length objects → v ≡ slice_index_or last row v → v ≡ last_cell_of (rows_of objects last waiting room) x
-last-at objects last waiting room x row v are at lt is = is ∙ get_or_default last row v None (omega (arith, lt, are.last_rows)) ∙ ap (λ (k : ℕ). slice_index_or last k None) at
 
 pub waiting-none : (objects : List ℕ) (last : List (Option ℕ)) (waiting : Lists) (room x : ℕ) → AreTables objects last waiting → place_in x objects ≡ length objects → waiting_of (rows_of objects last waiting room) x ≡ []
 waiting-none objects last waiting room x are e = list-past waiting.lists (place_in x objects) (omega (arith, are.waiting_rows, e))

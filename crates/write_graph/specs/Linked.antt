@@ -8,13 +8,14 @@ use Rattle.install_order.specs.Digraph.{AreNodes}
 use Rattle.install_order.specs.More.{NoWriter, NoWriterFrom}
 use Rattle.graph_nodes.specs.Arcs.{arc_at, node_at, IsArc, held_at}
 use Rattle.graph_nodes.specs.Named.{Graph}
-use Rattle.write_graph.specs.Cells.{reads_of, writes_of, slot_access, IsReadCell, write_cell, CellLeads}
+use Rattle.write_graph.specs.Cells.{reads_of, writes_of, slot_access, IsReadCell, write_cell, WriteLeads, CellLeads}
 use Rattle.write_graph.specs.Rows.{last_cell_of, last_of, waiting_of, Rows, last_held}
 
--- the cells report the few edges
+-- the cells report the few edges, and the first cell for each write leads to the next write of its object
 pub record AreArcs (a : Access) (entries : List Entry) (arcs : List (Option ℕ)) : Type 0 where
   pub only : (c p : ℕ) → arc_at arcs c ≡ Some p → CellLeads a entries c p
   pub all : (o p : ℕ) → Arc a o p → IsArc arcs o p
+  pub next : (x o p : ℕ) → WriteLeads a x o p → arc_at arcs (write_cell entries o x) ≡ Some p
 
 -- the rows report the last writers, and who reads the last version
 pub record AreRows (a : Access) (entries : List Entry) (held : List Bool) (rows : Rows) : Type 0 where

@@ -1,53 +1,135 @@
-ghost use Rattle.std.specs.Prelude.{◌≡◌, ℕ, ◌<◌, ◌≤◌, ◌^◌, ◌&&◌, Some, nat_eq, IfOk, OnOk, length, slice_index, if◌then◌else◌};
-ghost use Rattle.indexmap.specs.IndexMap.{get};
+ghost use Rattle.std.specs.Prelude.{◌≡◌, ℕ, ◌+◌, ◌<◌, ◌≤◌, ◌∷◌, [], nat_eq, IsTrue, IsSome, IfOk, length, MatchOption, if◌then◌else◌};
+ghost use Rattle.indexmap.specs.IndexMap.{get, spare};
 ghost use Rattle.oper_core.specs.State.{is_among};
-ghost use Rattle.graph_nodes.specs.Arcs.{held_at};
-ghost use Rattle.write_graph.specs.Graph.{numbers};
+ghost use Rattle.graph_nodes.specs.Arcs.{node_at};
+ghost use Rattle.write_graph.specs.Graph.{Lists};
 ghost use Rattle.write_graph.specs.Cells.{writes_of};
-ghost use Rattle.write_graph.specs.Firsts.{IsFirstFrom};
+ghost use Rattle.write_graph.specs.Linked.{AreLinked};
+ghost use Rattle.write_graph.specs.Listing.{AreBelow, IsWrittenBy};
+ghost use Rattle.write_graph.specs.Firsts.{noted, ArePassed, IsOutside};
 
+use crate::links::Links;
 use graph_nodes::SlotGraph;
 use indexmap::IndexMap;
 use install_order::Entry;
 use oper_core::Memory;
 use std::alloc::Global;
 
-/// By object, the least number of a held entry that writes it.
-pub(crate) fn first_writers(
-    alloc: Global,
-    entries: &[Entry],
-    graph: &SlotGraph,
-) -> Result<IndexMap<u32, u64>, Memory>
-    requires count { length graph.now.node ≡ length entries.now }
-    requires small { length entries.now ≤ 2 ^ 28 }
-    ensures { IfOk result (λ firsts. (x : ℕ) → IsFirstFrom entries.now graph.now.held 0 x (get nat_eq firsts x)) }
+/// Notes the slot as the first writer of those of the objects that have none.
+pub(crate) fn note_writes(slot: u32, objects: &[u32], firsts: &mut IndexMap<u32, u32>)
+    requires { length objects.now ≤ spare firsts.old }
+    ensures { (x : ℕ) → get nat_eq firsts.new x ≡ noted objects.now slot (get nat_eq firsts.old) x }
 {
-    let mut firsts = IndexMap::new(alloc);
-    let mut slot = entries.len() as u32;
-    while slot > 0 {
-        slot -= 1;
-        note_writes(slot, entries, graph, &mut firsts)?;
+    for x in objects {
+        note_write(slot, *x, firsts);
     }
-    Ok(firsts)
 }
 
-/// Notes the number of the slot's entry for the objects that it writes, if the slot is held.
-fn note_writes(
-    slot: u32,
-    entries: &[Entry],
-    graph: &SlotGraph,
-    firsts: &mut IndexMap<u32, u64>,
-) -> Result<(), Memory>
-    requires slot { slot < length entries.now }
-    requires count { length graph.now.node ≡ length entries.now }
-    ensures { OnOk result ((x : ℕ) → get nat_eq firsts.new x ≡ (if held_at graph.now.held slot && is_among x (writes_of entries.now slot) then Some (slice_index (numbers entries.now) slot) else get nat_eq firsts.old x)) }
+/// Notes the slot as the first writer of the object, if it has none.
+fn note_write(slot: u32, x: u32, firsts: &mut IndexMap<u32, u32>)
+    requires { 0 < spare firsts.old }
+    ensures noted { (y : ℕ) → get nat_eq firsts.new y ≡ noted (x ∷ []) slot (get nat_eq firsts.old) y }
+    ensures room { spare firsts.old ≤ spare firsts.new + 1 }
 {
-    if !graph.is_held(slot) {
-        return Ok(());
+    if firsts.contains_key(&x) {
+        return;
     }
+    let Ok(_) = firsts.insert(x, slot) else {
+        unreachable!()
+    };
+}
+
+/// Lets the objects that these slots of the node write have first writers outside it. It takes a step for each write.
+pub(crate) fn pass_over(
+    slots: &[u32],
+    node: u32,
+    links: &Links,
+    entries: &[Entry],
+    firsts: &mut IndexMap<u32, u32>,
+)
+    requires linked { AreLinked entries.now links.now.graph links.now.rows }
+    requires below { AreBelow slots.now entries.now }
+    requires passed { ArePassed entries.now links.now.graph node (get nat_eq firsts.old) }
+    ensures passed { ArePassed entries.now links.now.graph node (get nat_eq firsts.new) }
+    ensures outside { (x : ℕ) → IsWrittenBy entries.now slots.now x → IsOutside links.now.graph node (get nat_eq firsts.new x) }
+    ensures room { spare firsts.old ≤ spare firsts.new }
+{
+    for slot in slots {
+        pass_writes(*slot, node, links, entries, firsts);
+    }
+}
+
+/// Lets the objects that the slot writes have first writers outside the node.
+fn pass_writes(
+    slot: u32,
+    node: u32,
+    links: &Links,
+    entries: &[Entry],
+    firsts: &mut IndexMap<u32, u32>,
+)
+    requires slot { slot < length entries.now }
+    requires linked { AreLinked entries.now links.now.graph links.now.rows }
+    requires passed { ArePassed entries.now links.now.graph node (get nat_eq firsts.old) }
+    ensures passed { ArePassed entries.now links.now.graph node (get nat_eq firsts.new) }
+    ensures outside { (x : ℕ) → IsTrue (is_among x (writes_of entries.now slot)) → IsOutside links.now.graph node (get nat_eq firsts.new x) }
+    ensures stays { (x : ℕ) → IsOutside links.now.graph node (get nat_eq firsts.old x) → IsOutside links.now.graph node (get nat_eq firsts.new x) }
+    ensures room { spare firsts.old ≤ spare firsts.new }
+{
     let entry = &entries[slot as usize];
     for x in entry.writes.as_slice() {
-        firsts.insert(*x, entry.number)?;
+        pass_write(*x, node, links, entries, firsts);
     }
-    Ok(())
+}
+
+/// Lets the object have a first writer outside the node: the next writer in the place of each that is of the node.
+fn pass_write(x: u32, node: u32, links: &Links, entries: &[Entry], firsts: &mut IndexMap<u32, u32>)
+    requires linked { AreLinked entries.now links.now.graph links.now.rows }
+    requires passed { ArePassed entries.now links.now.graph node (get nat_eq firsts.old) }
+    ensures passed { ArePassed entries.now links.now.graph node (get nat_eq firsts.new) }
+    ensures here { IsOutside links.now.graph node (get nat_eq firsts.new x) }
+    ensures others { (y : ℕ) → (y ≡ x → ⊥) → get nat_eq firsts.new y ≡ get nat_eq firsts.old y }
+    ensures room { spare firsts.old ≤ spare firsts.new }
+{
+    'writers: while let Some(slot) = first_within(x, node, &links.graph, firsts) {
+        let next = links.next_writer(x, slot, entries);
+        set_first(x, next, firsts);
+    }
+}
+
+/// The first writer of the object, if it is of the node.
+fn first_within(x: u32, node: u32, graph: &SlotGraph, firsts: &IndexMap<u32, u32>) -> Option<u32>
+    requires { (i : ℕ) → get nat_eq firsts.now x ≡ Some i → i < length graph.now.node }
+    ensures { MatchOption result (IsOutside graph.now node (get nat_eq firsts.now x)) (λ i. (get nat_eq firsts.now x ≡ Some i) × (node_at graph.now.node i ≡ node)) }
+{
+    let slot = *firsts.get(&x)?;
+    if graph.node(slot) == node {
+        Some(slot)
+    } else {
+        None
+    }
+}
+
+/// Puts another first writer, or none, in the place of the object's.
+fn set_first(x: u32, first: Option<u32>, firsts: &mut IndexMap<u32, u32>)
+    requires { IsSome (get nat_eq firsts.old x) }
+    ensures first { (y : ℕ) → get nat_eq firsts.new y ≡ (if nat_eq x y then first else get nat_eq firsts.old y) }
+    ensures room { spare firsts.old ≤ spare firsts.new }
+{
+    let Some(slot) = first else {
+        firsts.swap_remove(&x);
+        return;
+    };
+    if let Some(place) = firsts.get_mut(&x) {
+        *place = slot;
+    }
+}
+
+/// The objects that have a first writer, rising.
+pub(crate) fn written(alloc: Global, firsts: &IndexMap<u32, u32>) -> Result<Vec<u32>, Memory>
+    ensures { IfOk result (λ objects. Lists (λ x. IsSome (get nat_eq firsts.now x)) objects.items) }
+{
+    let mut objects = Vec::new(alloc);
+    objects.extend_from_slice(firsts.keys().as_slice())?;
+    objects.sort()?;
+    Ok(objects)
 }

@@ -1,4 +1,4 @@
-ghost use Rattle.std.specs.Prelude.{◌≡◌, ◌<◌, ◌≤◌, ◌++◌, ◌∷◌, [], ◌↔◌, not, Bool, ℕ, List, All, IsTrue, IsFalse, IfOk, OnOk, IfSome, IfNone, length, map};
+ghost use Rattle.std.specs.Prelude.{◌≡◌, ◌<◌, ◌≤◌, ◌++◌, ◌∷◌, [], ◌↔◌, not, Bool, ℕ, All, IsTrue, IsFalse, IfOk, OnOk, IfSome, IfNone, length, map};
 ghost use Rattle.std.specs.List.{filter};
 ghost use Rattle.std.specs.List.Sorted.{IsStrictlyIncreasing};
 ghost use Rattle.install_order.specs.Order.{Edge, flush_set_of};
@@ -6,13 +6,14 @@ ghost use Rattle.install_order.specs.Entries.{accesses};
 ghost use Rattle.write_graph.specs.Objects.{IsWriter, IsWritten};
 ghost use Rattle.write_graph.specs.Graph.{numbers, IsNodeNamed, NamesNode, NamesMinimal, IsLeast, Lists, IsCount, IsSingleIdentity};
 
-use crate::firsts::first_writers;
+use crate::firsts::{note_writes, pass_over, written};
 use crate::laws::slots_name_nodes;
 use crate::links::Links;
-use crate::listing::{held_slots, numbers_of, slots_of, written_by};
+use crate::listing::{numbers_of, slots_of, written_by};
 use crate::lowering::lower_last;
 use crate::places::{slot_from, slot_of};
 use crate::renewing::add_held;
+use indexmap::IndexMap;
 use install_order::{Entry, nodes_stand_for_nodes};
 use number_lists::push_in_room;
 use oper_core::Memory;
@@ -22,6 +23,9 @@ use std::mem;
 
 /// How many more slots may be left of entries that were taken out than there are held ones.
 const SPARE: usize = 16;
+
+/// How many objects an entry writes at most.
+const WRITES: usize = 4;
 
 /// A node's name: the least number of an entry in it.
 pub type NodeNo = u64;
@@ -33,6 +37,8 @@ pub struct WriteGraph {
     /// By slot, the entries, also those that were taken out: of these, the numbers may be lowered.
     entries: Vec<Entry>,
     links: Links,
+    /// By object that a held entry writes, the slot of the first that does.
+    firsts: IndexMap<u32, u32>,
     /// How many of the slots are held.
     held: usize,
     /// The slots of a node that is taken out.
@@ -40,22 +46,25 @@ pub struct WriteGraph {
 }
 
 impl Model for WriteGraph {
-    ghost use Rattle.std.specs.Prelude.{◌≡◌, ◌-◌, ◌≤◌, min, length};
+    ghost use Rattle.std.specs.Prelude.{◌≡◌, ◌-◌, ◌/◌, ◌≤◌, nat_eq, min, length};
     ghost use Rattle.std.specs.Vec.{vec_capacity};
+    ghost use Rattle.indexmap.specs.IndexMap.{get, spare};
     ghost use Rattle.write_graph.specs.Graph.{Graph, numbers};
-    ghost use Rattle.write_graph.specs.Cells.{held_entries};
+    ghost use Rattle.write_graph.specs.Cells.{slot_access, held_entries};
     ghost use Rattle.write_graph.specs.Linked.{AreLinked, links_room};
+    ghost use Rattle.write_graph.specs.Firsts.{AreFirsts};
     ghost use Rattle.write_graph.specs.Naming.{AreClimbing};
 
     ghost Value = { Graph };
 
     ghost view = { λ g. record {
       entries = held_entries g.links.graph.held g.entries.items;
-      room = min (links_room g.links.graph g.links.rows) (min (vec_capacity g.entries) (vec_capacity g.members) - length g.entries.items);
+      room = min (min (links_room g.links.graph g.links.rows) (spare g.firsts / 4)) (min (vec_capacity g.entries) (vec_capacity g.members) - length g.entries.items);
     } };
 
     ghost invariant = { λ g. AreClimbing g.links.graph.held (numbers g.entries.items) × AreLinked g.entries.items g.links.graph g.links.rows ×
-        (g.held ≡ length (held_entries g.links.graph.held g.entries.items)) × (length g.entries.items ≤ vec_capacity g.members) };
+        (g.held ≡ length (held_entries g.links.graph.held g.entries.items)) × (length g.entries.items ≤ vec_capacity g.members) ×
+        AreFirsts (slot_access g.entries.items g.links.graph.held) (get nat_eq g.firsts) };
 }
 
 impl WriteGraph {
@@ -67,6 +76,7 @@ impl WriteGraph {
             alloc,
             entries: Vec::new(alloc),
             links: Links::new(alloc),
+            firsts: IndexMap::new(alloc),
             held: 0,
             members: Vec::new(alloc),
         })
@@ -113,6 +123,7 @@ impl WriteGraph {
         self.entries.reserve(1)?;
         self.members.clear();
         self.members.reserve(count)?;
+        self.firsts.reserve(WRITES)?;
         self.links.make_room(self.entries.as_slice())
     }
 
@@ -124,6 +135,8 @@ impl WriteGraph {
     {
         lower_last(entry.number, &mut self.entries);
         self.links.add(&entry, self.entries.as_slice());
+        let slot = self.entries.len() as u32;
+        note_writes(slot, entry.writes.as_slice(), &mut self.firsts);
         push_in_room(&mut self.entries, entry);
         self.held += 1;
     }
@@ -203,10 +216,19 @@ impl WriteGraph {
         ensures room { self.old.room ≤ self.new.room }
     {
         slots_name_nodes();
-        let slot = slot_of(n, self.entries.as_slice());
+        let entries = self.entries.as_slice();
+        let slot = slot_of(n, entries);
         self.links.graph.members(slot, &mut self.members);
         self.held -= self.members.len();
-        self.links.remove(slot, self.entries.as_slice());
+        let node = self.links.graph.node(slot);
+        pass_over(
+            self.members.as_slice(),
+            node,
+            &self.links,
+            entries,
+            &mut self.firsts,
+        );
+        self.links.remove(slot, entries);
     }
 
     /// The objects that entries write, rising, each with the least number of an entry that writes it.
@@ -214,16 +236,13 @@ impl WriteGraph {
         ensures objects { IfOk result (λ starts. Lists (IsWritten (accesses self.now.entries)) (map (λ s. s.0) starts.items)) }
         ensures numbers { IfOk result (λ starts. All (λ s. IsLeast (IsWriter (accesses self.now.entries) s.0) s.1) starts.items) }
     {
-        let entries = self.entries.as_slice();
-        let slots = held_slots(self.alloc, &self.links.graph)?;
-        let objects = written_by(self.alloc, slots.as_slice(), entries)?;
-        let firsts = first_writers(self.alloc, entries, &self.links.graph)?;
+        let objects = written(self.alloc, &self.firsts)?;
         let mut starts = Vec::new(self.alloc);
         for x in &objects {
-            let Some(first) = firsts.get(x) else {
+            let Some(slot) = self.firsts.get(x) else {
                 unreachable!()
             };
-            starts.push((*x, *first))?;
+            starts.push((*x, self.entries[*slot as usize].number))?;
         }
         Ok(starts)
     }

@@ -1,7 +1,7 @@
 ghost use Rattle.std.specs.Prelude.{◌≡◌, ℕ, ◌<◌, ◌≤◌, ◌+◌, ◌*◌, ◌/◌, ◌^◌, IsTrue, Some, length};
 ghost use Rattle.oper_core.specs.State.{is_among};
 ghost use Rattle.graph_nodes.specs.Arcs.{held_at};
-ghost use Rattle.write_graph.specs.Rows.{last_cell_of, last_of, waiting_of, last_held};
+ghost use Rattle.write_graph.specs.Rows.{last_of, waiting_of, last_held};
 ghost use Rattle.write_graph.specs.Steps.{IsLed, IsWriterLed, AreWritersLed, IsReaderLed, IsAnswered, AreAnswered, AreWaiting};
 
 use crate::cells::{CELLS, own_cell};

@@ -1,12 +1,15 @@
-ghost use Rattle.std.specs.Prelude.{◌≡◌, ℕ, ◌<◌, ◌≤◌, ◌+◌, ◌++◌, ◌∷◌, [], true, Some, IsTrue, OnOk, IfOk, length};
+ghost use Rattle.std.specs.Prelude.{◌≡◌, ℕ, ◌<◌, ◌+◌, ◌++◌, ◌∷◌, [], true, Some, IsTrue, OnOk, IfOk, length};
 ghost use Rattle.std.specs.List.{filter};
 ghost use Rattle.graph_nodes.specs.Arcs.{held_at, node_at};
 ghost use Rattle.graph_nodes.specs.Named.{IsMinimal};
 ghost use Rattle.graph_nodes.specs.Removed.{IsRemoved};
+ghost use Rattle.write_graph.specs.Cells.{slot_access};
 ghost use Rattle.write_graph.specs.Rows.{last_of, last_held};
 ghost use Rattle.write_graph.specs.Listing.{is_with};
 ghost use Rattle.write_graph.specs.Linked.{AreLinked, links_room};
+ghost use Rattle.write_graph.specs.Firsts.{IsNextWriter};
 
+use crate::cells::own_cell;
 use crate::linking::{answer_all, last_held, lead_writers, wait_all};
 use crate::listing::push_if;
 use crate::rows::Rows;
@@ -83,6 +86,17 @@ impl Links {
         arcs_left_by_a_removal();
         self.graph.remove(slot);
         let _slots = self.graph.len();
+    }
+
+    /// The next writer of the object after the slot, which writes it.
+    pub(crate) fn next_writer(&self, x: u32, slot: u32, entries: &[Entry]) -> Option<u32>
+        requires linked { AreLinked entries.now self.now.graph self.now.rows }
+        requires writes { IsTrue ((slot_access entries.now self.now.graph.held).writes slot x) }
+        ensures { IsNextWriter (slot_access entries.now self.now.graph.held) x slot result }
+    {
+        let _slots = self.graph.len();
+        let entry = &entries[slot as usize];
+        self.graph.arc(own_cell(slot, x, entry.writes.as_slice()))
     }
 
     /// Those of the objects whose last writer is held and of one node with the slot.

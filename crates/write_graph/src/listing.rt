@@ -1,7 +1,4 @@
-ghost use Rattle.std.specs.Prelude.{◌≡◌, ℕ, ◌<◌, ◌≤◌, ◌^◌, ◌++◌, ◌∷◌, [], ◌↔◌, Bool, IsTrue, IfOk, OnOk, length, if◌then◌else◌};
-ghost use Rattle.oper_core.specs.State.{is_among};
-ghost use Rattle.graph_nodes.specs.Arcs.{held_at};
-ghost use Rattle.graph_nodes.specs.Named.{Graph};
+ghost use Rattle.std.specs.Prelude.{◌≡◌, ℕ, ◌≤◌, ◌^◌, ◌++◌, ◌∷◌, [], Bool, IfOk, OnOk, length, if◌then◌else◌};
 ghost use Rattle.write_graph.specs.Graph.{IsNodeNamed, NamesNode, Lists};
 ghost use Rattle.write_graph.specs.Cells.{held_entries};
 ghost use Rattle.write_graph.specs.Naming.{AreSlots};
@@ -69,18 +66,6 @@ pub(crate) fn written_by(
     objects.sort()?;
     objects.dedup();
     Ok(objects)
-}
-
-/// The slots that are held.
-pub(crate) fn held_slots(alloc: Global, graph: &SlotGraph) -> Result<Vec<u32>, Memory>
-    requires small { length graph.now.node ≤ 2 ^ 28 }
-    ensures { IfOk result (λ slots. (i : ℕ) → IsTrue (is_among i slots.items) ↔ ((i < length graph.now.node) × IsTrue (held_at graph.now.held i))) }
-{
-    let mut slots = Vec::new(alloc);
-    for slot in 0..graph.len() as u32 {
-        push_if(slot, graph.is_held(slot), &mut slots)?;
-    }
-    Ok(slots)
 }
 
 /// Adds the number at the end, if it is to be kept.

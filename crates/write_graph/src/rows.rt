@@ -1,4 +1,4 @@
-ghost use Rattle.std.specs.Prelude.{◌≡◌, ℕ, ◌<◌, ◌≤◌, ◌+◌, [], length, IsTrue, OnOk, MatchOption};
+ghost use Rattle.std.specs.Prelude.{◌≡◌, ℕ, ◌<◌, ◌≤◌, [], length, IsTrue, OnOk, MatchOption};
 ghost use Rattle.oper_core.specs.State.{is_among};
 ghost use Rattle.write_graph.specs.Places.{place_in};
 ghost use Rattle.write_graph.specs.RowTables.{IsRow};

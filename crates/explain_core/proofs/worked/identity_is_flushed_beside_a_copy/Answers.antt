@@ -5,7 +5,7 @@ use Rattle.install_order.specs.NodeLaws.{flushed-iff}
 use Rattle.install_order.specs.Checks.{is_minimal-gives, flushes_only-gives}
 use Rattle.explain_core.specs.declared.byte_op.ByteOp.{ByteOp}
 use Rattle.explain_core.specs.ByteOps.{byte_meaning}
-use Rattle.explain_core.specs.World.{World, step, run, IsAllowed, AreAllowed, IsReady, new_world, graph_access, work_of}
+use Rattle.explain_core.specs.World.{World, step, run, IsAllowed, AreAllowed, IsInstallable, new_world, graph_access, work_of}
 use Rattle.explain_core.specs.World.Step.{Slot_gate}
 use Rattle.explain_core.specs.RunLaws.{run-append}
 use Rattle.explain_core.specs.Backup.{IsCopied, MayWhileCopied, with_next}
@@ -14,7 +14,7 @@ use Rattle.explain_core.proofs.BackupRuns.{copied-none, copied-more, copied-step
 use Rattle.explain_core.proofs.WorkedRuns.{steps-sound, one-more, within, removed-allowed}
 use Rattle.explain_core.proofs.worked.identity_is_flushed_beside_a_copy.Goals as goal
 
-identity-ready : IsReady (byte_meaning two) (after_steps swap_removed) identity_node
+identity-ready : IsInstallable (byte_meaning two) (after_steps swap_removed) identity_node
 unfolding step run
 identity-ready = (
   (λ n there. all-gives (after_steps swap_removed).graph (4 ∷ []) n refl there),

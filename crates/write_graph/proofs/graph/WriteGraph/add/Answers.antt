@@ -1,19 +1,26 @@
-use Rattle.std.proofs.Common.{◌≡◌, ◌∙◌, ap, sym, subst, ◌<◌, List, [], ◌∷◌, ◌++◌, length, map, All, arith}
+use Rattle.std.proofs.Common.{◌≡◌, ◌∙◌, ap, sym, subst, ◌<◌, List, [], ◌∷◌, ◌++◌, length, map, All, nat_eq, arith}
 use Rattle.std.proofs.lemmas.List.{length_push, length-map}
+use Rattle.indexmap.specs.IndexMap.{get}
 use Rattle.install_order.specs.declared.entry.Entry.{Entry}
 use Rattle.graph_nodes.specs.Arcs.{held_at}
 use Rattle.write_graph.specs.Graph.{Graph, numbers}
 use Rattle.write_graph.specs.Cells.{held_entries}
 use Rattle.write_graph.specs.Linked.{AreLinked}
 use Rattle.write_graph.specs.Lowered.{lowered}
-use Rattle.write_graph.proofs.Lowered.{linked-lowered, held-lowered, climbing-more}
+use Rattle.write_graph.proofs.Lowered.{linked-lowered, firsts-lowered, held-lowered, climbing-more}
 use Rattle.write_graph.proofs.Numbers.{held-push, chosen-few}
+use Rattle.write_graph.proofs.FirstWriters.{firsts-added}
 use Rattle.write_graph.proofs.graph.WriteGraph.add.Goals as goal
 
 pub add-requires-clause-linked : goal.add-requires-clause-linked
 add-requires-clause-linked c =
     let g = c.self.inside in
     subst (λ (es : List Entry). AreLinked es g.links.graph g.links.rows) (sym (c.as_slice.ensures.value ∙ c.lower_last.ensures.lowered)) (linked-lowered c.args.entry.number g.entries.items g.links.graph g.links.rows c.self.invariant.1)
+
+pub note_writes-requires : goal.note_writes-requires
+note_writes-requires c =
+    let room = subst (λ (v : Graph). 0 < v.room) (sym c.self.view_is) c.requires.room in
+    omega (arith, room, ap length c.as_slice-2.ensures.value, c.as_slice-2.ensures.few)
 
 pub overflow_add-self : goal.overflow_add-self
 overflow_add-self c = omega (arith, c.self.invariant.2, c.self.invariant.1.small, chosen-few (held_at c.self.inside.links.graph.held) c.self.inside.entries.items)
@@ -38,12 +45,14 @@ invariant_of-self c =
     let same = held-lowered held entries e.number above in
     let push = held-push held more low e (c.self.invariant.1.held ∙ sym len) c.add.ensures.held in
     let size = length_push low e in
+    let slot : c.len-slot.result ≡ length low = c.len-slot.ensures ∙ c.lower_last.new.entries.ok.0 ∙ ap length c.lower_last.ensures.lowered in
     let items : c.push_in_room.new.items.items ≡ low ++ e ∷ [] = c.push_in_room.ensures.items ∙ ap (λ (es : List Entry). es ++ e ∷ []) c.lower_last.ensures.lowered in
     rw items (
       climbing-more held more entries e c.self.invariant.1.held c.add.ensures.held c.self.invariant.0 above,
       subst (λ (es : List Entry). AreLinked (es ++ e ∷ []) c.add.new.self.graph c.add.new.self.rows) (c.as_slice.ensures.value ∙ c.lower_last.ensures.lowered) c.add.ensures.linked,
       omega (arith, ap length push, ap length same, length_push (held_entries held low) e, c.self.invariant.2),
       omega (arith, room, size, len),
+      firsts-added held more low e c.len-slot.result c.as_slice-2.result.now (get nat_eq g.firsts) (get nat_eq c.note_writes.new.firsts) (c.self.invariant.1.held ∙ sym len) c.add.ensures.held c.as_slice-2.ensures.value slot c.note_writes.ensures (firsts-lowered e.number entries held (get nat_eq g.firsts) c.self.invariant.4),
     )
 
 pub returns : goal.returns
