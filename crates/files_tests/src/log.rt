@@ -1,6 +1,7 @@
 // A log on a machine in memory: that calls succeed, and worked bytes.
 use disk_model::{Crash, FileNo, Fuse, Machine, MemMachine};
-use log_frames::{LogErr, LogFile, PayloadReader};
+use formats::ReadErr;
+use log_frames::{LogFile, PayloadReader};
 use std::alloc::{AllocError, Global};
 use std::test::Fail;
 
@@ -170,7 +171,7 @@ fn is_damaged(
     machine.write_at(FileNo::LogA, at, bytes)?;
     machine.write_at(FileNo::LogB, 0, log_b)?;
     let (file, place) = fault;
-    Ok(LogFile::load(alloc, &mut machine).err() == Some(LogErr::Damaged { file, place }))
+    Ok(LogFile::load(alloc, &mut machine).err() == Some(ReadErr::Damaged { file, place }))
 }
 
 // What is written into a new log A, and where it is then damaged.

@@ -5,7 +5,7 @@ use crate::records::{loaded, numbered};
 use disk_model::{FileNo, Machine, MemMachine};
 use formats::Record;
 use log_records::RecordLog;
-use op_meaning::Put;
+use op_meaning::PlainOp;
 use oper_core::Bounds;
 use std::alloc::Global;
 use std::test::Fail;
@@ -81,18 +81,18 @@ fn with_blocks(alloc: Global, blocks: Blocks) -> Result<MemMachine, Fail> {
     }
     bytes.push(0)?;
     let mut machine = MemMachine::new(alloc, [64, 1 << 20, 64], 1 << 10, 1 << 20, Vec::new(alloc))?;
-    RecordLog::<Put>::create(&mut machine)?;
+    RecordLog::<PlainOp>::create(&mut machine)?;
     machine.write_at(FileNo::LogA, 33, &bytes)?;
     Ok(machine)
 }
 
 // Whether a record is the put with this number, with its value of so many bytes.
-fn is_put(record: &Record<Put>, number: u64, length: usize) -> bool {
-    let Record::Command(n, op) = record else {
+fn is_put(record: &Record<PlainOp>, number: u64, length: usize) -> bool {
+    let Record::Command(n, PlainOp::Put { object, value }) = record else {
         return false;
     };
-    let value = op.value.as_slice();
-    let mut is = *n == number && op.object == 0 && value.len() == length;
+    let value = value.as_slice();
+    let mut is = *n == number && *object == 0 && value.len() == length;
     for (place, byte) in value.iter().enumerate() {
         is &= *byte == byte_at(number, place);
     }
@@ -100,7 +100,7 @@ fn is_put(record: &Record<Put>, number: u64, length: usize) -> bool {
 }
 
 // Whether records are the puts with values of these lengths, the first of which has this number.
-fn are_puts(records: &[Record<Put>], first: u64, lengths: &[usize]) -> bool {
+fn are_puts(records: &[Record<PlainOp>], first: u64, lengths: &[usize]) -> bool {
     let mut are = records.len() == lengths.len();
     for ((record, length), number) in records.iter().zip(lengths).zip(first..u64::MAX) {
         are &= is_put(record, number, *length);

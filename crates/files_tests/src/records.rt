@@ -1,13 +1,12 @@
 // The codec of records and their log: that calls succeed, and worked bytes.
 ghost use Rattle.std.specs.Prelude.{◌≡◌, ◌<◌, ◌^◌, ◌∷◌, [], IfOk, length};
 
-use checkpoint::{Starts, Table};
 use disk_model::{Crash, FileNo, Fuse, Machine, MemMachine};
-use formats::Record;
-use log_frames::LogErr;
+use formats::{ReadErr, Record};
 use log_records::{RecordLog, decode, encode, one_record};
-use op_meaning::Put;
+use op_meaning::PlainOp;
 use oper_core::{Bounds, ByteList, Oper};
+use redo_tables::{Starts, Table};
 use std::alloc::Global;
 use std::test::Fail;
 
@@ -37,7 +36,7 @@ const CODES: [(Row, &[u8]); 3] = [
 fn coded(alloc: Global, number: u64, object: u32, value: &[u8]) -> Result<Vec<u8>, Fail>
     requires { length value.now < 2 ^ 32 }
 {
-    let op = Put {
+    let op = PlainOp::Put {
         object,
         value: ByteList::new(value.to_vec(alloc)?),
     };
@@ -47,12 +46,17 @@ fn coded(alloc: Global, number: u64, object: u32, value: &[u8]) -> Result<Vec<u8
 }
 
 // Whether a record is that of a row.
-fn is_of(record: &Record<Put>, row: Row) -> bool {
+fn is_of(record: &Record<PlainOp>, row: Row) -> bool {
     let (kind, number, object, value) = row;
     match record {
-        Record::Command(n, op) => {
-            kind == 1 && *n == number && op.object == object && op.value.as_slice() == value
-        }
+        Record::Command(
+            n,
+            PlainOp::Put {
+                object: x,
+                value: held,
+            },
+        ) => { kind == 1 && *n == number && *x == object && held.as_slice() == value }
+        Record::Command(_, _) => false,
         Record::Identity(n, x, held) => {
             kind == 2 && *n == number && *x == object && held.as_slice() == value
         }
@@ -64,7 +68,7 @@ fn is_of(record: &Record<Put>, row: Row) -> bool {
 
 // Whether the record of a row is decoded from these bytes, and how many of them it takes.
 fn reads(alloc: Global, bytes: &[u8], row: Row, length: usize) -> Result<bool, Fail> {
-    match decode::<Put>(alloc, BOUNDS, bytes)? {
+    match decode::<PlainOp>(alloc, BOUNDS, bytes)? {
         Some((record, taken)) => Ok(is_of(&record, row) && taken == length),
         None => Ok(false),
     }
@@ -85,7 +89,7 @@ fn is_coded(alloc: Global, row: Row, code: &[u8]) -> Result<bool, Fail> {
 
 #[test]
 fn a_code_is_as_worked_and_reads_back(rt: HostRuntime) -> Result<(), Fail> {
-    one_record::<Put>();
+    one_record::<PlainOp>();
     for (row, code) in CODES {
         assert!(rt; is_coded(rt.alloc(), row, code)?);
     }
@@ -139,7 +143,7 @@ const OTHERS: [(&[u8], &str); 12] = [
 fn other_bytes_are_no_record(rt: HostRuntime) -> Result<(), Fail> {
     for (bytes, why) in OTHERS {
         assert!(rt;
-            decode::<Put>(rt.alloc(), BOUNDS, bytes)?.is_none(),
+            decode::<PlainOp>(rt.alloc(), BOUNDS, bytes)?.is_none(),
             "{why}"
         );
     }
@@ -149,7 +153,7 @@ fn other_bytes_are_no_record(rt: HostRuntime) -> Result<(), Fail> {
 // A settled machine with a new log.
 fn new_store(alloc: Global) -> Result<MemMachine, Fail> {
     let mut machine = MemMachine::new(alloc, [64, 512, 512], 64, 1024, Vec::new(alloc))?;
-    RecordLog::<Put>::create(&mut machine)?;
+    RecordLog::<PlainOp>::create(&mut machine)?;
     Ok(machine.crash(Crash::New))
 }
 
@@ -158,35 +162,37 @@ pub fn loaded<M: Machine>(
     alloc: Global,
     machine: &mut M,
     b: Bounds,
-) -> Result<RecordLog<Put>, LogErr>
+) -> Result<RecordLog<PlainOp>, ReadErr>
     ensures { IfOk result (λ log. log.bounds ≡ b) }
 {
     let (log, _) = RecordLog::load_checked(alloc, machine, b)?;
     Ok(log)
 }
 
-fn put(alloc: Global, object: u32, value: &[u8]) -> Result<Put, Fail> {
-    Ok(Put {
+fn put(alloc: Global, object: u32, value: &[u8]) -> Result<PlainOp, Fail> {
+    Ok(PlainOp::Put {
         object,
         value: ByteList::new(value.to_vec(alloc)?),
     })
 }
 
 // Appends a put with the next number.
-fn add(log: &mut RecordLog<Put>, b: Bounds, op: Put) -> Result<(), Fail>
+fn add(log: &mut RecordLog<PlainOp>, b: Bounds, op: PlainOp) -> Result<(), Fail>
     requires { log.old.bounds ≡ b }
     ensures { log.new.bounds ≡ b }
 {
     let number = log.next();
-    let is_small = op.value.as_slice().len() <= 3 && op.shape(b).is_ok();
-    if is_small && number < 1 << 20 && log.used() < 1 << 20 {
+    if op.code_length() > 12 {
+        return Ok(());
+    }
+    if op.shape(b).is_ok() && number < 1 << 20 && log.used() < 1 << 20 {
         log.append(Record::Command(number, op))?;
     }
     Ok(())
 }
 
 // Appends an identity write of object 1 with the next number.
-fn add_identity(log: &mut RecordLog<Put>, b: Bounds, value: ByteList) -> Result<(), Fail>
+fn add_identity(log: &mut RecordLog<PlainOp>, b: Bounds, value: ByteList) -> Result<(), Fail>
     requires { log.old.bounds ≡ b }
     ensures { log.new.bounds ≡ b }
 {
@@ -199,7 +205,7 @@ fn add_identity(log: &mut RecordLog<Put>, b: Bounds, value: ByteList) -> Result<
 }
 
 // Appends a check with the redo start 1 of object 0.
-fn add_check(log: &mut RecordLog<Put>, b: Bounds, starts: Starts) -> Result<(), Fail>
+fn add_check(log: &mut RecordLog<PlainOp>, b: Bounds, starts: Starts) -> Result<(), Fail>
     requires bounds { log.old.bounds ≡ b }
     requires starts { starts ≡ (0, 1) ∷ [] }
     ensures { log.new.bounds ≡ b }
@@ -213,14 +219,14 @@ fn add_check(log: &mut RecordLog<Put>, b: Bounds, starts: Starts) -> Result<(), 
 }
 
 // The log's length, the next number, and how many commands are accepted and forced.
-pub fn counts(log: &RecordLog<Put>) -> [u64; 4] {
+pub fn counts(log: &RecordLog<PlainOp>) -> [u64; 4] {
     [log.used(), log.next(), log.accepted(), log.forced()]
 }
 
 // Writes four records in two blocks. It answers the log's counts before each record and at the end.
 fn write_four(
     alloc: Global,
-    log: &mut RecordLog<Put>,
+    log: &mut RecordLog<PlainOp>,
     machine: &mut MemMachine,
     b: Bounds,
 ) -> Result<[[u64; 4]; 5], Fail>
@@ -290,10 +296,10 @@ fn blocks_are_as_worked(rt: HostRuntime) -> Result<(), Fail> {
 // The commands and identity writes of a log from a number on.
 pub fn numbered<M: Machine>(
     alloc: Global,
-    log: &RecordLog<Put>,
+    log: &RecordLog<PlainOp>,
     machine: &mut M,
     from: u64,
-) -> Result<Vec<Record<Put>>, Fail> {
+) -> Result<Vec<Record<PlainOp>>, Fail> {
     let mut reader = log.numbered_reader(machine, from)?;
     let mut found = Vec::new(alloc);
     while let Some(record) = reader.next(machine)? {
@@ -303,7 +309,7 @@ pub fn numbered<M: Machine>(
 }
 
 // Whether records are the four.
-fn are_four(records: &[Record<Put>]) -> bool {
+fn are_four(records: &[Record<PlainOp>]) -> bool {
     const ALL: [Row; 4] = [
         (1, 1, 2, b"a"),
         (2, 2, 1, b"ab"),
@@ -318,7 +324,7 @@ fn are_four(records: &[Record<Put>]) -> bool {
 }
 
 // Whether records are the last of the three with numbers, so many.
-fn are_last(records: &[Record<Put>], count: usize) -> bool {
+fn are_last(records: &[Record<PlainOp>], count: usize) -> bool {
     const ALL: [Row; 3] = [(1, 1, 2, b"a"), (2, 2, 1, b"ab"), (1, 3, 3, b"abc")];
     let mut are = records.len() == count;
     for (record, row) in records
@@ -334,7 +340,7 @@ fn are_last(records: &[Record<Put>], count: usize) -> bool {
 // so many.
 fn finds(
     alloc: Global,
-    log: &mut RecordLog<Put>,
+    log: &mut RecordLog<PlainOp>,
     machine: &mut MemMachine,
     b: Bounds,
     from: u64,
@@ -386,7 +392,7 @@ fn what_is_done_again_begins_at_its_number(rt: HostRuntime) -> Result<(), Fail> 
 // Appends a check with the redo start 1 of object 0, and forces it.
 fn force_check(
     alloc: Global,
-    log: &mut RecordLog<Put>,
+    log: &mut RecordLog<PlainOp>,
     machine: &mut MemMachine,
     b: Bounds,
 ) -> Result<(), Fail>
@@ -399,8 +405,8 @@ fn force_check(
 }
 
 // The next number of the last check of a machine's log.
-fn last_next(alloc: Global, mut machine: MemMachine) -> Result<Option<u64>, LogErr> {
-    let (log, last) = RecordLog::<Put>::load_checked(alloc, &mut machine, BOUNDS)?;
+fn last_next(alloc: Global, mut machine: MemMachine) -> Result<Option<u64>, ReadErr> {
+    let (log, last) = RecordLog::<PlainOp>::load_checked(alloc, &mut machine, BOUNDS)?;
     drop(log);
     Ok(last.map(|table| table.next))
 }
@@ -423,7 +429,7 @@ fn the_last_check_is_found(rt: HostRuntime) -> Result<(), Fail> {
 }
 
 // Appends two puts.
-fn add_two(alloc: Global, log: &mut RecordLog<Put>, b: Bounds) -> Result<(), Fail>
+fn add_two(alloc: Global, log: &mut RecordLog<PlainOp>, b: Bounds) -> Result<(), Fail>
     requires { log.old.bounds ≡ b }
 {
     add(log, b, put(alloc, 1, b"abc")?)?;
@@ -431,7 +437,7 @@ fn add_two(alloc: Global, log: &mut RecordLog<Put>, b: Bounds) -> Result<(), Fai
 }
 
 // How many commands of a machine's log are stable.
-fn forced_in(alloc: Global, mut machine: MemMachine) -> Result<u64, LogErr> {
+fn forced_in(alloc: Global, mut machine: MemMachine) -> Result<u64, ReadErr> {
     let log = loaded(alloc, &mut machine, BOUNDS)?;
     let forced = log.forced();
     drop(log);
@@ -475,7 +481,7 @@ fn a_stopped_force_keeps_all_or_none(rt: HostRuntime) -> Result<(), Fail> {
 }
 
 // What a load finds where log A has these bytes from its first gate on: the counts, or why there are none.
-fn found_in(alloc: Global, block: &[u8]) -> Result<Result<[u64; 4], LogErr>, Fail> {
+fn found_in(alloc: Global, block: &[u8]) -> Result<Result<[u64; 4], ReadErr>, Fail> {
     let mut machine = new_store(alloc)?;
     machine.write_at(FileNo::LogA, 33, block)?;
     match loaded(alloc, &mut machine, BOUNDS) {
@@ -485,8 +491,8 @@ fn found_in(alloc: Global, block: &[u8]) -> Result<Result<[u64; 4], LogErr>, Fai
 }
 
 // That log A is damaged at this offset.
-fn damaged(place: u64) -> Result<[u64; 4], LogErr> {
-    Err(LogErr::Damaged {
+fn damaged(place: u64) -> Result<[u64; 4], ReadErr> {
+    Err(ReadErr::Damaged {
         file: FileNo::LogA,
         place,
     })

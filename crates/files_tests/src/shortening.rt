@@ -1,12 +1,13 @@
 // A rewrite of the log of four records: the new file's bytes, and what is found in it.
 ghost use Rattle.std.specs.Prelude.{◌≡◌, []};
 
+use crate::log::{NEW_LOG, empty_store};
 use crate::records::{BOUNDS, counts, four_records, loaded};
-use checkpoint::{Starts, Table};
-use disk_model::{Crash, FileNo, MemMachine};
-use log_frames::LogErr;
-use log_records::RecordLog;
-use op_meaning::Put;
+use disk_model::{Crash, FileNo, Machine, MemMachine};
+use formats::ReadErr;
+use log_records::{RecordLog, RewriteErr};
+use op_meaning::PlainOp;
+use redo_tables::{Starts, Table};
 use std::alloc::Global;
 use std::test::Fail;
 
@@ -37,11 +38,11 @@ const REWRITTEN: [Row; 2] = [
 // Puts a log from a base on, with an empty check for its end, in the place of this one, where it has that base and
 // nothing waits.
 fn shorten(
-    log: &mut RecordLog<Put>,
+    log: &mut RecordLog<PlainOp>,
     machine: &mut MemMachine,
     base: u64,
     starts: Starts,
-) -> Result<(), Fail>
+) -> Result<(), RewriteErr>
     requires { starts ≡ [] }
 {
     let next = log.next();
@@ -52,7 +53,7 @@ fn shorten(
 }
 
 // The counts of a machine's log.
-fn counts_in(alloc: Global, machine: &mut MemMachine) -> Result<[u64; 4], LogErr> {
+fn counts_in(alloc: Global, machine: &mut MemMachine) -> Result<[u64; 4], ReadErr> {
     let log = loaded(alloc, machine, BOUNDS)?;
     let found = counts(&log);
     drop(log);
@@ -80,5 +81,25 @@ fn a_rewritten_log_is_as_worked(rt: HostRuntime) -> Result<(), Fail> {
     for row in REWRITTEN {
         assert!(rt; is_as_worked(rt.alloc(), row)?, "from {}", row.0);
     }
+    Ok(())
+}
+
+// Whether a log of the last epoch is not rewritten for that.
+fn fails_at_the_last_epoch(alloc: Global) -> Result<bool, Fail> {
+    let mut machine = empty_store(alloc)?;
+    let mut bytes = NEW_LOG;
+    bytes[9] = 0;
+    bytes[16] = 0x40;
+    machine.write_at(FileNo::LogA, 0, &bytes)?;
+    machine.write_at(FileNo::LogB, 0, &[0])?;
+    let mut log = loaded(alloc, &mut machine, BOUNDS)?;
+    let fault = shorten(&mut log, &mut machine, 1, Starts::new(Vec::new(alloc))).err();
+    drop(log);
+    Ok(fault == Some(RewriteErr::Exhausted { epoch: 1 << 62 }))
+}
+
+#[test]
+fn no_epoch_comes_after_the_last(rt: HostRuntime) -> Result<(), Fail> {
+    assert!(rt; fails_at_the_last_epoch(rt.alloc())?);
     Ok(())
 }

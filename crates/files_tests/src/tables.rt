@@ -1,10 +1,10 @@
 ghost use Rattle.std.specs.Prelude.{◌<◌, ◌≤◌, ◌^◌, IfOk, length};
 
 // The codec of a check's table, and where the redo of an object starts by it.
-use checkpoint::{
+use oper_core::Memory;
+use redo_tables::{
     Starts, Table, decode, encode, one_table, redo_from, starts_at_the_least_writer, take,
 };
-use oper_core::Memory;
 use std::alloc::Global;
 
 // A table of these pairs, in whatever order.

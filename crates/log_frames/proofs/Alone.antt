@@ -1,7 +1,7 @@
 -- Runs that leave the objects alone.
 use Rattle.std.proofs.Common.{◌≡◌, ◌≢◌, List, ℕ, [], ◌∷◌, ◌++◌, refl, ◌∙◌, sym, subst, arith}
 use Rattle.std.proofs.lemmas.List.Elements.{All-nil}
-use Rattle.disk_model.specs.Disk.{Files, Disk, Runs, Stays, Same, In, Holds, IsSettled}
+use Rattle.disk_model.specs.Disk.{Files, Disk, Runs, Stays, Same, In, HoldsAt, IsSettled}
 use Rattle.disk_model.specs.Moments.{runs_twice, runs_wider, stays_settled}
 use Rattle.disk_model.specs.declared.machine.FileNo.{FileNo}
 use Rattle.disk_model.specs.declared.machine.FileNo.TheVariants.{Objects, LogA, LogB}
@@ -20,12 +20,12 @@ pub all_stay_settled : (old new : Disk) → Stays old new → IsSettled old → 
 all_stay_settled old new stays settled file = stays_settled old new file stays (settled file)
 
 -- the two writes that make a log
-new_log : (a b c : List ℕ) → IsClosedLog a → Holds 1 (header_fields new_header ++ 0 ∷ []) a b → Holds 0 (1 ∷ []) b c → IsWholeLog new_header [] c
+new_log : (a b c : List ℕ) → IsClosedLog a → HoldsAt 1 (header_fields new_header ++ 0 ∷ []) a b → HoldsAt 0 (1 ∷ []) b c → IsWholeLog new_header [] c
 new_log [] b c closed first second = absurd closed
 new_log (g ∷ rest) b c closed first second =
     let front = header_fields new_header ++ 0 ∷ [] in
     let behind = held_behind [] g 0 rest refl front b first in
-    let whole = held_gate [] g 0 (front ++ behind.0) refl 1 c (subst (λ (l : List ℕ). Holds 0 (1 ∷ []) l c) behind.1 second) in
+    let whole = held_gate [] g 0 (front ++ behind.0) refl 1 c (subst (λ (l : List ℕ). HoldsAt 0 (1 ∷ []) l c) behind.1 second) in
     record {
       in_range = record { epoch_low = omega arith; epoch_high = omega arith; base_low = omega arith; base_high = omega arith; commands = omega arith };
       log = record { gate = 0; rest = behind.0; split = whole; closed = omega arith };
@@ -33,7 +33,7 @@ new_log (g ∷ rest) b c closed first second =
     }
 
 pub new_files : (one two three four : Files) → IsClosedLog (one LogA) → ((other : FileNo) → other ≢ LogB → two other ≡ one other) → IsClosedLog (two LogB)
-    → In LogA (Holds 1 (header_fields new_header ++ 0 ∷ [])) two three → In LogA (Holds 0 (1 ∷ [])) three four
+    → In LogA (HoldsAt 1 (header_fields new_header ++ 0 ∷ [])) two three → In LogA (HoldsAt 0 (1 ∷ [])) three four
     → IsWholeLog new_header [] (four LogA) × IsClosedLog (four LogB)
 new_files one two three four a kept b first second = (
   new_log (two LogA) (three LogA) (four LogA) (subst IsClosedLog (sym (kept LogA (λ e. cc))) a) first.changed second.changed,

@@ -2,7 +2,7 @@
 use Rattle.std.proofs.Common.{◌≡◌, ◌⊎◌, ◌<◌, inl, inr, ℕ, ◌+◌, ◌-◌, min, List, [], ◌∷◌, ◌++◌, length, get_or, take, drop, replicate, sym, ◌∙◌, ap, subst, arith, append_assoc, length-append, take-append-drop}
 use Rattle.std.proofs.lemmas.List.{take_at, drop_at, drop_more, append-nil}
 use Rattle.std.proofs.lemmas.Bool.{cases_eq}
-use Rattle.disk_model.specs.Disk.{Holds, Torn}
+use Rattle.disk_model.specs.Disk.{HoldsAt, Torn}
 use Rattle.formats.specs.Log.{Header, header_bytes, blocks, end_of, IsLog}
 use Rattle.log_frames.specs.Forcing.{frame, with_block}
 use Rattle.log_frames.specs.Laws.{blocks-push, with_block-some}
@@ -42,7 +42,7 @@ module _ (front : List ℕ) (gate at : ℕ) (tail : List ℕ) (place : at ≡ le
       let same : take (at + 1) c ≡ front ++ gate ∷ [] = subst (λ (k : ℕ). take k c ≡ take (at + 1) old) reach torn.before ∙ take_gate in
       (drop (at + 1) c, sym (take-append-drop (at + 1) c) ∙ ap (λ (l : List ℕ). l ++ drop (at + 1) c) same ∙ append_assoc front (gate ∷ []) (drop (at + 1) c))
 
-  pub held_behind : (bytes c : List ℕ) → Holds (at + 1) bytes old c → (rest : List ℕ) × (c ≡ front ++ gate ∷ (bytes ++ rest))
+  pub held_behind : (bytes c : List ℕ) → HoldsAt (at + 1) bytes old c → (rest : List ℕ) × (c ≡ front ++ gate ∷ (bytes ++ rest))
   held_behind bytes c holds =
       let rest = drop (at + 1 + length bytes) old in
       let gap : take (at + 1) old ++ replicate {A = ℕ} (at + 1 - length old) 0 ≡ front ++ gate ∷ [] =
@@ -61,7 +61,7 @@ module _ (front : List ℕ) (gate at : ℕ) (tail : List ℕ) (place : at ≡ le
       drop_more c at 0 (omega (arith, torn.no_shorter, long)) ∙ ap (λ (l : List ℕ). get_or c at 0 ∷ l) (torn.after ∙ drop_gate) in
       (get_or c at 0, sym (take-append-drop at c) ∙ ap (λ (l : List ℕ). l ++ drop at c) same ∙ ap (λ (l : List ℕ). front ++ l) rest)
 
-  pub held_gate : (g : ℕ) (c : List ℕ) → Holds at (g ∷ []) old c → c ≡ front ++ g ∷ tail
+  pub held_gate : (g : ℕ) (c : List ℕ) → HoldsAt at (g ∷ []) old c → c ≡ front ++ g ∷ tail
   held_gate g c holds =
       let gap : take at old ++ replicate {A = ℕ} (at - length old) 0 ≡ front =
       ap (λ (l : List ℕ). take at old ++ l) (no_gap (at - length old) (omega (arith, long))) ∙ append-nil (take at old) ∙ take_front in

@@ -4,12 +4,13 @@ use Rattle.disk_model.specs.Disk.{Files, Disk, Stays, Rises}
 use Rattle.disk_model.specs.Moments.{agreed_before}
 use Rattle.disk_model.specs.declared.machine.FileNo.{FileNo}
 use Rattle.formats.specs.Image.{IsBlockFault}
-use Rattle.log_frames.specs.Reading.{FailsBy, fails_on, IsBroken, IsReadTo}
-use Rattle.log_frames.specs.declared.log_err.LogErr.{LogErr}
+use Rattle.formats.specs.Reading.{FailsBy}
+use Rattle.formats.specs.declared.read_err.ReadErr.{ReadErr}
+use Rattle.log_frames.specs.Reading.{fails_on, IsBroken, IsReadTo}
 use Rattle.log_frames.proofs.ReadTo.{block_fault}
 
 -- why a read of blocks fails, once those before a gate are read
-pub at_gate : (old mid new : Disk) (file : FileNo) (size gate : ℕ) (e : LogErr) → Stays old mid → Stays mid new
+pub at_gate : (old mid new : Disk) (file : FileNo) (size gate : ℕ) (e : ReadErr) → Stays old mid → Stays mid new
     → ((files : Files) → mid.agrees files → size ≡ length (files file) → (payloads : List (List ℕ)) × IsReadTo (files file) gate payloads)
     → FailsBy (Rises mid.disk_faults new.disk_faults) (λ f place. (f ≡ file) × (place ≡ gate + 1) × ((files : Files) → new.agrees files → size ≡ length (files file) → IsBroken gate (files file))) e
     → FailsBy (Rises old.disk_faults new.disk_faults) (λ f place. (f ≡ file) × ((files : Files) → new.agrees files → size ≡ length (files file) → IsBlockFault (files file) place)) e

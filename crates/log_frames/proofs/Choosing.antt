@@ -14,8 +14,9 @@ use Rattle.formats.specs.Image.{IsBlockFault}
 use Rattle.formats.specs.FirstFault.{NoMore, LogChecks, IsFirstHeaderFault, opened, IsFineLog, IsFirstLogFault, in_log_a, in_log_b, at_block}
 use Rattle.log_frames.specs.Choosing.{SeenIn, IsChosen}
 use Rattle.log_frames.specs.Laws.{length-header_bytes}
-use Rattle.log_frames.specs.Reading.{FailsBy, fails_on, header_of, EndsBlocks}
-use Rattle.log_frames.specs.declared.log_err.LogErr.{LogErr}
+use Rattle.formats.specs.Reading.{FailsBy}
+use Rattle.formats.specs.declared.read_err.ReadErr.{ReadErr}
+use Rattle.log_frames.specs.Reading.{fails_on, header_of, EndsBlocks}
 use Rattle.log_frames.specs.declared.seen.Seen.{Seen}
 use Rattle.log_frames.proofs.HeaderBytes.{checks_read, opened_by}
 use Rattle.log_frames.proofs.ReadTo.{whole_log}
@@ -70,7 +71,7 @@ fine file None seen = inl seen
 fine file (Some found) seen = inr (header_of found.header, seen.0)
 
 -- what is read of a header is wrong
-pub by_header : (old now new : Disk) → Stays old now → (e : LogErr) (file : FileNo) (into : List ℕ) → ((files : Files) → new.agrees files → into ≡ padded (files file) 0 33) → IsOpenAt 0 into
+pub by_header : (old now new : Disk) → Stays old now → (e : ReadErr) (file : FileNo) (into : List ℕ) → ((files : Files) → new.agrees files → into ≡ padded (files file) 0 33) → IsOpenAt 0 into
     → FailsBy ⊥ (λ f place. (f ≡ file) × LogChecks into NoMore place) e
     → FailsBy (Rises old.disk_faults new.disk_faults) (λ f place. (f ≡ file) × ((files : Files) → new.agrees files → IsFirstHeaderFault (files file) place)) e
 by_header old now new kept e file into read is_open fails = fails_on _ _ _ _ e (λ never. absurd never)
@@ -83,7 +84,7 @@ by_header old now new kept e file into read is_open fails = fails_on _ _ _ _ e (
     ))
     fails
 
-module _ (old now new : Disk) (kept : Stays old now) (e : LogErr) where
+module _ (old now new : Disk) (kept : Stays old now) (e : ReadErr) where
   abbrev Fails : Type 0
   Fails = FailsBy (Rises old.disk_faults new.disk_faults) (λ file place. (files : Files) → new.agrees files → IsFirstLogFault files file place) e
 

@@ -1,7 +1,7 @@
 -- A look at a header gate, and a write of it where it is open.
 use Rattle.std.proofs.Common.{◌≡◌, ◌⊎◌, inl, inr, get_or, ◌∙◌, ℕ, List, [], ◌∷◌, ◌++◌, ◌-◌, length, take, drop, replicate, refl, sym, ap, subst, arith}
 use Rattle.std.proofs.lemmas.List.{take_min, get_or-take}
-use Rattle.disk_model.specs.Disk.{Files, Disk, Runs, Stays, Same, In, Torn, Holds, read_of}
+use Rattle.disk_model.specs.Disk.{Files, Disk, Runs, Stays, Same, In, Torn, HoldsAt, read_of}
 use Rattle.disk_model.specs.Moments.{runs_join}
 use Rattle.disk_model.specs.declared.machine.FileNo.{FileNo}
 use Rattle.formats.specs.Log.{IsClosedLog}
@@ -24,11 +24,11 @@ look_at_closed (g ∷ rest) into n count bytes closed (inr is_open) =
     let same : get_or into 0 0 ≡ g = sym (get_or-take n into 0 0 (omega (arith, count))) ∙ ap (λ (l : List ℕ). get_or l 0 0) bytes in
     closed (sym same ∙ is_open)
 
-held_first : (b : ℕ) (old new : List ℕ) → Holds 0 (b ∷ []) old new → new ≡ b ∷ drop 1 old
+held_first : (b : ℕ) (old new : List ℕ) → HoldsAt 0 (b ∷ []) old new → new ≡ b ∷ drop 1 old
 held_first b old new holds =
     let none : 0 - length old ≡ 0 = omega arith in
     holds ∙ ap (λ (k : ℕ). ((take 0 old ++ replicate {A = ℕ} k 0) ++ b ∷ []) ++ drop 1 old) none
 
 -- a closed gate was written
-pub closed_after : (old new : List ℕ) → Holds 0 (0 ∷ []) old new → IsClosedLog new
+pub closed_after : (old new : List ℕ) → HoldsAt 0 (0 ∷ []) old new → IsClosedLog new
 closed_after old new holds = subst IsClosedLog (sym (held_first 0 old new holds)) (λ is. cc)

@@ -6,12 +6,12 @@ use Rattle.std.proofs.lemmas.Grind.{flat_map-append}
 use Rattle.std.proofs.lemmas.Bool.{cases_eq}
 use Rattle.byteorder.specs.Endian.{little_bytes}
 use Rattle.byteorder.specs.Numbers.{length-bytes_low_first}
-use Rattle.disk_model.specs.Disk.{Files, Disk, IsDisk, Runs, Stays, Same, In, Torn, Holds, Any, IsSettled, IsSettledIn, LeavesOnly}
-use Rattle.disk_model.specs.Moments.{runs_twice, runs_wider, runs_then_stays, settled_again, from_reads, first_call, goes_on, started, weaker}
+use Rattle.disk_model.specs.Disk.{Files, Disk, Runs, Stays, Same, In, Torn, HoldsAt, Any, IsSettled, IsSettledIn, LeavesOnly}
+use Rattle.disk_model.specs.Moments.{runs_twice, runs_wider, runs_then_stays, settled_again, from_reads, first_call, goes_on, weaker}
 use Rattle.disk_model.specs.declared.machine.FileNo.{FileNo}
 use Rattle.disk_model.specs.declared.machine.FileNo.TheVariants.{Objects, LogA, LogB}
 use Rattle.formats.specs.Log.{Header, header_fields, block, blocks, end_of, IsHeader, IsPayload, IsWholeLog, IsClosedLog}
-use Rattle.formats.specs.InForce.{other_of, HasHeader, IsPassive, IsInForce, HoldsLog}
+use Rattle.formats.specs.InForce.{other_of, HasHeader, IsPassive, IsInForce}
 use Rattle.log_frames.specs.LogView.{LogView}
 use Rattle.log_frames.specs.Forcing.{IsAtRest, IsLogAt}
 use Rattle.log_frames.specs.Laws.{length-block, blocks-push, has_header}
@@ -48,7 +48,7 @@ keeps_settled old mid new file settled first second here =
     settled_again old new file KeepsClosed KeepsClosed run.ends settled run.time run.crash (λ told. run.reads (run.begins.telling told)) here
 
 -- bytes written right after a front make it longer
-pub front_grows : (front bytes a c : List ℕ) (at : ℕ) → at ≡ length front → IsFront front a → Holds at bytes a c → IsFront (front ++ bytes) c
+pub front_grows : (front bytes a c : List ℕ) (at : ℕ) → at ≡ length front → IsFront front a → HoldsAt at bytes a c → IsFront (front ++ bytes) c
 front_grows front bytes a c at here begins holds =
     let long : length a ≡ length front + length begins.0 = ap length begins.1 ∙ length-append front begins.0 in
     let none : at - length a ≡ 0 = omega (arith, long, here) in
@@ -57,7 +57,7 @@ front_grows front bytes a c at here begins holds =
     (drop (at + length bytes) a, holds ∙ ap (λ (l : List ℕ). (l ++ bytes) ++ drop (at + length bytes) a) gap)
 
 -- the head of a block, and then its payload
-pub block_grows : (front payload a b c : List ℕ) (gate : ℕ) → gate ≡ length front → IsFront front a → Holds gate (1 ∷ little_bytes 4 (length payload)) a b → Holds (gate + 5) payload b c → IsFront (front ++ block payload) c
+pub block_grows : (front payload a b c : List ℕ) (gate : ℕ) → gate ≡ length front → IsFront front a → HoldsAt gate (1 ∷ little_bytes 4 (length payload)) a b → HoldsAt (gate + 5) payload b c → IsFront (front ++ block payload) c
 block_grows front payload a b c gate here begins first second =
     let head = 1 ∷ little_bytes 4 (length payload) in
     let long : gate + 5 ≡ length (front ++ head) = omega (arith, here, length-append front head, length-bytes_low_first 0 4 (length payload)) in
@@ -95,12 +95,12 @@ gate_front [] closed = absurd closed
 gate_front (g ∷ rest) closed = (rest, refl)
 
 -- the last write makes all but the header gate
-pub prepared_by : (h : Header) (ps : List (List ℕ)) (g : ℕ) (b c : List ℕ) (at : ℕ) → at ≡ length ((g ∷ header_fields h) ++ blocks ps) → IsFront ((g ∷ header_fields h) ++ blocks ps) b → Holds at (0 ∷ []) b c → IsPrepared h ps c
+pub prepared_by : (h : Header) (ps : List (List ℕ)) (g : ℕ) (b c : List ℕ) (at : ℕ) → at ≡ length ((g ∷ header_fields h) ++ blocks ps) → IsFront ((g ∷ header_fields h) ++ blocks ps) b → HoldsAt at (0 ∷ []) b c → IsPrepared h ps c
 prepared_by h ps g b c at here begins holds =
     let grown = front_grows ((g ∷ header_fields h) ++ blocks ps) (0 ∷ []) b c at here begins holds in
     record { gate = g; rest = grown.0; split = grown.1 ∙ append_assoc ((g ∷ header_fields h) ++ blocks ps) (0 ∷ []) grown.0 }
 
-held_first : (b : ℕ) (old new : List ℕ) → Holds 0 (b ∷ []) old new → new ≡ b ∷ drop 1 old
+held_first : (b : ℕ) (old new : List ℕ) → HoldsAt 0 (b ∷ []) old new → new ≡ b ∷ drop 1 old
 held_first b old new holds =
     let none : 0 - length old ≡ 0 = omega arith in
     holds ∙ ap (λ (k : ℕ). ((take 0 old ++ replicate {A = ℕ} k 0) ++ b ∷ []) ++ drop 1 old) none
@@ -120,7 +120,7 @@ whole_by h ps old new in_range whole prepared is = record {
 }
 
 -- with the header gate open, the whole log
-pub opened_whole : (h : Header) (ps : List (List ℕ)) (old new : List ℕ) → IsHeader h → All IsPayload ps → IsPrepared h ps old → Holds 0 (1 ∷ []) old new → IsWholeLog h ps new
+pub opened_whole : (h : Header) (ps : List (List ℕ)) (old new : List ℕ) → IsHeader h → All IsPayload ps → IsPrepared h ps old → HoldsAt 0 (1 ∷ []) old new → IsWholeLog h ps new
 opened_whole h ps old new in_range whole prepared holds = whole_by h ps old new in_range whole prepared (held_first 1 old new holds)
 
 -- whatever the gate is
@@ -242,17 +242,6 @@ module _ (old : Disk) (log : LogView) (held : List (List ℕ)) (base commands : 
 -- the header of the new log is in range
 next_in_range : (log : LogView) (base commands : ℕ) → log.header.epoch < 2 ^ 62 → 1 ≤ base → base ≤ 2 ^ 62 → commands < base → IsHeader (next_header log base commands)
 next_in_range log base commands less low high below = record { epoch_low = omega arith; epoch_high = omega (arith, less); base_low = low; base_high = high; commands = below }
-
--- where no call is made, the old log stays in force
-pub stands_still : (old : Disk) (log : LogView) (base commands : ℕ) (ps : List (List ℕ)) → IsDisk old → old.tells_moments → (held : List (List ℕ)) → IsAtRest old log held → IsInForce log.active log.header.epoch old.reads
-    → LeavesOnly old old (IsOldOrNew old log held (rewritten log base commands ps) ps)
-stands_still old log base commands ps lawful told held rests in_force = started old (IsOldOrNew old log held (rewritten log base commands ps) ps) (λ c s left.
-    let same : c ≡ old.reads = λ i file. rests.settled file told c s left i in
-    record {
-      others = subst (λ (f : Files). In (other_of log.active) Any old.reads f) (sym same) (record { changed = tt; others = λ other is_other. refl });
-      in_force = inl (subst (HoldsLog log.active log.header held) (sym same) (record { in_force = in_force; log = rests.stands }));
-      nothing_said = lawful.said_now told c s left;
-    })
 
 module _ (old new : Disk) (log : LogView) (base commands : ℕ) (ps : List (List ℕ)) (less : log.header.epoch < 2 ^ 62) (low : 1 ≤ base) (high : base ≤ 2 ^ 62) (below : commands < base) where
   -- what the writing of the other file leaves is what a rewrite leaves

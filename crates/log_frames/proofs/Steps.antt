@@ -1,6 +1,6 @@
 -- The two steps of a force.
 use Rattle.std.proofs.Common.{◌≡◌, ◌≢◌, ◌<◌, ◌≤◌, ◌^◌, inl, ⊎_elim, inr, ℕ, ◌+◌, List, [], ◌∷◌, ◌++◌, length, sym, ◌∙◌, subst, arith, length-append}
-use Rattle.disk_model.specs.Disk.{Files, Disk, Passes, Steps, Same, In, Torn, Holds, Any, IsSettled, LeavesOnly, Runs}
+use Rattle.disk_model.specs.Disk.{Files, Disk, Passes, Steps, Same, In, Torn, HoldsAt, Any, IsSettled, LeavesOnly, Runs}
 use Rattle.disk_model.specs.Moments.{first_call, goes_on, from_reads, runs_twice, runs_wider}
 use Rattle.disk_model.specs.declared.machine.FileNo.{FileNo}
 use Rattle.formats.specs.Log.{Header, header_bytes, blocks, IsLog, IsWholeLog}
@@ -44,15 +44,15 @@ module _ (old : Disk) (file : FileNo) (gate : ℕ) (header : Header) (payloads :
       subst (λ (l : List (List ℕ)). IsWholeLog header l c) (sym (with_block-some payloads payload f.some))
       (record { in_range = f.rests.stands.in_range; log = is; whole = all_push payloads payload f.rests.stands.whole (record { some = f.some; short = f.short }) })
 
-  pub staged : (mid : Disk) → IsSettled mid → In file (Holds (gate + 1) (frame payload)) old.reads mid.reads → IsStaged old mid file header payloads payload
+  pub staged : (mid : Disk) → IsSettled mid → In file (HoldsAt (gate + 1) (frame payload)) old.reads mid.reads → IsStaged old mid file header payloads payload
   staged mid settled written =
-      let holds = subst (λ (b : List ℕ). Holds (gate + 1) (frame payload) b (mid.reads file)) log.split written.changed in
+      let holds = subst (λ (b : List ℕ). HoldsAt (gate + 1) (frame payload) b (mid.reads file)) log.split written.changed in
       let behind = held_behind front log.gate gate log.rest place (frame payload) (mid.reads file) holds in
       record { settled = settled; gate_byte = log.gate; rest = behind.0; stands = behind.1; others = written.others }
 
-  pub opened_log : (mid new : Disk) → IsStaged old mid file header payloads payload → IsSettled new → In file (Holds gate (1 ∷ [])) mid.reads new.reads → IsLogAt new file (gate + length (frame payload)) header (with_block payloads payload)
+  pub opened_log : (mid new : Disk) → IsStaged old mid file header payloads payload → IsSettled new → In file (HoldsAt gate (1 ∷ [])) mid.reads new.reads → IsLogAt new file (gate + length (frame payload)) header (with_block payloads payload)
   opened_log mid new is settled written =
-      let holds = subst (λ (b : List ℕ). Holds gate (1 ∷ []) b (new.reads file)) is.stands written.changed in
+      let holds = subst (λ (b : List ℕ). HoldsAt gate (1 ∷ []) b (new.reads file)) is.stands written.changed in
       let bytes = held_gate front is.gate_byte gate (frame payload ++ is.rest) place 1 (new.reads file) holds in
       record {
         settled = settled;
@@ -98,9 +98,9 @@ module _ (old : Disk) (file : FileNo) (gate : ℕ) (header : Header) (payloads :
       goes_on old mid new P mid_told (leaves_staging mid n told time goes) time_after (opening mid new is mid_told said goes_after)
 
   -- the first write is done
-  pub staged_by : (mid : Disk) (bytes : List ℕ) → bytes ≡ frame payload → (IsSettled old → IsSettled mid) → In file (Holds (gate + 1) bytes) old.reads mid.reads → IsStaged old mid file header payloads payload
+  pub staged_by : (mid : Disk) (bytes : List ℕ) → bytes ≡ frame payload → (IsSettled old → IsSettled mid) → In file (HoldsAt (gate + 1) bytes) old.reads mid.reads → IsStaged old mid file header payloads payload
   staged_by mid bytes is settles written =
-      staged mid (settles f.rests.settled) (subst (λ (b : List ℕ). In file (Holds (gate + 1) b) old.reads mid.reads) is written)
+      staged mid (settles f.rests.settled) (subst (λ (b : List ℕ). In file (HoldsAt (gate + 1) b) old.reads mid.reads) is written)
 
 -- any change of one file, then any other
 pub any_twice : (file : FileNo) (a b c : Files) → In file Any a b → In file Any b c → In file Any a c
@@ -115,7 +115,7 @@ changed_twice old mid new file one two first second = runs_twice old mid new (In
 
 -- the frame is written and kept; whether the gate is opened or not, a crash leaves the payloads with the new one or without
 pub block_moments : (old mid new : Disk) (file : FileNo) (gate : ℕ) (bytes : List ℕ) → Runs (In file (Torn (gate + 1) (length bytes))) Same old mid
-    → (old.tells_files → In file (Holds (gate + 1) bytes) old.reads mid.reads) → (IsSettled old → IsSettled mid) → Runs (In file (Torn gate 1)) Same mid new
+    → (old.tells_files → In file (HoldsAt (gate + 1) bytes) old.reads mid.reads) → (IsSettled old → IsSettled mid) → Runs (In file (Torn gate 1)) Same mid new
     → old.tells_moments → (header : Header) (payloads : List (List ℕ)) (payload : List ℕ) → 0 < length payload → length payload ≤ 2 ^ 30 → bytes ≡ frame payload → IsLogAt old file gate header payloads
     → LeavesOnly old new (IsOneOf old file header payloads payload)
 block_moments old mid new file gate bytes first written settles second told header payloads payload some short is rests =

@@ -1,4 +1,5 @@
 pub mod LogView
+pub mod Filling
 pub mod Forcing
 pub mod Payloads
 pub mod Rewriting

@@ -6,26 +6,10 @@ use Rattle.disk_model.specs.declared.machine.FileNo.{FileNo}
 use Rattle.formats.specs.Log.{Header, blocks, end_of, IsPayload}
 use Rattle.formats.specs.Bytes.{number_at, IsOpenAt, IsClosedAt}
 use Rattle.formats.specs.Image.{IsWithin}
+use Rattle.formats.specs.Reading.{FailsBy, TellsDamage}
+use Rattle.formats.specs.declared.read_err.ReadErr.{ReadErr}
+use Rattle.formats.specs.declared.read_err.ReadErr.TheVariants.{DiskFault, Damaged, Memory}
 use Rattle.log_frames.specs.declared.header.Header.{Header as Read}
-use Rattle.log_frames.specs.declared.log_err.LogErr.{LogErr}
-use Rattle.log_frames.specs.declared.log_err.LogErr.TheVariants.{DiskFault, LogFull, Damaged, Exhausted, Memory}
-
--- Why a reading call fails: by a fault of the disk, which then counts it, by a fault in the files, or for lack of
--- memory.
-abbrev pub FailsBy : Type 0 → (FileNo → ℕ → Type 0) → LogErr → Type 0
-FailsBy rises fault DiskFault = rises
-FailsBy rises fault (LogFull used need limit) = ⊥
-FailsBy rises fault (Damaged file place) = fault file place
-FailsBy rises fault (Exhausted epoch) = ⊥
-FailsBy rises fault Memory = Unit {0}
-
--- it reports damage in the files
-abbrev pub TellsDamage : LogErr → Type 0
-TellsDamage DiskFault = ⊥
-TellsDamage (LogFull used need limit) = ⊥
-TellsDamage (Damaged file place) = Unit {0}
-TellsDamage (Exhausted epoch) = ⊥
-TellsDamage Memory = ⊥
 
 -- at this gate stands a block whose payload has so many bytes, and a gate after it
 pub record IsBlockHead (gate len : ℕ) (file : List ℕ) : Type 0 where
@@ -58,12 +42,10 @@ pub record EndsBlocks (file : List ℕ) (gate : ℕ) : Type 0 where
   pub closed : IsClosedAt gate file
 
 -- a call that hands on why another failed
-pub fails_on : (rises rises' : Type 0) (fault fault' : FileNo → ℕ → Type 0) (e : LogErr) → (rises → rises') → ((file : FileNo) (place : ℕ) → fault file place → fault' file place)
+pub fails_on : (rises rises' : Type 0) (fault fault' : FileNo → ℕ → Type 0) (e : ReadErr) → (rises → rises') → ((file : FileNo) (place : ℕ) → fault file place → fault' file place)
     → FailsBy rises fault e → FailsBy rises' fault' e
 fails_on rises rises' fault fault' DiskFault risen there fails = risen fails
-fails_on rises rises' fault fault' (LogFull used need limit) risen there fails = fails
 fails_on rises rises' fault fault' (Damaged file place) risen there fails = there file place fails
-fails_on rises rises' fault fault' (Exhausted epoch) risen there fails = fails
 fails_on rises rises' fault fault' Memory risen there fails = fails
 
 -- the header that was read
@@ -71,9 +53,7 @@ abbrev pub header_of : Read → Header
 header_of h = record { epoch = h.epoch; base = h.base; commands = h.commands }
 
 -- where no fault is there, none is reported
-pub none_told : (rises : Type 0) (fault : FileNo → ℕ → Type 0) (e : LogErr) → ((file : FileNo) (place : ℕ) → fault file place → ⊥) → FailsBy rises fault e → TellsDamage e → ⊥
+pub none_told : (rises : Type 0) (fault : FileNo → ℕ → Type 0) (e : ReadErr) → ((file : FileNo) (place : ℕ) → fault file place → ⊥) → FailsBy rises fault e → TellsDamage e → ⊥
 none_told rises fault DiskFault none fails tells = tells
-none_told rises fault (LogFull used need limit) none fails tells = tells
 none_told rises fault (Damaged file place) none fails tells = none file place fails
-none_told rises fault (Exhausted epoch) none fails tells = tells
 none_told rises fault Memory none fails tells = tells

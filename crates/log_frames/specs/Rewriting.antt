@@ -1,12 +1,10 @@
 -- What a rewrite of the log leaves.
-use Rattle.std.specs.Prelude.{◌≡◌, ◌⊎◌, ◌<◌, ◌≤◌, ◌+◌, ◌^◌, ℕ, List, [], ◌∷◌, ◌++◌, map}
+use Rattle.std.specs.Prelude.{◌≡◌, ◌⊎◌, ◌+◌, ℕ, List, [], ◌∷◌, ◌++◌, map}
 use Rattle.disk_model.specs.Disk.{Files, Disk, In, Any}
 use Rattle.disk_model.specs.declared.machine.FileNo.{FileNo}
 use Rattle.formats.specs.Log.{Header, header_fields, blocks, end_of, IsClosedLog, IsWholeLog}
 use Rattle.formats.specs.InForce.{other_of, IsPassive, HoldsLog}
-use Rattle.log_frames.specs.LogView.{LogView, used_of}
-use Rattle.log_frames.specs.declared.log_err.LogErr.{LogErr}
-use Rattle.log_frames.specs.declared.log_err.LogErr.TheVariants.{DiskFault, LogFull, Damaged, Exhausted, Memory}
+use Rattle.log_frames.specs.LogView.{LogView}
 use Rattle.log_frames.specs.declared.payload.Payload.{Payload}
 
 -- the payloads without their places
@@ -57,12 +55,3 @@ pub record IsOldOrNew (m : Disk) (log : LogView) (payloads : List (List ℕ)) (n
 -- the length of a log file with these payloads: after the last block stands a closed gate
 abbrev pub file_length : List (List ℕ) → ℕ
 file_length payloads = end_of payloads + 1
-
--- Why a rewrite fails: at the last epoch, or else where the new file would be longer than 2^48 bytes, or else by a
--- fault of the disk, which then counts it.
-abbrev pub RewriteFails : Type 0 → LogView → List (List ℕ) → LogErr → Type 0
-RewriteFails rises log payloads DiskFault = rises × (log.header.epoch < 2 ^ 62) × (file_length payloads ≤ 2 ^ 48)
-RewriteFails rises log payloads (LogFull used need limit) = (used ≡ used_of log) × (need ≡ file_length payloads) × (limit ≡ 2 ^ 48) × (limit < need) × (log.header.epoch < 2 ^ 62)
-RewriteFails rises log payloads (Damaged file place) = ⊥
-RewriteFails rises log payloads (Exhausted epoch) = (epoch ≡ log.header.epoch) × (epoch ≡ 2 ^ 62)
-RewriteFails rises log payloads Memory = ⊥

@@ -1,23 +1,23 @@
 // Makes the log of a new store.
-ghost use Rattle.std.specs.Prelude.{◌≡◌, ◌≢◌, [], ◌∷◌, ◌++◌, OnOk, IfErr};
+ghost use Rattle.std.specs.Prelude.{◌≡◌, [], ◌∷◌, ◌++◌, OnOk, IsErr};
 ghost use Rattle.disk_model.specs.Disk.{Rises, Runs, Stays, Same, In, Torn, IsSettled};
 ghost use Rattle.disk_model.specs.declared.machine.FileNo.TheVariants.{LogA, LogB};
 ghost use Rattle.formats.specs.Log.{header_fields, new_header, IsClosedLog};
 ghost use Rattle.log_frames.specs.Creating.{LogsAlone, IsNewLog};
 
+use crate::LogFile;
 use crate::layout::{CLOSED, HEADER_BYTES, MAGIC, OPEN};
-use crate::{LogErr, LogFile};
 use byteorder::{ByteOrder, LittleEndian};
-use disk_model::{FileNo, Machine, write_through};
+use disk_model::{Failed, FileNo, Machine, write_through};
 
 // Closes a header gate where it is open, and writes a first byte where there is none.
-pub fn close<M: Machine>(machine: &mut M, file: FileNo) -> Result<(), LogErr>
+pub fn close<M: Machine>(machine: &mut M, file: FileNo) -> Result<(), Failed>
     ensures runs { Runs (In file (Torn 0 1)) Same (M.disk machine.old) (M.disk machine.new) }
     // A closed gate is not written.
     ensures idle { (M.disk machine.old).tells_files → IsClosedLog ((M.disk machine.old).reads file) → Stays (M.disk machine.old) (M.disk machine.new) }
     ensures closed { (M.disk machine.old).tells_files → OnOk result (IsClosedLog ((M.disk machine.new).reads file)) }
     ensures settled { IsSettled (M.disk machine.old) → OnOk result (IsSettled (M.disk machine.new)) }
-    ensures cause { IfErr result (λ e. (e ≡ LogErr.DiskFault) × Rises (M.disk machine.old).disk_faults (M.disk machine.new).disk_faults) }
+    ensures cause { IsErr result → Rises (M.disk machine.old).disk_faults (M.disk machine.new).disk_faults }
 {
     let mut gate = [0; 1];
     let read = machine.read(file, 0, &mut gate)?;
@@ -41,11 +41,11 @@ fn new_front() -> [u8; HEADER_BYTES]
 impl LogFile {
     /// Makes log A a log with no block, and closes log B. Whenever it stops, the objects are as they were.
     #[tactic(auto, using(crate::proofs::Alone::alone_twice, crate::proofs::Alone::alone_write))]
-    pub fn create<M: Machine>(machine: &mut M) -> Result<(), LogErr>
+    pub fn create<M: Machine>(machine: &mut M) -> Result<(), Failed>
         ensures runs { Runs LogsAlone Same (M.disk machine.old) (M.disk machine.new) }
         ensures made { (M.disk machine.old).tells_files → OnOk result (IsNewLog (M.disk machine.new).reads) }
         ensures settled { IsSettled (M.disk machine.old) → OnOk result (IsSettled (M.disk machine.new)) }
-        ensures cause { IfErr result (λ e. (e ≡ LogErr.DiskFault) × Rises (M.disk machine.old).disk_faults (M.disk machine.new).disk_faults) }
+        ensures cause { IsErr result → Rises (M.disk machine.old).disk_faults (M.disk machine.new).disk_faults }
     {
         close(machine, FileNo::LogA)?;
         close(machine, FileNo::LogB)?;

@@ -21,11 +21,3 @@ pub const FIRST_BLOCK: u64 = 33;
 
 // The bytes of a length, which stand between a block's gate and its payload.
 pub const LENGTH_BYTES: usize = 4;
-
-pub const MAX_PAYLOAD: u32 = 1 << 30;
-
-// The greatest epoch, and the greatest base.
-pub const MAX_NUMBER: u64 = 1 << 62;
-
-// The greatest length that a log file is written with.
-pub const MAX_LOG: u64 = 1 << 48;

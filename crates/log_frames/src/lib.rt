@@ -5,15 +5,15 @@
 //! waited as one block more or without; a crash at any moment of a rewrite leaves the old log in force, or a whole new one.
 //! A [`PayloadReader`] takes a log's payloads one after the other, and brings the bytes of one into memory piece by piece.
 //! The crate depends on disk_model, whose machines it writes to, on formats, which says what the bytes of a log are, on
-//! oper_core for its error, and on byteorder for the numbers in the bytes.
+//! oper_core for bytes and lack of memory, and on byteorder for the numbers in the bytes.
 #![tactic(auto)]
 
 mod creating;
+mod filling;
 mod forcing;
 mod header;
 mod layout;
 mod loading;
-mod log_err;
 mod log_file;
 mod payload;
 mod payload_reader;
@@ -21,7 +21,7 @@ mod reading;
 mod rewriting;
 mod seen;
 
-pub use log_err::LogErr;
 pub use log_file::LogFile;
 pub use payload::Payload;
 pub use payload_reader::PayloadReader;
+pub use rewriting::file_length;

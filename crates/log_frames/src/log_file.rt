@@ -1,4 +1,4 @@
-ghost use Rattle.std.specs.Prelude.{◌≡◌, ◌<◌, ◌≤◌, ◌+◌, ◌^◌, ◌++◌, length, OnOk, IsErr};
+ghost use Rattle.std.specs.Prelude.{◌≡◌, ◌<◌, ◌≤◌, ◌+◌, ◌^◌, ◌++◌, length, OnOk};
 ghost use Rattle.log_frames.specs.LogView.{used_of, growth_of};
 
 use crate::header::Header;
@@ -17,6 +17,10 @@ pub struct LogFile {
     pub(crate) header: Header,
     pub(crate) end: u64,
     pub(crate) buffer: Vec<u8>,
+    // No zeros are written before this place is reached: the file has bytes up to it, or refused them.
+    pub(crate) filled: u64,
+    // How many forces have passed that place.
+    pub(crate) growths: u32,
 }
 
 impl Model for LogFile {

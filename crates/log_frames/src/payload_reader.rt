@@ -2,15 +2,15 @@
 ghost use Rattle.std.specs.Prelude.{◌≡◌, ◌<◌, ◌≤◌, ◌+◌, ◌^◌, ◌++◌, [], List, ℕ, IsTrue, IsFalse, IfErr, IfOk, OnErr, OnOk, length, take, drop};
 ghost use Rattle.disk_model.specs.Disk.{Files, Rises, Stays, read_of};
 ghost use Rattle.formats.specs.Log.{IsWholeLog};
+ghost use Rattle.formats.specs.Reading.{FailsBy};
 ghost use Rattle.log_frames.specs.Forcing.{with_block};
 ghost use Rattle.log_frames.specs.Payloads.{IsInLog, remaining, ahead, HasNext, HasMore, HasPiece, IsNoLog};
-ghost use Rattle.log_frames.specs.Reading.{FailsBy};
 
+use crate::LogFile;
 use crate::layout::FIRST_BLOCK;
 use crate::reading::open_block;
-use crate::{LogErr, LogFile};
 use disk_model::{FileNo, Machine, read_padded};
-use formats::BLOCK_HEAD;
+use formats::{BLOCK_HEAD, ReadErr};
 use std::alloc::Global;
 use std::marker::Model;
 
@@ -52,7 +52,7 @@ fn read_after<M: Machine>(
     place: u64,
     front: &[u8],
     count: usize,
-) -> Result<Vec<u8>, LogErr>
+) -> Result<Vec<u8>, ReadErr>
     ensures kept { Stays (M.disk machine.old) (M.disk machine.new) }
     ensures bytes { (files : Files) → (M.disk machine.new).agrees files → place + count ≤ length (files file)
         → IfOk result (λ found. found.items ≡ front.now ++ read_of (files file) place count) }
@@ -111,7 +111,7 @@ impl PayloadReader {
 
     /// Goes on to the next payload, of which nothing is in memory yet; false, and the reader stays, where none comes. What
     /// fails changes nothing.
-    pub fn next_payload<M: Machine>(&mut self, machine: &mut M) -> Result<bool, LogErr>
+    pub fn next_payload<M: Machine>(&mut self, machine: &mut M) -> Result<bool, ReadErr>
         requires through { remaining self.old ≡ 0 }
         ensures kept { Stays (M.disk machine.old) (M.disk machine.new) }
         ensures file { self.new.file ≡ self.old.file }
@@ -134,7 +134,7 @@ impl PayloadReader {
 
     /// Adds further bytes of the payload in hand to those in memory that were not taken: 64 KiB, as many as these where they
     /// are more, or all that is left. False, and the reader stays, where nothing is left. What fails changes nothing.
-    pub fn read_more<M: Machine>(&mut self, machine: &mut M) -> Result<bool, LogErr>
+    pub fn read_more<M: Machine>(&mut self, machine: &mut M) -> Result<bool, ReadErr>
         ensures kept { Stays (M.disk machine.old) (M.disk machine.new) }
         ensures file { self.new.file ≡ self.old.file }
         ensures read { (files : Files) → (M.disk machine.new).agrees files → (payloads passed : List (List ℕ)) (taken : List ℕ) (later : List (List ℕ))
@@ -172,7 +172,7 @@ impl LogFile {
         &self,
         alloc: Global,
         machine: &mut M,
-    ) -> Result<PayloadReader, LogErr>
+    ) -> Result<PayloadReader, ReadErr>
         ensures kept { Stays (M.disk machine.old) (M.disk machine.new) }
         ensures through { IfOk result (λ it. remaining it ≡ 0) }
         ensures file { IfOk result (λ it. it.file ≡ self.now.active) }

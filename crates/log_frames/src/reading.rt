@@ -2,13 +2,13 @@
 ghost use Rattle.std.specs.Prelude.{◌≤◌, ◌≡◌, ◌<◌, ◌+◌, ◌-◌, ◌^◌, length, IfErr, IfOk, IfSome};
 ghost use Rattle.disk_model.specs.Disk.{Files, Rises, Stays};
 ghost use Rattle.formats.specs.Image.{IsBlockFault};
-ghost use Rattle.log_frames.specs.Reading.{FailsBy, FoundAt, IsBroken, EndsBlocks};
+ghost use Rattle.formats.specs.Reading.{FailsBy};
+ghost use Rattle.log_frames.specs.Reading.{FoundAt, IsBroken, EndsBlocks};
 
-use crate::LogErr;
-use crate::layout::{FIRST_BLOCK, MAX_PAYLOAD, OPEN};
+use crate::layout::{FIRST_BLOCK, OPEN};
 use byteorder::{ByteOrder, LittleEndian};
 use disk_model::{FileNo, Machine, read_padded};
-use formats::BLOCK_HEAD;
+use formats::{BLOCK_HEAD, MAX_PAYLOAD, ReadErr};
 
 /// How many bytes the payload of the block at a gate has, or none where the gate is closed.
 pub fn open_block<M: Machine>(
@@ -16,7 +16,7 @@ pub fn open_block<M: Machine>(
     file: FileNo,
     size: u64,
     gate: u64,
-) -> Result<Option<u32>, LogErr>
+) -> Result<Option<u32>, ReadErr>
     requires { gate < 2 ^ 64 - 1 }
     ensures kept { Stays (M.disk machine.old) (M.disk machine.new) }
     ensures within { IfOk result (λ found. IfSome found (λ len. gate + 5 + len < size)) }
@@ -33,7 +33,7 @@ pub fn open_block<M: Machine>(
     let len = LittleEndian::read_u32(&head[1..]);
     let room = size.saturating_sub(gate);
     if len == 0 || len > MAX_PAYLOAD || room <= BLOCK_HEAD as u64 + len as u64 {
-        return Err(LogErr::Damaged {
+        return Err(ReadErr::Damaged {
             file,
             place: gate + 1,
         });
@@ -42,7 +42,7 @@ pub fn open_block<M: Machine>(
 }
 
 /// The place of the first closed gate after the header.
-pub fn first_closed<M: Machine>(machine: &mut M, file: FileNo, size: u64) -> Result<u64, LogErr>
+pub fn first_closed<M: Machine>(machine: &mut M, file: FileNo, size: u64) -> Result<u64, ReadErr>
     requires { 33 < size }
     ensures kept { Stays (M.disk machine.old) (M.disk machine.new) }
     ensures end { (files : Files) → (M.disk machine.new).agrees files → size ≡ length (files file) → IfOk result (EndsBlocks (files file)) }

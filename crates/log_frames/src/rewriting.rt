@@ -1,20 +1,20 @@
 // Writes a whole new log into the file that is not in force. It counts once its header gate is open.
-ghost use Rattle.std.specs.Prelude.{◌≡◌, ◌⊎◌, ◌<◌, ◌≤◌, ◌+◌, ◌^◌, [], ◌∷◌, ◌++◌, List, ℕ, length, All, OnOk, OnErr, IfErr, IfOk};
+ghost use Rattle.std.specs.Prelude.{◌≡◌, ◌<◌, ◌≤◌, ◌+◌, ◌^◌, [], ◌∷◌, ◌++◌, List, ℕ, length, All, OnOk, OnErr, IfOk, IsErr};
 ghost use Rattle.byteorder.specs.Endian.{little_bytes};
-ghost use Rattle.disk_model.specs.Disk.{Rises, Runs, Stays, LeavesOnly, In, Any, Same, Torn, IsSettled};
+ghost use Rattle.disk_model.specs.Disk.{Rises, Runs, LeavesOnly, In, Any, Same, IsSettled};
 ghost use Rattle.formats.specs.Log.{header_fields, block, blocks, end_of, IsHeader, IsPayload, IsWholeLog, IsClosedLog};
 ghost use Rattle.formats.specs.InForce.{other_of, IsPassive, IsInForce};
 ghost use Rattle.log_frames.specs.Reading.{header_of};
 ghost use Rattle.log_frames.specs.Forcing.{IsAtRest};
-ghost use Rattle.log_frames.specs.Rewriting.{bytes_of, KeepsClosed, IsFront, IsPrepared, IsPassiveOrNew, IsOldOrNew, rewritten, file_length, RewriteFails};
+ghost use Rattle.log_frames.specs.Rewriting.{bytes_of, KeepsClosed, IsFront, IsPrepared, IsPassiveOrNew, IsOldOrNew, rewritten, file_length};
 
 use crate::creating::close;
 use crate::forcing::open_gate;
 use crate::header::Header;
-use crate::layout::{CLOSED, FIRST_BLOCK, MAGIC, MAX_LOG, MAX_NUMBER, OPEN};
-use crate::{LogErr, LogFile, Payload};
+use crate::layout::{CLOSED, FIRST_BLOCK, MAGIC, OPEN};
+use crate::{LogFile, Payload};
 use byteorder::{ByteOrder, LittleEndian};
-use disk_model::{FileNo, Machine};
+use disk_model::{Failed, FileNo, Machine};
 use formats::BLOCK_HEAD;
 
 // The other of the two logs.
@@ -55,14 +55,14 @@ fn put_block<M: Machine>(
     file: FileNo,
     gate: u64,
     bytes: &[u8],
-) -> Result<(), LogErr>
+) -> Result<(), Failed>
     requires place { 1 ≤ gate }
     requires fits { gate < 2 ^ 63 }
     requires short { length bytes.now ≤ 2 ^ 30 }
     ensures runs { Runs (In file KeepsClosed) Same (M.disk machine.old) (M.disk machine.new) }
     ensures written { (M.disk machine.old).tells_files → (front : List ℕ) → gate ≡ length front → IsFront front ((M.disk machine.old).reads file)
         → OnOk result (IsFront (front ++ block bytes.now) ((M.disk machine.new).reads file)) }
-    ensures cause { IfErr result (λ e. (e ≡ LogErr.DiskFault) × Rises (M.disk machine.old).disk_faults (M.disk machine.new).disk_faults) }
+    ensures cause { IsErr result → Rises (M.disk machine.old).disk_faults (M.disk machine.new).disk_faults }
 {
     machine.write_at(file, gate, &block_head(bytes.len() as u32))?;
     machine.write_at(file, gate + BLOCK_HEAD as u64, bytes)?;
@@ -74,14 +74,14 @@ fn put_blocks<M: Machine>(
     machine: &mut M,
     file: FileNo,
     payloads: &[Payload],
-) -> Result<u64, LogErr>
+) -> Result<u64, Failed>
     requires whole { All IsPayload (bytes_of payloads.now) }
     requires fits { end_of (bytes_of payloads.now) < 2 ^ 63 }
     ensures runs { Runs (In file KeepsClosed) Same (M.disk machine.old) (M.disk machine.new) }
     ensures end { IfOk result (λ end. end ≡ end_of (bytes_of payloads.now)) }
     ensures written { (M.disk machine.old).tells_files → (front : List ℕ) → 33 ≡ length front → IsFront front ((M.disk machine.old).reads file)
         → OnOk result (IsFront (front ++ blocks (bytes_of payloads.now)) ((M.disk machine.new).reads file)) }
-    ensures cause { IfErr result (λ e. (e ≡ LogErr.DiskFault) × Rises (M.disk machine.old).disk_faults (M.disk machine.new).disk_faults) }
+    ensures cause { IsErr result → Rises (M.disk machine.old).disk_faults (M.disk machine.new).disk_faults }
 {
     let mut gate = FIRST_BLOCK;
     for payload in payloads {
@@ -98,14 +98,14 @@ fn prepare<M: Machine>(
     file: FileNo,
     header: Header,
     payloads: &[Payload],
-) -> Result<(), LogErr>
+) -> Result<(), Failed>
     requires whole { All IsPayload (bytes_of payloads.now) }
     requires fits { end_of (bytes_of payloads.now) < 2 ^ 63 }
     ensures runs { Runs (In file KeepsClosed) Same (M.disk machine.old) (M.disk machine.new) }
     ensures prepared { (M.disk machine.old).tells_files → IsClosedLog ((M.disk machine.old).reads file)
         → OnOk result (IsPrepared (header_of header) (bytes_of payloads.now) ((M.disk machine.new).reads file)) }
     ensures settled { IsSettled (M.disk machine.old) → OnOk result (IsSettled (M.disk machine.new)) }
-    ensures cause { IfErr result (λ e. (e ≡ LogErr.DiskFault) × Rises (M.disk machine.old).disk_faults (M.disk machine.new).disk_faults) }
+    ensures cause { IsErr result → Rises (M.disk machine.old).disk_faults (M.disk machine.new).disk_faults }
 {
     machine.write_at(file, 1, &fields_of(header))?;
     let end = put_blocks(machine, file, payloads)?;
@@ -120,7 +120,7 @@ fn write_log<M: Machine>(
     file: FileNo,
     header: Header,
     payloads: &[Payload],
-) -> Result<(), LogErr>
+) -> Result<(), Failed>
     requires whole { All IsPayload (bytes_of payloads.now) }
     requires fits { end_of (bytes_of payloads.now) < 2 ^ 63 }
     ensures runs { Runs (In file Any) Same (M.disk machine.old) (M.disk machine.new) }
@@ -129,7 +129,7 @@ fn write_log<M: Machine>(
     ensures made { (M.disk machine.old).tells_files → IsSettled (M.disk machine.old) → IsHeader (header_of header)
         → OnOk result (IsSettled (M.disk machine.new) × IsWholeLog (header_of header) (bytes_of payloads.now) ((M.disk machine.new).reads file)) }
     ensures settled { IsSettled (M.disk machine.old) → OnOk result (IsSettled (M.disk machine.new)) }
-    ensures cause { IfErr result (λ e. (e ≡ LogErr.DiskFault) × Rises (M.disk machine.old).disk_faults (M.disk machine.new).disk_faults) }
+    ensures cause { IsErr result → Rises (M.disk machine.old).disk_faults (M.disk machine.new).disk_faults }
 {
     close(machine, file)?;
     prepare(machine, file, header, payloads)?;
@@ -149,22 +149,31 @@ fn end_after(payloads: &[Payload]) -> u64
     gate
 }
 
+/// The length of a log file with these payloads: a closed gate follows the last block.
+pub fn file_length(payloads: &[Payload]) -> u64
+    requires fits { end_of (bytes_of payloads.now) < 2 ^ 63 }
+    ensures { result ≡ file_length (bytes_of payloads.now) }
+{
+    end_after(payloads) + 1
+}
+
 impl LogFile {
     /// Puts a new log of these payloads, with the next epoch, in the place of this one. It is written into the other
-    /// file, and is in force once its header gate is open. At `DiskFault`, load the log again.
+    /// file, and is in force once its header gate is open. At `Err`, load the log again.
     pub fn rewrite<M: Machine>(
         &mut self,
         machine: &mut M,
         base: u64,
         commands: u64,
         payloads: &[Payload],
-    ) -> Result<(), LogErr>
+    ) -> Result<(), Failed>
         requires waits { self.old.pending ≡ [] }
         requires base_low { 1 ≤ base }
         requires base_high { base ≤ 2 ^ 62 }
         requires commands { commands < base }
         requires whole { All IsPayload (bytes_of payloads.now) }
-        requires fits { end_of (bytes_of payloads.now) < 2 ^ 63 }
+        requires epoch { self.old.header.epoch < 2 ^ 62 }
+        requires fits { file_length (bytes_of payloads.now) ≤ 2 ^ 48 }
         ensures runs { Runs (In (other_of self.old.active) Any) Same (M.disk machine.old) (M.disk machine.new) }
 
         // A crash at any moment of the call leaves the old log in force, or the new one, whole.
@@ -179,25 +188,8 @@ impl LogFile {
         ensures settled { IsSettled (M.disk machine.old) → OnOk result (IsSettled (M.disk machine.new)) }
         ensures rewritten { OnOk result (self.new ≡ rewritten self.old base commands (bytes_of payloads.now)) }
         ensures kept { OnErr result (self.new ≡ self.old) }
-
-        // At the last epoch, and where the new file would be too long, no call is made.
-        ensures idle { (self.old.header.epoch ≡ 2 ^ 62) ⊎ (2 ^ 48 < file_length (bytes_of payloads.now)) → machine.new ≡ machine.old }
-        ensures made { OnOk result ((self.old.header.epoch < 2 ^ 62) × (file_length (bytes_of payloads.now) ≤ 2 ^ 48)) }
-        ensures cause { IfErr result (RewriteFails (Rises (M.disk machine.old).disk_faults (M.disk machine.new).disk_faults) self.old (bytes_of payloads.now)) }
+        ensures cause { IsErr result → Rises (M.disk machine.old).disk_faults (M.disk machine.new).disk_faults }
     {
-        if self.header.epoch >= MAX_NUMBER {
-            return Err(LogErr::Exhausted {
-                epoch: self.header.epoch,
-            });
-        }
-        let end = end_after(payloads);
-        if end >= MAX_LOG {
-            return Err(LogErr::LogFull {
-                used: self.used(),
-                need: end + 1,
-                limit: MAX_LOG,
-            });
-        }
         let header = Header {
             epoch: self.header.epoch + 1,
             base,
@@ -207,7 +199,8 @@ impl LogFile {
         write_log(machine, file, header, payloads)?;
         self.active = file;
         self.header = header;
-        self.end = end;
+        self.end = end_after(payloads);
+        self.filled = self.end + 1;
         Ok(())
     }
 }

@@ -1,7 +1,7 @@
 -- The last check of records that grow at their end.
 use Rattle.std.proofs.Common.{◌≡◌, ◌∙◌, refl, ap, Option, None, Some, List, [], ◌∷◌, ◌++◌}
 use Rattle.std.specs.Option.{option_or}
-use Rattle.checkpoint.specs.declared.table.Table.{Table}
+use Rattle.redo_tables.specs.declared.table.Table.{Table}
 use Rattle.formats.specs.Records.{last_check}
 use Rattle.formats.specs.declared.record.Record.{Record}
 use Rattle.formats.specs.declared.record.Record.TheVariants.{Command, Identity, Check}

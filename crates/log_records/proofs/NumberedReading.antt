@@ -11,8 +11,9 @@ use Rattle.oper_core.specs.declared.bounds.Bounds.{Bounds}
 use Rattle.formats.specs.declared.record.Record.{Record}
 use Rattle.log_frames.specs.LogView.{LogView}
 use Rattle.log_frames.specs.Payloads.{ahead}
-use Rattle.log_frames.specs.Reading.{FailsBy, fails_on}
-use Rattle.log_frames.specs.declared.log_err.LogErr.{LogErr}
+use Rattle.formats.specs.Reading.{FailsBy}
+use Rattle.formats.specs.declared.read_err.ReadErr.{ReadErr}
+use Rattle.log_frames.specs.Reading.{fails_on}
 use Rattle.log_records.specs.Loading.{IsTailFault}
 use Rattle.log_records.specs.NumberedReader.{NumberedReaderView, IsPast, IsReadingNumbered, HasGiven, HasSearched}
 use Rattle.log_records.specs.RecordLog.{RecordLogView}
@@ -93,7 +94,7 @@ module _ {O : Type 0} (m : Meaning O) where
       }
 
   -- why it fails
-  pub search_fails : (old new : Disk) (log : RecordLogView) (before : NumberedReaderView) (given : List (Record O)) (cause : LogErr) (rises : Type 0) → IsReadingNumbered m old log before given
+  pub search_fails : (old new : Disk) (log : RecordLogView) (before : NumberedReaderView) (given : List (Record O)) (cause : ReadErr) (rises : Type 0) → IsReadingNumbered m old log before given
       → ((other : LogView) (all : List (Record O)) → IsReading m old other before.records all → FailsBy rises (IsTailFault m new other) cause)
       → FailsBy rises (λ f place. log.log.active ≢ Objects → IsTailFault m new log.log f place) cause
   search_fails old new log before given cause rises is fails = elim (same_file log.log.active Objects) [

@@ -14,8 +14,9 @@ use Rattle.log_frames.specs.Forcing.{with_block}
 use Rattle.log_frames.specs.Laws.{with_block-some, blocks-push, length-block}
 use Rattle.log_frames.specs.LogView.{LogView}
 use Rattle.log_frames.specs.Payloads.{PayloadReaderView, IsInLog, IsNoLog, HasNext, remaining}
-use Rattle.log_frames.specs.Reading.{FailsBy, fails_on}
-use Rattle.log_frames.specs.declared.log_err.LogErr.{LogErr}
+use Rattle.formats.specs.Reading.{FailsBy}
+use Rattle.formats.specs.declared.read_err.ReadErr.{ReadErr}
+use Rattle.log_frames.specs.Reading.{fails_on}
 use Rattle.log_records.specs.Codec.{StartsWithRecord}
 use Rattle.log_records.specs.Loading.{IsTailFault}
 use Rattle.log_records.specs.RecordLaws.{with_group, payloads-with_group, records-with_group, AreRecords-push, AreRecords-behind, payload_push, next-append}
@@ -208,7 +209,7 @@ reading_searched meaning b own d e log went it searched records same bounds kept
     reading_moved (meaning own) e log it searched records here file moves
 
 -- a fault that a call of a pass reports
-pub fails_before : {O : Type 0} (m : Meaning O) (first mid last : Disk) (log : LogView) (e : LogErr) → Stays first mid → FailsBy (Rises mid.disk_faults last.disk_faults) (IsTailFault m last log) e
+pub fails_before : {O : Type 0} (m : Meaning O) (first mid last : Disk) (log : LogView) (e : ReadErr) → Stays first mid → FailsBy (Rises mid.disk_faults last.disk_faults) (IsTailFault m last log) e
     → FailsBy (Rises first.disk_faults last.disk_faults) (IsTailFault m last log) e
 fails_before m first mid last log e kept fails = fails_on _ _ _ _ e (rises_before first mid last kept) (λ f place there. there) fails
 
@@ -229,7 +230,7 @@ module _ {O : Type 0} (meaning : Bounds → Meaning O) (b : Bounds) (d e : Disk)
   next_ended found is finds = subst (λ (x : Bounds). HasEnded (meaning x) e log new records) bounds
       (subst (λ (o : Option (Record O)). HasFound (meaning old.bounds) e log new records o) is (finds log records own))
 
-  pub next_fails : (first : Disk) (cause : LogErr) → Stays first d
+  pub next_fails : (first : Disk) (cause : ReadErr) → Stays first d
       → ((log : LogView) (records : List (Record O)) → IsReading (meaning old.bounds) d log old records → FailsBy (Rises d.disk_faults e.disk_faults) (IsTailFault (meaning old.bounds) e log) cause)
       → FailsBy (Rises first.disk_faults e.disk_faults) (IsTailFault (meaning b) e log) cause
   next_fails first cause kept fails = fails_before (meaning b) first d e log cause kept

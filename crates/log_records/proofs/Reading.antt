@@ -6,8 +6,8 @@ use Rattle.byteorder.specs.Numbers.{length-bytes_low_first, little_number-reads_
 use Rattle.oper_core.specs.LittleEndian.{little_bytes-front}
 use Rattle.oper_core.specs.Meaning.{Meaning, StartsWithCode, IsSmall, HasBounds}
 use Rattle.oper_core.specs.declared.bounds.Bounds.{Bounds}
-use Rattle.checkpoint.specs.Codec.{StartsWithTable}
-use Rattle.checkpoint.specs.declared.table.Table.{Table}
+use Rattle.redo_tables.specs.Codec.{StartsWithTable}
+use Rattle.redo_tables.specs.declared.table.Table.{Table}
 use Rattle.formats.specs.declared.record.Record.{Record}
 use Rattle.formats.specs.declared.record.Record.TheVariants.{Command, Identity, Check}
 use Rattle.formats.specs.Records.{record_code}

@@ -1,31 +1,31 @@
 -- A log of records before, within and after a rewrite.
-use Rattle.std.proofs.Common.{◌≡◌, ◌≢◌, ◌⊎◌, ◌+◌, ◌<◌, ◌≤◌, ◌^◌, ℕ, List, [], ◌∷◌, ◌++◌, length, map, refl, sym, ap, ◌∙◌, subst, arith, inl, inr, ⊎_elim}
+use Rattle.std.proofs.Common.{◌≡◌, ◌⊎◌, ◌+◌, ◌<◌, ◌≤◌, ◌^◌, ℕ, List, [], ◌∷◌, ◌++◌, length, map, refl, sym, ap, ◌∙◌, subst, arith, inl, inr, ⊎_elim}
 use Rattle.std.specs.Prelude.{All}
 use Rattle.std.proofs.lemmas.List.{append-nil}
 use Rattle.std.proofs.lemmas.List.Elements.{All-push, All-filter, All-weaker}
-use Rattle.disk_model.specs.Disk.{Files, Disk, Rises, Runs, Stays, Same, In, Any, LeavesOnly}
+use Rattle.disk_model.specs.Disk.{Files, Disk, Runs, Stays, Same, In, Any, LeavesOnly}
 use Rattle.disk_model.specs.Moments.{first_call, from_reads, runs_on, runs_join, stays_settled, weaker}
 use Rattle.disk_model.specs.declared.machine.FileNo.{FileNo}
-use Rattle.checkpoint.specs.declared.table.Table.{Table}
+use Rattle.redo_tables.specs.declared.table.Table.{Table}
 use Rattle.oper_core.specs.Meaning.{Meaning}
 use Rattle.oper_core.specs.declared.bounds.Bounds.{Bounds}
 use Rattle.formats.specs.InForce.{other_of, IsInForce, HoldsLog}
 use Rattle.formats.specs.Log.{Header, IsHeader, IsWholeLog}
+use Rattle.formats.specs.Reading.{FailsBy, TellsDamage}
 use Rattle.formats.specs.Records.{record_code, payload_of, records_of, commands_of, next_after, IsRecord, IsPlaced, AreRecords}
+use Rattle.formats.specs.declared.read_err.ReadErr.{ReadErr}
+use Rattle.formats.specs.declared.read_err.ReadErr.TheVariants.{DiskFault, Damaged, Memory}
 use Rattle.formats.specs.declared.record.Record.{Record}
 use Rattle.formats.specs.declared.record.Record.TheVariants.{Check}
 use Rattle.log_frames.specs.Forcing.{IsAtRest}
 use Rattle.log_frames.specs.LogView.{LogView}
-use Rattle.log_frames.specs.Rewriting.{IsOldOrNew, next_header, rewritten, file_length, RewriteFails as Below}
-use Rattle.log_frames.specs.declared.log_err.LogErr.{LogErr}
-use Rattle.log_frames.specs.declared.log_err.LogErr.TheVariants.{DiskFault, LogFull, Damaged, Exhausted, Memory}
+use Rattle.log_frames.specs.Rewriting.{IsOldOrNew, next_header, rewritten}
 use Rattle.log_records.specs.Codec.{IsEncodable, AreShort}
 use Rattle.log_records.specs.CodecLaws.{HasCodes, encodable-from_grammar}
 use Rattle.log_records.specs.RecordLog.{RecordLogView, Keeps}
 use Rattle.log_records.specs.RecordLaws.{AreRecords-push, next-append, count-append}
 use Rattle.log_records.specs.RewriteLaws.{blocks_hold}
-use Rattle.log_records.specs.Rewriting.{is_numbered_from, numbered_from, left_out, rewritten_records, in_full_blocks, new_payloads, commands_before, rewritten_log, IsRewritable, HoldsInForce, IsRewrittenPartly, RewriteFails}
-use Rattle.log_records.proofs.LoadLemmas.{rises_before}
+use Rattle.log_records.specs.Rewriting.{is_numbered_from, numbered_from, left_out, rewritten_records, in_full_blocks, new_payloads, commands_before, rewritten_log, rewrite_from_read, FindsDamage, IsRewritable, HoldsInForce, IsRewrittenPartly, RewriteFails}
 use Rattle.log_records.proofs.Numbered.{counts_part, left_below, numbered_placed}
 
 module _ {O : Type 0} (m : Meaning O) where
@@ -181,23 +181,17 @@ module _ {O : Type 0} (m : Meaning O) where
   pub new_commands : (h : Header) (base : ℕ) (records : List (Record O)) → IsHeader h → AreRecords m h.base h.base records → h.base ≤ base → h.commands + length (commands_of (left_out base records)) < base
   new_commands h base records range are low = let below = left_below m base h.base h.base records are in omega (arith, range.commands, below, low)
 
--- where it reports no fault of the disk, it made no call
-pub rewrite_refused : (old mid new : Disk) (log : LogView) (bytes : List (List ℕ)) (e : LogErr) → Stays old mid → ((log.header.epoch ≡ 2 ^ 62) ⊎ (2 ^ 48 < file_length bytes) → new ≡ mid)
-    → Below (Rises mid.disk_faults new.disk_faults) log bytes e → e ≢ DiskFault → Stays old new
-rewrite_refused old mid new log bytes DiskFault kept idle fails apart = absurd (apart refl)
-rewrite_refused old mid new log bytes (LogFull used need limit) kept idle fails apart = subst (λ (d : Disk). Stays old d) (sym (idle (inr (omega (arith, fails.1, fails.2, fails.3))))) kept
-rewrite_refused old mid new log bytes (Damaged file place) kept idle fails apart = absurd fails
-rewrite_refused old mid new log bytes (Exhausted epoch) kept idle fails apart = subst (λ (d : Disk). Stays old d) (sym (idle (inl (sym fails.0 ∙ fails.1)))) kept
-rewrite_refused old mid new log bytes Memory kept idle fails apart = absurd fails
+-- why it fails where the old log could not be read
+pub read_fails : (rises : Type 0) (fault : FileNo → ℕ → Type 0) (length_is : ℕ → Type 0) (log : LogView) (e : ReadErr) → log.header.epoch < 2 ^ 62 → FailsBy rises fault e → RewriteFails rises fault length_is log (rewrite_from_read e)
+read_fails rises fault length_is log DiskFault early fails = (fails, early)
+read_fails rises fault length_is log (Damaged file place) early fails = (fails, early)
+read_fails rises fault length_is log Memory early fails = early
 
--- why a rewrite of the log below fails
-pub rewrite_fails : (old mid new : Disk) (log : LogView) (bytes : List (List ℕ)) (fault : FileNo → ℕ → Type 0) (length_is : ℕ → Type 0) (e : LogErr) → Stays old mid → length_is (file_length bytes)
-    → Below (Rises mid.disk_faults new.disk_faults) log bytes e → RewriteFails (Rises old.disk_faults new.disk_faults) fault length_is log e
-rewrite_fails old mid new log bytes fault length_is DiskFault kept is fails = (rises_before old mid new kept fails.0, fails.1)
-rewrite_fails old mid new log bytes fault length_is (LogFull used need limit) kept is fails = (fails.0, subst length_is (sym fails.1) is, fails.2, fails.3, fails.4)
-rewrite_fails old mid new log bytes fault length_is (Damaged file place) kept is fails = absurd fails
-rewrite_fails old mid new log bytes fault length_is (Exhausted epoch) kept is fails = fails
-rewrite_fails old mid new log bytes fault length_is Memory kept is fails = absurd fails
+-- and it found no damage where none was reported
+pub none_found : (e : ReadErr) → (TellsDamage e → ⊥) → FindsDamage (rewrite_from_read e) → ⊥
+none_found DiskFault none found = found
+none_found (Damaged file place) none found = none found
+none_found Memory none found = found
 
 -- a run that changes one file, after calls that change none
 pub rewritten_run : (old mid new : Disk) (file : FileNo) → Stays old mid → Runs (In file Any) Same mid new → Runs (In file Any) Same old new

@@ -5,9 +5,9 @@ use Rattle.byteorder.specs.Endian.{little_bytes}
 use Rattle.oper_core.specs.LittleEndian.{little_bytes-split}
 use Rattle.oper_core.specs.Meaning.{IsLawful, IsSmall, HasBounds, Meaning}
 use Rattle.oper_core.specs.declared.bounds.Bounds.{Bounds}
-use Rattle.checkpoint.specs.Codec.{table_code}
-use Rattle.checkpoint.specs.CodecLaws.{same_table}
-use Rattle.checkpoint.specs.declared.table.Table.{Table}
+use Rattle.redo_tables.specs.Codec.{table_code}
+use Rattle.redo_tables.specs.CodecLaws.{same_table}
+use Rattle.redo_tables.specs.declared.table.Table.{Table}
 use Rattle.formats.specs.Records.{IsRecord}
 use Rattle.formats.specs.declared.record.Record.{Record}
 use Rattle.formats.specs.declared.record.Record.TheVariants.{Command, Identity, Check}

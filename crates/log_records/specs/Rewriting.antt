@@ -1,19 +1,21 @@
 -- What a rewrite of a log of records leaves.
-use Rattle.std.specs.Prelude.{◌≡◌, ⊤, ◌⊎◌, ◌<◌, ◌≤◌, ◌+◌, ◌^◌, ℕ, Bool, false, not, nat_le, nat_lt, ◌&&◌, if◌then◌else◌, List, [], ◌∷◌, ◌++◌, length, map, filter}
-use Rattle.disk_model.specs.Disk.{Files, Disk, In, Any}
+use Rattle.std.specs.Prelude.{◌≡◌, ◌≢◌, ⊤, ◌⊎◌, ◌<◌, ◌≤◌, ◌+◌, ◌^◌, ℕ, Bool, false, not, nat_le, nat_lt, ◌&&◌, if◌then◌else◌, List, [], ◌∷◌, ◌++◌, length, map, filter, Result, OnErr, OnOk, IfErr}
+use Rattle.disk_model.specs.Disk.{Files, Disk, In, Any, Stays}
 use Rattle.disk_model.specs.declared.machine.FileNo.{FileNo}
-use Rattle.checkpoint.specs.declared.table.Table.{Table}
+use Rattle.redo_tables.specs.declared.table.Table.{Table}
 use Rattle.oper_core.specs.Meaning.{Meaning}
 use Rattle.formats.specs.InForce.{other_of}
 use Rattle.formats.specs.Log.{Header}
 use Rattle.formats.specs.Records.{record_code, payload_of, records_of, commands_of, IsRecord, IsPlaced, HoldsRecordLog}
+use Rattle.formats.specs.declared.read_err.ReadErr.{ReadErr}
+use Rattle.formats.specs.declared.read_err.ReadErr.TheVariants as of_read
 use Rattle.formats.specs.declared.record.Record.{Record}
 use Rattle.formats.specs.declared.record.Record.TheVariants.{Command, Identity, Check}
 use Rattle.log_frames.specs.LogView.{LogView, used_of}
 use Rattle.log_frames.specs.Rewriting.{next_header, rewritten, file_length}
-use Rattle.log_frames.specs.declared.log_err.LogErr.{LogErr}
-use Rattle.log_frames.specs.declared.log_err.LogErr.TheVariants.{DiskFault, LogFull, Damaged, Exhausted, Memory}
 use Rattle.log_records.specs.RecordLog.{RecordLogView, Keeps}
+use Rattle.log_records.specs.declared.rewrite_err.RewriteErr.{RewriteErr}
+use Rattle.log_records.specs.declared.rewrite_err.RewriteErr.TheVariants.{DiskFault, LogFull, Damaged, Exhausted, Memory}
 
 -- a record has a number, from this one on
 abbrev pub is_numbered_from : {O : Type 0} → ℕ → Record O → Bool
@@ -116,9 +118,32 @@ IsWithinLength {O = O} m d log base table = d.tells_files → (stable : List (Re
 
 -- Why a rewrite fails: at the last epoch; or else by a fault of the disk, by damage in the old log, out of memory,
 -- or where the new file would be longer than 2^48 bytes.
-abbrev pub RewriteFails : Type 0 → (FileNo → ℕ → Type 0) → (ℕ → Type 0) → LogView → LogErr → Type 0
+abbrev pub RewriteFails : Type 0 → (FileNo → ℕ → Type 0) → (ℕ → Type 0) → LogView → RewriteErr → Type 0
 RewriteFails rises fault length_is log DiskFault = rises × (log.header.epoch < 2 ^ 62)
 RewriteFails rises fault length_is log (LogFull used need limit) = (used ≡ used_of log) × length_is need × (limit ≡ 2 ^ 48) × (limit < need) × (log.header.epoch < 2 ^ 62)
 RewriteFails rises fault length_is log (Damaged file place) = fault file place × (log.header.epoch < 2 ^ 62)
 RewriteFails rises fault length_is log (Exhausted epoch) = (epoch ≡ log.header.epoch) × (epoch ≡ 2 ^ 62)
 RewriteFails rises fault length_is log Memory = log.header.epoch < 2 ^ 62
+
+-- it reports damage in the old log
+abbrev pub FindsDamage : RewriteErr → Type 0
+FindsDamage DiskFault = ⊥
+FindsDamage (LogFull used need limit) = ⊥
+FindsDamage (Damaged file place) = ⊤
+FindsDamage (Exhausted epoch) = ⊥
+FindsDamage Memory = ⊥
+
+-- a rewrite that could not read the old log
+abbrev pub rewrite_from_read : ReadErr → RewriteErr
+rewrite_from_read of_read.DiskFault = DiskFault
+rewrite_from_read (of_read.Damaged file place) = Damaged file place
+rewrite_from_read of_read.Memory = Memory
+
+-- How a rewrite of this log ends. Where it fails the log is as it was, and so are the files, unless a fault of the disk is
+-- reported. They are so too where the new file would have more than 2^48 bytes. It succeeds only before the last epoch,
+-- and with a file within that length.
+pub record IsRewriteEnd {O T : Type 0} (m : Meaning O) (before after : Disk) (log now : RecordLogView) (base : ℕ) (table : Table) (result : Result T RewriteErr) : Type 0 where
+  pub kept : OnErr result (now ≡ log)
+  pub refused : IfErr result (λ e. e ≢ DiskFault → Stays before after)
+  pub long : before.tells_files → (stable : List (Record O)) → Keeps m before log stable [] → 2 ^ 48 < file_length (new_payloads m base table stable) → Stays before after
+  pub made : OnOk result ((log.log.header.epoch < 2 ^ 62) × IsWithinLength m before log base table)

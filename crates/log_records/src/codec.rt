@@ -8,7 +8,7 @@ ghost use Rattle.formats.specs.declared.record.Record.{Record};
 ghost use Rattle.log_records.specs.Codec.{IsEncodable, StartsWithRecord};
 
 use byteorder::{ByteOrder, LittleEndian};
-use formats::{RECORD_HEAD, Record};
+use formats::{IDENTITY_HEAD, RECORD_HEAD, Record};
 use oper_core::{Bounds, ByteList, Memory, Oper};
 use std::alloc::Global;
 
@@ -17,9 +17,6 @@ const COMMAND: u8 = 1;
 const IDENTITY: u8 = 2;
 
 const CHECK: u8 = 3;
-
-// The kind, the number, the object and the length of an identity write.
-const IDENTITY_HEAD: usize = 17;
 
 /// Appends a record's code. Without memory for it the bytes stay as they are.
 pub fn encode<O: Oper>(record: &Record<O>, out: &mut Vec<u8>) -> Result<(), Memory>
@@ -42,20 +39,20 @@ fn append<O: Oper>(record: &Record<O>, out: &mut Vec<u8>) -> Result<(), Memory>
     ensures err { OnErr result (take (length out.old.items) out.new.items ≡ out.old.items) }
 {
     match record {
-        Record::Command(number, op) => append_command(*number, op, out)?,
+        Record::Command(number, op) => push_command(*number, op, out)?,
         Record::Identity(number, object, value) => {
             append_identity(*number, *object, value.as_slice(), out)?
         }
         Record::Check(table) => {
             out.push(CHECK)?;
-            checkpoint::encode(table, out)?
+            redo_tables::encode(table, out)?
         }
     }
     Ok(())
 }
 
 /// Appends the code of a command's record. Without memory a part of it may stay after the bytes.
-pub(crate) fn append_command<O: Oper>(number: u64, op: &O, out: &mut Vec<u8>) -> Result<(), Memory>
+pub(crate) fn push_command<O: Oper>(number: u64, op: &O, out: &mut Vec<u8>) -> Result<(), Memory>
     requires { IsEncodable O.meaning (Record.Command number op.now) }
     ensures ok { (b : Bounds) → OnOk result (out.new.items ≡ out.old.items ++ record_code (O.meaning b) (Record.Command number op.now)) }
     ensures err { OnErr result (take (length out.old.items) out.new.items ≡ out.old.items) }
@@ -172,7 +169,7 @@ fn decode_check<O: Oper>(
         StartsWithRecord (O.meaning b) bytes.now pair.0 × (pair.1 ≡ length (record_code (O.meaning b) pair.0)))) }
     ensures none { IfOk result (λ found. IfNone found ((other : Record O) → StartsWithRecord (O.meaning b) bytes.now other → ⊥)) }
 {
-    match checkpoint::decode(alloc, &bytes[1..])? {
+    match redo_tables::decode(alloc, &bytes[1..])? {
         Some((table, length)) => Ok(Some((Record::Check(table), 1 + length))),
         None => Ok(None),
     }

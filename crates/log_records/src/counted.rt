@@ -1,4 +1,4 @@
-use checkpoint::Table;
+use redo_tables::Table;
 
 // What a pass over a log keeps of its records: the number after them, how many are commands, and the last check's table.
 #[derive(Drop)]

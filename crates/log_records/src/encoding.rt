@@ -1,13 +1,12 @@
 // The code of a command's record, made before it is certain that the record is added.
-ghost use Rattle.std.specs.Prelude.{◌≡◌, ◌≤◌, ◌<◌, ◌+◌, ◌^◌, ◌++◌, List, ℕ, length, IfErr, IfOk};
+ghost use Rattle.std.specs.Prelude.{◌≡◌, ◌≤◌, ◌<◌, ◌+◌, ◌^◌, ◌++◌, List, ℕ, length, IfOk};
 ghost use Rattle.oper_core.specs.Meaning.{IsInGrammar};
 ghost use Rattle.formats.specs.Records.{record_code};
 ghost use Rattle.formats.specs.declared.record.Record.TheVariants.{Command};
 
 use crate::RecordLog;
-use crate::codec::append_command;
-use log_frames::LogErr;
-use oper_core::Oper;
+use crate::codec::push_command;
+use oper_core::{Memory, Oper};
 use std::marker::Model;
 use std::mem;
 
@@ -25,16 +24,15 @@ impl Model for EncodedCommand {
 
 impl<O: Oper> RecordLog<O> {
     /// The code of the next record, where that is this command, and room for it. Either way nothing but the room changes.
-    pub fn encode_command(&mut self, op: &O) -> Result<EncodedCommand, LogErr>
+    pub fn encode_command(&mut self, op: &O) -> Result<EncodedCommand, Memory>
         requires { IsInGrammar (O.meaning self.old.bounds) op.now }
         ensures code { IfOk result (λ code. code ≡ record_code (O.meaning self.old.bounds) (Command self.old.next op.now)) }
         ensures room { IfOk result (λ code. length code ≤ self.new.log.room) }
         ensures kept { self.new ≡ record self.old { log = record self.old.log { room = self.new.log.room } } }
-        ensures only { IfErr result (λ e. e ≡ LogErr.Memory) }
     {
         let mut bytes = mem::replace(&mut self.code, Vec::new(self.alloc));
         bytes.clear();
-        append_command(self.next, op, &mut bytes)?;
+        push_command(self.next, op, &mut bytes)?;
         self.log.make_room(bytes.len() as u64)?;
         Ok(EncodedCommand { bytes })
     }

@@ -1,18 +1,17 @@
 // All records that wait become stable, or none.
-ghost use Rattle.std.specs.Prelude.{◌≡◌, [], ◌++◌, List, OnOk, OnErr, IfErr};
+ghost use Rattle.std.specs.Prelude.{◌≡◌, [], ◌++◌, List, OnOk, OnErr, IsErr};
 ghost use Rattle.disk_model.specs.Disk.{Rises, Runs, LeavesOnly, In, Any, Same, IsSettled};
 ghost use Rattle.formats.specs.declared.record.Record.{Record};
 ghost use Rattle.log_frames.specs.LogView.{used_of};
 ghost use Rattle.log_records.specs.RecordLog.{Keeps, IsForcedPartly};
 
 use crate::RecordLog;
-use disk_model::Machine;
-use log_frames::LogErr;
+use disk_model::{Failed, Machine};
 use oper_core::Oper;
 
 impl<O: Oper> RecordLog<O> {
     /// Makes the records that wait stable. Where none waits, no call is made. At `Err`, load the log again.
-    pub fn force<M: Machine>(&mut self, m: &mut M) -> Result<(), LogErr>
+    pub fn force<M: Machine>(&mut self, m: &mut M) -> Result<(), Failed>
         ensures runs { Runs (In self.old.log.active Any) Same (M.disk m.old) (M.disk m.new) }
 
         // A crash at any moment of the call leaves the stable records, or all.
@@ -29,7 +28,7 @@ impl<O: Oper> RecordLog<O> {
         }) }
         ensures kept { OnErr result (self.new ≡ self.old) }
         ensures idle { self.old.log.pending ≡ [] → m.new ≡ m.old }
-        ensures cause { IfErr result (λ e. (e ≡ LogErr.DiskFault) × Rises (M.disk m.old).disk_faults (M.disk m.new).disk_faults) }
+        ensures cause { IsErr result → Rises (M.disk m.old).disk_faults (M.disk m.new).disk_faults }
     {
         self.log.force(m)?;
         self.forced = self.accepted;

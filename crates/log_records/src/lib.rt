@@ -5,7 +5,7 @@
 //! rewrite puts the numbered records from a base on, and a check, in the place of the log, or leaves the old one. A
 //! command's code may be made before it is added, which then takes no memory. Below it stands the codec: a record is
 //! decoded exactly where the bytes begin with the code of one in the grammar, and no code is another's beginning. The
-//! crate depends on log_frames, whose blocks hold the records, on formats, whose grammar this is, on checkpoint for the
+//! crate depends on log_frames, whose blocks hold the records, on formats, whose grammar this is, on redo_tables for the
 //! tables, and on oper_core for the operations.
 #![tactic(auto)]
 
@@ -18,6 +18,7 @@ mod numbered_reader;
 mod placing;
 mod record_log;
 mod record_reader;
+mod rewrite_err;
 mod rewriting;
 mod stable;
 
@@ -25,3 +26,4 @@ pub use codec::{decode, encode, one_record};
 pub use encoding::EncodedCommand;
 pub use numbered_reader::NumberedReader;
 pub use record_log::RecordLog;
+pub use rewrite_err::RewriteErr;

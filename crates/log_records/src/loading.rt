@@ -1,25 +1,25 @@
 // Loads a log of records.
-ghost use Rattle.std.specs.Prelude.{◌≡◌, ◌≤◌, ◌+◌, ◌^◌, ◌∷◌, [], List, IfOk, IfErr, length};
+ghost use Rattle.std.specs.Prelude.{◌≡◌, ◌≤◌, ◌+◌, ◌^◌, ◌∷◌, [], List, IfOk, IfErr};
 ghost use Rattle.std.specs.Option.{option_or};
 ghost use Rattle.disk_model.specs.Disk.{Files, Rises, Stays};
 ghost use Rattle.disk_model.specs.declared.machine.FileNo.{FileNo};
 ghost use Rattle.formats.specs.Log.{Header};
-ghost use Rattle.formats.specs.Records.{commands_of, next_after, last_check, records_of, HoldsRecordLog};
+ghost use Rattle.formats.specs.Reading.{FailsBy, TellsDamage};
+ghost use Rattle.formats.specs.Records.{next_after, last_check, records_of, HoldsRecordLog};
 ghost use Rattle.formats.specs.declared.record.Record.{Record};
-ghost use Rattle.log_frames.specs.Reading.{FailsBy, TellsDamage};
 ghost use Rattle.log_records.specs.Loading.{IsLoadFault, IsTailFault, IsCountOf};
-ghost use Rattle.log_records.specs.RecordLog.{IsHeldIn, IsLoaded, counts};
+ghost use Rattle.log_records.specs.RecordLog.{IsHeldIn, IsLoaded};
 ghost use Rattle.log_records.specs.RecordReader.{AreAll};
 
 use crate::RecordLog;
 use crate::counted::Counted;
 use crate::placing::commands_in;
 use crate::record_reader::RecordReader;
-use checkpoint::Table;
 use disk_model::Machine;
-use formats::Record;
-use log_frames::{LogErr, LogFile};
+use formats::{ReadErr, Record};
+use log_frames::LogFile;
 use oper_core::{Bounds, Oper};
+use redo_tables::Table;
 use std::alloc::Global;
 use std::marker::PhantomData;
 
@@ -29,8 +29,7 @@ fn last_table<O: Oper>(record: Record<O>, before: Option<Table>) -> Option<Table
 {
     match record {
         Record::Check(table) => Some(table),
-        Record::Command(_, _) => before,
-        Record::Identity(_, _, _) => before,
+        Record::Command(_, _) | Record::Identity(_, _, _) => before,
     }
 }
 
@@ -40,7 +39,7 @@ fn count_records<O: Oper, M: Machine>(
     m: &mut M,
     b: Bounds,
     log: &LogFile,
-) -> Result<Counted, LogErr>
+) -> Result<Counted, ReadErr>
     requires { log.now.header.base ≤ 2 ^ 62 }
     ensures kept { Stays (M.disk m.old) (M.disk m.new) }
     ensures counted { IfOk result (λ it. (records : List (Record O)) × AreAll (O.meaning b) (M.disk m.new) log.now records × IsCountOf log.now.header.base records it) }
@@ -68,7 +67,7 @@ impl<O: Oper> RecordLog<O> {
         alloc: Global,
         m: &mut M,
         b: Bounds,
-    ) -> Result<(RecordLog<O>, Option<Table>), LogErr>
+    ) -> Result<(RecordLog<O>, Option<Table>), ReadErr>
         ensures kept { Stays (M.disk m.old) (M.disk m.new) }
         ensures read { (M.disk m.old).tells_files → IfOk result (λ found. (it : IsLoaded (O.meaning b) b (M.disk m.old) (M.disk m.new) found.0)
             × (found.1 ≡ last_check (records_of it.groups))) }

@@ -2,10 +2,10 @@
 ghost use Rattle.std.specs.Prelude.{◌≡◌, ◌≢◌, ◌<◌, ◌≤◌, ◌^◌, [], List, IfErr, IfOk, IfSome};
 ghost use Rattle.disk_model.specs.Disk.{Rises, Stays};
 ghost use Rattle.disk_model.specs.declared.machine.FileNo.TheVariants.{Objects};
+ghost use Rattle.formats.specs.Reading.{FailsBy};
 ghost use Rattle.formats.specs.declared.record.Record.{Record};
 ghost use Rattle.log_frames.specs.LogView.{LogView};
 ghost use Rattle.log_frames.specs.Payloads.{ahead};
-ghost use Rattle.log_frames.specs.Reading.{FailsBy};
 ghost use Rattle.log_records.specs.Loading.{IsTailFault};
 ghost use Rattle.log_records.specs.NumberedReader.{IsReadingNumbered, HasGiven, HasSearched, left_of};
 ghost use Rattle.log_records.specs.RecordLog.{RecordLogView};
@@ -15,8 +15,7 @@ ghost use Rattle.log_records.specs.Rewriting.{is_between};
 use crate::RecordLog;
 use crate::record_reader::RecordReader;
 use disk_model::Machine;
-use formats::Record;
-use log_frames::LogErr;
+use formats::{ReadErr, Record};
 use oper_core::Oper;
 use std::marker::Model;
 
@@ -41,10 +40,9 @@ impl<O: Oper> Model for NumberedReader<O> {
 fn is_between<O: Oper>(it: &Record<O>, from: u64, end: u64) -> bool
     ensures { result ≡ is_between from end it.now }
 {
-    match it {
-        Record::Command(number, _) => from <= *number && *number < end,
-        Record::Identity(number, _, _) => from <= *number && *number < end,
-        Record::Check(_) => false,
+    match it.number() {
+        Some(number) => from <= number && number < end,
+        None => false,
     }
 }
 
@@ -54,7 +52,7 @@ fn next_between<O: Oper, M: Machine>(
     records: &mut RecordReader<O>,
     from: u64,
     end: u64,
-) -> Result<Option<Record<O>>, LogErr>
+) -> Result<Option<Record<O>>, ReadErr>
     ensures kept { Stays (M.disk m.old) (M.disk m.new) }
     ensures bounds { records.new.bounds ≡ records.old.bounds }
     ensures less { IfOk result (λ found. IfSome found (λ _. ahead records.new.payloads < ahead records.old.payloads)) }
@@ -72,7 +70,7 @@ fn next_between<O: Oper, M: Machine>(
 
 impl<O: Oper> NumberedReader<O> {
     /// The next command or identity write; none after the last one. Between two calls the objects file may change.
-    pub fn next<M: Machine>(&mut self, m: &mut M) -> Result<Option<Record<O>>, LogErr>
+    pub fn next<M: Machine>(&mut self, m: &mut M) -> Result<Option<Record<O>>, ReadErr>
         ensures kept { Stays (M.disk m.old) (M.disk m.new) }
         ensures same { self.new ≡ record self.old { records = self.new.records } }
         ensures bounds { self.new.records.bounds ≡ self.old.records.bounds }
@@ -95,7 +93,7 @@ impl<O: Oper> RecordLog<O> {
         &self,
         m: &mut M,
         from: u64,
-    ) -> Result<NumberedReader<O>, LogErr>
+    ) -> Result<NumberedReader<O>, ReadErr>
         ensures kept { Stays (M.disk m.old) (M.disk m.new) }
         ensures from { IfOk result (λ it. it.from ≡ from) }
         ensures bounds { IfOk result (λ it. it.records.bounds ≡ self.now.bounds) }

@@ -35,8 +35,9 @@ pub fn is_placed<O: Oper>(record: &Record<O>, b: Bounds, base: u64, next: u64) -
     ensures { IsTrue result ↔ IsPlaced (O.meaning b) base next «record».now }
 {
     match record {
-        Record::Command(number, _) => *number == next && *number < NUMBERS_END,
-        Record::Identity(number, _, _) => *number == next && *number < NUMBERS_END,
+        Record::Command(number, _) | Record::Identity(number, _, _) => {
+            *number == next && *number < NUMBERS_END
+        }
         Record::Check(table) => {
             table.next == next && are_starts(table.starts.as_slice(), b.objects, base, next)
         }
@@ -47,10 +48,9 @@ pub fn is_placed<O: Oper>(record: &Record<O>, b: Bounds, base: u64, next: u64) -
 pub fn next_behind<O: Oper>(record: &Record<O>, next: u64) -> u64
     ensures { (m : Meaning O) (base : ℕ) → IsPlaced m base next «record».now → result ≡ next_behind next «record».now }
 {
-    match record {
-        Record::Command(_, _) => next.saturating_add(1),
-        Record::Identity(_, _, _) => next.saturating_add(1),
-        Record::Check(_) => next,
+    match record.number() {
+        Some(_) => next.saturating_add(1),
+        None => next,
     }
 }
 
@@ -73,7 +73,6 @@ pub fn commands_in<O: Oper>(record: &Record<O>) -> u64
 {
     match record {
         Record::Command(_, _) => 1,
-        Record::Identity(_, _, _) => 0,
-        Record::Check(_) => 0,
+        Record::Identity(_, _, _) | Record::Check(_) => 0,
     }
 }

@@ -1,18 +1,17 @@
 // The log in force, and its counts.
-ghost use Rattle.std.specs.Prelude.{◌≡◌, ◌≤◌, ◌<◌, ◌+◌, ◌^◌, ◌++◌, [], length, OnOk, OnErr, IfErr};
+ghost use Rattle.std.specs.Prelude.{◌≡◌, ◌≤◌, ◌<◌, ◌+◌, ◌^◌, ◌++◌, length, OnOk, OnErr, IsErr};
 ghost use Rattle.disk_model.specs.Disk.{Rises, Runs, Same, IsSettled};
 ghost use Rattle.formats.specs.Records.{record_code, next_behind, IsRecord, IsPlaced};
 ghost use Rattle.log_frames.specs.LogView.{used_of, growth_of};
 ghost use Rattle.log_frames.specs.Creating.{LogsAlone, IsNewLog};
-ghost use Rattle.log_records.specs.Codec.{IsEncodable};
 ghost use Rattle.log_records.specs.RecordLog.{counts};
 
 use crate::codec::encode;
 use crate::placing::{commands_in, next_behind};
-use disk_model::Machine;
+use disk_model::{Failed, Machine};
 use formats::Record;
-use log_frames::{LogErr, LogFile};
-use oper_core::{Bounds, Oper};
+use log_frames::LogFile;
+use oper_core::{Bounds, Memory, Oper};
 use std::alloc::Global;
 use std::marker::{Model, PhantomData};
 
@@ -101,18 +100,18 @@ impl<O: Oper> RecordLog<O> {
     }
 
     /// Makes the log of a new store. A crash at any moment of it leaves the objects as they were.
-    pub fn create<M: Machine>(m: &mut M) -> Result<(), LogErr>
+    pub fn create<M: Machine>(m: &mut M) -> Result<(), Failed>
         ensures runs { Runs LogsAlone Same (M.disk m.old) (M.disk m.new) }
         ensures made { (M.disk m.old).tells_files → OnOk result (IsNewLog (M.disk m.new).reads) }
         ensures settled { IsSettled (M.disk m.old) → OnOk result (IsSettled (M.disk m.new)) }
-        ensures cause { IfErr result (λ e. (e ≡ LogErr.DiskFault) × Rises (M.disk m.old).disk_faults (M.disk m.new).disk_faults) }
+        ensures cause { IsErr result → Rises (M.disk m.old).disk_faults (M.disk m.new).disk_faults }
     {
         LogFile::create(m)
     }
 
     /// Adds a record after those that wait. A command is counted; a check takes no number. Without memory nothing changes
     /// but the room.
-    pub fn append(&mut self, new: Record<O>) -> Result<(), LogErr>
+    pub fn append(&mut self, new: Record<O>) -> Result<(), Memory>
         requires placed { IsPlaced (O.meaning self.old.bounds) self.old.log.header.base self.old.next new }
         requires grammar { IsRecord (O.meaning self.old.bounds) new }
         requires short { length self.old.log.pending + length (record_code (O.meaning self.old.bounds) new) ≤ 2 ^ 30 }
@@ -123,7 +122,6 @@ impl<O: Oper> RecordLog<O> {
           accepted = self.old.accepted + counts new;
         }) }
         ensures err { OnErr result (self.new ≡ record self.old { log = record self.old.log { room = self.new.log.room } }) }
-        ensures only { IfErr result (λ e. e ≡ LogErr.Memory) }
     {
         let next = next_behind(&new, self.next);
         let commands = commands_in(&new);

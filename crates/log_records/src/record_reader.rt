@@ -1,11 +1,11 @@
 // Reads the records of a log, one after the other.
 ghost use Rattle.std.specs.Prelude.{◌≡◌, ◌<◌, ◌≤◌, ◌^◌, [], List, ℕ, IsTrue, IfErr, IfNone, IfOk, IfSome, OnOk, length};
 ghost use Rattle.disk_model.specs.Disk.{Files, Rises, Stays};
+ghost use Rattle.formats.specs.Reading.{FailsBy};
 ghost use Rattle.formats.specs.Records.{record_code, IsPlaced};
 ghost use Rattle.formats.specs.declared.record.Record.{Record};
 ghost use Rattle.log_frames.specs.LogView.{LogView};
 ghost use Rattle.log_frames.specs.Payloads.{remaining, ahead, IsInLog};
-ghost use Rattle.log_frames.specs.Reading.{FailsBy};
 ghost use Rattle.log_records.specs.Codec.{StartsWithRecord};
 ghost use Rattle.log_records.specs.Loading.{IsTailFault};
 ghost use Rattle.log_records.specs.RecordReader.{IsReading, HasFound, HasGoneOn, StartsWithNone};
@@ -13,8 +13,8 @@ ghost use Rattle.log_records.specs.RecordReader.{IsReading, HasFound, HasGoneOn,
 use crate::codec::decode;
 use crate::placing::{is_placed, next_behind};
 use disk_model::Machine;
-use formats::Record;
-use log_frames::{LogErr, LogFile, PayloadReader};
+use formats::{ReadErr, Record};
+use log_frames::{LogFile, PayloadReader};
 use oper_core::{Bounds, Memory, Oper};
 use std::alloc::Global;
 use std::marker::{Model, PhantomData};
@@ -71,7 +71,7 @@ fn find_record<O: Oper, M: Machine>(
     base: u64,
     payloads: &mut PayloadReader,
     next: u64,
-) -> Result<Option<(Record<O>, usize)>, LogErr>
+) -> Result<Option<(Record<O>, usize)>, ReadErr>
     ensures kept { Stays (M.disk m.old) (M.disk m.new) }
     ensures file { payloads.new.file ≡ payloads.old.file }
     ensures all { OnOk result ((remaining payloads.new ≡ remaining payloads.old) × (ahead payloads.new ≡ ahead payloads.old)) }
@@ -99,7 +99,7 @@ impl<O: Oper> RecordReader<O> {
         m: &mut M,
         b: Bounds,
         log: &LogFile,
-    ) -> Result<RecordReader<O>, LogErr>
+    ) -> Result<RecordReader<O>, ReadErr>
         ensures kept { Stays (M.disk m.old) (M.disk m.new) }
         ensures bounds { IfOk result (λ it. it.bounds ≡ b) }
         ensures reading { IfOk result (λ it. IsReading (O.meaning b) (M.disk m.new) log.now it []) }
@@ -123,7 +123,7 @@ impl<O: Oper> RecordReader<O> {
     }
 
     // Goes on to the next payload where nothing is left of the one in hand; false where none comes.
-    fn go_on<M: Machine>(&mut self, m: &mut M) -> Result<bool, LogErr>
+    fn go_on<M: Machine>(&mut self, m: &mut M) -> Result<bool, ReadErr>
         ensures kept { Stays (M.disk m.old) (M.disk m.new) }
         ensures same { self.new ≡ record self.old { payloads = self.new.payloads } }
         ensures some { IfOk result (λ more. IsTrue more → (0 < remaining self.new.payloads) × (ahead self.new.payloads ≤ ahead self.old.payloads)) }
@@ -140,7 +140,7 @@ impl<O: Oper> RecordReader<O> {
     }
 
     /// The next record of the log; none after the last one.
-    pub fn next<M: Machine>(&mut self, m: &mut M) -> Result<Option<Record<O>>, LogErr>
+    pub fn next<M: Machine>(&mut self, m: &mut M) -> Result<Option<Record<O>>, ReadErr>
         ensures kept { Stays (M.disk m.old) (M.disk m.new) }
         ensures bounds { self.new.bounds ≡ self.old.bounds }
         ensures less { IfOk result (λ found. IfSome found (λ _. ahead self.new.payloads < ahead self.old.payloads)) }
@@ -161,7 +161,7 @@ impl<O: Oper> RecordReader<O> {
             self.next,
         )?;
         let Some((record, length)) = found else {
-            return Err(LogErr::Damaged {
+            return Err(ReadErr::Damaged {
                 file: self.payloads.file(),
                 place: self.payloads.place(),
             });

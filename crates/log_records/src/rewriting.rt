@@ -1,32 +1,29 @@
 // Puts a log of the numbered records from a base on, and of a check, in the place of the log in force.
-ghost use Rattle.std.specs.Prelude.{◌≡◌, ◌≢◌, ◌<◌, ◌≤◌, ◌^◌, [], All, List, ℕ, IfErr, IfOk, OnErr, OnOk, length};
+ghost use Rattle.std.specs.Prelude.{◌≡◌, ◌<◌, ◌≤◌, ◌^◌, [], All, List, ℕ, IfErr, IfOk, OnOk, length};
 ghost use Rattle.disk_model.specs.Disk.{Rises, Runs, Stays, LeavesOnly, In, Any, IsSettled, Same};
 ghost use Rattle.oper_core.specs.declared.bounds.Bounds.{Bounds};
 ghost use Rattle.formats.specs.InForce.{other_of};
 ghost use Rattle.formats.specs.Log.{IsPayload, end_of};
+ghost use Rattle.formats.specs.Reading.{FailsBy, TellsDamage};
 ghost use Rattle.formats.specs.Records.{record_code, commands_of};
 ghost use Rattle.formats.specs.declared.record.Record.{Record};
-ghost use Rattle.log_frames.specs.Reading.{FailsBy, TellsDamage};
-ghost use Rattle.log_frames.specs.Rewriting.{bytes_of, rewritten, file_length};
+ghost use Rattle.log_frames.specs.Rewriting.{bytes_of, rewritten};
 ghost use Rattle.log_records.specs.Codec.{IsEncodable, AreShort};
 ghost use Rattle.log_records.specs.Loading.{IsTailFault};
 ghost use Rattle.log_records.specs.Packing.{IsAdded, ArePacked};
 ghost use Rattle.log_records.specs.RecordLog.{Keeps};
-ghost use Rattle.log_records.specs.Rewriting.{is_numbered_from, numbered_from, left_out, rewritten_records, new_payloads, commands_before, rewritten_log, IsRewritable, IsRewrittenPartly, IsNewLength, IsWithinLength, RewriteFails};
+ghost use Rattle.log_records.specs.Rewriting.{is_numbered_from, numbered_from, left_out, rewritten_records, new_payloads, commands_before, rewritten_log, FindsDamage, IsRewritable, IsRewrittenPartly, IsNewLength, IsRewriteEnd, RewriteFails};
 
-use crate::RecordLog;
 use crate::codec::encode;
 use crate::placing::count_commands;
-use checkpoint::Table;
+use crate::{RecordLog, RewriteErr};
 use disk_model::Machine;
-use formats::{NUMBERS_END, Record};
-use log_frames::{LogErr, Payload};
+use formats::{MAX_LOG, MAX_PAYLOAD, NUMBERS_END, ReadErr, Record};
+use log_frames::{Payload, file_length};
 use oper_core::{ByteList, Memory, Oper};
+use redo_tables::Table;
 use std::alloc::Global;
 use std::mem;
-
-// A block has so many bytes of records at most.
-const MAX_BLOCK: usize = 1 << 30;
 
 // No memory holds so many blocks.
 const MAX_BLOCKS: usize = 1 << 32;
@@ -35,10 +32,9 @@ const MAX_BLOCKS: usize = 1 << 32;
 fn is_numbered_from<O: Oper>(it: &Record<O>, from: u64) -> bool
     ensures { result ≡ is_numbered_from from it.now }
 {
-    match it {
-        Record::Command(number, _) => from <= *number,
-        Record::Identity(number, _, _) => from <= *number,
-        Record::Check(_) => false,
+    match it.number() {
+        Some(number) => from <= number,
+        None => false,
     }
 }
 
@@ -83,7 +79,7 @@ fn add_record<O: Oper>(
 {
     let mut code = Vec::new(alloc);
     encode(it, &mut code)?;
-    if hand.len() + code.len() <= MAX_BLOCK {
+    if hand.len() + code.len() <= MAX_PAYLOAD as usize {
         hand.extend_from_slice(&code)?;
         return Ok(());
     }
@@ -117,7 +113,7 @@ impl<O: Oper> RecordLog<O> {
         m: &mut M,
         base: u64,
         table: Table,
-    ) -> Result<(Vec<Payload>, u64), LogErr>
+    ) -> Result<(Vec<Payload>, u64), ReadErr>
         requires { IsRewritable (O.meaning self.now.bounds) self.now base table }
         ensures kept { Stays (M.disk m.old) (M.disk m.new) }
         ensures whole { IfOk result (λ made. All IsPayload (bytes_of made.0.items)) }
@@ -140,7 +136,12 @@ impl<O: Oper> RecordLog<O> {
     /// Puts a new log in the place of this one: the commands and identity writes from a base on, and after them a check.
     /// They stand in blocks of whole records, each as full as these allow. The new log is in force once it is whole, so
     /// at any moment it is that one or the old one. At `DiskFault` of a write, load the log again.
-    pub fn rewrite<M: Machine>(&mut self, m: &mut M, base: u64, table: Table) -> Result<(), LogErr>
+    pub fn rewrite<M: Machine>(
+        &mut self,
+        m: &mut M,
+        base: u64,
+        table: Table,
+    ) -> Result<(), RewriteErr>
         requires { IsRewritable (O.meaning self.old.bounds) self.old base table }
         ensures runs { Runs (In (other_of self.old.log.active) Any) Same (M.disk m.old) (M.disk m.new) }
 
@@ -154,27 +155,30 @@ impl<O: Oper> RecordLog<O> {
 
         ensures settled { IsSettled (M.disk m.old) → OnOk result (IsSettled (M.disk m.new)) }
         ensures rewritten { OnOk result ((payloads : List (List ℕ)) × (commands : ℕ) × (self.new ≡ record self.old { log = rewritten self.old.log base commands payloads })) }
-        ensures kept { OnErr result (self.new ≡ self.old) }
+        ensures ends { IsRewriteEnd (O.meaning self.old.bounds) (M.disk m.old) (M.disk m.new) self.old self.new base table result }
 
-        // Where no fault of the disk is reported, no file was changed.
-        ensures refused { IfErr result (λ e. e ≢ LogErr.DiskFault → Stays (M.disk m.old) (M.disk m.new)) }
-
-        // At the last epoch no call is made. The new file has at most 2^48 bytes: where it would have more, none is changed.
+        // At the last epoch no call is made.
         ensures idle { self.old.log.header.epoch ≡ 2 ^ 62 → m.new ≡ m.old }
-        ensures long { (M.disk m.old).tells_files → (stable : List (Record O)) → Keeps (O.meaning self.old.bounds) (M.disk m.old) self.old stable []
-            → 2 ^ 48 < file_length (new_payloads (O.meaning self.old.bounds) base table stable) → Stays (M.disk m.old) (M.disk m.new) }
-        ensures made { OnOk result ((self.old.log.header.epoch < 2 ^ 62) × IsWithinLength (O.meaning self.old.bounds) (M.disk m.old) self.old base table) }
         ensures undamaged { (M.disk m.old).tells_files → (stable : List (Record O)) → Keeps (O.meaning self.old.bounds) (M.disk m.old) self.old stable []
-            → IfErr result (λ e. TellsDamage e → ⊥) }
+            → IfErr result (λ e. FindsDamage e → ⊥) }
         ensures cause { IfErr result (RewriteFails (Rises (M.disk m.old).disk_faults (M.disk m.new).disk_faults)
             (IsTailFault (O.meaning self.old.bounds) (M.disk m.new) self.old.log) (IsNewLength (O.meaning self.old.bounds) (M.disk m.old) self.old base table) self.old.log) }
     {
         let epoch = self.log.epoch();
         if epoch >= NUMBERS_END {
-            return Err(LogErr::Exhausted { epoch });
+            return Err(RewriteErr::Exhausted { epoch });
         }
         let (payloads, commands) = self.new_blocks(m, base, table)?;
-        self.log.rewrite(m, base, commands, payloads.as_slice())?;
+        let blocks = payloads.as_slice();
+        let need = file_length(blocks);
+        if need > MAX_LOG {
+            return Err(RewriteErr::LogFull {
+                used: self.log.used(),
+                need,
+                limit: MAX_LOG,
+            });
+        }
+        self.log.rewrite(m, base, commands, blocks)?;
         Ok(())
     }
 }

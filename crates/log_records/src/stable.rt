@@ -1,9 +1,9 @@
 // The stable records once more.
 ghost use Rattle.std.specs.Prelude.{◌≡◌, All, List, IfOk, IfErr};
 ghost use Rattle.disk_model.specs.Disk.{Rises, Stays};
+ghost use Rattle.formats.specs.Reading.{FailsBy, TellsDamage};
 ghost use Rattle.formats.specs.Records.{IsRecord, AreRecords};
 ghost use Rattle.formats.specs.declared.record.Record.{Record};
-ghost use Rattle.log_frames.specs.Reading.{FailsBy, TellsDamage};
 ghost use Rattle.log_records.specs.Codec.{AreShort};
 ghost use Rattle.log_records.specs.Loading.{IsTailFault};
 ghost use Rattle.log_records.specs.RecordLog.{Keeps};
@@ -12,8 +12,8 @@ ghost use Rattle.log_records.specs.RecordReader.{AreAll};
 use crate::RecordLog;
 use crate::record_reader::RecordReader;
 use disk_model::Machine;
-use formats::Record;
-use log_frames::{LogErr, LogFile};
+use formats::{ReadErr, Record};
+use log_frames::LogFile;
 use oper_core::{Bounds, Oper};
 use std::alloc::Global;
 
@@ -23,7 +23,7 @@ fn stable_records<O: Oper, M: Machine>(
     m: &mut M,
     b: Bounds,
     log: &LogFile,
-) -> Result<Vec<Record<O>>, LogErr>
+) -> Result<Vec<Record<O>>, ReadErr>
     ensures kept { Stays (M.disk m.old) (M.disk m.new) }
     ensures all { IfOk result (λ found. AreAll (O.meaning b) (M.disk m.new) log.now found.items) }
     ensures cause { IfErr result (FailsBy (Rises (M.disk m.old).disk_faults (M.disk m.new).disk_faults)
@@ -39,7 +39,7 @@ fn stable_records<O: Oper, M: Machine>(
 
 impl<O: Oper> RecordLog<O> {
     /// The stable records, in the log's order.
-    pub fn stable<M: Machine>(&self, m: &mut M) -> Result<Vec<Record<O>>, LogErr>
+    pub fn stable<M: Machine>(&self, m: &mut M) -> Result<Vec<Record<O>>, ReadErr>
         ensures kept { Stays (M.disk m.old) (M.disk m.new) }
         ensures records { (M.disk m.old).tells_files → (stable pending : List (Record O)) → Keeps (O.meaning self.now.bounds) (M.disk m.old) self.now stable pending
             → IfOk result (λ found. found.items ≡ stable) }

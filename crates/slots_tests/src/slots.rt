@@ -1,7 +1,7 @@
 // The objects file: that calls succeed, and worked bytes.
 use disk_model::{Crash, FileNo, Fuse, Machine, MemMachine};
 use oper_core::Bounds;
-use stable_objects::{SlotErr, Slots};
+use stable_objects::{OpenErr, Slots};
 use std::alloc::{AllocError, Global};
 use std::test::Fail;
 
@@ -118,8 +118,8 @@ const FAULTS: [(u64, &[u8], Option<u64>); 15] = [
 // for another cause.
 fn fault_of(alloc: Global, machine: &mut MemMachine) -> Option<u64> {
     match Slots::load(alloc, machine) {
-        Err(SlotErr::NotAStore) => None,
-        Err(SlotErr::Damaged { place, .. }) => Some(place),
+        Err(OpenErr::NotAStore) => None,
+        Err(OpenErr::Damaged { place, .. }) => Some(place),
         _ => Some(9999),
     }
 }

@@ -2,7 +2,7 @@
 use Rattle.std.proofs.Common.{◌≡◌, ◌<◌, ◌≤◌, ◌+◌, ◌-◌, ℕ, zero, suc, List, [], ◌∷◌, ◌++◌, length, get_or, take, drop, replicate, max, refl, sym, ◌∙◌, ap, arith, append_assoc, length-append, length-take, length-drop}
 use Rattle.std.proofs.lemmas.List.{length-replicate, get_or-drop, get_or-take, get_or_append_left, get_or-append_right, take_at, drop_at}
 use Rattle.byteorder.specs.Endian.{little_from}
-use Rattle.disk_model.specs.Disk.{Holds, Torn, written_over, read_of}
+use Rattle.disk_model.specs.Disk.{HoldsAt, Torn, written_over, read_of}
 use Rattle.formats.specs.Bytes.{byte_at}
 
 -- zeros after the end are as no bytes
@@ -71,7 +71,7 @@ byte_written at b old =
     ap (λ (k : ℕ). get_or new k 0) (sym spot) ∙ sym (get_or-drop at new 0 0) ∙ sym (get_or-take 1 (drop at new) 0 0 (omega arith)) ∙ ap (λ (l : List ℕ). get_or l 0 0) (written_read at (b ∷ []) old)
 
 -- the first byte that was written, and what follows it
-pub held_first : (b : ℕ) (old new : List ℕ) → Holds 0 (b ∷ []) old new → new ≡ b ∷ drop 1 old
+pub held_first : (b : ℕ) (old new : List ℕ) → HoldsAt 0 (b ∷ []) old new → new ≡ b ∷ drop 1 old
 held_first b old new holds =
     let none : 0 - length old ≡ 0 = omega arith in
     holds ∙ ap (λ (k : ℕ). ((take 0 old ++ replicate {A = ℕ} k 0) ++ b ∷ []) ++ drop 1 old) none

@@ -12,16 +12,19 @@ use Rattle.oper_core.specs.LittleEndian.{little_bytes-little_number}
 use Rattle.disk_model.specs.Disk.{Files, Disk, Stays, Rises}
 use Rattle.disk_model.specs.Padded.{padded, get_or-padded, padded-within}
 use Rattle.disk_model.specs.declared.machine.FileNo.TheVariants.{Objects}
-use Rattle.formats.specs.Bytes.{number_at, IsClosedAt}
+use Rattle.formats.specs.Bytes.{number_at, IsOpenAt, IsClosedAt}
 use Rattle.formats.specs.Objects.{IsInRange, IsObjectsFile, objects_fields, last_slot}
 use Rattle.formats.specs.Image.{params_in, IsWithin}
 use Rattle.formats.specs.FirstFault.{stops, goes_on, check_moved, NoMore, ObjectsChecks}
+use Rattle.formats.specs.Reading.{FailsBy}
 use Rattle.formats.specs.declared.params.Params.{Params}
+use Rattle.formats.specs.declared.read_err.ReadErr.{ReadErr}
+use Rattle.formats.specs.declared.read_err.ReadErr.TheVariants as of_read
 use Rattle.stable_objects.specs.SlotGates.{slot_gate}
-use Rattle.stable_objects.specs.Reading.{FailsBy, FailsAt, HasHeader, IsHeaderFault, IsDamagedAt, IsNoDamage, fails_on}
+use Rattle.stable_objects.specs.Reading.{FailsAt, HasHeader, IsDamagedAt, IsNoDamage, OpensNot}
 use Rattle.stable_objects.specs.Laws.{length-objects_fields, params_of_header, gate_is_open, no_fault, first_is_fault}
-use Rattle.stable_objects.specs.declared.slot_err.SlotErr.{SlotErr}
-use Rattle.stable_objects.specs.declared.slot_err.SlotErr.TheVariants.{NotAStore, DiskFault, Damaged, Memory}
+use Rattle.stable_objects.specs.declared.open_err.OpenErr.{OpenErr}
+use Rattle.stable_objects.specs.declared.open_err.OpenErr.TheVariants.{NotAStore, DiskFault, Damaged, Memory}
 use Rattle.stable_objects.proofs.Bytes.{number_same}
 
 -- the numbers in what is read are those of the file
@@ -78,13 +81,11 @@ checks_read file behind place fault =
 pub behind_header : (file : List ℕ) (behind : ℕ → Type 0) (place : ℕ) → take 8 (drop 1 file) ≡ codes "RDOOBJ01" → IsInRange (params_in file) → behind place → ObjectsChecks file behind place
 behind_header file behind place name is later = goes_on name (goes_on (is.some, is.objects) (goes_on (is.low, is.cap) (goes_on (is.least, is.limit) later)))
 
-pub damaged_read : (file head : List ℕ) (place : ℕ) → head ≡ padded file 0 21 → IsHeaderFault head place → IsDamagedAt file place
-damaged_read file head place is fault =
-    let here : IsHeaderFault (padded file 0 21) place = subst (λ (l : List ℕ). IsHeaderFault l place) is fault in
-    record {
-      gate = sym (get_or-padded file 0 21 0 (omega arith)) ∙ here.gate;
-      fault = checks_read file _ place here.fault;
-    }
+pub damaged_read : (file head : List ℕ) (place : ℕ) → head ≡ padded file 0 21 → IsOpenAt 0 head → ObjectsChecks head NoMore place → IsDamagedAt file place
+damaged_read file head place is is_open fault = record {
+  gate = sym (get_or-padded file 0 21 0 (omega arith)) ∙ ap (λ (l : List ℕ). get_or l 0 0) (sym is) ∙ is_open;
+  fault = checks_read file _ place (subst (λ (l : List ℕ). ObjectsChecks l NoMore place) is fault);
+}
 
 pub closed_read : (file head : List ℕ) → head ≡ padded file 0 21 → IsClosedAt 0 head → IsClosedAt 0 file
 closed_read file head is closed is_open = closed (ap (λ (l : List ℕ). get_or l 0 0) is ∙ get_or-padded file 0 21 0 (omega arith) ∙ is_open)
@@ -155,17 +156,21 @@ pub last_gate : (p : Params) → IsInRange p → slot_gate p.cap (2 * p.objects 
 last_gate p in_range = let same : 2 * p.objects - 1 ≡ 2 * (p.objects - 1) + 1 = omega (arith, in_range.some) in ap (λ (k : ℕ). slot_gate p.cap k) same
 
 -- over a whole file, only the disk or the memory fails
-pub only_the_disk : (rises : Type 0) (agrees : Files → Type 0) (files : Files) (p : Params) (e : SlotErr) → agrees files → IsObjectsFile p (files Objects)
-    → FailsBy rises ((files : Files) → agrees files → IsClosedAt 0 (files Objects)) (FailsAt (λ place. (files : Files) → agrees files → IsDamagedAt (files Objects) place)) e → IsNoDamage e
+pub only_the_disk : (rises : Type 0) (agrees : Files → Type 0) (files : Files) (p : Params) (e : OpenErr) → agrees files → IsObjectsFile p (files Objects)
+    → OpensNot ((files : Files) → agrees files → IsClosedAt 0 (files Objects)) (FailsBy rises (FailsAt (λ place. (files : Files) → agrees files → IsDamagedAt (files Objects) place))) e → IsNoDamage e
 only_the_disk rises agrees files p NotAStore agree is fails = fails files agree (gate_is_open p (files Objects) is)
 only_the_disk rises agrees files p DiskFault agree is fails = tt
 only_the_disk rises agrees files p (Damaged number place) agree is fails = no_fault p (files Objects) place is (first_is_fault (files Objects) place (fails.1 files agree).fault)
 only_the_disk rises agrees files p Memory agree is fails = tt
 
--- why a call failed after calls that changed nothing, for a caller who knows more of the fault
-pub moved : (old mid new : Disk) (no_store no_store' : Type 0) (P Q : List ℕ → ℕ → Type 0) (e : SlotErr) → Stays old mid → (no_store → no_store') → ((files : Files) → new.agrees files → (place : ℕ) → P (files Objects) place → Q (files Objects) place)
-    → FailsBy (Rises mid.disk_faults new.disk_faults) no_store (FailsAt (λ place. (files : Files) → new.agrees files → P (files Objects) place)) e
-    → FailsBy (Rises old.disk_faults new.disk_faults) no_store' (FailsAt (λ place. (files : Files) → new.agrees files → Q (files Objects) place)) e
-moved old mid new no_store no_store' P Q e stays closed more fails = fails_on _ _ no_store no_store' _ _ e (λ risen below. let rose = risen below in omega (arith, rose, stays.time.disk_faults)) closed
-    (λ file place there. (there.0, λ files agree. more files agree place (there.1 files agree)))
-    fails
+-- why a call failed, for a caller who knows more of the fault
+pub handed_on : (rises rises' : Type 0) (P Q : ℕ → Type 0) (e : ReadErr) → (rises → rises') → ((place : ℕ) → P place → Q place) → FailsBy rises (FailsAt P) e → FailsBy rises' (FailsAt Q) e
+handed_on rises rises' P Q of_read.DiskFault risen more fails = risen fails
+handed_on rises rises' P Q (of_read.Damaged file place) risen more fails = (fails.0, more place fails.1)
+handed_on rises rises' P Q of_read.Memory risen more fails = fails
+
+-- and after calls that changed nothing
+pub moved : (old mid new : Disk) (P Q : List ℕ → ℕ → Type 0) (e : ReadErr) → Stays old mid → ((files : Files) → new.agrees files → (place : ℕ) → P (files Objects) place → Q (files Objects) place)
+    → FailsBy (Rises mid.disk_faults new.disk_faults) (FailsAt (λ place. (files : Files) → new.agrees files → P (files Objects) place)) e
+    → FailsBy (Rises old.disk_faults new.disk_faults) (FailsAt (λ place. (files : Files) → new.agrees files → Q (files Objects) place)) e
+moved old mid new P Q e stays more fails = handed_on _ _ _ _ e (λ risen below. let rose = risen below in omega (arith, rose, stays.time.disk_faults)) (λ place there files agree. more files agree place (there files agree)) fails

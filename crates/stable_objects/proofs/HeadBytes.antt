@@ -12,13 +12,14 @@ use Rattle.formats.specs.Bytes.{byte_at, number_at, IsOpenAt, IsClosedAt}
 use Rattle.formats.specs.Objects.{IsInRange, slot_place, identifier_at, open_identifier, last_slot}
 use Rattle.formats.specs.Image.{params_in}
 use Rattle.formats.specs.FirstFault.{Checks, stops, goes_on, HasNumber, HasValue, AreApart, PairChecks}
+use Rattle.formats.specs.Reading.{FailsBy}
 use Rattle.formats.specs.declared.params.Params.{Params}
+use Rattle.formats.specs.declared.read_err.ReadErr.{ReadErr}
 use Rattle.stable_objects.specs.SlotsView.{AreOf}
 use Rattle.stable_objects.specs.Heads.{head_at, IsRead, IsReadAt, IsHeadFault, no_number, too_long, IsPair, IsPairFault, in_first, in_second, alike, ArePairs, HasPairFault}
-use Rattle.stable_objects.specs.Reading.{FailsBy, FailsAt, HasHeader, IsDamagedAt}
+use Rattle.stable_objects.specs.Reading.{FailsAt, HasHeader, IsDamagedAt, OpensNot, open_from_read, opens_not}
 use Rattle.stable_objects.specs.Laws.{params_of_header, header_magic}
 use Rattle.stable_objects.specs.SlotLaws.{closed_tells, open_tells}
-use Rattle.stable_objects.specs.declared.slot_err.SlotErr.{SlotErr}
 use Rattle.stable_objects.proofs.Found.{number_read, behind_header, moved}
 
 -- the head that was read is the file's
@@ -169,11 +170,12 @@ loaded p file heads size header is pairs =
     }
 
 -- why the heads could not be read, for a caller who knows the header and the size
-pub heads_failed : (old mid last new : Disk) (p : Params) (size : ℕ) (e : SlotErr) → Stays old mid → Stays mid last → Stays last new → ((files : Files) → mid.agrees files → HasHeader p (files Objects)) → ((files : Files) → last.agrees files → size ≡ length (files Objects))
-    → FailsBy (Rises last.disk_faults new.disk_faults) ⊥ (FailsAt (λ place. (files : Files) → new.agrees files → HasPairFault p size (files Objects) place)) e
-    → FailsBy (Rises old.disk_faults new.disk_faults) ((files : Files) → new.agrees files → IsClosedAt 0 (files Objects)) (FailsAt (λ place. (files : Files) → new.agrees files → IsDamagedAt (files Objects) place)) e
-heads_failed old mid last new p size e first second third header long_is fails = moved old last new ⊥ _ (λ file place. HasPairFault p size file place) IsDamagedAt e (stays_twice old mid last first second) (λ none. absurd none)
+pub heads_failed : (old mid last new : Disk) (p : Params) (size : ℕ) (e : ReadErr) → Stays old mid → Stays mid last → Stays last new → ((files : Files) → mid.agrees files → HasHeader p (files Objects)) → ((files : Files) → last.agrees files → size ≡ length (files Objects))
+    → FailsBy (Rises last.disk_faults new.disk_faults) (FailsAt (λ place. (files : Files) → new.agrees files → HasPairFault p size (files Objects) place)) e
+    → OpensNot ((files : Files) → new.agrees files → IsClosedAt 0 (files Objects)) (FailsBy (Rises old.disk_faults new.disk_faults) (FailsAt (λ place. (files : Files) → new.agrees files → IsDamagedAt (files Objects) place))) (open_from_read e)
+heads_failed old mid last new p size e first second third header long_is fails = opens_not _ (FailsBy (Rises old.disk_faults new.disk_faults) (FailsAt (λ place. (files : Files) → new.agrees files → IsDamagedAt (files Objects) place))) e
+    (moved old last new (λ file place. HasPairFault p size file place) IsDamagedAt e (stays_twice old mid last first second)
     (λ files agree place found.
     let then = agreed_before third files agree in
     slots_damage p (files Objects) size place (header files (agreed_before second files then)) (long_is files then) found)
-    fails
+    fails)

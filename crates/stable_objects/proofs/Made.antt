@@ -2,7 +2,7 @@
 use Rattle.std.proofs.Common.{◌≡◌, ◌≢◌, ◌⊎◌, ◌<◌, ◌≤◌, ◌+◌, ◌-◌, ◌*◌, inl, inr, ℕ, List, [], ◌∷◌, length, get_or, drop, min, refl, sym, ◌∙◌, ap, subst, arith, length-drop}
 use Rattle.std.proofs.lemmas.List.{get_or-take, take_min}
 use Rattle.std.proofs.lemmas.Bool.{cases_eq, cases_lt}
-use Rattle.disk_model.specs.Disk.{Files, Disk, Runs, Stays, Same, In, Torn, Holds, Any, IsSettled, IsSettledIn, LeavesOnly, written_over, read_of}
+use Rattle.disk_model.specs.Disk.{Files, Disk, Runs, Stays, Same, In, Torn, HoldsAt, Any, IsSettled, IsSettledIn, LeavesOnly, written_over, read_of}
 use Rattle.disk_model.specs.Moments.{runs_twice, runs_wider, runs_join, runs_then_stays, stays_settled, settled_again, from_reads, first_call, goes_on}
 use Rattle.disk_model.specs.declared.machine.FileNo.TheVariants.{Objects}
 use Rattle.formats.specs.Bytes.{byte_at, IsClosedAt}
@@ -57,7 +57,7 @@ stays_closed at j old was = elim (cases_eq j at) [
 ]
 
 -- one slot more is closed
-pub more_closed : (cap slot : ℕ) (old new : List ℕ) → ((k : ℕ) → k < slot → IsClosedWithin (slot_gate cap k) old) → Holds (slot_gate cap slot) (0 ∷ []) old new
+pub more_closed : (cap slot : ℕ) (old new : List ℕ) → ((k : ℕ) → k < slot → IsClosedWithin (slot_gate cap k) old) → HoldsAt (slot_gate cap slot) (0 ∷ []) old new
     → (k : ℕ) → k < slot + 1 → IsClosedWithin (slot_gate cap k) new
 more_closed cap slot old new so_far holds k less =
     subst (λ (l : List ℕ). IsClosedWithin (slot_gate cap k) l) (sym holds) (elim (cases_eq k slot) [
@@ -73,7 +73,7 @@ all_closed p file in_range closed = record {
 }
 
 -- with the header written, all but the gate stands
-pub header_written : (p : Params) (old new : List ℕ) → HasClosedSlots p old → Holds 1 (objects_fields p) old new → IsPrepared p new
+pub header_written : (p : Params) (old new : List ℕ) → HasClosedSlots p old → HoldsAt 1 (objects_fields p) old new → IsPrepared p new
 header_written p old new closed holds = subst (λ (l : List ℕ). IsPrepared p l) (sym holds) (record {
   fields = ap (λ (n : ℕ). read_of (written_over 1 (objects_fields p) old) 1 n) (sym (length-objects_fields p)) ∙ written_read 1 (objects_fields p) old;
   slots = record {
@@ -168,5 +168,5 @@ look_then_write old mid new first second = runs_join old mid new Same (In Object
     first second
 
 -- a closed gate was written
-pub closed_after : (old new : List ℕ) → Holds 0 (0 ∷ []) old new → IsClosedFile new
+pub closed_after : (old new : List ℕ) → HoldsAt 0 (0 ∷ []) old new → IsClosedFile new
 closed_after old new holds = subst IsClosedFile (sym (held_first 0 old new holds)) (record { some = omega arith; closed = λ is_open. cc })

@@ -4,7 +4,7 @@ use Rattle.std.proofs.lemmas.List.{get_or-drop, get_or-take, drop_at, drop-drop,
 use Rattle.std.proofs.lemmas.Grind.{same_number_lists}
 use Rattle.byteorder.specs.Endian.{little_bytes, little_number}
 use Rattle.oper_core.specs.LittleEndian.{length-little_bytes, little_number-little_bytes}
-use Rattle.disk_model.specs.Disk.{Torn, Holds}
+use Rattle.disk_model.specs.Disk.{Torn, HoldsAt}
 use Rattle.disk_model.specs.CallLaws.{torn_whole}
 use Rattle.formats.specs.Bytes.{byte_at, number_at}
 use Rattle.formats.specs.Objects.{identifier_at, length_at}
@@ -22,7 +22,7 @@ torn_agrees at n old new torn = record {
 }
 
 -- a write that is done
-pub held_agrees : (at : ℕ) (bytes old new : List ℕ) → Holds at bytes old new → AgreesOutside at (length bytes) old new
+pub held_agrees : (at : ℕ) (bytes old new : List ℕ) → HoldsAt at bytes old new → AgreesOutside at (length bytes) old new
 held_agrees at bytes old new holds = torn_agrees at (length bytes) old new (subst (λ (l : List ℕ). Torn at (length bytes) old l) (sym holds) (torn_whole at bytes old))
 
 -- all after the range
@@ -91,7 +91,7 @@ module _ (at n : ℕ) (old new : List ℕ) (agrees : AgreesOutside at n old new)
 
 -- the head of a slot, and then its value, written after its gate
 module _ (place id : ℕ) (value file mid new : List ℕ) (small : id < 2 ^ 64) (short : length value < 2 ^ 32)
-    (first : Holds (place + 1) (little_bytes 8 id ++ little_bytes 4 (length value)) file mid) (second : Holds (place + 13) value mid new) where
+    (first : HoldsAt (place + 1) (little_bytes 8 id ++ little_bytes 4 (length value)) file mid) (second : HoldsAt (place + 13) value mid new) where
   abbrev head : List ℕ
   head = little_bytes 8 id ++ little_bytes 4 (length value)
 

@@ -1,6 +1,6 @@
 -- What the writes that fill a slot and open it leave.
 use Rattle.std.proofs.Common.{◌≡◌, ◌<◌, ◌+◌, inl, inr, ℕ, List, [], ◌∷◌, length, sym, ◌∙◌, ap, subst, arith}
-use Rattle.disk_model.specs.Disk.{Disk, Runs, Stays, Same, In, Torn, Holds, Any, IsSettled, IsSettledIn, LeavesOnly}
+use Rattle.disk_model.specs.Disk.{Disk, Runs, Stays, Same, In, Torn, HoldsAt, Any, IsSettled, IsSettledIn, LeavesOnly}
 use Rattle.disk_model.specs.Moments.{runs_join, runs_wider, runs_then_stays, settled_again, from_reads, first_call, goes_on}
 use Rattle.disk_model.specs.Ranges.{torn_wider, run_apart}
 use Rattle.disk_model.specs.declared.machine.FileNo.TheVariants.{Objects}
@@ -80,7 +80,7 @@ module _ (old mid : Disk) (place id : ℕ) (value : List ℕ) (first : Runs (In 
       })
 
   -- once it is open
-  pub put_done : (new : Disk) → old.tells_files → IsFilled place id value (mid.reads Objects) → Runs (In Objects (Torn place 1)) Same mid new → Holds place (1 ∷ []) (mid.reads Objects) (new.reads Objects)
+  pub put_done : (new : Disk) → old.tells_files → IsFilled place id value (mid.reads Objects) → Runs (In Objects (Torn place 1)) Same mid new → HoldsAt place (1 ∷ []) (mid.reads Objects) (new.reads Objects)
       → IsPut place id value (old.reads Objects) (new.reads Objects)
   put_done new told filled second holds =
       let agrees = torn_agrees place 1 (mid.reads Objects) (new.reads Objects) (second.reads (first.time.files_told.0 told)).changed in

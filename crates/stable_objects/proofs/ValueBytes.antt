@@ -7,10 +7,11 @@ use Rattle.disk_model.specs.Padded.{padded}
 use Rattle.disk_model.specs.declared.machine.FileNo.TheVariants.{Objects}
 use Rattle.formats.specs.Bytes.{number_at}
 use Rattle.formats.specs.Objects.{slot_place, length_at, value_at, holder, cell_of}
+use Rattle.formats.specs.Reading.{FailsBy, TellsDamage}
+use Rattle.formats.specs.declared.read_err.ReadErr.{ReadErr}
+use Rattle.formats.specs.declared.read_err.ReadErr.TheVariants.{DiskFault, Damaged, Memory}
 use Rattle.stable_objects.specs.SlotsView.{SlotsView, AreOf, id_in, holder_in}
-use Rattle.stable_objects.specs.Reading.{FailsBy, FailsAt, IsLongValue, IsNoDamage}
-use Rattle.stable_objects.specs.declared.slot_err.SlotErr.{SlotErr}
-use Rattle.stable_objects.specs.declared.slot_err.SlotErr.TheVariants.{NotAStore, DiskFault, Damaged, Memory}
+use Rattle.stable_objects.specs.Reading.{FailsAt, IsLongValue}
 use Rattle.stable_objects.specs.SlotLaws.{open_value, held_is_open, held_short, holder_is}
 use Rattle.stable_objects.proofs.Found.{number_read}
 
@@ -44,10 +45,9 @@ module _ (slots : SlotsView) (file : List ℕ) (x place : ℕ) (are : AreOf slot
       is ∙ ap (λ (k : ℕ). value_at k file) (sym spot) ∙ sym (open_value (slot_place slots.params.cap x (holder slots.params.cap x file)) file (held_is_open slots file x are below some))
 
   -- and only the disk fails
-  pub held_fails : (rises : Type 0) (agrees : Files → Type 0) (files : Files) (n : ℕ) (e : SlotErr) → files Objects ≡ file → agrees files → n ≡ slots.params.cap
-      → FailsBy rises ⊥ (FailsAt (λ at. (files : Files) → agrees files → IsLongValue n place (files Objects) at)) e → IsNoDamage e
-  held_fails rises agrees files n NotAStore same agree cap fails = fails
-  held_fails rises agrees files n DiskFault same agree cap fails = tt
-  held_fails rises agrees files n (Damaged number at) same agree cap fails = held_short slots file x at are below some
+  pub held_fails : (rises : Type 0) (agrees : Files → Type 0) (files : Files) (n : ℕ) (e : ReadErr) → files Objects ≡ file → agrees files → n ≡ slots.params.cap
+      → FailsBy rises (FailsAt (λ at. (files : Files) → agrees files → IsLongValue n place (files Objects) at)) e → TellsDamage e → ⊥
+  held_fails rises agrees files n DiskFault same agree cap fails tells = tells
+  held_fails rises agrees files n (Damaged number at) same agree cap fails tells = held_short slots file x at are below some
       (subst (λ (k : ℕ). IsLongValue slots.params.cap k file at) here (subst (λ (l : List ℕ). IsLongValue slots.params.cap place l at) same (subst (λ (k : ℕ). IsLongValue k place (files Objects) at) cap (fails.1 files agree))))
-  held_fails rises agrees files n Memory same agree cap fails = tt
+  held_fails rises agrees files n Memory same agree cap fails tells = tells

@@ -7,15 +7,16 @@
 #![tactic(auto)]
 
 mod creating;
+mod damage;
 mod heads;
 mod layout;
 mod loading;
+mod open_err;
 mod opening;
 mod replacing;
-mod slot_err;
 mod slots;
 mod value;
 mod window;
 
-pub use slot_err::SlotErr;
+pub use open_err::OpenErr;
 pub use slots::Slots;

@@ -1,5 +1,5 @@
 // The objects gate: whether a store begins there, and how it is closed for a new one.
-ghost use Rattle.std.specs.Prelude.{◌≡◌, ◌↔◌, OnOk, IfOk, IsErr, IsTrue};
+ghost use Rattle.std.specs.Prelude.{◌↔◌, OnOk, IfOk, IsErr, IsTrue};
 ghost use Rattle.disk_model.specs.Disk.{Files, Rises, Runs, Stays, In, Torn, Same, IsSettled};
 ghost use Rattle.disk_model.specs.declared.machine.FileNo.TheVariants.{Objects};
 ghost use Rattle.formats.specs.Image.{BeginsStore};

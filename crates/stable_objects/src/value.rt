@@ -3,14 +3,16 @@ ghost use Rattle.std.specs.Prelude.{◌≡◌, ◌<◌, ◌≤◌, ◌^◌, [], 
 ghost use Rattle.disk_model.specs.Disk.{Files, Rises, Stays};
 ghost use Rattle.disk_model.specs.declared.machine.FileNo.TheVariants.{Objects};
 ghost use Rattle.formats.specs.Objects.{slot_place, value_at, cell_of};
+ghost use Rattle.formats.specs.Reading.{FailsBy, TellsDamage};
 ghost use Rattle.stable_objects.specs.SlotsView.{AreOf, id_in, holder_in};
-ghost use Rattle.stable_objects.specs.Reading.{FailsBy, FailsAt, IsLongValue, IsNoDamage};
+ghost use Rattle.stable_objects.specs.Reading.{FailsAt, IsLongValue};
 
+use crate::Slots;
+use crate::damage::damaged_at;
 use crate::layout::{SLOT_HEAD_BYTES, gate_place};
-use crate::slot_err::damaged_at;
-use crate::{SlotErr, Slots};
 use byteorder::{ByteOrder, LittleEndian};
 use disk_model::{FileNo, Machine, read_padded};
+use formats::ReadErr;
 
 // Reads the value in the slot at a place.
 fn read_value<M: Machine>(
@@ -18,12 +20,12 @@ fn read_value<M: Machine>(
     cap: u32,
     place: u64,
     into: &mut Vec<u8>,
-) -> Result<(), SlotErr>
+) -> Result<(), ReadErr>
     requires { place < 2 ^ 32 }
     ensures kept { Stays (M.disk machine.old) (M.disk machine.new) }
     ensures short { OnOk result (length into.new.items ≤ cap) }
     ensures value { (files : Files) → (M.disk machine.new).agrees files → OnOk result (into.new.items ≡ value_at place (files Objects)) }
-    ensures cause { IfErr result (FailsBy (Rises (M.disk machine.old).disk_faults (M.disk machine.new).disk_faults) ⊥
+    ensures cause { IfErr result (FailsBy (Rises (M.disk machine.old).disk_faults (M.disk machine.new).disk_faults)
         (FailsAt (λ at. (files : Files) → (M.disk machine.new).agrees files → IsLongValue cap place (files Objects) at))) }
 {
     let mut bytes = [0; 4];
@@ -55,7 +57,7 @@ impl Slots {
         machine: &mut M,
         object: u32,
         into: &mut Vec<u8>,
-    ) -> Result<u64, SlotErr>
+    ) -> Result<u64, ReadErr>
         requires { object < self.now.params.objects }
         ensures kept { Stays (M.disk machine.old) (M.disk machine.new) }
         ensures id { IfOk result (λ id. id ≡ id_in self.now object) }
@@ -66,10 +68,10 @@ impl Slots {
         // An object without an open slot costs no call.
         ensures none { id_in self.now object ≡ 0 → IsOk result × (into.new.items ≡ []) × (machine.new ≡ machine.old) }
 
-        ensures cause { IfErr result (FailsBy (Rises (M.disk machine.old).disk_faults (M.disk machine.new).disk_faults) ⊥
+        ensures cause { IfErr result (FailsBy (Rises (M.disk machine.old).disk_faults (M.disk machine.new).disk_faults)
             (FailsAt (λ place. (files : Files) → (M.disk machine.new).agrees files →
             IsLongValue self.now.params.cap (slot_place self.now.params.cap object (holder_in self.now object)) (files Objects) place))) }
-        ensures whole { (files : Files) → (M.disk machine.new).agrees files → AreOf self.now (files Objects) → IfErr result IsNoDamage }
+        ensures whole { (files : Files) → (M.disk machine.new).agrees files → AreOf self.now (files Objects) → IfErr result (λ e. TellsDamage e → ⊥) }
     {
         into.clear();
         let id = self.id(object);

@@ -3,12 +3,13 @@ ghost use Rattle.std.specs.Prelude.{◌≡◌, ◌<◌, ◌≤◌, ◌+◌, ◌^
 ghost use Rattle.disk_model.specs.Disk.{Files, Rises, Stays};
 ghost use Rattle.disk_model.specs.Padded.{padded};
 ghost use Rattle.disk_model.specs.declared.machine.FileNo.TheVariants.{Objects};
+ghost use Rattle.formats.specs.Reading.{FailsBy};
 ghost use Rattle.stable_objects.specs.Heads.{ShowsFile};
-ghost use Rattle.stable_objects.specs.Reading.{FailsBy, FailsAt};
+ghost use Rattle.stable_objects.specs.Reading.{FailsAt};
 
-use crate::SlotErr;
 use crate::layout::{FIRST_SLOT, SLOT_HEAD_BYTES};
 use disk_model::{Failed, FileNo, Machine, read_padded};
+use formats::ReadErr;
 use std::alloc::Global;
 
 // So many bytes are read at once.
@@ -42,10 +43,10 @@ impl Window {
         machine: &mut M,
         cap: u32,
         size: u64,
-    ) -> Result<Window, SlotErr>
+    ) -> Result<Window, ReadErr>
         ensures kept { Stays (M.disk machine.old) (M.disk machine.new) }
         ensures shows { IfOk result (λ w. ShowsFile (M.disk machine.new) w.place w.bytes.items) }
-        ensures cause { IfErr result (FailsBy (Rises (M.disk machine.old).disk_faults (M.disk machine.new).disk_faults) ⊥ (FailsAt (λ at. ⊥))) }
+        ensures cause { IfErr result (FailsBy (Rises (M.disk machine.old).disk_faults (M.disk machine.new).disk_faults) (FailsAt (λ at. ⊥))) }
     {
         let mut bytes = vec![in alloc; 0; window_bytes(cap, size)]?;
         read_padded(machine, FileNo::Objects, FIRST_SLOT, &mut bytes)?;

@@ -4,8 +4,8 @@ use Rattle.std.specs.Prelude.{IsTrue, IsFalse, All, ◌==◌}
 use Rattle.std.specs.List.{AllByRecursion}
 use Rattle.std.proofs.lemmas.Bool.{cond_both}
 use Rattle.std.proofs.lemmas.List.Elements.{All-head, All-tail}
-use Rattle.checkpoint.specs.RedoStarts.{start_or}
-use Rattle.checkpoint.specs.declared.table.Table.{Table}
+use Rattle.redo_tables.specs.RedoStarts.{start_or}
+use Rattle.redo_tables.specs.declared.table.Table.{Table}
 use Rattle.oper_core.specs.Meaning.{Meaning}
 use Rattle.formats.specs.Records.{AreRecords, IsCheckAt, next_after}
 use Rattle.formats.specs.declared.record.Record.{Record}
@@ -32,7 +32,7 @@ start-has P other (s ∷ starts) x is all =
 
 module _ {O : Type 0} (m : Meaning O) (a : Access) (installed : ℕ → Bool) (base : ℕ) where
   -- no redo start is past a write that is not installed
-  abbrev pub IsInTime : core.Table → Type 0
+  abbrev pub IsInTime : core.Starts → Type 0
   IsInTime t = (n x : ℕ) → IsFalse (installed n) → IsTrue (a.writes n x) → t.redo_from x ≤ n
 
   table_fits : (next end : ℕ) (table : Table) → base ≤ next → next ≤ end → IsCheckAt m base next table → IsInTime (table_of table) → SkipsNothing a installed base end (table_of table)

@@ -3,7 +3,7 @@ use Rattle.std.proofs.Common.{◌≡◌, subst, ℕ, zero, suc, Bool, List, [], 
 use Rattle.std.specs.Prelude.{IsTrue}
 use Rattle.std.proofs.lemmas.Bool.{cases_Bool, both_ways}
 use Rattle.std.proofs.lemmas.List.Elements.{All-nil}
-use Rattle.checkpoint.specs.declared.table.Table.{Table}
+use Rattle.redo_tables.specs.declared.table.Table.{Table}
 use Rattle.disk_model.specs.declared.machine.FileNo.TheVariants.{LogA}
 use Rattle.formats.specs.Objects.{bounds_of}
 use Rattle.install_order.specs.Order.{IsExposed}

@@ -4,8 +4,8 @@ use Rattle.std.specs.Prelude.{Bool, false, ◌||◌, ◌==◌, nat_lt, All}
 use Rattle.std.proofs.Math.Path.{fun_ext}
 use Rattle.std.proofs.lemmas.List.Elements.{All-nil, All-cons}
 use Rattle.std.proofs.lemmas.Bool.{ne_eqb, le-ltb, cond-false}
-use Rattle.checkpoint.specs.Codec.{IsTable, FitsStart, table_code}
-use Rattle.checkpoint.specs.declared.table.Table.{Table}
+use Rattle.redo_tables.specs.Codec.{IsTable, FitsStart, table_code}
+use Rattle.redo_tables.specs.declared.table.Table.{Table}
 use Rattle.disk_model.specs.Disk.{Files}
 use Rattle.disk_model.specs.declared.machine.FileNo.{FileNo}
 use Rattle.disk_model.specs.declared.machine.FileNo.TheVariants.{Objects, LogA, LogB}
@@ -27,7 +27,7 @@ use Rattle.explain_core.specs.GraphLaws.{graph-within}
 use Rattle.explain_core.specs.RunLaws.{allowed-append}
 use Rattle.explain_core.specs.Sound.{IsSound}
 use Rattle.explain_core.specs.Stable.{Stable, stable_of}
-use Rattle.explain_core.specs.World.{Step, step, run, AreAllowed, IsReady, new_world, graph_access, work_of, end_of, table_now}
+use Rattle.explain_core.specs.World.{Step, step, run, AreAllowed, IsInstallable, new_world, graph_access, work_of, end_of, table_now}
 use Rattle.explain_core.specs.World.Step.{Append, Block_gate, Check, Slot_gate, Removal}
 use Rattle.explain_core.specs.History.Member.{Command, Identity}
 use Rattle.explain_core.specs.declared.byte_op.ByteOp.{ByteOp}
@@ -61,7 +61,7 @@ module _ (sound : AllSound) where
   within : (steps : List (Step ByteOp)) → AreAllowed small_meaning (new_world ByteOp) steps → IsWithin (graph_access small_meaning (after_steps steps)) 2 (end_of (after_steps steps))
   within steps may = graph-within small_meaning small_lawful (after_steps steps) (sound steps may)
 
-  logged-ready : IsReady small_meaning (after_steps logged) put_node
+  logged-ready : IsInstallable small_meaning (after_steps logged) put_node
   unfolding step run
   logged-ready = (
     (λ n there. all-gives (after_steps logged).graph (1 ∷ []) n refl there),
@@ -83,7 +83,7 @@ module _ (sound : AllSound) where
     tt,
   )
 
-  flushed-ready : IsReady small_meaning (after_steps flushed) put_node
+  flushed-ready : IsInstallable small_meaning (after_steps flushed) put_node
   unfolding step run
   flushed-ready = (
     (λ n there. all-gives (after_steps flushed).graph (1 ∷ []) n refl there),

@@ -2,8 +2,8 @@
 use Rattle.std.specs.Prelude.{◌≡◌, ◌+◌, ℕ, List, [], ◌∷◌, ◌++◌, length, refl}
 use Rattle.std.proofs.Common.{ap, sym, ◌∙◌, arith, append_assoc}
 use Rattle.std.proofs.lemmas.List.{append-nil}
-use Rattle.checkpoint.specs.RedoStarts as starts
-use Rattle.checkpoint.specs.declared.table.Table.{Table}
+use Rattle.redo_tables.specs.RedoStarts as starts
+use Rattle.redo_tables.specs.declared.table.Table.{Table}
 use Rattle.formats.specs.Records.{next_after, commands_of as logged_commands}
 use Rattle.formats.specs.declared.record.Record.{Record}
 use Rattle.formats.specs.declared.record.Record.TheVariants.{Command as Logged_command, Identity as Logged_identity, Check as Logged_check}
@@ -12,7 +12,7 @@ use Rattle.explain_core.specs.History.Member.{Command, Identity}
 use Rattle.explain_core.specs.World as core
 
 -- a check's table in the terms of a world: the number from which a redo applies what is written to each object
-abbrev pub table_of : Table → core.Table
+abbrev pub table_of : Table → core.Starts
 table_of table = record { redo_from = starts.redo_from table; next = table.next }
 
 -- the members that the numbered records are
@@ -23,7 +23,7 @@ members_of (Logged_identity number x value ∷ records) = Identity x value ∷ m
 members_of (Logged_check table ∷ records) = members_of records
 
 -- the checks among the records, the newest first
-abbrev pub tables_in : {O : Type 0} → List (Record O) → List core.Table
+abbrev pub tables_in : {O : Type 0} → List (Record O) → List core.Starts
 tables_in [] = []
 tables_in (Logged_command number op ∷ records) = tables_in records
 tables_in (Logged_identity number x value ∷ records) = tables_in records
@@ -39,7 +39,7 @@ pub tables-append : {O : Type 0} (xs ys : List (Record O)) → tables_in (xs ++ 
 tables-append [] ys = sym (append-nil (tables_in ys))
 tables-append (Logged_command number op ∷ xs) ys = tables-append xs ys
 tables-append (Logged_identity number x value ∷ xs) ys = tables-append xs ys
-tables-append (Logged_check table ∷ xs) ys = ap (λ (l : List core.Table). l ++ table_of table ∷ []) (tables-append xs ys) ∙ append_assoc (tables_in ys) (tables_in xs) (table_of table ∷ [])
+tables-append (Logged_check table ∷ xs) ys = ap (λ (l : List core.Starts). l ++ table_of table ∷ []) (tables-append xs ys) ∙ append_assoc (tables_in ys) (tables_in xs) (table_of table ∷ [])
 
 -- the next number counts the members
 pub next-members : {O : Type 0} (next : ℕ) (xs : List (Record O)) → next_after next xs ≡ next + length (members_of xs)

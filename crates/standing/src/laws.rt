@@ -16,7 +16,7 @@ ghost use Rattle.explain_core.specs.Backup.{IsCopied, copy_of};
 ghost use Rattle.explain_core.specs.History.{commands_of};
 ghost use Rattle.explain_core.specs.Sound.{IsSound, SkipsNothing};
 ghost use Rattle.explain_core.specs.Stable.{Stable};
-ghost use Rattle.explain_core.specs.World.{World, Step, Table, step, new_world, plan_of};
+ghost use Rattle.explain_core.specs.World.{World, Step, Starts, step, new_world, plan_of};
 ghost use Rattle.standing.specs.Shown.{next_held, commands_held, IsUnseen};
 ghost use Rattle.standing.specs.Standing.{HoldsStable, FilesShow, StandsFor, IsFound};
 
@@ -115,7 +115,7 @@ pub fn checks_of_a_log_fit<O: Oper>()
 /// Files that hold the copied cells, the live slots of the others, and the live log without its checks, or with one that asks
 /// for all records, stand for the commands that are stable in the live store.
 pub fn a_copy_stands<O: Oper>()
-    ensures { (p : Params) (files : Files) (w : World O) (copied : ℕ) (cells : ℕ → Cell) (tables : List Table) →
+    ensures { (p : Params) (files : Files) (w : World O) (copied : ℕ) (cells : ℕ → Cell) (tables : List Starts) →
         IsSound (O.meaning (bounds_of p)) w → IsCopied (O.meaning (bounds_of p)) w copied cells →
         (tables ≡ []) ⊎ (tables ≡ plan_of [] w.base ∷ []) →
         HoldsStable (O.meaning (bounds_of p)) p files (copy_of w copied cells tables) →

@@ -1,5 +1,5 @@
 use Rattle.std.proofs.Common.{◌≡◌, ◌++◌, ◌∷◌, [], ℕ, List, get_or, refl, sym, arith, subst, length, length-append}
-use Rattle.disk_model.specs.Disk.{Files, Holds}
+use Rattle.disk_model.specs.Disk.{Files, HoldsAt}
 use Rattle.disk_model.specs.Moments.{runs_then_stays}
 use Rattle.formats.specs.Log.{header_fields, blocks}
 use Rattle.log_frames.specs.Laws.{length-header_bytes}
@@ -46,7 +46,7 @@ returns-clause-prepared g c told closed =
     let header = header_of c.args.header in
     let ps = bytes_of c.args.payloads.now in
     let gate = get_or old 0 0 in
-    let first = subst (λ (b : List ℕ). Holds 1 b old one) c.fields_of.ensures (c.in_ok-write_at.ensures.written told).changed in
+    let first = subst (λ (b : List ℕ). HoldsAt 1 b old one) c.fields_of.ensures (c.in_ok-write_at.ensures.written told).changed in
     let begins = front_grows (gate ∷ []) (header_fields header) old one 1 refl (gate_front old closed) first in
     let long : 33 ≡ length (gate ∷ header_fields header) = omega (arith, length-header_bytes header) in
     let behind = c.in_ok-end.ensures.written told_one (gate ∷ header_fields header) long begins in

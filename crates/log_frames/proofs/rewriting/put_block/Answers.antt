@@ -1,5 +1,5 @@
 use Rattle.std.proofs.Common.{◌+◌, ℕ, List, arith, subst}
-use Rattle.disk_model.specs.Disk.{Holds}
+use Rattle.disk_model.specs.Disk.{HoldsAt}
 use Rattle.log_frames.proofs.Rewrites.{keeps_write, keeps_more, block_grows}
 use Rattle.log_frames.proofs.rewriting.put_block.Goals as goal
 
@@ -17,5 +17,5 @@ returns-clause-written g c told front here begins =
     let old = (g.M.Machine.disk c.args.machine.now).reads c.args.file in
     let mid = (g.M.Machine.disk c.write_at.new.self).reads c.args.file in
     let new = (g.M.Machine.disk c.write_at-2.new.self).reads c.args.file in
-    let first = subst (λ (b : List ℕ). Holds c.args.gate b old mid) c.block_head.ensures (c.in_ok-write_at.ensures.written told).changed in
+    let first = subst (λ (b : List ℕ). HoldsAt c.args.gate b old mid) c.block_head.ensures (c.in_ok-write_at.ensures.written told).changed in
     block_grows front c.args.bytes.now old mid new c.args.gate here begins first (c.in_ok-write_at-2.ensures.written (c.write_at.ensures.runs.time.files_told.0 told)).changed

@@ -2,7 +2,7 @@ use Rattle.std.proofs.Common.{◌∙◌, ◌++◌, [], ◌∷◌, refl, sym, ap,
 use Rattle.std.specs.Option.{option_or}
 use Rattle.std.proofs.lemmas.Result.{err_from_is_err_and}
 use Rattle.disk_model.specs.Moments.{stays_twice}
-use Rattle.checkpoint.specs.declared.table.Table.{Table}
+use Rattle.redo_tables.specs.declared.table.Table.{Table}
 use Rattle.formats.specs.Records.{last_check}
 use Rattle.log_records.specs.RecordLaws.{count-append, next_rises, numbers_end}
 use Rattle.log_records.proofs.Lasts.{last_push}

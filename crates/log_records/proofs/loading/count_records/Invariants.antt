@@ -2,7 +2,7 @@ use Rattle.std.proofs.Common.{◌≡◌, ℕ, Option, List, length}
 use Rattle.disk_model.specs.Disk.{Disk, Stays}
 use Rattle.oper_core.specs.Meaning.{Meaning}
 use Rattle.oper_core.specs.declared.bounds.Bounds.{Bounds}
-use Rattle.checkpoint.specs.declared.table.Table.{Table}
+use Rattle.redo_tables.specs.declared.table.Table.{Table}
 use Rattle.formats.specs.Records.{commands_of, last_check}
 use Rattle.formats.specs.declared.record.Record.{Record}
 use Rattle.log_frames.specs.LogView.{LogView}

@@ -1,5 +1,5 @@
 use Rattle.std.proofs.Common.{ℕ, [], ◌∷◌, refl, arith, subst}
-use Rattle.disk_model.specs.Disk.{In, Holds}
+use Rattle.disk_model.specs.Disk.{In, HoldsAt}
 use Rattle.disk_model.specs.Moments.{runs_none}
 use Rattle.disk_model.specs.declared.machine.FileNo.TheVariants.{Objects}
 use Rattle.stable_objects.specs.Making.{KeepsGate}
@@ -22,7 +22,7 @@ loop-slot-preserved g c =
       closed = λ told.
           let written = c.in_ok-write_at.ensures.written (so_far.kept.time.files_told.0 told) in
           more_closed c.args.params.cap c.loop-slot.slot (mid.reads Objects) (new.reads Objects) (so_far.closed told)
-          (subst (λ (at : ℕ). Holds at (0 ∷ []) (mid.reads Objects) (new.reads Objects)) c.gate_place.ensures written.changed);
+          (subst (λ (at : ℕ). HoldsAt at (0 ∷ []) (mid.reads Objects) (new.reads Objects)) c.gate_place.ensures written.changed);
     }
 
 pub returns-in_err-write_at-clause-runs : goal.returns-in_err-write_at-clause-runs

@@ -1,5 +1,5 @@
 use Rattle.std.proofs.Common.{List, ℕ, sym, arith, subst}
-use Rattle.disk_model.specs.Disk.{Files, Holds}
+use Rattle.disk_model.specs.Disk.{Files, HoldsAt}
 use Rattle.disk_model.specs.Moments.{runs_then_stays}
 use Rattle.disk_model.specs.declared.machine.FileNo.TheVariants.{Objects}
 use Rattle.stable_objects.specs.Making.{IsPrepared}
@@ -21,7 +21,7 @@ returns-clause-prepared g c told =
     let after = g.M.Machine.disk c.write_at.new.self in
     let told_mid = c.close_slots.ensures.runs.time.files_told.0 told in
     let same = c.sync.ensures.kept.reads (c.write_at.ensures.runs.time.files_told.0 told_mid) in
-    let written = subst (λ (b : List ℕ). Holds 1 b (mid.reads Objects) (after.reads Objects)) c.fields_of.ensures (c.in_ok-write_at.ensures.written told_mid).changed in
+    let written = subst (λ (b : List ℕ). HoldsAt 1 b (mid.reads Objects) (after.reads Objects)) c.fields_of.ensures (c.in_ok-write_at.ensures.written told_mid).changed in
     subst (λ (f : Files). IsPrepared c.args.params (f Objects)) (sym same)
     (header_written c.args.params (mid.reads Objects) (after.reads Objects) (c.in_ok-close_slots.ensures.closed told) written)
 

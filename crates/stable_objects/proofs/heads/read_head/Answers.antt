@@ -3,7 +3,7 @@ use Rattle.std.proofs.lemmas.Result.{err_from_is_err_and}
 use Rattle.disk_model.specs.Disk.{Files}
 use Rattle.disk_model.specs.declared.machine.FileNo.TheVariants.{Objects}
 use Rattle.stable_objects.specs.Heads.{Head, head_at, IsRead, IsHeadFault}
-use Rattle.stable_objects.specs.Reading.{FailsAt, fails_on}
+use Rattle.stable_objects.proofs.Found.{handed_on}
 use Rattle.stable_objects.proofs.HeadBytes.{head_read}
 use Rattle.stable_objects.proofs.heads.read_head.Goals as goal
 
@@ -13,9 +13,8 @@ returns-in_err-id-clause-cause g c =
     let a = c.args in
     let head = c.in_ok-head.head in
     let e = err_from_is_err_and c.from_residual-in_err-id.result c.from_residual-in_err-id.ensures.1 in
-    rw (e.1, e.2) (fails_on ⊥ _ ⊥ ⊥ (FailsAt (IsHeadFault a.cap a.place a.size (head_at 0 head)))
-    (FailsAt (λ at. (files : Files) → new.agrees files → IsHeadFault a.cap a.place a.size (head_at a.place (files Objects)) at)) _ (λ none. absurd none) (λ none. none)
-    (λ file at there. (there.0, λ files agree. subst (λ (h : Head). IsHeadFault a.cap a.place a.size h at) (head_read (files Objects) head a.place (c.in_ok-head.ensures.head files agree)) there.1))
+    rw (e.1, e.2) (handed_on ⊥ _ _ (λ at. (files : Files) → new.agrees files → IsHeadFault a.cap a.place a.size (head_at a.place (files Objects)) at) _ (λ none. absurd none)
+    (λ at fault files agree. subst (λ (h : Head). IsHeadFault a.cap a.place a.size h at) (head_read (files Objects) head a.place (c.in_ok-head.ensures.head files agree)) fault)
     c.in_err-id.ensures.cause)
 
 pub returns-clause-read : goal.returns-clause-read

@@ -19,8 +19,8 @@ returns-in_err-first-clause-cause g c =
     let a = c.args in
     let x = c.loop-object.object in
     let e = err_from_is_err_and c.from_residual-in_err-first.result c.from_residual-in_err-first.ensures.1 in
-    rw (e.1, e.2) (moved (g.M.Machine.disk a.machine.now) (g.M.Machine.disk c.loop-object.machine) (g.M.Machine.disk c.read_pair.new.machine) ⊥ ⊥ (λ file at. IsPairFault a.params.cap x a.size file at) (λ file at. HasPairFault a.params a.size file at) _
-    inv.kept (λ none. none)
+    rw (e.1, e.2) (moved (g.M.Machine.disk a.machine.now) (g.M.Machine.disk c.loop-object.machine) (g.M.Machine.disk c.read_pair.new.machine) (λ file at. IsPairFault a.params.cap x a.size file at) (λ file at. HasPairFault a.params a.size file at) _
+    inv.kept
     (λ files agree at fault. record { x = x; below = search; heads = c.loop-object.heads.items; before = inv.pairs files (agreed_before c.read_pair.ensures.kept files agree); fault = fault })
     c.in_err-first.ensures.cause)
 

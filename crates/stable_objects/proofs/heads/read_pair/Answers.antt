@@ -12,8 +12,8 @@ returns-in_err-first-clause-cause g c =
     let old = g.M.Machine.disk c.args.machine.now in
     let a = c.args in
     let e = err_from_is_err_and c.from_residual.result c.from_residual.ensures.1 in
-    rw (e.1, e.2) (moved old old (g.M.Machine.disk c.read_head.new.machine) ⊥ ⊥ (λ file at. IsHeadFault a.cap c.place_of.result a.size (head_at c.place_of.result file) at) (λ file at. IsPairFault a.cap a.object a.size file at) _
-    (stays_here old (g.met.M.Machine.lawful c.args.machine.now)) (λ none. none)
+    rw (e.1, e.2) (moved old old (g.M.Machine.disk c.read_head.new.machine) (λ file at. IsHeadFault a.cap c.place_of.result a.size (head_at c.place_of.result file) at) (λ file at. IsPairFault a.cap a.object a.size file at) _
+    (stays_here old (g.met.M.Machine.lawful c.args.machine.now))
     (λ files agree at fault. in_first at (subst (λ (p : ℕ). IsHeadFault a.cap p a.size (head_at p (files Objects)) at) c.place_of.ensures fault))
     c.in_err-first.ensures.cause)
 
@@ -26,8 +26,8 @@ returns-in_err-second-clause-cause g c =
     let a = c.args in
     let at_place = c.place_of-place.result in
     let e = err_from_is_err_and c.from_residual-in_err-second.result c.from_residual-in_err-second.ensures.1 in
-    rw (e.1, e.2) (moved old (g.M.Machine.disk c.read_head.new.machine) (g.M.Machine.disk c.read_head-2.new.machine) ⊥ ⊥ (λ file at. IsHeadFault a.cap at_place a.size (head_at at_place file) at) (λ file at. IsPairFault a.cap a.object a.size file at) _
-    c.read_head.ensures.kept (λ none. none)
+    rw (e.1, e.2) (moved old (g.M.Machine.disk c.read_head.new.machine) (g.M.Machine.disk c.read_head-2.new.machine) (λ file at. IsHeadFault a.cap at_place a.size (head_at at_place file) at) (λ file at. IsPairFault a.cap a.object a.size file at) _
+    c.read_head.ensures.kept
     (λ files agree at fault. in_second c.in_ok-first.first at
     (subst (λ (p : ℕ). IsRead a.cap p a.size (head_at p (files Objects)) c.in_ok-first.first) c.place_of.ensures (c.in_ok-first.ensures.read files (agreed_before c.read_head-2.ensures.kept files agree)))
     (subst (λ (p : ℕ). IsHeadFault a.cap p a.size (head_at p (files Objects)) at) c.place_of-place.ensures fault))

@@ -1,7 +1,7 @@
 use Rattle.std.proofs.Common.{◌≡◌, ℕ, ◌+◌, List, ◌++◌, length, sym, ap, subst, arith, length-append}
 use Rattle.byteorder.specs.Endian.{little_bytes}
 use Rattle.oper_core.specs.LittleEndian.{length-little_bytes}
-use Rattle.disk_model.specs.Disk.{Files, Holds}
+use Rattle.disk_model.specs.Disk.{Files, HoldsAt}
 use Rattle.disk_model.specs.Moments.{runs_then_stays}
 use Rattle.disk_model.specs.declared.machine.FileNo.TheVariants.{Objects}
 use Rattle.stable_objects.specs.Replacing.{IsFilled}
@@ -33,7 +33,7 @@ returns-clause-filled g c told =
     let new = g.M.Machine.disk c.write_at-2.new.self in
     let told_mid = c.write_at.ensures.runs.time.files_told.0 told in
     let same = c.sync.ensures.kept.reads (c.write_at-2.ensures.runs.time.files_told.0 told_mid) in
-    let first = subst (λ (b : List ℕ). Holds (c.args.place + 1) b (old.reads Objects) (mid.reads Objects)) c.head_of.ensures (c.in_ok-write_at.ensures.written told).changed in
+    let first = subst (λ (b : List ℕ). HoldsAt (c.args.place + 1) b (old.reads Objects) (mid.reads Objects)) c.head_of.ensures (c.in_ok-write_at.ensures.written told).changed in
     subst (λ (f : Files). IsFilled c.args.place c.args.id c.args.value.now (f Objects)) (sym same)
     (filled_by c.args.place c.args.id c.args.value.now (old.reads Objects) (mid.reads Objects) (new.reads Objects)
     (omega (arith, c.ranges.id.fits)) (omega (arith, c.requires.short)) first (c.in_ok-write_at-2.ensures.written told_mid).changed)

@@ -1,5 +1,5 @@
 use Rattle.std.proofs.Common.{inl, subst, List, ℕ}
-use Rattle.disk_model.specs.Disk.{In, Holds}
+use Rattle.disk_model.specs.Disk.{In, HoldsAt}
 use Rattle.disk_model.specs.declared.machine.FileNo.TheVariants.{LogA, LogB}
 use Rattle.log_frames.proofs.Alone.{alone_twice, alone_write, new_files}
 use Rattle.log_frames.proofs.log_file.LogFile.create.Goals as goal
@@ -32,6 +32,6 @@ returns-clause-made g c told =
     let one_told = c.close.ensures.runs.time.files_told.0 told in
     let two_told = c.close-2.ensures.runs.time.files_told.0 one_told in
     let three_told = c.write_through.ensures.runs.time.files_told.0 two_told in
-    let first = subst (λ (b : List ℕ). In LogA (Holds 1 b) (g.M.Machine.disk c.close-2.new.machine).reads (g.M.Machine.disk c.write_through.new.machine).reads) c.new_front.ensures (c.in_ok-write_through.ensures.written two_told) in
+    let first = subst (λ (b : List ℕ). In LogA (HoldsAt 1 b) (g.M.Machine.disk c.close-2.new.machine).reads (g.M.Machine.disk c.write_through.new.machine).reads) c.new_front.ensures (c.in_ok-write_through.ensures.written two_told) in
     let both = new_files _ _ _ _ (c.in_ok-close.ensures.closed told) (c.close-2.ensures.runs.reads one_told).others (c.in_ok-close-2.ensures.closed one_told) first (c.in_ok-write_through-2.ensures.written three_told) in
     record { in_force = record { a_log = λ e. cc; other = inl both.1 }; log = both.0 }

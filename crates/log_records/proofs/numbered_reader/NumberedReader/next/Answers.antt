@@ -2,7 +2,7 @@ use Rattle.std.proofs.Common.{◌≢◌, sym, subst, refl}
 use Rattle.std.proofs.lemmas.Result.{err_from_is_err_and}
 use Rattle.disk_model.specs.Disk.{Rises}
 use Rattle.disk_model.specs.declared.machine.FileNo.TheVariants.{Objects}
-use Rattle.log_frames.specs.Reading.{FailsBy}
+use Rattle.formats.specs.Reading.{FailsBy}
 use Rattle.log_records.specs.Loading.{IsTailFault}
 use Rattle.log_records.specs.NumberedReader.{NumberedReaderView, IsReadingNumbered, HasGiven}
 use Rattle.log_records.proofs.NumberedReading.{given_more, search_fails}

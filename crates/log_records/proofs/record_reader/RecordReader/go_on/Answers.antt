@@ -1,7 +1,8 @@
 use Rattle.std.proofs.Common.{sym, subst}
 use Rattle.std.proofs.lemmas.Result.{err_from_is_err_and}
 use Rattle.disk_model.specs.Disk.{Rises}
-use Rattle.log_frames.specs.Reading.{FailsBy, fails_on}
+use Rattle.formats.specs.Reading.{FailsBy}
+use Rattle.log_frames.specs.Reading.{fails_on}
 use Rattle.log_records.specs.Loading.{IsTailFault}
 use Rattle.log_records.specs.RecordReader.{RecordReaderView, IsReading, HasGoneOn}
 use Rattle.log_records.proofs.Passing.{reading_stays, reading_whole, gone_on}
