@@ -1,9 +1,9 @@
 -- What a method of a store that makes no device call leaves: a command, a redone record, a check.
-use Rattle.std.proofs.Common.{◌≡◌, ◌∙◌, sym, subst, ap, ℕ, ◌+◌, ◌<◌, ◌≤◌, Bool, true, false, if◌then◌else◌, List, [], ◌∷◌, ◌++◌, refl, arith, inl, inr, Option, None, Some}
-use Rattle.std.specs.Prelude.{All, ◌^◌, ◌||◌, ◌&&◌, ◌==◌}
-use Rattle.std.proofs.lemmas.Bool.{and_parts, both_ways, cases_Bool, cond-true, cond-false, eqb-true, or_cases}
+use Rattle.std.proofs.Common.{◌≡◌, ◌∙◌, sym, subst, ap, ℕ, ◌+◌, ◌<◌, ◌≤◌, Bool, true, false, if◌then◌else◌, List, [], ◌∷◌, ◌++◌, refl, arith, inl, inr, Option, Some}
+use Rattle.std.specs.Prelude.{All, ◌^◌, ◌||◌, ◌&&◌}
+use Rattle.std.proofs.lemmas.Bool.{and_parts, both_ways, cases_Bool, cond-true, cond-false}
 use Rattle.std.proofs.lemmas.List.{map-append}
-use Rattle.std.proofs.lemmas.List.Elements.{All-head, All-push, All-tail, All-weaker}
+use Rattle.std.proofs.lemmas.List.Elements.{All-push, All-weaker}
 use Rattle.oper_core.specs.Meaning.{Meaning}
 use Rattle.oper_core.specs.State.{is_among, value_for}
 use Rattle.formats.specs.Objects.{bounds_of}
@@ -15,21 +15,14 @@ use Rattle.write_graph.specs.Graph.{numbers}
 use Rattle.dirty_cache.specs.Contents.{held, is_dirty}
 use Rattle.dirty_cache.specs.declared.entry.Entry.{Entry as Pair}
 use Rattle.explain_core.specs.History.Member.{Command}
+use Rattle.running_store.specs.Among.{all_among, slot_most}
 use Rattle.running_store.specs.Entered.{IsEntered}
 use Rattle.running_store.specs.Laid.{id_at, lsn_or}
-use Rattle.running_store.specs.Parts.{AreInUse, IsAppended, Parts, Store, entry_of}
+use Rattle.running_store.specs.Parts.{AreInUse, IsAppended, Parts, Volatile, entry_of}
 use Rattle.running_store.specs.Reads.{untaken_in_use}
 use Rattle.running_store.specs.StoreView.{IsUsable}
 use Rattle.running_store.specs.Taking.{ArePartsInUse}
 use Rattle.running_store.specs.Unchanged.{IsUntaken}
-
--- an object that is among some that have a property has it
-among_all : (P : ℕ → Type 0) (xs : List ℕ) (x : ℕ) → All P xs → is_among x xs ≡ true → P x
-among_all P [] x all there = absurd (both_ways _ refl there)
-among_all P (y ∷ xs) x all there = elim (or_cases (x == y) (is_among x xs) there) [
-  | inl here ↦ subst P (sym (eqb-true x y here)) (All-head P y xs all)
-  | inr later ↦ among_all P xs x (All-tail P y xs all) later
-]
 
 -- a pair that is set is the one that is held
 number_of : (number : ℕ) (bytes : List ℕ) (o : Option Pair) (pair : Pair) → o ≡ Some (record { lsn = number; bytes = bytes }) → o ≡ Some pair → pair.lsn ≡ number
@@ -41,7 +34,7 @@ above_more next before after e same all low = subst (λ (l : List ℕ). All (λ 
     (All-push (λ n. n < next) (numbers before) e.number all low)
 
 -- Objects of a store in use, of which some get new pairs under a number that is below the next one and above their own.
-set_in_use : (p : Params) (next : ℕ) (before after : Store) (number : ℕ) (set : ℕ → Bool) (bytes : ℕ → List ℕ) → AreInUse p next before → after.objects.slots ≡ before.objects.slots → number < next → All (λ n. n < next) (numbers after.entries)
+set_in_use : (p : Params) (next : ℕ) (before after : Volatile) (number : ℕ) (set : ℕ → Bool) (bytes : ℕ → List ℕ) → AreInUse p next before → after.objects.slots ≡ before.objects.slots → number < next → All (λ n. n < next) (numbers after.entries)
     → ((x : ℕ) → set x ≡ true → id_in before.objects.slots x < number)
     → ((x : ℕ) → set x ≡ true → held after.objects.cache x ≡ Some (record { lsn = number; bytes = bytes x })) → ((x : ℕ) → set x ≡ false → held after.objects.cache x ≡ held before.objects.cache x)
     → ((x : ℕ) → is_dirty after.objects.cache x ≡ (set x || is_dirty before.objects.cache x)) → AreInUse p next after
@@ -65,7 +58,7 @@ set_in_use p next before after number set bytes used slots low above early new o
 }
 
 -- a greater next number
-in_use_later : (p : Params) (next later : ℕ) (it : Store) → AreInUse p next it → next ≤ later → later ≤ 2 ^ 62 → AreInUse p later it
+in_use_later : (p : Params) (next later : ℕ) (it : Volatile) → AreInUse p next it → next ≤ later → later ≤ 2 ^ 62 → AreInUse p later it
 in_use_later p next later it used more low = record {
   params = used.params;
   low = low;
@@ -74,30 +67,19 @@ in_use_later p next later it used more low = record {
   clean = used.clean;
 }
 
--- the identifier of a slot is not above that of its object
-slot_most : (p : Params) (next : ℕ) (it : Store) (x : ℕ) → AreInUse p next it → id_in it.objects.slots x ≤ id_at it.objects x
-slot_most p next it x used = by_entry (held it.objects.cache x) refl
-  where
-    by_entry : (o : Option Pair) → held it.objects.cache x ≡ o → id_in it.objects.slots x ≤ id_at it.objects x
-    by_entry None none = omega (arith, ap (λ (h : Option Pair). lsn_or h (id_in it.objects.slots x)) none)
-    by_entry (Some pair) had = elim (cases_Bool (is_dirty it.objects.cache x)) [
-      | inl dirty ↦ omega (arith, (used.dirty x pair dirty had).0, ap (λ (h : Option Pair). lsn_or h (id_in it.objects.slots x)) had)
-      | inr clean ↦ omega (arith, used.clean x pair clean had, ap (λ (h : Option Pair). lsn_or h (id_in it.objects.slots x)) had)
-    ]
-
 module _ (before after : Parts) (used : ArePartsInUse before) where
   -- parts in use are in use after a command
-  commanded_in_use : {O : Type 0} (m : Meaning O) (op : O) (made : List (List ℕ)) → IsAppended m before after (Command op) made → All (λ x. x < before.store.objects.slots.params.objects) (m.writes op) → before.log.next < 2 ^ 62 → ArePartsInUse after
+  commanded_in_use : {O : Type 0} (m : Meaning O) (op : O) (made : List (List ℕ)) → IsAppended m before after (Command op) made → All (λ x. x < before.volatile.objects.slots.params.objects) (m.writes op) → before.log.next < 2 ^ 62 → ArePartsInUse after
   commanded_in_use m op made done below low =
       let next : after.log.next ≡ before.log.next + 1 = ap (λ (r : RecordLogView). r.next) done.log in
-      let params : after.store.objects.slots.params ≡ before.store.objects.slots.params = ap (λ (s : SlotsView). s.params) done.slots in
+      let params : after.volatile.objects.slots.params ≡ before.volatile.objects.slots.params = ap (λ (s : SlotsView). s.params) done.slots in
       let number = before.log.next in
-      let later = in_use_later before.store.objects.slots.params number after.log.next before.store used.store (omega (arith, next)) (omega (arith, next, low)) in
+      let later = in_use_later before.volatile.objects.slots.params number after.log.next before.volatile used.store (omega (arith, next)) (omega (arith, next, low)) in
       record {
         bounds = ap (λ (r : RecordLogView). r.bounds) done.log ∙ used.bounds ∙ ap bounds_of (sym params);
-        store = subst (λ (q : Params). AreInUse q after.log.next after.store) (sym params) (set_in_use before.store.objects.slots.params after.log.next before.store after.store number (λ x. is_among x (m.writes op)) (λ x. value_for x (m.writes op) made)
-            later done.slots (omega (arith, next)) (above_more after.log.next before.store.entries after.store.entries (entry_of m number (Command op)) done.entries later.above (omega (arith, next)))
-            (λ x among. used.early x (among_all (λ y. y < before.store.objects.slots.params.objects) (m.writes op) x below among))
+        store = subst (λ (q : Params). AreInUse q after.log.next after.volatile) (sym params) (set_in_use before.volatile.objects.slots.params after.log.next before.volatile after.volatile number (λ x. is_among x (m.writes op)) (λ x. value_for x (m.writes op) made)
+            later done.slots (omega (arith, next)) (above_more after.log.next before.volatile.entries after.volatile.entries (entry_of m number (Command op)) done.entries later.above (omega (arith, next)))
+            (λ x among. used.early x (all_among (λ y. y < before.volatile.objects.slots.params.objects) (m.writes op) x below among))
             (λ x among. done.held x ∙ cond-true (is_among x (m.writes op)) _ _ among) (λ x left. done.held x ∙ cond-false (is_among x (m.writes op)) _ _ left) done.dirty);
         early = λ x below.
             let was = used.early x (subst (λ (q : Params). x < q.objects) params below) in
@@ -105,18 +87,18 @@ module _ (before after : Parts) (used : ArePartsInUse before) where
       }
 
   -- and after a redone record is entered
-  entered_in_use : (due : List ℕ) (e : Entry) (made : List (List ℕ)) → IsEntered before.store after.store due e made → after.log ≡ before.log → e.number < before.log.next → All (λ x. id_at before.store.objects x < e.number) due → ArePartsInUse after
+  entered_in_use : (due : List ℕ) (e : Entry) (made : List (List ℕ)) → IsEntered before.volatile after.volatile due e made → after.log ≡ before.log → e.number < before.log.next → All (λ x. id_at before.volatile.objects x < e.number) due → ArePartsInUse after
   entered_in_use due e made done log low later =
       let next : after.log.next ≡ before.log.next = ap (λ (r : RecordLogView). r.next) log in
-      let params : after.store.objects.slots.params ≡ before.store.objects.slots.params = ap (λ (s : SlotsView). s.params) done.slots in
+      let params : after.volatile.objects.slots.params ≡ before.volatile.objects.slots.params = ap (λ (s : SlotsView). s.params) done.slots in
       let set : ℕ → Bool = λ x. is_among x due && is_among x e.writes in
       record {
         bounds = ap (λ (r : RecordLogView). r.bounds) log ∙ used.bounds ∙ ap bounds_of (sym params);
-        store = subst (λ (n : ℕ). AreInUse after.store.objects.slots.params n after.store) (sym next) (subst (λ (q : Params). AreInUse q before.log.next after.store) (sym params)
-            (set_in_use before.store.objects.slots.params before.log.next before.store after.store e.number set (λ x. value_for x e.writes made) used.store done.slots low
-            (above_more before.log.next before.store.entries after.store.entries e done.entries used.store.above low)
-            (λ x is. let lower = among_all (λ y. id_at before.store.objects y < e.number) due x later (and_parts (is_among x due) (is_among x e.writes) is).0 in
-            omega (arith, lower, slot_most before.store.objects.slots.params before.log.next before.store x used.store))
+        store = subst (λ (n : ℕ). AreInUse after.volatile.objects.slots.params n after.volatile) (sym next) (subst (λ (q : Params). AreInUse q before.log.next after.volatile) (sym params)
+            (set_in_use before.volatile.objects.slots.params before.log.next before.volatile after.volatile e.number set (λ x. value_for x e.writes made) used.store done.slots low
+            (above_more before.log.next before.volatile.entries after.volatile.entries e done.entries used.store.above low)
+            (λ x is. let lower = all_among (λ y. id_at before.volatile.objects y < e.number) due x later (and_parts (is_among x due) (is_among x e.writes) is).0 in
+            omega (arith, lower, slot_most before.volatile.objects.slots.params before.log.next before.volatile x used.store))
             (λ x is. let both = and_parts (is_among x due) (is_among x e.writes) is in done.held x ∙ cond-true (is_among x due) _ _ both.0 ∙ cond-true (is_among x e.writes) _ _ both.1)
             (λ x left. done.held x ∙ unset_held (is_among x due) (is_among x e.writes) _ _ left) done.dirty));
         early = λ x below.
@@ -134,8 +116,8 @@ module _ (before after : Parts) (identities : ℕ) (used : IsUsable before ident
   pub left_usable : IsUntaken before after → IsUsable after identities
   left_usable left = record { in_use = untaken_in_use before after left used.in_use; counted = omega (arith, used.counted, ap (λ (r : RecordLogView). r.next) left.log) }
 
-  pub command_usable : {O : Type 0} (m : Meaning O) (op : O) (made : List (List ℕ)) → IsAppended m before after (Command op) made → All (λ x. x < before.store.objects.slots.params.objects) (m.writes op) → before.log.next < 2 ^ 62 → IsUsable after identities
+  pub command_usable : {O : Type 0} (m : Meaning O) (op : O) (made : List (List ℕ)) → IsAppended m before after (Command op) made → All (λ x. x < before.volatile.objects.slots.params.objects) (m.writes op) → before.log.next < 2 ^ 62 → IsUsable after identities
   command_usable m op made done below low = record { in_use = commanded_in_use before after used.in_use m op made done below low; counted = omega (arith, used.counted, ap (λ (r : RecordLogView). r.next) done.log) }
 
-  pub entry_usable : (due : List ℕ) (e : Entry) (made : List (List ℕ)) → IsEntered before.store after.store due e made → after.log ≡ before.log → e.number < before.log.next → All (λ x. id_at before.store.objects x < e.number) due → IsUsable after identities
+  pub entry_usable : (due : List ℕ) (e : Entry) (made : List (List ℕ)) → IsEntered before.volatile after.volatile due e made → after.log ≡ before.log → e.number < before.log.next → All (λ x. id_at before.volatile.objects x < e.number) due → IsUsable after identities
   entry_usable due e made done same low later = record { in_use = entered_in_use before after used.in_use due e made done same low later; counted = omega (arith, used.counted, ap (λ (r : RecordLogView). r.next) same) }

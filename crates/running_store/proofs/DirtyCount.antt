@@ -11,7 +11,7 @@ use Rattle.explain_core.specs.CountLaws.{count_same, count_none, count_more}
 use Rattle.explain_core.specs.Turns.{count_below, is_dirty_in, dirty_in}
 use Rattle.explain_core.specs.World.{World}
 use Rattle.running_store.specs.Joins.{dirty_shown}
-use Rattle.running_store.specs.Parts.{Store, ShowsStore}
+use Rattle.running_store.specs.Parts.{Volatile, ShowsVolatile}
 use Rattle.running_store.specs.InUse.{dirty_held}
 
 none_equal : (y : ℕ) (ys : List ℕ) → AllByRecursion (λ z. nat_eq y z ≡ false) ys → list_any (nat_eq y) ys ≡ false
@@ -26,7 +26,7 @@ listed n (y ∷ ys) apart below =
     ∙ ap suc (listed n ys (IsDistinct-tail nat_eq y ys apart) (λ x is. below x (or_right (nat_eq x y) (list_any (nat_eq x) ys) is)))
     ∙ omega arith
 
-module _ {O : Type 0} (m : Meaning O) (p : Params) (file : List ℕ) (it : Store) (w : World O) (shows : ShowsStore m p file it w) where
+module _ {O : Type 0} (m : Meaning O) (p : Params) (file : List ℕ) (it : Volatile) (w : World O) (shows : ShowsVolatile m p file it w) where
   -- so as many objects of the world are dirty as of the cache
   pub dirty_counted : m.objects ≡ p.objects → (objects : List ℕ) → AreDirty it.objects.cache objects → dirty_in m w ≡ length objects
   dirty_counted bounds objects are =

@@ -8,7 +8,7 @@ use Rattle.disk_model.specs.Silent.{IsSilent}
 use Rattle.disk_model.specs.declared.machine.FileNo.{FileNo}
 use Rattle.disk_model.specs.declared.machine.FileNo.TheVariants.{Objects, LogA, LogB}
 use Rattle.oper_core.specs.Meaning.{Meaning}
-use Rattle.checkpoint.specs.declared.table.Table.{Table as Logged_table}
+use Rattle.redo_tables.specs.declared.table.Table.{Table as Logged_table}
 use Rattle.formats.specs.InForce.{other_of}
 use Rattle.formats.specs.Objects.{IsObjectsFile}
 use Rattle.formats.specs.Records.{AreRecords, IsCheckAt, payload_of, record_code, commands_of as logged_commands}
@@ -23,14 +23,14 @@ use Rattle.log_records.specs.Rewriting.{IsRewrittenPartly, code_lengths, command
 use Rattle.explain_core.specs.History.{Member, commands_of}
 use Rattle.explain_core.specs.Sound.{IsSound}
 use Rattle.explain_core.specs.StableLaws.{commands_of-append}
-use Rattle.explain_core.specs.World.{World, Table, step, table_now}
+use Rattle.explain_core.specs.World.{World, Starts, step, table_now}
 use Rattle.explain_core.specs.World.Step.{Header_gate}
 use Rattle.standing.specs.Members.{members_of, tables_in, table_of, members-append, tables-append}
 use Rattle.standing.specs.Moments.{ShowsEither, TakesSome, moments_one}
 use Rattle.standing.specs.Standing.{stored}
 use Rattle.running_store.specs.Buffered.{check_bytes}
 use Rattle.running_store.specs.Courses.{record_length, table_length}
-use Rattle.running_store.specs.Parts.{Shows, Store}
+use Rattle.running_store.specs.Parts.{Shows, Volatile}
 use Rattle.running_store.specs.Rewrites.{check_length, lengths_left, new_base, trimmed_file}
 use Rattle.running_store.proofs.Tails.{tail_members, tail_tables, tail_lengths, left_commands}
 
@@ -51,7 +51,7 @@ all_forced : {O : Type 0} (h : List (Member O)) (f : ℕ) → f ≤ length h →
 all_forced h f le none = omega (arith, le, length-drop f h, ap length none)
 
 -- the log shows the world, and nothing waits
-module _ {O : Type 0} (m : Meaning O) (p : Params) (d : Disk) (log : RecordLogView) (it : Store) (v : World O) (shows : Shows m p d (record { log = log; store = it }) v) (none : log.log.pending ≡ []) where
+module _ {O : Type 0} (m : Meaning O) (p : Params) (d : Disk) (log : RecordLogView) (it : Volatile) (v : World O) (shows : Shows m p d (record { log = log; volatile = it }) v) (none : log.log.pending ≡ []) where
   abbrev pub stable : List (Record O)
   stable = shows.log.stable
 
@@ -117,7 +117,7 @@ module _ {O : Type 0} (m : Meaning O) (p : Params) (d : Disk) (log : RecordLogVi
     pub length_new : base ≡ new_base m v → file_length (new_payloads m base table stable) ≡ trimmed_file m v
     length_new is =
         let kept : members_of tail ≡ drop (new_base m v - 1) v.history = tail_is ∙ ap (λ (n : ℕ). drop (n - 1) v.history) is in
-        let check : length (record_code m (Logged_check table)) ≡ check_length m v = check_bytes m base log.next table place ∙ ap (λ (t : Table). table_length m t) now in
+        let check : length (record_code m (Logged_check table)) ≡ check_length m v = check_bytes m base log.next table place ∙ ap (λ (t : Starts). table_length m t) now in
         let lengths : code_lengths m (rewritten_records base table stable) ≡ lengths_left m v =
         map-append (λ (r : Record O). length (record_code m r)) tail (Logged_check table ∷ [])
         ∙ (λ i. (tail_lengths m base stable ∙ ap (λ (l : List (Member O)). map (record_length m) l) kept) i ++ check i ∷ []) in
@@ -127,7 +127,7 @@ module _ {O : Type 0} (m : Meaning O) (p : Params) (d : Disk) (log : RecordLogVi
     -- parts and files show the world after the gate
     pub rewritten_shows : (new : Disk) → new.tells_files → new.reads Objects ≡ d.reads Objects
         → let after : RecordLogView = record log { log = rewritten_log m log.log base table stable } in Keeps m new after (rewritten_records base table stable) []
-        → IsSound m (step m v (Header_gate base)) → Shows m p new (record { log = after; store = it }) (step m v (Header_gate base))
+        → IsSound m (step m v (Header_gate base)) → Shows m p new (record { log = after; volatile = it }) (step m v (Header_gate base))
     unfolding step
     rewritten_shows new told objects keeps sound = record {
       told = told;

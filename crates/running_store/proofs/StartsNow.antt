@@ -1,13 +1,13 @@
 -- A table of the redo starts of the graph, and of the next number, is the check that the world would take now.
-use Rattle.std.proofs.Common.{◌≡◌, ◌∙◌, sym, subst, ap, ℕ, ◌<◌, ◌≤◌, Bool, true, false, List, [], ◌∷◌, map, refl, arith, inl, inr}
+use Rattle.std.proofs.Common.{◌≡◌, ◌∙◌, sym, subst, ap, ℕ, ◌<◌, ◌≤◌, Bool, true, List, [], ◌∷◌, map, refl, arith, inl, inr}
 use Rattle.std.specs.Prelude.{All, ◌==◌, ◌||◌, IsTrue}
 use Rattle.std.proofs.Math.Path.{fun_ext}
-use Rattle.std.proofs.lemmas.Bool.{cases_Bool, cases_lt, cond-true, cond-false, eqb-true, and_parts, or_left, both_ways}
+use Rattle.std.proofs.lemmas.Bool.{cases_Bool, cases_lt, cond-true, cond-false, eqb-true, and_parts, both_ways}
 use Rattle.std.proofs.lemmas.List.Elements.{All-head, All-tail, All-nil, All-cons}
 use Rattle.oper_core.specs.Meaning.{Meaning}
 use Rattle.oper_core.specs.State.{is_among}
-use Rattle.checkpoint.specs.RedoStarts.{start_or, redo_from}
-use Rattle.checkpoint.specs.declared.table.Table.{Table}
+use Rattle.redo_tables.specs.RedoStarts.{start_or, redo_from}
+use Rattle.redo_tables.specs.declared.table.Table.{Table}
 use Rattle.install_order.specs.Computed.{least_below}
 use Rattle.install_order.specs.Entries.{accesses}
 use Rattle.install_order.specs.NodeLaws.{least-is}
@@ -18,16 +18,9 @@ use Rattle.write_graph.specs.Objects.{IsWriter, IsWritten}
 use Rattle.explain_core.specs.Sound.{IsSound}
 use Rattle.explain_core.specs.World.{World, table_now, end_of, graph_access}
 use Rattle.standing.specs.Members.{table_of}
+use Rattle.running_store.specs.Buffered.{start_absent}
 
 module _ (other : ℕ) where
-  -- x has no pair
-  start_none : (starts : List (ℕ × ℕ)) (x : ℕ) → is_among x (map (λ s. s.0) starts) ≡ false → start_or other starts x ≡ other
-  start_none [] x none = refl
-  start_none (s ∷ starts) x none = elim (cases_Bool (x == s.0)) [
-    | inl here ↦ absurd (both_ways _ none (or_left (x == s.0) (is_among x (map (λ s. s.0) starts)) here))
-    | inr past ↦ cond-false (x == s.0) s.1 (start_or other starts x) past ∙ start_none starts x (sym (ap (λ (b : Bool). b || is_among x (map (λ s. s.0) starts)) past) ∙ none)
-  ]
-
   -- x has a pair, and its number is what all numbers beside x are
   start_some : (W : ℕ → ℕ → Bool) (starts : List (ℕ × ℕ)) (x : ℕ) → is_among x (map (λ s. s.0) starts) ≡ true → All (λ s. IsTrue (W s.1 s.0)) starts → IsTrue (W (start_or other starts x) x)
   start_some W [] x here all = absurd (both_ways _ refl here)
@@ -81,5 +74,5 @@ starts_now {O} m w entries table sound same lists least next = λ i. record { re
                 | inl below ↦ absurd (both_ways _ none ((lists.exactly x).1 (at, ap (λ (a : Access). a.writes at x) same ∙ low.1 below)))
                 | inr ge ↦ ge
               ] in
-              omega (arith, start_none table.next table.starts x none, next, past, low.0)
+              omega (arith, start_absent table.next table.starts x none, next, past, low.0)
         ]

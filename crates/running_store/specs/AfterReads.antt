@@ -38,8 +38,8 @@ module _ (old mid : Disk) (before here : StoreView) (failed : Type 0) (is : IsFe
   -- parts and files show the world that they showed
   pub fetch_shows : {O : Type 0} (m : Meaning O) (p : Params) (w : World O) → Shows m p old before.parts w → Shows m p mid here.parts w
   fetch_shows m p w shows =
-      let same : parts before.parts.log here.parts.store.objects before.parts.store.entries ≡ here.parts = λ i. parts (sym is.log i) here.parts.store.objects (sym is.entries i) in
-      subst (λ (it : Parts). Shows m p mid it w) same (read_shows m p old mid before.parts here.parts.store.objects w is.read shows)
+      let same : parts before.parts.log here.parts.volatile.objects before.parts.volatile.entries ≡ here.parts = λ i. parts (sym is.log i) here.parts.volatile.objects (sym is.entries i) in
+      subst (λ (it : Parts). Shows m p mid it w) same (read_shows m p old mid before.parts here.parts.volatile.objects w is.read shows)
 
   -- the next call takes its course
   pub fetch_takes : {O : Type 0} (meaning : Bounds → Meaning O) (new : Disk) (after : Parts) (course : Meaning O → World O → ℕ → Course O) (ending : Ending)
@@ -50,10 +50,10 @@ module _ (old mid : Disk) (before here : StoreView) (failed : Type 0) (is : IsFe
         follows = λ p w shows.
             let m = meaning_in meaning p in
             subst (λ (k : ℕ). Follows m p new after w (course m w k) ending) used (takes.follows p w (fetch_shows m p w shows));
-        moments = λ told p w shows.
+        steps = λ told p w shows.
             let m = meaning_in meaning p in
             let steps = (course m w (used_of before.parts.log.log)).steps in
-            let more = takes.moments (is.read.stays.time.moments_told.0 told) p w (fetch_shows m p w shows) in
+            let more = takes.steps (is.read.stays.time.moments_told.0 told) p w (fetch_shows m p w shows) in
             moments_twice m p old mid new w [] steps (is.read.stays.said shows.told) (read_moments m p old mid before.parts w [] shows is.read.stays told)
             (subst (λ (v : World O). TakesSome m p mid new v steps) (sym (run_none m 0 w)) (subst (λ (k : ℕ). TakesSome m p mid new w (course m w k).steps) used more));
       }
@@ -92,6 +92,7 @@ call_stopped meaning old new before after n stops stop so is = record {
   rising = is.rising;
   identities = is.identities;
   settled = is.settled;
+  kept = is.kept;
   attached = is.attached;
   stopped = λ other ends. subst (λ (s : Stop). stops after.parts.log s) (cc ends) so;
   broken = is.broken;

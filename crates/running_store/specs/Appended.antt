@@ -23,7 +23,7 @@ use Rattle.dirty_cache.specs.declared.entry.Entry.{Entry as Pair}
 use Rattle.stable_objects.specs.SlotsView.{SlotsView, AreOf}
 use Rattle.explain_core.specs.History.{Member, numbered, reads_some, writes_some, reads_of, writes_of, effect_of, made_by}
 use Rattle.explain_core.specs.History.Member.{Command, Identity}
-use Rattle.explain_core.specs.World.{World, Table, step, end_of, graph_access}
+use Rattle.explain_core.specs.World.{World, Starts, step, end_of, graph_access}
 use Rattle.explain_core.specs.World.Step.{Append}
 use Rattle.explain_core.specs.Sound.{IsSound}
 use Rattle.standing.specs.Members.{members_of, tables_in, next-members, members-append, tables-append}
@@ -31,7 +31,7 @@ use Rattle.standing.specs.Standing.{stored}
 use Rattle.std.specs.List.{list_any}
 use Rattle.running_store.specs.Courses.{is_identity_some, is_identity_at}
 use Rattle.running_store.specs.Laid.{cell_or}
-use Rattle.running_store.specs.Parts.{Parts, ShowsStore, ShowsLog, Shows, IsAppended, record_of, entry_of, is_identity}
+use Rattle.running_store.specs.Parts.{Parts, ShowsVolatile, ShowsLog, Shows, IsAppended, record_of, entry_of, is_identity}
 
 -- a member as a record is one member and no check, and is right in its place
 module _ {O : Type 0} where
@@ -189,19 +189,19 @@ module _ {O : Type 0} (m : Meaning O) (p : Params) (d : Disk) (before after : Pa
   unfolding step
   cell_left y is = cond-false (is_among y (writes_of m member)) _ _ is
 
-  held_set : (y : ℕ) → is_among y (writes_of m member) ≡ true → held after.store.objects.cache y ≡ Some (record { lsn = before.log.next; bytes = value_for y (writes_of m member) made })
+  held_set : (y : ℕ) → is_among y (writes_of m member) ≡ true → held after.volatile.objects.cache y ≡ Some (record { lsn = before.log.next; bytes = value_for y (writes_of m member) made })
   held_set y is = it.held y ∙ cond-true (is_among y (writes_of m member)) _ _ is
 
-  held_left : (y : ℕ) → is_among y (writes_of m member) ≡ false → held after.store.objects.cache y ≡ held before.store.objects.cache y
+  held_left : (y : ℕ) → is_among y (writes_of m member) ≡ false → held after.volatile.objects.cache y ≡ held before.volatile.objects.cache y
   held_left y is = it.held y ∙ cond-false (is_among y (writes_of m member)) _ _ is
 
-  dirty_set : (y : ℕ) → is_among y (writes_of m member) ≡ true → is_dirty after.store.objects.cache y ≡ true
-  dirty_set y is = it.dirty y ∙ ap (λ (b : Bool). b || is_dirty before.store.objects.cache y) is
+  dirty_set : (y : ℕ) → is_among y (writes_of m member) ≡ true → is_dirty after.volatile.objects.cache y ≡ true
+  dirty_set y is = it.dirty y ∙ ap (λ (b : Bool). b || is_dirty before.volatile.objects.cache y) is
 
-  dirty_left : (y : ℕ) → is_among y (writes_of m member) ≡ false → is_dirty after.store.objects.cache y ≡ is_dirty before.store.objects.cache y
-  dirty_left y is = it.dirty y ∙ ap (λ (b : Bool). b || is_dirty before.store.objects.cache y) is
+  dirty_left : (y : ℕ) → is_among y (writes_of m member) ≡ false → is_dirty after.volatile.objects.cache y ≡ is_dirty before.volatile.objects.cache y
+  dirty_left y is = it.dirty y ∙ ap (λ (b : Bool). b || is_dirty before.volatile.objects.cache y) is
 
-  pub store_appended : ShowsStore m p (d.reads Objects) after.store (step m w (Append member))
+  pub store_appended : ShowsVolatile m p (d.reads Objects) after.volatile (step m w (Append member))
   unfolding step
   store_appended = record {
     params = ap (λ (s : SlotsView). s.params) it.slots ∙ shows.store.params;
@@ -225,10 +225,10 @@ module _ {O : Type 0} (m : Meaning O) (p : Params) (d : Disk) (before after : Pa
       | inl is ↦ λ same. absurd (omega (arith, older y, same, ap (λ (c : Cell). c.id) (cell_set y is)))
       | inr left ↦ λ same. shows.store.dirty y (sym (dirty_left y left) ∙ is_d) (same ∙ ap (λ (c : Cell). c.id) (cell_left y left))
     ];
-    members = λ n. ap (λ (l : List Entry). is_among n (numbers l)) it.entries ∙ graph_members m w before.store.entries before.log.next member shows.running.sound shows.store.members shows.store.accesses number n;
-    accesses = ap accesses it.entries ∙ graph_accesses m w before.store.entries before.log.next member shows.running.sound shows.store.members shows.store.accesses number;
+    members = λ n. ap (λ (l : List Entry). is_among n (numbers l)) it.entries ∙ graph_members m w before.volatile.entries before.log.next member shows.running.sound shows.store.members shows.store.accesses number n;
+    accesses = ap accesses it.entries ∙ graph_accesses m w before.volatile.entries before.log.next member shows.running.sound shows.store.members shows.store.accesses number;
     identities = λ n. ap (λ (l : List Entry). list_any (λ e. (e.number == n) && e.identity) l) it.entries
-        ∙ graph_identities m w before.store.entries before.log.next member shows.running.sound shows.store.members shows.store.accesses number shows.store.identities n;
+        ∙ graph_identities m w before.volatile.entries before.log.next member shows.running.sound shows.store.members shows.store.accesses number shows.store.identities n;
   }
 
   log_appended : IsRecord m (record_of before.log.next member) → before.log.next < 2 ^ 62 → ShowsLog m d after.log (step m w (Append member))
@@ -249,7 +249,7 @@ module _ {O : Type 0} (m : Meaning O) (p : Params) (d : Disk) (before after : Pa
         waiting = members-append l.pending (new ∷ []) ∙ ap (λ (h : List (Member O)). members_of l.pending ++ h) (member_is before.log.next member)
             ∙ ap (λ (h : List (Member O)). h ++ member ∷ []) l.waiting ∙ sym (drop-append-le w.forced w.history (member ∷ []) shows.running.sound.forced);
         tables = l.tables;
-        pending_tables = tables-append l.pending (new ∷ []) ∙ ap (λ (t : List Table). t ++ tables_in l.pending) (no_table before.log.next member) ∙ l.pending_tables;
+        pending_tables = tables-append l.pending (new ∷ []) ∙ ap (λ (t : List Starts). t ++ tables_in l.pending) (no_table before.log.next member) ∙ l.pending_tables;
       }
 
   -- parts and files show the world after the append

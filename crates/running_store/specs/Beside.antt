@@ -14,12 +14,12 @@ use Rattle.running_store.specs.StoreView.{StoreView}
 pub record IsOnObjects (old new : Disk) (before after : StoreView) : Type 0 where
   pub runs : Runs (In Objects Any) Same old new
   pub log : after.parts.log ≡ before.parts.log
-  pub laid : (after.broken ≡ true) ⊎ (old.tells_files → IsLaidOn before.parts.store.objects (old.reads Objects) → IsLaidOn after.parts.store.objects (new.reads Objects))
+  pub laid : (after.broken ≡ true) ⊎ (old.tells_files → IsLaidOn before.parts.volatile.objects (old.reads Objects) → IsLaidOn after.parts.volatile.objects (new.reads Objects))
 
 -- The same, and each entry of the graph was there before.
-pub record IsBeside (old new : Disk) (before after : StoreView) : Type 0 where
+pub record IsOnObjectsAlone (old new : Disk) (before after : StoreView) : Type 0 where
   pub objects : IsOnObjects old new before after
-  pub entries : (k : ℕ) → All (λ n. n < k) (numbers before.parts.store.entries) → All (λ n. n < k) (numbers after.parts.store.entries)
+  pub entries : (k : ℕ) → All (λ n. n < k) (numbers before.parts.volatile.entries) → All (λ n. n < k) (numbers after.parts.volatile.entries)
 
 -- nothing is done
 pub objects_none : (d : Disk) (it : StoreView) → IsDisk d → IsOnObjects d d it it
@@ -42,13 +42,13 @@ pub objects_fetch : (old new : Disk) (before after : StoreView) (failed : Type 0
 objects_fetch old new before after failed is = record {
   runs = runs_wider old new Same (In Objects Any) (λ a b same. record { changed = tt; others = λ other ne. ap (λ (f : Files). f other) same }) is.read.stays;
   log = is.log;
-  laid = inr (λ told laid. subst (λ (f : Files). IsLaidOn after.parts.store.objects (f Objects)) (sym (is.read.stays.reads told)) (is.read.cells told laid).1);
+  laid = inr (λ told laid. subst (λ (f : Files). IsLaidOn after.parts.volatile.objects (f Objects)) (sym (is.read.stays.reads told)) (is.read.cells told laid).1);
 }
 
-pub beside_none : (d : Disk) (it : StoreView) → IsDisk d → IsBeside d d it it
+pub beside_none : (d : Disk) (it : StoreView) → IsDisk d → IsOnObjectsAlone d d it it
 beside_none d it lawful = record { objects = objects_none d it lawful; entries = λ k all. all }
 
-pub beside_twice : (old mid new : Disk) (before here after : StoreView) → (here.broken ≡ true → ⊥) → IsBeside old mid before here → IsBeside mid new here after → IsBeside old new before after
+pub beside_twice : (old mid new : Disk) (before here after : StoreView) → (here.broken ≡ true → ⊥) → IsOnObjectsAlone old mid before here → IsOnObjectsAlone mid new here after → IsOnObjectsAlone old new before after
 beside_twice old mid new before here after fine first second = record {
   objects = objects_twice old mid new before here after fine first.objects second.objects;
   entries = λ k all. second.entries k (first.entries k all);

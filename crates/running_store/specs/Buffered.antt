@@ -10,26 +10,26 @@ use Rattle.oper_core.specs.LittleEndian.{length-little_bytes}
 use Rattle.oper_core.specs.Meaning.{Meaning}
 use Rattle.oper_core.specs.State.{is_among}
 use Rattle.disk_model.specs.Disk.{Disk}
-use Rattle.checkpoint.specs.Codec.{start_code}
-use Rattle.checkpoint.specs.RedoStarts.{start_or}
-use Rattle.checkpoint.specs.declared.table.Table.{Table as Check_table}
+use Rattle.redo_tables.specs.Codec.{start_code}
+use Rattle.redo_tables.specs.RedoStarts.{start_or}
+use Rattle.redo_tables.specs.declared.table.Table.{Table as Check_table}
 use Rattle.formats.specs.Records.{record_code, payload_of, next_after, next_behind, AreRecords, IsCheckAt}
 use Rattle.formats.specs.declared.record.Record.{Record}
 use Rattle.formats.specs.declared.record.Record.TheVariants.{Command as Logged_command, Identity as Logged_identity, Check as Logged_check}
 use Rattle.log_records.specs.RecordLog.{RecordLogView}
 use Rattle.explain_core.specs.CountLaws.{count_same, count_none, count_more}
 use Rattle.explain_core.specs.Turns.{count_below}
-use Rattle.explain_core.specs.World.{World, Table}
+use Rattle.explain_core.specs.World.{World, Starts}
 use Rattle.standing.specs.Members.{members_of, tables_in, table_of}
 use Rattle.running_store.specs.Courses.{buffered, force_steps, room_steps, records_length, table_length, tables_length}
 use Rattle.running_store.specs.Parts.{ShowsLog}
 
 -- the objects of pairs
-abbrev firsts : List (ℕ × ℕ) → List ℕ
+abbrev pub firsts : List (ℕ × ℕ) → List ℕ
 firsts starts = map (λ s. s.0) starts
 
 -- an object without a start
-start_absent : (other : ℕ) (starts : List (ℕ × ℕ)) (x : ℕ) → IsFalse (is_among x (firsts starts)) → start_or other starts x ≡ other
+pub start_absent : (other : ℕ) (starts : List (ℕ × ℕ)) (x : ℕ) → IsFalse (is_among x (firsts starts)) → start_or other starts x ≡ other
 start_absent other [] x none = refl
 start_absent other (s ∷ starts) x none =
     let apart = or_parts (x == s.0) (is_among x (firsts starts)) none in
@@ -80,7 +80,7 @@ module _ {O : Type 0} (m : Meaning O) where
         length-little_bytes 4 (length table.starts),
       )
 
-  tables_append : (ts us : List Table) → tables_length m (ts ++ us) ≡ tables_length m ts + tables_length m us
+  tables_append : (ts us : List Starts) → tables_length m (ts ++ us) ≡ tables_length m ts + tables_length m us
   tables_append [] us = omega arith
   tables_append (t ∷ ts) us = let rest = tables_append ts us in omega (arith, rest)
 

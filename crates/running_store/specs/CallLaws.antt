@@ -27,6 +27,7 @@ module _ {O : Type 0} (meaning : Bounds → Meaning O) (old new : Disk) (before 
       rising = is.rising;
       identities = is.identities;
       settled = is.settled;
+      kept = is.kept;
       attached = is.attached;
       stopped = λ other same. cc;
       broken = is.broken;

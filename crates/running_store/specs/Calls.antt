@@ -6,15 +6,19 @@ use Rattle.disk_model.specs.Disk.{Disk, IsDisk, IsSettled, Rises}
 use Rattle.disk_model.specs.Moments.{runs_none, runs_twice}
 use Rattle.oper_core.specs.Meaning.{Meaning}
 use Rattle.oper_core.specs.declared.bounds.Bounds.{Bounds}
+use Rattle.formats.specs.declared.read_err.ReadErr.{ReadErr}
+use Rattle.formats.specs.declared.read_err.ReadErr.TheVariants as of_read
 use Rattle.log_records.specs.RecordLog.{RecordLogView}
 use Rattle.running_store.specs.Courses.{Stop}
 use Rattle.running_store.specs.Finished.{IsQuiet}
 use Rattle.running_store.specs.Forced.{IsForced}
-use Rattle.running_store.specs.Kept.{IsAttached}
+use Rattle.running_store.specs.Kept.{IsAttached, KeepsLog}
 use Rattle.running_store.specs.Logged.{IsAsLong}
-use Rattle.running_store.specs.StoreView.{StoreView, next_of, params_of}
+use Rattle.running_store.specs.StoreView.{StoreView, next_of, store_params}
 use Rattle.running_store.specs.Taking.{Ending}
 use Rattle.running_store.specs.Taking.Ending.{Done, Stopped, Short, Failed}
+use Rattle.running_store.specs.declared.store_err.StoreErr.{StoreErr}
+use Rattle.running_store.specs.declared.store_err.StoreErr.TheVariants as of_store
 
 -- the disk failed
 abbrev pub IsFailed : Ending → Type 0
@@ -33,16 +37,30 @@ abbrev pub ending_of_memory : {T E : Type 0} → Result T E → Ending
 ending_of_memory (Ok value) = Done
 ending_of_memory (Err e) = Short
 
+-- one that fails with either
+abbrev pub ending_of_store : {T : Type 0} → Result T StoreErr → Ending
+ending_of_store (Ok value) = Done
+ending_of_store (Err of_store.DiskFault) = Failed
+ending_of_store (Err of_store.Memory) = Short
+
+-- and one that reads; of a damaged file nothing is done, as without memory
+abbrev pub ending_of_read : {T : Type 0} → Result T ReadErr → Ending
+ending_of_read (Ok value) = Done
+ending_of_read (Err of_read.DiskFault) = Failed
+ending_of_read (Err (of_read.Damaged file place)) = Short
+ending_of_read (Err of_read.Memory) = Short
+
 -- What holds on every machine of each call on a store: time passes, and nothing is said; the store's numbers stay, no number
--- of a record is given again, and so many identity writes are logged; unless the disk failed the machine stays settled, and the
--- store attached; a call that was stopped says so of the log that it leaves; the store is broken exactly if the disk failed, and then the disk
--- counted that.
+-- of a record is given again, and so many identity writes are logged; unless the disk failed the machine stays settled, a log
+-- that keeps some records keeps some still, and the store stays attached; a call that was stopped says so of the log that it
+-- leaves; the store is broken exactly if the disk failed, and then the disk counted that.
 pub record IsCall {O : Type 0} (meaning : Bounds → Meaning O) (old new : Disk) (before after : StoreView) (logged : ℕ) (stops : RecordLogView → Stop → Type 0) (ending : Ending) : Type 0 where
   pub quiet : IsQuiet old new
-  pub params : params_of after ≡ params_of before
+  pub params : store_params after ≡ store_params before
   pub rising : next_of before ≤ next_of after
   pub identities : after.identities ≡ before.identities + logged
   pub settled : IsFailed ending ⊎ (IsSettled old → IsSettled new)
+  pub kept : IsFailed ending ⊎ KeepsLog meaning old new before.parts.log after.parts.log
   pub attached : IsFailed ending ⊎ (IsAttached meaning old before.parts → IsAttached meaning new after.parts)
   pub stopped : (stop : Stop) → ending ≡ Stopped stop → stops after.parts.log stop
   pub broken : (after.broken ≡ true) ↔ IsFailed ending
@@ -92,6 +110,7 @@ module _ {O : Type 0} (meaning : Bounds → Meaning O) where
     rising = omega arith;
     identities = omega arith;
     settled = inr (λ is. is);
+    kept = inr (λ told has. has);
     attached = inr (λ at. at);
     stopped = λ stop is. cc;
     broken = (λ broken. both_ways _ unbroken broken, λ failed. absurd failed);
@@ -107,6 +126,7 @@ module _ {O : Type 0} (meaning : Bounds → Meaning O) where
     rising = omega (arith, first.rising, second.rising);
     identities = omega (arith, first.identities, second.identities);
     settled = and_on first.settled second.settled;
+    kept = ⊎_elim (λ failed. absurd failed) (λ one. ⊎_elim (λ failed. inl failed) (λ two. inr (λ told has. two (first.quiet.time.files_told.0 told) (one told has))) second.kept) first.kept;
     attached = and_on first.attached second.attached;
     stopped = second.stopped;
     broken = second.broken;
@@ -122,6 +142,7 @@ module _ {O : Type 0} (meaning : Bounds → Meaning O) where
     rising = is.rising;
     identities = omega (arith, same, is.identities);
     settled = is.settled;
+    kept = is.kept;
     attached = is.attached;
     stopped = λ stop ends. more stop ends (is.stopped stop ends);
     broken = is.broken;

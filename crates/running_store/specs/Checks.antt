@@ -8,8 +8,8 @@ use Rattle.disk_model.specs.Moments.{runs_none}
 use Rattle.disk_model.specs.declared.machine.FileNo.TheVariants.{Objects}
 use Rattle.oper_core.specs.Meaning.{Meaning}
 use Rattle.oper_core.specs.declared.bounds.Bounds.{Bounds}
-use Rattle.checkpoint.specs.Codec.{IsTable}
-use Rattle.checkpoint.specs.declared.table.Table.{Table as Logged_table}
+use Rattle.redo_tables.specs.Codec.{IsTable}
+use Rattle.redo_tables.specs.declared.table.Table.{Table as Logged_table}
 use Rattle.formats.specs.Records.{IsCheckAt, record_code}
 use Rattle.formats.specs.Objects.{bounds_of}
 use Rattle.formats.specs.declared.params.Params.{Params}
@@ -27,12 +27,12 @@ use Rattle.running_store.specs.Calls.{IsCall, Never, unset, with_log}
 use Rattle.running_store.specs.Courses.{course, grown, table_length}
 use Rattle.running_store.specs.Courses.Stop.{Through}
 use Rattle.running_store.specs.Growth.{end_more, growth_shown}
-use Rattle.running_store.specs.Kept.{HasLog}
+use Rattle.running_store.specs.Kept.{HasLog, KeepsLog}
 use Rattle.running_store.specs.Laid.{IsLaidOn}
-use Rattle.running_store.specs.Parts.{Parts, Shows, Store, meaning_in}
+use Rattle.running_store.specs.Parts.{Parts, Shows, Volatile, meaning_in}
 use Rattle.running_store.specs.Rewrites.{check_length}
 use Rattle.running_store.specs.Stored.{run_one, stays_shown, store_shown}
-use Rattle.running_store.specs.StoreView.{StoreView, params_of}
+use Rattle.running_store.specs.StoreView.{StoreView, store_params}
 use Rattle.running_store.specs.Taking.{Takes}
 use Rattle.running_store.specs.Taking.Ending.{Done}
 use Rattle.running_store.specs.Writes.{IsUnwritten}
@@ -83,8 +83,8 @@ module _ {O : Type 0} (m : Meaning O) (log : RecordLogView) (table : Logged_tabl
       }
 
   -- where the world would take the check now, it is shown after it did
-  checked_shows : (p : Params) (d : Disk) (it : Store) (v : World O) → Shows m p d (record { log = log; store = it }) v → table_of table ≡ table_now m v → IsSound m (step m v Check)
-      → Shows m p d (record { log = later; store = it }) (step m v Check)
+  checked_shows : (p : Params) (d : Disk) (it : Volatile) (v : World O) → Shows m p d (record { log = log; volatile = it }) v → table_of table ≡ table_now m v → IsSound m (step m v Check)
+      → Shows m p d (record { log = later; volatile = it }) (step m v Check)
   unfolding step
   checked_shows p d it v shows now sound =
       let l = shows.log in
@@ -126,17 +126,16 @@ module _ {O : Type 0} (meaning : Bounds → Meaning O) (before after : StoreView
   checked_call =
       let log = before.parts.log in
       let m = meaning log.bounds in
+      let keeps : KeepsLog meaning d d log after.parts.log =
+      λ told has. subst (λ (r : RecordLogView). HasLog (meaning r.bounds) d r) (sym is.log) (checked_log m log table after.parts.log.log.room is.here d has) in
       record {
         quiet = runs_none d (λ a b. Unit {0}) (λ files. tt) lawful;
-        params = ap params_of is.same;
+        params = ap store_params is.same;
         rising = omega (arith, ap (λ (r : RecordLogView). r.next) is.log);
         identities = omega (arith, ap (λ (s : StoreView). s.identities) is.same);
         settled = inr (λ settled. settled);
-        attached = inr (λ at told.
-            let was = at told in (
-              subst (λ (s : StoreView). IsLaidOn s.parts.store.objects (d.reads Objects)) (sym is.same) was.0,
-              subst (λ (r : RecordLogView). HasLog (meaning r.bounds) d r) (sym is.log) (checked_log m log table after.parts.log.log.room is.here d was.1),
-            ));
+        kept = inr keeps;
+        attached = inr (λ at told. let was = at told in (subst (λ (s : StoreView). IsLaidOn s.parts.volatile.objects (d.reads Objects)) (sym is.same) was.0, keeps told was.1));
         stopped = λ stop ends. cc;
         broken = unset before after Done fine (ap (λ (s : StoreView). s.broken) is.same) (λ failed. failed);
         fault = λ failed. absurd failed;
@@ -152,9 +151,9 @@ module _ {O : Type 0} (meaning : Bounds → Meaning O) (before after : StoreView
         let log = before.parts.log in
         let room = after.parts.log.log.room in
         let here : IsCheckHere m log table = subst (λ (b : Bounds). IsCheckHere (meaning b) log table) shows.bounds is.here in
-        let same : after.parts ≡ record { log = with_check m log table room; store = before.parts.store } =
-        ap (λ (s : StoreView). s.parts) is.same ∙ ap (λ (r : RecordLogView). record { log = r; store = before.parts.store }) (is.log ∙ ap (λ (b : Bounds). with_check (meaning b) log table room) shows.bounds) in
-        let shown = checked_shows m log table room here p d before.parts.store w shows (now p w shows) (keeps (bounds_of p) w shows.running.sound (shows.running.live, shows.running.alone)) in (
+        let same : after.parts ≡ record { log = with_check m log table room; volatile = before.parts.volatile } =
+        ap (λ (s : StoreView). s.parts) is.same ∙ ap (λ (r : RecordLogView). record { log = r; volatile = before.parts.volatile }) (is.log ∙ ap (λ (b : Bounds). with_check (meaning b) log table room) shows.bounds) in
+        let shown = checked_shows m log table room here p d before.parts.volatile w shows (now p w shows) (keeps (bounds_of p) w shows.running.sound (shows.running.live, shows.running.alone)) in (
           refl,
           record {
             shows = subst (λ (v : World O). Shows m p d after.parts v) (sym (run_one m w Check)) (subst (λ (k : Parts). Shows m p d k (step m w Check)) (sym same) shown);
@@ -162,5 +161,5 @@ module _ {O : Type 0} (meaning : Bounds → Meaning O) (before after : StoreView
                 ∙ ap (λ (k : ℕ). used_of log.log + growth_of log.log.pending k) (check_long m log w table here (now p w shows)) ∙ growth_shown m d log w (check_length m w) shows.log;
           },
         );
-    moments = λ told p w shows. let m = meaning_in meaning p in stays_shown m p d before.parts.store w (Check ∷ []) lawful told (store_shown m p d before.parts w shows);
+    steps = λ told p w shows. let m = meaning_in meaning p in stays_shown m p d before.parts.volatile w (Check ∷ []) lawful told (store_shown m p d before.parts w shows);
   }

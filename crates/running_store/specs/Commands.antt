@@ -17,13 +17,13 @@ use Rattle.explain_core.specs.Taken.{after_none}
 use Rattle.explain_core.specs.World.{World}
 use Rattle.running_store.specs.Calls.{IsCall, Never, unset}
 use Rattle.running_store.specs.Courses.{Course, record_length}
-use Rattle.running_store.specs.Kept.{HasLog}
-use Rattle.running_store.specs.KeptLaws.{appended_log}
+use Rattle.running_store.specs.Kept.{HasLog, KeepsLog}
+use Rattle.running_store.specs.KeptLaws.{appended_log, roomed_log}
 use Rattle.running_store.specs.Laid.{IsLaidOn}
 use Rattle.running_store.specs.Parts.{IsAppended, Shows, meaning_in}
 use Rattle.running_store.specs.Reads.{untaken_attached, untaken_shows}
 use Rattle.running_store.specs.Stored.{stays_shown, store_shown}
-use Rattle.running_store.specs.StoreView.{StoreView, params_of}
+use Rattle.running_store.specs.StoreView.{StoreView, store_params}
 use Rattle.running_store.specs.Taking.{Takes}
 use Rattle.running_store.specs.Taking.Ending.{Done, Short}
 use Rattle.running_store.specs.Unchanged.{IsUntaken}
@@ -49,11 +49,11 @@ pub record IsReady {O : Type 0} (meaning : Bounds → Meaning O) (p : Params) (o
 
 -- The command is appended, with what it makes of the values.
 pub record IsCommanded {O : Type 0} (meaning : Bounds → Meaning O) (before after : StoreView) (op : O) (values : List (List ℕ)) : Type 0 where
-  pub ready : IsReady meaning (params_of before) op values
-  pub place : HasPlaceBelow (params_of before).limit before.parts.log (command_length (meaning_in meaning (params_of before)) op)
-  pub bounds : before.parts.log.bounds ≡ bounds_of (params_of before)
-  pub appended : IsAppended (meaning_in meaning (params_of before)) before.parts after.parts (Command op) ((meaning_in meaning (params_of before)).effect op values)
-  pub laid : (file : List ℕ) → IsLaidOn before.parts.store.objects file → IsLaidOn after.parts.store.objects file
+  pub ready : IsReady meaning (store_params before) op values
+  pub place : HasPlaceBelow (store_params before).limit before.parts.log (command_length (meaning_in meaning (store_params before)) op)
+  pub bounds : before.parts.log.bounds ≡ bounds_of (store_params before)
+  pub appended : IsAppended (meaning_in meaning (store_params before)) before.parts after.parts (Command op) ((meaning_in meaning (store_params before)).effect op values)
+  pub laid : (file : List ℕ) → IsLaidOn before.parts.volatile.objects file → IsLaidOn after.parts.volatile.objects file
   pub counted : after.identities ≡ before.identities
   pub flag : after.broken ≡ before.broken
 
@@ -70,21 +70,20 @@ HasCommanded meaning before after op values (Err e) = IsLeft before after
 module _ {O : Type 0} (meaning : Bounds → Meaning O) (before after : StoreView) (fine : before.broken ≡ false) (d : Disk) (lawful : IsDisk d) where
   pub commanded_call : (op : O) (values : List (List ℕ)) → IsCommanded meaning before after op values → IsCall meaning d d before after 0 Never Done
   commanded_call op values is =
-      let m = meaning_in meaning (params_of before) in
+      let m = meaning_in meaning (store_params before) in
       let same : meaning before.parts.log.bounds ≡ m = ap meaning is.bounds in
       let low = is.place.number in
+      let keeps : KeepsLog meaning d d before.parts.log after.parts.log =
+      λ told has. subst (λ (n : Meaning O). HasLog n d after.parts.log) (sym (ap (λ (r : RecordLogView). meaning r.bounds) is.appended.log ∙ same))
+      (appended_log m d before.parts after.parts (Command op) (m.effect op values) is.appended (omega (arith, low), is.ready.shape) low (subst (λ (n : Meaning O). HasLog n d before.parts.log) same has)) in
       record {
         quiet = runs_none d (λ a b. Unit {0}) (λ files. tt) lawful;
         params = ap (λ (s : SlotsView). s.params) is.appended.slots;
         rising = omega (arith, ap (λ (r : RecordLogView). r.next) is.appended.log);
         identities = omega (arith, is.counted);
         settled = inr (λ settled. settled);
-        attached = inr (λ at told.
-            let was = at told in
-            let log = appended_log m d before.parts after.parts (Command op) (m.effect op values) is.appended (omega (arith, low), is.ready.shape) low (subst (λ (n : Meaning O). HasLog n d before.parts.log) same was.1) in (
-              is.laid (d.reads Objects) was.0,
-              subst (λ (n : Meaning O). HasLog n d after.parts.log) (sym (ap (λ (r : RecordLogView). meaning r.bounds) is.appended.log ∙ same)) log,
-            ));
+        kept = inr keeps;
+        attached = inr (λ at told. let was = at told in (is.laid (d.reads Objects) was.0, keeps told was.1));
         stopped = λ stop ends. cc;
         broken = unset before after Done fine is.flag (λ failed. failed);
         fault = λ failed. absurd failed;
@@ -98,6 +97,7 @@ module _ {O : Type 0} (meaning : Bounds → Meaning O) (before after : StoreView
       rising = omega (arith, ap (λ (r : RecordLogView). r.next) is.untaken.log);
       identities = omega (arith, is.counted);
       settled = inr (λ settled. settled);
+      kept = inr (roomed_log meaning d before.parts.log after.parts.log is.untaken.log);
       attached = inr (untaken_attached before.parts after.parts is.untaken meaning d);
       stopped = λ stop ends. cc;
       broken = unset before after Short fine is.flag (λ failed. failed);
@@ -109,6 +109,6 @@ module _ {O : Type 0} (meaning : Bounds → Meaning O) (before after : StoreView
       follows = λ p w shows.
           let m = meaning_in meaning p in
           after_none m (λ v. Shows m p d after.parts v) w (course m w (used_of before.parts.log.log)).steps (untaken_shows before.parts after.parts is.untaken m p d w shows);
-      moments = λ told p w shows.
-          let m = meaning_in meaning p in stays_shown m p d before.parts.store w (course m w (used_of before.parts.log.log)).steps lawful told (store_shown m p d before.parts w shows);
+      steps = λ told p w shows.
+          let m = meaning_in meaning p in stays_shown m p d before.parts.volatile w (course m w (used_of before.parts.log.log)).steps lawful told (store_shown m p d before.parts w shows);
     }

@@ -5,7 +5,7 @@ use Rattle.oper_core.specs.Meaning.{Meaning}
 use Rattle.explain_core.specs.History.{Member, numbered}
 use Rattle.explain_core.specs.History.Member.{Command, Identity}
 use Rattle.explain_core.specs.Turns.{count_below}
-use Rattle.explain_core.specs.World.{World, Table, Step, run, end_of}
+use Rattle.explain_core.specs.World.{World, Starts, Step, run, end_of}
 use Rattle.explain_core.specs.World.Step.{Append, Block_gate, Slot_gate, Removal}
 
 -- why a course ends early: a record or a log has no room, or no number is left for a record, or no epoch for a log
@@ -65,10 +65,10 @@ records_length m [] = 0
 records_length m (member ∷ members) = record_length m member + records_length m members
 
 -- a check's record has so many bytes: one start for each object whose redo begins below the next number
-abbrev pub table_length : {O : Type 0} → Meaning O → Table → ℕ
+abbrev pub table_length : {O : Type 0} → Meaning O → Starts → ℕ
 table_length m t = 13 + 12 * count_below m.objects (λ x. nat_lt (t.redo_from x) t.next)
 
-abbrev pub tables_length : {O : Type 0} → Meaning O → List Table → ℕ
+abbrev pub tables_length : {O : Type 0} → Meaning O → List Starts → ℕ
 tables_length m [] = 0
 tables_length m (t ∷ tables) = table_length m t + tables_length m tables
 

@@ -6,12 +6,12 @@ use Rattle.dirty_cache.specs.Contents.{held, is_dirty}
 use Rattle.install_order.specs.declared.entry.Entry.{Entry}
 use Rattle.running_store.specs.Commands.{IsLeft}
 use Rattle.running_store.specs.Laid.{IsLaidOn, with_chosen}
-use Rattle.running_store.specs.Parts.{Store}
+use Rattle.running_store.specs.Parts.{Volatile}
 use Rattle.running_store.specs.StoreView.{StoreView}
 
 -- Some objects that the entry's member writes are set: they are cached under its number, each with the value made for it,
 -- and are dirty; and the graph has the entry.
-pub record IsEntered (before after : Store) (due : List ℕ) (e : Entry) (made : List (List ℕ)) : Type 0 where
+pub record IsEntered (before after : Volatile) (due : List ℕ) (e : Entry) (made : List (List ℕ)) : Type 0 where
   pub slots : after.objects.slots ≡ before.objects.slots
   pub held : (x : ℕ) → held after.objects.cache x ≡ with_chosen (held before.objects.cache) e.number due e.writes made x
   pub dirty : (x : ℕ) → is_dirty after.objects.cache x ≡ ((is_among x due && is_among x e.writes) || is_dirty before.objects.cache x)
@@ -19,8 +19,8 @@ pub record IsEntered (before after : Store) (due : List ℕ) (e : Entry) (made :
 
 -- A store's objects and graph are those after it, and all else of the store is as it was.
 pub record IsEntry (before after : StoreView) (due : List ℕ) (e : Entry) (made : List (List ℕ)) : Type 0 where
-  pub entered : IsEntered before.parts.store after.parts.store due e made
-  pub laid : (file : List ℕ) → IsLaidOn before.parts.store.objects file → IsLaidOn after.parts.store.objects file
+  pub entered : IsEntered before.parts.volatile after.parts.volatile due e made
+  pub laid : (file : List ℕ) → IsLaidOn before.parts.volatile.objects file → IsLaidOn after.parts.volatile.objects file
   pub log : after.parts.log ≡ before.parts.log
   pub counted : after.identities ≡ before.identities
   pub flag : after.broken ≡ before.broken

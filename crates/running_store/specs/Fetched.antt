@@ -12,7 +12,7 @@ use Rattle.explain_core.specs.World.{World}
 use Rattle.standing.specs.Standing.{stored}
 use Rattle.running_store.specs.Laid.{Laid, IsLaidOn, KeepsCells, cell_or}
 use Rattle.running_store.specs.Joins.{stored_here, cell_shown}
-use Rattle.running_store.specs.Parts.{Store, ShowsStore, AreInUse, cell_at, store}
+use Rattle.running_store.specs.Parts.{Volatile, ShowsVolatile, AreInUse, cell_at, volatile}
 
 -- the pair is that of a clean object, with the identifier of its slot
 pub record IsRead (laid : Laid) (x : ℕ) (pair : Pair) : Type 0 where
@@ -50,7 +50,7 @@ fetched-twice before mid after one two = record {
 }
 
 -- a store in use is in use still
-pub fetched-in_use : (p : Params) (next : ℕ) (it : Store) (after : Laid) → AreInUse p next it → IsFetched it.objects after → AreInUse p next (store after it.entries)
+pub fetched-in_use : (p : Params) (next : ℕ) (it : Volatile) (after : Laid) → AreInUse p next it → IsFetched it.objects after → AreInUse p next (volatile after it.entries)
 fetched-in_use p next it after used is = record {
   params = ap (λ (s : SlotsView). s.params) is.slots ∙ used.params;
   low = used.low;
@@ -75,7 +75,7 @@ past_last p laid file x below past = by_entry (held laid.cache x) refl
     by_entry None none = ap (λ (o : Option Pair). cell_or o (stored p file x)) none
     by_entry (Some pair) had = absurd (omega (arith, below pair had, past))
 
-module _ {O : Type 0} (m : Meaning O) (p : Params) (file : List ℕ) (it : Store) (after : Laid) (w : World O) (shows : ShowsStore m p file it w) (is : IsFetched it.objects after) (keeps : KeepsCells file it.objects after) where
+module _ {O : Type 0} (m : Meaning O) (p : Params) (file : List ℕ) (it : Volatile) (after : Laid) (w : World O) (shows : ShowsVolatile m p file it w) (is : IsFetched it.objects after) (keeps : KeepsCells file it.objects after) where
   below_after : (x : ℕ) (pair : Pair) → held after.cache x ≡ Some pair → x < p.objects
   below_after x pair had = elim (is.held x pair had) [
     | inl was ↦ shows.below x pair was
@@ -96,7 +96,7 @@ module _ {O : Type 0} (m : Meaning O) (p : Params) (file : List ℕ) (it : Store
   ]
 
   -- a store that shows a world shows it still
-  pub fetched-shows : IsLaidOn after file → ShowsStore m p file (store after it.entries) w
+  pub fetched-shows : IsLaidOn after file → ShowsVolatile m p file (volatile after it.entries) w
   fetched-shows laid = record {
     params = params_after;
     laid = laid;

@@ -10,7 +10,7 @@ use Rattle.explain_core.specs.World.{World, step, run, IsLive, AreAllowed}
 use Rattle.explain_core.specs.World.Step.{Slot_gate, Removal}
 use Rattle.standing.specs.Moments.{TakesSome, moments_longer, moments_twice}
 use Rattle.running_store.specs.Courses.{force_steps, removal_steps}
-use Rattle.running_store.specs.Parts.{Store, Parts, Shows, ShowsLog, StoreShows}
+use Rattle.running_store.specs.Parts.{Volatile, Parts, Shows, ShowsLog, VolatileShows}
 use Rattle.running_store.specs.Stored.{keeps_beside, log_flushed, log_removed, run_one, run_two}
 
 -- calls that say nothing, whatever they do to the files
@@ -46,8 +46,8 @@ module _ {O : Type 0} (m : Meaning O) where
       (log_removed m p new log (step m w (Slot_gate node x)) node (log_flushed m p old new log w node x others settled shows))
 
   -- with a log beside them the parts show the world after a node's last steps
-  pub finished_shows : (p : Params) (old new : Disk) (it : Parts) (after : Store) (w : World O) (node : ℕ → Bool) (work : List ℕ) → Shows m p old it w → OthersStay Objects old.reads new.reads
-      → StoreShows m p new after (run m w (removal_steps m node work)) → Shows m p new (record { log = it.log; store = after }) (run m w (removal_steps m node work))
+  pub finished_shows : (p : Params) (old new : Disk) (it : Parts) (after : Volatile) (w : World O) (node : ℕ → Bool) (work : List ℕ) → Shows m p old it w → OthersStay Objects old.reads new.reads
+      → VolatileShows m p new after (run m w (removal_steps m node work)) → Shows m p new (record { log = it.log; volatile = after }) (run m w (removal_steps m node work))
   finished_shows p old new it after w node work shows others done = record {
     told = done.told;
     running = record { sound = done.sound; live = live_finished w node work shows.running.live; alone = done.alone };

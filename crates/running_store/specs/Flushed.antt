@@ -1,5 +1,5 @@
 -- What the flush of an object leaves.
-use Rattle.std.specs.Prelude.{◌≡◌, ◌≢◌, ◌⊎◌, ◌<◌, ◌^◌, ℕ, false, true, nat_eq, None, Some}
+use Rattle.std.specs.Prelude.{◌≡◌, ◌≢◌, ◌⊎◌, ◌<◌, ℕ, false, nat_eq, None, Some}
 use Rattle.dirty_cache.specs.Contents.{held, is_dirty, IsSameOrForgotten}
 use Rattle.dirty_cache.specs.declared.entry.Entry.{Entry as Pair}
 use Rattle.stable_objects.specs.SlotsView.{id_in}
@@ -8,11 +8,6 @@ use Rattle.running_store.specs.Laid.{Laid}
 -- each slot's identifier is below this number
 abbrev pub AreEarly : ℕ → Laid → Type 0
 AreEarly next objects = (x : ℕ) → x < objects.slots.params.objects → id_in objects.slots x < next
-
--- x is dirty, and its slot may get the identifier that is cached
-pub record MayFlush (objects : Laid) (x : ℕ) : Type 0 where
-  pub dirty : is_dirty objects.cache x ≡ true
-  pub later : (pair : Pair) → held objects.cache x ≡ Some pair → (id_in objects.slots x < pair.lsn) × (pair.lsn < 2 ^ 62)
 
 -- x is flushed: its slot has the identifier that is cached, and it is clean, or forgotten; other clean objects may be
 -- forgotten, and all else is as it was

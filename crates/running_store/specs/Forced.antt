@@ -18,7 +18,7 @@ use Rattle.log_frames.specs.LogView.{used_of}
 use Rattle.log_records.specs.RecordLog.{RecordLogView, HoldsRecords, Keeps, IsForcedPartly}
 use Rattle.explain_core.specs.Sound.{IsSound}
 use Rattle.explain_core.specs.Taken.{after_none, after_all}
-use Rattle.explain_core.specs.World.{World, Table, Step, step, run}
+use Rattle.explain_core.specs.World.{World, Starts, Step, step, run}
 use Rattle.explain_core.specs.World.Step.{Block_gate}
 use Rattle.standing.specs.Members.{members_of, tables_in, members-append, tables-append}
 use Rattle.standing.specs.Moments.{TakesSome, ShowsSome}
@@ -102,7 +102,7 @@ module _ {O : Type 0} (m : Meaning O) (p : Params) (d : Disk) (it : Parts) (w : 
 
   -- parts and files show the world after the gate
   pub forced_shows : (new : Disk) (after : Parts) → new.tells_files → new.reads Objects ≡ d.reads Objects
-      → Keeps m new after.log (shows.log.stable ++ shows.log.pending) [] → after.log.bounds ≡ it.log.bounds → after.log.log.header ≡ it.log.log.header → after.store ≡ it.store
+      → Keeps m new after.log (shows.log.stable ++ shows.log.pending) [] → after.log.bounds ≡ it.log.bounds → after.log.log.header ≡ it.log.log.header → after.volatile ≡ it.volatile
       → IsSound m (step m w Block_gate) → Shows m p new after (step m w Block_gate)
   unfolding step
   forced_shows new after told objects keeps bounds header store sound = record {
@@ -143,7 +143,7 @@ module _ {O : Type 0} (m : Meaning O) (p : Params) (d : Disk) (it : Parts) (w : 
         let all : w.forced ≡ length w.history = omega (arith, ltb-false w.forced (length w.history) parts.0, shows.running.sound.forced) in
         let empty : w.pending ≡ [] = no_items w.pending (ltb-false 0 (length w.pending) parts.1) in
         ap (λ (l : List (Step O)). run m w l) (cond-false (waits m w) (Block_gate ∷ []) [] none)
-        ∙ (λ i. record w { forced = all i; tables = ap (λ (l : List Table). l ++ w.tables) (sym empty) i; pending = empty i })
+        ∙ (λ i. record w { forced = all i; tables = ap (λ (l : List Starts). l ++ w.tables) (sym empty) i; pending = empty i })
   ]
     where
       no_items : {X : Type 0} (l : List X) → length l ≤ 0 → l ≡ []

@@ -13,7 +13,7 @@ use Rattle.log_frames.specs.LogView.{end_with, used_of, growth_of}
 use Rattle.log_records.specs.RecordLog.{RecordLogView}
 use Rattle.explain_core.specs.History.{Member}
 use Rattle.explain_core.specs.History.Member.{Command, Identity}
-use Rattle.explain_core.specs.World.{World, Table}
+use Rattle.explain_core.specs.World.{World, Starts}
 use Rattle.standing.specs.Members.{members_of, tables_in, table_of}
 use Rattle.running_store.specs.Courses.{waits, grown, record_length}
 use Rattle.running_store.specs.Parts.{ShowsLog, record_of}
@@ -54,7 +54,7 @@ module _ {O : Type 0} (m : Meaning O) where
   waiting_none : (w : World O) → [] ≡ drop w.forced w.history → [] ≡ w.pending → waits m w ≡ false
   waiting_none w members tables =
       ap (λ (b : Bool). b || nat_lt 0 (length w.pending)) (le-ltb w.forced (length w.history) (omega (arith, ap length members, length-drop w.forced w.history)))
-      ∙ ap (λ (l : List Table). nat_lt 0 (length l)) (sym tables)
+      ∙ ap (λ (l : List Starts). nat_lt 0 (length l)) (sym tables)
 
   -- so many bytes more make the log as long as the courses say
   pub growth_shown : (d : Disk) (log : RecordLogView) (w : World O) (n : ℕ) → ShowsLog m d log w → used_of log.log + growth_of log.log.pending n ≡ grown m w (used_of log.log) n

@@ -14,8 +14,8 @@ use Rattle.install_order.specs.declared.entry.Entry.{Entry}
 use Rattle.write_graph.specs.Graph.{numbers}
 use Rattle.formats.specs.declared.params.Params.{Params}
 use Rattle.running_store.specs.Laid.{Laid}
-use Rattle.running_store.specs.Flushed.{AreEarly, IsFlushed, MayFlush}
-use Rattle.running_store.specs.Parts.{AreInUse, Store, store}
+use Rattle.running_store.specs.Flushed.{AreEarly, IsFlushed}
+use Rattle.running_store.specs.Parts.{AreInUse, Volatile, volatile}
 
 -- what is dirty is cached
 pub dirty_held : (c : Contents) (x : ℕ) → is_dirty c x ≡ true → (pair : Pair) × (held c x ≡ Some pair)
@@ -27,14 +27,11 @@ dirty_held c x = elim (entry_at c.places x) as (λ d. is_some d ≡ true → (pa
 pub dirty_cached : (c : Contents) (x : ℕ) → is_dirty c x ≡ true → IsSome (held c x)
 dirty_cached c x dirty = let found = dirty_held c x dirty in subst (λ (o : Option Pair). IsSome o) (sym found.1) refl
 
--- a dirty object may be flushed
-pub may_flush : (p : Params) (next : ℕ) (it : Store) (x : ℕ) → AreInUse p next it → is_dirty it.objects.cache x ≡ true → MayFlush it.objects x
-may_flush p next it x used dirty = record { dirty = dirty; later = λ pair had. let is = used.dirty x pair dirty had in (is.0, omega (arith, is.1, used.low)) }
-
-none_some : {B : Type 0} (o : Option Pair) (pair : Pair) → o ≡ None → o ≡ Some pair → B
+-- an option is not both
+pub none_some : {B : Type 0} (o : Option Pair) (pair : Pair) → o ≡ None → o ≡ Some pair → B
 none_some o pair none some = let h : None ≡ Some pair = sym none ∙ some in cc
 
-pub flushed_in_use : (p : Params) (next : ℕ) (it : Store) (after : Laid) (x : ℕ) → AreInUse p next it → IsFlushed it.objects after x → AreInUse p next (store after it.entries)
+pub flushed_in_use : (p : Params) (next : ℕ) (it : Volatile) (after : Laid) (x : ℕ) → AreInUse p next it → IsFlushed it.objects after x → AreInUse p next (volatile after it.entries)
 flushed_in_use p next it after x used is = record {
   params = is.params ∙ used.params;
   low = used.low;
@@ -60,7 +57,7 @@ flushed_in_use p next it after x used is = record {
 }
 
 -- the new identifier is below the next number too
-pub flushed_early : (p : Params) (next : ℕ) (it : Store) (after : Laid) (x : ℕ) → AreInUse p next it → is_dirty it.objects.cache x ≡ true → IsFlushed it.objects after x → AreEarly next it.objects → AreEarly next after
+pub flushed_early : (p : Params) (next : ℕ) (it : Volatile) (after : Laid) (x : ℕ) → AreInUse p next it → is_dirty it.objects.cache x ≡ true → IsFlushed it.objects after x → AreEarly next it.objects → AreEarly next after
 flushed_early p next it after x used dirty is early y below = elim (cases_eq y x) [
   | inl e ↦
       let had = dirty_held it.objects.cache x dirty in
@@ -81,8 +78,8 @@ numbers_within next test (e ∷ entries) all =
       | inr left ↦ rw left more
     ]
 
-pub removed_in_use : (p : Params) (next : ℕ) (it : Store) (entries : List Entry) (node : ℕ → Bool) → AreInUse p next it → entries ≡ filter (λ e. not (node e.number)) it.entries
-    → AreInUse p next (store it.objects entries)
+pub removed_in_use : (p : Params) (next : ℕ) (it : Volatile) (entries : List Entry) (node : ℕ → Bool) → AreInUse p next it → entries ≡ filter (λ e. not (node e.number)) it.entries
+    → AreInUse p next (volatile it.objects entries)
 removed_in_use p next it entries node used same = record {
   params = used.params;
   low = used.low;

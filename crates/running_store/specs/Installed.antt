@@ -25,7 +25,7 @@ use Rattle.running_store.specs.Courses.{is_identity_at}
 use Rattle.running_store.specs.Laid.{Laid, cell_or}
 use Rattle.running_store.specs.Joins.{cached_shown, clean_shown, stored_here}
 use Rattle.running_store.specs.Flushed.{IsFlushed}
-use Rattle.running_store.specs.Parts.{Store, ShowsStore, store}
+use Rattle.running_store.specs.Parts.{Volatile, ShowsVolatile, volatile}
 
 -- past the last object of the store there are no bytes
 stored_past : (p : Params) (file : List ℕ) (y : ℕ) → p.objects ≤ y → stored p file y ≡ record { id = 0; value = [] }
@@ -48,7 +48,7 @@ same_pair a b e = ap (λ (o : Option Pair). from o) e
 none_some : (o : Pair) → None ≡ Some o → ⊥
 none_some o e = cc
 
-module _ {O : Type 0} (m : Meaning O) (p : Params) (old new : List ℕ) (it : Store) (after : Laid) (w : World O) (shows : ShowsStore m p old it w) (node : ℕ → Bool) (x : ℕ) (pair : Pair)
+module _ {O : Type 0} (m : Meaning O) (p : Params) (old new : List ℕ) (it : Volatile) (after : Laid) (w : World O) (shows : ShowsVolatile m p old it w) (node : ℕ → Bool) (x : ℕ) (pair : Pair)
     (below : x < p.objects) (had : held it.objects.cache x ≡ Some pair) where
   the_cell : w.cache x ≡ cell_of_entry pair
   the_cell = cached_shown m p old it w shows x pair had
@@ -61,7 +61,7 @@ module _ {O : Type 0} (m : Meaning O) (p : Params) (old new : List ℕ) (it : St
     | inr ne ↦ stored_kept p x old new y kept ne ∙ shows.slots y ∙ sym (cond-false (y == x) (w.cache x) (w.slots y) (ne_eqb y x ne))
   ]
 
-  pub flushed_store : AreOf after.slots new → IsReplaced p x (cell_of_entry pair) old new → IsFlushed it.objects after x → ShowsStore m p new (store after it.entries) (step m w (Slot_gate node x))
+  pub flushed_store : AreOf after.slots new → IsReplaced p x (cell_of_entry pair) old new → IsFlushed it.objects after x → ShowsVolatile m p new (volatile after it.entries) (step m w (Slot_gate node x))
   unfolding step
   flushed_store of_file replaced is =
       let at_x : stored p new x ≡ w.cache x = stored_here p new x below ∙ replaced.held ∙ sym the_cell in
@@ -151,8 +151,8 @@ turned true false true = refl
 turned true false false = refl
 turned false b c = refl
 
-pub removed_store : {O : Type 0} (m : Meaning O) (p : Params) (file : List ℕ) (it : Store) (entries : List Entry) (w : World O) (node : ℕ → Bool) → ShowsStore m p file it w → entries ≡ filter (λ e. not (node e.number)) it.entries
-    → ShowsStore m p file (store it.objects entries) (step m w (Removal node))
+pub removed_store : {O : Type 0} (m : Meaning O) (p : Params) (file : List ℕ) (it : Volatile) (entries : List Entry) (w : World O) (node : ℕ → Bool) → ShowsVolatile m p file it w → entries ≡ filter (λ e. not (node e.number)) it.entries
+    → ShowsVolatile m p file (volatile it.objects entries) (step m w (Removal node))
 unfolding step
 removed_store m p file it entries w node shows same = record {
   params = shows.params;

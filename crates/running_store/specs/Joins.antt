@@ -12,13 +12,13 @@ use Rattle.explain_core.specs.World.{World}
 use Rattle.explain_core.specs.Turns.{is_dirty_in}
 use Rattle.standing.specs.Standing.{stored}
 use Rattle.running_store.specs.Laid.{cell_or, cell_in}
-use Rattle.running_store.specs.Parts.{Store, ShowsStore}
+use Rattle.running_store.specs.Parts.{Volatile, ShowsVolatile}
 
 -- an object of the store has in its slots what the file has at their places
 pub stored_here : (p : Params) (file : List ℕ) (x : ℕ) → x < p.objects → stored p file x ≡ cell_of p.cap x file
 stored_here p file x below = cond-true (nat_lt x p.objects) (cell_of p.cap x file) (record { id = 0; value = [] }) (lt-ltb x p.objects below)
 
-module _ {O : Type 0} (m : Meaning O) (p : Params) (file : List ℕ) (it : Store) (w : World O) (shows : ShowsStore m p file it w) where
+module _ {O : Type 0} (m : Meaning O) (p : Params) (file : List ℕ) (it : Volatile) (w : World O) (shows : ShowsVolatile m p file it w) where
   -- an object's pair is the world's cell
   pub cell_shown : (x : ℕ) → x < p.objects → cell_in it.objects file x ≡ w.cache x
   cell_shown x below =

@@ -21,7 +21,7 @@ use Rattle.running_store.specs.Flushed.{AreEarly, IsFlushed}
 use Rattle.running_store.specs.Kept.{HasLog, IsAttached, IsLonger, KeepsLog}
 use Rattle.running_store.specs.KeptLaws.{appended_log}
 use Rattle.running_store.specs.Laid.{Laid, IsLaidOn}
-use Rattle.running_store.specs.Parts.{AreInUse, IsAppended, Parts, Store, entry_of, parts, store}
+use Rattle.running_store.specs.Parts.{AreInUse, IsAppended, Parts, Volatile, entry_of, parts, volatile}
 use Rattle.running_store.specs.Taking.{ArePartsInUse}
 use Rattle.running_store.specs.Written.{same_object, written_dirty}
 
@@ -47,41 +47,41 @@ forced_attached meaning old new log later objects entries runs keeps at told =
 pub still_in_use : (log later : RecordLogView) (objects : Laid) (entries : List Entry) → later.bounds ≡ log.bounds → later.next ≡ log.next → ArePartsInUse (parts log objects entries) → ArePartsInUse (parts later objects entries)
 still_in_use log later objects entries bounds next used = record {
   bounds = bounds ∙ used.bounds;
-  store = subst (λ (n : ℕ). AreInUse objects.slots.params n (store objects entries)) (sym next) used.store;
+  store = subst (λ (n : ℕ). AreInUse objects.slots.params n (volatile objects entries)) (sym next) used.store;
   early = subst (λ (n : ℕ). AreEarly n objects) (sym next) used.early;
 }
 
 -- an identity write of a dirty object
-module _ {O : Type 0} (m : Meaning O) (x : ℕ) (pair : Pair) (before after : Parts) (had : held before.store.objects.cache x ≡ Some pair)
-    (done : IsAppended m before after (Identity x pair.bytes) (pair.bytes ∷ [])) (dirty : is_dirty before.store.objects.cache x ≡ true) where
-  appended_laid : (file : List ℕ) → IsLaidOn before.store.objects file → IsLaidOn after.store.objects file
+module _ {O : Type 0} (m : Meaning O) (x : ℕ) (pair : Pair) (before after : Parts) (had : held before.volatile.objects.cache x ≡ Some pair)
+    (done : IsAppended m before after (Identity x pair.bytes) (pair.bytes ∷ [])) (dirty : is_dirty before.volatile.objects.cache x ≡ true) where
+  appended_laid : (file : List ℕ) → IsLaidOn before.volatile.objects file → IsLaidOn after.volatile.objects file
   appended_laid file laid = record {
     slots = subst (λ (s : SlotsView). AreOf s file) (sym done.slots) laid.slots;
     clean = λ y other clean there. elim (cases_Bool (is_among y (x ∷ []))) [
-      | inl among ↦ absurd (both_ways _ clean (written_dirty m x pair before after had done dirty y ∙ subst (λ (z : ℕ). is_dirty before.store.objects.cache z ≡ true) (sym (same_object x y among)) dirty))
+      | inl among ↦ absurd (both_ways _ clean (written_dirty m x pair before after had done dirty y ∙ subst (λ (z : ℕ). is_dirty before.volatile.objects.cache z ≡ true) (sym (same_object x y among)) dirty))
       | inr left ↦
-          let here : held before.store.objects.cache y ≡ Some other = sym (cond-false (is_among y (x ∷ [])) _ _ left) ∙ sym (done.held y) ∙ there in
+          let here : held before.volatile.objects.cache y ≡ Some other = sym (cond-false (is_among y (x ∷ [])) _ _ left) ∙ sym (done.held y) ∙ there in
           ap (λ (s : SlotsView). cell_of s.params.cap y file) done.slots ∙ laid.clean y other (sym (written_dirty m x pair before after had done dirty y) ∙ clean) here
     ];
   }
 
-  pub appended_attached : (meaning : Bounds → Meaning O) → meaning before.log.bounds ≡ m → x < m.objects → length pair.bytes ≤ m.cap → before.log.next < 2 ^ 62 → (d : Disk) → IsAttached meaning d before → IsAttached meaning d after
-  appended_attached meaning is below short low d at told =
-      let was = at told in
-      let log = appended_log m d before after (Identity x pair.bytes) (pair.bytes ∷ []) done (omega (arith, low), below, short) low (subst (λ (n : Meaning O). HasLog n d before.log) is was.1) in (
-        appended_laid (d.reads Objects) was.0,
-        subst (λ (n : Meaning O). HasLog n d after.log) (sym (ap (λ (r : RecordLogView). meaning r.bounds) done.log ∙ is)) log,
-      )
+  pub appended_keeps : (meaning : Bounds → Meaning O) → meaning before.log.bounds ≡ m → x < m.objects → length pair.bytes ≤ m.cap → before.log.next < 2 ^ 62 → (d : Disk) → KeepsLog meaning d d before.log after.log
+  appended_keeps meaning is below short low d told has =
+      subst (λ (n : Meaning O). HasLog n d after.log) (sym (ap (λ (r : RecordLogView). meaning r.bounds) done.log ∙ is))
+      (appended_log m d before after (Identity x pair.bytes) (pair.bytes ∷ []) done (omega (arith, low), below, short) low (subst (λ (n : Meaning O). HasLog n d before.log) is has))
 
-  pub appended_longer : (old : Parts) → before.log.next ≡ old.log.next → before.store ≡ old.store → IsLonger 1 old after
+  pub appended_attached : (meaning : Bounds → Meaning O) (d : Disk) → KeepsLog meaning d d before.log after.log → IsAttached meaning d before → IsAttached meaning d after
+  appended_attached meaning d keeps at told = let was = at told in (appended_laid (d.reads Objects) was.0, keeps told was.1)
+
+  pub appended_longer : (old : Parts) → before.log.next ≡ old.log.next → before.volatile ≡ old.volatile → IsLonger 1 old after
   appended_longer old next store =
-      let more = ap length done.entries ∙ length-append before.store.entries (entry_of m before.log.next (Identity x pair.bytes) ∷ []) in
-      let same = ap (λ (s : Store). length s.entries) store in
+      let more = ap length done.entries ∙ length-append before.volatile.entries (entry_of m before.log.next (Identity x pair.bytes) ∷ []) in
+      let same = ap (λ (s : Volatile). length s.entries) store in
       let later = ap (λ (r : RecordLogView). r.next) done.log in
       record {
         next = omega (arith, later, next);
         entries = omega (arith, more, same);
-        dirty = λ y. written_dirty m x pair before after had done dirty y ∙ ap (λ (s : Store). is_dirty s.objects.cache y) store;
+        dirty = λ y. written_dirty m x pair before after had done dirty y ∙ ap (λ (s : Volatile). is_dirty s.objects.cache y) store;
       }
 
 -- a flush

@@ -26,13 +26,13 @@ KeepsLog meaning old new before after = old.tells_files → HasLog (meaning befo
 -- where the machine reports its files, the objects are laid on their file, and the log, which is another one, keeps some
 -- records
 abbrev pub IsAttached : {O : Type 0} → (Bounds → Meaning O) → Disk → Parts → Type 0
-IsAttached meaning d it = d.tells_files → IsLaidOn it.store.objects (d.reads Objects) × HasLog (meaning it.log.bounds) d it.log
+IsAttached meaning d it = d.tells_files → IsLaidOn it.volatile.objects (d.reads Objects) × HasLog (meaning it.log.bounds) d it.log
 
 -- so many identity writes more are logged, each with an entry in the graph; the same objects are dirty
 pub record IsLonger (n : ℕ) (before after : Parts) : Type 0 where
   pub next : after.log.next ≡ before.log.next + n
-  pub entries : length after.store.entries ≡ length before.store.entries + n
-  pub dirty : (y : ℕ) → is_dirty after.store.objects.cache y ≡ is_dirty before.store.objects.cache y
+  pub entries : length after.volatile.entries ≡ length before.volatile.entries + n
+  pub dirty : (y : ℕ) → is_dirty after.volatile.objects.cache y ≡ is_dirty before.volatile.objects.cache y
 
 -- Why a call is stopped whose log may have so many bytes, by the log that it leaves: nothing waits in it, and a record has no
 -- room after it, or no number is left for one; or no epoch is left for another log.

@@ -12,6 +12,7 @@ pub mod Flushed
 pub mod Early
 pub mod Installed
 pub mod InUse
+pub mod Among
 pub mod Logged
 pub mod Growth
 pub mod Buffered
@@ -40,3 +41,4 @@ pub mod Checks
 pub mod Rewrites
 pub mod RewriteLaws
 pub mod AfterReads
+pub mod LogReads

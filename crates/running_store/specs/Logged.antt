@@ -18,7 +18,3 @@ pub record IsAsLong (before after : RecordLogView) : Type 0 where
   pub bounds : after.bounds ≡ before.bounds
   pub next : after.next ≡ before.next
   pub used : used_of after.log ≡ used_of before.log
-
--- the greatest length of a log, with what waits
-abbrev pub log_limit : ℕ
-log_limit = 2 ^ 48

@@ -34,20 +34,20 @@ abbrev pub meaning_in : {O : Type 0} → (Bounds → Meaning O) → Params → M
 meaning_in meaning p = meaning (bounds_of p)
 
 -- what is in memory beside the log: the objects, and the entries of the write graph
-pub record Store : Type 0 where
+pub record Volatile : Type 0 where
   pub objects : Laid
   pub entries : List Entry
 
 -- what is in memory
 pub record Parts : Type 0 where
   pub log : RecordLogView
-  pub store : Store
+  pub volatile : Volatile
 
-abbrev pub store : Laid → List Entry → Store
-store objects entries = record { objects = objects; entries = entries }
+abbrev pub volatile : Laid → List Entry → Volatile
+volatile objects entries = record { objects = objects; entries = entries }
 
 abbrev pub parts : RecordLogView → Laid → List Entry → Parts
-parts log objects entries = record { log = log; store = store objects entries }
+parts log objects entries = record { log = log; volatile = volatile objects entries }
 
 -- an object's pair as `cell_in` has it; past the last object of the store that of `stored`
 abbrev pub cell_at : Params → Laid → List ℕ → ℕ → Cell
@@ -57,7 +57,7 @@ cell_at p objects file x = cell_or (held objects.cache x) (stored p file x)
 -- is of objects that there are, and is dirty exactly where the world's two identifiers differ. The entries are the members
 -- of the world's graph, with what these read and write, and which of them are identity writes. Whether anything is left to replay is not said, nor is anything of
 -- the log.
-pub record ShowsStore {O : Type 0} (m : Meaning O) (p : Params) (file : List ℕ) (it : Store) (w : World O) : Type 0 where
+pub record ShowsVolatile {O : Type 0} (m : Meaning O) (p : Params) (file : List ℕ) (it : Volatile) (w : World O) : Type 0 where
   pub params : it.objects.slots.params ≡ p
   pub laid : IsLaidOn it.objects file
   pub below : (x : ℕ) (pair : Pair) → held it.objects.cache x ≡ Some pair → x < p.objects
@@ -86,22 +86,22 @@ pub record Shows {O : Type 0} (m : Meaning O) (p : Params) (d : Disk) (it : Part
   pub told : d.tells_files
   pub running : IsRunning m w
   pub bounds : it.log.bounds ≡ bounds_of p
-  pub store : ShowsStore m p (d.reads Objects) it.store w
+  pub store : ShowsVolatile m p (d.reads Objects) it.volatile w
   pub log : ShowsLog m d it.log w
 
 -- Store and files show a sound world in which no group is open, perhaps in the middle of a redo: the files show what is
 -- stable of it. The machine reports its files, and is settled.
-pub record StoreShows {O : Type 0} (m : Meaning O) (p : Params) (d : Disk) (it : Store) (w : World O) : Type 0 where
+pub record VolatileShows {O : Type 0} (m : Meaning O) (p : Params) (d : Disk) (it : Volatile) (w : World O) : Type 0 where
   pub told : d.tells_files
   pub settled : IsSettled d
   pub sound : IsSound m w
   pub alone : NoGroup w
-  pub store : ShowsStore m p (d.reads Objects) it w
+  pub store : ShowsVolatile m p (d.reads Objects) it w
   pub files : FilesShow m p d.reads w
 
 -- What holds of a store in memory on every machine, with this next number, which is above every number in the graph: a
 -- dirty object's identifier is above that of its slot and below the next number, and a clean one has that of its slot.
-pub record AreInUse (p : Params) (next : ℕ) (it : Store) : Type 0 where
+pub record AreInUse (p : Params) (next : ℕ) (it : Volatile) : Type 0 where
   pub params : it.objects.slots.params ≡ p
   pub low : next ≤ 2 ^ 62
   pub above : All (λ n. n < next) (numbers it.entries)
@@ -130,7 +130,7 @@ pub record IsAppended {O : Type 0} (m : Meaning O) (before after : Parts) (membe
     next = before.log.next + 1;
     accepted = before.log.accepted + counts (record_of before.log.next member);
   }
-  pub slots : after.store.objects.slots ≡ before.store.objects.slots
-  pub held : (x : ℕ) → held after.store.objects.cache x ≡ with_entries (held before.store.objects.cache) before.log.next (writes_of m member) made x
-  pub dirty : (x : ℕ) → is_dirty after.store.objects.cache x ≡ (is_among x (writes_of m member) || is_dirty before.store.objects.cache x)
-  pub entries : after.store.entries ≡ before.store.entries ++ entry_of m before.log.next member ∷ []
+  pub slots : after.volatile.objects.slots ≡ before.volatile.objects.slots
+  pub held : (x : ℕ) → held after.volatile.objects.cache x ≡ with_entries (held before.volatile.objects.cache) before.log.next (writes_of m member) made x
+  pub dirty : (x : ℕ) → is_dirty after.volatile.objects.cache x ≡ (is_among x (writes_of m member) || is_dirty before.volatile.objects.cache x)
+  pub entries : after.volatile.entries ≡ before.volatile.entries ++ entry_of m before.log.next member ∷ []

@@ -18,15 +18,15 @@ use Rattle.running_store.specs.Flushed.{AreEarly}
 use Rattle.running_store.specs.Kept.{IsAttached}
 use Rattle.running_store.specs.KeptLaws.{roomed_log, stays_log}
 use Rattle.running_store.specs.Laid.{Laid, IsLaidOn, KeepsCells, cell_or}
-use Rattle.running_store.specs.Parts.{AreInUse, Parts, Shows, ShowsStore, parts, store}
+use Rattle.running_store.specs.Parts.{AreInUse, Parts, Shows, ShowsVolatile, parts, volatile}
 use Rattle.running_store.specs.Taking.{ArePartsInUse}
 use Rattle.running_store.specs.Unchanged.{HasRead, IsUntaken}
 
 -- objects of which slots were read, with the rest of the parts
 abbrev pub with_objects : Parts → Laid → Parts
-with_objects it objects = parts it.log objects it.store.entries
+with_objects it objects = parts it.log objects it.volatile.entries
 
-pub read_shows : {O : Type 0} (m : Meaning O) (p : Params) (old new : Disk) (before : Parts) (after : Laid) (w : World O) → HasRead old new before.store.objects after
+pub read_shows : {O : Type 0} (m : Meaning O) (p : Params) (old new : Disk) (before : Parts) (after : Laid) (w : World O) → HasRead old new before.volatile.objects after
     → Shows m p old before w → Shows m p new (with_objects before after) w
 read_shows m p old new before after w read shows =
     let cells = read.cells shows.told shows.store.laid in
@@ -35,8 +35,8 @@ read_shows m p old new before after w read shows =
       told = read.stays.time.files_told.0 shows.told;
       running = shows.running;
       bounds = shows.bounds;
-      store = subst (λ (f : Files). ShowsStore m p (f Objects) (store after before.store.entries) w) (sym same)
-          (fetched-shows m p (old.reads Objects) before.store after w shows.store read.fetched cells.0 cells.1);
+      store = subst (λ (f : Files). ShowsVolatile m p (f Objects) (volatile after before.volatile.entries) w) (sym same)
+          (fetched-shows m p (old.reads Objects) before.volatile after w shows.store read.fetched cells.0 cells.1);
       log = record {
         stable = shows.log.stable;
         pending = shows.log.pending;
@@ -50,17 +50,17 @@ read_shows m p old new before after w read shows =
       };
     }
 
-pub read_in_use : (old new : Disk) (before : Parts) (after : Laid) → HasRead old new before.store.objects after → ArePartsInUse before → ArePartsInUse (with_objects before after)
+pub read_in_use : (old new : Disk) (before : Parts) (after : Laid) → HasRead old new before.volatile.objects after → ArePartsInUse before → ArePartsInUse (with_objects before after)
 read_in_use old new before after read used =
-    let params : after.slots.params ≡ before.store.objects.slots.params = ap (λ (s : SlotsView). s.params) read.fetched.slots in
+    let params : after.slots.params ≡ before.volatile.objects.slots.params = ap (λ (s : SlotsView). s.params) read.fetched.slots in
     record {
       bounds = used.bounds ∙ ap bounds_of (sym params);
-      store = subst (λ (q : Params). AreInUse q before.log.next (store after before.store.entries)) (sym params)
-          (fetched-in_use before.store.objects.slots.params before.log.next before.store after used.store read.fetched);
+      store = subst (λ (q : Params). AreInUse q before.log.next (volatile after before.volatile.entries)) (sym params)
+          (fetched-in_use before.volatile.objects.slots.params before.log.next before.volatile after used.store read.fetched);
       early = subst (λ (s : SlotsView). (x : ℕ) → x < s.params.objects → id_in s x < before.log.next) (sym read.fetched.slots) used.early;
     }
 
-pub read_attached : {O : Type 0} (meaning : Bounds → Meaning O) (old new : Disk) (before : Parts) (after : Laid) → HasRead old new before.store.objects after → IsAttached meaning old before
+pub read_attached : {O : Type 0} (meaning : Bounds → Meaning O) (old new : Disk) (before : Parts) (after : Laid) → HasRead old new before.volatile.objects after → IsAttached meaning old before
     → IsAttached meaning new (with_objects before after)
 read_attached meaning old new before after read attached told =
     let told_old = read.stays.time.files_told.1 told in
@@ -69,21 +69,21 @@ read_attached meaning old new before after read attached told =
     (subst (λ (f : Files). IsLaidOn after (f Objects)) (sym same) (read.cells told_old was.0).1, stays_log (meaning before.log.bounds) old new before.log told_old read.stays was.1)
 
 module _ (before after : Parts) (it : IsUntaken before after) where
-  pub untaken_fetched : IsFetched before.store.objects after.store.objects
-  untaken_fetched = fetched-same before.store.objects after.store.objects it.slots it.dirty it.held
+  pub untaken_fetched : IsFetched before.volatile.objects after.volatile.objects
+  untaken_fetched = fetched-same before.volatile.objects after.volatile.objects it.slots it.dirty it.held
 
-  untaken_cells : (file : List ℕ) → KeepsCells file before.store.objects after.store.objects
+  untaken_cells : (file : List ℕ) → KeepsCells file before.volatile.objects after.volatile.objects
   untaken_cells file x below =
-      ap (λ (s : SlotsView). cell_or (held after.store.objects.cache x) (cell_of s.params.cap x file)) it.slots
-      ∙ ap (λ (e : Option Pair). cell_or e (cell_of before.store.objects.slots.params.cap x file)) (it.held x)
+      ap (λ (s : SlotsView). cell_or (held after.volatile.objects.cache x) (cell_of s.params.cap x file)) it.slots
+      ∙ ap (λ (e : Option Pair). cell_or e (cell_of before.volatile.objects.slots.params.cap x file)) (it.held x)
 
   pub untaken_shows : {O : Type 0} (m : Meaning O) (p : Params) (d : Disk) (w : World O) → Shows m p d before w → Shows m p d after w
   untaken_shows m p d w shows = record {
     told = shows.told;
     running = shows.running;
     bounds = ap (λ (r : RecordLogView). r.bounds) it.log ∙ shows.bounds;
-    store = subst (λ (l : List Entry). ShowsStore m p (d.reads Objects) (store after.store.objects l) w) (sym it.entries)
-        (fetched-shows m p (d.reads Objects) before.store after.store.objects w shows.store untaken_fetched (untaken_cells (d.reads Objects)) (it.laid (d.reads Objects) shows.store.laid));
+    store = subst (λ (l : List Entry). ShowsVolatile m p (d.reads Objects) (volatile after.volatile.objects l) w) (sym it.entries)
+        (fetched-shows m p (d.reads Objects) before.volatile after.volatile.objects w shows.store untaken_fetched (untaken_cells (d.reads Objects)) (it.laid (d.reads Objects) shows.store.laid));
     log = record {
       stable = shows.log.stable;
       pending = shows.log.pending;
@@ -99,15 +99,15 @@ module _ (before after : Parts) (it : IsUntaken before after) where
 
   pub untaken_in_use : ArePartsInUse before → ArePartsInUse after
   untaken_in_use used =
-      let params : after.store.objects.slots.params ≡ before.store.objects.slots.params = ap (λ (s : SlotsView). s.params) it.slots in
+      let params : after.volatile.objects.slots.params ≡ before.volatile.objects.slots.params = ap (λ (s : SlotsView). s.params) it.slots in
       let next : after.log.next ≡ before.log.next = ap (λ (r : RecordLogView). r.next) it.log in
       record {
         bounds = ap (λ (r : RecordLogView). r.bounds) it.log ∙ used.bounds ∙ ap bounds_of (sym params);
-        store = subst (λ (q : Params). AreInUse q after.log.next after.store) (sym params)
-            (subst (λ (n : ℕ). AreInUse before.store.objects.slots.params n after.store) (sym next)
-            (subst (λ (l : List Entry). AreInUse before.store.objects.slots.params before.log.next (store after.store.objects l)) (sym it.entries)
-            (fetched-in_use before.store.objects.slots.params before.log.next before.store after.store.objects used.store untaken_fetched)));
-        early = subst (λ (n : ℕ). AreEarly n after.store.objects) (sym next)
+        store = subst (λ (q : Params). AreInUse q after.log.next after.volatile) (sym params)
+            (subst (λ (n : ℕ). AreInUse before.volatile.objects.slots.params n after.volatile) (sym next)
+            (subst (λ (l : List Entry). AreInUse before.volatile.objects.slots.params before.log.next (volatile after.volatile.objects l)) (sym it.entries)
+            (fetched-in_use before.volatile.objects.slots.params before.log.next before.volatile after.volatile.objects used.store untaken_fetched)));
+        early = subst (λ (n : ℕ). AreEarly n after.volatile.objects) (sym next)
             (subst (λ (s : SlotsView). (x : ℕ) → x < s.params.objects → id_in s x < before.log.next) (sym it.slots) used.early);
       }
 

@@ -1,18 +1,18 @@
 -- What a rewrite of a store's log does, as a function of the world, and what it leaves.
 use Rattle.std.specs.Prelude.{◌≡◌, ◌+◌, ◌-◌, ℕ, nat_lt, if◌then◌else◌, List, [], ◌∷◌, ◌++◌, map, drop, Result, Ok, Err}
 use Rattle.oper_core.specs.Meaning.{Meaning}
-use Rattle.checkpoint.specs.declared.table.Table.{Table}
+use Rattle.redo_tables.specs.declared.table.Table.{Table}
+use Rattle.formats.specs.Limits.{log_limit}
 use Rattle.install_order.specs.Computed.{least_below}
-use Rattle.log_frames.specs.declared.log_err.LogErr.{LogErr}
-use Rattle.log_frames.specs.declared.log_err.LogErr.TheVariants as of_log
 use Rattle.log_records.specs.Rewriting.{blocks_length}
+use Rattle.log_records.specs.declared.rewrite_err.RewriteErr.{RewriteErr}
+use Rattle.log_records.specs.declared.rewrite_err.RewriteErr.TheVariants as of_rewrite
 use Rattle.explain_core.specs.World.{World, end_of, table_now}
 use Rattle.explain_core.specs.World.Step.{Header_gate}
 use Rattle.standing.specs.Members.{table_of}
 use Rattle.running_store.specs.Calls.{with_log}
 use Rattle.running_store.specs.Courses.{Course, course, record_length, table_length}
 use Rattle.running_store.specs.Courses.Stop.{Through, Full, Worn}
-use Rattle.running_store.specs.Logged.{log_limit}
 use Rattle.running_store.specs.StoreView.{StoreView}
 use Rattle.running_store.specs.Taking.{Ending}
 use Rattle.running_store.specs.Taking.Ending.{Done, Stopped, Short, Failed}
@@ -49,13 +49,13 @@ module _ {O : Type 0} (m : Meaning O) where
     pub starts : base ≡ new_base w
 
 -- how a rewrite ends; of a damaged log nothing is rewritten, as without memory
-abbrev pub ending_of_rewrite : {T : Type 0} → Result T LogErr → Ending
+abbrev pub ending_of_rewrite : {T : Type 0} → Result T RewriteErr → Ending
 ending_of_rewrite (Ok value) = Done
-ending_of_rewrite (Err of_log.DiskFault) = Failed
-ending_of_rewrite (Err (of_log.LogFull used need limit)) = Stopped (Full used need limit)
-ending_of_rewrite (Err (of_log.Damaged file place)) = Short
-ending_of_rewrite (Err (of_log.Exhausted epoch)) = Stopped (Worn epoch)
-ending_of_rewrite (Err of_log.Memory) = Short
+ending_of_rewrite (Err (of_rewrite.LogFull used need limit)) = Stopped (Full used need limit)
+ending_of_rewrite (Err (of_rewrite.Exhausted epoch)) = Stopped (Worn epoch)
+ending_of_rewrite (Err of_rewrite.DiskFault) = Failed
+ending_of_rewrite (Err (of_rewrite.Damaged file place)) = Short
+ending_of_rewrite (Err of_rewrite.Memory) = Short
 
 -- The log is one of the next epoch, which begins at the base. No number is given, no command is added, and all but the log is
 -- as it was.

@@ -21,8 +21,8 @@ abbrev pub view_of : RecordLogView → Laid → List Entry → ℕ → Bool → 
 view_of log objects entries identities broken = record { parts = parts log objects entries; identities = identities; broken = broken }
 
 -- the numbers of the store
-abbrev pub params_of : StoreView → Params
-params_of store = store.parts.store.objects.slots.params
+abbrev pub store_params : StoreView → Params
+store_params store = store.parts.volatile.objects.slots.params
 
 -- the number of its next record
 abbrev pub next_of : StoreView → ℕ
@@ -34,8 +34,8 @@ abbrev pub logged_since : StoreView → StoreView → ℕ
 logged_since before after = next_of after - next_of before
 
 -- the length of its log, what waits for a force counted
-abbrev pub length_of : StoreView → ℕ
-length_of store = used_of store.parts.log.log
+abbrev pub log_length : StoreView → ℕ
+log_length store = used_of store.parts.log.log
 
 -- What holds of a store that is not broken: its parts are in use, and no more identity writes were logged than there are
 -- numbers below the next.

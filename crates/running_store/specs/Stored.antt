@@ -31,7 +31,7 @@ use Rattle.running_store.specs.Flushed.{IsFlushed}
 use Rattle.running_store.specs.Forced.{files_shown}
 use Rattle.running_store.specs.Installed.{stored_kept, cells_new, flushed_store, removed_store}
 use Rattle.running_store.specs.Joins.{stored_here}
-use Rattle.running_store.specs.Parts.{Store, Parts, Shows, ShowsLog, StoreShows, store}
+use Rattle.running_store.specs.Parts.{Volatile, Parts, Shows, ShowsLog, VolatileShows, volatile}
 
 -- what changes the objects alone leaves a log in force
 in_force_beside : (active : FileNo) (epoch : ℕ) (old new : Files) → OthersStay Objects old new → IsInForce active epoch old → IsInForce active epoch new
@@ -40,7 +40,7 @@ in_force_beside LogA epoch old new others in_force = record { a_log = in_force.a
 in_force_beside LogB epoch old new others in_force = record { a_log = in_force.a_log; other = subst (IsPassive epoch) (sym (others LogA (λ e. cc))) in_force.other }
 
 -- parts that show a world are a store that shows it, over its files
-pub store_shown : {O : Type 0} (m : Meaning O) (p : Params) (d : Disk) (it : Parts) (w : World O) → Shows m p d it w → StoreShows m p d it.store w
+pub store_shown : {O : Type 0} (m : Meaning O) (p : Params) (d : Disk) (it : Parts) (w : World O) → Shows m p d it w → VolatileShows m p d it.volatile w
 store_shown m p d it w shows = record {
   told = shows.told;
   settled = shows.log.keeps.settled;
@@ -149,7 +149,7 @@ module _ {O : Type 0} (m : Meaning O) (p : Params) where
     pending_tables = shows.pending_tables;
   }
 
-  module _ (d : Disk) (it : Store) (w : World O) (shows : StoreShows m p d it w) (node : ℕ → Bool) where
+  module _ (d : Disk) (it : Volatile) (w : World O) (shows : VolatileShows m p d it w) (node : ℕ → Bool) where
     module _ (x : ℕ) (pair : Pair) (below : x < p.objects) (had : held it.objects.cache x ≡ Some pair) where
       -- nothing is replaced yet
       kept_cells : (file : List ℕ) → cell_of p.cap x file ≡ cell_of p.cap x (d.reads Objects) → OthersKept p x (d.reads Objects) file → (y : ℕ) → stored p file y ≡ w.slots y
@@ -174,7 +174,7 @@ module _ {O : Type 0} (m : Meaning O) (p : Params) where
       -- store and files show the world after the gate
       pub flush_shows : (new : Disk) (after : Laid) → Runs (In Objects Any) Same d new → IsSettled new → AreOf after.slots (new.reads Objects)
           → IsReplaced p x (cell_of_entry pair) (d.reads Objects) (new.reads Objects) → IsFlushed it.objects after x
-          → IsSound m (step m w (Slot_gate node x)) → StoreShows m p new (store after it.entries) (step m w (Slot_gate node x))
+          → IsSound m (step m w (Slot_gate node x)) → VolatileShows m p new (volatile after it.entries) (step m w (Slot_gate node x))
       unfolding step
       flush_shows new after run settled of_file replaced is sound =
           let params = is.params ∙ shows.store.params in
@@ -189,7 +189,7 @@ module _ {O : Type 0} (m : Meaning O) (p : Params) where
           }
 
     -- store and files show the world after a removal
-    pub removal_shows : (entries : List Entry) → entries ≡ filter (λ e. not (node e.number)) it.entries → IsSound m (step m w (Removal node)) → StoreShows m p d (store it.objects entries) (step m w (Removal node))
+    pub removal_shows : (entries : List Entry) → entries ≡ filter (λ e. not (node e.number)) it.entries → IsSound m (step m w (Removal node)) → VolatileShows m p d (volatile it.objects entries) (step m w (Removal node))
     unfolding step
     removal_shows entries same sound = record {
       told = shows.told;
@@ -210,7 +210,7 @@ unfolding run
 run_two m w s t = refl
 
 -- where no call is made, an image shows the world
-pub stays_shown : {O : Type 0} (m : Meaning O) (p : Params) (d : Disk) (it : Store) (w : World O) (steps : List (Step O)) → IsDisk d → d.tells_moments → StoreShows m p d it w → TakesSome m p d d w steps
+pub stays_shown : {O : Type 0} (m : Meaning O) (p : Params) (d : Disk) (it : Volatile) (w : World O) (steps : List (Step O)) → IsDisk d → d.tells_moments → VolatileShows m p d it w → TakesSome m p d d w steps
 stays_shown m p d it w steps lawful told shows =
     let same : (files : Files) (said : List ℕ) → d.left_since d.clock files said → d.reads ≡ files = λ files said left. fun_ext (λ file. sym (shows.settled file told files said left)) in
     moments_none m p d d w steps (started d (IsSilent (λ files. FilesShow m p files w) d.said)

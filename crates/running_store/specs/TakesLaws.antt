@@ -73,15 +73,15 @@ module _ {O : Type 0} (meaning : Bounds → Meaning O) (first second : Meaning O
         let next = other.follows p (run m w c.steps) done.1.shows in
         follows_behind m p new after w c (second m (run m w c.steps) c.used) done.0 ending
         (subst (λ (k : ℕ). Follows m p new after (run m w c.steps) (second m (run m w c.steps) k) ending) done.1.used next);
-    moments = λ told p w shows.
+    steps = λ told p w shows.
         let m = meaning_in meaning p in
         let c = first m w (used_of before.log.log) in
         let v = run m w c.steps in
         let done = one.follows p w shows in
         let d = second m v c.used in
-        let more = subst (λ (k : ℕ). TakesSome m p mid new v (second m v k).steps) done.1.used (other.moments (quiet.time.moments_told.0 told) p v done.1.shows) in
+        let more = subst (λ (k : ℕ). TakesSome m p mid new v (second m v k).steps) done.1.used (other.steps (quiet.time.moments_told.0 told) p v done.1.shows) in
         subst (λ (e : Course O). TakesSome m p old new w e.steps) (sym (behind_through c d c.stop (ap is_through done.0)))
-        (moments_twice m p old mid new w c.steps d.steps (quiet.said shows.told) (one.moments told p w shows) more);
+        (moments_twice m p old mid new w c.steps d.steps (quiet.said shows.told) (one.steps told p w shows) more);
   }
 
   -- a call that is cut, so that the other is not made
@@ -91,10 +91,10 @@ module _ {O : Type 0} (meaning : Bounds → Meaning O) (first second : Meaning O
         let m = meaning_in meaning p in
         let c = first m w (used_of before.log.log) in
         follows_cut m p new after w c (second m (run m w c.steps) c.used) ending cut (one.follows p w shows);
-    moments = λ told p w shows.
+    steps = λ told p w shows.
         let m = meaning_in meaning p in
         let c = first m w (used_of before.log.log) in
-        moments_cut m p old new w c (second m (run m w c.steps) c.used) (one.moments told p w shows);
+        moments_cut m p old new w c (second m (run m w c.steps) c.used) (one.steps told p w shows);
   }
 
 module _ {O : Type 0} (meaning : Bounds → Meaning O) (old new : Disk) (before after : Parts) where
@@ -104,7 +104,7 @@ module _ {O : Type 0} (meaning : Bounds → Meaning O) (old new : Disk) (before 
       → Takes meaning old new before after one ending → Takes meaning old new before after other ending
   takes_same one other ending same takes = record {
     follows = λ p w shows. let m = meaning_in meaning p in subst (λ (c : Course O). Follows m p new after w c ending) (same p w shows) (takes.follows p w shows);
-    moments = λ told p w shows. let m = meaning_in meaning p in subst (λ (c : Course O). TakesSome m p old new w c.steps) (same p w shows) (takes.moments told p w shows);
+    steps = λ told p w shows. let m = meaning_in meaning p in subst (λ (c : Course O). TakesSome m p old new w c.steps) (same p w shows) (takes.steps told p w shows);
   }
 
   -- what is taken before a refusal
@@ -112,30 +112,30 @@ module _ {O : Type 0} (meaning : Bounds → Meaning O) (old new : Disk) (before 
       → Takes meaning old new before after (λ m w used. course (steps m w) used stop) (Stopped stop)
   takes_stop steps stop one = record {
     follows = λ p w shows. let is = one.follows p w shows in (refl, record { shows = is.1.shows; used = is.1.used });
-    moments = one.moments;
+    steps = one.steps;
   }
 
   -- after a fault only the moments say something
   pub takes_failed : (one : Meaning O → World O → ℕ → Course O)
       → (old.tells_moments → (p : Params) (w : World O) → Shows (meaning_in meaning p) p old before w → TakesSome (meaning_in meaning p) p old new w (one (meaning_in meaning p) w (used_of before.log.log)).steps)
       → Takes meaning old new before after one Failed
-  takes_failed one moments = record { follows = λ p w shows. tt; moments = moments }
+  takes_failed one steps = record { follows = λ p w shows. tt; steps = steps }
 
 -- where nothing is done
 module _ {O : Type 0} (meaning : Bounds → Meaning O) (d : Disk) (it : Parts) (lawful : IsDisk d) where
   here_moments : (steps : Meaning O → World O → List (Step O)) → d.tells_moments → (p : Params) (w : World O) → Shows (meaning_in meaning p) p d it w → TakesSome (meaning_in meaning p) p d d w (steps (meaning_in meaning p) w)
-  here_moments steps told p w shows = let m = meaning_in meaning p in stays_shown m p d it.store w (steps m w) lawful told (store_shown m p d it w shows)
+  here_moments steps told p w shows = let m = meaning_in meaning p in stays_shown m p d it.volatile w (steps m w) lawful told (store_shown m p d it w shows)
 
   -- the course is none
   pub takes_none : Takes meaning d d it it (λ m w used. course [] used Through) Done
   takes_none = record {
     follows = λ p w shows. let m = meaning_in meaning p in (refl, record { shows = subst (λ (v : World O). Shows m p d it v) (sym (run_none m 0 w)) shows; used = refl });
-    moments = here_moments (λ m w. []);
+    steps = here_moments (λ m w. []);
   }
 
   -- or there is no memory to begin
   pub takes_nothing : (whole : Meaning O → World O → ℕ → Course O) → Takes meaning d d it it whole Short
   takes_nothing whole = record {
     follows = λ p w shows. let m = meaning_in meaning p in after_none m (λ v. Shows m p d it v) w (whole m w (used_of it.log.log)).steps shows;
-    moments = here_moments (λ m w. (whole m w (used_of it.log.log)).steps);
+    steps = here_moments (λ m w. (whole m w (used_of it.log.log)).steps);
   }

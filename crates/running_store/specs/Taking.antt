@@ -39,12 +39,12 @@ Follows m p d it w course Failed = ⊤
 pub record Takes {O : Type 0} (meaning : Bounds → Meaning O) (old new : Disk) (before after : Parts) (course : Meaning O → World O → ℕ → Course O) (ending : Ending) : Type 0 where
   pub follows : (p : Params) (w : World O) → Shows (meaning_in meaning p) p old before w
       → Follows (meaning_in meaning p) p new after w (course (meaning_in meaning p) w (used_of before.log.log)) ending
-  pub moments : old.tells_moments → (p : Params) (w : World O) → Shows (meaning_in meaning p) p old before w
+  pub steps : old.tells_moments → (p : Params) (w : World O) → Shows (meaning_in meaning p) p old before w
       → TakesSome (meaning_in meaning p) p old new w (course (meaning_in meaning p) w (used_of before.log.log)).steps
 
 -- What holds of parts on every machine: the log is one of the store, the store is in use, and the identifiers of its slots
 -- are below the next number.
 pub record ArePartsInUse (it : Parts) : Type 0 where
-  pub bounds : it.log.bounds ≡ bounds_of it.store.objects.slots.params
-  pub store : AreInUse it.store.objects.slots.params it.log.next it.store
-  pub early : AreEarly it.log.next it.store.objects
+  pub bounds : it.log.bounds ≡ bounds_of it.volatile.objects.slots.params
+  pub store : AreInUse it.volatile.objects.slots.params it.log.next it.volatile
+  pub early : AreEarly it.log.next it.volatile.objects

@@ -22,8 +22,8 @@ pub record HasRead (old new : Disk) (before after : Laid) : Type 0 where
 -- no call was made on the machine, and what is cached stays as it is
 pub record IsUntaken (before after : Parts) : Type 0 where
   pub log : IsSameLog before.log after.log
-  pub slots : after.store.objects.slots ≡ before.store.objects.slots
-  pub held : (x : ℕ) → held after.store.objects.cache x ≡ held before.store.objects.cache x
-  pub dirty : (x : ℕ) → is_dirty after.store.objects.cache x ≡ is_dirty before.store.objects.cache x
-  pub laid : (file : List ℕ) → IsLaidOn before.store.objects file → IsLaidOn after.store.objects file
-  pub entries : after.store.entries ≡ before.store.entries
+  pub slots : after.volatile.objects.slots ≡ before.volatile.objects.slots
+  pub held : (x : ℕ) → held after.volatile.objects.cache x ≡ held before.volatile.objects.cache x
+  pub dirty : (x : ℕ) → is_dirty after.volatile.objects.cache x ≡ is_dirty before.volatile.objects.cache x
+  pub laid : (file : List ℕ) → IsLaidOn before.volatile.objects file → IsLaidOn after.volatile.objects file
+  pub entries : after.volatile.entries ≡ before.volatile.entries

@@ -23,13 +23,13 @@ use Rattle.running_store.specs.Commands.{IsLeft, left_call, left_takes}
 use Rattle.running_store.specs.Courses.{Course, cached_length, identity_length, identity_steps, written_course}
 use Rattle.running_store.specs.Growth.{growth_shown}
 use Rattle.running_store.specs.Joins.{cached_shown}
-use Rattle.running_store.specs.Keeping.{appended_attached, appended_longer}
+use Rattle.running_store.specs.Keeping.{appended_attached, appended_keeps, appended_longer}
 use Rattle.running_store.specs.Kept.{IsLonger}
 use Rattle.running_store.specs.Laid.{IsLaidOn}
 use Rattle.running_store.specs.Logged.{IsRoomed}
 use Rattle.running_store.specs.Parts.{IsAppended, Parts, meaning_in}
 use Rattle.running_store.specs.Stored.{stays_shown, store_shown}
-use Rattle.running_store.specs.StoreView.{StoreView, next_of, params_of}
+use Rattle.running_store.specs.StoreView.{StoreView, next_of, store_params}
 use Rattle.running_store.specs.Taking.{Takes}
 use Rattle.running_store.specs.Taking.Ending.{Done, Short}
 use Rattle.running_store.specs.Written.{written_long, written_shows}
@@ -37,12 +37,12 @@ use Rattle.running_store.specs.Written.{written_long, written_shows}
 -- The dirty object x is logged with the pair that is cached, and counted.
 pub record IsWritten {O : Type 0} (meaning : Bounds → Meaning O) (before after : StoreView) (x : ℕ) : Type 0 where
   pub pair : Pair
-  pub had : held before.parts.store.objects.cache x ≡ Some pair
-  pub dirty : is_dirty before.parts.store.objects.cache x ≡ true
-  pub below : x < (params_of before).objects
-  pub short : length pair.bytes ≤ (params_of before).cap
+  pub had : held before.parts.volatile.objects.cache x ≡ Some pair
+  pub dirty : is_dirty before.parts.volatile.objects.cache x ≡ true
+  pub below : x < (store_params before).objects
+  pub short : length pair.bytes ≤ (store_params before).cap
   pub low : next_of before < 2 ^ 62
-  pub bounds : before.parts.log.bounds ≡ bounds_of (params_of before)
+  pub bounds : before.parts.log.bounds ≡ bounds_of (store_params before)
   pub appended : IsAppended (meaning before.parts.log.bounds) before.parts after.parts (Identity x pair.bytes) (pair.bytes ∷ [])
   pub counted : after.identities ≡ before.identities + 1
   pub flag : after.broken ≡ before.broken
@@ -62,11 +62,11 @@ unwritten_left : (before after : StoreView) → IsUnwritten before after → IsL
 unwritten_left before after is = record {
   untaken = record {
     log = ap (λ (k : Parts). k.log) is.roomed;
-    slots = ap (λ (k : Parts). k.store.objects.slots) is.roomed;
-    held = λ x. ap (λ (k : Parts). held k.store.objects.cache x) is.roomed;
-    dirty = λ x. ap (λ (k : Parts). is_dirty k.store.objects.cache x) is.roomed;
-    laid = λ file laid. subst (λ (k : Parts). IsLaidOn k.store.objects file) (sym is.roomed) laid;
-    entries = ap (λ (k : Parts). k.store.entries) is.roomed;
+    slots = ap (λ (k : Parts). k.volatile.objects.slots) is.roomed;
+    held = λ x. ap (λ (k : Parts). held k.volatile.objects.cache x) is.roomed;
+    dirty = λ x. ap (λ (k : Parts). is_dirty k.volatile.objects.cache x) is.roomed;
+    laid = λ file laid. subst (λ (k : Parts). IsLaidOn k.volatile.objects file) (sym is.roomed) laid;
+    entries = ap (λ (k : Parts). k.volatile.entries) is.roomed;
   };
   counted = is.counted;
   flag = is.flag;
@@ -78,14 +78,16 @@ module _ {O : Type 0} (meaning : Bounds → Meaning O) (before after : StoreView
     write_call =
         let m = meaning before.parts.log.bounds in
         let has = bounded before.parts.log.bounds in
+        let keeps = appended_keeps m x is.pair before.parts after.parts is.had is.appended is.dirty meaning refl (omega (arith, is.below, has.objects, ap (λ (b : Bounds). b.objects) is.bounds))
+        (omega (arith, is.short, has.cap, ap (λ (b : Bounds). b.cap) is.bounds)) is.low d in
         record {
           quiet = runs_none d (λ a b. Unit {0}) (λ files. tt) lawful;
           params = ap (λ (s : SlotsView). s.params) is.appended.slots;
           rising = omega (arith, ap (λ (r : RecordLogView). r.next) is.appended.log);
           identities = is.counted;
           settled = inr (λ settled. settled);
-          attached = inr (appended_attached m x is.pair before.parts after.parts is.had is.appended is.dirty meaning refl (omega (arith, is.below, has.objects, ap (λ (b : Bounds). b.objects) is.bounds))
-              (omega (arith, is.short, has.cap, ap (λ (b : Bounds). b.cap) is.bounds)) is.low d);
+          kept = inr keeps;
+          attached = inr (appended_attached m x is.pair before.parts after.parts is.had is.appended is.dirty meaning d keeps);
           stopped = λ stop ends. cc;
           broken = unset before after Done fine is.flag (λ failed. failed);
           fault = λ failed. absurd failed;
@@ -103,8 +105,8 @@ module _ {O : Type 0} (meaning : Bounds → Meaning O) (before after : StoreView
           let appended = subst (λ (b : Bounds). IsAppended (meaning b) before.parts after.parts (Identity x pair.bytes) (pair.bytes ∷ [])) shows.bounds is.appended in
           let below : x < p.objects = shows.store.below x pair is.had in
           let has = bounded (bounds_of p) in
-          let cap : (params_of before).cap ≡ p.cap = ap (λ (q : Params). q.cap) shows.store.params in
-          let same : length pair.bytes ≡ cached_length m w x = ap (λ (c : Cell). length c.value) (sym (cached_shown m p (d.reads Objects) before.parts.store w shows.store x pair is.had)) in
+          let cap : (store_params before).cap ≡ p.cap = ap (λ (q : Params). q.cap) shows.store.params in
+          let same : length pair.bytes ≡ cached_length m w x = ap (λ (c : Cell). length c.value) (sym (cached_shown m p (d.reads Objects) before.parts.volatile w shows.store x pair is.had)) in
           let log = before.parts.log in (
             refl,
             record {
@@ -114,7 +116,7 @@ module _ {O : Type 0} (meaning : Bounds → Meaning O) (before after : StoreView
                   ∙ growth_shown m d log w (identity_length (cached_length m w x)) shows.log;
             },
           );
-      moments = λ told p w shows. let m = meaning_in meaning p in stays_shown m p d before.parts.store w (identity_steps m x w) lawful told (store_shown m p d before.parts w shows);
+      steps = λ told p w shows. let m = meaning_in meaning p in stays_shown m p d before.parts.volatile w (identity_steps m x w) lawful told (store_shown m p d before.parts w shows);
     }
 
   module _ (is : IsUnwritten before after) where

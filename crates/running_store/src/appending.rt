@@ -16,9 +16,9 @@ impl<O: Oper> Store<O> {
     /// Logs an identity write of a dirty object, in the buffer alone. Without memory nothing changes but room.
     pub fn append_identity(&mut self, x: u32) -> Result<(), Memory>
         requires unbroken { self.old.broken ≡ false }
-        requires dirty { is_dirty self.old.parts.store.objects.cache x ≡ true }
+        requires dirty { is_dirty self.old.parts.volatile.objects.cache x ≡ true }
         requires number { next_of self.old < 2 ^ 62 }
-        requires place { (pair : Pair) → held self.old.parts.store.objects.cache x ≡ Some pair → HasPlace self.old.parts.log.log (identity_length (length pair.bytes)) }
+        requires place { (pair : Pair) → held self.old.parts.volatile.objects.cache x ≡ Some pair → HasPlace self.old.parts.log.log (identity_length (length pair.bytes)) }
         ensures { HasWritten O.meaning self.old self.new x result }
     {
         let logged = self.objects.value(x).to_vec(self.alloc)?;
@@ -32,9 +32,7 @@ impl<O: Oper> Store<O> {
         };
         self.graph.make_room(&entry)?;
         let record = Record::Identity(number, x, ByteList::new(logged));
-        let Ok(()) = self.log.append(record) else {
-            return Err(Memory);
-        };
+        self.log.append(record)?;
         self.objects.set(x, number, ByteList::new(kept));
         self.graph.add(entry);
         self.identities += 1;

@@ -29,6 +29,13 @@ impl Objects {
         self.cache.view(object).is_some()
     }
 
+    /// Whether an object is cached. The order of the clean ones stays as it is.
+    pub(crate) fn holds(&self, object: u32) -> bool
+        ensures { result ≡ is_some (held self.now.cache object) }
+    {
+        self.cache.entry(object).is_some()
+    }
+
     /// Keeps the pair of an object that was not cached, as its slot has it. Where memory is refused it is dropped.
     pub(crate) fn keep(&mut self, object: u32, lsn: u64, bytes: Vec<u8>)
         requires below { object < self.old.slots.params.objects }

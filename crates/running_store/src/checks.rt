@@ -4,9 +4,9 @@ ghost use Rattle.running_store.specs.Checks.{HasChecked, IsCheckHere};
 ghost use Rattle.running_store.specs.Logged.{HasPlace};
 
 use crate::store::Store;
-use checkpoint::Table;
 use formats::Record;
 use oper_core::{Memory, Oper};
+use redo_tables::Table;
 
 impl<O: Oper> Store<O> {
     /// Logs a check, in the buffer alone. Without memory nothing changes but room.
@@ -16,9 +16,7 @@ impl<O: Oper> Store<O> {
         requires place { HasPlace self.old.parts.log.log (13 + 12 * length table.starts) }
         ensures { HasChecked O.meaning self.old self.new table result }
     {
-        let Ok(()) = self.log.append(Record::Check(table)) else {
-            return Err(Memory);
-        };
+        self.log.append(Record::Check(table))?;
         Ok(())
     }
 }

@@ -2,7 +2,7 @@
 ghost use Rattle.std.specs.Prelude.{◌≡◌, false};
 ghost use Rattle.running_store.specs.Commands.{HasCommanded, HasPlaceBelow, IsReady, command_length};
 ghost use Rattle.running_store.specs.Parts.{meaning_in};
-ghost use Rattle.running_store.specs.StoreView.{params_of};
+ghost use Rattle.running_store.specs.StoreView.{store_params};
 
 use crate::store::Store;
 use install_order::Entry;
@@ -12,8 +12,8 @@ impl<O: Oper> Store<O> {
     /// Adds a command to the log's buffer, to the objects and to the graph. Without memory nothing changes but room.
     pub fn append_command(&mut self, op: O, values: Values) -> Result<(), Memory>
         requires unbroken { self.old.broken ≡ false }
-        requires ready { IsReady O.meaning (params_of self.old) op values }
-        requires place { HasPlaceBelow (params_of self.old).limit self.old.parts.log (command_length (meaning_in O.meaning (params_of self.old)) op) }
+        requires ready { IsReady O.meaning (store_params self.old) op values }
+        requires place { HasPlaceBelow (store_params self.old).limit self.old.parts.log (command_length (meaning_in O.meaning (store_params self.old)) op) }
         ensures { HasCommanded O.meaning self.old self.new op values result }
     {
         let _params = self.objects.params();
@@ -28,9 +28,7 @@ impl<O: Oper> Store<O> {
             identity: false,
         };
         self.graph.make_room(&entry)?;
-        let Ok(code) = self.log.encode_command(&op) else {
-            return Err(Memory);
-        };
+        let code = self.log.encode_command(&op)?;
         let made = op.into_effect(self.alloc, bounds, values)?;
 
         // Nothing fails from here on.

@@ -3,7 +3,7 @@ ghost use Rattle.std.specs.Prelude.{◌≡◌, ◌<◌, ◌≤◌, false, All, l
 ghost use Rattle.write_graph.specs.Graph.{numbers};
 ghost use Rattle.running_store.specs.Entered.{HasEntered};
 ghost use Rattle.running_store.specs.Laid.{id_at};
-ghost use Rattle.running_store.specs.StoreView.{next_of, params_of};
+ghost use Rattle.running_store.specs.StoreView.{next_of, store_params};
 
 use crate::store::Store;
 use install_order::Entry;
@@ -14,10 +14,10 @@ impl<O: Oper> Store<O> {
     /// adds the entry to the graph: what a redo does with a record of the log. Without memory nothing changes but room.
     pub fn enter(&mut self, due: &[u32], entry: Entry, made: Values) -> Result<(), Memory>
         requires unbroken { self.old.broken ≡ false }
-        requires below { All (λ x. x < (params_of self.old).objects) entry.writes }
-        requires values { (length made ≡ length entry.writes) × All (λ v. length v ≤ (params_of self.old).cap) made }
-        requires above { All (λ n. n < entry.number) (numbers self.old.parts.store.entries) × (entry.number < next_of self.old) }
-        requires later { All (λ x. id_at self.old.parts.store.objects x < entry.number) due.now }
+        requires below { All (λ x. x < (store_params self.old).objects) entry.writes }
+        requires values { (length made ≡ length entry.writes) × All (λ v. length v ≤ (store_params self.old).cap) made }
+        requires above { All (λ n. n < entry.number) (numbers self.old.parts.volatile.entries) × (entry.number < next_of self.old) }
+        requires later { All (λ x. id_at self.old.parts.volatile.objects x < entry.number) due.now }
         ensures { HasEntered self.old self.new due.now entry made result }
     {
         self.objects.make_room(entry.writes.as_slice())?;

@@ -1,10 +1,10 @@
 // Whether a call failed with the disk.
 ghost use Rattle.std.specs.Prelude.{◌≡◌, ◌||◌, Bool, true};
-ghost use Rattle.running_store.specs.Faults.{has_failed, is_log_fault, is_slot_fault};
+ghost use Rattle.running_store.specs.Faults.{has_failed, is_read_fault, is_rewrite_fault};
 
 use disk_model::Failed;
-use log_frames::LogErr;
-use stable_objects::SlotErr;
+use formats::ReadErr;
+use log_records::RewriteErr;
 
 /// Why a call fails. One of the causes is a fault of the disk.
 pub(crate) trait Fault: Drop {
@@ -24,27 +24,27 @@ impl Fault for Failed {
     }
 }
 
-impl Fault for SlotErr {
-    ghost is_fault = { is_slot_fault };
+impl Fault for ReadErr {
+    ghost is_fault = { is_read_fault };
 
     fn is_disk_fault(&self) -> bool {
         match self {
-            SlotErr::DiskFault => true,
-            SlotErr::NotAStore | SlotErr::Damaged { .. } | SlotErr::Memory => false,
+            ReadErr::DiskFault => true,
+            ReadErr::Damaged { .. } | ReadErr::Memory => false,
         }
     }
 }
 
-impl Fault for LogErr {
-    ghost is_fault = { is_log_fault };
+impl Fault for RewriteErr {
+    ghost is_fault = { is_rewrite_fault };
 
     fn is_disk_fault(&self) -> bool {
         match self {
-            LogErr::DiskFault => true,
-            LogErr::LogFull { .. }
-            | LogErr::Damaged { .. }
-            | LogErr::Exhausted { .. }
-            | LogErr::Memory => false,
+            RewriteErr::DiskFault => true,
+            RewriteErr::LogFull { .. }
+            | RewriteErr::Exhausted { .. }
+            | RewriteErr::Damaged { .. }
+            | RewriteErr::Memory => false,
         }
     }
 }

@@ -6,10 +6,10 @@ ghost use Rattle.dirty_cache.specs.Contents.{is_dirty};
 ghost use Rattle.write_graph.specs.Graph.{IsNodeNamed, NamesMinimal};
 ghost use Rattle.explain_core.specs.World.{World, run, AreAllowed};
 ghost use Rattle.standing.specs.Moments.{TakesSome};
-ghost use Rattle.running_store.specs.Beside.{IsBeside};
+ghost use Rattle.running_store.specs.Beside.{IsOnObjectsAlone};
 ghost use Rattle.running_store.specs.Calls.{IsCall, Never, ending_of_force};
 ghost use Rattle.running_store.specs.Courses.{flush_steps, removal_steps};
-ghost use Rattle.running_store.specs.Parts.{StoreShows, meaning_in};
+ghost use Rattle.running_store.specs.Parts.{VolatileShows, meaning_in};
 
 use crate::fault::note;
 use crate::store::Store;
@@ -21,27 +21,36 @@ impl<O: Oper> Store<O> {
     /// Writes the first of these objects, which are dirty, to its slot, and makes it clean; where there is none, nothing is done.
     fn flush<M: Machine>(&mut self, machine: &mut M, work: &[u32]) -> Result<(), Failed>
         requires unbroken { self.old.broken ≡ false }
-        requires dirty { All (λ x. is_dirty self.old.parts.store.objects.cache x ≡ true) work.now }
+        requires dirty { All (λ x. is_dirty self.old.parts.volatile.objects.cache x ≡ true) work.now }
         ensures call { IsCall O.meaning (M.disk machine.old) (M.disk machine.new) self.old self.new 0 Never (ending_of_force result) }
-        ensures beside { IsBeside (M.disk machine.old) (M.disk machine.new) self.old self.new }
-        ensures entries { self.new.parts.store.entries ≡ self.old.parts.store.entries }
+        ensures beside { IsOnObjectsAlone (M.disk machine.old) (M.disk machine.new) self.old self.new }
+        ensures entries { self.new.parts.volatile.entries ≡ self.old.parts.volatile.entries }
         ensures shows { (p : Numbers) (w : World O) (node : ℕ → Bool) → let m = meaning_in O.meaning p in
-            StoreShows m p (M.disk machine.old) self.old.parts.store w → AreAllowed m w (flush_steps m node work.now) →
-            OnOk result (StoreShows m p (M.disk machine.new) self.new.parts.store (run m w (flush_steps m node work.now))) }
-        ensures moments { (M.disk machine.old).tells_moments → (p : Numbers) (w : World O) (node : ℕ → Bool) → let m = meaning_in O.meaning p in
-            StoreShows m p (M.disk machine.old) self.old.parts.store w → TakesSome m p (M.disk machine.old) (M.disk machine.new) w (flush_steps m node work.now) }
+            VolatileShows m p (M.disk machine.old) self.old.parts.volatile w → AreAllowed m w (flush_steps m node work.now) →
+            OnOk result (VolatileShows m p (M.disk machine.new) self.new.parts.volatile (run m w (flush_steps m node work.now))) }
+        ensures steps { (M.disk machine.old).tells_moments → (p : Numbers) (w : World O) (node : ℕ → Bool) → let m = meaning_in O.meaning p in
+            VolatileShows m p (M.disk machine.old) self.old.parts.volatile w → TakesSome m p (M.disk machine.old) (M.disk machine.new) w (flush_steps m node work.now) }
     {
         explain_core::slot_gate_keeps::<O>();
         let Some(x) = work.first() else {
             return Ok(());
         };
-        let answer = self.objects.flush(machine, *x);
+        let Some(entry) = self.objects.cache.entry(*x) else {
+            return Ok(());
+        };
+        let answer = self
+            .objects
+            .slots
+            .replace(machine, *x, entry.lsn, entry.bytes.as_slice());
         note(&mut self.broken, &answer);
-        answer
+        answer?;
+        self.objects.cache.mark_clean(*x);
+        Ok(())
     }
 
     /// Flushes the one object that a minimal node has to flush, the first of these, if it has one, and takes the node out of
-    /// the graph.
+    /// the graph. Of these no other is looked at. The store may be one that a redo fills, with members of its world left to
+    /// replay: so `shows` and `steps` speak of its objects and its graph alone, and it isn't said to take a course.
     pub fn finish<M: Machine>(
         &mut self,
         machine: &mut M,
@@ -49,18 +58,18 @@ impl<O: Oper> Store<O> {
         work: &[u32],
     ) -> Result<(), Failed>
         requires unbroken { self.old.broken ≡ false }
-        requires named { NamesMinimal self.old.parts.store.entries n }
-        requires dirty { All (λ x. is_dirty self.old.parts.store.objects.cache x ≡ true) work.now }
+        requires named { NamesMinimal self.old.parts.volatile.entries n }
+        requires dirty { All (λ x. is_dirty self.old.parts.volatile.objects.cache x ≡ true) work.now }
         ensures call { IsCall O.meaning (M.disk machine.old) (M.disk machine.new) self.old self.new 0 Never (ending_of_force result) }
-        ensures beside { IsBeside (M.disk machine.old) (M.disk machine.new) self.old self.new }
+        ensures beside { IsOnObjectsAlone (M.disk machine.old) (M.disk machine.new) self.old self.new }
         ensures shows { (p : Numbers) (w : World O) (node : ℕ → Bool) → let m = meaning_in O.meaning p in
-            StoreShows m p (M.disk machine.old) self.old.parts.store w → IsNodeNamed self.old.parts.store.entries n node → AreAllowed m w (removal_steps m node work.now) →
-            OnOk result (StoreShows m p (M.disk machine.new) self.new.parts.store (run m w (removal_steps m node work.now))) }
-        ensures moments { (M.disk machine.old).tells_moments → (p : Numbers) (w : World O) (node : ℕ → Bool) → let m = meaning_in O.meaning p in
-            StoreShows m p (M.disk machine.old) self.old.parts.store w → TakesSome m p (M.disk machine.old) (M.disk machine.new) w (removal_steps m node work.now) }
-        ensures entries { (node : ℕ → Bool) → IsNodeNamed self.old.parts.store.entries n node → OnOk result
-            ((self.new.parts.store.entries ≡ filter (λ e. not (node e.number)) self.old.parts.store.entries)
-            × (length self.new.parts.store.entries < length self.old.parts.store.entries)) }
+            VolatileShows m p (M.disk machine.old) self.old.parts.volatile w → IsNodeNamed self.old.parts.volatile.entries n node → AreAllowed m w (removal_steps m node work.now) →
+            OnOk result (VolatileShows m p (M.disk machine.new) self.new.parts.volatile (run m w (removal_steps m node work.now))) }
+        ensures steps { (M.disk machine.old).tells_moments → (p : Numbers) (w : World O) (node : ℕ → Bool) → let m = meaning_in O.meaning p in
+            VolatileShows m p (M.disk machine.old) self.old.parts.volatile w → TakesSome m p (M.disk machine.old) (M.disk machine.new) w (removal_steps m node work.now) }
+        ensures entries { (node : ℕ → Bool) → IsNodeNamed self.old.parts.volatile.entries n node → OnOk result
+            ((self.new.parts.volatile.entries ≡ filter (λ e. not (node e.number)) self.old.parts.volatile.entries)
+            × (length self.new.parts.volatile.entries < length self.old.parts.volatile.entries)) }
     {
         explain_core::removal_keeps::<O>();
         self.flush(machine, work)?;

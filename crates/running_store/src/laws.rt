@@ -1,7 +1,7 @@
 ghost use Rattle.std.specs.Prelude.{◌≡◌, All, List, ℕ, length, map};
 ghost use Rattle.formats.specs.Objects.{bounds_of};
 ghost use Rattle.formats.specs.declared.params.Params.{Params};
-ghost use Rattle.checkpoint.specs.declared.table.Table.{Table};
+ghost use Rattle.redo_tables.specs.declared.table.Table.{Table};
 ghost use Rattle.install_order.specs.Entries.{accesses};
 ghost use Rattle.write_graph.specs.Graph.{Lists, IsLeast};
 ghost use Rattle.write_graph.specs.Objects.{IsWriter, IsWritten};
@@ -10,15 +10,15 @@ ghost use Rattle.explain_core.specs.Sound.{IsSound};
 ghost use Rattle.explain_core.specs.Turns.{dirty_in};
 ghost use Rattle.explain_core.specs.World.{World, table_now, end_of};
 ghost use Rattle.standing.specs.Members.{table_of};
-ghost use Rattle.running_store.specs.Parts.{Store, ShowsStore};
+ghost use Rattle.running_store.specs.Parts.{Volatile, ShowsVolatile};
 
 use oper_core::Oper;
 
 /// A table of the redo starts that the graph of a store answers, and of the next number, is the check that the world
 /// which the store shows would take now.
 pub fn a_check_taken_now<O: Oper>()
-    ensures { (p : Params) (file : List ℕ) (it : Store) (w : World O) (table : Table) →
-        IsSound (O.meaning (bounds_of p)) w → ShowsStore (O.meaning (bounds_of p)) p file it w →
+    ensures { (p : Params) (file : List ℕ) (it : Volatile) (w : World O) (table : Table) →
+        IsSound (O.meaning (bounds_of p)) w → ShowsVolatile (O.meaning (bounds_of p)) p file it w →
         Lists (IsWritten (accesses it.entries)) (map (λ s. s.0) table.starts) →
         All (λ s. IsLeast (IsWriter (accesses it.entries) s.0) s.1) table.starts →
         table.next ≡ end_of w → table_of table ≡ table_now (O.meaning (bounds_of p)) w }
@@ -27,7 +27,7 @@ pub fn a_check_taken_now<O: Oper>()
 /// In a store that shows a world as many objects are dirty as in the world: the listed ones, which are the dirty ones of
 /// the cache, each once.
 pub fn dirty_objects_are_counted<O: Oper>()
-    ensures { (p : Params) (file : List ℕ) (it : Store) (w : World O) (objects : List ℕ) →
-        ShowsStore (O.meaning (bounds_of p)) p file it w → AreDirty it.objects.cache objects →
+    ensures { (p : Params) (file : List ℕ) (it : Volatile) (w : World O) (objects : List ℕ) →
+        ShowsVolatile (O.meaning (bounds_of p)) p file it w → AreDirty it.objects.cache objects →
         dirty_in (O.meaning (bounds_of p)) w ≡ length objects }
 {}

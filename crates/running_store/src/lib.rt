@@ -2,13 +2,17 @@
 //!
 //! The one contract is [`Store`], to whose calls the machine is passed. What a call leaves on every machine is one record
 //! (`IsCall`, which follows from the records of calls that only read, or log in memory alone): time passes, no number is given
-//! again, the store stays attached to its files, and it is broken exactly if the disk failed. What it does to the world that the store shows is a course (`Takes`), a list of steps as a function of the
-//! world and of the log's length: all of them are taken, or as many as there is memory for, and a crash at any moment leaves
-//! the world after some first ones. Both go over two calls, one after the other, so the crates above describe each of their
-//! calls by those that it makes. specs/ says which world the parts of a store show (`Shows`; without a log `StoreShows`).
+//! again, the store stays attached to its files, and it is broken exactly if the disk failed. What it does to the world that
+//! the store shows is a course (`Takes`), a list of steps as a function of the world and of the log's length: all of them are
+//! taken, or as many as there is memory for, and a crash at any moment leaves the world after some first ones. Both go over
+//! two calls, one after the other, so the crates above describe each of their calls by those that it makes. specs/ says which
+//! world the parts of a store show (`Shows`; without a log `VolatileShows`).
+//!
 //! [`Objects`] holds what is cached: an object's identifier and value are those of the cache, or else those of its slot, and
-//! what was read and forgotten is read again, and is the same. The crate depends on log_records, stable_objects, dirty_cache
-//! and write_graph, of which a store is made, and on standing and explain_core, which say what files and worlds are.
+//! what was read and forgotten is read again, and is the same. An error says what can come: `ReadErr` of a call that reads,
+//! `RewriteErr` of a rewrite, `Failed` or `Memory` of one that fails by that alone, and [`StoreErr`] of the calls above that
+//! fail by either. The crate depends on log_records, stable_objects, dirty_cache and write_graph, of which a store is made, on
+//! standing and explain_core, which say what files and worlds are, and on formats for the numbers and the error of a reader.
 #![tactic(auto)]
 
 mod appending;
@@ -19,13 +23,14 @@ mod entering;
 mod fault;
 mod fetching;
 mod finishing;
-mod flushing;
 mod laws;
 mod objects;
 mod reading;
 mod rewriting;
 mod store;
+mod store_err;
 
 pub use laws::{a_check_taken_now, dirty_objects_are_counted};
 pub use objects::Objects;
 pub use store::Store;
+pub use store_err::StoreErr;

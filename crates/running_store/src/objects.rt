@@ -3,21 +3,21 @@ ghost use Rattle.std.specs.Prelude.{◌≡◌, ◌<◌, ◌≤◌, ◌+◌, ◌*
 ghost use Rattle.disk_model.specs.Disk.{Files, Rises, Stays};
 ghost use Rattle.disk_model.specs.declared.machine.FileNo.TheVariants.{Objects as ObjectsFile};
 ghost use Rattle.formats.specs.Bytes.{IsOpenAt, IsClosedAt};
+ghost use Rattle.formats.specs.Reading.{FailsBy};
 ghost use Rattle.formats.specs.Objects.{IsInRange, IsObjectsFile, bounds_of, slot_place};
 ghost use Rattle.formats.specs.declared.params.Params.{Params as Numbers};
-ghost use Rattle.stable_objects.specs.Reading.{FailsBy, FailsAt, IsDamagedAt, IsNoDamage};
-ghost use Rattle.stable_objects.specs.SlotsView.{IsLate, id_in};
+ghost use Rattle.stable_objects.specs.Reading.{FailsAt, IsDamagedAt, IsNoDamage, OpensNot};
+ghost use Rattle.stable_objects.specs.SlotsView.{IsLate};
 ghost use Rattle.oper_core.specs.State.{is_among};
 ghost use Rattle.dirty_cache.specs.Contents.{held, is_dirty, AreDirty, HasRoom};
 ghost use Rattle.running_store.specs.Fetched.{IsFetched};
-ghost use Rattle.running_store.specs.Laid.{IsLaidOn, values_in, id_at, KeepsCells, with_chosen, with_entries};
-ghost use Rattle.running_store.specs.LongSlot.{IsLongSlot};
+ghost use Rattle.running_store.specs.Laid.{IsLaidOn, values_in, id_at, with_chosen, with_entries};
 
 use dirty_cache::Cache;
 use disk_model::Machine;
 use formats::Params;
 use oper_core::{Bounds, Memory, Values};
-use stable_objects::{SlotErr, Slots};
+use stable_objects::{OpenErr, Slots};
 use std::alloc::Global;
 use std::marker::Model;
 
@@ -46,16 +46,16 @@ impl Objects {
         alloc: Global,
         machine: &mut M,
         clean: usize,
-    ) -> Result<Objects, SlotErr>
+    ) -> Result<Objects, OpenErr>
         requires { 0 < clean }
         ensures kept { Stays (M.disk machine.old) (M.disk machine.new) }
         ensures read { (files : Files) → (M.disk machine.new).agrees files → IfOk result (λ o. IsLaidOn o (files ObjectsFile)) }
         ensures empty { IfOk result (λ o. (x : ℕ) → held o.cache x ≡ None) }
-        ensures cause { IfErr result (FailsBy (Rises (M.disk machine.old).disk_faults (M.disk machine.new).disk_faults)
-            ((files : Files) → (M.disk machine.new).agrees files → IsClosedAt 0 (files ObjectsFile))
-            (FailsAt (λ place. (files : Files) → (M.disk machine.new).agrees files → IsDamagedAt (files ObjectsFile) place))) }
+        ensures cause { IfErr result (OpensNot ((files : Files) → (M.disk machine.new).agrees files → IsClosedAt 0 (files ObjectsFile))
+            (FailsBy (Rises (M.disk machine.old).disk_faults (M.disk machine.new).disk_faults)
+            (FailsAt (λ place. (files : Files) → (M.disk machine.new).agrees files → IsDamagedAt (files ObjectsFile) place)))) }
         ensures whole { (files : Files) → (M.disk machine.new).agrees files → (p : Numbers) → IsObjectsFile p (files ObjectsFile) → IfErr result IsNoDamage }
-        ensures memory { (files : Files) → (M.disk machine.new).agrees files → IsErrOf result SlotErr.Memory → IsOpenAt 0 (files ObjectsFile) }
+        ensures memory { (files : Files) → (M.disk machine.new).agrees files → IsErrOf result OpenErr.Memory → IsOpenAt 0 (files ObjectsFile) }
     {
         let slots = Slots::load(alloc, machine)?;
         let cache = Cache::new(alloc, clean)?;
@@ -96,6 +96,13 @@ impl Objects {
         self.slots.first_at(next)
     }
 
+    /// The slots that the objects are read from.
+    pub(crate) fn slots(&self) -> &Slots
+        ensures { result.now ≡ self.now.slots }
+    {
+        &self.slots
+    }
+
     /// How many objects are dirty.
     pub fn dirty_count(&self) -> usize
         ensures { (objects : List ℕ) × AreDirty self.now.cache objects × (result ≡ length objects) }
@@ -124,34 +131,6 @@ impl Objects {
         match self.cache.entry(object) {
             Some(entry) => entry.bytes.as_slice(),
             None => &[],
-        }
-    }
-
-    /// Sees that an object is cached: where it is not, its slot is read. It fails as that does, and where it is out of memory.
-    pub(crate) fn fetch<M: Machine>(&mut self, machine: &mut M, object: u32) -> Result<(), SlotErr>
-        requires { object < self.old.slots.params.objects }
-        ensures kept { Stays (M.disk machine.old) (M.disk machine.new) }
-        ensures slots { self.new.slots ≡ self.old.slots }
-        ensures cached { OnOk result (IsSome (held self.new.cache object)) }
-        ensures cells { (M.disk machine.old).tells_files → IsLaidOn self.old ((M.disk machine.old).reads ObjectsFile) →
-            KeepsCells ((M.disk machine.old).reads ObjectsFile) self.old self.new × IsLaidOn self.new ((M.disk machine.old).reads ObjectsFile) }
-        ensures fetched { IsFetched self.old self.new }
-
-        // What is cached, or has no open slot, costs no device call.
-        ensures known { IsSome (held self.old.cache object) → machine.new ≡ machine.old }
-        ensures none { id_in self.old.slots object ≡ 0 → (machine.new ≡ machine.old) × IfErr result (λ e. e ≡ SlotErr.Memory) }
-        ensures cause { IfErr result (FailsBy (Rises (M.disk machine.old).disk_faults (M.disk machine.new).disk_faults) ⊥
-            (IsLongSlot (M.disk machine.new) self.old.slots object)) }
-    {
-        if self.is_cached(object) {
-            return Ok(());
-        }
-        let mut bytes = Vec::new(self.alloc);
-        let lsn = self.slots.read(machine, object, &mut bytes)?;
-        self.keep(object, lsn, bytes);
-        match self.cache.entry(object) {
-            Some(_) => Ok(()),
-            None => Err(SlotErr::Memory),
         }
     }
 

@@ -1,24 +1,23 @@
 // The log of a store is rewritten.
 ghost use Rattle.std.specs.Prelude.{◌≡◌, ◌<◌, ◌^◌, false, IfErr};
 ghost use Rattle.disk_model.specs.Disk.{Rises};
+ghost use Rattle.formats.specs.Limits.{log_limit};
 ghost use Rattle.formats.specs.declared.params.Params.{Params as Numbers};
-ghost use Rattle.log_frames.specs.Reading.{TellsDamage};
 ghost use Rattle.log_records.specs.Loading.{IsTailFault};
-ghost use Rattle.log_records.specs.Rewriting.{IsNewLength, IsRewritable, RewriteFails};
+ghost use Rattle.log_records.specs.Rewriting.{FindsDamage, IsNewLength, IsRewritable, RewriteFails};
 ghost use Rattle.explain_core.specs.World.{World};
 ghost use Rattle.running_store.specs.Calls.{IsCall};
 ghost use Rattle.running_store.specs.Kept.{HasLog, StopsAt};
-ghost use Rattle.running_store.specs.Logged.{log_limit};
 ghost use Rattle.running_store.specs.Parts.{Shows, meaning_in};
 ghost use Rattle.running_store.specs.Rewrites.{HasRewritten, IsKeptFrom, ending_of_rewrite, rewrite_course};
 ghost use Rattle.running_store.specs.Taking.{Takes};
 
 use crate::fault::note;
 use crate::store::Store;
-use checkpoint::Table;
 use disk_model::Machine;
-use log_frames::LogErr;
+use log_records::RewriteErr;
 use oper_core::Oper;
+use redo_tables::Table;
 
 impl<O: Oper> Store<O> {
     /// Puts a new log in the place of this one, of which nothing waits: the commands and identity writes from a base on, and
@@ -28,7 +27,7 @@ impl<O: Oper> Store<O> {
         machine: &mut M,
         base: u64,
         table: Table,
-    ) -> Result<(), LogErr>
+    ) -> Result<(), RewriteErr>
         requires unbroken { self.old.broken ≡ false }
         requires epoch { self.old.parts.log.log.header.epoch < 2 ^ 62 }
         requires rewritable { IsRewritable (O.meaning self.old.parts.log.bounds) self.old.parts.log base table }
@@ -40,7 +39,7 @@ impl<O: Oper> Store<O> {
 
         ensures rewritten { HasRewritten self.old self.new base result }
         ensures undamaged { (M.disk machine.old).tells_files → HasLog (O.meaning self.old.parts.log.bounds) (M.disk machine.old) self.old.parts.log →
-            IfErr result (λ e. TellsDamage e → ⊥) }
+            IfErr result (λ e. FindsDamage e → ⊥) }
         ensures cause { IfErr result (RewriteFails (Rises (M.disk machine.old).disk_faults (M.disk machine.new).disk_faults)
             (IsTailFault (O.meaning self.old.parts.log.bounds) (M.disk machine.new) self.old.parts.log.log)
             (IsNewLength (O.meaning self.old.parts.log.bounds) (M.disk machine.old) self.old.parts.log base table) self.old.parts.log.log) }

@@ -1,25 +1,23 @@
 // A running store.
 ghost use Rattle.std.specs.Prelude.{◌≡◌, ◌+◌, ◌≤◌, ◌^◌, false, length, OnOk};
+ghost use Rattle.disk_model.specs.Disk.{Any, In, Runs, Same};
 ghost use Rattle.formats.specs.Objects.{IsInRange};
 ghost use Rattle.running_store.specs.Calls.{IsCall, IsForce, IsRoomMade, Never, ending_of_force};
 ghost use Rattle.running_store.specs.Courses.{course, force_course, room_steps};
 ghost use Rattle.running_store.specs.Courses.Stop.{Through};
 ghost use Rattle.running_store.specs.Parts.{parts};
-ghost use Rattle.running_store.specs.StoreView.{params_of, view_of};
+ghost use Rattle.running_store.specs.StoreView.{store_params, view_of};
 ghost use Rattle.running_store.specs.Taking.{ArePartsInUse, Takes};
 
 use crate::fault::note;
 use crate::objects::Objects;
 use disk_model::{Failed, Machine};
-use formats::Params;
+use formats::{MAX_PAYLOAD, Params};
 use log_records::RecordLog;
 use oper_core::Oper;
 use std::alloc::Global;
 use std::marker::Model;
 use write_graph::WriteGraph;
-
-/// The greatest length of a block's payload.
-const BLOCK_LIMIT: u64 = 1 << 30;
 
 /// A running store: its log, its objects, and the graph of what is not installed.
 ///
@@ -72,14 +70,14 @@ impl<O: Oper> Store<O> {
 
     /// Its objects.
     pub fn objects(&self) -> &Objects
-        ensures { result.now ≡ self.now.parts.store.objects }
+        ensures { result.now ≡ self.now.parts.volatile.objects }
     {
         &self.objects
     }
 
     /// The graph of what is not installed.
     pub fn graph(&self) -> &WriteGraph
-        ensures { result.now.entries ≡ self.now.parts.store.entries }
+        ensures { result.now.entries ≡ self.now.parts.volatile.entries }
     {
         &self.graph
     }
@@ -91,8 +89,8 @@ impl<O: Oper> Store<O> {
 
     /// How many objects it has, how many bytes each may hold, and how long its log may be. A store that is not broken is in use.
     pub fn params(&self) -> Params
-        ensures value { result ≡ params_of self.now }
-        ensures range { IsInRange (params_of self.now) }
+        ensures value { result ≡ store_params self.now }
+        ensures range { IsInRange (store_params self.now) }
         ensures in_use { self.now.broken ≡ false → ArePartsInUse self.now.parts }
     {
         self.objects.params()
@@ -112,20 +110,18 @@ impl<O: Oper> Store<O> {
         self.broken
     }
 
-    /// Makes all records that wait stable. Where none waits, no device call is made.
+    /// Makes all records that wait stable, in the file of the log alone. Where none waits, no device call is made.
     pub fn force<M: Machine>(&mut self, machine: &mut M) -> Result<(), Failed>
         requires unbroken { self.old.broken ≡ false }
         ensures call { IsCall O.meaning (M.disk machine.old) (M.disk machine.new) self.old self.new 0 Never (ending_of_force result) }
         ensures takes { Takes O.meaning (M.disk machine.old) (M.disk machine.new) self.old.parts self.new.parts (λ m w used. force_course m w used) (ending_of_force result) }
+        ensures file { Runs (In self.old.parts.log.log.active Any) Same (M.disk machine.old) (M.disk machine.new) }
         ensures forced { IsForce self.old self.new result }
     {
         explain_core::block_gate_keeps::<O>();
         let answer = self.log.force(machine);
         note(&mut self.broken, &answer);
-        let Ok(()) = answer else {
-            return Err(Failed);
-        };
-        Ok(())
+        answer
     }
 
     /// Sees that a record of n bytes fits into the block that waits: where it does not, what waits is forced.
@@ -135,9 +131,10 @@ impl<O: Oper> Store<O> {
         ensures call { IsCall O.meaning (M.disk machine.old) (M.disk machine.new) self.old self.new 0 Never (ending_of_force result) }
         ensures takes { Takes O.meaning (M.disk machine.old) (M.disk machine.new) self.old.parts self.new.parts (λ m w used. course (room_steps m w n) used Through) (ending_of_force result) }
         ensures room { OnOk result (length self.new.parts.log.log.pending + n ≤ 2 ^ 30) }
+        ensures file { Runs (In self.old.parts.log.log.active Any) Same (M.disk machine.old) (M.disk machine.new) }
         ensures same { IsRoomMade self.old self.new result }
     {
-        let room = BLOCK_LIMIT - n;
+        let room = MAX_PAYLOAD as u64 - n;
         if self.log().buffered() <= room {
             return Ok(());
         }

@@ -1,115 +1,175 @@
-use Rattle.std.proofs.Common.{◌≡◌, ap, sym, subst, ◌∙◌, List, true}
-use Rattle.std.specs.Prelude.{OnOk}
-use Rattle.disk_model.specs.Disk.{LeavesOnly}
+use Rattle.std.proofs.Common.{◌≡◌, ◌⊎◌, ◌∙◌, ap, sym, subst, Bool, List, ℕ, Option, Some, None, Ok, true, false, nat_eq}
+use Rattle.std.specs.Prelude.{◌≢◌, OnOk, Result}
+use Rattle.disk_model.specs.Disk.{Disk, IsSettled, LeavesOnly}
+use Rattle.disk_model.specs.declared.machine.FileNo.TheVariants.{Objects}
 use Rattle.formats.specs.Objects.{bounds_of}
 use Rattle.formats.specs.declared.params.Params.{Params}
-use Rattle.dirty_cache.specs.Contents.{cell_of_entry, is_dirty}
-use Rattle.stable_objects.specs.Replacing.{IsOldOrNew}
+use Rattle.dirty_cache.specs.Contents.{Contents, IsSameOrForgotten, cell_of_entry, held, is_dirty}
+use Rattle.dirty_cache.specs.declared.entry.Entry.{Entry as Pair}
+use Rattle.install_order.specs.declared.entry.Entry.{Entry}
+use Rattle.log_records.specs.RecordLog.{RecordLogView}
+use Rattle.stable_objects.specs.Replacing.{IsOldOrNew, IsReplaced}
+use Rattle.stable_objects.specs.SlotsView.{AreOf, id_in}
 use Rattle.explain_core.specs.TurnLaws.{run_none}
-use Rattle.explain_core.specs.World.{World, Step, run, AreAllowed}
-use Rattle.explain_core.specs.World.Step.{Slot_gate}
+use Rattle.explain_core.specs.World.{World, Step, run}
 use Rattle.standing.specs.Moments.{TakesSome}
 use Rattle.running_store.specs.Courses.{flush_steps}
-use Rattle.running_store.specs.InUse.{dirty_held, may_flush}
-use Rattle.running_store.specs.Parts.{StoreShows, store}
-use Rattle.running_store.specs.Stored.{flush_moments, run_one, stays_shown}
-use Rattle.running_store.specs.StoreView.{StoreView}
-use Rattle.running_store.proofs.FlushLemmas.{first_has, flush_beside, flush_call, flush_first, flush_none, flush_shown, flush_usable}
-use Rattle.running_store.proofs.Inside.{usable_before}
+use Rattle.running_store.specs.Faults.{has_failed}
+use Rattle.running_store.specs.Flushed.{IsFlushed}
+use Rattle.running_store.specs.InUse.{dirty_held, none_some}
+use Rattle.running_store.specs.Laid.{Laid, lsn_or}
+use Rattle.running_store.specs.Parts.{VolatileShows, meaning_in, parts}
+use Rattle.running_store.specs.Stored.{stays_shown}
+use Rattle.running_store.specs.StoreView.{IsUsable, StoreView, view_of}
+use Rattle.running_store.proofs.FlushLemmas.{EndsFlush, first_dirty, flush_ends, flush_none, flush_taken}
+use Rattle.running_store.proofs.Inside.{flag_after, usable_before}
+use Rattle.running_store.proofs.LaidLemmas.{cached_flushed}
+use Rattle.running_store.proofs.store.Store.flush.Given.{Over}
+use Rattle.running_store.proofs.store.Store.flush.Goals.{After-note}
 use Rattle.running_store.proofs.store.Store.flush.Goals as goal
+
+module _ (g : Over) (c : After-note g) where
+  abbrev old : Disk
+  old = g.M.Machine.disk c.args.machine.now
+
+  abbrev new : Disk
+  new = g.M.Machine.disk c.replace-answer.new.machine
+
+  abbrev log : RecordLogView
+  log = c.self-inside.inside.0.1.0
+
+  abbrev objects : Laid
+  objects = record { slots = c.self-inside.inside.0.1.1.0.slots; cache = c.self-inside.inside.0.1.1.0.cache }
+
+  abbrev entries : List Entry
+  entries = c.self-inside.inside.0.1.1.1.0.entries
+
+  abbrev identities : ℕ
+  identities = c.self-inside.inside.0.1.1.1.1.0
+
+  abbrev broken : Bool
+  broken = c.self-inside.inside.0.1.1.1.1.1.0
+
+  abbrev x : ℕ
+  x = c.in-Some.x.now
+
+  abbrev pair : Pair
+  pair = c.in-Some-entry.entry.now
+
+  is : view_of log objects entries identities broken ≡ c.args.self.now
+  is = (λ i. view_of (c.self-inside.view_is i).log (c.self-inside.view_is i).objects (c.self-inside.view_is i).graph.entries (c.self-inside.view_is i).identities (c.self-inside.view_is i).broken) ∙ c.self.view_is
+
+  had : held objects.cache x ≡ Some pair
+  had = sym c.in-Some-entry.ensures.value
+
+  dirty : is_dirty objects.cache x ≡ true
+  dirty = ap (λ (s : StoreView). is_dirty s.parts.volatile.objects.cache x) is ∙ first_dirty c.args.self.now.parts.volatile.objects.cache x c.args.work.now (sym c.in-Some.ensures.value) c.requires.dirty
+
+  used : IsUsable (parts log objects entries) identities
+  used =
+      subst (λ (s : StoreView). IsUsable s.parts s.identities) (c.self.view_is ∙ sym is)
+      (usable_before c.self.inside.log c.self.inside.objects c.self.inside.graph.entries c.self.inside.identities c.self.inside.broken c.args.self.now c.self.view_is c.self.invariant c.requires.unbroken)
+
+  leaves : old.tells_moments → IsSettled old → AreOf objects.slots (old.reads Objects) → LeavesOnly old new (IsOldOrNew old objects.slots.params x (cell_of_entry pair))
+  leaves =
+      subst (λ (bytes : List ℕ). old.tells_moments → IsSettled old → AreOf objects.slots (old.reads Objects) → LeavesOnly old new (IsOldOrNew old objects.slots.params x (record { id = pair.lsn; value = bytes })))
+      c.as_slice.ensures c.replace-answer.ensures.any_moment
+
+  taken : old.tells_moments → (p : Params) (w : World g.row.O.Denot) (node : ℕ → Bool) → VolatileShows (meaning_in g.O.Oper.meaning p) p old c.args.self.now.parts.volatile w → TakesSome (meaning_in g.O.Oper.meaning p) p old new w (flush_steps (meaning_in g.O.Oper.meaning p) node c.args.work.now)
+  taken = flush_taken g.O.Oper.meaning old new log objects entries identities broken c.args.self.now is x pair c.args.work.now (sym c.in-Some.ensures.value) had leaves
+
+  module _ (value : Unit {0}) (was : c.replace-answer.result ≡ Ok value) (cache : Contents) (entry : (held cache x ≡ held objects.cache x) ⊎ (held cache x ≡ None)) (clean : is_dirty cache x ≡ false)
+      (others : (y : ℕ) → nat_eq x y ≡ false → IsSameOrForgotten objects.cache cache y) where
+    abbrev later : Laid
+    later = record { slots = c.replace-answer.new.self; cache = cache }
+
+    done : (P : Type 0) → OnOk c.replace-answer.result P → P
+    done P is = subst (λ (r : Result _ _). OnOk r P) was is
+
+    flushed : IsFlushed objects later x
+    flushed = record {
+      params = c.replace-answer.ensures.params;
+      id = λ other there. done (id_in later.slots x ≡ pair.lsn) c.replace-answer.ensures.id ∙ ap (λ (o : Option Pair). lsn_or o 0) (sym had ∙ there);
+      other_ids = done ((y : ℕ) → y ≢ x → id_in later.slots y ≡ id_in objects.slots y) c.replace-answer.ensures.other_ids;
+      entry = entry;
+      clean = clean;
+      others = others;
+    }
+
+    replaced : old.tells_files → AreOf objects.slots (old.reads Objects) → AreOf later.slots (new.reads Objects) × IsReplaced objects.slots.params x (cell_of_entry pair) (old.reads Objects) (new.reads Objects)
+    replaced told are =
+        subst (λ (bytes : List ℕ). AreOf later.slots (new.reads Objects) × IsReplaced objects.slots.params x (record { id = pair.lsn; value = bytes }) (old.reads Objects) (new.reads Objects)) c.as_slice.ensures
+        (done _ (c.replace-answer.ensures.replaced told are))
+
+    unset : c.note.new.broken ≡ false
+    unset =
+        flag_after log objects entries identities broken c.args.self.now is c.note.new.broken (has_failed (λ e. true) c.replace-answer.result) c.requires.unbroken c.note.ensures
+        ∙ ap (λ (r : Result _ _). has_failed (λ e. true) r) was
+
+    ends : EndsFlush g.O.Oper.meaning old new c.args.self.now (view_of log later entries identities c.note.new.broken) c.args.work.now
+    ends =
+        flush_ends g.O.Oper.meaning old new log objects entries identities broken c.args.self.now is x pair c.args.work.now (sym c.in-Some.ensures.value) had c.note.new.broken later unset used dirty c.replace-answer.ensures.runs flushed
+        (λ settled. done (IsSettled new) (c.replace-answer.ensures.settled settled)) replaced (λ y other there. (c.self-inside.invariant.each y other there).0) c.slot_gate_keeps.ensures
 
 pub returns-in_default-clause-shows : goal.returns-in_default-clause-shows
 returns-in_default-clause-shows g c = λ p w node shows allowed.
     let m = g.O.Oper.meaning (bounds_of p) in
     let d = g.M.Machine.disk c.args.machine.now in
-    subst (λ (l : List (Step g.row.O.Denot)). StoreShows m p d c.args.self.now.parts.store (run m w l)) (flush_none m node c.args.work.now (sym c.in_default.ensures.value))
-    (subst (λ (v : World g.row.O.Denot). StoreShows m p d c.args.self.now.parts.store v) (sym (run_none m 0 w)) shows)
+    subst (λ (l : List (Step g.row.O.Denot)). VolatileShows m p d c.args.self.now.parts.volatile (run m w l)) (flush_none m node c.args.work.now (sym c.in_default.ensures.value))
+    (subst (λ (v : World g.row.O.Denot). VolatileShows m p d c.args.self.now.parts.volatile v) (sym (run_none m 0 w)) shows)
 
-pub flush-answer-requires : goal.flush-answer-requires
-flush-answer-requires g c =
-    let log = c.self.inside.log in
-    let objects = c.self.inside.objects in
-    let entries = c.self.inside.graph.entries in
-    let used = usable_before log objects entries c.self.inside.identities c.self.inside.broken c.args.self.now c.self.view_is c.self.invariant c.requires.unbroken in
-    let x = c.in-Some.x.now in
-    let dirty = first_has (λ y. is_dirty c.args.self.now.parts.store.objects.cache y ≡ true) x c.args.work.now (sym c.in-Some.ensures.value) c.requires.dirty in
-    may_flush objects.slots.params log.next (store objects entries) x used.in_use.store (ap (λ (s : StoreView). is_dirty s.parts.store.objects.cache x) c.self.view_is ∙ dirty)
+pub returns-in_default-clause-steps : goal.returns-in_default-clause-steps
+returns-in_default-clause-steps g c = λ told p w node shows.
+    let m = g.O.Oper.meaning (bounds_of p) in
+    stays_shown m p (g.M.Machine.disk c.args.machine.now) c.args.self.now.parts.volatile w (flush_steps m node c.args.work.now) (g.met.M.Machine.lawful c.args.machine.now) told shows
 
-pub invariant_of-self : goal.invariant_of-self
-invariant_of-self g c =
-    let log = c.self.inside.log in
-    let objects = c.self.inside.objects in
-    let entries = c.self.inside.graph.entries in
-    let used = usable_before log objects entries c.self.inside.identities c.self.inside.broken c.args.self.now c.self.view_is c.self.invariant c.requires.unbroken in
+-- what is dirty is cached
+pub returns-in_default-entry-clause-shows : goal.returns-in_default-entry-clause-shows
+returns-in_default-entry-clause-shows g c = λ p w node shows allowed.
     let x = c.in-Some.x.now in
-    let dirty = first_has (λ y. is_dirty c.args.self.now.parts.store.objects.cache y ≡ true) x c.args.work.now (sym c.in-Some.ensures.value) c.requires.dirty in
-    let done = c.flush-answer in
-    flush_usable (g.M.Machine.disk c.args.machine.now) (g.M.Machine.disk done.new.machine) log objects done.new.self entries c.self.inside.identities c.self.inside.broken c.note.new.broken c.args.self.now c.self.view_is c.requires.unbroken
-    done.result c.note.ensures used x (ap (λ (s : StoreView). is_dirty s.parts.store.objects.cache x) c.self.view_is ∙ dirty) done.ensures.runs done.ensures.params done.ensures.flushed done.ensures.settled done.ensures.replaced done.ensures.below
+    let cache = c.args.self.now.parts.volatile.objects.cache in
+    let pair = dirty_held cache x (first_dirty cache x c.args.work.now (sym c.in-Some.ensures.value) c.requires.dirty) in
+    let same = (λ i. held (c.self-inside.view_is i).objects.cache x) ∙ ap (λ (s : StoreView). held s.parts.volatile.objects.cache x) c.self.view_is in
+    none_some (held cache x) pair.0 (sym same ∙ sym c.in_default-entry.ensures.value) pair.1
+
+pub returns-in_default-entry-clause-steps : goal.returns-in_default-entry-clause-steps
+returns-in_default-entry-clause-steps g c = λ told p w node shows.
+    let m = g.O.Oper.meaning (bounds_of p) in
+    stays_shown m p (g.M.Machine.disk c.args.machine.now) c.args.self.now.parts.volatile w (flush_steps m node c.args.work.now) (g.met.M.Machine.lawful c.args.machine.now) told shows
+
+pub returns-in_err-answer-clause-steps : goal.returns-in_err-answer-clause-steps
+returns-in_err-answer-clause-steps g c = taken g (goal.at.returns-in_err-answer-clause-steps g c).After-note
+
+pub mark_clean-requires : goal.mark_clean-requires
+mark_clean-requires g c =
+    let x = c.in-Some.x.now in
+    (λ i. is_dirty (c.self-inside.view_is i).objects.cache x) ∙ ap (λ (s : StoreView). is_dirty s.parts.volatile.objects.cache x) c.self.view_is
+    ∙ first_dirty c.args.self.now.parts.volatile.objects.cache x c.args.work.now (sym c.in-Some.ensures.value) c.requires.dirty
+
+pub invariant_of-self-inside-2 : goal.invariant_of-self-inside-2
+invariant_of-self-inside-2 g c =
+    cached_flushed c.self-inside.inside.0.1.1.0.slots.params c.replace-answer.new.self.params c.self-inside.inside.0.1.1.0.cache c.mark_clean.new.self c.in-Some.x.now c.replace-answer.ensures.params c.self-inside.invariant
+    c.mark_clean.ensures.entry c.mark_clean.ensures.others
+
+pub invariant_of-self-2 : goal.invariant_of-self-2
+invariant_of-self-2 g c = λ fine.
+    let clean = c.mark_clean.ensures in
+    (ends g (goal.at.invariant_of-self-2 g c).After-note c.in_ok-answer.field-0 c.in_ok-answer.was c.mark_clean.new.self clean.entry clean.clean clean.others).usable
 
 pub returns-clause-call : goal.returns-clause-call
 returns-clause-call g c =
-    let log = c.self.inside.log in
-    let objects = c.self.inside.objects in
-    let entries = c.self.inside.graph.entries in
-    let used = usable_before log objects entries c.self.inside.identities c.self.inside.broken c.args.self.now c.self.view_is c.self.invariant c.requires.unbroken in
-    let x = c.in-Some.x.now in
-    let dirty = first_has (λ y. is_dirty c.args.self.now.parts.store.objects.cache y ≡ true) x c.args.work.now (sym c.in-Some.ensures.value) c.requires.dirty in
-    let done = c.flush-answer in
-    flush_call (g.M.Machine.disk c.args.machine.now) (g.M.Machine.disk done.new.machine) log objects done.new.self entries c.self.inside.identities c.self.inside.broken c.note.new.broken c.args.self.now c.self.view_is c.requires.unbroken
-    done.result c.note.ensures used x (ap (λ (s : StoreView). is_dirty s.parts.store.objects.cache x) c.self.view_is ∙ dirty) done.ensures.runs done.ensures.params done.ensures.flushed done.ensures.settled done.ensures.replaced done.ensures.below
-    g.O.Oper.meaning done.ensures.cause
+    let clean = c.mark_clean.ensures in
+    (ends g (goal.at.returns-clause-call g c).After-note c.in_ok-answer.field-0 c.in_ok-answer.was c.mark_clean.new.self clean.entry clean.clean clean.others).call
 
 pub returns-clause-beside : goal.returns-clause-beside
 returns-clause-beside g c =
-    let log = c.self.inside.log in
-    let objects = c.self.inside.objects in
-    let entries = c.self.inside.graph.entries in
-    let used = usable_before log objects entries c.self.inside.identities c.self.inside.broken c.args.self.now c.self.view_is c.self.invariant c.requires.unbroken in
-    let x = c.in-Some.x.now in
-    let dirty = first_has (λ y. is_dirty c.args.self.now.parts.store.objects.cache y ≡ true) x c.args.work.now (sym c.in-Some.ensures.value) c.requires.dirty in
-    let done = c.flush-answer in
-    flush_beside (g.M.Machine.disk c.args.machine.now) (g.M.Machine.disk done.new.machine) log objects done.new.self entries c.self.inside.identities c.self.inside.broken c.note.new.broken c.args.self.now c.self.view_is c.requires.unbroken
-    done.result c.note.ensures used x (ap (λ (s : StoreView). is_dirty s.parts.store.objects.cache x) c.self.view_is ∙ dirty) done.ensures.runs done.ensures.params done.ensures.flushed done.ensures.settled done.ensures.replaced done.ensures.below
+    let clean = c.mark_clean.ensures in
+    (ends g (goal.at.returns-clause-beside g c).After-note c.in_ok-answer.field-0 c.in_ok-answer.was c.mark_clean.new.self clean.entry clean.clean clean.others).beside
 
 pub returns-clause-shows : goal.returns-clause-shows
 returns-clause-shows g c =
-    let log = c.self.inside.log in
-    let objects = c.self.inside.objects in
-    let entries = c.self.inside.graph.entries in
-    let used = usable_before log objects entries c.self.inside.identities c.self.inside.broken c.args.self.now c.self.view_is c.self.invariant c.requires.unbroken in
-    let x = c.in-Some.x.now in
-    let dirty = first_has (λ y. is_dirty c.args.self.now.parts.store.objects.cache y ≡ true) x c.args.work.now (sym c.in-Some.ensures.value) c.requires.dirty in
-    let done = c.flush-answer in
-    let old = g.M.Machine.disk c.args.machine.now in
-    let new = g.M.Machine.disk done.new.machine in
-    λ p w node shows allowed.
-    let m = g.O.Oper.meaning (bounds_of p) in
-    let first = flush_first m node x c.args.work.now (sym c.in-Some.ensures.value) in
-    let may = subst (λ (l : List (Step g.row.O.Denot)). AreAllowed m w l) (sym first) allowed in
-    let here = subst (λ (s : StoreView). StoreShows m p old s.parts.store w) (sym c.self.view_is) shows in
-    subst (λ (l : List (Step g.row.O.Denot)). OnOk done.result (StoreShows m p new (store done.new.self entries) (run m w l))) first
-    (subst (λ (v : World g.row.O.Denot). OnOk done.result (StoreShows m p new (store done.new.self entries) v)) (sym (run_one m w (Slot_gate node x)))
-    (flush_shown old new log objects done.new.self entries c.self.inside.identities c.self.inside.broken c.note.new.broken c.args.self.now c.self.view_is c.requires.unbroken
-    done.result c.note.ensures used x (ap (λ (s : StoreView). is_dirty s.parts.store.objects.cache x) c.self.view_is ∙ dirty) done.ensures.runs done.ensures.params done.ensures.flushed done.ensures.settled done.ensures.replaced done.ensures.below
-    m p w node here (c.slot_gate_keeps.ensures (bounds_of p) w node x shows.sound may.0)))
+    let clean = c.mark_clean.ensures in
+    (ends g (goal.at.returns-clause-shows g c).After-note c.in_ok-answer.field-0 c.in_ok-answer.was c.mark_clean.new.self clean.entry clean.clean clean.others).shows
 
-pub returns-clause-moments : goal.returns-clause-moments
-returns-clause-moments g c = λ told p w node shows.
-    let objects = c.self.inside.objects in
-    let entries = c.self.inside.graph.entries in
-    let m = g.O.Oper.meaning (bounds_of p) in
-    let old = g.M.Machine.disk c.args.machine.now in
-    let new = g.M.Machine.disk c.flush-answer.new.machine in
-    let x = c.in-Some.x.now in
-    let dirty = first_has (λ y. is_dirty c.args.self.now.parts.store.objects.cache y ≡ true) x c.args.work.now (sym c.in-Some.ensures.value) c.requires.dirty in
-    let pair = dirty_held objects.cache x (ap (λ (s : StoreView). is_dirty s.parts.store.objects.cache x) c.self.view_is ∙ dirty) in
-    let here = subst (λ (s : StoreView). StoreShows m p old s.parts.store w) (sym c.self.view_is) shows in
-    subst (λ (l : List (Step g.row.O.Denot)). TakesSome m p old new w l) (flush_first m node x c.args.work.now (sym c.in-Some.ensures.value))
-    (flush_moments m p old (store objects entries) w here node x pair.0 (here.store.below x pair.0 pair.1) pair.1 new
-    (subst (λ (q : Params). LeavesOnly old new (IsOldOrNew old q x (cell_of_entry pair.0))) here.store.params (c.flush-answer.ensures.any_moment told here.settled here.store.laid.slots pair.0 pair.1)))
-
-pub returns-in_default-clause-moments : goal.returns-in_default-clause-moments
-returns-in_default-clause-moments g c = λ told p w node shows.
-    let m = g.O.Oper.meaning (bounds_of p) in
-    stays_shown m p (g.M.Machine.disk c.args.machine.now) c.args.self.now.parts.store w (flush_steps m node c.args.work.now) (g.met.M.Machine.lawful c.args.machine.now) told shows
+pub returns-clause-steps : goal.returns-clause-steps
+returns-clause-steps g c = taken g (goal.at.returns-clause-steps g c).After-note
