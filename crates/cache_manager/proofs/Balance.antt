@@ -3,6 +3,7 @@
 use Rattle.std.proofs.Common.{◌≡◌, ◌∙◌, sym, ap, ℕ, zero, suc, ◌+◌, ◌<◌, Bool, true, false, List, [], ◌∷◌, ◌++◌, length, refl, arith, inl, inr, length-append}
 use Rattle.std.specs.Prelude.{IsTrue, ◌&&◌, ◌||◌, ◌==◌, not, if◌then◌else◌}
 use Rattle.std.specs.List.Sorted.{IsStrictlyIncreasing}
+use Rattle.std.proofs.lemmas.List.{length-map}
 use Rattle.std.proofs.lemmas.Bool.{or_cases, or_left, or_right, and_parts, eq-eqb, eqb-true, false_from_ne_true}
 use Rattle.disk_model.specs.Disk.{Disk}
 use Rattle.oper_core.specs.Meaning.{Meaning}
@@ -44,10 +45,6 @@ count_listed n [] apart low = count_nothing n
 count_listed n (x ∷ xs) apart low =
     count_more n x (λ k. is_among k xs) (low x (or_left (x == x) (is_among x xs) (eq-eqb x x refl))) apart.0
     ∙ ap suc (count_listed n xs apart.1 (λ y there. low y (or_right (y == x) (is_among y xs) there)))
-
-pub numbers_long : (entries : List Entry) → length (numbers entries) ≡ length entries
-numbers_long [] = refl
-numbers_long (e ∷ entries) = ap suc (numbers_long entries)
 
 module _ {O : Type 0} (m : Meaning O) where
   -- the members of the graph are of the history
@@ -122,18 +119,18 @@ module _ {O : Type 0} (m : Meaning O) where
       record { below = rest.below; ends = omega (arith, first.ends, rest.ends, all); count = omega (arith, first.count, rest.count, all) }
 
   -- as many members as entries
-  pub members_counted : (p : Params) (d : Disk) (it : Parts) (w : World O) → Shows m p d it w → IsStrictlyIncreasing (numbers it.store.entries) → count_below (end_of w) w.graph ≡ length it.store.entries
+  pub members_counted : (p : Params) (d : Disk) (it : Parts) (w : World O) → Shows m p d it w → IsStrictlyIncreasing (numbers it.volatile.entries) → count_below (end_of w) w.graph ≡ length it.volatile.entries
   members_counted p d it w shows rising =
       let members = shows.store.members in
       let below = sound_below w shows.running.sound in
-      count_same (end_of w) w.graph (λ n. is_among n (numbers it.store.entries)) (λ n lt. sym (members n))
-      ∙ count_listed (end_of w) (numbers it.store.entries) (rises_apart (numbers it.store.entries) (rises_from_increasing (numbers it.store.entries) rising)) (λ y there. below y (sym (members y) ∙ there))
-      ∙ numbers_long it.store.entries
+      count_same (end_of w) w.graph (λ n. is_among n (numbers it.volatile.entries)) (λ n lt. sym (members n))
+      ∙ count_listed (end_of w) (numbers it.volatile.entries) (rises_apart (numbers it.volatile.entries) (rises_from_increasing (numbers it.volatile.entries) rising)) (λ y there. below y (sym (members y) ∙ there))
+      ∙ length-map it.volatile.entries (λ (e : Entry). e.number)
 
   -- what calls log and remove in all, as the parts say it that show the worlds before and after
   pub told_counts : (p : Params) (old new : Disk) (before after : Parts) (w : World O) (steps : List (Step O)) → Shows m p old before w → Shows m p new after (run m w steps) → AreUpkeep steps
-      → IsStrictlyIncreasing (numbers before.store.entries) → IsStrictlyIncreasing (numbers after.store.entries) → (ops identities : ℕ) → after.log.next ≡ before.log.next + identities
-      → length after.store.entries + ops ≡ length before.store.entries + identities → (ops ≡ members_removed m w steps) × (identities ≡ length (logged_in steps))
+      → IsStrictlyIncreasing (numbers before.volatile.entries) → IsStrictlyIncreasing (numbers after.volatile.entries) → (ops identities : ℕ) → after.log.next ≡ before.log.next + identities
+      → length after.volatile.entries + ops ≡ length before.volatile.entries + identities → (ops ≡ members_removed m w steps) × (identities ≡ length (logged_in steps))
   told_counts p old new before after w steps shows done are first last ops identities next entries =
       let all = balanced w steps are (sound_below w shows.running.sound) in
       let counted = members_counted p old before w shows first in

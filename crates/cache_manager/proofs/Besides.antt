@@ -1,6 +1,6 @@
 -- A node may be finished beside a copy of the slots exactly where the world's course says so: the identity write that made the
 -- version of a dirty object is a node of its own.
-use Rattle.std.proofs.Common.{◌≡◌, ◌∙◌, sym, subst, ap, ℕ, ◌<◌, ◌≤◌, Bool, false, List, [], ◌∷◌, length, refl, arith, inl, inr, ◌⊎◌, Option, Some}
+use Rattle.std.proofs.Common.{◌≡◌, ◌∙◌, sym, subst, ap, ℕ, ◌<◌, ◌≤◌, Bool, false, List, [], ◌∷◌, length, refl, arith, inl, inr, ◌⊎◌, Some}
 use Rattle.std.specs.Prelude.{IsTrue, IsFalse, ◌==◌, nat_lt, slice_get}
 use Rattle.std.specs.List.{list_any}
 use Rattle.std.proofs.lemmas.Bool.{both_ways, and_parts, and_from, or_left, or_right, or_from, or_cases, eq-eqb, eqb-true, lt-ltb, le-ltb, ltb-true, not_from_true, not_from_false, false_from_ne_true}
@@ -20,12 +20,12 @@ use Rattle.cache_manager.proofs.Next.{next_is}
 use Rattle.cache_manager.proofs.NextWork.{name_held, next_shown, work_shown}
 use Rattle.cache_manager.proofs.WorkOf.{AreAlone, all_the_node, cached_is_last, listed_is}
 
-module _ {O : Type 0} (m : Meaning O) (lawful : IsLawful m) (alone : AreAlone) (p : Params) (d : Disk) (it : Parts) (w : World O) (shows : Shows m p d it w) (n : ℕ) (least : IsLeast (NamesMinimal it.store.entries) n)
-    (items : List ℕ) (is : (node : ℕ → Bool) → IsNodeNamed it.store.entries n node → IsWork it.store node items) (copied : ℕ) where
+module _ {O : Type 0} (m : Meaning O) (lawful : IsLawful m) (alone : AreAlone) (p : Params) (d : Disk) (it : Parts) (w : World O) (shows : Shows m p d it w) (n : ℕ) (least : IsLeast (NamesMinimal it.volatile.entries) n)
+    (items : List ℕ) (is : (node : ℕ → Bool) → IsNodeNamed it.volatile.entries n node → IsWork it.volatile node items) (copied : ℕ) where
   abbrev node : ℕ → Bool
   node = next_node m w
 
-  named : IsNodeNamed it.store.entries n node
+  named : IsNodeNamed it.volatile.entries n node
   named = next_shown m lawful p d it w shows n least
 
   same : items ≡ work m w
@@ -35,7 +35,7 @@ module _ {O : Type 0} (m : Meaning O) (lawful : IsLawful m) (alone : AreAlone) (
   is_node = (next_is m lawful w shows.running.sound n (name_held m lawful p d it w shows n least)).minimal.0
 
   -- the version of an object that the node has to flush is of an identity write where the node is that alone
-  single_gives : (x : ℕ) → IsTrue (is_among x (work m w)) → IsSingleIdentity it.store.entries n node → IsTrue (is_identity_at w.history (w.cache x).id)
+  single_gives : (x : ℕ) → IsTrue (is_among x (work m w)) → IsSingleIdentity it.volatile.entries n node → IsTrue (is_identity_at w.history (w.cache x).id)
   single_gives x there single =
       let due = listed_is m lawful w shows.running.sound x there in
       let last = cached_is_last m lawful w shows.running.sound x due.1 node due in
@@ -44,7 +44,7 @@ module _ {O : Type 0} (m : Meaning O) (lawful : IsLawful m) (alone : AreAlone) (
       subst (λ (k : ℕ). IsTrue (is_identity_at w.history k)) (sym one ∙ last) made
 
   -- and the other way round
-  single_from : (x : ℕ) → IsTrue (is_among x (work m w)) → IsTrue (is_identity_at w.history (w.cache x).id) → IsSingleIdentity it.store.entries n node
+  single_from : (x : ℕ) → IsTrue (is_among x (work m w)) → IsTrue (is_identity_at w.history (w.cache x).id) → IsSingleIdentity it.volatile.entries n node
   single_from x there made =
       let due = listed_is m lawful w shows.running.sound x there in
       let all = all_the_node m lawful w shows.running.sound x due.1 node alone is_node made due in
@@ -56,11 +56,7 @@ module _ {O : Type 0} (m : Meaning O) (lawful : IsLawful m) (alone : AreAlone) (
 
   first_among : (objects : List ℕ) (x : ℕ) → slice_get objects 0 ≡ Some x → IsTrue (is_among x objects)
   first_among [] x is = cc
-  first_among (y ∷ objects) x is = let e : y ≡ x = λ i. from_some y (is i) in or_left (x == y) (is_among x objects) (eq-eqb x y (sym e))
-    where
-      from_some : ℕ → Option ℕ → ℕ
-      from_some y (Some z) = z
-      from_some y other = y
+  first_among (y ∷ objects) x is = let e : Some y ≡ Some x = is in or_left (x == y) (is_among x objects) (eq-eqb x y (sym (cc e)))
 
   any_from : (q : ℕ → Bool) (objects : List ℕ) (x : ℕ) → IsTrue (is_among x objects) → IsTrue (q x) → IsTrue (list_any q objects)
   any_from q [] x there holds = absurd (both_ways _ refl there)
@@ -69,14 +65,14 @@ module _ {O : Type 0} (m : Meaning O) (lawful : IsLawful m) (alone : AreAlone) (
     | inr later ↦ or_right (q y) (list_any q objects) (any_from q objects x later holds)
   ]
 
-  pub must_shown : (1 < length items) ⊎ HasCopied it.store.entries n copied items → IsTrue (must_log m copied w)
+  pub must_shown : (1 < length items) ⊎ HasCopied it.volatile.entries n copied items → IsTrue (must_log m copied w)
   must_shown (inl many) = or_left (nat_lt 1 (length (work m w))) _ (let long = ap length same in lt-ltb 1 (length (work m w)) (omega (arith, many, long)))
   must_shown (inr has) =
       let there : IsTrue (is_among has.0 (work m w)) = subst (λ (l : List ℕ). IsTrue (is_among has.0 l)) same (first_among items has.0 has.1) in
       let stale : IsTrue (is_stale m copied w has.0) = and_from (nat_lt has.0 copied) _ (lt-ltb has.0 copied has.2) (not_from_false _ (false_from_ne_true _ (λ made. has.3 node named (single_from has.0 there made)))) in
       or_right (nat_lt 1 (length (work m w))) _ (any_from (is_stale m copied w) (work m w) has.0 there stale)
 
-  pub may_shown : length items ≤ 1 → IsFresh it.store.entries n copied items → IsFalse (must_log m copied w)
+  pub may_shown : length items ≤ 1 → IsFresh it.volatile.entries n copied items → IsFalse (must_log m copied w)
   may_shown few fresh =
       let long = ap length same in
       or_from (nat_lt 1 (length (work m w))) _ (le-ltb 1 (length (work m w)) (omega (arith, few, long)))
@@ -84,7 +80,7 @@ module _ {O : Type 0} (m : Meaning O) (lawful : IsLawful m) (alone : AreAlone) (
       (λ x first low. fresh x (ap (λ (l : List ℕ). slice_get l 0) same ∙ first) low node named))
     where
       none_stale : (objects : List ℕ) → length objects ≤ 1 → ((x : ℕ) → IsTrue (is_among x objects) → IsTrue (is_among x (work m w)))
-          → ((x : ℕ) → slice_get objects 0 ≡ Some x → x < copied → IsSingleIdentity it.store.entries n node) → IsFalse (list_any (is_stale m copied w) objects)
+          → ((x : ℕ) → slice_get objects 0 ≡ Some x → x < copied → IsSingleIdentity it.volatile.entries n node) → IsFalse (list_any (is_stale m copied w) objects)
       none_stale [] few all fresh = refl
       none_stale (x ∷ []) few all fresh = or_from (is_stale m copied w x) false (false_from_ne_true _ (λ stale.
           let u = and_parts (nat_lt x copied) _ stale in

@@ -2,8 +2,8 @@
 use Rattle.std.proofs.Common.{◌≡◌, ◌∙◌, ap, ℕ, ◌+◌, ◌<◌, ◌≤◌, false, List, [], ◌∷◌, length, refl, arith, inl, inr}
 use Rattle.std.specs.Prelude.{All, IsTrue, ◌==◌}
 use Rattle.std.specs.List.Sorted.{IsStrictlyIncreasing}
-use Rattle.std.proofs.lemmas.Bool.{both_ways, cases_Bool, eq-eqb, eqb-true, or_cases, or_left}
-use Rattle.std.proofs.lemmas.List.Elements.{All-head, All-tail}
+use Rattle.std.proofs.lemmas.List.{length-map}
+use Rattle.std.proofs.lemmas.Bool.{both_ways, cases_Bool, eq-eqb, or_left}
 use Rattle.disk_model.specs.Disk.{Disk}
 use Rattle.disk_model.specs.declared.machine.FileNo.TheVariants.{Objects}
 use Rattle.oper_core.specs.Meaning.{Meaning, IsLawful, IsSmall}
@@ -16,13 +16,14 @@ use Rattle.install_order.specs.declared.entry.Entry.{Entry}
 use Rattle.write_graph.specs.Graph.{numbers}
 use Rattle.dirty_cache.specs.Contents.{is_dirty}
 use Rattle.explain_core.specs.World.{World, run}
+use Rattle.running_store.specs.Among.{all_among}
 use Rattle.running_store.specs.CourseLaws.{behind_through}
 use Rattle.running_store.specs.Courses.{Course, and_then, course, is_through}
 use Rattle.cache_manager.specs.InstallCourses.{drain_course, install_course, removals}
 use Rattle.running_store.specs.Courses.Stop.{Through}
 use Rattle.running_store.specs.Parts.{Parts, Shows, meaning_in}
 use Rattle.running_store.specs.Running.{KeepsSound}
-use Rattle.cache_manager.proofs.Balance.{count_listed, numbers_long}
+use Rattle.cache_manager.proofs.Balance.{count_listed}
 use Rattle.cache_manager.proofs.Counts.{count_at_most}
 use Rattle.cache_manager.proofs.Loops.{drain_installs, drain_none}
 use Rattle.cache_manager.proofs.NamedNext.{no_members, some_members}
@@ -47,41 +48,34 @@ module _ {O : Type 0} (meaning : Bounds → Meaning O) (lawful : (b : Bounds) �
   one = install_course m copied v used
 
   small : IsSmall (bounds_of p)
-  small = store_small m p (now.reads Objects) here.store v shows.store
+  small = store_small m p (now.reads Objects) here.volatile v shows.store
 
   -- an install is next
   pub installs : drain_course m copied v used ≡ and_then m v one (λ u used. drain_course m copied u used)
   installs = drain_installs m copied (lawful (bounds_of p) small) (keep (bounds_of p) small) alone v used shows.running
 
   -- it removes a node
-  pub removes_one : (here.store.entries ≡ [] → ⊥) → one.stop ≡ Through → removals (drain_course m copied v used).steps ≡ 1 + removals (drain_course m copied (run m v one.steps) one.used).steps
+  pub removes_one : (here.volatile.entries ≡ [] → ⊥) → one.stop ≡ Through → removals (drain_course m copied v used).steps ≡ 1 + removals (drain_course m copied (run m v one.steps) one.used).steps
   removes_one some through =
-      let e = some_entry here.store.entries some in
-      let held = some_members m v here.store.entries shows.store.members (lawful (bounds_of p) small) shows.running.sound e.0 e.1 in
+      let e = some_entry here.volatile.entries some in
+      let held = some_members m v here.volatile.entries shows.store.members (lawful (bounds_of p) small) shows.running.sound e.0 e.1 in
       let rest = drain_course m copied (run m v one.steps) one.used in
       let same = ap (λ (c : Course O). removals c.steps) (installs ∙ behind_through one rest one.stop (ap is_through through)) in
       omega (arith, same, removals-append one.steps rest.steps, install_removes_one m copied v used held through)
 
-  -- where the graph has no entry nothing is left, and nothing is dirty
-  module _ (none : here.store.entries ≡ []) where
-    pub drained : drain_course m copied v used ≡ course [] used Through
-    drained = drain_none m copied (lawful (bounds_of p) small) (keep (bounds_of p) small) alone v used (no_members m v here.store.entries shows.store.members none)
+  -- where the graph has no entry nothing is left
+  pub drained : here.volatile.entries ≡ [] → drain_course m copied v used ≡ course [] used Through
+  drained none = drain_none m copied (lawful (bounds_of p) small) (keep (bounds_of p) small) alone v used (no_members m v here.volatile.entries shows.store.members none)
 
-    pub all_clean : (x : ℕ) → is_dirty here.store.objects.cache x ≡ false
-    all_clean x = elim (cases_Bool (is_dirty here.store.objects.cache x)) [
-      | inl dirty ↦ absurd (both_ways _ (ap (λ (es : List Entry). is_among (v.cache x).id (numbers es)) none) (shows.store.members (v.cache x).id ∙ (shows.running.sound.dirty x (shows.store.dirty x dirty)).1))
-      | inr clean ↦ clean
-    ]
-
--- there are fewer entries than numbers below the next
-among_all_of : (n : ℕ) (xs : List ℕ) → All (λ k. k < n) xs → (y : ℕ) → IsTrue (is_among y xs) → y < n
-among_all_of n [] all y there = absurd (both_ways _ refl there)
-among_all_of n (x ∷ xs) all y there = elim (or_cases (y == x) (is_among y xs) there) [
-  | inl here ↦ let e = eqb-true y x here in let low = All-head (λ k. k < n) x xs all in omega (arith, e, low)
-  | inr later ↦ among_all_of n xs (All-tail (λ k. k < n) x xs all) y later
+-- and nothing is dirty
+pub all_clean : {O : Type 0} (m : Meaning O) (p : Params) (now : Disk) (here : Parts) (v : World O) → Shows m p now here v → here.volatile.entries ≡ [] → (x : ℕ) → is_dirty here.volatile.objects.cache x ≡ false
+all_clean m p now here v shows none x = elim (cases_Bool (is_dirty here.volatile.objects.cache x)) [
+  | inl dirty ↦ absurd (both_ways _ (ap (λ (es : List Entry). is_among (v.cache x).id (numbers es)) none) (shows.store.members (v.cache x).id ∙ (shows.running.sound.dirty x (shows.store.dirty x dirty)).1))
+  | inr clean ↦ clean
 ]
 
+-- there are fewer entries than numbers below the next
 pub few_entries : (n : ℕ) (entries : List Entry) → IsStrictlyIncreasing (numbers entries) → All (λ k. k < n) (numbers entries) → length entries ≤ n
 few_entries n entries rising below =
-    let counted = count_listed n (numbers entries) (rises_apart (numbers entries) (rises_from_increasing (numbers entries) rising)) (among_all_of n (numbers entries) below) in
-    omega (arith, counted, count_at_most n (λ k. is_among k (numbers entries)), numbers_long entries)
+    let counted = count_listed n (numbers entries) (rises_apart (numbers entries) (rises_from_increasing (numbers entries) rising)) (λ y there. all_among (λ k. k < n) (numbers entries) y below there) in
+    omega (arith, counted, count_at_most n (λ k. is_among k (numbers entries)), length-map entries (λ (e : Entry). e.number))

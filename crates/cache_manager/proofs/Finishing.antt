@@ -5,7 +5,7 @@ use Rattle.std.proofs.lemmas.Bool.{cases_eq, both_ways, or_cases, or_left, eq-eq
 use Rattle.oper_core.specs.Cell.{Cell}
 use Rattle.oper_core.specs.State.{is_among}
 use Rattle.oper_core.specs.Meaning.{Meaning, IsLawful}
-use Rattle.explain_core.specs.World.{World, step, run, AreAllowed, IsAllStable, IsReady, work_of}
+use Rattle.explain_core.specs.World.{World, step, run, AreAllowed, IsAllStable, IsInstallable, work_of}
 use Rattle.explain_core.specs.World.Step.{Slot_gate, Removal}
 use Rattle.running_store.specs.Courses.{Course, course, removal_steps, force_course}
 use Rattle.cache_manager.specs.InstallCourses.{next_node, work, finish_steps}
@@ -24,7 +24,7 @@ pub record IsInstalled {O : Type 0} (m : Meaning O) (w v : World O) : Type 0 whe
 
 module _ {O : Type 0} (m : Meaning O) (lawful : IsLawful m) (keeps : KeepsSound m) where
   module _ (w : World O) (is : IsRunning m w) (stable : IsAllStable w) (node : ℕ → Bool) (next : IsNext m w node) where
-    ready : IsReady m w node
+    ready : IsInstallable m w node
     ready = (next.inside, next.minimal, stable)
 
     -- after the slot gate nothing is left to flush

@@ -4,7 +4,7 @@ use Rattle.std.specs.Prelude.{IsTrue, IsFalse, ◌^◌, ◌&&◌, nat_lt, nat_le
 use Rattle.std.proofs.lemmas.Bool.{cases_Bool, both_ways, or_parts, cond_both, ltb-false, cond-true, cond-false}
 use Rattle.oper_core.specs.Meaning.{Meaning}
 use Rattle.explain_core.specs.RunLaws.{run-append, allowed-append}
-use Rattle.explain_core.specs.World.{World, Step, Table, step, run, end_of, AreAllowed, IsAllStable}
+use Rattle.explain_core.specs.World.{World, Step, Starts, step, run, end_of, AreAllowed, IsAllStable}
 use Rattle.explain_core.specs.World.Step.{Block_gate}
 use Rattle.running_store.specs.Courses.{Course, is_through, course, and_then, waits, buffered, grown, force_steps, force_course, room_steps, placed}
 use Rattle.running_store.specs.Courses.Stop.{Through, Full, At_end}
@@ -49,7 +49,7 @@ module _ {O : Type 0} (m : Meaning O) where
   goes_if w b c e P first second = cond_both b c e (λ (c : Course O). Goes m w c P) first second
 
   -- the world with another part of the log forced
-  abbrev pub with_forced : World O → ℕ → List Table → List Table → World O
+  abbrev pub with_forced : World O → ℕ → List Starts → List Starts → World O
   with_forced w forced tables pending = record w { forced = forced; tables = tables; pending = pending }
 
   module _ (keeps : KeepsSound m) where
@@ -65,7 +65,7 @@ module _ {O : Type 0} (m : Meaning O) where
 
     -- a force, where something waits
     pub force_goes : (w : World O) (used : ℕ) (P : World O → Type 0) → IsRunning m w
-        → ((forced : ℕ) (tables pending : List Table) → IsRunning m (with_forced w forced tables pending) → IsAllStable (with_forced w forced tables pending) → P (with_forced w forced tables pending))
+        → ((forced : ℕ) (tables pending : List Starts) → IsRunning m (with_forced w forced tables pending) → IsAllStable (with_forced w forced tables pending) → P (with_forced w forced tables pending))
         → Goes m w (force_course m w used) P
     unfolding step
     force_goes w used P is so = elim (cases_Bool (waits m w)) [
@@ -80,7 +80,7 @@ module _ {O : Type 0} (m : Meaning O) where
 
     -- a force before a record that would make the block too long
     pub room_goes : (w : World O) (n used : ℕ) (P : World O → Type 0) → IsRunning m w
-        → ((forced : ℕ) (tables pending : List Table) → IsRunning m (with_forced w forced tables pending) → P (with_forced w forced tables pending))
+        → ((forced : ℕ) (tables pending : List Starts) → IsRunning m (with_forced w forced tables pending) → P (with_forced w forced tables pending))
         → Goes m w (course (room_steps m w n) used Through) P
     room_goes w n used P is so = elim (cases_Bool (nat_lt (2 ^ 30) (buffered m w + n))) [
       | inl long ↦ subst (λ (l : List (Step O)). Goes m w (course l used Through) P) (sym (cond-true (nat_lt (2 ^ 30) (buffered m w + n)) (force_steps m w) [] long))

@@ -1,5 +1,5 @@
 -- An identity write takes its course: the room before it, and then the write, or a refusal.
-use Rattle.std.proofs.Common.{◌≡◌, ◌∙◌, sym, subst, ap, ℕ, ◌+◌, ◌<◌, ◌≤◌, true, false, List, [], ◌∷◌, length, refl, arith}
+use Rattle.std.proofs.Common.{◌≡◌, ◌∙◌, sym, subst, ap, ℕ, ◌+◌, ◌<◌, ◌≤◌, true, false, List, length, refl, arith}
 use Rattle.std.specs.Prelude.{◌^◌, nat_lt, nat_le}
 use Rattle.std.proofs.lemmas.Bool.{lt-ltb, le-ltb, le-leb, lt-leb, cond-true, cond-false}
 use Rattle.disk_model.specs.Disk.{Disk}
@@ -19,14 +19,14 @@ use Rattle.running_store.specs.Growth.{growth_shown}
 use Rattle.running_store.specs.InUse.{dirty_held}
 use Rattle.running_store.specs.Kept.{StopsAt}
 use Rattle.running_store.specs.Laid.{Laid, values_in}
-use Rattle.running_store.specs.Logged.{log_limit}
+use Rattle.formats.specs.Limits.{log_limit}
 use Rattle.running_store.specs.Parts.{Parts, Shows, meaning_in}
 use Rattle.running_store.specs.Taking.{Ending, Takes}
 use Rattle.running_store.specs.Taking.Ending.{Done, Stopped, Failed}
 use Rattle.running_store.specs.TakesLaws.{both, takes_failed, takes_same, takes_stop}
 use Rattle.running_store.specs.Written.{course_length}
 use Rattle.cache_manager.specs.Endings.{ending_of_error}
-use Rattle.cache_manager.specs.RecordPlace.{HasRecordPlace, LacksRecordPlace}
+use Rattle.cache_manager.specs.RecordPlace.{HasRecordPlace, LacksRecordPlace, growth_low}
 use Rattle.cache_manager.specs.declared.install_err.InstallErr.{InstallErr}
 use Rattle.cache_manager.specs.declared.install_err.InstallErr.TheVariants.{LogFull, LsnEnd, DiskFault, Memory}
 
@@ -60,10 +60,6 @@ module _ {O : Type 0} (m : Meaning O) (p : Params) (d : Disk) (it : Parts) (w : 
       cond-false (nat_lt log_limit (grown m w used n)) _ _ over
       ∙ cond-true (nat_le (2 ^ 62) (end_of w)) _ _ (le-leb (2 ^ 62) (end_of w) (omega (arith, last, number)))
       ∙ ap (λ (k : ℕ). course (force_steps m w) used (At_end k)) (sym number)
-
-growth_low : (pending : List ℕ) (n : ℕ) → growth_of pending n ≤ n + 5
-growth_low [] n = omega arith
-growth_low (byte ∷ bytes) n = omega arith
 
 -- An identity write of x, whose record has n bytes: room is made for it, and it goes to its place.
 module _ {O : Type 0} (meaning : Bounds → Meaning O) (x n : ℕ) where
@@ -120,11 +116,11 @@ module _ {O : Type 0} (meaning : Bounds → Meaning O) (x n : ℕ) where
       -- unless the force fails
       pub takes_unforced : Takes meaning mid new here after (λ m w used. force_course m w used) Failed → Takes meaning mid new here after place Failed
       takes_unforced takes = takes_same meaning mid new here after (λ m w used. course (force_steps m w) used refused.0) place Failed refused.3
-          (takes_failed meaning mid new here after (λ m w used. course (force_steps m w) used refused.0) takes.moments)
+          (takes_failed meaning mid new here after (λ m w used. course (force_steps m w) used refused.0) takes.steps)
 
 -- the value that is read is as long as that of each world that is shown
-pub length_shown : {O : Type 0} (meaning : Bounds → Meaning O) (x : ℕ) (d : Disk) (it : Parts) (laid : Laid) (value : List ℕ) → laid ≡ it.store.objects → is_dirty it.store.objects.cache x ≡ true
+pub length_shown : {O : Type 0} (meaning : Bounds → Meaning O) (x : ℕ) (d : Disk) (it : Parts) (laid : Laid) (value : List ℕ) → laid ≡ it.volatile.objects → is_dirty it.volatile.objects.cache x ≡ true
     → ((file : List ℕ) → value ≡ values_in laid file x) → IsLong meaning x (17 + length value) d it
 length_shown meaning x d it laid value same dirty is p w shows =
-    let pair = dirty_held it.store.objects.cache x dirty in
+    let pair = dirty_held it.volatile.objects.cache x dirty in
     course_length (meaning_in meaning p) p d it w x pair.0 value shows pair.1 (λ file. is file ∙ ap (λ (l : Laid). values_in l file x) same)

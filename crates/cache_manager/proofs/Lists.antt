@@ -1,6 +1,6 @@
 -- Objects of a list: apart from each other, in a filtered list, below a bound.
 use Rattle.std.proofs.Common.{◌≡◌, ◌∙◌, sym, subst, ap, ℕ, zero, suc, ◌+◌, ◌<◌, ◌≤◌, Bool, false, List, [], ◌∷◌, length, refl, arith, inl, inr, Option, None, Some}
-use Rattle.std.specs.Prelude.{⊤, ◌==◌, not, IsTrue, IsFalse, nat_lt, nat_le, is_some}
+use Rattle.std.specs.Prelude.{⊤, ◌==◌, not, IsTrue, IsFalse, nat_lt, nat_le}
 use Rattle.std.specs.List.{filter}
 use Rattle.std.proofs.lemmas.Bool.{cases_Bool, cases_eq, both_ways, or_cases, or_left, or_right, eq-eqb, ne_eqb, eqb-true, not-true, not_from_false, false_from_ne_true, cond-true, cond-false, leb-true, le-leb}
 use Rattle.oper_core.specs.State.{is_among}
@@ -88,15 +88,8 @@ longest_among lengths x (y ∷ xs) = elim (cases_Bool (nat_lt (lengths x) (lengt
 ]
 
 pub longest_of_among : (lengths : ℕ → ℕ) (xs : List ℕ) (k : ℕ) → longest_of lengths xs ≡ Some k → IsTrue (is_among k xs)
-longest_of_among lengths [] k is = absurd (both_ways (is_some {T = ℕ} None) refl (ap (λ (o : Option ℕ). is_some o) is))
-longest_of_among lengths (x ∷ xs) k is = subst (λ (z : ℕ). IsTrue (is_among z (x ∷ xs))) (same_some (longest lengths x xs) k is) (longest_among lengths x xs)
-  where
-    same_some : (a b : ℕ) → Some a ≡ Some b → a ≡ b
-    same_some a b e = ap (λ (o : Option ℕ). value a o) e
-      where
-        value : ℕ → Option ℕ → ℕ
-        value d None = d
-        value d (Some v) = v
+longest_of_among lengths [] k is = cc
+longest_of_among lengths (x ∷ xs) k is = let e : Some (longest lengths x xs) ≡ Some k = is in subst (λ (z : ℕ). IsTrue (is_among z (x ∷ xs))) (cc e) (longest_among lengths x xs)
 
 -- what is left of objects without one that is kept, if one is
 kept_among : (o : Option ℕ) (xs : List ℕ) (y : ℕ) → IsTrue (is_among y (but_kept o xs)) → IsTrue (is_among y xs)

@@ -10,7 +10,7 @@ use Rattle.write_graph.specs.Graph.{IsLeast, IsNodeNamed, NamesMinimal}
 use Rattle.dirty_cache.specs.Contents.{is_dirty}
 use Rattle.explain_core.specs.World.{World, AreAllowed}
 use Rattle.cache_manager.specs.InstallCourses.{finish_steps, next_node, work}
-use Rattle.running_store.specs.Parts.{Parts, Shows, Store}
+use Rattle.running_store.specs.Parts.{Parts, Shows, Volatile}
 use Rattle.running_store.specs.Running.{KeepsSound}
 use Rattle.cache_manager.specs.Thin.{IsWork}
 use Rattle.cache_manager.proofs.Finishing.{finish_goes}
@@ -20,27 +20,27 @@ use Rattle.cache_manager.proofs.Planned.{work_listed}
 use Rattle.cache_manager.proofs.ThinNodes.{among_all}
 use Rattle.cache_manager.proofs.ThinWorlds.{due_from, due_gives}
 
-module _ (it : Store) (n : ℕ) (least : IsLeast (NamesMinimal it.entries) n) (items : List ℕ) (is : (node : ℕ → Bool) → IsNodeNamed it.entries n node → IsWork it node items) where
+module _ (it : Volatile) (n : ℕ) (least : IsLeast (NamesMinimal it.entries) n) (items : List ℕ) (is : (node : ℕ → Bool) → IsNodeNamed it.entries n node → IsWork it node items) where
   -- its objects are dirty
   pub work_dirty : All (λ x. is_dirty it.objects.cache x ≡ true) items
   work_dirty = let listed = is least.0.0 least.0.1 in among_all (λ x. is_dirty it.objects.cache x ≡ true) items (λ x there. ((listed.exactly x).0 there).1)
 
-module _ {O : Type 0} (m : Meaning O) (lawful : IsLawful m) (p : Params) (d : Disk) (it : Parts) (w : World O) (shows : Shows m p d it w) (n : ℕ) (least : IsLeast (NamesMinimal it.store.entries) n) where
+module _ {O : Type 0} (m : Meaning O) (lawful : IsLawful m) (p : Params) (d : Disk) (it : Parts) (w : World O) (shows : Shows m p d it w) (n : ℕ) (least : IsLeast (NamesMinimal it.volatile.entries) n) where
   -- the name is that of a member
   pub name_held : IsTrue (w.graph n)
   name_held = sym (shows.store.members n) ∙ least.0.1.held
 
-  pub next_shown : IsNodeNamed it.store.entries n (next_node m w)
-  next_shown = least_named m w (next_node m w) it.store.entries shows.store.members shows.store.accesses (next_is m lawful w shows.running.sound n name_held) n least
+  pub next_shown : IsNodeNamed it.volatile.entries n (next_node m w)
+  next_shown = least_named m w (next_node m w) it.volatile.entries shows.store.members shows.store.accesses (next_is m lawful w shows.running.sound n name_held) n least
 
-  module _ (items : List ℕ) (is : (node : ℕ → Bool) → IsNodeNamed it.store.entries n node → IsWork it.store node items) where
+  module _ (items : List ℕ) (is : (node : ℕ → Bool) → IsNodeNamed it.volatile.entries n node → IsWork it.volatile node items) where
     pub work_shown : items ≡ work m w
     work_shown =
         let listed = is (next_node m w) next_shown in
         let file = d.reads Objects in
         work_listed m lawful w shows.running.sound items listed.rising
-        (λ x there. due_gives m lawful p file it.store w shows.store shows.running.sound (next_node m w) x ((listed.exactly x).0 there))
-        (λ x due. (listed.exactly x).1 (due_from m lawful p file it.store w shows.store shows.running.sound (next_node m w) x due))
+        (λ x there. due_gives m lawful p file it.volatile w shows.store shows.running.sound (next_node m w) x ((listed.exactly x).0 there))
+        (λ x due. (listed.exactly x).1 (due_from m lawful p file it.volatile w shows.store shows.running.sound (next_node m w) x due))
 
     -- where there is at most one, the node may be finished
     pub finish_may : KeepsSound m → (used : ℕ) → length items ≤ 1 → AreAllowed m w (finish_steps m w)

@@ -1,6 +1,6 @@
 -- The object that a plan keeps is the longest of the work, and what it logs is the rest.
 use Rattle.std.proofs.Common.{◌≡◌, ◌∙◌, sym, subst, ap, ℕ, zero, suc, ◌+◌, ◌<◌, ◌≤◌, Bool, false, List, [], ◌∷◌, length, map, refl, arith, inl, inr, true, Option, None, Some, ◌⊎◌}
-use Rattle.std.specs.Prelude.{⊤, ◌==◌, ◌||◌, All, not, IfSome, IsNone, IsTrue, nat_lt, nat_le, slice_get, slice_index, is_some}
+use Rattle.std.specs.Prelude.{⊤, ◌==◌, ◌||◌, All, not, IfSome, IsNone, IsTrue, nat_lt, nat_le, slice_get, slice_index}
 use Rattle.std.specs.List.{filter}
 use Rattle.std.specs.List.Sorted.{IsStrictlyIncreasing}
 use Rattle.std.proofs.lemmas.Bool.{cases_Bool, both_ways, false_from_ne_true, lt-ltb, or_cases, or_left, or_right, eq-eqb, eqb-true, ltb-true, ltb-false, leb-true, le-leb, cond-true, cond-false}
@@ -58,15 +58,8 @@ at_among (x ∷ xs) zero lt = or_left (x == x) (is_among x xs) (eq-eqb x x refl)
 at_among (x ∷ xs) (suc k) lt = or_right (slice_index xs k == x) (is_among (slice_index xs k) xs) (at_among xs k (omega (arith, lt)))
 
 found_at : (xs : List ℕ) (k x : ℕ) → slice_get xs k ≡ Some x → (k < length xs) × (slice_index xs k ≡ x)
-found_at [] k x found = absurd (both_ways (is_some {T = ℕ} None) refl (ap (λ (o : Option ℕ). is_some o) found))
-found_at (y ∷ xs) zero x found = (omega arith, some_same y x found)
-  where
-    some_same : (a b : ℕ) → Some a ≡ Some b → a ≡ b
-    some_same a b e = ap (λ (o : Option ℕ). value a o) e
-      where
-        value : ℕ → Option ℕ → ℕ
-        value d None = d
-        value d (Some v) = v
+found_at [] k x found = cc
+found_at (y ∷ xs) zero x found = let is : Some y ≡ Some x = found in (omega arith, cc is)
 found_at (y ∷ xs) (suc k) x found = let r = found_at xs k x found in (omega (arith, r.0), r.1)
 
 -- rising numbers, by places, rise
@@ -196,10 +189,6 @@ module _ (lengths : ℕ → ℕ) where
   mapped_at (x ∷ xs) zero lt = refl
   mapped_at (x ∷ xs) (suc k) lt = mapped_at xs k (omega (arith, lt))
 
-  pub mapped_length : (xs : List ℕ) → length (map lengths xs) ≡ length xs
-  mapped_length [] = refl
-  mapped_length (x ∷ xs) = ap suc (mapped_length xs)
-
   kept_is : (copied : ℕ) (objects : List ℕ) (x : ℕ) → IsKeptBeside copied objects (map lengths objects) x → IsTrue (is_among x (not_copied copied objects)) × IsLongest (not_copied copied objects) x
   kept_is copied objects x kept =
       let found = found_at objects kept.place x kept.here in
@@ -268,13 +257,13 @@ others_all P work logged None is all = subst (λ (l : List ℕ). All P l) (sym i
 others_all P work logged (Some x) is all = subst (λ (l : List ℕ). All P l) (sym is) (All-filter (λ (y : ℕ). not (y == x)) P work all)
 
 -- the lengths that are read of dirty objects are those of the world
-pub lengths_shown : {O : Type 0} (m : Meaning O) (p : Params) (d : Disk) (it : Parts) (w : World O) → Shows m p d it w → (work : List ℕ) → All (λ x. is_dirty it.store.objects.cache x ≡ true) work
-    → map (λ x. length (values_in it.store.objects (d.reads Objects) x)) work ≡ map (cached_length m w) work
+pub lengths_shown : {O : Type 0} (m : Meaning O) (p : Params) (d : Disk) (it : Parts) (w : World O) → Shows m p d it w → (work : List ℕ) → All (λ x. is_dirty it.volatile.objects.cache x ≡ true) work
+    → map (λ x. length (values_in it.volatile.objects (d.reads Objects) x)) work ≡ map (cached_length m w) work
 lengths_shown m p d it w shows [] all = refl
 lengths_shown m p d it w shows (x ∷ work) all =
-    let P : ℕ → Type 0 = λ y. is_dirty it.store.objects.cache y ≡ true in
-    let found = dirty_held it.store.objects.cache x (All-head P x work all) in
+    let P : ℕ → Type 0 = λ y. is_dirty it.volatile.objects.cache y ≡ true in
+    let found = dirty_held it.volatile.objects.cache x (All-head P x work all) in
     let file = d.reads Objects in
-    let value = ap (λ (o : Option Pair). (cell_or o (cell_of it.store.objects.slots.params.cap x file)).value) found.1 ∙ ap (λ (c : Cell). c.value) (sym (cached_shown m p file it.store w shows.store x found.0 found.1)) in
+    let value = ap (λ (o : Option Pair). (cell_or o (cell_of it.volatile.objects.slots.params.cap x file)).value) found.1 ∙ ap (λ (c : Cell). c.value) (sym (cached_shown m p file it.volatile w shows.store x found.0 found.1)) in
     let rest = lengths_shown m p d it w shows work (All-tail P x work all) in
     λ i. length (value i) ∷ rest i

@@ -1,6 +1,6 @@
 -- An install removes one node, and flushes one object at most.
 use Rattle.std.proofs.Common.{◌≡◌, ◌∙◌, sym, subst, ap, ℕ, zero, suc, ◌+◌, ◌≤◌, Bool, false, List, [], ◌∷◌, ◌++◌, length, take, refl, arith, append_assoc}
-use Rattle.std.specs.Prelude.{IsTrue, if◌then◌else◌}
+use Rattle.std.specs.Prelude.{IsTrue}
 use Rattle.std.specs.List.{AllByRecursion}
 use Rattle.std.proofs.lemmas.Bool.{both_ways, cond-true, cond_both}
 use Rattle.oper_core.specs.Meaning.{Meaning}
@@ -58,9 +58,6 @@ module _ {O : Type 0} (m : Meaning O) where
       listed node [] = (refl, omega arith)
       listed node (x ∷ objects) = (refl, omega arith)
 
-  one_either : (b : Bool) (c e : Course O) → RemovesOne c → RemovesOne e → RemovesOne (if b then c else e)
-  one_either b c e first second = cond_both b c e (λ (c : Course O). RemovesOne c) (λ is. first) (λ is. second)
-
   one_stopped : (c : Course O) → is_through c.stop ≡ false → RemoveNone c.steps → RemovesOne c
   one_stopped c stopped none = record {
     through = λ e. absurd (both_ways (is_through c.stop) stopped (ap is_through e));
@@ -85,9 +82,8 @@ module _ {O : Type 0} (m : Meaning O) where
   rounds_remove copied (suc n) w used =
       let logging = identities m (others m copied w) w used in
       let v = run m w logging.steps in
-      one_either (must_log m copied w) (and_then m w logging (λ v used. rounds m copied n v used)) (course (finish_steps m w) used Through)
-      (one_behind logging (rounds m copied n v logging.used) (none_identities (others m copied w) w used) (rounds_remove copied n v logging.used))
-      (one_finish w used)
+      cond_both (must_log m copied w) (and_then m w logging (λ v used. rounds m copied n v used)) (course (finish_steps m w) used Through) (λ (c : Course O). RemovesOne c)
+      (λ must. one_behind logging (rounds m copied n v logging.used) (none_identities (others m copied w) w used) (rounds_remove copied n v logging.used)) (λ may. one_finish w used)
 
   -- what a finish flushes, which is the first of the work
   pub finish_flushes : (w : World O) → flushed_in (finish_steps m w) ≡ take 1 (work m w)
@@ -100,16 +96,10 @@ module _ {O : Type 0} (m : Meaning O) where
       first node (x ∷ objects) = refl
 
   -- where the graph has no member, nothing is done
-  abbrev RemovesFew : Course O → Type 0
-  RemovesFew c = (removals c.steps ≤ 1) × (length (flushed_in c.steps) ≤ 1)
-
-  few_if : (b : Bool) (c e : Course O) → RemovesFew c → RemovesFew e → RemovesFew (if b then c else e)
-  few_if b c e first second = cond_both b c e (λ (c : Course O). RemovesFew c) (λ is. first) (λ is. second)
-
   pub install_removes : (copied : ℕ) (w : World O) (used : ℕ) → (removals (install_course m copied w used).steps ≤ 1) × (length (flushed_in (install_course m copied w used).steps) ≤ 1)
   install_removes copied w used =
       let one = rounds_remove copied m.objects w used in
-      few_if (has_members m w) (rounds m copied m.objects w used) (course [] used Through) (one.removed, one.flushed) (omega arith, omega arith)
+      cond_both (has_members m w) (rounds m copied m.objects w used) (course [] used Through) (λ (c : Course O). (removals c.steps ≤ 1) × (length (flushed_in c.steps) ≤ 1)) (λ some. (one.removed, one.flushed)) (λ none. (omega arith, omega arith))
 
   pub install_removes_one : (copied : ℕ) (w : World O) (used : ℕ) → IsTrue (has_members m w) → (install_course m copied w used).stop ≡ Through → removals (install_course m copied w used).steps ≡ 1
   install_removes_one copied w used some =

@@ -26,8 +26,8 @@ no_items (x ∷ xs) none = absurd (omega (arith, none))
 
 -- a node was installed
 pub told_done : {O : Type 0} (meaning : Bounds → Meaning O) (copied : ℕ) (old new : Disk) (before after : Parts) → Takes meaning old new before after (λ m w used. install_course m copied w used) Done
-    → IsStrictlyIncreasing (numbers before.store.entries) → IsStrictlyIncreasing (numbers after.store.entries) → (ops : ℕ) (flushed : Option ℕ) (identities : ℕ)
-    → after.log.next ≡ before.log.next + identities → length after.store.entries + ops ≡ length before.store.entries + identities
+    → IsStrictlyIncreasing (numbers before.volatile.entries) → IsStrictlyIncreasing (numbers after.volatile.entries) → (ops : ℕ) (flushed : Option ℕ) (identities : ℕ)
+    → after.log.next ≡ before.log.next + identities → length after.volatile.entries + ops ≡ length before.volatile.entries + identities
     → (p : Params) (w : World O) → Shows (meaning_in meaning p) p old before w → flushed_in (install_course (meaning_in meaning p) copied w (used_of before.log.log)).steps ≡ listed flushed
     → IsInstall (meaning_in meaning p) w (install_course (meaning_in meaning p) copied w (used_of before.log.log)).steps (Installed ops flushed identities)
 told_done meaning copied old new before after takes first last ops flushed identities next entries p w shows is =
@@ -37,9 +37,9 @@ told_done meaning copied old new before after takes first last ops flushed ident
     (counts.0, is, counts.1)
 
 -- there was nothing to install
-module _ (before after : Parts) (n : ℕ) (longer : IsLonger n before after) (none : after.store.entries ≡ []) where
-  none_before : before.store.entries ≡ []
-  none_before = let empty = ap (λ (es : List Entry). length es) none in no_items before.store.entries (omega (arith, empty, longer.entries))
+module _ (before after : Parts) (n : ℕ) (longer : IsLonger n before after) (none : after.volatile.entries ≡ []) where
+  none_before : before.volatile.entries ≡ []
+  none_before = let empty = ap (λ (es : List Entry). length es) none in no_items before.volatile.entries (omega (arith, empty, longer.entries))
 
   pub told_none : {O : Type 0} (m : Meaning O) (p : Params) (d : Disk) (w : World O) (steps : List (Step O)) → Shows m p d before w → IsInstall m w steps Clean
   told_none m p d w steps shows = λ n. sym (shows.store.members n) ∙ ap (λ (es : List Entry). is_among n (numbers es)) none_before

@@ -3,7 +3,7 @@ use Rattle.std.proofs.Common.{◌≡◌, ◌∙◌, sym, subst, ℕ, ◌+◌, �
 use Rattle.std.specs.Prelude.{All, IsTrue, ◌==◌, ◌||◌}
 use Rattle.std.specs.List.{filter}
 use Rattle.std.proofs.lemmas.Bool.{both_ways, or_cases, or_left, or_right, eqb-true, eq-eqb}
-use Rattle.std.proofs.lemmas.List.Elements.{All-nil, All-cons, All-head, All-tail}
+use Rattle.std.proofs.lemmas.List.Elements.{All-nil, All-cons}
 use Rattle.std.proofs.lemmas.List.Kept.{IsStrictlyIncreasing-filter}
 use Rattle.oper_core.specs.State.{is_among}
 use Rattle.install_order.specs.declared.entry.Entry.{Entry}
@@ -11,12 +11,12 @@ use Rattle.install_order.specs.Order.{flush_set_of}
 use Rattle.install_order.specs.Entries.{accesses}
 use Rattle.write_graph.specs.Graph.{IsNodeNamed, NamesMinimal, IsLeast, Lists}
 use Rattle.dirty_cache.specs.Contents.{is_dirty}
-use Rattle.running_store.specs.Parts.{Store, store}
-use Rattle.cache_manager.specs.Thin.{IsDue, IsWork, IsThin, NamesThin, IsLeastThin}
+use Rattle.running_store.specs.Parts.{Volatile, volatile}
+use Rattle.cache_manager.specs.Thin.{HasToFlush, IsWork, IsThin, NamesThin, IsLeastThin}
 use Rattle.cache_manager.proofs.Lists.{among_filter, filter_among}
 
 -- the dirty ones of a flush set are the work
-pub work_listed : (it : Store) (node : ℕ → Bool) (all work : List ℕ) → Lists (flush_set_of (accesses it.entries) node) all → work ≡ filter (is_dirty it.objects.cache) all → IsWork it node work
+pub work_listed : (it : Volatile) (node : ℕ → Bool) (all work : List ℕ) → Lists (flush_set_of (accesses it.entries) node) all → work ≡ filter (is_dirty it.objects.cache) all → IsWork it node work
 work_listed it node all work listed is =
     let dirty : ℕ → Bool = is_dirty it.objects.cache in
     subst (λ (xs : List ℕ). IsWork it node xs) (sym is) (record {
@@ -26,14 +26,6 @@ work_listed it node all work listed is =
         (λ due. filter_among dirty all x ((listed.exactly x).1 due.0) due.1),
       );
     })
-
--- what holds of all numbers holds of one among them
-pub all_among : (P : ℕ → Type 0) (xs : List ℕ) (x : ℕ) → All P xs → IsTrue (is_among x xs) → P x
-all_among P [] x all there = absurd (both_ways _ refl there)
-all_among P (y ∷ xs) x all there = elim (or_cases (x == y) (is_among x xs) there) [
-  | inl here ↦ subst P (sym (eqb-true x y here)) (All-head P y xs all)
-  | inr later ↦ all_among P xs x (All-tail P y xs all) later
-]
 
 -- a list of at most one number has no two
 pub one_among : (xs : List ℕ) (x y : ℕ) → length xs ≤ 1 → IsTrue (is_among x xs) → IsTrue (is_among y xs) → x ≡ y
@@ -53,13 +45,13 @@ few_listed P (x ∷ y ∷ xs) listed few =
     let second : P y = (listed.exactly y).0 (or_right (y == x) (is_among y (y ∷ xs)) (or_left (y == y) (is_among y xs) (eq-eqb y y refl))) in
     absurd (omega (arith, listed.rising 0 (omega arith), few x y first second))
 
-module _ (it : Store) (entries : List Entry) (from n : ℕ) (work : List ℕ) (same : entries ≡ it.entries) (passed : (k : ℕ) → NamesThin it k → from ≤ k)
-    (least : IsLeast (λ k. (from ≤ k) × NamesMinimal entries k) n) (is_work : (node : ℕ → Bool) → IsNodeNamed entries n node → IsWork (store it.objects entries) node work) where
+module _ (it : Volatile) (entries : List Entry) (from n : ℕ) (work : List ℕ) (same : entries ≡ it.entries) (passed : (k : ℕ) → NamesThin it k → from ≤ k)
+    (least : IsLeast (λ k. (from ≤ k) × NamesMinimal entries k) n) (is_work : (node : ℕ → Bool) → IsNodeNamed entries n node → IsWork (volatile it.objects entries) node work) where
   least_here : IsLeast (λ k. (from ≤ k) × NamesMinimal it.entries k) n
   least_here = subst (λ (es : List Entry). IsLeast (λ k. (from ≤ k) × NamesMinimal es k) n) same least
 
   work_here : (node : ℕ → Bool) → IsNodeNamed it.entries n node → IsWork it node work
-  work_here = subst (λ (es : List Entry). (node : ℕ → Bool) → IsNodeNamed es n node → IsWork (store it.objects es) node work) same is_work
+  work_here = subst (λ (es : List Entry). (node : ℕ → Bool) → IsNodeNamed es n node → IsWork (volatile it.objects es) node work) same is_work
 
   -- no thin node has a lesser name
   no_less : (k : ℕ) → NamesThin it k → n ≤ k
@@ -82,10 +74,10 @@ module _ (it : Store) (entries : List Entry) (from n : ℕ) (work : List ℕ) (s
   thin_behind many k thin =
       let not_here : n ≡ k → ⊥ = λ e.
       let named : IsNodeNamed it.entries n thin.0 = subst (λ (j : ℕ). IsNodeNamed it.entries j thin.0) (sym e) thin.1.named in
-      many (few_listed (IsDue it thin.0) work (work_here thin.0 named) thin.1.few) in
+      many (few_listed (HasToFlush it thin.0) work (work_here thin.0 named) thin.1.few) in
       omega (arith, no_less k thin, not_here)
 
-pub thin_none : (it : Store) (entries : List Entry) (from : ℕ) → entries ≡ it.entries → ((k : ℕ) → NamesThin it k → from ≤ k) → ((k : ℕ) → from ≤ k → NamesMinimal entries k → ⊥)
+pub thin_none : (it : Volatile) (entries : List Entry) (from : ℕ) → entries ≡ it.entries → ((k : ℕ) → NamesThin it k → from ≤ k) → ((k : ℕ) → from ≤ k → NamesMinimal entries k → ⊥)
     → (n : ℕ) → NamesThin it n → ⊥
 thin_none it entries from same passed none n thin =
     none n (passed n thin) (subst (λ (es : List Entry). NamesMinimal es n) (sym same) (thin.0, thin.1.named, thin.1.no_edge))
@@ -97,7 +89,7 @@ among_all P (x ∷ xs) each =
     All-cons P x xs (each x (or_left (x == x) (is_among x xs) (eq-eqb x x refl))) (among_all P xs (λ y there. each y (or_right (y == x) (is_among y xs) there)))
 
 -- the objects that a thin node has to flush are dirty
-pub thin_dirty : (it : Store) (n : ℕ) (work : List ℕ) → IsLeastThin it n work → All (λ x. is_dirty it.objects.cache x ≡ true) work
+pub thin_dirty : (it : Volatile) (n : ℕ) (work : List ℕ) → IsLeastThin it n work → All (λ x. is_dirty it.objects.cache x ≡ true) work
 thin_dirty it n work least =
     let thin = least.least.0 in
     among_all (λ x. is_dirty it.objects.cache x ≡ true) work (λ x there. (((least.is_work thin.0 thin.1.named).exactly x).0 there).1)

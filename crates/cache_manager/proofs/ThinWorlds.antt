@@ -23,8 +23,8 @@ use Rattle.explain_core.specs.World.{World, Step, AreAllowed, run, IsAllStable, 
 use Rattle.explain_core.specs.World.Step.{Slot_gate, Removal}
 use Rattle.running_store.specs.Courses.{removal_steps}
 use Rattle.running_store.specs.Joins.{dirty_shown}
-use Rattle.running_store.specs.Parts.{Store, ShowsStore, StoreShows}
-use Rattle.cache_manager.specs.Thin.{IsDue, IsWork, NamesThin, IsLeastThin}
+use Rattle.running_store.specs.Parts.{Volatile, ShowsVolatile, VolatileShows}
+use Rattle.cache_manager.specs.Thin.{HasToFlush, IsWork, NamesThin, IsLeastThin}
 use Rattle.cache_manager.proofs.Counts.{count_le}
 use Rattle.cache_manager.proofs.Next.{is_within, below, test_none}
 use Rattle.cache_manager.proofs.ThinNodes.{one_among}
@@ -46,7 +46,7 @@ count_few (suc n) q few = elim (cases_Bool (q n)) [
       omega (arith, e, count_few n q few)
 ]
 
-module _ {O : Type 0} (m : Meaning O) (lawful : IsLawful m) (p : Params) (file : List ℕ) (it : Store) (w : World O) (shows : ShowsStore m p file it w) (sound : IsSound m w) where
+module _ {O : Type 0} (m : Meaning O) (lawful : IsLawful m) (p : Params) (file : List ℕ) (it : Volatile) (w : World O) (shows : ShowsVolatile m p file it w) (sound : IsSound m w) where
   abbrev a : Access
   a = graph_access m w
 
@@ -57,13 +57,13 @@ module _ {O : Type 0} (m : Meaning O) (lawful : IsLawful m) (p : Params) (file :
   within = is_within m lawful w sound
 
   -- what a node has to flush
-  pub due_gives : (node : ℕ → Bool) (x : ℕ) → IsDue it node x → work_of m w node x
+  pub due_gives : (node : ℕ → Bool) (x : ℕ) → HasToFlush it node x → work_of m w node x
   due_gives node x due = (
     subst (λ (b : Access). flush_set_of b node x) shows.accesses due.0,
     λ same. both_ways _ (ap not (eq-eqb (w.slots x).id (w.cache x).id same)) (sym (dirty_shown m p file it w shows x) ∙ due.1),
   )
 
-  pub due_from : (node : ℕ → Bool) (x : ℕ) → work_of m w node x → IsDue it node x
+  pub due_from : (node : ℕ → Bool) (x : ℕ) → work_of m w node x → HasToFlush it node x
   due_from node x work = (
     subst (λ (b : Access). flush_set_of b node x) (sym shows.accesses) work.0,
     dirty_shown m p file it w shows x ∙ ap not (ne_eqb (w.slots x).id (w.cache x).id work.1),
@@ -168,7 +168,7 @@ module _ {O : Type 0} (m : Meaning O) (lawful : IsLawful m) (p : Params) (file :
       thin_may node named = subst (λ (l : List (Step O)). AreAllowed m w l) (thin_steps_are node named) (steps_allowed m lawful w sound stable has_one)
 
 -- the thin node of the least name is finished
-module _ {O : Type 0} (m : Meaning O) (lawful : IsLawful m) (p : Params) (d : Disk) (it : Store) (w : World O) (shows : StoreShows m p d it w) (stable : IsAllStable w) (n : ℕ) (work : List ℕ)
+module _ {O : Type 0} (m : Meaning O) (lawful : IsLawful m) (p : Params) (d : Disk) (it : Volatile) (w : World O) (shows : VolatileShows m p d it w) (stable : IsAllStable w) (n : ℕ) (work : List ℕ)
     (least : IsLeastThin it n work) where
   abbrev node : ℕ → Bool
   node = least.least.0.0
@@ -177,12 +177,12 @@ module _ {O : Type 0} (m : Meaning O) (lawful : IsLawful m) (p : Params) (d : Di
   steps_are = thin_steps_are m lawful p (d.reads Objects) it w shows.store shows.sound stable n work least node least.least.0.1.named
 
   -- what its last steps leave is what the steps of the install leave
-  pub installed_is : (new : Disk) (after : Store)
-      → ((s : ℕ → Bool) → IsNodeNamed it.entries n s → AreAllowed m w (removal_steps m s work) → StoreShows m p new after (run m w (removal_steps m s work)))
-      → (true ≡ has_thin m w) × StoreShows m p new after (run m w (thin_steps m w))
+  pub installed_is : (new : Disk) (after : Volatile)
+      → ((s : ℕ → Bool) → IsNodeNamed it.entries n s → AreAllowed m w (removal_steps m s work) → VolatileShows m p new after (run m w (removal_steps m s work)))
+      → (true ≡ has_thin m w) × VolatileShows m p new after (run m w (thin_steps m w))
   installed_is new after done = (
     sym (has_one m lawful p (d.reads Objects) it w shows.store shows.sound stable n work least),
-    subst (λ (l : List (Step O)). StoreShows m p new after (run m w l)) (sym steps_are)
+    subst (λ (l : List (Step O)). VolatileShows m p new after (run m w l)) (sym steps_are)
         (done node least.least.0.1.named (thin_may m lawful p (d.reads Objects) it w shows.store shows.sound stable n work least node least.least.0.1.named)),
   )
 
@@ -192,19 +192,19 @@ module _ {O : Type 0} (m : Meaning O) (lawful : IsLawful m) (p : Params) (d : Di
       subst (λ (l : List (Step O)). TakesSome m p d new w l) (sym (cond-true (has_thin m w) (thin_steps m w) [] has ∙ steps_are)) (each node)
 
 -- where the store has no thin node, the world has none
-pub no_thin : {O : Type 0} (m : Meaning O) → IsLawful m → (p : Params) (d : Disk) (it : Store) (w : World O) → StoreShows m p d it w → IsAllStable w → ((n : ℕ) → NamesThin it n → ⊥) → IsFalse (has_thin m w)
+pub no_thin : {O : Type 0} (m : Meaning O) → IsLawful m → (p : Params) (d : Disk) (it : Volatile) (w : World O) → VolatileShows m p d it w → IsAllStable w → ((n : ℕ) → NamesThin it n → ⊥) → IsFalse (has_thin m w)
 no_thin m lawful p d it w shows stable none = false_from_ne_true _ (λ has. none (thin_name m w) (thin_from m lawful p (d.reads Objects) it w shows.store shows.sound stable has))
 
 -- no steps, no change
-pub none_shown : {O : Type 0} (m : Meaning O) (p : Params) (d : Disk) (it : Store) (w : World O) → StoreShows m p d it w → StoreShows m p d it (run m w [])
+pub none_shown : {O : Type 0} (m : Meaning O) (p : Params) (d : Disk) (it : Volatile) (w : World O) → VolatileShows m p d it w → VolatileShows m p d it (run m w [])
 unfolding run
 none_shown m p d it w shows = shows
 
 -- a store's operations are lawful
-pub store_small : {O : Type 0} (m : Meaning O) (p : Params) (file : List ℕ) (it : Store) (w : World O) → ShowsStore m p file it w → IsSmall (bounds_of p)
+pub store_small : {O : Type 0} (m : Meaning O) (p : Params) (file : List ℕ) (it : Volatile) (w : World O) → ShowsVolatile m p file it w → IsSmall (bounds_of p)
 store_small m p file it w shows = small_store p file (subst (λ (q : Params). IsObjectsFile q file) shows.params shows.laid.slots.whole)
 
-pub store_lawful : {O : Type 0} (meaning : Bounds → Meaning O) → ((b : Bounds) → IsSmall b → IsLawful (meaning b)) → (p : Params) (file : List ℕ) (it : Store) (w : World O)
-    → ShowsStore (meaning (bounds_of p)) p file it w → IsLawful (meaning (bounds_of p))
+pub store_lawful : {O : Type 0} (meaning : Bounds → Meaning O) → ((b : Bounds) → IsSmall b → IsLawful (meaning b)) → (p : Params) (file : List ℕ) (it : Volatile) (w : World O)
+    → ShowsVolatile (meaning (bounds_of p)) p file it w → IsLawful (meaning (bounds_of p))
 store_lawful meaning lawful p file it w shows =
     lawful (bounds_of p) (store_small (meaning (bounds_of p)) p file it w shows)

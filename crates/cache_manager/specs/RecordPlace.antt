@@ -1,8 +1,9 @@
 -- Whether the record of an identity write has a place in the log.
-use Rattle.std.specs.Prelude.{◌≡◌, ◌+◌, ◌<◌, ◌≤◌, ◌^◌, ℕ}
+use Rattle.std.proofs.Common.{◌≡◌, ◌+◌, ◌<◌, ◌≤◌, ℕ, List, [], ◌∷◌, arith}
+use Rattle.std.specs.Prelude.{◌^◌}
 use Rattle.log_frames.specs.LogView.{used_of, growth_of}
 use Rattle.log_records.specs.RecordLog.{RecordLogView}
-use Rattle.running_store.specs.Logged.{log_limit}
+use Rattle.formats.specs.Limits.{log_limit}
 use Rattle.cache_manager.specs.declared.install_err.InstallErr.{InstallErr}
 use Rattle.cache_manager.specs.declared.install_err.InstallErr.TheVariants.{LogFull, LsnEnd, DiskFault, Memory}
 
@@ -17,3 +18,8 @@ LacksRecordPlace log n (LogFull used need limit) = (log_limit < used_of log.log 
 LacksRecordPlace log n (LsnEnd number) = (used_of log.log + growth_of log.log.pending n ≤ log_limit) × (2 ^ 62 ≤ log.next) × (number ≡ log.next)
 LacksRecordPlace log n DiskFault = ⊥
 LacksRecordPlace log n Memory = ⊥
+
+-- a record makes the log longer by its bytes and a block's head at most
+pub growth_low : (pending : List ℕ) (n : ℕ) → growth_of pending n ≤ n + 5
+growth_low [] n = omega arith
+growth_low (byte ∷ bytes) n = omega arith

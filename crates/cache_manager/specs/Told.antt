@@ -27,7 +27,7 @@ identities_of (Installed ops flushed identities) = identities
 
 -- What it tells on every machine: the graph had no entry, or some entries left it; so many records have numbers.
 pub record TellsParts (before after : Parts) (install : Install) : Type 0 where
-  pub clean : (install ≡ Clean) ↔ (before.store.entries ≡ [])
+  pub clean : (install ≡ Clean) ↔ (before.volatile.entries ≡ [])
   pub some : (install ≡ Clean → ⊥) → 0 < ops_of install
   pub numbered : after.log.next ≡ before.log.next + identities_of install
-  pub entries : length after.store.entries + ops_of install ≡ length before.store.entries + identities_of install
+  pub entries : length after.volatile.entries + ops_of install ≡ length before.volatile.entries + identities_of install

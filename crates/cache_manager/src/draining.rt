@@ -6,9 +6,9 @@ ghost use Rattle.explain_core.specs.World.{World};
 ghost use Rattle.running_store.specs.Calls.{IsCall};
 ghost use Rattle.cache_manager.specs.InstallCourses.{drain_course, removals};
 ghost use Rattle.running_store.specs.Kept.{StopsAt};
-ghost use Rattle.running_store.specs.Logged.{log_limit};
+ghost use Rattle.formats.specs.Limits.{log_limit};
 ghost use Rattle.running_store.specs.Parts.{Shows, meaning_in};
-ghost use Rattle.running_store.specs.StoreView.{length_of, logged_since, next_of};
+ghost use Rattle.running_store.specs.StoreView.{log_length, logged_since, next_of};
 ghost use Rattle.running_store.specs.Taking.{Takes};
 ghost use Rattle.cache_manager.specs.Endings.{ending_of};
 
@@ -29,12 +29,12 @@ pub fn drain<O: Oper, M: Machine>(
     ensures call { IsCall O.meaning (M.disk machine.old) (M.disk machine.new) store.old store.new (logged_since store.old store.new) (StopsAt log_limit) (ending_of result) }
     ensures takes { Takes O.meaning (M.disk machine.old) (M.disk machine.new) store.old.parts store.new.parts (λ m w used. drain_course m copied w used) (ending_of result) }
     ensures count { (p : Numbers) (w : World O) → Shows (meaning_in O.meaning p) p (M.disk machine.old) store.old.parts w →
-        IfOk result (λ n. n ≡ removals (drain_course (meaning_in O.meaning p) copied w (length_of store.old)).steps) }
+        IfOk result (λ n. n ≡ removals (drain_course (meaning_in O.meaning p) copied w (log_length store.old)).steps) }
     // Each install takes an entry out of the graph at least, and each identity write puts one in.
-    ensures bounded { IfOk result (λ n. n + next_of store.old ≤ length store.old.parts.store.entries + next_of store.new) }
-    ensures drained { OnOk result (store.new.parts.store.entries ≡ []) }
+    ensures bounded { IfOk result (λ n. n + next_of store.old ≤ length store.old.parts.volatile.entries + next_of store.new) }
+    ensures drained { OnOk result (store.new.parts.volatile.entries ≡ []) }
     ensures clean { (p : Numbers) (w : World O) → Shows (meaning_in O.meaning p) p (M.disk machine.old) store.old.parts w →
-        OnOk result ((x : ℕ) → is_dirty store.new.parts.store.objects.cache x ≡ false) }
+        OnOk result ((x : ℕ) → is_dirty store.new.parts.volatile.objects.cache x ≡ false) }
 {
     explain_core::every_run_keeps::<O>();
     install_order::last_blind_write_is_alone();

@@ -7,7 +7,7 @@ ghost use Rattle.running_store.specs.Courses.{cached_length};
 ghost use Rattle.cache_manager.specs.InstallCourses.{but_longest, identities};
 ghost use Rattle.running_store.specs.Kept.{IsLonger, StopsAt};
 ghost use Rattle.running_store.specs.Laid.{values_in};
-ghost use Rattle.running_store.specs.Logged.{log_limit};
+ghost use Rattle.formats.specs.Limits.{log_limit};
 ghost use Rattle.running_store.specs.StoreView.{logged_since};
 ghost use Rattle.running_store.specs.Taking.{Takes};
 ghost use Rattle.cache_manager.specs.Endings.{ending_of};
@@ -27,7 +27,7 @@ pub(crate) fn log_all<O: Oper, M: Machine>(
     xs: &[u32],
 ) -> Result<(), InstallErr>
     requires unbroken { store.old.broken ≡ false }
-    requires dirty { All (λ x. is_dirty store.old.parts.store.objects.cache x ≡ true) xs.now }
+    requires dirty { All (λ x. is_dirty store.old.parts.volatile.objects.cache x ≡ true) xs.now }
     ensures call { IsCall O.meaning (M.disk machine.old) (M.disk machine.new) store.old store.new (logged_since store.old store.new) (StopsAt log_limit) (ending_of result) }
     ensures takes { Takes O.meaning (M.disk machine.old) (M.disk machine.new) store.old.parts store.new.parts (λ m w used. identities m xs.now w used) (ending_of result) }
     ensures logged { OnOk result (IsLonger (length xs.now) store.old.parts store.new.parts) }
@@ -60,7 +60,7 @@ pub(crate) fn log_others<O: Oper, M: Machine>(
     copied: u32,
 ) -> Result<(), InstallErr>
     requires unbroken { store.old.broken ≡ false }
-    requires dirty { All (λ x. is_dirty store.old.parts.store.objects.cache x ≡ true) work.now }
+    requires dirty { All (λ x. is_dirty store.old.parts.volatile.objects.cache x ≡ true) work.now }
     requires rising { IsStrictlyIncreasing work.now }
     requires some { (1 < length work.now) ⊎ ((x : ℕ) × (slice_get work.now 0 ≡ Some x) × (x < copied)) }
     ensures call { IsCall O.meaning (M.disk machine.old) (M.disk machine.new) store.old store.new (logged_since store.old store.new) (StopsAt log_limit) (ending_of result) }

@@ -4,7 +4,7 @@ ghost use Rattle.dirty_cache.specs.Contents.{is_dirty};
 ghost use Rattle.running_store.specs.Calls.{IsCall};
 ghost use Rattle.cache_manager.specs.InstallCourses.{identity_course};
 ghost use Rattle.running_store.specs.Kept.{IsLonger, StopsAt};
-ghost use Rattle.running_store.specs.Logged.{log_limit};
+ghost use Rattle.formats.specs.Limits.{log_limit};
 ghost use Rattle.running_store.specs.StoreView.{logged_since};
 ghost use Rattle.running_store.specs.Taking.{Takes};
 ghost use Rattle.cache_manager.specs.Endings.{ending_of};
@@ -12,18 +12,10 @@ ghost use Rattle.cache_manager.specs.RecordPlace.{HasRecordPlace, LacksRecordPla
 
 use crate::InstallErr;
 use disk_model::Machine;
+use formats::{BLOCK_HEAD, IDENTITY_HEAD, MAX_LOG, NUMBERS_END};
 use log_records::RecordLog;
 use oper_core::Oper;
 use running_store::Store;
-
-/// The kind, the number, the object and the length of an identity write.
-const IDENTITY_HEAD: u64 = 17;
-
-/// The greatest length of a log.
-const LOG_LIMIT: u64 = 1 << 48;
-
-/// The first number that no record may have.
-const NUMBER_LIMIT: u64 = 1 << 62;
 
 /// Why a record of n bytes has no place in the log, if it has none.
 fn refusal<O: Oper>(log: &RecordLog<O>, n: u64) -> Option<InstallErr>
@@ -33,15 +25,15 @@ fn refusal<O: Oper>(log: &RecordLog<O>, n: u64) -> Option<InstallErr>
     ensures some { IfSome result (LacksRecordPlace log.now n) }
 {
     let used = log.used();
-    if LOG_LIMIT.saturating_sub(used) < log.growth(n) {
+    if MAX_LOG.saturating_sub(used) < log.growth(n) {
         return Some(InstallErr::LogFull {
             used,
-            need: n + 5,
-            limit: LOG_LIMIT,
+            need: n + BLOCK_HEAD as u64,
+            limit: MAX_LOG,
         });
     }
     let number = log.next();
-    if number >= NUMBER_LIMIT {
+    if number >= NUMBERS_END {
         return Some(InstallErr::LsnEnd { number });
     }
     None
@@ -55,7 +47,7 @@ pub(crate) fn log_identity<O: Oper, M: Machine>(
     x: u32,
 ) -> Result<(), InstallErr>
     requires unbroken { store.old.broken ≡ false }
-    requires dirty { is_dirty store.old.parts.store.objects.cache x ≡ true }
+    requires dirty { is_dirty store.old.parts.volatile.objects.cache x ≡ true }
     ensures call { IsCall O.meaning (M.disk machine.old) (M.disk machine.new) store.old store.new (logged_since store.old store.new) (StopsAt log_limit) (ending_of result) }
     ensures takes { Takes O.meaning (M.disk machine.old) (M.disk machine.new) store.old.parts store.new.parts (λ m w used. identity_course m x w used) (ending_of result) }
     ensures logged { OnOk result (IsLonger 1 store.old.parts store.new.parts) }
@@ -63,7 +55,7 @@ pub(crate) fn log_identity<O: Oper, M: Machine>(
     explain_core::append_keeps::<O>();
     // Called for its clause: the next number is 2^62 at most.
     let _params = store.params();
-    let n = IDENTITY_HEAD + store.objects().value(x).len() as u64;
+    let n = IDENTITY_HEAD as u64 + store.objects().value(x).len() as u64;
     store.make_block_room(machine, n)?;
     if let Some(e) = refusal(store.log(), n) {
         store.force(machine)?;

@@ -4,16 +4,14 @@ ghost use Rattle.formats.specs.declared.params.Params.{Params as Numbers};
 ghost use Rattle.explain_core.specs.Turns.{has_thin, thin_steps};
 ghost use Rattle.explain_core.specs.World.{World, IsAllStable, run};
 ghost use Rattle.standing.specs.Moments.{TakesSome};
-ghost use Rattle.running_store.specs.Calls.{IsCall, Never};
-ghost use Rattle.running_store.specs.Beside.{IsBeside};
-ghost use Rattle.running_store.specs.Parts.{StoreShows, meaning_in};
-ghost use Rattle.cache_manager.specs.Endings.{ending_of_thin};
+ghost use Rattle.running_store.specs.Calls.{IsCall, Never, ending_of_store};
+ghost use Rattle.running_store.specs.Beside.{IsOnObjectsAlone};
+ghost use Rattle.running_store.specs.Parts.{VolatileShows, meaning_in};
 
-use crate::ThinErr;
 use crate::thin::least_thin;
 use disk_model::Machine;
 use oper_core::Oper;
-use running_store::Store;
+use running_store::{Store, StoreErr};
 
 /// Installs the minimal node of the least name that has at most one object to flush; nothing is logged. It answers whether
 /// there is one. Without memory nothing changes. The store may be one that a redo fills: members of its world
@@ -21,19 +19,19 @@ use running_store::Store;
 pub fn install_thin<O: Oper, M: Machine>(
     store: &mut Store<O>,
     machine: &mut M,
-) -> Result<bool, ThinErr>
+) -> Result<bool, StoreErr>
     requires unbroken { store.old.broken ≡ false }
-    ensures call { IsCall O.meaning (M.disk machine.old) (M.disk machine.new) store.old store.new 0 Never (ending_of_thin result) }
-    ensures beside { IsBeside (M.disk machine.old) (M.disk machine.new) store.old store.new }
+    ensures call { IsCall O.meaning (M.disk machine.old) (M.disk machine.new) store.old store.new 0 Never (ending_of_store result) }
+    ensures beside { IsOnObjectsAlone (M.disk machine.old) (M.disk machine.new) store.old store.new }
     ensures shows { (p : Numbers) (w : World O) → let m = meaning_in O.meaning p in
-        StoreShows m p (M.disk machine.old) store.old.parts.store w → IsAllStable w →
+        VolatileShows m p (M.disk machine.old) store.old.parts.volatile w → IsAllStable w →
         IfOk result (λ some. (some ≡ has_thin m w)
-        × StoreShows m p (M.disk machine.new) store.new.parts.store (run m w (if some then thin_steps m w else []))) }
-    ensures moments { (M.disk machine.old).tells_moments → (p : Numbers) (w : World O) → let m = meaning_in O.meaning p in
-        StoreShows m p (M.disk machine.old) store.old.parts.store w → IsAllStable w →
+        × VolatileShows m p (M.disk machine.new) store.new.parts.volatile (run m w (if some then thin_steps m w else []))) }
+    ensures steps { (M.disk machine.old).tells_moments → (p : Numbers) (w : World O) → let m = meaning_in O.meaning p in
+        VolatileShows m p (M.disk machine.old) store.old.parts.volatile w → IsAllStable w →
         TakesSome m p (M.disk machine.old) (M.disk machine.new) w (if has_thin m w then thin_steps m w else []) }
-    ensures fewer { IfOk result (λ some. IsTrue some → length store.new.parts.store.entries < length store.old.parts.store.entries) }
-    ensures memory { IsErrOf result ThinErr.Memory → (machine.new ≡ machine.old) × (store.new ≡ store.old) }
+    ensures fewer { IfOk result (λ some. IsTrue some → length store.new.parts.volatile.entries < length store.old.parts.volatile.entries) }
+    ensures memory { IsErrOf result StoreErr.Memory → (machine.new ≡ machine.old) × (store.new ≡ store.old) }
 {
     // Called for its clause: the numbers of the graph are below 2^62.
     let _params = store.params();

@@ -16,7 +16,6 @@ mod install_err;
 mod installing;
 mod rounds;
 mod thin;
-mod thin_err;
 mod worked;
 
 pub use courses::{
@@ -28,7 +27,6 @@ pub use install::Install;
 pub use install_err::InstallErr;
 pub use installing::install_thin;
 pub use rounds::install_one;
-pub use thin_err::ThinErr;
 pub use worked::{
     a_swap_is_installed, nodes_of_one_object_log_nothing, the_longer_value_is_flushed,
 };

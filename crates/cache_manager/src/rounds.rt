@@ -9,9 +9,9 @@ ghost use Rattle.running_store.specs.Courses.{course};
 ghost use Rattle.cache_manager.specs.InstallCourses.{finish_steps, install_course};
 ghost use Rattle.running_store.specs.Courses.Stop.{Through};
 ghost use Rattle.running_store.specs.Kept.{StopsAt};
-ghost use Rattle.running_store.specs.Logged.{log_limit};
+ghost use Rattle.formats.specs.Limits.{log_limit};
 ghost use Rattle.running_store.specs.Parts.{Shows, meaning_in};
-ghost use Rattle.running_store.specs.StoreView.{length_of, logged_since, next_of};
+ghost use Rattle.running_store.specs.StoreView.{log_length, logged_since, next_of};
 ghost use Rattle.running_store.specs.Taking.{Takes};
 ghost use Rattle.cache_manager.specs.Endings.{ending_of};
 ghost use Rattle.cache_manager.specs.Thin.{IsWork};
@@ -35,14 +35,14 @@ pub(crate) fn finish_next<O: Oper, M: Machine>(
     work: &[u32],
 ) -> Result<u64, Failed>
     requires unbroken { store.old.broken ≡ false }
-    requires least { IsLeast (NamesMinimal store.old.parts.store.entries) n }
-    requires is_work { (node : ℕ → Bool) → IsNodeNamed store.old.parts.store.entries n node → IsWork store.old.parts.store node work.now }
+    requires least { IsLeast (NamesMinimal store.old.parts.volatile.entries) n }
+    requires is_work { (node : ℕ → Bool) → IsNodeNamed store.old.parts.volatile.entries n node → IsWork store.old.parts.volatile node work.now }
     requires few { length work.now ≤ 1 }
     ensures call { IsCall O.meaning (M.disk machine.old) (M.disk machine.new) store.old store.new 0 Never (ending_of_force result) }
     ensures takes { Takes O.meaning (M.disk machine.old) (M.disk machine.new) store.old.parts store.new.parts (λ m w used. course (finish_steps m w) used Through) (ending_of_force result) }
     ensures next { next_of store.new ≡ next_of store.old }
-    ensures ops { IfOk result (λ ops. (0 < ops) × (length store.old.parts.store.entries ≡ length store.new.parts.store.entries + ops)) }
-    ensures rising { OnOk result (IsStrictlyIncreasing (numbers store.new.parts.store.entries)) }
+    ensures ops { IfOk result (λ ops. (0 < ops) × (length store.old.parts.volatile.entries ≡ length store.new.parts.volatile.entries + ops)) }
+    ensures rising { OnOk result (IsStrictlyIncreasing (numbers store.new.parts.volatile.entries)) }
 {
     explain_core::every_run_keeps::<O>();
     let held = store.graph().len();
@@ -76,7 +76,7 @@ pub fn install_one<O: Oper, M: Machine>(
     ensures call { IsCall O.meaning (M.disk machine.old) (M.disk machine.new) store.old store.new (logged_since store.old store.new) (StopsAt log_limit) (ending_of result) }
     ensures takes { Takes O.meaning (M.disk machine.old) (M.disk machine.new) store.old.parts store.new.parts (λ m w used. install_course m copied w used) (ending_of result) }
     ensures told { (p : Numbers) (w : World O) → Shows (meaning_in O.meaning p) p (M.disk machine.old) store.old.parts w →
-        IfOk result (IsInstall (meaning_in O.meaning p) w (install_course (meaning_in O.meaning p) copied w (length_of store.old)).steps) }
+        IfOk result (IsInstall (meaning_in O.meaning p) w (install_course (meaning_in O.meaning p) copied w (log_length store.old)).steps) }
     ensures tells { IfOk result (TellsParts store.old.parts store.new.parts) }
 {
     explain_core::every_run_keeps::<O>();

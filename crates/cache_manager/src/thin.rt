@@ -1,7 +1,7 @@
 // The thin node of the least name.
 ghost use Rattle.std.specs.Prelude.{◌<◌, ◌^◌, ℕ, Bool, All, IfOk, IfSome, IfNone};
 ghost use Rattle.write_graph.specs.Graph.{numbers, IsNodeNamed, NamesNode};
-ghost use Rattle.running_store.specs.Parts.{store};
+ghost use Rattle.running_store.specs.Parts.{volatile};
 ghost use Rattle.cache_manager.specs.Thin.{IsLeastThin, IsWork, NamesThin};
 
 use oper_core::Memory;
@@ -22,7 +22,7 @@ pub(crate) struct Thin {
 pub(crate) fn work_of(objects: &Objects, graph: &WriteGraph, n: NodeNo) -> Result<Vec<u32>, Memory>
     requires { NamesNode graph.now.entries n }
     ensures { IfOk result (λ work. (node : ℕ → Bool) → IsNodeNamed graph.now.entries n node →
-        IsWork (store objects.now graph.now.entries) node work.items) }
+        IsWork (volatile objects.now graph.now.entries) node work.items) }
 {
     let mut work = graph.flush_set(n)?;
     work.retain(|x| objects.is_dirty(*x));
@@ -32,8 +32,8 @@ pub(crate) fn work_of(objects: &Objects, graph: &WriteGraph, n: NodeNo) -> Resul
 /// The thin node of the least name, if there is one.
 pub(crate) fn least_thin(objects: &Objects, graph: &WriteGraph) -> Result<Option<Thin>, Memory>
     requires low { All (λ n. n < 2 ^ 62) (numbers graph.now.entries) }
-    ensures some { IfOk result (λ found. IfSome found (λ thin. IsLeastThin (store objects.now graph.now.entries) thin.name thin.work.items)) }
-    ensures none { IfOk result (λ found. IfNone found ((n : ℕ) → NamesThin (store objects.now graph.now.entries) n → ⊥)) }
+    ensures some { IfOk result (λ found. IfSome found (λ thin. IsLeastThin (volatile objects.now graph.now.entries) thin.name thin.work.items)) }
+    ensures none { IfOk result (λ found. IfNone found ((n : ℕ) → NamesThin (volatile objects.now graph.now.entries) n → ⊥)) }
 {
     let mut from = 0;
     while let Some(name) = graph.minimal_from(from) {

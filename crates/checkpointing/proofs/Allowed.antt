@@ -8,12 +8,12 @@ use Rattle.explain_core.specs.World.{World, Step, step, run, IsLive, NoGroup, Ar
 use Rattle.explain_core.specs.World.Step.{Block_gate, Check, Header_gate}
 use Rattle.running_store.specs.Courses.{Course, course, and_then, buffered, force_course, force_steps, grown, is_through, room_steps, waits}
 use Rattle.running_store.specs.Courses.Stop.{Through, Full, Worn}
-use Rattle.running_store.specs.Logged.{log_limit}
+use Rattle.formats.specs.Limits.{log_limit, numbers_end}
 use Rattle.running_store.specs.Running.{AreUpkeep, IsRunning, KeepsSound, MayBeTaken, may_be_taken, running_after}
 use Rattle.running_store.specs.RewriteLaws.{gate_allowed}
 use Rattle.running_store.specs.Rewrites.{check_length, new_base, rewrite_course, trimmed, trimmed_file}
 use Rattle.cache_manager.specs.Upkeep.{upkeep_append}
-use Rattle.checkpointing.specs.Courses.{check_course, check_steps, checkpoint_course, closing_course, last_epoch, logged_course, trim_course}
+use Rattle.checkpointing.specs.Courses.{check_course, check_steps, checkpoint_course, closing_course, logged_course, trim_course}
 
 -- steps on the log alone, which may be taken wherever calls are made
 abbrev ArePlain : {O : Type 0} → List (Step O) → Type 0
@@ -100,7 +100,7 @@ module _ {O : Type 0} (m : Meaning O) where
     pub trim_taken : (epoch used : ℕ) → MayBeTaken m w (trim_course m epoch w used).steps
     trim_taken epoch used =
         let rest = rewrite_course m v used in
-        cond_both (nat_le last_epoch epoch) (course [] used (Worn epoch)) (and_then m w (force_course m w used) (λ v used. rewrite_course m v used)) (λ (c : Course O). MayBeTaken m w c.steps)
+        cond_both (nat_le numbers_end epoch) (course [] used (Worn epoch)) (and_then m w (force_course m w used) (λ v used. rewrite_course m v used)) (λ (c : Course O). MayBeTaken m w c.steps)
         (λ worn. plain_taken [] tt)
         (λ early. may_be_taken m w (force_steps m w ++ rest.steps) keeps is (upkeep_append m (force_steps m w) rest.steps (plain_upkeep (force_steps m w) (plain_force w)) (rewrite_upkeep used))
         (allowed-append m w (force_steps m w) rest.steps (plain_allowed w (force_steps m w) (plain_force w) is.live is.alone) (rewrite_allowed used)))

@@ -6,7 +6,7 @@ use Rattle.disk_model.specs.Disk.{Disk, IsDisk}
 use Rattle.disk_model.specs.declared.machine.FileNo.TheVariants.{Objects}
 use Rattle.oper_core.specs.Meaning.{Meaning}
 use Rattle.oper_core.specs.declared.bounds.Bounds.{Bounds}
-use Rattle.checkpoint.specs.declared.table.Table.{Table}
+use Rattle.redo_tables.specs.declared.table.Table.{Table}
 use Rattle.formats.specs.declared.params.Params.{Params}
 use Rattle.log_frames.specs.LogView.{used_of, growth_of}
 use Rattle.log_records.specs.RecordLog.{RecordLogView}
@@ -19,8 +19,8 @@ use Rattle.running_store.specs.Courses.{Course, and_then, course, force_course, 
 use Rattle.running_store.specs.Courses.Stop.{Through, Full}
 use Rattle.running_store.specs.Finished.{IsQuiet}
 use Rattle.running_store.specs.Growth.{growth_shown}
-use Rattle.running_store.specs.Logged.{log_limit}
-use Rattle.running_store.specs.Parts.{Parts, Shows, ShowsStore, Store, meaning_in}
+use Rattle.formats.specs.Limits.{log_limit}
+use Rattle.running_store.specs.Parts.{Parts, Shows, ShowsVolatile, Volatile, meaning_in}
 use Rattle.running_store.specs.Rewrites.{check_length}
 use Rattle.running_store.specs.StoreView.{StoreView}
 use Rattle.running_store.specs.Taking.{Ending, Takes}
@@ -28,11 +28,6 @@ use Rattle.running_store.specs.Taking.Ending.{Done, Stopped}
 use Rattle.running_store.specs.TakesLaws.{takes_both, takes_none, takes_same, takes_stop}
 use Rattle.checkpointing.specs.Checks.{IsTableNow, IsTakenBy, IsTakenNow}
 use Rattle.checkpointing.specs.Courses.{logged_course}
-
--- a record adds at most its bytes and a block's head
-pub growth_low : (pending : List ℕ) (n : ℕ) → growth_of pending n ≤ n + 5
-growth_low [] n = omega arith
-growth_low (byte ∷ bytes) n = omega arith
 
 -- once a check is taken, something waits
 gate_alone : {O : Type 0} (m : Meaning O) (w : World O) → force_steps m (run m w (Check ∷ [])) ≡ Block_gate ∷ []
@@ -92,7 +87,7 @@ module _ {O : Type 0} (meaning : Bounds → Meaning O) (d : Disk) (before : Part
 
 module _ {O : Type 0} (meaning : Bounds → Meaning O) (table : Table) where
   -- the world that is shown takes the check now
-  pub taken_here : (d : Disk) (it : Parts) → IsTakenBy meaning it table → (p : Params) (w : World O) → Shows (meaning_in meaning p) p d it w → IsTakenNow (meaning_in meaning p) w it.store.entries table
+  pub taken_here : (d : Disk) (it : Parts) → IsTakenBy meaning it table → (p : Params) (w : World O) → Shows (meaning_in meaning p) p d it w → IsTakenNow (meaning_in meaning p) w it.volatile.entries table
   taken_here d it so p w shows = so p (d.reads Objects) w shows.running.sound shows.store (next_number (meaning_in meaning p) p d it w shows) shows.log.base
 
   pub now_here : (d : Disk) (it : Parts) → IsTakenBy meaning it table → IsTableNow meaning d it table
@@ -107,7 +102,7 @@ module _ {O : Type 0} (meaning : Bounds → Meaning O) (table : Table) where
 
     pub taken_roomed : IsTakenBy meaning before.parts table → IsTakenBy meaning after.parts table
     taken_roomed so p file w sound shows number base =
-        let store = ap (λ (s : StoreView). s.parts.store) room.same in
+        let store = ap (λ (s : StoreView). s.parts.volatile) room.same in
         let header = ⊎_elim (λ same. ap (λ (l : RecordLogView). l.log.header.base) same) (λ forced. ap (λ (l : RecordLogView). l.log.header.base) forced) room.log in
-        subst (λ (s : Store). IsTakenNow (meaning_in meaning p) w s.entries table) (sym store)
-        (so p file w sound (subst (λ (s : Store). ShowsStore (meaning_in meaning p) p file s w) store shows) (sym room.long.next ∙ number) (sym header ∙ base))
+        subst (λ (s : Volatile). IsTakenNow (meaning_in meaning p) w s.entries table) (sym store)
+        (so p file w sound (subst (λ (s : Volatile). ShowsVolatile (meaning_in meaning p) p file s w) store shows) (sym room.long.next ∙ number) (sym header ∙ base))

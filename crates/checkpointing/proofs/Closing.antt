@@ -14,21 +14,21 @@ use Rattle.explain_core.specs.Taken.{IsAfterSome, after_longer}
 use Rattle.explain_core.specs.World.{World, Step, run}
 use Rattle.standing.specs.Moments.{TakesSome, moments_longer, moments_twice}
 use Rattle.running_store.specs.CallLaws.{unbroken_after}
-use Rattle.running_store.specs.Calls.{IsCall, Never, call_as, call_twice}
+use Rattle.running_store.specs.Calls.{IsCall, Never, call_as, call_twice, ending_of_store}
 use Rattle.running_store.specs.Courses.{Course, Stop, course, force_course, force_steps, is_through}
 use Rattle.running_store.specs.Courses.Stop.{Through, Full}
 use Rattle.running_store.specs.Finished.{IsQuiet}
 use Rattle.running_store.specs.Forced.{IsForced}
 use Rattle.running_store.specs.Kept.{StopsAt}
-use Rattle.running_store.specs.Logged.{log_limit}
+use Rattle.formats.specs.Limits.{log_limit}
 use Rattle.running_store.specs.Parts.{Parts, Shows, meaning_in}
 use Rattle.running_store.specs.StoreView.{StoreView}
 use Rattle.running_store.specs.Taking.{Ending, Follows, Takes}
 use Rattle.running_store.specs.Taking.Ending.{Done, Stopped, Short, Failed}
+use Rattle.running_store.specs.declared.store_err.StoreErr.{StoreErr}
+use Rattle.running_store.specs.declared.store_err.StoreErr.TheVariants as of_store
 use Rattle.checkpointing.specs.Courses.{check_course, checkpoint_course, closing_course}
-use Rattle.checkpointing.specs.Left.{Overlong, check_ending, ending_of_close}
-use Rattle.checkpointing.specs.declared.close_err.CloseErr.{CloseErr}
-use Rattle.checkpointing.specs.declared.close_err.CloseErr.TheVariants as of_closing
+use Rattle.checkpointing.specs.Left.{Overlong, check_ending}
 use Rattle.checkpointing.proofs.Ended.{call_ends, call_on, unstopped}
 
 module _ {O : Type 0} (m : Meaning O) (w : World O) (used : ℕ) where
@@ -63,7 +63,7 @@ module _ {O : Type 0} (meaning : Bounds → Meaning O) (old new : Disk) (before 
   longer_moments ending takes told p w shows =
       let m = meaning_in meaning p in
       let more = longer m w n in
-      subst (λ (l : List (Step O)). TakesSome m p old new w l) (sym more.1) (moments_longer m p old new w (check_course m w n).steps more.0 (takes.moments told p w shows))
+      subst (λ (l : List (Step O)). TakesSome m p old new w l) (sym more.1) (moments_longer m p old new w (check_course m w n).steps more.0 (takes.steps told p w shows))
 
   -- the check is done
   pub checkpoint_done : Takes meaning old new before after (λ m w used. check_course m w used) Done → Takes meaning old new before after (λ m w used. checkpoint_course m w used) Done
@@ -72,35 +72,35 @@ module _ {O : Type 0} (meaning : Bounds → Meaning O) (old new : Disk) (before 
         let m = meaning_in meaning p in
         let is = takes.follows p w shows in
         subst (λ (c : Course O). Follows m p new after w c Done) (sym (through_is m w n is.0)) is;
-    moments = longer_moments Done takes;
+    steps = longer_moments Done takes;
   }
 
   -- it fails
-  pub checkpoint_fails : (e : CloseErr) → Takes meaning old new before after (λ m w used. check_course m w used) (ending_of_close {T = Unit {0}} (Err e))
-      → Takes meaning old new before after (λ m w used. checkpoint_course m w used) (ending_of_close {T = Unit {0}} (Err e))
-  checkpoint_fails of_closing.DiskFault takes = record { follows = λ p w shows. tt; moments = longer_moments Failed takes }
-  checkpoint_fails of_closing.Memory takes = record {
+  pub checkpoint_fails : (e : StoreErr) → Takes meaning old new before after (λ m w used. check_course m w used) (ending_of_store {T = Unit {0}} (Err e))
+      → Takes meaning old new before after (λ m w used. checkpoint_course m w used) (ending_of_store {T = Unit {0}} (Err e))
+  checkpoint_fails of_store.DiskFault takes = record { follows = λ p w shows. tt; steps = longer_moments Failed takes }
+  checkpoint_fails of_store.Memory takes = record {
     follows = λ p w shows.
         let m = meaning_in meaning p in
         let more = longer m w n in
         let P : World O → Type 0 = λ v. Shows m p new after v in
         subst (λ (l : List (Step O)). IsAfterSome m P w l) (sym more.1) (after_longer m P w (check_course m w n).steps more.0 (takes.follows p w shows));
-    moments = longer_moments Short takes;
+    steps = longer_moments Short takes;
   }
 
   closing_moments : (ending : Ending) → Takes meaning old new before after (λ m w used. check_course m w used) ending → old.tells_moments → (p : Params) (w : World O) → Shows (meaning_in meaning p) p old before w
       → TakesSome (meaning_in meaning p) p old new w (closing_course (meaning_in meaning p) w n).steps
-  closing_moments ending takes told p w shows = takes.moments told p w shows
+  closing_moments ending takes told p w shows = takes.steps told p w shows
 
   -- whether a check has a place or not, it ends a restart
   pub closing_done : (log : RecordLogView) (placed : Option ℕ) → Takes meaning old new before after (λ m w used. check_course m w used) (check_ending log (Ok placed)) → Takes meaning old new before after (λ m w used. closing_course m w used) Done
-  closing_done log None takes = record { follows = λ p w shows. let is = takes.follows p w shows in (refl, record { shows = is.1.shows; used = is.1.used }); moments = closing_moments _ takes }
-  closing_done log (Some need) takes = record { follows = λ p w shows. let is = takes.follows p w shows in (refl, record { shows = is.1.shows; used = is.1.used }); moments = closing_moments _ takes }
+  closing_done log None takes = record { follows = λ p w shows. let is = takes.follows p w shows in (refl, record { shows = is.1.shows; used = is.1.used }); steps = closing_moments _ takes }
+  closing_done log (Some need) takes = record { follows = λ p w shows. let is = takes.follows p w shows in (refl, record { shows = is.1.shows; used = is.1.used }); steps = closing_moments _ takes }
 
-  pub closing_fails : (e : CloseErr) → Takes meaning old new before after (λ m w used. check_course m w used) (ending_of_close {T = Unit {0}} (Err e))
-      → Takes meaning old new before after (λ m w used. closing_course m w used) (ending_of_close {T = Unit {0}} (Err e))
-  closing_fails of_closing.DiskFault takes = record { follows = λ p w shows. tt; moments = closing_moments Failed takes }
-  closing_fails of_closing.Memory takes = record { follows = λ p w shows. takes.follows p w shows; moments = closing_moments Short takes }
+  pub closing_fails : (e : StoreErr) → Takes meaning old new before after (λ m w used. check_course m w used) (ending_of_store {T = Unit {0}} (Err e))
+      → Takes meaning old new before after (λ m w used. closing_course m w used) (ending_of_store {T = Unit {0}} (Err e))
+  closing_fails of_store.DiskFault takes = record { follows = λ p w shows. tt; steps = closing_moments Failed takes }
+  closing_fails of_store.Memory takes = record { follows = λ p w shows. takes.follows p w shows; steps = closing_moments Short takes }
 
 -- the check has no place, and what waits is forced
 module _ {O : Type 0} (meaning : Bounds → Meaning O) (old mid new : Disk) (before here after : Parts) (stop : Stop) (stopped : IsFalse (is_through stop)) (quiet : IsQuiet old mid)
@@ -114,10 +114,10 @@ module _ {O : Type 0} (meaning : Bounds → Meaning O) (old mid new : Disk) (bef
       let c = check_course m w n in
       let v = run m w c.steps in
       subst (λ (e : Course O). TakesSome m p old new w e.steps) (sym (stopped_is m w n stop stopped is.0))
-      (moments_twice m p old mid new w c.steps (force_steps m v) (quiet.said shows.told) (takes.moments told p w shows) (force.moments (quiet.time.moments_told.0 told) p v is.1.shows))
+      (moments_twice m p old mid new w c.steps (force_steps m v) (quiet.said shows.told) (takes.steps told p w shows) (force.steps (quiet.time.moments_told.0 told) p v is.1.shows))
 
   pub checkpoint_unforced : Takes meaning mid new here after (λ m w used. force_course m w used) Failed → Takes meaning old new before after (λ m w used. checkpoint_course m w used) Failed
-  checkpoint_unforced force = record { follows = λ p w shows. tt; moments = forced_moments Failed force }
+  checkpoint_unforced force = record { follows = λ p w shows. tt; steps = forced_moments Failed force }
 
   pub checkpoint_full : Takes meaning mid new here after (λ m w used. force_course m w used) Done → Takes meaning old new before after (λ m w used. checkpoint_course m w used) (Stopped stop)
   checkpoint_full force = record {
@@ -134,13 +134,13 @@ module _ {O : Type 0} (meaning : Bounds → Meaning O) (old mid new : Disk) (bef
             used = done.1.used ∙ is.1.used;
           },
         );
-    moments = forced_moments Done force;
+    steps = forced_moments Done force;
   }
 
 module _ {O : Type 0} (meaning : Bounds → Meaning O) (old new : Disk) (before after : StoreView) where
   -- an error of a check is no stop
-  pub refused_call : (then : RecordLogView → Stop → Type 0) (e : CloseErr) → IsCall meaning old new before after 0 Overlong (ending_of_close {T = Unit {0}} (Err e)) → IsCall meaning old new before after 0 then (ending_of_close {T = Unit {0}} (Err e))
-  refused_call then e is = call_as meaning old new before after 0 0 Overlong then (ending_of_close {T = Unit {0}} (Err e)) refl (λ stop ends none. absurd (unstopped e stop ends)) is
+  pub refused_call : (then : RecordLogView → Stop → Type 0) (e : StoreErr) → IsCall meaning old new before after 0 Overlong (ending_of_store {T = Unit {0}} (Err e)) → IsCall meaning old new before after 0 then (ending_of_store {T = Unit {0}} (Err e))
+  refused_call then e is = call_as meaning old new before after 0 0 Overlong then (ending_of_store {T = Unit {0}} (Err e)) refl (λ stop ends none. absurd (unstopped e stop ends)) is
 
   -- nor does it stop a restart that the check has no place
   pub closing_call : (placed : Option ℕ) → IsCall meaning old new before after 0 Overlong (check_ending after.parts.log (Ok placed)) → IsCall meaning old new before after 0 Never Done

@@ -1,54 +1,32 @@
 -- How calls end that are made of others, and that they keep counts.
 use Rattle.std.proofs.Common.{◌≡◌, ◌∙◌, sym, subst, ap, inr, ⊎_elim, refl, arith, ℕ}
 use Rattle.std.specs.Prelude.{⊤, Result, Ok, Err, IsErrAnd}
-use Rattle.std.proofs.lemmas.Result.{err_from_is_err_and}
 use Rattle.disk_model.specs.Disk.{Disk}
-use Rattle.checkpoint.specs.declared.table.Table.{Table}
-use Rattle.log_frames.specs.declared.log_err.LogErr.{LogErr}
-use Rattle.log_frames.specs.declared.log_err.LogErr.TheVariants as of_log
+use Rattle.redo_tables.specs.declared.table.Table.{Table}
 use Rattle.log_records.specs.RecordLog.{RecordLogView}
 use Rattle.oper_core.specs.Meaning.{Meaning}
 use Rattle.oper_core.specs.declared.bounds.Bounds.{Bounds}
-use Rattle.running_store.specs.Calls.{IsCall, IsFailed, IsForce, IsRoomMade, Never, call_as}
+use Rattle.running_store.specs.Calls.{IsCall, IsFailed, IsForce, IsRoomMade, Never, call_as, ending_of_store}
 use Rattle.running_store.specs.Checks.{HasChecked}
 use Rattle.running_store.specs.Courses.{Stop}
-use Rattle.running_store.specs.Rewrites.{HasRewritten, ending_of_rewrite}
+use Rattle.running_store.specs.Rewrites.{HasRewritten}
 use Rattle.running_store.specs.StoreView.{StoreView}
 use Rattle.running_store.specs.Taking.{Ending}
 use Rattle.running_store.specs.Taking.Ending.{Done, Stopped, Short, Failed}
-use Rattle.checkpointing.specs.Causes.{from_log, of_close}
-use Rattle.checkpointing.specs.Left.{KeepsCounts, ending_of, ending_of_check, ending_of_close}
+use Rattle.running_store.specs.declared.store_err.StoreErr.{StoreErr}
+use Rattle.running_store.specs.declared.store_err.StoreErr.TheVariants as of_store
+use Rattle.checkpointing.specs.Left.{EndsAs, KeepsCounts, ending_of_check}
 use Rattle.checkpointing.specs.declared.check_err.CheckErr.{CheckErr}
-use Rattle.checkpointing.specs.declared.close_err.CloseErr.{CloseErr}
-use Rattle.checkpointing.specs.declared.close_err.CloseErr.TheVariants as of_closing
-use Rattle.checkpointing.specs.declared.trim_err.TrimErr.{TrimErr}
 
--- a result that is this error
-pub is_err : {T E : Type 0} (r : Result T E) (e : E) → IsErrAnd r (λ k. k ≡ e) → Err e ≡ r
-is_err r e is = let q = err_from_is_err_and r is in sym (q.1 ∙ (λ i. Err (q.2 i)))
-
--- an error that is handed on ends a call as it ended the call below
-pub check_ends : {T : Type 0} (r : Result T CheckErr) (e : CloseErr) → IsErrAnd r (λ k. k ≡ of_close e) → ending_of_close {T = Unit {0}} (Err e) ≡ ending_of_check r
-check_ends {T} r e is = both e ∙ ap (λ (k : Result T CheckErr). ending_of_check k) (is_err r (of_close e) is)
-  where
-    both : (e : CloseErr) → ending_of_close {T = Unit {0}} (Err e) ≡ ending_of_check {T = T} (Err (of_close e))
-    both of_closing.DiskFault = refl
-    both of_closing.Memory = refl
-
-pub trim_ends : {T : Type 0} (r : Result T TrimErr) (e : LogErr) → IsErrAnd r (λ k. k ≡ from_log e) → ending_of_rewrite {T = Unit {0}} (Err e) ≡ ending_of r
-trim_ends {T} r e is = both e ∙ ap (λ (k : Result T TrimErr). ending_of k) (is_err r (from_log e) is)
-  where
-    both : (e : LogErr) → ending_of_rewrite {T = Unit {0}} (Err e) ≡ ending_of {T = T} (Err (from_log e))
-    both of_log.DiskFault = refl
-    both (of_log.LogFull used need limit) = refl
-    both (of_log.Damaged file place) = refl
-    both (of_log.Exhausted epoch) = refl
-    both of_log.Memory = refl
+-- an error that is handed on ends a checkpoint as it ended the call below
+pub check_ends : {T : Type 0} (r : Result T CheckErr) (e : StoreErr) → IsErrAnd r (λ k. EndsAs e k) → ending_of_store {T = Unit {0}} (Err e) ≡ ending_of_check r
+check_ends (Ok value) e is = absurd is
+check_ends (Err k) e is = sym is
 
 -- no error of a check says that it was stopped
-pub unstopped : (e : CloseErr) (stop : Stop) → ending_of_close {T = Unit {0}} (Err e) ≡ Stopped stop → ⊥
-unstopped of_closing.DiskFault stop is = cc
-unstopped of_closing.Memory stop is = cc
+pub unstopped : (e : StoreErr) (stop : Stop) → ending_of_store {T = Unit {0}} (Err e) ≡ Stopped stop → ⊥
+unstopped of_store.DiskFault stop is = cc
+unstopped of_store.Memory stop is = cc
 
 -- a call that ended so was not stopped, or for such a reason
 abbrev IsStoppedBy : (Stop → Type 0) → Ending → Type 0
@@ -70,6 +48,7 @@ module _ {O : Type 0} (meaning : Bounds → Meaning O) (old new : Disk) (before 
     rising = is.rising;
     identities = is.identities;
     settled = ⊎_elim (λ failed. absurd (first failed)) (λ kept. inr kept) is.settled;
+    kept = ⊎_elim (λ failed. absurd (first failed)) (λ kept. inr kept) is.kept;
     attached = ⊎_elim (λ failed. absurd (first failed)) (λ kept. inr kept) is.attached;
     stopped = λ stop ends. subst (λ (k : Ending). IsStoppedBy (then after.parts.log) k) ends so;
     broken = (λ set. absurd (first (is.broken.0 set)), λ failed. absurd (last failed));
@@ -82,28 +61,28 @@ counts_none it = record { next = refl; accepted = refl; same = refl }
 
 module _ (before after : StoreView) where
   pub counts_forced : {T E : Type 0} (r : Result T E) → IsForce before after r → KeepsCounts before.parts after.parts
-  counts_forced (Ok value) is = record { next = ap (λ (l : RecordLogView). l.next) is.0; accepted = ap (λ (l : RecordLogView). l.accepted) is.0; same = ap (λ (s : StoreView). s.parts.store) is.1 }
-  counts_forced (Err e) is = record { next = ap (λ (s : StoreView). s.parts.log.next) is; accepted = ap (λ (s : StoreView). s.parts.log.accepted) is; same = ap (λ (s : StoreView). s.parts.store) is }
+  counts_forced (Ok value) is = record { next = ap (λ (l : RecordLogView). l.next) is.0; accepted = ap (λ (l : RecordLogView). l.accepted) is.0; same = ap (λ (s : StoreView). s.parts.volatile) is.1 }
+  counts_forced (Err e) is = record { next = ap (λ (s : StoreView). s.parts.log.next) is; accepted = ap (λ (s : StoreView). s.parts.log.accepted) is; same = ap (λ (s : StoreView). s.parts.volatile) is }
 
   pub counts_roomed : {T E : Type 0} (r : Result T E) → IsRoomMade before after r → KeepsCounts before.parts after.parts
   counts_roomed (Ok value) is = record {
     next = is.long.next;
     accepted = ⊎_elim (λ same. ap (λ (l : RecordLogView). l.accepted) same) (λ forced. ap (λ (l : RecordLogView). l.accepted) forced) is.log;
-    same = ap (λ (s : StoreView). s.parts.store) is.same;
+    same = ap (λ (s : StoreView). s.parts.volatile) is.same;
   }
-  counts_roomed (Err e) is = record { next = ap (λ (s : StoreView). s.parts.log.next) is; accepted = ap (λ (s : StoreView). s.parts.log.accepted) is; same = ap (λ (s : StoreView). s.parts.store) is }
+  counts_roomed (Err e) is = record { next = ap (λ (s : StoreView). s.parts.log.next) is; accepted = ap (λ (s : StoreView). s.parts.log.accepted) is; same = ap (λ (s : StoreView). s.parts.volatile) is }
 
   pub counts_checked : {O T E : Type 0} (meaning : Bounds → Meaning O) (table : Table) (r : Result T E) → HasChecked meaning before after table r → KeepsCounts before.parts after.parts
   counts_checked meaning table (Ok value) is = record {
     next = ap (λ (l : RecordLogView). l.next) is.log;
     accepted = omega (arith, ap (λ (l : RecordLogView). l.accepted) is.log);
-    same = ap (λ (s : StoreView). s.parts.store) is.same;
+    same = ap (λ (s : StoreView). s.parts.volatile) is.same;
   }
-  counts_checked meaning table (Err e) is = record { next = ap (λ p. p.log.next) is.roomed; accepted = ap (λ p. p.log.accepted) is.roomed; same = ap (λ p. p.store) is.roomed }
+  counts_checked meaning table (Err e) is = record { next = ap (λ p. p.log.next) is.roomed; accepted = ap (λ p. p.log.accepted) is.roomed; same = ap (λ p. p.volatile) is.roomed }
 
   pub counts_rewritten : {T E : Type 0} (base : ℕ) (r : Result T E) → HasRewritten before after base r → KeepsCounts before.parts after.parts
-  counts_rewritten base (Ok value) is = record { next = is.next; accepted = is.accepted; same = ap (λ (s : StoreView). s.parts.store) is.same }
-  counts_rewritten base (Err e) is = record { next = ap (λ (s : StoreView). s.parts.log.next) is; accepted = ap (λ (s : StoreView). s.parts.log.accepted) is; same = ap (λ (s : StoreView). s.parts.store) is }
+  counts_rewritten base (Ok value) is = record { next = is.next; accepted = is.accepted; same = ap (λ (s : StoreView). s.parts.volatile) is.same }
+  counts_rewritten base (Err e) is = record { next = ap (λ (s : StoreView). s.parts.log.next) is; accepted = ap (λ (s : StoreView). s.parts.log.accepted) is; same = ap (λ (s : StoreView). s.parts.volatile) is }
 
 pub counts_twice : (a b c : StoreView) → KeepsCounts a.parts b.parts → KeepsCounts b.parts c.parts → KeepsCounts a.parts c.parts
 counts_twice a b c first second = record { next = second.next ∙ first.next; accepted = second.accepted ∙ first.accepted; same = second.same ∙ first.same }

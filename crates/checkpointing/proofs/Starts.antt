@@ -4,14 +4,15 @@ use Rattle.std.specs.Prelude.{All, IsTrue, ◌^◌, ◌&&◌, ◌==◌, nat_lt, 
 use Rattle.std.specs.List.{filter, AllPairs, flat_map}
 use Rattle.std.specs.List.Sorted.{IsStrictlyIncreasing}
 use Rattle.std.proofs.lemmas.Bool.{both_ways, and_parts, and_from, or_cases, or_left, eq-eqb, cond_both, cond-true, ltb-true, leb-true, lt-ltb, le-leb, eqb-true}
+use Rattle.std.proofs.lemmas.List.{length-map}
 use Rattle.std.proofs.lemmas.List.Elements.{All-nil, All-cons, All-head, All-tail, All-filter, All-weaker, filter_passes}
 use Rattle.std.proofs.lemmas.List.Kept.{AllPairs-cons, AllPairs-from_increasing}
 use Rattle.byteorder.specs.Endian.{little_bytes}
 use Rattle.oper_core.specs.LittleEndian.{length-little_bytes}
 use Rattle.oper_core.specs.Meaning.{Meaning, IsLawful}
 use Rattle.oper_core.specs.State.{is_among}
-use Rattle.checkpoint.specs.Codec.{start_code}
-use Rattle.checkpoint.specs.declared.table.Table.{Table}
+use Rattle.redo_tables.specs.Codec.{start_code}
+use Rattle.redo_tables.specs.declared.table.Table.{Table}
 use Rattle.formats.specs.Records.{record_code}
 use Rattle.formats.specs.declared.record.Record.TheVariants.{Check as Logged_check}
 use Rattle.install_order.specs.Entries.{accesses, writes_at}
@@ -84,10 +85,6 @@ firsts_below n [] all = All-nil (λ x. x < n)
 firsts_below n (s ∷ starts) all =
     All-cons (λ x. x < n) s.0 (firsts starts) (All-head (λ (s : ℕ × ℕ). s.0 < n) s starts all) (firsts_below n starts (All-tail (λ (s : ℕ × ℕ). s.0 < n) s starts all))
 
-firsts_length : (starts : List (ℕ × ℕ)) → length (firsts starts) ≡ length starts
-firsts_length [] = refl
-firsts_length (s ∷ starts) = ap suc (firsts_length starts)
-
 -- a writer is an entry
 writer_below : (next : ℕ) (entries : List Entry) (n x : ℕ) → IsTrue (writes_at entries n x) → All (λ k. k < next) (numbers entries) → n < next
 writer_below next [] n x writes all = absurd (both_ways _ refl writes)
@@ -130,7 +127,7 @@ module _ {O : Type 0} (m : Meaning O) (log : RecordLogView) (entries : List Entr
       (All-weaker (λ (s : ℕ × ℕ). IsLeast (IsWriter (accesses entries) s.0) s.1) (λ (s : ℕ × ℕ). s.1 < log.next) (λ s is. writer_below log.next entries s.1 s.0 is.0 above) starts least)
 
   count : length kept ≤ 4096
-  count = omega (arith, few_below m.objects (firsts kept) rises (firsts_below m.objects kept below), firsts_length kept, there, short)
+  count = omega (arith, few_below m.objects (firsts kept) rises (firsts_below m.objects kept below), length-map kept (λ (s : ℕ × ℕ). s.0), there, short)
 
   bytes : length (record_code m (Logged_check table)) ≡ 13 + 12 * length kept
   bytes = omega (

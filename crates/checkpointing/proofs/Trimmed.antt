@@ -7,15 +7,15 @@ use Rattle.disk_model.specs.declared.machine.FileNo.{FileNo}
 use Rattle.disk_model.specs.declared.machine.FileNo.TheVariants.{Objects}
 use Rattle.oper_core.specs.Meaning.{Meaning, IsLawful, IsSmall}
 use Rattle.oper_core.specs.declared.bounds.Bounds.{Bounds}
-use Rattle.checkpoint.specs.declared.table.Table.{Table}
+use Rattle.redo_tables.specs.declared.table.Table.{Table}
+use Rattle.formats.specs.Limits.{numbers_end}
 use Rattle.formats.specs.Objects.{IsObjectsFile, bounds_of}
 use Rattle.formats.specs.declared.params.Params.{Params}
 use Rattle.log_frames.specs.LogView.{LogView, used_of}
-use Rattle.log_frames.specs.Reading.{TellsDamage}
-use Rattle.log_frames.specs.declared.log_err.LogErr.{LogErr}
-use Rattle.log_frames.specs.declared.log_err.LogErr.TheVariants as of_log
 use Rattle.log_records.specs.RecordLog.{RecordLogView}
-use Rattle.log_records.specs.Rewriting.{IsRewritable, RewriteFails}
+use Rattle.log_records.specs.Rewriting.{FindsDamage, IsRewritable, RewriteFails}
+use Rattle.log_records.specs.declared.rewrite_err.RewriteErr.{RewriteErr}
+use Rattle.log_records.specs.declared.rewrite_err.RewriteErr.TheVariants.{Exhausted, DiskFault, Damaged, LogFull, Memory}
 use Rattle.explain_core.specs.World.{World}
 use Rattle.standing.specs.OneStable.{small_store}
 use Rattle.running_store.specs.Appended.{next_number}
@@ -28,25 +28,24 @@ use Rattle.running_store.specs.Rewrites.{IsKeptFrom, rewrite_course}
 use Rattle.running_store.specs.Taking.{Ending, Takes}
 use Rattle.running_store.specs.Taking.Ending.{Done, Stopped, Failed}
 use Rattle.running_store.specs.TakesLaws.{takes_both, takes_first, takes_none, takes_same, takes_stop}
-use Rattle.checkpointing.specs.Causes.{from_log}
 use Rattle.checkpointing.specs.Checks.{IsTakenBy}
-use Rattle.checkpointing.specs.Courses.{last_epoch, trim_course}
+use Rattle.checkpointing.specs.Courses.{trim_course}
 use Rattle.checkpointing.specs.Left.{DamagedBy, IsTooLong}
 use Rattle.checkpointing.proofs.Base.{base_is}
 use Rattle.checkpointing.proofs.CheckLogs.{taken_here}
 
 -- the log has had its last epoch
-pub trim_worn : {O : Type 0} (meaning : Bounds → Meaning O) (d : Disk) (it : Parts) (epoch told : ℕ) → told ≡ epoch → last_epoch ≤ epoch → IsDisk d → Takes meaning d d it it (λ m w used. trim_course m epoch w used) (Stopped (Worn told))
+pub trim_worn : {O : Type 0} (meaning : Bounds → Meaning O) (d : Disk) (it : Parts) (epoch told : ℕ) → told ≡ epoch → numbers_end ≤ epoch → IsDisk d → Takes meaning d d it it (λ m w used. trim_course m epoch w used) (Stopped (Worn told))
 trim_worn meaning d it epoch told same last lawful =
     takes_same meaning d d it it (λ m w used. course [] used (Worn told)) (λ m w used. trim_course m epoch w used) (Stopped (Worn told))
-    (λ p w shows. ap (λ (k : ℕ). course [] (used_of it.log.log) (Worn k)) same ∙ sym (cond-true (nat_le last_epoch epoch) _ _ (le-leb last_epoch epoch last)))
+    (λ p w shows. ap (λ (k : ℕ). course [] (used_of it.log.log) (Worn k)) same ∙ sym (cond-true (nat_le numbers_end epoch) _ _ (le-leb numbers_end epoch last)))
     (takes_stop meaning d d it it (λ m w. []) (Worn told) (takes_none meaning d it lawful))
 
-module _ {O : Type 0} (meaning : Bounds → Meaning O) (epoch : ℕ) (early : epoch < last_epoch) (old new : Disk) (before after : Parts) where
+module _ {O : Type 0} (meaning : Bounds → Meaning O) (epoch : ℕ) (early : epoch < numbers_end) (old new : Disk) (before after : Parts) where
   trims : (ending : Ending) → Takes meaning old new before after (λ m w used. and_then m w (force_course m w used) (λ v used. rewrite_course m v used)) ending → Takes meaning old new before after (λ m w used. trim_course m epoch w used) ending
   trims ending =
       takes_same meaning old new before after (λ m w used. and_then m w (force_course m w used) (λ v used. rewrite_course m v used)) (λ m w used. trim_course m epoch w used) ending
-      (λ p w shows. sym (cond-false (nat_le last_epoch epoch) _ _ (lt-leb last_epoch epoch early)))
+      (λ p w shows. sym (cond-false (nat_le numbers_end epoch) _ _ (lt-leb numbers_end epoch early)))
 
   -- the force fails
   pub trim_unforced : Takes meaning old new before after (λ m w used. force_course m w used) Failed → Takes meaning old new before after (λ m w used. trim_course m epoch w used) Failed
@@ -84,7 +83,7 @@ may_rewrite m log table base check none least = record {
 }
 
 -- and of each world that is shown the log then begins there
-pub kept_from : {O : Type 0} (meaning : Bounds → Meaning O) → ((b : Bounds) → IsSmall b → IsLawful (meaning b)) → (d : Disk) (it : Parts) (table : Table) → IsTakenBy meaning it table → (base : ℕ) → IsLeastStart it.log table base
+kept_from : {O : Type 0} (meaning : Bounds → Meaning O) → ((b : Bounds) → IsSmall b → IsLawful (meaning b)) → (d : Disk) (it : Parts) (table : Table) → IsTakenBy meaning it table → (base : ℕ) → IsLeastStart it.log table base
     → (p : Params) (w : World O) → Shows (meaning_in meaning p) p d it w → IsKeptFrom (meaning_in meaning p) w base table
 kept_from meaning lawful d it table so base least p w shows =
     let m = meaning_in meaning p in
@@ -93,33 +92,33 @@ kept_from meaning lawful d it table so base least p w shows =
     let taken = taken_here meaning table d it so p w shows in
     record {
       now = taken.now;
-      starts = base_is m law w shows.running.sound it.store.entries shows.store.accesses table.starts taken.objects taken.least base least.each (omega (arith, least.next, number)) (λ k low all. least.greatest k (omega (arith, low, number)) all);
+      starts = base_is m law w shows.running.sound it.volatile.entries shows.store.accesses table.starts taken.objects taken.least base least.each (omega (arith, least.next, number)) (λ k low all. least.greatest k (omega (arith, low, number)) all);
     }
+
+-- so it is rewritten after the force, or not
+pub trim_rewrites : {O : Type 0} (meaning : Bounds → Meaning O) (epoch : ℕ) → epoch < numbers_end → (old new : Disk) (before after : Parts) (mid : Disk) (here : Parts) (ending : Ending) → IsQuiet old mid
+    → Takes meaning old mid before here (λ m w used. force_course m w used) Done → ((b : Bounds) → IsSmall b → IsLawful (meaning b)) → (table : Table) → IsTakenBy meaning here table → (base : ℕ) → IsLeastStart here.log table base
+    → (((p : Params) (w : World O) → Shows (meaning_in meaning p) p mid here w → IsKeptFrom (meaning_in meaning p) w base table) → Takes meaning mid new here after (λ m w used. rewrite_course m w used) ending)
+    → Takes meaning old new before after (λ m w used. trim_course m epoch w used) ending
+trim_rewrites meaning epoch early old new before after mid here ending quiet forced lawful table so base least rewrites =
+    trim_then meaning epoch early old new before after mid here ending quiet forced (rewrites (kept_from meaning lawful mid here table so base least))
 
 -- where there is no start it is the next number
 pub least_next : (log : RecordLogView) (table : Table) (base : ℕ) → IsLeastStart log table base → table.starts ≡ [] → base ≡ log.next
 least_next log table base least none =
     let high = least.greatest log.next (omega arith) (subst (λ (l : List (ℕ × ℕ)). All (λ s. log.next ≤ s.1) l) (sym none) (λ k d below. absurd (omega (arith, below)))) in omega (arith, high, least.next)
 
--- what is reported to be damaged, or to be too long
-module _ (rises : Type 0) (fault : FileNo → ℕ → Type 0) (length_is : ℕ → Type 0) (log : LogView) where
-  pub damage_told : (e : LogErr) → RewriteFails rises fault length_is log e → DamagedBy fault (from_log e)
-  damage_told of_log.DiskFault cause = tt
-  damage_told (of_log.LogFull len need limit) cause = tt
-  damage_told (of_log.Damaged file place) cause = cause.0
-  damage_told (of_log.Exhausted epoch) cause = tt
-  damage_told of_log.Memory cause = tt
+-- what is reported to be damaged, and what to be too long
+pub fails_told : (rises : Type 0) (fault : FileNo → ℕ → Type 0) (length_is : ℕ → Type 0) (log : LogView) (e : RewriteErr) → RewriteFails rises fault length_is log e → DamagedBy fault e × IsTooLong e
+fails_told rises fault length_is log DiskFault cause = (tt, tt)
+fails_told rises fault length_is log (LogFull len need limit) cause = (tt, cause.3)
+fails_told rises fault length_is log (Damaged file place) cause = (cause.0, tt)
+fails_told rises fault length_is log (Exhausted epoch) cause = (tt, tt)
+fails_told rises fault length_is log Memory cause = (tt, tt)
 
-  pub long_told : (e : LogErr) → RewriteFails rises fault length_is log e → IsTooLong (from_log e)
-  long_told of_log.DiskFault cause = tt
-  long_told (of_log.LogFull len need limit) cause = cause.3
-  long_told (of_log.Damaged file place) cause = tt
-  long_told (of_log.Exhausted epoch) cause = tt
-  long_told of_log.Memory cause = tt
-
-pub none_damaged : (e : LogErr) → (TellsDamage e → ⊥) → DamagedBy (λ file place. ⊥) (from_log e)
-none_damaged of_log.DiskFault none = tt
-none_damaged (of_log.LogFull len need limit) none = tt
-none_damaged (of_log.Damaged file place) none = none tt
-none_damaged (of_log.Exhausted epoch) none = tt
-none_damaged of_log.Memory none = tt
+pub none_damaged : (e : RewriteErr) → (FindsDamage e → ⊥) → DamagedBy (λ file place. ⊥) e
+none_damaged DiskFault none = tt
+none_damaged (LogFull len need limit) none = tt
+none_damaged (Damaged file place) none = none tt
+none_damaged (Exhausted epoch) none = tt
+none_damaged Memory none = tt

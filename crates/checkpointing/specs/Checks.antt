@@ -3,7 +3,7 @@ use Rattle.std.specs.Prelude.{◌≡◌, ◌&&◌, ℕ, Bool, nat_lt, nat_le, Al
 use Rattle.disk_model.specs.Disk.{Disk}
 use Rattle.oper_core.specs.Meaning.{Meaning}
 use Rattle.oper_core.specs.declared.bounds.Bounds.{Bounds}
-use Rattle.checkpoint.specs.declared.table.Table.{Table}
+use Rattle.redo_tables.specs.declared.table.Table.{Table}
 use Rattle.formats.specs.declared.params.Params.{Params}
 use Rattle.install_order.specs.Entries.{accesses}
 use Rattle.install_order.specs.declared.entry.Entry.{Entry}
@@ -12,7 +12,7 @@ use Rattle.write_graph.specs.Objects.{IsWriter, IsWritten}
 use Rattle.explain_core.specs.Sound.{IsSound}
 use Rattle.explain_core.specs.World.{World, end_of, table_now}
 use Rattle.standing.specs.Members.{table_of}
-use Rattle.running_store.specs.Parts.{Parts, Shows, ShowsStore, meaning_in}
+use Rattle.running_store.specs.Parts.{Parts, Shows, ShowsVolatile, meaning_in}
 
 -- the start's object is there, and its number is not below the base
 abbrev pub is_in_log : ℕ → ℕ → ℕ × ℕ → Bool
@@ -26,8 +26,8 @@ pub record IsTakenNow {O : Type 0} (m : Meaning O) (w : World O) (entries : List
 
 -- it is the one that each sound world takes now which has these objects, this graph and the log's numbers
 abbrev pub IsTakenBy : {O : Type 0} → (Bounds → Meaning O) → Parts → Table → Type 0
-IsTakenBy {O} meaning it table = (p : Params) (file : List ℕ) (w : World O) → IsSound (meaning_in meaning p) w → ShowsStore (meaning_in meaning p) p file it.store w → it.log.next ≡ end_of w → it.log.log.header.base ≡ w.base
-    → IsTakenNow (meaning_in meaning p) w it.store.entries table
+IsTakenBy {O} meaning it table = (p : Params) (file : List ℕ) (w : World O) → IsSound (meaning_in meaning p) w → ShowsVolatile (meaning_in meaning p) p file it.volatile w → it.log.next ≡ end_of w → it.log.log.header.base ≡ w.base
+    → IsTakenNow (meaning_in meaning p) w it.volatile.entries table
 
 -- it is the one of each world that is shown
 abbrev pub IsTableNow : {O : Type 0} → (Bounds → Meaning O) → Disk → Parts → Table → Type 0

@@ -1,21 +1,17 @@
 -- What a checkpoint, a trim and the check at the end of a restart do, as functions of the world and of the log's length.
 -- No group is open in the world.
-use Rattle.std.specs.Prelude.{◌+◌, ◌^◌, ℕ, nat_lt, nat_le, if◌then◌else◌, List, [], ◌∷◌, ◌++◌}
+use Rattle.std.specs.Prelude.{◌+◌, ℕ, nat_lt, nat_le, if◌then◌else◌, List, [], ◌∷◌, ◌++◌}
 use Rattle.oper_core.specs.Meaning.{Meaning}
 use Rattle.explain_core.specs.World.{World, Step, run}
 use Rattle.explain_core.specs.World.Step.{Block_gate, Check}
 use Rattle.running_store.specs.Courses.{Course, is_through, course, and_then, grown, force_steps, force_course, room_steps}
 use Rattle.running_store.specs.Courses.Stop.{Through, Full, Worn}
-use Rattle.running_store.specs.Logged.{log_limit}
+use Rattle.formats.specs.Limits.{log_limit, numbers_end}
 use Rattle.running_store.specs.Rewrites.{check_length, rewrite_course}
 
 -- a check is taken, and forced
 abbrev pub check_steps : {O : Type 0} → List (Step O)
 check_steps = Check ∷ Block_gate ∷ []
-
--- the last epoch that a log may have
-abbrev pub last_epoch : ℕ
-last_epoch = 2 ^ 62
 
 module _ {O : Type 0} (m : Meaning O) where
   -- a check is logged and forced, where the log has a place for it
@@ -38,7 +34,7 @@ module _ {O : Type 0} (m : Meaning O) where
   abbrev pub closing_course : World O → ℕ → Course O
   closing_course w used = let c = check_course w used in course c.steps c.used Through
 
-  -- A trim of a log of this epoch: of the last one none is made; else all that waits is forced, and the log rewritten.
+  -- A trim of a log of this epoch: of the last one (`numbers_end`) none is made; else all that waits is forced, and the log rewritten.
   abbrev pub trim_course : ℕ → World O → ℕ → Course O
   trim_course epoch w used =
-      if nat_le last_epoch epoch then course [] used (Worn epoch) else and_then m w (force_course m w used) (rewrite_course m)
+      if nat_le numbers_end epoch then course [] used (Worn epoch) else and_then m w (force_course m w used) (rewrite_course m)

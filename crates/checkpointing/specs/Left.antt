@@ -3,36 +3,30 @@ use Rattle.std.specs.Prelude.{◌≡◌, ◌+◌, ◌<◌, ⊤, ℕ, Option, Non
 use Rattle.disk_model.specs.declared.machine.FileNo.{FileNo}
 use Rattle.log_frames.specs.LogView.{used_of}
 use Rattle.log_records.specs.RecordLog.{RecordLogView}
+use Rattle.log_records.specs.declared.rewrite_err.RewriteErr.{RewriteErr}
+use Rattle.log_records.specs.declared.rewrite_err.RewriteErr.TheVariants.{Exhausted, DiskFault, Damaged, LogFull, Memory}
+use Rattle.running_store.specs.Calls.{ending_of_store}
 use Rattle.running_store.specs.Courses.{Stop}
 use Rattle.running_store.specs.Courses.Stop.{Through, Full, At_end, Worn}
-use Rattle.running_store.specs.Logged.{log_limit}
+use Rattle.formats.specs.Limits.{log_limit}
 use Rattle.running_store.specs.Parts.{Parts}
 use Rattle.running_store.specs.Taking.{Ending}
 use Rattle.running_store.specs.Taking.Ending.{Done, Stopped, Short, Failed}
+use Rattle.running_store.specs.declared.store_err.StoreErr.{StoreErr}
 use Rattle.checkpointing.specs.declared.check_err.CheckErr.{CheckErr}
 use Rattle.checkpointing.specs.declared.check_err.CheckErr.TheVariants as of_check
-use Rattle.checkpointing.specs.declared.close_err.CloseErr.{CloseErr}
-use Rattle.checkpointing.specs.declared.close_err.CloseErr.TheVariants as of_closing
-use Rattle.checkpointing.specs.declared.trim_err.TrimErr.{TrimErr}
-use Rattle.checkpointing.specs.declared.trim_err.TrimErr.TheVariants.{Exhausted, DiskFault, Damaged, LogFull, Memory}
 
 -- no number is given, and no command is added; the objects and the graph are as they were
 pub record KeepsCounts (before after : Parts) : Type 0 where
   pub next : after.log.next ≡ before.log.next
   pub accepted : after.log.accepted ≡ before.log.accepted
-  pub same : after.store ≡ before.store
-
--- how a call ended that answers so
-abbrev pub ending_of_close : {T : Type 0} → Result T CloseErr → Ending
-ending_of_close (Ok value) = Done
-ending_of_close (Err of_closing.DiskFault) = Failed
-ending_of_close (Err of_closing.Memory) = Short
+  pub same : after.volatile ≡ before.volatile
 
 -- how the taking of a check ends: where it has no place in the log, a block of it needs so many bytes more
-abbrev pub check_ending : RecordLogView → Result (Option ℕ) CloseErr → Ending
+abbrev pub check_ending : RecordLogView → Result (Option ℕ) StoreErr → Ending
 check_ending log (Ok None) = Done
 check_ending log (Ok (Some need)) = Stopped (Full (used_of log.log) need log_limit)
-check_ending log (Err e) = ending_of_close {T = Unit {0}} (Err e)
+check_ending log (Err e) = ending_of_store {T = Unit {0}} (Err e)
 
 -- it is stopped only where the log would be longer than the limit
 abbrev pub Overlong : RecordLogView → Stop → Type 0
@@ -41,23 +35,22 @@ Overlong log (Full used need limit) = (used ≡ used_of log.log) × (limit < use
 Overlong log (At_end number) = ⊥
 Overlong log (Worn epoch) = ⊥
 
+-- how a checkpoint ended that answers so
+abbrev pub ending_of_error : CheckErr → Ending
+ending_of_error (of_check.LogFull used need limit) = Stopped (Full used need limit)
+ending_of_error of_check.DiskFault = Failed
+ending_of_error of_check.Memory = Short
+
 abbrev pub ending_of_check : {T : Type 0} → Result T CheckErr → Ending
 ending_of_check (Ok value) = Done
-ending_of_check (Err (of_check.LogFull used need limit)) = Stopped (Full used need limit)
-ending_of_check (Err of_check.DiskFault) = Failed
-ending_of_check (Err of_check.Memory) = Short
+ending_of_check (Err e) = ending_of_error e
 
--- How a trim ends. Of a damaged log nothing was rewritten, as without memory.
-abbrev pub ending_of : {T : Type 0} → Result T TrimErr → Ending
-ending_of (Ok value) = Done
-ending_of (Err (Exhausted epoch)) = Stopped (Worn epoch)
-ending_of (Err DiskFault) = Failed
-ending_of (Err (Damaged file place)) = Short
-ending_of (Err (LogFull used need limit)) = Stopped (Full used need limit)
-ending_of (Err Memory) = Short
+-- the error of a checkpoint that ends it as this one ended a call on the store
+abbrev pub EndsAs : StoreErr → CheckErr → Type 0
+EndsAs cause e = ending_of_error e ≡ ending_of_store {T = Unit {0}} (Err cause)
 
 -- a log is too long for a trim only where the file of the new one would be longer than the limit
-abbrev pub IsTooLong : TrimErr → Type 0
+abbrev pub IsTooLong : RewriteErr → Type 0
 IsTooLong (LogFull used need limit) = limit < need
 IsTooLong (Exhausted epoch) = ⊤
 IsTooLong DiskFault = ⊤
@@ -65,7 +58,7 @@ IsTooLong (Damaged file place) = ⊤
 IsTooLong Memory = ⊤
 
 -- a trim reports damage only so
-abbrev pub DamagedBy : (FileNo → ℕ → Type 0) → TrimErr → Type 0
+abbrev pub DamagedBy : (FileNo → ℕ → Type 0) → RewriteErr → Type 0
 DamagedBy fault (Exhausted epoch) = ⊤
 DamagedBy fault DiskFault = ⊤
 DamagedBy fault (Damaged file place) = fault file place

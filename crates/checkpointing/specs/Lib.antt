@@ -1,4 +1,3 @@
-pub mod Causes
 pub mod Courses
 pub mod Checks
 pub mod Left

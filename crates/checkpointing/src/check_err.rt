@@ -1,9 +1,9 @@
 ghost use Rattle.std.specs.Prelude.{◌≡◌};
 ghost use Rattle.checkpointing.specs.declared.check_err.CheckErr.TheVariants.{DiskFault};
-ghost use Rattle.checkpointing.specs.Causes.{of_close};
+ghost use Rattle.checkpointing.specs.Left.{EndsAs};
 
-use crate::CloseErr;
 use disk_model::Failed;
+use running_store::StoreErr;
 use thiserror::Error;
 
 /// Why no checkpoint was taken.
@@ -20,13 +20,13 @@ pub enum CheckErr {
     Memory,
 }
 
-impl From<CloseErr> for CheckErr {
-    ghost from_gives = { λ cause e. e ≡ of_close cause };
+impl From<StoreErr> for CheckErr {
+    ghost from_gives = { EndsAs };
 
-    fn from(cause: CloseErr) -> Self {
+    fn from(cause: StoreErr) -> Self {
         match cause {
-            CloseErr::DiskFault => CheckErr::DiskFault,
-            CloseErr::Memory => CheckErr::Memory,
+            StoreErr::DiskFault => CheckErr::DiskFault,
+            StoreErr::Memory => CheckErr::Memory,
         }
     }
 }

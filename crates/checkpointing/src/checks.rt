@@ -1,17 +1,18 @@
 // Checks: a checkpoint, and the one with which a restart ends.
 ghost use Rattle.std.specs.Prelude.{◌≡◌, false};
-ghost use Rattle.running_store.specs.Calls.{IsCall, Never};
+ghost use Rattle.running_store.specs.Calls.{IsCall, Never, ending_of_store};
 ghost use Rattle.running_store.specs.Kept.{StopsAt};
-ghost use Rattle.running_store.specs.Logged.{log_limit};
+ghost use Rattle.formats.specs.Limits.{log_limit};
 ghost use Rattle.running_store.specs.Taking.{Takes};
 ghost use Rattle.checkpointing.specs.Courses.{checkpoint_course, closing_course};
-ghost use Rattle.checkpointing.specs.Left.{KeepsCounts, ending_of_check, ending_of_close};
+ghost use Rattle.checkpointing.specs.Left.{KeepsCounts, ending_of_check};
 
-use crate::logging::{LOG_LIMIT, take_check};
-use crate::{CheckErr, CloseErr};
+use crate::CheckErr;
+use crate::logging::take_check;
 use disk_model::Machine;
+use formats::MAX_LOG;
 use oper_core::Oper;
-use running_store::Store;
+use running_store::{Store, StoreErr};
 
 /// Takes a check of where a redo begins now, and forces it. Where the log has no room for it, what waits is forced, and
 /// `LogFull` says how long the log then is, and what a block of the check would add.
@@ -32,7 +33,7 @@ pub fn checkpoint<O: Oper, M: Machine>(
     Err(CheckErr::LogFull {
         used,
         need,
-        limit: LOG_LIMIT,
+        limit: MAX_LOG,
     })
 }
 
@@ -40,10 +41,10 @@ pub fn checkpoint<O: Oper, M: Machine>(
 pub fn closing_check<O: Oper, M: Machine>(
     store: &mut Store<O>,
     machine: &mut M,
-) -> Result<(), CloseErr>
+) -> Result<(), StoreErr>
     requires unbroken { store.old.broken ≡ false }
-    ensures call { IsCall O.meaning (M.disk machine.old) (M.disk machine.new) store.old store.new 0 Never (ending_of_close result) }
-    ensures takes { Takes O.meaning (M.disk machine.old) (M.disk machine.new) store.old.parts store.new.parts (λ m w used. closing_course m w used) (ending_of_close result) }
+    ensures call { IsCall O.meaning (M.disk machine.old) (M.disk machine.new) store.old store.new 0 Never (ending_of_store result) }
+    ensures takes { Takes O.meaning (M.disk machine.old) (M.disk machine.new) store.old.parts store.new.parts (λ m w used. closing_course m w used) (ending_of_store result) }
     ensures counts { KeepsCounts store.old.parts store.new.parts }
 {
     take_check(store, machine)?;

@@ -12,18 +12,14 @@
 
 mod check_err;
 mod checks;
-mod close_err;
 mod laws;
 mod logging;
 mod taking;
-mod trim_err;
 mod trimming;
 mod worked;
 
 pub use check_err::CheckErr;
 pub use checks::{checkpoint, closing_check};
-pub use close_err::CloseErr;
 pub use laws::{checkpoint_may_be_taken, closing_check_may_be_taken, trim_may_be_taken};
-pub use trim_err::TrimErr;
 pub use trimming::trim;
 pub use worked::{a_checkpoint_has_two_starts, a_trim_keeps_what_is_not_installed};

@@ -7,29 +7,19 @@ ghost use Rattle.checkpointing.specs.Checks.{IsTableNow};
 ghost use Rattle.checkpointing.specs.Courses.{check_course, logged_course};
 ghost use Rattle.checkpointing.specs.Left.{KeepsCounts, Overlong, check_ending};
 
-use crate::CloseErr;
 use crate::taking::check_now;
-use checkpoint::Table;
 use disk_model::Machine;
-use formats::BLOCK_HEAD;
+use formats::{BLOCK_HEAD, CHECK_HEAD, MAX_LOG, START_BYTES};
 use oper_core::Oper;
-use running_store::Store;
-
-/// The greatest length of a log.
-pub(crate) const LOG_LIMIT: u64 = 1 << 48;
-
-/// The kind, the next number and the count of a check.
-const CHECK_HEAD: u64 = 13;
-
-/// An object and a number.
-const START_BYTES: u64 = 12;
+use redo_tables::Table;
+use running_store::{Store, StoreErr};
 
 /// How many bytes the record of a check has.
 fn check_bytes(table: &Table) -> u64
     requires { length table.now.starts ≤ 4096 }
     ensures { result ≡ 13 + 12 * length table.now.starts }
 {
-    CHECK_HEAD + START_BYTES * table.starts.as_slice().len() as u64
+    (CHECK_HEAD + START_BYTES * table.starts.as_slice().len()) as u64
 }
 
 /// Logs a check and forces it, where the log has a place for it; the block that waits has room. Where it has none the answer
@@ -38,7 +28,7 @@ fn log_check<O: Oper, M: Machine>(
     store: &mut Store<O>,
     machine: &mut M,
     table: Table,
-) -> Result<Option<u64>, CloseErr>
+) -> Result<Option<u64>, StoreErr>
     requires unbroken { store.old.broken ≡ false }
     requires check { IsCheckHere (O.meaning store.old.parts.log.bounds) store.old.parts.log table }
     requires room { length store.old.parts.log.log.pending + (13 + 12 * length table.starts) ≤ 2 ^ 30 }
@@ -50,7 +40,7 @@ fn log_check<O: Oper, M: Machine>(
     explain_core::check_keeps::<O>();
     let n = check_bytes(&table);
     let log = store.log();
-    if LOG_LIMIT.saturating_sub(log.used()) < log.growth(n) {
+    if MAX_LOG.saturating_sub(log.used()) < log.growth(n) {
         return Ok(Some(n + BLOCK_HEAD as u64));
     }
     store.append_check(table)?;
@@ -63,7 +53,7 @@ fn log_check<O: Oper, M: Machine>(
 pub(crate) fn take_check<O: Oper, M: Machine>(
     store: &mut Store<O>,
     machine: &mut M,
-) -> Result<Option<u64>, CloseErr>
+) -> Result<Option<u64>, StoreErr>
     requires unbroken { store.old.broken ≡ false }
     ensures call { IsCall O.meaning (M.disk machine.old) (M.disk machine.new) store.old store.new 0 Overlong (check_ending store.new.parts.log result) }
     ensures takes { Takes O.meaning (M.disk machine.old) (M.disk machine.new) store.old.parts store.new.parts (λ m w used. check_course m w used) (check_ending store.new.parts.log result) }

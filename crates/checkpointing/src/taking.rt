@@ -4,8 +4,8 @@ ghost use Rattle.std.specs.List.{filter};
 ghost use Rattle.running_store.specs.Checks.{IsCheckHere};
 ghost use Rattle.checkpointing.specs.Checks.{is_in_log, IsTakenBy};
 
-use checkpoint::{Starts, Table};
 use oper_core::{Memory, Oper};
+use redo_tables::{Starts, Table};
 use running_store::Store;
 
 /// Whether a check may have this start: its object is there, and its number is not below the log's base.
@@ -26,7 +26,7 @@ fn keep_in_log(starts: &mut Vec<(u32, u64)>, objects: u32, base: u64)
 pub(crate) fn check_now<O: Oper>(store: &Store<O>) -> Result<Table, Memory>
     requires unbroken { store.now.broken ≡ false }
     ensures here { IfOk result (IsCheckHere (O.meaning store.now.parts.log.bounds) store.now.parts.log) }
-    ensures none { store.now.parts.store.entries ≡ [] → IfOk result (λ table. table.starts ≡ []) }
+    ensures none { store.now.parts.volatile.entries ≡ [] → IfOk result (λ table. table.starts ≡ []) }
     ensures now { IfOk result (IsTakenBy O.meaning store.now.parts) }
 {
     running_store::a_check_taken_now::<O>();

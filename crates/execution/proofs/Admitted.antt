@@ -1,5 +1,5 @@
 -- What an operation reads and writes in a store, and what refuses it.
-use Rattle.std.proofs.Common.{◌≡◌, ◌<◌, ◌≤◌, ℕ, List, [], ◌∷◌, length, map, refl, sym, ap, ◌∙◌, subst, arith}
+use Rattle.std.proofs.Common.{◌≡◌, ◌<◌, ◌≤◌, ℕ, List, [], ◌∷◌, length, map, refl, sym, ap, ◌∙◌, subst}
 use Rattle.std.specs.Prelude.{All, Option, None, Some}
 use Rattle.std.proofs.lemmas.List.Elements.{All-head, All-tail}
 use Rattle.disk_model.specs.Disk.{Disk}
@@ -12,17 +12,12 @@ use Rattle.oper_core.specs.declared.refusal.Refusal.{Refusal}
 use Rattle.formats.specs.Objects.{IsInRange, bounds_of}
 use Rattle.formats.specs.declared.params.Params.{Params}
 use Rattle.explain_core.specs.World.{World}
+use Rattle.running_store.specs.Among.{small_bounds}
 use Rattle.running_store.specs.Commands.{IsReady}
 use Rattle.running_store.specs.Joins.{cell_shown}
 use Rattle.running_store.specs.Laid.{Laid, IsLaidOn, values_in}
 use Rattle.running_store.specs.Parts.{Parts, Shows, meaning_in}
 use Rattle.execution.specs.Courses.{refusal_in}
-
-pub small_bounds : (p : Params) → IsInRange p → IsSmall (bounds_of p)
-small_bounds p range =
-    let objects = range.objects in
-    let cap = range.cap in
-    record { objects = omega arith; cap = omega arith }
 
 or_same : (first one other : Option Refusal) → (first ≡ None → one ≡ other) → or_else first one ≡ or_else first other
 or_same None one other same = same refl
@@ -64,13 +59,11 @@ module _ {O : Type 0} (meaning : Bounds → Meaning O) where
       cap_is : (meaning_in meaning p).cap ≡ p.cap
       cap_is = (bounded (bounds_of p)).cap
 
-      -- the objects that it reads, and those that it writes, are there
+      -- the objects that it reads are there
       pub reads_below : All (λ x. x < p.objects) ((meaning_in meaning p).reads op)
       reads_below = subst (λ (n : ℕ). All (λ x. x < n) ((meaning_in meaning p).reads op)) objects_are (law.reads_below op grammar)
 
-      pub reads_there : (objects : List ℕ) → objects ≡ (meaning_in meaning p).reads op → All (λ x. x < p.objects) objects
-      reads_there objects are = subst (λ (l : List ℕ). All (λ x. x < p.objects) l) (sym are) reads_below
-
+      -- and those that it writes
       pub writes_there : (objects : List ℕ) → objects ≡ (meaning_in meaning p).writes op → All (λ x. x < p.objects) objects
       writes_there objects are = subst (λ (l : List ℕ). All (λ x. x < p.objects) l) (sym are)
           (subst (λ (n : ℕ). All (λ x. x < n) ((meaning_in meaning p).writes op)) objects_are (law.writes_below op grammar))
@@ -89,28 +82,28 @@ module _ {O : Type 0} (meaning : Bounds → Meaning O) where
 
       -- an operation reads what it reads in the world
       same_read : (op : O) → IsInGrammar (meaning_in meaning p) op
-          → read_values (meaning_in meaning p) (values_in it.store.objects (d.reads Objects)) op ≡ read_values (meaning_in meaning p) (λ x. (w.cache x).value) op
-      same_read op grammar = same_values p.objects ((meaning_in meaning p).reads op) (values_in it.store.objects (d.reads Objects)) (λ x. (w.cache x).value) (reads_below p range_shown op grammar)
-          (λ x below. ap (λ (c : Cell). c.value) (cell_shown (meaning_in meaning p) p (d.reads Objects) it.store w shows.store x below))
+          → read_values (meaning_in meaning p) (values_in it.volatile.objects (d.reads Objects)) op ≡ read_values (meaning_in meaning p) (λ x. (w.cache x).value) op
+      same_read op grammar = same_values p.objects ((meaning_in meaning p).reads op) (values_in it.volatile.objects (d.reads Objects)) (λ x. (w.cache x).value) (reads_below p range_shown op grammar)
+          (λ x below. ap (λ (c : Cell). c.value) (cell_shown (meaning_in meaning p) p (d.reads Objects) it.volatile w shows.store x below))
 
       -- and is refused as it is there
-      same_refusal : (op : O) → refusal_of (meaning_in meaning it.store.objects.slots.params) (values_in it.store.objects (d.reads Objects)) op ≡ refusal_in (meaning_in meaning p) w op
+      same_refusal : (op : O) → refusal_of (meaning_in meaning it.volatile.objects.slots.params) (values_in it.volatile.objects (d.reads Objects)) op ≡ refusal_in (meaning_in meaning p) w op
       same_refusal op =
-          ap (λ (q : Params). refusal_of (meaning_in meaning q) (values_in it.store.objects (d.reads Objects)) op) shows.store.params
+          ap (λ (q : Params). refusal_of (meaning_in meaning q) (values_in it.volatile.objects (d.reads Objects)) op) shows.store.params
           ∙ or_same ((meaning_in meaning p).shape op) _ _ (λ grammar. ap (λ (l : List (List ℕ)). (meaning_in meaning p).check op l) (same_read op grammar))
 
       pub refused_here : (op : O) (r : Refusal)
-          → (d.tells_files → IsLaidOn it.store.objects (d.reads Objects) → refusal_of (meaning_in meaning it.store.objects.slots.params) (values_in it.store.objects (d.reads Objects)) op ≡ Some r)
+          → (d.tells_files → IsLaidOn it.volatile.objects (d.reads Objects) → refusal_of (meaning_in meaning it.volatile.objects.slots.params) (values_in it.volatile.objects (d.reads Objects)) op ≡ Some r)
           → refusal_in (meaning_in meaning p) w op ≡ Some r
       refused_here op r refused = sym (same_refusal op) ∙ refused shows.told shows.store.laid
 
-      module _ (op : O) (values : List (List ℕ)) (ready : IsReady meaning it.store.objects.slots.params op values)
-          (read : values ≡ read_values (meaning_in meaning it.store.objects.slots.params) (values_in it.store.objects (d.reads Objects)) op) where
+      module _ (op : O) (values : List (List ℕ)) (ready : IsReady meaning it.volatile.objects.slots.params op values)
+          (read : values ≡ read_values (meaning_in meaning it.volatile.objects.slots.params) (values_in it.volatile.objects (d.reads Objects)) op) where
         pub ready_here : IsReady meaning p op values
         ready_here = subst (λ (q : Params). IsReady meaning q op values) shows.store.params ready
 
         pub read_here : values ≡ read_values (meaning_in meaning p) (λ x. (w.cache x).value) op
-        read_here = read ∙ ap (λ (q : Params). read_values (meaning_in meaning q) (values_in it.store.objects (d.reads Objects)) op) shows.store.params ∙ same_read op ready_here.shape
+        read_here = read ∙ ap (λ (q : Params). read_values (meaning_in meaning q) (values_in it.volatile.objects (d.reads Objects)) op) shows.store.params ∙ same_read op ready_here.shape
 
         -- one that is admitted is not refused there
         pub accepted : refusal_in (meaning_in meaning p) w op ≡ None

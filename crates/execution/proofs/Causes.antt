@@ -13,7 +13,7 @@ use Rattle.running_store.specs.Commands.{HasPlaceBelow, command_length}
 use Rattle.running_store.specs.Laid.{IsLaidOn, values_in}
 use Rattle.running_store.specs.LongSlot.{long_untold}
 use Rattle.running_store.specs.Parts.{Parts, Shows, meaning_in}
-use Rattle.execution.specs.Answers.{HasCause}
+use Rattle.execution.specs.Answers.{HasCauseIn}
 use Rattle.execution.specs.Counted.{accepted_shown}
 use Rattle.execution.specs.Courses.{refusal_in}
 use Rattle.execution.specs.Failures.{IsAdmitFailure, IsAdmittedOn, LacksPlace}
@@ -27,25 +27,25 @@ module _ {O : Type 0} (meaning : Bounds → Meaning O) (grouped : Bool) (p : Par
   m = meaning_in meaning p
 
   abbrev q : Params
-  q = it.store.objects.slots.params
+  q = it.volatile.objects.slots.params
 
   same : q ≡ p
   same = shows.store.params
 
   -- one that is not admitted
-  pub admit_cause : (bounded : (b : Bounds) → HasBounds b (meaning b)) (laws : (b : Bounds) → IsSmall b → IsLawful (meaning b)) (e : ExecErr) → Stays d new → IsAdmitFailure meaning q op d new it.store.objects e
-      → (d.tells_files → IsLaidOn it.store.objects (d.reads Objects) → IsAdmittedOn (meaning_in meaning q) (values_in it.store.objects (d.reads Objects)) op (Err e))
-      → (e ≡ DiskFault → IsInGrammar (meaning_in meaning q) op × (0 < length ((meaning_in meaning q).reads op))) → HasCause grouped m p.limit w (used_of it.log.log) op (Err e)
+  pub admit_cause : (bounded : (b : Bounds) → HasBounds b (meaning b)) (laws : (b : Bounds) → IsSmall b → IsLawful (meaning b)) (e : ExecErr) → Stays d new → IsAdmitFailure meaning q op d new it.volatile.objects e
+      → (d.tells_files → IsLaidOn it.volatile.objects (d.reads Objects) → IsAdmittedOn (meaning_in meaning q) (values_in it.volatile.objects (d.reads Objects)) op (Err e))
+      → (e ≡ DiskFault → IsInGrammar (meaning_in meaning q) op × (0 < length ((meaning_in meaning q).reads op))) → HasCauseIn grouped m p.limit w (used_of it.log.log) op (Err e)
   admit_cause bounded laws (Refused refusal) stays fails shown fault = refused_here meaning bounded laws p d it w shows op refusal shown
   admit_cause bounded laws DiskFault stays fails shown fault = inl (subst (λ (b : Params). IsInGrammar (meaning_in meaning b) op × (0 < length ((meaning_in meaning b).reads op))) same (fault refl))
-  admit_cause bounded laws (Damaged file place) stays fails shown fault = long_untold it.store.objects.slots fails.object file place stays shows.told shows.store.laid.slots fails.slot
+  admit_cause bounded laws (Damaged file place) stays fails shown fault = long_untold it.volatile.objects.slots fails.object file place stays shows.told shows.store.laid.slots fails.slot
   admit_cause bounded laws (LogFull used need limit) stays fails shown fault = absurd fails
   admit_cause bounded laws (LsnEnd number) stays fails shown fault = absurd fails
   admit_cause bounded laws Memory stays fails shown fault = tt
 
   module _ (accepted : refusal_in m w op ≡ None) where
     -- one that gets no place
-    pub lacks_cause : (e : ExecErr) → LacksPlace grouped p.limit it.log (command_length m op) e → HasCause grouped m p.limit w (used_of it.log.log) op (Err e)
+    pub lacks_cause : (e : ExecErr) → LacksPlace grouped p.limit it.log (command_length m op) e → HasCauseIn grouped m p.limit w (used_of it.log.log) op (Err e)
     lacks_cause (Refused refusal) lacks = absurd lacks
     lacks_cause (LogFull held need most) lacks = (accepted, omega (arith, lacks.0, long_is m p d it w shows grouped p.limit op accepted), lacks.1, lacks.2 ∙ needed_is m p d it w shows grouped p.limit op accepted grouped, lacks.3)
     lacks_cause (LsnEnd number) lacks =
@@ -62,7 +62,7 @@ module _ {O : Type 0} (meaning : Bounds → Meaning O) (grouped : Bool) (p : Par
     lacks_cause Memory lacks = absurd lacks
 
     -- one that is done
-    pub done_cause : (n : ℕ) → HasPlaceBelow p.limit it.log (command_length m op) → n ≡ it.log.accepted + 1 → HasCause grouped m p.limit w (used_of it.log.log) op (Ok n)
+    pub done_cause : (n : ℕ) → HasPlaceBelow p.limit it.log (command_length m op) → n ≡ it.log.accepted + 1 → HasCauseIn grouped m p.limit w (used_of it.log.log) op (Ok n)
     done_cause n place is =
         let room = place.room in
         let number = place.number in

@@ -1,4 +1,3 @@
-pub mod Results
 pub mod Admitted
 pub mod Placed
 pub mod Causes

@@ -1,11 +1,11 @@
 -- What holds of a command that gets no place in the log.
-use Rattle.std.proofs.Common.{◌≡◌, ◌∙◌, sym, subst, ap, ℕ, ◌+◌, List, [], ◌∷◌, refl, arith}
+use Rattle.std.proofs.Common.{◌≡◌, ◌∙◌, sym, subst, ap, ℕ, List, refl, arith}
 use Rattle.std.specs.Prelude.{◌<◌, ◌≤◌, ◌^◌, Bool, true, false, None, Result, Ok, Err}
 use Rattle.disk_model.specs.Disk.{Disk, Rises}
 use Rattle.oper_core.specs.Meaning.{Meaning}
 use Rattle.oper_core.specs.declared.bounds.Bounds.{Bounds}
 use Rattle.formats.specs.declared.params.Params.{Params}
-use Rattle.log_frames.specs.LogView.{used_of, growth_of}
+use Rattle.log_frames.specs.LogView.{used_of}
 use Rattle.log_records.specs.RecordLog.{RecordLogView}
 use Rattle.stable_objects.specs.SlotsView.{SlotsView}
 use Rattle.explain_core.specs.World.{World, Step}
@@ -17,12 +17,13 @@ use Rattle.running_store.specs.Courses.{Course, course}
 use Rattle.running_store.specs.Courses.Stop.{Full, At_end}
 use Rattle.running_store.specs.Fetched.{IsFetched}
 use Rattle.running_store.specs.Fetches.{IsFetch}
-use Rattle.running_store.specs.Parts.{Shows, Store, meaning_in}
-use Rattle.running_store.specs.StoreView.{StoreView, length_of, params_of}
+use Rattle.running_store.specs.Parts.{Shows, Volatile, meaning_in}
+use Rattle.running_store.specs.StoreView.{StoreView, log_length, store_params}
 use Rattle.running_store.specs.Taking.{Ending, Takes}
 use Rattle.running_store.specs.TakesLaws.{takes_failed, takes_same}
 use Rattle.running_store.specs.Unchanged.{IsSameLog}
-use Rattle.execution.specs.Answers.{HasCause, ending_of_error, stop_of_exec}
+use Rattle.cache_manager.specs.RecordPlace.{growth_low}
+use Rattle.execution.specs.Answers.{HasCauseIn, ending_of_error, stop_of_exec}
 use Rattle.execution.specs.Courses.{exec_course, refusal_in, unplaced_steps}
 use Rattle.execution.specs.Done.{IsForcedOutside, IsOutcome, IsUnplaced, LogWithout}
 use Rattle.execution.specs.Failures.{IsAdmissible, IsExecFailure, LacksPlace, needed_by}
@@ -38,13 +39,8 @@ forced_outside grouped outside before after (Ok value) is = (subst (λ (b : Bool
 forced_outside grouped outside before after (Err e) is = (outside, is)
 
 -- a store whose disk failed is as it was
-pub failed_left : (before after : StoreView) → after ≡ failed_of before → IsSameLog before.parts.log after.parts.log × (after.parts.store ≡ before.parts.store)
-failed_left before after is = (subst (λ (s : StoreView). IsSameLog before.parts.log s.parts.log) (sym is) refl, ap (λ (s : StoreView). s.parts.store) is)
-
--- a record of n bytes makes the log longer by n + 5 at most
-growth_most : (pending : List ℕ) (n : ℕ) → growth_of pending n ≤ n + 5
-growth_most [] n = omega arith
-growth_most (byte ∷ bytes) n = omega arith
+pub failed_left : (before after : StoreView) → after ≡ failed_of before → IsSameLog before.parts.log after.parts.log × (after.parts.volatile ≡ before.parts.volatile)
+failed_left before after is = (subst (λ (s : StoreView). IsSameLog before.parts.log s.parts.log) (sym is) refl, ap (λ (s : StoreView). s.parts.volatile) is)
 
 -- why a record of n bytes gets none, in the terms of the log after it
 module _ (limit : ℕ) (before after : RecordLogView) (n : ℕ) where
@@ -54,7 +50,7 @@ module _ (limit : ℕ) (before after : RecordLogView) (n : ℕ) where
   full_stops false used need most over held needs is log = (
     held ∙ sym (ap (λ (r : RecordLogView). used_of r.log) log),
     ap (λ (r : RecordLogView). r.log.pending) log,
-    omega (arith, over, held, needs, is, growth_most before.log.pending n),
+    omega (arith, over, held, needs, is, growth_low before.log.pending n),
     is,
   )
 
@@ -65,7 +61,7 @@ module _ (limit : ℕ) (before after : RecordLogView) (n : ℕ) where
 -- after a fetch
 module _ {O : Type 0} (meaning : Bounds → Meaning O) (grouped : Bool) (op : O) (old mid new : Disk) (before here after : StoreView) (is : IsFetch old mid before here ⊥) where
   abbrev p : Params
-  p = params_of before
+  p = store_params before
 
   abbrev whole : Meaning O → World O → ℕ → Course O
   whole m w used = exec_course m grouped p.limit op w used
@@ -73,19 +69,19 @@ module _ {O : Type 0} (meaning : Bounds → Meaning O) (grouped : Bool) (op : O)
   abbrev Lacks : Meaning O → ExecErr → Type 0
   Lacks m e = LacksPlace grouped p.limit before.parts.log (command_length m op) e
 
-  same_params : params_of here ≡ p
+  same_params : store_params here ≡ p
   same_params = ap (λ (s : SlotsView). s.params) is.read.fetched.slots
 
   -- why it gets none, by the store before
-  pub lacks_before : (n : ℕ) (e : ExecErr) → n ≡ command_length (meaning_in meaning p) op → LacksPlace grouped (params_of here).limit here.parts.log n e → Lacks (meaning_in meaning p) e
+  pub lacks_before : (n : ℕ) (e : ExecErr) → n ≡ command_length (meaning_in meaning p) op → LacksPlace grouped (store_params here).limit here.parts.log n e → Lacks (meaning_in meaning p) e
   lacks_before n e long lacks =
       subst (λ (l : RecordLogView). LacksPlace grouped p.limit l (command_length (meaning_in meaning p) op) e) is.log
-      (subst (λ (q : Params). LacksPlace grouped q.limit here.parts.log (command_length (meaning_in meaning p) op) e) same_params (subst (λ (k : ℕ). LacksPlace grouped (params_of here).limit here.parts.log k e) long lacks))
+      (subst (λ (q : Params). LacksPlace grouped q.limit here.parts.log (command_length (meaning_in meaning p) op) e) same_params (subst (λ (k : ℕ). LacksPlace grouped (store_params here).limit here.parts.log k e) long lacks))
 
   lacks_shown : (e : ExecErr) → Lacks (meaning_in meaning p) e → (q : Params) → p ≡ q → Lacks (meaning_in meaning q) e
   lacks_shown e lacks q same = subst (λ (r : Params). Lacks (meaning_in meaning r) e) same lacks
 
-  pub unplaced_call : (ending : Ending) → IsCall meaning mid new here after 0 (StopsCommand grouped (params_of here).limit) ending → IsCall meaning old new before after 0 (StopsCommand grouped p.limit) ending
+  pub unplaced_call : (ending : Ending) → IsCall meaning mid new here after 0 (StopsCommand grouped (store_params here).limit) ending → IsCall meaning old new before after 0 (StopsCommand grouped p.limit) ending
   unplaced_call ending call =
       fetch_then old mid before here is meaning new after 0 (StopsCommand grouped p.limit) ending
       (subst (λ (q : Params). IsCall meaning mid new here after 0 (StopsCommand grouped q.limit) ending) same_params call)
@@ -99,12 +95,12 @@ module _ {O : Type 0} (meaning : Bounds → Meaning O) (grouped : Bool) (op : O)
   lacks_failure Memory lacks admissible rises = absurd lacks
 
   pub unplaced_outcome : (e : ExecErr) → Lacks (meaning_in meaning p) e → IsAdmissible meaning p op → (IsFailed (ending_of_error e) → Rises old.disk_faults new.disk_faults)
-      → LogWithout grouped here.parts.log after.parts.log e × (after.parts.store ≡ here.parts.store) → IsOutcome meaning grouped old new before.parts after.parts op (Err e)
+      → LogWithout grouped here.parts.log after.parts.log e × (after.parts.volatile ≡ here.parts.volatile) → IsOutcome meaning grouped old new before.parts after.parts op (Err e)
   unplaced_outcome e lacks admissible rises left = (
     record {
       log = subst (λ (l : RecordLogView). LogWithout grouped l after.parts.log e) is.log left.0;
-      objects = subst (λ (s : Store). IsFetched before.parts.store.objects s.objects) (sym left.1) is.read.fetched;
-      entries = ap (λ (s : Store). s.entries) left.1 ∙ is.entries;
+      objects = subst (λ (s : Volatile). IsFetched before.parts.volatile.objects s.objects) (sym left.1) is.read.fetched;
+      entries = ap (λ (s : Volatile). s.entries) left.1 ∙ is.entries;
     },
     lacks_failure e lacks admissible rises,
   )
@@ -121,7 +117,7 @@ module _ {O : Type 0} (meaning : Bounds → Meaning O) (grouped : Bool) (op : O)
             (λ told q w shows.
             let m = meaning_in meaning q in
             subst (λ (l : List (Step O)). TakesSome m q old new w l) (unforced_here m q old before.parts w shows grouped p.limit op (accepted q w shows) (lacks_shown DiskFault lacks q shows.store.params))
-            (takes.moments told q w shows))
+            (takes.steps told q w shows))
         by_error (Damaged file place) lacks takes = absurd lacks
         by_error (LogFull held need most) lacks takes =
             takes_same meaning old new before.parts after.parts (λ m w used. course (unplaced_steps m grouped w) used (Full held need most)) whole (Ending.Stopped (Full held need most))
@@ -131,7 +127,7 @@ module _ {O : Type 0} (meaning : Bounds → Meaning O) (grouped : Bool) (op : O)
             (λ q w shows. end_here (meaning_in meaning q) q old before.parts w shows grouped p.limit op (accepted q w shows) number (lacks_shown (LsnEnd number) lacks q shows.store.params)) takes
         by_error Memory lacks takes = absurd lacks
 
-    pub unplaced_cause : (e : ExecErr) → Lacks (meaning_in meaning p) e → (q : Params) (w : World O) → Shows (meaning_in meaning q) q old before.parts w → HasCause grouped (meaning_in meaning q) q.limit w (length_of before) op (Err e)
+    pub unplaced_cause : (e : ExecErr) → Lacks (meaning_in meaning p) e → (q : Params) (w : World O) → Shows (meaning_in meaning q) q old before.parts w → HasCauseIn grouped (meaning_in meaning q) q.limit w (log_length before) op (Err e)
     unplaced_cause e lacks q w shows =
         lacks_cause meaning grouped q old new before.parts w shows op (accepted q w shows) e
         (subst (λ (r : Params). LacksPlace grouped r.limit before.parts.log (command_length (meaning_in meaning r) op) e) shows.store.params lacks)

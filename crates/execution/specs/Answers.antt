@@ -47,11 +47,11 @@ module _ {O : Type 0} (grouped : Bool) (m : Meaning O) (limit : ℕ) (w : World 
   -- or else no number is left for it; or else it is done, and is the next command. No two of these hold at once, so each
   -- answer comes exactly where its cause holds, but that a fault may stand in the place of the second and the third where no
   -- group is open, and of any for a command that reads objects, and out of memory in that of any. No file is damaged.
-  abbrev pub HasCause : Result ℕ ExecErr → Type 0
-  HasCause (Ok n) = (refusal_in m w op ≡ None) × Fits × (end_of w < 2 ^ 62) × (n ≡ length (commands_of w.history) + 1)
-  HasCause (Err (Refused refusal)) = refusal_in m w op ≡ Some refusal
-  HasCause (Err (LogFull held need most)) = (refusal_in m w op ≡ None) × IsTooLong × (held ≡ used) × (need ≡ needed m grouped w (command_length m op)) × (most ≡ limit)
-  HasCause (Err (LsnEnd number)) = (refusal_in m w op ≡ None) × Fits × (2 ^ 62 ≤ end_of w) × (number ≡ end_of w)
-  HasCause (Err DiskFault) = (IsInGrammar m op × (0 < length (m.reads op))) ⊎ ((grouped ≡ false) × (refusal_in m w op ≡ None) × (IsTooLong ⊎ (2 ^ 62 ≤ end_of w)))
-  HasCause (Err (Damaged file place)) = ⊥
-  HasCause (Err Memory) = ⊤
+  abbrev pub HasCauseIn : Result ℕ ExecErr → Type 0
+  HasCauseIn (Ok n) = (refusal_in m w op ≡ None) × Fits × (end_of w < 2 ^ 62) × (n ≡ length (commands_of w.history) + 1)
+  HasCauseIn (Err (Refused refusal)) = refusal_in m w op ≡ Some refusal
+  HasCauseIn (Err (LogFull held need most)) = (refusal_in m w op ≡ None) × IsTooLong × (held ≡ used) × (need ≡ needed m grouped w (command_length m op)) × (most ≡ limit)
+  HasCauseIn (Err (LsnEnd number)) = (refusal_in m w op ≡ None) × Fits × (2 ^ 62 ≤ end_of w) × (number ≡ end_of w)
+  HasCauseIn (Err DiskFault) = (IsInGrammar m op × (0 < length (m.reads op))) ⊎ ((grouped ≡ false) × (refusal_in m w op ≡ None) × (IsTooLong ⊎ (2 ^ 62 ≤ end_of w)))
+  HasCauseIn (Err (Damaged file place)) = ⊥
+  HasCauseIn (Err Memory) = ⊤

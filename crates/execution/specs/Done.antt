@@ -28,13 +28,13 @@ IsLogWith m op before log = log ≡ record before {
 
 -- A command was done, the nth since the store was made: some values admit it, its record had a place and waits after all
 -- others, and the graph has its entry.
-pub record IsDone {O : Type 0} (meaning : Bounds → Meaning O) (before after : Parts) (op : O) (n : ℕ) : Type 0 where
-  pub admissible : IsAdmissible meaning before.store.objects.slots.params op
-  pub place : HasPlaceBelow before.store.objects.slots.params.limit before.log (command_length (meaning_in meaning before.store.objects.slots.params) op)
-  pub log : IsLogWith (meaning_in meaning before.store.objects.slots.params) op before.log after.log
+pub record IsExecuted {O : Type 0} (meaning : Bounds → Meaning O) (before after : Parts) (op : O) (n : ℕ) : Type 0 where
+  pub admissible : IsAdmissible meaning before.volatile.objects.slots.params op
+  pub place : HasPlaceBelow before.volatile.objects.slots.params.limit before.log (command_length (meaning_in meaning before.volatile.objects.slots.params) op)
+  pub log : IsLogWith (meaning_in meaning before.volatile.objects.slots.params) op before.log after.log
   pub nth : n ≡ before.log.accepted + 1
-  pub slots : after.store.objects.slots ≡ before.store.objects.slots
-  pub entries : after.store.entries ≡ before.store.entries ++ entry_of (meaning_in meaning before.store.objects.slots.params) before.log.next (Command op) ∷ []
+  pub slots : after.volatile.objects.slots ≡ before.volatile.objects.slots
+  pub entries : after.volatile.entries ≡ before.volatile.entries ++ entry_of (meaning_in meaning before.volatile.objects.slots.params) before.log.next (Command op) ∷ []
 
 -- the log after a record that got no place: all that waited is forced, but nothing within a group (`grouped`)
 abbrev pub IsUnplaced : Bool → RecordLogView → RecordLogView → Type 0
@@ -55,11 +55,11 @@ IsForcedOutside grouped before after (Err e) = (grouped ≡ false) × (after ≡
 -- A command was not done: the log has no record of it, nothing but slots was read, and the graph is as it was.
 pub record IsUndone (grouped : Bool) (before after : Parts) (e : ExecErr) : Type 0 where
   pub log : LogWithout grouped before.log after.log e
-  pub objects : IsFetched before.store.objects after.store.objects
-  pub entries : after.store.entries ≡ before.store.entries
+  pub objects : IsFetched before.volatile.objects after.volatile.objects
+  pub entries : after.volatile.entries ≡ before.volatile.entries
 
 -- What holds on every machine of a command: where it is done its record waits, and it has its entry; where it is not the log
 -- has none, and nothing but slots was read. The answer has a cause.
 abbrev pub IsOutcome : {O : Type 0} → (Bounds → Meaning O) → Bool → Disk → Disk → Parts → Parts → O → Result ℕ ExecErr → Type 0
-IsOutcome meaning grouped old new before after op (Ok n) = IsDone meaning before after op n
+IsOutcome meaning grouped old new before after op (Ok n) = IsExecuted meaning before after op n
 IsOutcome meaning grouped old new before after op (Err e) = IsUndone grouped before after e × IsExecFailure meaning grouped old new before op e

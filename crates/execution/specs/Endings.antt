@@ -1,25 +1,14 @@
--- An error that is handed on ends a command as it ended the call below.
+-- Where a slot is not read, a command ends as the fetch did.
 use Rattle.std.proofs.Common.{◌≡◌, refl, true}
-use Rattle.std.specs.Prelude.{◌↔◌, Err}
-use Rattle.stable_objects.specs.declared.slot_err.SlotErr.{SlotErr}
-use Rattle.stable_objects.specs.declared.slot_err.SlotErr.TheVariants as of_slots
-use Rattle.running_store.specs.Calls.{IsFailed, ending_of_force, ending_of_memory}
-use Rattle.running_store.specs.Faults.{is_slot_fault}
+use Rattle.std.specs.Prelude.{◌↔◌}
+use Rattle.formats.specs.declared.read_err.ReadErr.{ReadErr}
+use Rattle.formats.specs.declared.read_err.ReadErr.TheVariants as of_read
+use Rattle.running_store.specs.Calls.{IsFailed}
+use Rattle.running_store.specs.Faults.{is_read_fault}
 use Rattle.execution.specs.Answers.{ending_of_error}
-use Rattle.execution.specs.Failures.{exec_from_slots}
-use Rattle.execution.specs.declared.exec_err.ExecErr.TheVariants.{DiskFault, Memory}
+use Rattle.execution.specs.Failures.{exec_from_read}
 
--- a force fails
-pub forced_ends : (T E : Type 0) (e : E) → ending_of_error DiskFault ≡ ending_of_force {T = T} (Err e)
-forced_ends T E e = refl
-
--- an append is short of memory
-pub appended_ends : (T E : Type 0) (e : E) → ending_of_error Memory ≡ ending_of_memory {T = T} (Err e)
-appended_ends T E e = refl
-
--- a slot is not read
-pub fetched_ends : (e : SlotErr) → (is_slot_fault e ≡ true) ↔ IsFailed (ending_of_error (exec_from_slots e))
-fetched_ends of_slots.NotAStore = (λ is. cc, λ failed. absurd failed)
-fetched_ends of_slots.DiskFault = (λ is. tt, λ failed. refl)
-fetched_ends (of_slots.Damaged file place) = (λ is. cc, λ failed. absurd failed)
-fetched_ends of_slots.Memory = (λ is. cc, λ failed. absurd failed)
+pub fetched_ends : (e : ReadErr) → (is_read_fault e ≡ true) ↔ IsFailed (ending_of_error (exec_from_read e))
+fetched_ends of_read.DiskFault = (λ is. tt, λ failed. refl)
+fetched_ends (of_read.Damaged file place) = (λ is. cc, λ failed. absurd failed)
+fetched_ends of_read.Memory = (λ is. cc, λ failed. absurd failed)

@@ -7,10 +7,10 @@ use Rattle.oper_core.specs.State.{State}
 use Rattle.oper_core.specs.declared.bounds.Bounds.{Bounds}
 use Rattle.oper_core.specs.declared.refusal.Refusal.{Refusal}
 use Rattle.formats.specs.declared.params.Params.{Params}
+use Rattle.formats.specs.declared.read_err.ReadErr.{ReadErr}
+use Rattle.formats.specs.declared.read_err.ReadErr.TheVariants as of_read
 use Rattle.log_frames.specs.LogView.{used_of, growth_of}
 use Rattle.log_records.specs.RecordLog.{RecordLogView}
-use Rattle.stable_objects.specs.declared.slot_err.SlotErr.{SlotErr}
-use Rattle.stable_objects.specs.declared.slot_err.SlotErr.TheVariants as of_slots
 use Rattle.running_store.specs.Laid.{Laid}
 use Rattle.running_store.specs.LongSlot.{HasLongSlot}
 use Rattle.running_store.specs.Parts.{Parts, meaning_in}
@@ -18,12 +18,11 @@ use Rattle.running_store.specs.Commands.{HasPlaceBelow, IsReady, command_length,
 use Rattle.execution.specs.declared.exec_err.ExecErr.{ExecErr}
 use Rattle.execution.specs.declared.exec_err.ExecErr.TheVariants.{Refused, DiskFault, Damaged, LogFull, LsnEnd, Memory}
 
--- what a call answers where a slot is not read: there is a store
-abbrev pub exec_from_slots : SlotErr → ExecErr
-exec_from_slots of_slots.NotAStore = Memory
-exec_from_slots of_slots.DiskFault = DiskFault
-exec_from_slots (of_slots.Damaged file place) = Damaged file place
-exec_from_slots of_slots.Memory = Memory
+-- what a command answers where a slot is not read
+abbrev pub exec_from_read : ReadErr → ExecErr
+exec_from_read of_read.DiskFault = DiskFault
+exec_from_read (of_read.Damaged file place) = Damaged file place
+exec_from_read of_read.Memory = Memory
 
 -- so many bytes a record of n bytes needs that gets no place: within a group (`grouped`) nothing is forced, and it goes behind
 -- what waits
@@ -87,7 +86,7 @@ IsAdmittedOn m state op (Err Memory) = ⊤
 
 module _ {O : Type 0} (meaning : Bounds → Meaning O) (grouped : Bool) (old new : Disk) (before : Parts) (op : O) where
   abbrev p : Params
-  p = before.store.objects.slots.params
+  p = before.volatile.objects.slots.params
 
   abbrev n : ℕ
   n = command_length (meaning_in meaning p) op
@@ -99,4 +98,4 @@ module _ {O : Type 0} (meaning : Bounds → Meaning O) (grouped : Bool) (old new
   IsExecFailure (LogFull used need limit) = IsAdmissible meaning p op × LacksPlace grouped p.limit before.log n (LogFull used need limit)
   IsExecFailure (LsnEnd number) = IsAdmissible meaning p op × LacksPlace grouped p.limit before.log n (LsnEnd number)
   IsExecFailure Memory = NeedsMemory meaning p op ⊎ (IsAdmissible meaning p op × HasPlaceBelow p.limit before.log n)
-  IsExecFailure e = IsAdmitFailure meaning p op old new before.store.objects e
+  IsExecFailure e = IsAdmitFailure meaning p op old new before.volatile.objects e

@@ -7,7 +7,7 @@ ghost use Rattle.running_store.specs.Calls.{IsFailed};
 ghost use Rattle.running_store.specs.Fetches.{IsFetch};
 ghost use Rattle.running_store.specs.Laid.{IsLaidOn, values_in};
 ghost use Rattle.running_store.specs.Parts.{meaning_in};
-ghost use Rattle.running_store.specs.StoreView.{params_of};
+ghost use Rattle.running_store.specs.StoreView.{store_params};
 ghost use Rattle.running_store.specs.Commands.{command_length, IsReady};
 ghost use Rattle.execution.specs.Answers.{ending_of_exec};
 ghost use Rattle.execution.specs.Failures.{IsAdmitFailure, IsAdmittedOn};
@@ -19,7 +19,7 @@ use oper_core::{Memory, Oper, Values};
 use running_store::Store;
 
 // How many bytes the operation's record has. No memory holds a code of 2^63 bytes or more.
-fn length_of<O: Oper>(op: &O) -> Result<u64, Memory>
+fn record_length<O: Oper>(op: &O) -> Result<u64, Memory>
     ensures length { (p : Numbers) → IfOk result (λ n. n ≡ command_length (meaning_in O.meaning p) op.now) }
     ensures range { IfOk result (λ n. (0 < n) × (n < 2 ^ 63 + 9)) }
     ensures long { (p : Numbers) → OnErr result (2 ^ 63 ≤ length ((meaning_in O.meaning p).code op.now)) }
@@ -39,14 +39,14 @@ pub(crate) fn admit<O: Oper, M: Machine>(
 ) -> Result<(Values, u64), ExecErr>
     requires unbroken { store.old.broken ≡ false }
     ensures call { IsFetch (M.disk machine.old) (M.disk machine.new) store.old store.new (IsFailed (ending_of_exec result)) }
-    ensures ready { IfOk result (λ pair. IsReady O.meaning (params_of store.old) op.now pair.0) }
-    ensures length { IfOk result (λ pair. (pair.1 ≡ command_length (meaning_in O.meaning (params_of store.old)) op.now) × (0 < pair.1) × (pair.1 < 2 ^ 63 + 9)) }
+    ensures ready { IfOk result (λ pair. IsReady O.meaning (store_params store.old) op.now pair.0) }
+    ensures length { IfOk result (λ pair. (pair.1 ≡ command_length (meaning_in O.meaning (store_params store.old)) op.now) × (0 < pair.1) × (pair.1 < 2 ^ 63 + 9)) }
     // Where the objects are laid on their file, on the values that these have.
-    ensures shown { (M.disk machine.old).tells_files → IsLaidOn store.old.parts.store.objects ((M.disk machine.old).reads ObjectsFile) →
-        IsAdmittedOn (meaning_in O.meaning (params_of store.old)) (values_in store.old.parts.store.objects ((M.disk machine.old).reads ObjectsFile)) op.now result }
-    ensures fault { IsErrOf result ExecErr.DiskFault → IsInGrammar (meaning_in O.meaning (params_of store.old)) op.now
-        × (0 < Rattle.std.specs.Prelude.length ((meaning_in O.meaning (params_of store.old)).reads op.now)) }
-    ensures cause { IfErr result (IsAdmitFailure O.meaning (params_of store.old) op.now (M.disk machine.old) (M.disk machine.new) store.old.parts.store.objects) }
+    ensures shown { (M.disk machine.old).tells_files → IsLaidOn store.old.parts.volatile.objects ((M.disk machine.old).reads ObjectsFile) →
+        IsAdmittedOn (meaning_in O.meaning (store_params store.old)) (values_in store.old.parts.volatile.objects ((M.disk machine.old).reads ObjectsFile)) op.now result }
+    ensures fault { IsErrOf result ExecErr.DiskFault → IsInGrammar (meaning_in O.meaning (store_params store.old)) op.now
+        × (0 < Rattle.std.specs.Prelude.length ((meaning_in O.meaning (store_params store.old)).reads op.now)) }
+    ensures cause { IfErr result (IsAdmitFailure O.meaning (store_params store.old) op.now (M.disk machine.old) (M.disk machine.new) store.old.parts.volatile.objects) }
 {
     let _params = store.params();
     let bounds = store.objects().bounds();
@@ -57,6 +57,6 @@ pub(crate) fn admit<O: Oper, M: Machine>(
     if let Err(refusal) = op.check(bounds, &values) {
         return Err(ExecErr::Refused(refusal));
     }
-    let length = length_of(op)?;
+    let length = record_length(op)?;
     Ok((values, length))
 }

@@ -1,10 +1,10 @@
 ghost use Rattle.std.specs.Prelude.{◌≡◌};
-ghost use Rattle.execution.specs.Failures.{exec_from_slots};
+ghost use Rattle.execution.specs.Failures.{exec_from_read};
 ghost use Rattle.execution.specs.declared.exec_err.ExecErr.TheVariants.{DiskFault, Memory as OutOfMemory};
 
 use disk_model::{Failed, FileNo};
+use formats::ReadErr;
 use oper_core::Refusal;
-use stable_objects::SlotErr;
 use thiserror::Error;
 
 /// Why a command was not done, or an object not fetched.
@@ -46,15 +46,14 @@ impl From<oper_core::Memory> for ExecErr {
     }
 }
 
-impl From<SlotErr> for ExecErr {
-    ghost from_gives = { λ cause e. e ≡ exec_from_slots cause };
+impl From<ReadErr> for ExecErr {
+    ghost from_gives = { λ cause e. e ≡ exec_from_read cause };
 
-    // A slot that is read is one of a store.
-    fn from(cause: SlotErr) -> Self {
+    fn from(cause: ReadErr) -> Self {
         match cause {
-            SlotErr::DiskFault => ExecErr::DiskFault,
-            SlotErr::Damaged { file, place } => ExecErr::Damaged { file, place },
-            SlotErr::NotAStore | SlotErr::Memory => ExecErr::Memory,
+            ReadErr::DiskFault => ExecErr::DiskFault,
+            ReadErr::Damaged { file, place } => ExecErr::Damaged { file, place },
+            ReadErr::Memory => ExecErr::Memory,
         }
     }
 }

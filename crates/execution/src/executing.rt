@@ -4,9 +4,9 @@ ghost use Rattle.formats.specs.declared.params.Params.{Params as Numbers};
 ghost use Rattle.explain_core.specs.World.{World};
 ghost use Rattle.running_store.specs.Calls.{IsCall};
 ghost use Rattle.running_store.specs.Parts.{Shows, meaning_in};
-ghost use Rattle.running_store.specs.StoreView.{length_of, params_of};
+ghost use Rattle.running_store.specs.StoreView.{log_length, store_params};
 ghost use Rattle.running_store.specs.Taking.{Takes};
-ghost use Rattle.execution.specs.Answers.{HasCause, ending_of_exec};
+ghost use Rattle.execution.specs.Answers.{HasCauseIn, ending_of_exec};
 ghost use Rattle.execution.specs.Courses.{exec_course};
 ghost use Rattle.execution.specs.Done.{IsOutcome};
 ghost use Rattle.execution.specs.Stops.{StopsCommand};
@@ -19,7 +19,8 @@ use oper_core::Oper;
 use running_store::Store;
 
 /// Adds a command to the log's buffer, to the objects and to the write graph. It answers how many were accepted since the
-/// store was made. While a group is open (`grouped`) nothing is forced.
+/// store was made. While a group is open (`grouped`) nothing is forced. A store knows of no group: the world that it shows is
+/// then that of the engine above, but with no group open.
 ///
 /// The first that applies is answered: `Refused`, on the command alone; `DiskFault`, `Damaged` and `Memory` while the
 /// objects that it reads are fetched; `Refused`, on their values; `Memory`, where its code has 2^63 bytes or more;
@@ -32,11 +33,11 @@ pub fn execute<O: Oper, M: Machine>(
     grouped: bool,
 ) -> Result<u64, ExecErr>
     requires unbroken { store.old.broken ≡ false }
-    ensures call { IsCall O.meaning (M.disk machine.old) (M.disk machine.new) store.old store.new 0 (StopsCommand grouped (params_of store.old).limit) (ending_of_exec result) }
-    ensures takes { Takes O.meaning (M.disk machine.old) (M.disk machine.new) store.old.parts store.new.parts (λ m w used. exec_course m grouped (params_of store.old).limit op w used) (ending_of_exec result) }
+    ensures call { IsCall O.meaning (M.disk machine.old) (M.disk machine.new) store.old store.new 0 (StopsCommand grouped (store_params store.old).limit) (ending_of_exec result) }
+    ensures takes { Takes O.meaning (M.disk machine.old) (M.disk machine.new) store.old.parts store.new.parts (λ m w used. exec_course m grouped (store_params store.old).limit op w used) (ending_of_exec result) }
     // Each answer comes exactly where its cause holds.
-    ensures exactly { (p : Numbers) (w : World O) → Shows (meaning_in O.meaning p) p (M.disk machine.old) store.old.parts w →
-        HasCause grouped (meaning_in O.meaning p) p.limit w (length_of store.old) op result }
+    ensures in_world { (p : Numbers) (w : World O) → Shows (meaning_in O.meaning p) p (M.disk machine.old) store.old.parts w →
+        HasCauseIn grouped (meaning_in O.meaning p) p.limit w (log_length store.old) op result }
     ensures outcome { IsOutcome O.meaning grouped (M.disk machine.old) (M.disk machine.new) store.old.parts store.new.parts op result }
 {
     explain_core::append_keeps::<O>();

@@ -6,7 +6,7 @@
 //! is done.
 //!
 //! It depends on running_store, whose store it is handed: that reads the objects, forces the log, and appends the command.
-//! Of cache_manager it cites one law, that a force may be taken.
+//! Of cache_manager it cites laws alone.
 #![tactic(auto)]
 
 mod admitting;

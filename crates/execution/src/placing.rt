@@ -3,7 +3,7 @@ ghost use Rattle.std.specs.Prelude.{◌≡◌, ◌<◌, ◌+◌, ◌^◌, false,
 ghost use Rattle.running_store.specs.Calls.{IsCall, Never, ending_of_force};
 ghost use Rattle.running_store.specs.Courses.{course};
 ghost use Rattle.running_store.specs.Courses.Stop.{Through};
-ghost use Rattle.running_store.specs.StoreView.{params_of};
+ghost use Rattle.running_store.specs.StoreView.{store_params};
 ghost use Rattle.running_store.specs.Taking.{Takes};
 ghost use Rattle.running_store.specs.Commands.{HasPlaceBelow};
 ghost use Rattle.execution.specs.Answers.{ending_of_exec, stop_of_exec};
@@ -57,10 +57,10 @@ pub(crate) fn require_place<O: Oper, M: Machine>(
 ) -> Result<(), ExecErr>
     requires unbroken { store.old.broken ≡ false }
     requires range { (0 < length) × (length < 2 ^ 63 + 9) }
-    ensures has { OnOk result (HasPlaceBelow (params_of store.old).limit store.old.parts.log length × (machine.new ≡ machine.old) × (store.new ≡ store.old)) }
-    ensures lacks { IfErr result (LacksPlace grouped (params_of store.old).limit store.old.parts.log length) }
-    ensures left { IfErr result (λ e. LogWithout grouped store.old.parts.log store.new.parts.log e × (store.new.parts.store ≡ store.old.parts.store)) }
-    ensures call { IsCall O.meaning (M.disk machine.old) (M.disk machine.new) store.old store.new 0 (StopsCommand grouped (params_of store.old).limit) (ending_of_exec result) }
+    ensures has { OnOk result (HasPlaceBelow (store_params store.old).limit store.old.parts.log length × (machine.new ≡ machine.old) × (store.new ≡ store.old)) }
+    ensures lacks { IfErr result (LacksPlace grouped (store_params store.old).limit store.old.parts.log length) }
+    ensures left { IfErr result (λ e. LogWithout grouped store.old.parts.log store.new.parts.log e × (store.new.parts.volatile ≡ store.old.parts.volatile)) }
+    ensures call { IsCall O.meaning (M.disk machine.old) (M.disk machine.new) store.old store.new 0 (StopsCommand grouped (store_params store.old).limit) (ending_of_exec result) }
     ensures takes { IfErr result (λ e. Takes O.meaning (M.disk machine.old) (M.disk machine.new) store.old.parts store.new.parts
         (λ m w used. course (unplaced_steps m grouped w) used (stop_of_exec e)) (ending_of_exec result)) }
 {

@@ -11,11 +11,11 @@ use Rattle.running_store.specs.Courses.{Course, course}
 use Rattle.cache_manager.specs.InstallCourses.{drain_course, install_course, removals}
 use Rattle.running_store.specs.Courses.Stop.{Through}
 use Rattle.running_store.specs.Kept.{StopsAt}
-use Rattle.running_store.specs.Logged.{log_limit}
+use Rattle.formats.specs.Limits.{log_limit}
 use Rattle.running_store.specs.Parts.{Parts, meaning_in}
 use Rattle.running_store.specs.Rests.{rest_next, rest_same}
 use Rattle.running_store.specs.Running.{KeepsSound}
-use Rattle.running_store.specs.StoreView.{length_of, logged_since}
+use Rattle.running_store.specs.StoreView.{log_length, logged_since}
 use Rattle.running_store.specs.Taking.{Ending, Takes}
 use Rattle.running_store.specs.Taking.Ending.{Done}
 use Rattle.running_store.specs.TakesLaws.{both, takes_both, takes_first, takes_none, takes_same}
@@ -32,12 +32,12 @@ not_clean : (install : Install) (ops : ℕ) (flushed : Option ℕ) (identities :
 not_clean install ops flushed identities is clean = let h : Installed ops flushed identities ≡ Clean = sym is ∙ clean in cc
 
 -- where there was nothing to install, nothing is left
-none_left : (before after : Parts) (install : Install) → TellsParts before after install → install ≡ Clean → after.store.entries ≡ []
+none_left : (before after : Parts) (install : Install) → TellsParts before after install → install ≡ Clean → after.volatile.entries ≡ []
 none_left before after install tells clean =
     let empty = ap (λ (es : List Entry). length es) (tells.clean.0 clean) in
     let ops = ap (λ (i : Install). ops_of i) clean in
     let identities = ap (λ (i : Install). identities_of i) clean in
-    no_items after.store.entries (omega (arith, tells.entries, empty, ops, identities))
+    no_items after.volatile.entries (omega (arith, tells.entries, empty, ops, identities))
 
 pub loop-store-init : goal.loop-store-init
 loop-store-init g c =
@@ -45,7 +45,7 @@ loop-store-init g c =
     let it = c.args.store.now in
     let used = (c.params-params.ensures.in_use c.requires.unbroken).store in
     let same = c.graph.ensures in
-    let few = few_entries it.parts.log.next it.parts.store.entries (subst (λ (es : List Entry). IsStrictlyIncreasing (numbers es)) same c.len-held.ensures.rising) used.above in
+    let few = few_entries it.parts.log.next it.parts.volatile.entries (subst (λ (es : List Entry). IsStrictlyIncreasing (numbers es)) same c.len-held.ensures.rising) used.above in
     record {
       call = logging_none g.O.Oper.meaning d d it it (StopsAt log_limit) Done refl (call_none g.O.Oper.meaning d it Never (g.met.M.Machine.lawful c.args.machine.now) c.requires.unbroken);
       bounded = omega arith;
@@ -85,7 +85,7 @@ loop-store-preserved g c =
       removed = λ p w shows.
           let m = meaning_in meaning p in
           let u = so_far.removed p w shows in
-          let one = install_course m copied u.0 (length_of here) in
+          let one = install_course m copied u.0 (log_length here) in
           let taken = done.takes.follows p u.0 u.1 in
           let less = removes_one meaning g.met.O.Oper.lawful keep alone copied (disk now) here.parts p u.0 u.1 (λ none. some (tells.clean.1 none)) taken.0 in
           let same = ap (λ (k : ℕ). removals (drain_course m copied (run m u.0 one.steps) k).steps) taken.1.used in
@@ -145,7 +145,6 @@ returns-clause-takes g c =
 pub returns-clause-count : goal.returns-clause-count
 returns-clause-count g c = λ p w shows.
     let meaning = g.O.Oper.meaning in
-    let m = meaning_in meaning p in
     let keep : (b : Bounds) → IsSmall b → KeepsSound (g.O.Oper.meaning b) = λ b small v taken sound may. c.every_run_keeps.ensures.from_sound b v taken small sound may in
     let here = c.loop-store.store.parts in
     let u = c.loop-store.invariant.removed p w shows in
@@ -162,12 +161,9 @@ returns-clause-drained g c = none_left c.loop-store.store.parts c.install_one.ne
 
 pub returns-clause-clean : goal.returns-clause-clean
 returns-clause-clean g c = λ p w shows.
-    let meaning = g.O.Oper.meaning in
-    let m = meaning_in meaning p in
-    let keep : (b : Bounds) → IsSmall b → KeepsSound (g.O.Oper.meaning b) = λ b small v taken sound may. c.every_run_keeps.ensures.from_sound b v taken small sound may in
+    let m = meaning_in g.O.Oper.meaning p in
     let done = c.in_ok-install_one.ensures in
-    let here = c.loop-store.store in
     let after = c.install_one.new.store.parts in
     let u = c.loop-store.invariant.removed p w shows in
-    all_clean meaning g.met.O.Oper.lawful keep c.last_blind_write_is_alone.ensures c.args.copied (g.M.Machine.disk c.install_one.new.machine) after p (run m u.0 (install_course m c.args.copied u.0 (length_of here)).steps)
-    (done.takes.follows p u.0 u.1).1.shows (none_left here.parts after c.in_ok-install_one.field-0 done.tells c.in_default.is)
+    all_clean m p (g.M.Machine.disk c.install_one.new.machine) after (run m u.0 (install_course m c.args.copied u.0 (log_length c.loop-store.store)).steps) (done.takes.follows p u.0 u.1).1.shows
+    (none_left c.loop-store.store.parts after c.in_ok-install_one.field-0 done.tells c.in_default.is)

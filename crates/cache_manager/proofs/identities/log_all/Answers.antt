@@ -5,7 +5,7 @@ use Rattle.running_store.specs.Calls.{Never, call_none}
 use Rattle.cache_manager.specs.InstallCourses.{identities, identity_course}
 use Rattle.running_store.specs.Keeping.{longer_here, longer_twice}
 use Rattle.running_store.specs.Kept.{IsLonger, StopsAt}
-use Rattle.running_store.specs.Logged.{log_limit}
+use Rattle.formats.specs.Limits.{log_limit}
 use Rattle.running_store.specs.Rests.{IsRest, rest_next}
 use Rattle.running_store.specs.StoreView.{logged_since}
 use Rattle.running_store.specs.Taking.{Ending, Takes}

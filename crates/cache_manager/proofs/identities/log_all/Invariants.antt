@@ -2,7 +2,7 @@ use Rattle.std.proofs.Common.{drop}
 use Rattle.running_store.specs.CallLaws.{IsLogging}
 use Rattle.cache_manager.specs.InstallCourses.{identities}
 use Rattle.running_store.specs.Kept.{IsLonger, StopsAt}
-use Rattle.running_store.specs.Logged.{log_limit}
+use Rattle.formats.specs.Limits.{log_limit}
 use Rattle.running_store.specs.Rests.{IsRest}
 use Rattle.running_store.specs.Taking.Ending.{Done}
 use Rattle.cache_manager.proofs.identities.log_all.Given as goal

@@ -1,6 +1,7 @@
 use Rattle.std.proofs.Common.{◌≡◌, ◌∙◌, sym, subst, ap, ℕ, ◌<◌, true, List, [], length, map, refl, arith, Option}
 use Rattle.std.specs.Prelude.{◌↔◌, All, IfSome, IsNone, OnOk, Result, Ok, Err}
 use Rattle.std.specs.List.Sorted.{IsStrictlyIncreasing}
+use Rattle.std.proofs.lemmas.List.{length-map}
 use Rattle.disk_model.specs.declared.machine.FileNo.TheVariants.{Objects}
 use Rattle.identity_writes.specs.Plan.{IsKeptBeside, but_kept}
 use Rattle.log_frames.specs.LogView.{used_of}
@@ -11,24 +12,24 @@ use Rattle.running_store.specs.Courses.{cached_length}
 use Rattle.cache_manager.specs.InstallCourses.{but_longest, identities}
 use Rattle.running_store.specs.Kept.{IsLonger, StopsAt}
 use Rattle.running_store.specs.Laid.{Laid, values_in}
-use Rattle.running_store.specs.Logged.{log_limit}
+use Rattle.formats.specs.Limits.{log_limit}
 use Rattle.running_store.specs.Parts.{Parts, meaning_in}
 use Rattle.running_store.specs.Taking.{Ending, Takes}
 use Rattle.running_store.specs.Taking.Ending.{Short}
 use Rattle.running_store.specs.TakesLaws.{takes_nothing, takes_same}
 use Rattle.cache_manager.specs.Endings.{ending_of, short_ends}
-use Rattle.cache_manager.proofs.Planned.{planned_others, logged_some, mapped_length, others_all, lengths_shown}
+use Rattle.cache_manager.proofs.Planned.{planned_others, logged_some, others_all, lengths_shown}
 use Rattle.cache_manager.proofs.identities.log_others.Goals as goal
 
 pub lengths_of-requires : goal.lengths_of-requires
 lengths_of-requires g c = record { dirty = subst (λ (l : Laid). All (λ x. is_dirty l.cache x ≡ true) c.args.work.now) (sym c.objects.ensures) c.requires.dirty }
 
 pub plan_beside-requires-clause-beside : goal.plan_beside-requires-clause-beside
-plan_beside-requires-clause-beside g c = ap length (c.as_slice.ensures.value ∙ c.in_ok-lengths.ensures []) ∙ mapped_length (λ x. length (values_in c.objects.result.now [] x)) c.args.work.now
+plan_beside-requires-clause-beside g c = ap length (c.as_slice.ensures.value ∙ c.in_ok-lengths.ensures []) ∙ length-map c.args.work.now (λ (x : ℕ). length (values_in c.objects.result.now [] x))
 
 pub log_all-requires-clause-dirty : goal.log_all-requires-clause-dirty
 log_all-requires-clause-dirty g c =
-    let P : ℕ → Type 0 = λ x. is_dirty c.args.store.now.parts.store.objects.cache x ≡ true in
+    let P : ℕ → Type 0 = λ x. is_dirty c.args.store.now.parts.volatile.objects.cache x ≡ true in
     subst (λ (l : List ℕ). All P l) (sym c.as_slice-2.ensures) (others_all P c.args.work.now c.in_ok-planned.planned.log c.in_ok-planned.planned.keep c.in_ok-planned.ensures.others c.requires.dirty)
 
 -- what the plan logs

@@ -21,11 +21,11 @@ pub finish-requires-clause-unbroken : goal.finish-requires-clause-unbroken
 finish-requires-clause-unbroken g c = unbroken_after g.O.Oper.meaning _ _ c.args.store.now c.force.new.self 0 Never c.in_ok-force.ensures.call
 
 pub finish-requires-clause-named : goal.finish-requires-clause-named
-finish-requires-clause-named g c = subst (λ (s : StoreView). NamesMinimal s.parts.store.entries c.args.n) (sym c.in_ok-force.ensures.forced.1) c.requires.least.0
+finish-requires-clause-named g c = subst (λ (s : StoreView). NamesMinimal s.parts.volatile.entries c.args.n) (sym c.in_ok-force.ensures.forced.1) c.requires.least.0
 
 pub finish-requires-clause-dirty : goal.finish-requires-clause-dirty
-finish-requires-clause-dirty g c = subst (λ (s : StoreView). All (λ x. is_dirty s.parts.store.objects.cache x ≡ true) c.args.work.now) (sym c.in_ok-force.ensures.forced.1)
-    (work_dirty c.args.store.now.parts.store c.args.n c.requires.least c.args.work.now c.requires.is_work)
+finish-requires-clause-dirty g c = subst (λ (s : StoreView). All (λ x. is_dirty s.parts.volatile.objects.cache x ≡ true) c.args.work.now) (sym c.in_ok-force.ensures.forced.1)
+    (work_dirty c.args.store.now.parts.volatile c.args.n c.requires.least c.args.work.now c.requires.is_work)
 
 pub returns-in_err-force-clause-call : goal.returns-in_err-force-clause-call
 returns-in_err-force-clause-call g c =
@@ -61,7 +61,7 @@ returns-in_err-finish-clause-takes g c =
     let after = c.finish.new.self.parts in
     subst (λ (k : Ending). Takes meaning d new before after (λ m w used. course (finish_steps m w) used Through) k) (failed_force _ c.from_residual-in_err-finish.result c.from_residual-in_err-finish.ensures.1)
     (takes_unfinished meaning g.met.O.Oper.lawful (λ b small v taken sound may. c.every_run_keeps.ensures.from_sound b v taken small sound may) d mid before here c.in_ok-force.ensures.call.quiet c.in_ok-force.ensures.takes
-    c.args.n c.requires.least c.args.work.now c.requires.is_work new after c.finish.ensures.moments)
+    c.args.n c.requires.least c.args.work.now c.requires.is_work new after c.finish.ensures.steps)
 
 pub returns-clause-call : goal.returns-clause-call
 returns-clause-call g c =
@@ -79,7 +79,7 @@ returns-clause-takes g c =
     let after = c.finish.new.self.parts in
     let beside = c.in_ok-finish.ensures.beside.objects in
     takes_finished meaning g.met.O.Oper.lawful (λ b small v taken sound may. c.every_run_keeps.ensures.from_sound b v taken small sound may) d mid before here c.in_ok-force.ensures.call.quiet c.in_ok-force.ensures.takes
-    c.args.n c.requires.least c.args.work.now c.requires.is_work new after c.in_ok-finish.ensures.moments c.requires.few (ap (λ (s : StoreView). s.parts.store) c.in_ok-force.ensures.forced.1) beside.runs beside.log c.in_ok-finish.ensures.shows
+    c.args.n c.requires.least c.args.work.now c.requires.is_work new after c.in_ok-finish.ensures.steps c.requires.few (ap (λ (s : StoreView). s.parts.volatile) c.in_ok-force.ensures.forced.1) beside.runs beside.log c.in_ok-finish.ensures.shows
 
 pub returns-in_err-force-clause-next : goal.returns-in_err-force-clause-next
 returns-in_err-force-clause-next g c = ap (λ (s : StoreView). next_of s) c.in_err-force.ensures.forced
@@ -92,10 +92,10 @@ returns-clause-next g c = ap (λ (l : RecordLogView). l.next) (c.finish.ensures.
 
 pub overflow_sub-result : goal.overflow_sub-result
 overflow_sub-result g c =
-    let same = ap (λ (s : StoreView). length s.parts.store.entries) c.in_ok-force.ensures.forced.1 in
+    let same = ap (λ (s : StoreView). length s.parts.volatile.entries) c.in_ok-force.ensures.forced.1 in
     let first = ap (λ (es : List Entry). length es) c.graph.ensures in
     let last = ap (λ (es : List Entry). length es) c.graph-2.ensures in
-    let fewer = (c.in_ok-finish.ensures.entries c.requires.least.0.0 (subst (λ (s : StoreView). IsNodeNamed s.parts.store.entries c.args.n c.requires.least.0.0) (sym c.in_ok-force.ensures.forced.1) c.requires.least.0.1)).1 in
+    let fewer = (c.in_ok-finish.ensures.entries c.requires.least.0.0 (subst (λ (s : StoreView). IsNodeNamed s.parts.volatile.entries c.args.n c.requires.least.0.0) (sym c.in_ok-force.ensures.forced.1) c.requires.least.0.1)).1 in
     omega (arith, c.len-held.ensures.count, c.len.ensures.count, first, last, same, fewer)
 
 pub returns-clause-ops : goal.returns-clause-ops
@@ -104,8 +104,8 @@ returns-clause-ops g c =
     let left = c.len.ensures.count in
     let first = ap (λ (es : List Entry). length es) c.graph.ensures in
     let last = ap (λ (es : List Entry). length es) c.graph-2.ensures in
-    let same = ap (λ (s : StoreView). length s.parts.store.entries) c.in_ok-force.ensures.forced.1 in
-    let fewer = (c.in_ok-finish.ensures.entries c.requires.least.0.0 (subst (λ (s : StoreView). IsNodeNamed s.parts.store.entries c.args.n c.requires.least.0.0) (sym c.in_ok-force.ensures.forced.1) c.requires.least.0.1)).1 in (
+    let same = ap (λ (s : StoreView). length s.parts.volatile.entries) c.in_ok-force.ensures.forced.1 in
+    let fewer = (c.in_ok-finish.ensures.entries c.requires.least.0.0 (subst (λ (s : StoreView). IsNodeNamed s.parts.volatile.entries c.args.n c.requires.least.0.0) (sym c.in_ok-force.ensures.forced.1) c.requires.least.0.1)).1 in (
       omega (arith, held, left, first, last, same, fewer),
       omega (arith, held, left, first, last, same, fewer),
     )

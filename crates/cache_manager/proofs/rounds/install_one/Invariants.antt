@@ -4,10 +4,10 @@ use Rattle.explain_core.specs.World.{World}
 use Rattle.running_store.specs.CallLaws.{IsLogging}
 use Rattle.cache_manager.specs.InstallCourses.{flushed_in, install_course}
 use Rattle.running_store.specs.Kept.{IsLonger, StopsAt}
-use Rattle.running_store.specs.Logged.{log_limit}
+use Rattle.formats.specs.Limits.{log_limit}
 use Rattle.running_store.specs.Parts.{Shows, meaning_in}
 use Rattle.running_store.specs.Rests.{IsRest}
-use Rattle.running_store.specs.StoreView.{length_of, next_of}
+use Rattle.running_store.specs.StoreView.{log_length, next_of}
 use Rattle.running_store.specs.Taking.Ending.{Done}
 use Rattle.cache_manager.proofs.rounds.install_one.Given as goal
 
@@ -20,10 +20,10 @@ invariant-loop-name g l =
     record {
       call : IsLogging meaning (disk l.fn.machine) (disk l.machine) before here (StopsAt log_limit) Done;
       logged : (n : ℕ) × IsLonger n before.parts here.parts;
-      none : before.parts.store.entries ≡ [] → here.parts.store.entries ≡ [];
+      none : before.parts.volatile.entries ≡ [] → here.parts.volatile.entries ≡ [];
       rest : IsRest disk meaning l.fn.machine before.parts (λ m w used. install_course m l.fn.copied w used) l.machine here.parts (λ m w used. install_course m l.fn.copied w used);
       flushed : (p : Params) (w : World g.row.O.Denot) → Shows (meaning_in meaning p) p (disk l.fn.machine) before.parts w → (v : World g.row.O.Denot) × Shows (meaning_in meaning p) p (disk l.machine) here.parts v
-          × (flushed_in (install_course (meaning_in meaning p) l.fn.copied w (length_of before)).steps ≡ flushed_in (install_course (meaning_in meaning p) l.fn.copied v (length_of here)).steps);
+          × (flushed_in (install_course (meaning_in meaning p) l.fn.copied w (log_length before)).steps ≡ flushed_in (install_course (meaning_in meaning p) l.fn.copied v (log_length here)).steps);
     }
 
 abbrev pub decreases-loop-name : goal.decreases-loop-name

@@ -1,19 +1,19 @@
 use Rattle.std.proofs.Common.{◌∙◌, sym, subst, ap, ℕ, refl, Option}
-use Rattle.std.specs.Prelude.{Ok, Result}
+use Rattle.std.specs.Prelude.{Ok}
 use Rattle.log_frames.specs.LogView.{used_of}
 use Rattle.log_records.specs.RecordLog.{RecordLogView}
 use Rattle.running_store.specs.Calls.{IsCall}
 use Rattle.running_store.specs.Courses.Stop.{Full}
 use Rattle.running_store.specs.Kept.{StopsAt}
-use Rattle.running_store.specs.Logged.{log_limit}
+use Rattle.formats.specs.Limits.{log_limit}
 use Rattle.running_store.specs.Taking.{Ending, Takes}
 use Rattle.running_store.specs.Taking.Ending.{Done, Stopped}
+use Rattle.cache_manager.specs.Endings.{at_err}
 use Rattle.checkpointing.specs.Courses.{check_course, checkpoint_course}
 use Rattle.checkpointing.specs.Left.{Overlong, check_ending, ending_of_check}
-use Rattle.checkpointing.specs.declared.check_err.CheckErr.{CheckErr}
 use Rattle.checkpointing.specs.declared.check_err.CheckErr.TheVariants.{DiskFault}
 use Rattle.checkpointing.proofs.Closing.{checkpoint_done, checkpoint_fails, checkpoint_full, checkpoint_unforced, full_call, refused_call, unbroken_placed, unforced_call}
-use Rattle.checkpointing.proofs.Ended.{call_ends, check_ends, counts_forced, counts_twice, is_err}
+use Rattle.checkpointing.proofs.Ended.{call_ends, check_ends, counts_forced, counts_twice}
 use Rattle.checkpointing.proofs.checks.checkpoint.Goals as goal
 
 pub returns-in_err-need-clause-call : goal.returns-in_err-need-clause-call
@@ -70,7 +70,7 @@ returns-in_err-force-clause-call g c =
     let it = c.args.store.now in
     let here = c.take_check.new.store in
     let after = c.force.new.self in
-    subst (λ (r : Result (Unit {0}) CheckErr). IsCall meaning d new it after 0 (StopsAt log_limit) (ending_of_check r)) (is_err c.from_residual-in_err-force.result DiskFault c.from_residual-in_err-force.ensures.1)
+    at_err (λ r. IsCall meaning d new it after 0 (StopsAt log_limit) (ending_of_check r)) c.from_residual-in_err-force.result DiskFault c.from_residual-in_err-force.ensures.1
     (unforced_call meaning d new it after mid here c.in-Some.need (subst (λ (o : Option ℕ). IsCall meaning d mid it here 0 Overlong (check_ending here.parts.log (Ok o))) c.in-Some.is c.in_ok-need.ensures.call) c.in_err-force.ensures.call)
 
 pub returns-in_err-force-clause-takes : goal.returns-in_err-force-clause-takes
@@ -83,8 +83,7 @@ returns-in_err-force-clause-takes g c =
     let here = c.take_check.new.store.parts in
     let after = c.force.new.self.parts in
     let takes = subst (λ (o : Option ℕ). Takes meaning d mid it here (λ m w used. check_course m w used) (check_ending here.log (Ok o))) c.in-Some.is c.in_ok-need.ensures.takes in
-    subst (λ (r : Result (Unit {0}) CheckErr). Takes meaning d new it after (λ m w used. checkpoint_course m w used) (ending_of_check r))
-    (is_err c.from_residual-in_err-force.result DiskFault c.from_residual-in_err-force.ensures.1)
+    at_err (λ r. Takes meaning d new it after (λ m w used. checkpoint_course m w used) (ending_of_check r)) c.from_residual-in_err-force.result DiskFault c.from_residual-in_err-force.ensures.1
     (checkpoint_unforced meaning d mid new it here after (Full (used_of here.log.log) c.in-Some.need log_limit) refl c.take_check.ensures.call.quiet takes c.in_err-force.ensures.takes)
 
 pub returns-in_err-force-clause-counts : goal.returns-in_err-force-clause-counts

@@ -1,12 +1,8 @@
-use Rattle.std.proofs.Common.{subst}
-use Rattle.std.specs.Prelude.{Result}
-use Rattle.running_store.specs.Calls.{IsCall, Never}
+use Rattle.running_store.specs.Calls.{IsCall, Never, ending_of_store}
 use Rattle.running_store.specs.Taking.{Takes}
+use Rattle.cache_manager.specs.Endings.{at_err}
 use Rattle.checkpointing.specs.Courses.{closing_course}
-use Rattle.checkpointing.specs.Left.{ending_of_close}
-use Rattle.checkpointing.specs.declared.close_err.CloseErr.{CloseErr}
 use Rattle.checkpointing.proofs.Closing.{closing_call, closing_done, closing_fails, refused_call}
-use Rattle.checkpointing.proofs.Ended.{is_err}
 use Rattle.checkpointing.proofs.checks.closing_check.Goals as goal
 
 pub returns-in_err-take_check-clause-call : goal.returns-in_err-take_check-clause-call
@@ -15,7 +11,7 @@ returns-in_err-take_check-clause-call g c =
     let new = g.M.Machine.disk c.take_check.new.machine in
     let it = c.args.store.now in
     let after = c.take_check.new.store in
-    subst (λ (r : Result (Unit {0}) CloseErr). IsCall g.O.Oper.meaning d new it after 0 Never (ending_of_close r)) (is_err c.from_residual.result c.in_err-take_check.field-0.0 c.from_residual.ensures.1)
+    at_err (λ r. IsCall g.O.Oper.meaning d new it after 0 Never (ending_of_store r)) c.from_residual.result c.in_err-take_check.field-0.0 c.from_residual.ensures.1
     (refused_call g.O.Oper.meaning d new it after Never c.in_err-take_check.field-0.0 c.in_err-take_check.ensures.call)
 
 pub returns-in_err-take_check-clause-takes : goal.returns-in_err-take_check-clause-takes
@@ -24,7 +20,7 @@ returns-in_err-take_check-clause-takes g c =
     let new = g.M.Machine.disk c.take_check.new.machine in
     let it = c.args.store.now.parts in
     let after = c.take_check.new.store.parts in
-    subst (λ (r : Result (Unit {0}) CloseErr). Takes g.O.Oper.meaning d new it after (λ m w used. closing_course m w used) (ending_of_close r)) (is_err c.from_residual.result c.in_err-take_check.field-0.0 c.from_residual.ensures.1)
+    at_err (λ r. Takes g.O.Oper.meaning d new it after (λ m w used. closing_course m w used) (ending_of_store r)) c.from_residual.result c.in_err-take_check.field-0.0 c.from_residual.ensures.1
     (closing_fails g.O.Oper.meaning d new it after c.in_err-take_check.field-0.0 c.in_err-take_check.ensures.takes)
 
 pub returns-clause-call : goal.returns-clause-call

@@ -1,5 +1,4 @@
-use Rattle.std.proofs.Common.{◌≡◌, ◌∙◌, subst, ap, ℕ, ◌+◌, ◌-◌, ◌*◌, ◌<◌, ◌≤◌, length, refl, arith, Option}
-use Rattle.std.specs.Prelude.{Result}
+use Rattle.std.proofs.Common.{◌≡◌, ◌∙◌, ap, ℕ, ◌+◌, ◌-◌, ◌*◌, ◌<◌, ◌≤◌, length, refl, arith}
 use Rattle.log_frames.specs.LogView.{used_of, growth_of}
 use Rattle.log_records.specs.RecordLog.{RecordLogView}
 use Rattle.running_store.specs.CallLaws.{unbroken_after}
@@ -7,17 +6,18 @@ use Rattle.running_store.specs.Calls.{IsCall, Never, call_none, call_twice}
 use Rattle.running_store.specs.Checks.{checked_call, checked_takes}
 use Rattle.running_store.specs.Courses.Stop.{Full}
 use Rattle.running_store.specs.Growth.{growth_some}
-use Rattle.running_store.specs.Logged.{log_limit}
+use Rattle.formats.specs.Limits.{log_limit}
 use Rattle.running_store.specs.Taking.{Takes}
 use Rattle.running_store.specs.Taking.Ending.{Done, Short, Failed, Stopped}
 use Rattle.running_store.specs.Writes.{unwritten_call, unwritten_takes}
 use Rattle.running_store.specs.Written.{room_is_place}
+use Rattle.running_store.specs.declared.store_err.StoreErr.TheVariants.{DiskFault, Memory}
+use Rattle.cache_manager.specs.Endings.{at_err}
+use Rattle.cache_manager.specs.RecordPlace.{growth_low}
 use Rattle.checkpointing.specs.Courses.{logged_course}
 use Rattle.checkpointing.specs.Left.{Overlong, check_ending}
-use Rattle.checkpointing.specs.declared.close_err.CloseErr.{CloseErr}
-use Rattle.checkpointing.specs.declared.close_err.CloseErr.TheVariants.{DiskFault, Memory}
-use Rattle.checkpointing.proofs.CheckLogs.{growth_low, takes_full, takes_logged}
-use Rattle.checkpointing.proofs.Ended.{call_ends, call_on, counts_checked, counts_forced, counts_none, counts_twice, is_err}
+use Rattle.checkpointing.proofs.CheckLogs.{takes_full, takes_logged}
+use Rattle.checkpointing.proofs.Ended.{call_ends, call_on, counts_checked, counts_forced, counts_none, counts_twice}
 use Rattle.checkpointing.proofs.logging.log_check.Goals as goal
 
 -- what a record of so many bytes would add to the log, beside what is left below the limit
@@ -71,7 +71,7 @@ returns-in_err-append_check-clause-call g c =
     let d = g.M.Machine.disk c.args.machine.now in
     let it = c.args.store.now in
     let after = c.append_check.new.self in
-    subst (λ (r : Result (Option ℕ) CloseErr). IsCall g.O.Oper.meaning d d it after 0 Overlong (check_ending after.parts.log r)) (is_err c.from_residual.result Memory c.from_residual.ensures.1)
+    at_err (λ r. IsCall g.O.Oper.meaning d d it after 0 Overlong (check_ending after.parts.log r)) c.from_residual.result Memory c.from_residual.ensures.1
     (call_on g.O.Oper.meaning d d it after Never Overlong Short (unwritten_call g.O.Oper.meaning it after c.requires.unbroken d (g.met.M.Machine.lawful c.args.machine.now) c.in_err-append_check.ensures))
 
 pub returns-in_err-append_check-clause-takes : goal.returns-in_err-append_check-clause-takes
@@ -79,7 +79,7 @@ returns-in_err-append_check-clause-takes g c = λ now.
     let d = g.M.Machine.disk c.args.machine.now in
     let it = c.args.store.now in
     let after = c.append_check.new.self in
-    subst (λ (r : Result (Option ℕ) CloseErr). Takes g.O.Oper.meaning d d it.parts after.parts (λ m w used. logged_course m w used) (check_ending after.parts.log r)) (is_err c.from_residual.result Memory c.from_residual.ensures.1)
+    at_err (λ r. Takes g.O.Oper.meaning d d it.parts after.parts (λ m w used. logged_course m w used) (check_ending after.parts.log r)) c.from_residual.result Memory c.from_residual.ensures.1
     (unwritten_takes g.O.Oper.meaning it after c.requires.unbroken d (g.met.M.Machine.lawful c.args.machine.now) c.in_err-append_check.ensures (λ m w used. logged_course m w used))
 
 pub returns-in_err-append_check-clause-counts : goal.returns-in_err-append_check-clause-counts
@@ -101,7 +101,7 @@ returns-in_err-force-clause-call g c =
     let here = c.append_check.new.self in
     let after = c.force.new.self in
     let first = checked_call meaning it here c.requires.unbroken d (g.met.M.Machine.lawful c.args.machine.now) c.args.table c.in_ok-append_check.ensures in
-    subst (λ (r : Result (Option ℕ) CloseErr). IsCall meaning d new it after 0 Overlong (check_ending after.parts.log r)) (is_err c.from_residual-in_err-force.result DiskFault c.from_residual-in_err-force.ensures.1)
+    at_err (λ r. IsCall meaning d new it after 0 Overlong (check_ending after.parts.log r)) c.from_residual-in_err-force.result DiskFault c.from_residual-in_err-force.ensures.1
     (call_twice meaning d d new it here after 0 0 Never Overlong Failed first (call_on meaning d new here after Never Overlong Failed c.in_err-force.ensures.call))
 
 pub returns-in_err-force-clause-takes : goal.returns-in_err-force-clause-takes
@@ -116,8 +116,7 @@ returns-in_err-force-clause-takes g c = λ now.
     let n = 13 + 12 * length table.starts in
     let lawful = g.met.M.Machine.lawful c.args.machine.now in
     let is = c.in_ok-append_check.ensures in
-    subst (λ (r : Result (Option ℕ) CloseErr). Takes meaning d new it.parts after.parts (λ m w used. logged_course m w used) (check_ending after.parts.log r))
-    (is_err c.from_residual-in_err-force.result DiskFault c.from_residual-in_err-force.ensures.1)
+    at_err (λ r. Takes meaning d new it.parts after.parts (λ m w used. logged_course m w used) (check_ending after.parts.log r)) c.from_residual-in_err-force.result DiskFault c.from_residual-in_err-force.ensures.1
     (takes_logged meaning d it.parts table c.requires.check now new here.parts after.parts Failed (checked_call meaning it here c.requires.unbroken d lawful table is).quiet
     (fits c.log-log.result.now it.parts.log c.log-log.ensures log_limit c.used.result c.check_bytes-n.result n c.growth.result c.saturating_sub.result c.used.ensures c.check_bytes-n.ensures c.growth.ensures c.saturating_sub.ensures
     c.if-saturating_sub-growth.false (omega arith))

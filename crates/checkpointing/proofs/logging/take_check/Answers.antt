@@ -1,30 +1,28 @@
-use Rattle.std.proofs.Common.{subst, ℕ, Option}
-use Rattle.std.specs.Prelude.{Result}
 use Rattle.running_store.specs.CallLaws.{unbroken_after}
 use Rattle.running_store.specs.Calls.{IsCall, Never, call_none, call_twice}
 use Rattle.running_store.specs.Taking.{Takes}
 use Rattle.running_store.specs.Taking.Ending.{Done, Short, Failed}
 use Rattle.running_store.specs.TakesLaws.{takes_both, takes_first, takes_nothing}
+use Rattle.running_store.specs.declared.store_err.StoreErr.TheVariants.{DiskFault, Memory}
+use Rattle.cache_manager.specs.Endings.{at_err}
 use Rattle.checkpointing.specs.Courses.{check_course, logged_course}
 use Rattle.checkpointing.specs.Left.{Overlong, check_ending}
-use Rattle.checkpointing.specs.declared.close_err.CloseErr.{CloseErr}
-use Rattle.checkpointing.specs.declared.close_err.CloseErr.TheVariants.{DiskFault, Memory}
 use Rattle.checkpointing.proofs.CheckLogs.{here_roomed, now_here, room_course, taken_roomed, takes_room}
-use Rattle.checkpointing.proofs.Ended.{call_ends, call_on, counts_none, counts_roomed, counts_twice, is_err}
+use Rattle.checkpointing.proofs.Ended.{call_ends, call_on, counts_none, counts_roomed, counts_twice}
 use Rattle.checkpointing.proofs.logging.take_check.Goals as goal
 
 pub returns-in_err-table-clause-call : goal.returns-in_err-table-clause-call
 returns-in_err-table-clause-call g c =
     let d = g.M.Machine.disk c.args.machine.now in
     let it = c.args.store.now in
-    subst (λ (r : Result (Option ℕ) CloseErr). IsCall g.O.Oper.meaning d d it it 0 Overlong (check_ending it.parts.log r)) (is_err c.from_residual.result Memory c.from_residual.ensures.1)
+    at_err (λ r. IsCall g.O.Oper.meaning d d it it 0 Overlong (check_ending it.parts.log r)) c.from_residual.result Memory c.from_residual.ensures.1
     (call_ends g.O.Oper.meaning d d it it Never Overlong Done Short (λ failed. failed) (λ failed. failed) tt (call_none g.O.Oper.meaning d it Never (g.met.M.Machine.lawful c.args.machine.now) c.requires.unbroken))
 
 pub returns-in_err-table-clause-takes : goal.returns-in_err-table-clause-takes
 returns-in_err-table-clause-takes g c =
     let d = g.M.Machine.disk c.args.machine.now in
     let it = c.args.store.now.parts in
-    subst (λ (r : Result (Option ℕ) CloseErr). Takes g.O.Oper.meaning d d it it (λ m w used. check_course m w used) (check_ending it.log r)) (is_err c.from_residual.result Memory c.from_residual.ensures.1)
+    at_err (λ r. Takes g.O.Oper.meaning d d it it (λ m w used. check_course m w used) (check_ending it.log r)) c.from_residual.result Memory c.from_residual.ensures.1
     (takes_nothing g.O.Oper.meaning d it (g.met.M.Machine.lawful c.args.machine.now) (λ m w used. check_course m w used))
 
 pub returns-in_err-table-clause-counts : goal.returns-in_err-table-clause-counts
@@ -36,8 +34,7 @@ returns-in_err-make_block_room-clause-call g c =
     let new = g.M.Machine.disk c.make_block_room.new.machine in
     let it = c.args.store.now in
     let after = c.make_block_room.new.self in
-    subst (λ (r : Result (Option ℕ) CloseErr). IsCall g.O.Oper.meaning d new it after 0 Overlong (check_ending after.parts.log r))
-    (is_err c.from_residual-in_err-make_block_room.result DiskFault c.from_residual-in_err-make_block_room.ensures.1)
+    at_err (λ r. IsCall g.O.Oper.meaning d new it after 0 Overlong (check_ending after.parts.log r)) c.from_residual-in_err-make_block_room.result DiskFault c.from_residual-in_err-make_block_room.ensures.1
     (call_on g.O.Oper.meaning d new it after Never Overlong Failed c.in_err-make_block_room.ensures.call)
 
 pub returns-in_err-make_block_room-clause-takes : goal.returns-in_err-make_block_room-clause-takes
@@ -48,8 +45,7 @@ returns-in_err-make_block_room-clause-takes g c =
     let it = c.args.store.now.parts in
     let after = c.make_block_room.new.self.parts in
     let table = c.in_ok-table.table in
-    subst (λ (r : Result (Option ℕ) CloseErr). Takes meaning d new it after (λ m w used. check_course m w used) (check_ending after.log r))
-    (is_err c.from_residual-in_err-make_block_room.result DiskFault c.from_residual-in_err-make_block_room.ensures.1)
+    at_err (λ r. Takes meaning d new it after (λ m w used. check_course m w used) (check_ending after.log r)) c.from_residual-in_err-make_block_room.result DiskFault c.from_residual-in_err-make_block_room.ensures.1
     (takes_first meaning (λ m w used. room_course m w used) (λ m w used. logged_course m w used) d new it after Failed tt
     (takes_room meaning d it table c.in_ok-table.ensures.here (now_here meaning table d it c.in_ok-table.ensures.now) c.check_bytes.result c.check_bytes.ensures new after Failed c.in_err-make_block_room.ensures.takes))
 

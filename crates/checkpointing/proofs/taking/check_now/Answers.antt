@@ -1,7 +1,7 @@
 use Rattle.std.proofs.Common.{arith, ◌≡◌, ◌∙◌, sym, subst, ap, ℕ, List, []}
 use Rattle.std.specs.Prelude.{All}
 use Rattle.std.specs.List.{filter}
-use Rattle.checkpoint.specs.declared.table.Table.{Table}
+use Rattle.redo_tables.specs.declared.table.Table.{Table}
 use Rattle.formats.specs.Objects.{IsObjectsFile, bounds_of}
 use Rattle.formats.specs.declared.params.Params.{Params}
 use Rattle.install_order.specs.Entries.{accesses}
@@ -11,7 +11,7 @@ use Rattle.oper_core.specs.declared.bounds.Bounds.{Bounds}
 use Rattle.write_graph.specs.Graph.{Lists, IsLeast}
 use Rattle.write_graph.specs.Objects.{IsWriter, IsWritten}
 use Rattle.standing.specs.OneStable.{small_store}
-use Rattle.running_store.specs.StoreView.{params_of}
+use Rattle.running_store.specs.StoreView.{store_params}
 use Rattle.running_store.specs.Checks.{IsCheckHere}
 use Rattle.checkpointing.specs.Checks.{is_in_log}
 use Rattle.checkpointing.proofs.Starts.{firsts, check_here, no_starts, starts_in_log}
@@ -28,8 +28,8 @@ pub returns-clause-here : goal.returns-clause-here
 returns-clause-here g c =
     let it = c.args.store.now in
     let log = it.parts.log in
-    let entries = it.parts.store.entries in
-    let p = params_of it in
+    let entries = it.parts.volatile.entries in
+    let p = store_params it in
     let m = g.O.Oper.meaning log.bounds in
     let starts = c.in_ok-starts.starts.items in
     let in_use = c.params-objects.ensures.in_use c.requires.unbroken in
@@ -49,7 +49,7 @@ returns-clause-here g c =
 pub returns-clause-now : goal.returns-clause-now
 returns-clause-now g c = λ p file w sound shows next base.
     let m = g.O.Oper.meaning (bounds_of p) in
-    let it = c.args.store.now.parts.store in
+    let it = c.args.store.now.parts.volatile in
     let a = accesses it.entries in
     let starts = c.in_ok-starts.starts.items in
     let made : Table = record { next = c.next.result; starts = c.new.result } in

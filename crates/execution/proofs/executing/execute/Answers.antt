@@ -10,9 +10,9 @@ use Rattle.running_store.specs.Calls.{IsCall, IsFailed}
 use Rattle.running_store.specs.Commands.{HasPlaceBelow, IsReady, command_length}
 use Rattle.running_store.specs.Fetches.{IsFetch}
 use Rattle.running_store.specs.Parts.{Shows, meaning_in}
-use Rattle.running_store.specs.StoreView.{StoreView, length_of, params_of}
+use Rattle.running_store.specs.StoreView.{StoreView, log_length, store_params}
 use Rattle.running_store.specs.Taking.{Takes}
-use Rattle.execution.specs.Answers.{HasCause, ending_of_error, ending_of_exec}
+use Rattle.execution.specs.Answers.{HasCauseIn, ending_of_error, ending_of_exec}
 use Rattle.execution.specs.Courses.{exec_course, refusal_in}
 use Rattle.execution.specs.Done.{IsOutcome}
 use Rattle.execution.specs.Failures.{LacksPlace}
@@ -21,7 +21,7 @@ use Rattle.execution.specs.declared.exec_err.ExecErr.TheVariants.{Memory}
 use Rattle.execution.proofs.Admitted.{accepted}
 use Rattle.execution.proofs.Causes.{admit_cause}
 use Rattle.execution.proofs.Finished.{finished_call, finished_cause, finished_outcome, finished_takes, place_before, short_call, short_outcome, short_takes}
-use Rattle.execution.proofs.Results.{at_err}
+use Rattle.cache_manager.specs.Endings.{at_err}
 use Rattle.execution.proofs.Unadmitted.{unadmitted_call, unadmitted_outcome, unadmitted_takes}
 use Rattle.execution.proofs.Unplaced.{lacks_before, unplaced_call, unplaced_cause, unplaced_outcome, unplaced_takes}
 use Rattle.execution.proofs.executing.execute.Given.{Over}
@@ -34,7 +34,7 @@ returns-in_err-values-clause-call g c =
     let old = g.M.Machine.disk c.args.machine.now in
     let new = g.M.Machine.disk c.admit.new.machine in
     let e = c.in_err-values.field-0.0 in
-    at_err (λ r. IsCall g.O.Oper.meaning old new c.args.store.now c.admit.new.store 0 (StopsCommand c.args.grouped (params_of c.args.store.now).limit) (ending_of_exec r)) c.from_residual.result e c.from_residual.ensures.1
+    at_err (λ r. IsCall g.O.Oper.meaning old new c.args.store.now c.admit.new.store 0 (StopsCommand c.args.grouped (store_params c.args.store.now).limit) (ending_of_exec r)) c.from_residual.result e c.from_residual.ensures.1
     (unadmitted_call g.O.Oper.meaning c.args.grouped c.args.op old new c.args.store.now c.admit.new.store e c.in_err-values.ensures.cause c.in_err-values.ensures.call)
 
 pub returns-in_err-values-clause-takes : goal.returns-in_err-values-clause-takes
@@ -42,17 +42,17 @@ returns-in_err-values-clause-takes g c =
     let old = g.M.Machine.disk c.args.machine.now in
     let new = g.M.Machine.disk c.admit.new.machine in
     let e = c.in_err-values.field-0.0 in
-    at_err (λ r. Takes g.O.Oper.meaning old new c.args.store.now.parts c.admit.new.store.parts (λ m w used. exec_course m c.args.grouped (params_of c.args.store.now).limit c.args.op w used) (ending_of_exec r)) c.from_residual.result e
+    at_err (λ r. Takes g.O.Oper.meaning old new c.args.store.now.parts c.admit.new.store.parts (λ m w used. exec_course m c.args.grouped (store_params c.args.store.now).limit c.args.op w used) (ending_of_exec r)) c.from_residual.result e
     c.from_residual.ensures.1
     (unadmitted_takes g.O.Oper.meaning c.args.grouped c.args.op old new c.args.store.now c.admit.new.store (IsFailed (ending_of_error e)) c.in_err-values.ensures.call (g.met.M.Machine.lawful c.admit.new.machine) g.met.O.Oper.bounded g.met.O.Oper.lawful e
     c.in_err-values.ensures.cause c.in_err-values.ensures.shown)
 
-pub returns-in_err-values-clause-exactly : goal.returns-in_err-values-clause-exactly
-returns-in_err-values-clause-exactly g c p w shows =
+pub returns-in_err-values-clause-in_world : goal.returns-in_err-values-clause-in_world
+returns-in_err-values-clause-in_world g c p w shows =
     let old = g.M.Machine.disk c.args.machine.now in
     let new = g.M.Machine.disk c.admit.new.machine in
     let e = c.in_err-values.field-0.0 in
-    at_err (λ r. HasCause c.args.grouped (meaning_in g.O.Oper.meaning p) p.limit w (length_of c.args.store.now) c.args.op r) c.from_residual.result e c.from_residual.ensures.1
+    at_err (λ r. HasCauseIn c.args.grouped (meaning_in g.O.Oper.meaning p) p.limit w (log_length c.args.store.now) c.args.op r) c.from_residual.result e c.from_residual.ensures.1
     (admit_cause g.O.Oper.meaning c.args.grouped p old new c.args.store.now.parts w shows c.args.op g.met.O.Oper.bounded g.met.O.Oper.lawful e c.in_err-values.ensures.call.read.stays c.in_err-values.ensures.cause
     c.in_err-values.ensures.shown (λ is. c.in_err-values.ensures.fault (λ i. Err (is i))))
 
@@ -79,14 +79,14 @@ require_place-requires-clause-range g c = let range = c.in_ok-values.ensures.len
 
 -- it gets no place
 module _ (g : Over) (c : In_err-require_place g) where
-  lacks : LacksPlace c.args.grouped (params_of c.args.store.now).limit c.args.store.now.parts.log (command_length (meaning_in g.O.Oper.meaning (params_of c.args.store.now)) c.args.op) c.in_err-require_place.field-0.0
+  lacks : LacksPlace c.args.grouped (store_params c.args.store.now).limit c.args.store.now.parts.log (command_length (meaning_in g.O.Oper.meaning (store_params c.args.store.now)) c.args.op) c.in_err-require_place.field-0.0
   lacks =
       let range = c.in_ok-values.ensures.length in
       lacks_before g.O.Oper.meaning c.args.grouped c.args.op (g.M.Machine.disk c.args.machine.now) (g.M.Machine.disk c.admit.new.machine) (g.M.Machine.disk c.require_place.new.machine) c.args.store.now c.admit.new.store c.require_place.new.store
       c.in_ok-values.ensures.call c.in_ok-values.length c.in_err-require_place.field-0.0 range.0 c.in_err-require_place.ensures.lacks
 
   call : IsCall g.O.Oper.meaning (g.M.Machine.disk c.args.machine.now) (g.M.Machine.disk c.require_place.new.machine) c.args.store.now c.require_place.new.store 0
-      (StopsCommand c.args.grouped (params_of c.args.store.now).limit) (ending_of_exec {T = ℕ} (Err c.in_err-require_place.field-0.0))
+      (StopsCommand c.args.grouped (store_params c.args.store.now).limit) (ending_of_exec {T = ℕ} (Err c.in_err-require_place.field-0.0))
   call =
       unplaced_call g.O.Oper.meaning c.args.grouped c.args.op (g.M.Machine.disk c.args.machine.now) (g.M.Machine.disk c.admit.new.machine) (g.M.Machine.disk c.require_place.new.machine) c.args.store.now c.admit.new.store c.require_place.new.store
       c.in_ok-values.ensures.call _ c.in_err-require_place.ensures.call
@@ -95,7 +95,7 @@ pub returns-in_err-require_place-clause-call : goal.returns-in_err-require_place
 returns-in_err-require_place-clause-call g c =
     let at = goal.at.returns-in_err-require_place-clause-call g c in
     at_err (λ r. IsCall g.O.Oper.meaning (g.M.Machine.disk c.args.machine.now) (g.M.Machine.disk c.require_place.new.machine) c.args.store.now c.require_place.new.store 0
-    (StopsCommand c.args.grouped (params_of c.args.store.now).limit) (ending_of_exec r)) c.from_residual-in_err-require_place.result c.in_err-require_place.field-0.0 c.from_residual-in_err-require_place.ensures.1 (call g at.In_err-require_place)
+    (StopsCommand c.args.grouped (store_params c.args.store.now).limit) (ending_of_exec r)) c.from_residual-in_err-require_place.result c.in_err-require_place.field-0.0 c.from_residual-in_err-require_place.ensures.1 (call g at.In_err-require_place)
 
 pub returns-in_err-require_place-clause-takes : goal.returns-in_err-require_place-clause-takes
 returns-in_err-require_place-clause-takes g c =
@@ -103,16 +103,16 @@ returns-in_err-require_place-clause-takes g c =
     let old = g.M.Machine.disk c.args.machine.now in
     let new = g.M.Machine.disk c.require_place.new.machine in
     let e = c.in_err-require_place.field-0.0 in
-    at_err (λ r. Takes g.O.Oper.meaning old new c.args.store.now.parts c.require_place.new.store.parts (λ m w used. exec_course m c.args.grouped (params_of c.args.store.now).limit c.args.op w used) (ending_of_exec r))
+    at_err (λ r. Takes g.O.Oper.meaning old new c.args.store.now.parts c.require_place.new.store.parts (λ m w used. exec_course m c.args.grouped (store_params c.args.store.now).limit c.args.op w used) (ending_of_exec r))
     c.from_residual-in_err-require_place.result e c.from_residual-in_err-require_place.ensures.1
     (unplaced_takes g.O.Oper.meaning c.args.grouped c.args.op old (g.M.Machine.disk c.admit.new.machine) new c.args.store.now c.admit.new.store c.require_place.new.store c.in_ok-values.ensures.call (said g at.In_ok-values) e
     (lacks g at.In_err-require_place) c.in_err-require_place.ensures.takes)
 
-pub returns-in_err-require_place-clause-exactly : goal.returns-in_err-require_place-clause-exactly
-returns-in_err-require_place-clause-exactly g c p w shows =
-    let at = goal.at.returns-in_err-require_place-clause-exactly g c in
+pub returns-in_err-require_place-clause-in_world : goal.returns-in_err-require_place-clause-in_world
+returns-in_err-require_place-clause-in_world g c p w shows =
+    let at = goal.at.returns-in_err-require_place-clause-in_world g c in
     let e = c.in_err-require_place.field-0.0 in
-    at_err (λ r. HasCause c.args.grouped (meaning_in g.O.Oper.meaning p) p.limit w (length_of c.args.store.now) c.args.op r) c.from_residual-in_err-require_place.result e c.from_residual-in_err-require_place.ensures.1
+    at_err (λ r. HasCauseIn c.args.grouped (meaning_in g.O.Oper.meaning p) p.limit w (log_length c.args.store.now) c.args.op r) c.from_residual-in_err-require_place.result e c.from_residual-in_err-require_place.ensures.1
     (unplaced_cause g.O.Oper.meaning c.args.grouped c.args.op (g.M.Machine.disk c.args.machine.now) (g.M.Machine.disk c.admit.new.machine) (g.M.Machine.disk c.require_place.new.machine) c.args.store.now c.admit.new.store c.require_place.new.store
     c.in_ok-values.ensures.call (said g at.In_ok-values) e (lacks g at.In_err-require_place) p w shows)
 
@@ -135,7 +135,7 @@ module _ (g : Over) (c : In_ok-require_place g) where
       subst (λ (d : Disk). IsFetch (g.M.Machine.disk c.args.machine.now) d c.args.store.now c.require_place.new.store ⊥) (sym (ap (λ m. g.M.Machine.disk m) has.1))
       (subst (λ (s : StoreView). IsFetch (g.M.Machine.disk c.args.machine.now) (g.M.Machine.disk c.admit.new.machine) c.args.store.now s ⊥) (sym has.2) c.in_ok-values.ensures.call)
 
-  place : HasPlaceBelow (params_of c.args.store.now).limit c.args.store.now.parts.log (command_length (meaning_in g.O.Oper.meaning (params_of c.args.store.now)) c.args.op)
+  place : HasPlaceBelow (store_params c.args.store.now).limit c.args.store.now.parts.log (command_length (meaning_in g.O.Oper.meaning (store_params c.args.store.now)) c.args.op)
   place =
       let has = c.in_ok-require_place.ensures.has in
       let range = c.in_ok-values.ensures.length in
@@ -156,7 +156,7 @@ pub append_command-requires-clause-place : goal.append_command-requires-clause-p
 append_command-requires-clause-place g c =
     let at = goal.at.append_command-requires-clause-place g c in
     let it = fetched g at.In_ok-require_place in
-    subst (λ (l : RecordLogView). HasPlaceBelow (params_of c.require_place.new.store).limit l (command_length (meaning_in g.O.Oper.meaning (params_of c.require_place.new.store)) c.args.op)) (sym it.log)
+    subst (λ (l : RecordLogView). HasPlaceBelow (store_params c.require_place.new.store).limit l (command_length (meaning_in g.O.Oper.meaning (store_params c.require_place.new.store)) c.args.op)) (sym it.log)
     (subst (λ (q : Params). HasPlaceBelow q.limit c.args.store.now.parts.log (command_length (meaning_in g.O.Oper.meaning q) c.args.op)) (sym (ap (λ (s : SlotsView). s.params) it.read.fetched.slots)) (place g at.In_ok-require_place))
 
 -- it lacks memory
@@ -165,7 +165,7 @@ returns-in_err-append_command-clause-call g c =
     let at = goal.at.returns-in_err-append_command-clause-call g c in
     let old = g.M.Machine.disk c.args.machine.now in
     let new = g.M.Machine.disk c.require_place.new.machine in
-    at_err (λ r. IsCall g.O.Oper.meaning old new c.args.store.now c.append_command.new.self 0 (StopsCommand c.args.grouped (params_of c.args.store.now).limit) (ending_of_exec r)) c.from_residual-in_err-append_command.result Memory
+    at_err (λ r. IsCall g.O.Oper.meaning old new c.args.store.now c.append_command.new.self 0 (StopsCommand c.args.grouped (store_params c.args.store.now).limit) (ending_of_exec r)) c.from_residual-in_err-append_command.result Memory
     c.from_residual-in_err-append_command.ensures.1
     (short_call g.O.Oper.meaning c.args.grouped c.args.op old new c.args.store.now c.require_place.new.store c.append_command.new.self (fetched g at.In_ok-require_place) (g.met.M.Machine.lawful c.require_place.new.machine)
     c.in_ok-values.values c.in_ok-values.ensures.ready (place g at.In_ok-require_place) c.in_err-append_command.ensures)
@@ -175,14 +175,14 @@ returns-in_err-append_command-clause-takes g c =
     let at = goal.at.returns-in_err-append_command-clause-takes g c in
     let old = g.M.Machine.disk c.args.machine.now in
     let new = g.M.Machine.disk c.require_place.new.machine in
-    at_err (λ r. Takes g.O.Oper.meaning old new c.args.store.now.parts c.append_command.new.self.parts (λ m w used. exec_course m c.args.grouped (params_of c.args.store.now).limit c.args.op w used) (ending_of_exec r))
+    at_err (λ r. Takes g.O.Oper.meaning old new c.args.store.now.parts c.append_command.new.self.parts (λ m w used. exec_course m c.args.grouped (store_params c.args.store.now).limit c.args.op w used) (ending_of_exec r))
     c.from_residual-in_err-append_command.result Memory c.from_residual-in_err-append_command.ensures.1
     (short_takes g.O.Oper.meaning c.args.grouped c.args.op old new c.args.store.now c.require_place.new.store c.append_command.new.self (fetched g at.In_ok-require_place) (g.met.M.Machine.lawful c.require_place.new.machine)
     c.in_ok-values.values c.in_ok-values.ensures.ready (place g at.In_ok-require_place) c.in_err-append_command.ensures)
 
-pub returns-in_err-append_command-clause-exactly : goal.returns-in_err-append_command-clause-exactly
-returns-in_err-append_command-clause-exactly g c p w shows =
-    at_err (λ r. HasCause c.args.grouped (meaning_in g.O.Oper.meaning p) p.limit w (length_of c.args.store.now) c.args.op r) c.from_residual-in_err-append_command.result Memory c.from_residual-in_err-append_command.ensures.1 tt
+pub returns-in_err-append_command-clause-in_world : goal.returns-in_err-append_command-clause-in_world
+returns-in_err-append_command-clause-in_world g c p w shows =
+    at_err (λ r. HasCauseIn c.args.grouped (meaning_in g.O.Oper.meaning p) p.limit w (log_length c.args.store.now) c.args.op r) c.from_residual-in_err-append_command.result Memory c.from_residual-in_err-append_command.ensures.1 tt
 
 pub returns-in_err-append_command-clause-outcome : goal.returns-in_err-append_command-clause-outcome
 returns-in_err-append_command-clause-outcome g c =
@@ -207,9 +207,9 @@ returns-clause-takes g c =
     (fetched g at.In_ok-require_place) (g.met.M.Machine.lawful c.require_place.new.machine) c.in_ok-values.values c.in_ok-values.ensures.ready (place g at.In_ok-require_place) c.in_ok-append_command.ensures
     g.met.O.Oper.bounded g.met.O.Oper.lawful c.in_ok-values.ensures.shown c.append_keeps.ensures.command
 
-pub returns-clause-exactly : goal.returns-clause-exactly
-returns-clause-exactly g c p w shows =
-    let at = goal.at.returns-clause-exactly g c in
+pub returns-clause-in_world : goal.returns-clause-in_world
+returns-clause-in_world g c p w shows =
+    let at = goal.at.returns-clause-in_world g c in
     finished_cause g.O.Oper.meaning c.args.grouped c.args.op (g.M.Machine.disk c.args.machine.now) (g.M.Machine.disk c.require_place.new.machine) c.args.store.now c.require_place.new.store c.append_command.new.self
     (fetched g at.In_ok-require_place) (g.met.M.Machine.lawful c.require_place.new.machine) c.in_ok-values.values c.in_ok-values.ensures.ready (place g at.In_ok-require_place) c.in_ok-append_command.ensures
     g.met.O.Oper.bounded g.met.O.Oper.lawful c.in_ok-values.ensures.shown c.append_keeps.ensures.command p w shows c.accepted.result (c.accepted.ensures ∙ ap (λ (l : RecordLogView). l.accepted) c.log.ensures)

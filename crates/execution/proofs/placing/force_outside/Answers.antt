@@ -1,11 +1,10 @@
 use Rattle.std.proofs.Common.{sym, subst, refl, Bool}
-use Rattle.running_store.specs.Calls.{Never, call_none}
+use Rattle.running_store.specs.Calls.{Never, call_none, ending_of_force}
 use Rattle.running_store.specs.Courses.{course}
 use Rattle.running_store.specs.Courses.Stop.{Through}
 use Rattle.running_store.specs.Taking.{Takes}
 use Rattle.running_store.specs.Taking.Ending.{Done}
 use Rattle.running_store.specs.TakesLaws.{takes_none}
-use Rattle.running_store.specs.Calls.{ending_of_force}
 use Rattle.execution.specs.Courses.{unplaced_steps}
 use Rattle.execution.specs.Done.{IsUnplaced}
 use Rattle.execution.proofs.Unplaced.{forced_outside}

@@ -6,7 +6,7 @@ use Rattle.running_store.specs.Calls.{IsCall, Never, call_as, call_none}
 use Rattle.running_store.specs.Commands.{length_with}
 use Rattle.running_store.specs.Courses.{course}
 use Rattle.running_store.specs.Courses.Stop.{Full, At_end}
-use Rattle.running_store.specs.StoreView.{StoreView, params_of}
+use Rattle.running_store.specs.StoreView.{StoreView, store_params}
 use Rattle.running_store.specs.Taking.{Ending, Takes}
 use Rattle.running_store.specs.TakesLaws.{takes_stop}
 use Rattle.execution.specs.Answers.{ending_of_exec, stop_of_exec}
@@ -15,14 +15,14 @@ use Rattle.execution.specs.Done.{LogWithout}
 use Rattle.execution.specs.Failures.{LacksPlace}
 use Rattle.execution.specs.Stops.{StopsCommand}
 use Rattle.execution.specs.declared.exec_err.ExecErr.TheVariants.{DiskFault}
-use Rattle.execution.proofs.Results.{at_err}
+use Rattle.cache_manager.specs.Endings.{at_err}
 use Rattle.execution.proofs.Unplaced.{end_stops, failed_left, full_stops}
 use Rattle.execution.proofs.placing.require_place.Goals as goal
 
 pub returns-in_err-force_outside-clause-lacks : goal.returns-in_err-force_outside-clause-lacks
 returns-in_err-force_outside-clause-lacks g c =
     let store : StoreView = c.args.store.now in
-    let limit = (params_of store).limit in
+    let limit = (store_params store).limit in
     let over : limit < length_with store.parts.log c.args.length = search rules in
     at_err (λ r. IfErr r (LacksPlace c.args.grouped limit store.parts.log c.args.length)) c.from_residual.result DiskFault c.from_residual.ensures.1 (c.in_err-force_outside.ensures.forced.0, inl over)
 
@@ -30,7 +30,7 @@ pub returns-in_err-force_outside-clause-left : goal.returns-in_err-force_outside
 returns-in_err-force_outside-clause-left g c =
     let before : StoreView = c.args.store.now in
     let after : StoreView = c.force_outside.new.store in
-    at_err (λ r. IfErr r (λ e. LogWithout c.args.grouped before.parts.log after.parts.log e × (after.parts.store ≡ before.parts.store))) c.from_residual.result DiskFault c.from_residual.ensures.1
+    at_err (λ r. IfErr r (λ e. LogWithout c.args.grouped before.parts.log after.parts.log e × (after.parts.volatile ≡ before.parts.volatile))) c.from_residual.result DiskFault c.from_residual.ensures.1
     (failed_left before after c.in_err-force_outside.ensures.forced.1)
 
 pub returns-in_err-force_outside-clause-call : goal.returns-in_err-force_outside-clause-call
@@ -39,7 +39,7 @@ returns-in_err-force_outside-clause-call g c =
     let new = g.M.Machine.disk c.force_outside.new.machine in
     let before : StoreView = c.args.store.now in
     let after : StoreView = c.force_outside.new.store in
-    let stops = StopsCommand c.args.grouped (params_of before).limit in
+    let stops = StopsCommand c.args.grouped (store_params before).limit in
     at_err (λ r. IsCall g.O.Oper.meaning old new before after 0 stops (ending_of_exec r)) c.from_residual.result DiskFault c.from_residual.ensures.1
     (call_as g.O.Oper.meaning old new before after 0 0 Never stops Ending.Failed refl (λ stop is. cc) c.in_err-force_outside.ensures.call)
 
@@ -56,13 +56,13 @@ pub returns-then-length-limit-clause-lacks : goal.returns-then-length-limit-clau
 returns-then-length-limit-clause-lacks g c = search rules
 
 pub returns-then-length-limit-clause-left : goal.returns-then-length-limit-clause-left
-returns-then-length-limit-clause-left g c = let is = c.in_ok-force_outside.ensures.forced in (is.0, ap (λ (s : StoreView). s.parts.store) is.1)
+returns-then-length-limit-clause-left g c = let is = c.in_ok-force_outside.ensures.forced in (is.0, ap (λ (s : StoreView). s.parts.volatile) is.1)
 
 pub returns-then-length-limit-clause-call : goal.returns-then-length-limit-clause-call
 returns-then-length-limit-clause-call g c =
     let before : StoreView = c.args.store.now in
     let after : StoreView = c.force_outside.new.store in
-    let limit = (params_of before).limit in
+    let limit = (store_params before).limit in
     let lacks = returns-then-length-limit-clause-lacks g c in
     call_stopped g.O.Oper.meaning (g.M.Machine.disk c.args.machine.now) (g.M.Machine.disk c.force_outside.new.machine) before after 0 (StopsCommand c.args.grouped limit) (Full c.used-used.result c.needed-need.result c.params-limit.result.limit)
     (full_stops limit before.parts.log after.parts.log c.args.length c.args.grouped c.used-used.result c.needed-need.result c.params-limit.result.limit lacks.0 lacks.1 lacks.2 lacks.3 c.in_ok-force_outside.ensures.forced.0)
@@ -76,7 +76,7 @@ returns-then-length-limit-clause-takes g c =
 pub returns-in_err-force_outside-2-clause-lacks : goal.returns-in_err-force_outside-2-clause-lacks
 returns-in_err-force_outside-2-clause-lacks g c =
     let store : StoreView = c.args.store.now in
-    let limit = (params_of store).limit in
+    let limit = (store_params store).limit in
     let last : 2 ^ 62 ≤ store.parts.log.next = omega (arith, c.if-number-ge-NUMBERS_END.true, c.next-number.ensures, ap (λ (l : RecordLogView). l.next) c.log-2.ensures) in
     at_err (λ r. IfErr r (LacksPlace c.args.grouped limit store.parts.log c.args.length)) c.from_residual-in_err-force_outside-2.result DiskFault c.from_residual-in_err-force_outside-2.ensures.1
     (c.in_err-force_outside-2.ensures.forced.0, inr last)
@@ -85,7 +85,7 @@ pub returns-in_err-force_outside-2-clause-left : goal.returns-in_err-force_outsi
 returns-in_err-force_outside-2-clause-left g c =
     let before : StoreView = c.args.store.now in
     let after : StoreView = c.force_outside-then-number-ge-NUMBERS_END.new.store in
-    at_err (λ r. IfErr r (λ e. LogWithout c.args.grouped before.parts.log after.parts.log e × (after.parts.store ≡ before.parts.store))) c.from_residual-in_err-force_outside-2.result DiskFault c.from_residual-in_err-force_outside-2.ensures.1
+    at_err (λ r. IfErr r (λ e. LogWithout c.args.grouped before.parts.log after.parts.log e × (after.parts.volatile ≡ before.parts.volatile))) c.from_residual-in_err-force_outside-2.result DiskFault c.from_residual-in_err-force_outside-2.ensures.1
     (failed_left before after c.in_err-force_outside-2.ensures.forced.1)
 
 pub returns-in_err-force_outside-2-clause-call : goal.returns-in_err-force_outside-2-clause-call
@@ -94,7 +94,7 @@ returns-in_err-force_outside-2-clause-call g c =
     let new = g.M.Machine.disk c.force_outside-then-number-ge-NUMBERS_END.new.machine in
     let before : StoreView = c.args.store.now in
     let after : StoreView = c.force_outside-then-number-ge-NUMBERS_END.new.store in
-    let stops = StopsCommand c.args.grouped (params_of before).limit in
+    let stops = StopsCommand c.args.grouped (store_params before).limit in
     at_err (λ r. IsCall g.O.Oper.meaning old new before after 0 stops (ending_of_exec r)) c.from_residual-in_err-force_outside-2.result DiskFault c.from_residual-in_err-force_outside-2.ensures.1
     (call_as g.O.Oper.meaning old new before after 0 0 Never stops Ending.Failed refl (λ stop is. cc) c.in_err-force_outside-2.ensures.call)
 
@@ -111,13 +111,13 @@ pub returns-then-number-ge-NUMBERS_END-clause-lacks : goal.returns-then-number-g
 returns-then-number-ge-NUMBERS_END-clause-lacks g c = search rules
 
 pub returns-then-number-ge-NUMBERS_END-clause-left : goal.returns-then-number-ge-NUMBERS_END-clause-left
-returns-then-number-ge-NUMBERS_END-clause-left g c = let is = c.in_ok-force_outside-2.ensures.forced in (is.0, ap (λ (s : StoreView). s.parts.store) is.1)
+returns-then-number-ge-NUMBERS_END-clause-left g c = let is = c.in_ok-force_outside-2.ensures.forced in (is.0, ap (λ (s : StoreView). s.parts.volatile) is.1)
 
 pub returns-then-number-ge-NUMBERS_END-clause-call : goal.returns-then-number-ge-NUMBERS_END-clause-call
 returns-then-number-ge-NUMBERS_END-clause-call g c =
     let before : StoreView = c.args.store.now in
     let after : StoreView = c.force_outside-then-number-ge-NUMBERS_END.new.store in
-    let limit = (params_of before).limit in
+    let limit = (store_params before).limit in
     let lacks = returns-then-number-ge-NUMBERS_END-clause-lacks g c in
     let used = c.params-limit.ensures.in_use c.requires.unbroken in
     call_stopped g.O.Oper.meaning (g.M.Machine.disk c.args.machine.now) (g.M.Machine.disk c.force_outside-then-number-ge-NUMBERS_END.new.machine) before after 0 (StopsCommand c.args.grouped limit) (At_end c.next-number.result)
@@ -133,5 +133,5 @@ returns-clause-has g c = search rules
 
 pub returns-clause-call : goal.returns-clause-call
 returns-clause-call g c =
-    let limit = (params_of c.args.store.now).limit in
+    let limit = (store_params c.args.store.now).limit in
     call_none g.O.Oper.meaning (g.M.Machine.disk c.args.machine.now) c.args.store.now (StopsCommand c.args.grouped limit) (g.met.M.Machine.lawful c.args.machine.now) c.requires.unbroken
