@@ -9,7 +9,7 @@ use Rattle.disk_model.specs.declared.machine.FileNo.TheVariants.{Objects}
 use Rattle.oper_core.specs.Cell.{Cell}
 use Rattle.oper_core.specs.Meaning.{Meaning}
 use Rattle.oper_core.specs.State.{is_among}
-use Rattle.checkpoint.specs.declared.table.Table.{Table}
+use Rattle.redo_tables.specs.declared.table.Table.{Table}
 use Rattle.formats.specs.Objects.{cell_of}
 use Rattle.formats.specs.declared.params.Params.{Params}
 use Rattle.formats.specs.declared.record.Record.{Record}
@@ -29,16 +29,16 @@ use Rattle.analysis_pass.specs.Analysis.{PlanView}
 use Rattle.running_store.specs.Courses.{is_identity_at}
 use Rattle.running_store.specs.Laid.{cell_or, id_at}
 use Rattle.running_store.specs.LaidLaws.{id_told}
-use Rattle.running_store.specs.Parts.{Store, ShowsStore}
-use Rattle.redo_pass.specs.Redo.{IsDue}
+use Rattle.running_store.specs.Parts.{Volatile, ShowsVolatile}
+use Rattle.redo_pass.specs.Redo.{IsRedoDue}
 use Rattle.redo_pass.specs.Replayed.{IsNext, is_due}
 
 pub some_held : (d o : Option Pair) → is_some d ≡ true → option_or d o ≡ None → ⊥
 some_held None o some none = both_ways _ refl some
 some_held (Some e) o some none = cc
 
-pub empty_shows : {O : Type 0} (m : Meaning O) (p : Params) (files : Files) (slots : SlotsView) (plan : PlanView) (records : List (Record O)) (w : World O) → IsDue m p files slots plan records w
-    → (it : Store) → it.objects.slots ≡ slots → ((x : ℕ) → held it.objects.cache x ≡ None) → it.entries ≡ [] → ShowsStore m p (files Objects) it w
+pub empty_shows : {O : Type 0} (m : Meaning O) (p : Params) (files : Files) (slots : SlotsView) (plan : PlanView) (records : List (Record O)) (w : World O) → IsRedoDue m p files slots plan records w
+    → (it : Volatile) → it.objects.slots ≡ slots → ((x : ℕ) → held it.objects.cache x ≡ None) → it.entries ≡ [] → ShowsVolatile m p (files Objects) it w
 empty_shows m p files slots plan records w due it same none empty = record {
   params = ap (λ (s : SlotsView). s.params) same ∙ due.params;
   laid = record {
@@ -55,7 +55,7 @@ empty_shows m p files slots plan records w due it same none empty = record {
   identities = λ n. ap (λ (es : List Entry). list_any (λ e. (e.number == n) && e.identity) es) empty ∙ ap (λ (g : ℕ → Bool). g n && is_identity_at w.history n) (sym (crashed-graph m w due.found.crashed));
 }
 
-module _ {O : Type 0} (m : Meaning O) (p : Params) (file : List ℕ) (it : Store) (w : World O) (shows : ShowsStore m p file it w) where
+module _ {O : Type 0} (m : Meaning O) (p : Params) (file : List ℕ) (it : Volatile) (w : World O) (shows : ShowsVolatile m p file it w) where
   -- the identifier that is reported without the file is the world's
   pub id_shown : (x : ℕ) → x < p.objects → id_at it.objects x ≡ (w.cache x).id
   id_shown x below =

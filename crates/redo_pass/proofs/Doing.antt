@@ -10,12 +10,11 @@ use Rattle.disk_model.specs.declared.machine.FileNo.TheVariants.{Objects}
 use Rattle.oper_core.specs.Meaning.{IsSmall, Meaning, state_after}
 use Rattle.oper_core.specs.declared.bounds.Bounds.{Bounds}
 use Rattle.formats.specs.Objects.{bounds_of}
+use Rattle.formats.specs.Reading.{FailsBy}
 use Rattle.formats.specs.Records.{IsRecord, Rise}
 use Rattle.formats.specs.declared.params.Params.{Params}
+use Rattle.formats.specs.declared.read_err.ReadErr.{ReadErr}
 use Rattle.formats.specs.declared.record.Record.{Record}
-use Rattle.log_frames.specs.Reading as frames
-use Rattle.log_frames.specs.declared.log_err.LogErr.{LogErr}
-use Rattle.log_frames.specs.declared.log_err.LogErr.TheVariants as of_log
 use Rattle.log_records.specs.CodecLaws.{HasCodes}
 use Rattle.log_records.specs.NumberedLaws.{given_first, given_all, given_rise, last_in_grammar, goes_on_beside}
 use Rattle.log_records.specs.NumberedReader.{NumberedReaderView, IsReadingNumbered, AreAllNumbered, HasGiven}
@@ -37,24 +36,24 @@ use Rattle.standing.specs.OneStable.{small_store}
 use Rattle.standing.specs.Shown.{IsUnseen}
 use Rattle.standing.specs.Standing.{FilesShow}
 use Rattle.analysis_pass.specs.Analysis.{PlanView}
-use Rattle.running_store.specs.Beside.{IsBeside, objects_none}
-use Rattle.running_store.specs.Calls.{IsCall, Never, call_none}
-use Rattle.running_store.specs.Faults.{is_log_fault}
+use Rattle.running_store.specs.Beside.{IsOnObjectsAlone, objects_none}
+use Rattle.running_store.specs.Calls.{IsCall, Never, call_none, ending_of_read, ending_of_store}
+use Rattle.running_store.specs.Faults.{is_read_fault, read_from_store}
 use Rattle.running_store.specs.LongSlot.{HasLongSlot, IsLongSlot, long_untold}
-use Rattle.running_store.specs.Parts.{Parts, Store, ShowsStore, StoreShows}
+use Rattle.running_store.specs.Parts.{Parts, Volatile, ShowsVolatile, VolatileShows}
 use Rattle.running_store.specs.Stored.{keeps_beside}
-use Rattle.running_store.specs.StoreView.{StoreView, next_of, params_of}
+use Rattle.running_store.specs.StoreView.{StoreView, next_of, store_params}
 use Rattle.running_store.specs.Taking.{ArePartsInUse, Ending}
 use Rattle.running_store.specs.Taking.Ending.{Done}
-use Rattle.cache_manager.specs.Endings.{ending_of_thin}
-use Rattle.cache_manager.specs.declared.thin_err.ThinErr.{ThinErr}
-use Rattle.redo_pass.specs.Causes.{FailsBy, IsSlotFault, ending_of_redo, from_installs, from_log}
+use Rattle.running_store.specs.declared.store_err.StoreErr.{StoreErr}
+use Rattle.redo_pass.specs.Causes.{IsSlotFault}
+use Rattle.redo_pass.specs.Endings.{store_ends}
 use Rattle.redo_pass.specs.Progress.{IsAbove, IsLimited, SoFar}
 use Rattle.redo_pass.specs.Redo.{IsLogDue, IsRedone, redo_steps}
 use Rattle.redo_pass.specs.Replayed.{IsNextRecord, IsReplay, after_record}
 use Rattle.redo_pass.specs.Rising.{IsBelow}
 use Rattle.redo_pass.proofs.Ends.{at, ended}
-use Rattle.redo_pass.proofs.Failing.{log_failed, never_stopped, rises_of, thin_ends}
+use Rattle.redo_pass.proofs.Failing.{never_stopped, read_failed, rises_of}
 use Rattle.redo_pass.proofs.Fronts.{due_members, reached, reached_more, reached_rise}
 use Rattle.redo_pass.proofs.Goes.{limited_so_far, turns_are_steps}
 use Rattle.redo_pass.proofs.Leaves.{IsPart, fetch_log, part_fetch, part_laid, part_replay, part_settled, part_twice}
@@ -62,34 +61,34 @@ use Rattle.redo_pass.proofs.Limits.{store_shows_now, takes_none}
 use Rattle.redo_pass.proofs.Loops.{IsOn, begun, behind_above, is_above, join_moments, next_is, on_record, stays_moments}
 
 -- of all records that are due these were done, and the redo of the world has come to the others
-pub record IsLeft {O : Type 0} (m : Meaning O) (p : Params) (files : Files) (it : Store) (limit : ℕ) (w : World O) (all done : List (Record O)) : Type 0 where
+pub record IsLeft {O : Type 0} (m : Meaning O) (p : Params) (files : Files) (it : Volatile) (limit : ℕ) (w : World O) (all done : List (Record O)) : Type 0 where
   pub later : List (Record O)
   pub split : all ≡ done ++ later
   pub so_far : SoFar m p files it limit w later
 
 -- the next one that is due is this one
-pub record IsLeftWith {O : Type 0} (m : Meaning O) (p : Params) (files : Files) (it : Store) (limit : ℕ) (w : World O) (all done : List (Record O)) (r : Record O) : Type 0 where
+pub record IsLeftWith {O : Type 0} (m : Meaning O) (p : Params) (files : Files) (it : Volatile) (limit : ℕ) (w : World O) (all done : List (Record O)) (r : Record O) : Type 0 where
   pub rest : List (Record O)
   pub split : all ≡ (done ++ r ∷ []) ++ rest
   pub so_far : SoFar m p files it limit w (r ∷ rest)
 
 -- that one was done, and nothing is installed after it yet
-pub record IsOnWith {O : Type 0} (m : Meaning O) (p : Params) (files : Files) (it : Store) (limit : ℕ) (w : World O) (all done : List (Record O)) (r : Record O) : Type 0 where
+pub record IsOnWith {O : Type 0} (m : Meaning O) (p : Params) (files : Files) (it : Volatile) (limit : ℕ) (w : World O) (all done : List (Record O)) (r : Record O) : Type 0 where
   pub rest : List (Record O)
   pub split : all ≡ (done ++ r ∷ []) ++ rest
   pub on : IsOn m p limit w files it rest
 
 -- the redo of the world is due, with the log and the slots of this store
 abbrev pub IsToDo : {O : Type 0} → (Bounds → Meaning O) → PlanView → StoreView → Disk → Params → World O → Type 0
-IsToDo meaning plan first old p w = IsLogDue (meaning (bounds_of p)) p old first.parts.log first.parts.store.objects.slots plan w
+IsToDo meaning plan first old p w = IsLogDue (meaning (bounds_of p)) p old first.parts.log first.parts.volatile.objects.slots plan w
 
 -- Since the redo of this store began, so many records of its log were done.
 pub record IsDone {O : Type 0} (meaning : Bounds → Meaning O) (limit : ℕ) (plan : PlanView) (first : StoreView) (old mid : Disk) (now : StoreView) (given : List (Record O)) : Type 0 where
   pub part : IsPart meaning old mid first now Done
-  pub above : All (λ n. n < reached 0 given) (numbers now.parts.store.entries)
+  pub above : All (λ n. n < reached 0 given) (numbers now.parts.volatile.entries)
   pub shown : old.tells_files → IsSettled old → (p : Params) (w : World O) → (to : IsToDo meaning plan first old p w)
-      → IsLeft (meaning (bounds_of p)) p mid.reads now.parts.store limit w (numbered_from plan.start to.stable) given
-  pub moments : old.tells_moments → IsSettled old → (p : Params) (w : World O) → IsToDo meaning plan first old p w
+      → IsLeft (meaning (bounds_of p)) p mid.reads now.parts.volatile limit w (numbered_from plan.start to.stable) given
+  pub steps : old.tells_moments → IsSettled old → (p : Params) (w : World O) → IsToDo meaning plan first old p w
       → (n : ℕ) × TakesSome (meaning (bounds_of p)) p old mid w (turns (meaning (bounds_of p)) limit n w)
 
 -- some records were done, and the reader has given these
@@ -110,20 +109,20 @@ steps_of m p limit {old} {new} w to some = turns_are_steps m p limit w (λ n. ap
 
 module _ {O : Type 0} {meaning : Bounds → Meaning O} {limit : ℕ} {plan : PlanView} {first : StoreView} {old : Disk} where
   -- none was done
-  pub done_none : IsDisk old → first.broken ≡ false → ((x : ℕ) → held first.parts.store.objects.cache x ≡ None) × (first.parts.store.entries ≡ []) → IsDone meaning limit plan first old old first []
+  pub done_none : IsDisk old → first.broken ≡ false → ((x : ℕ) → held first.parts.volatile.objects.cache x ≡ None) × (first.parts.volatile.entries ≡ []) → IsDone meaning limit plan first old old first []
   done_none lawful fine empty = record {
     part = record { call = call_none meaning old first Never lawful fine; objects = objects_none old first lawful };
     above = subst (λ (es : List Entry). All (λ n. n < 0) (numbers es)) (sym empty.1) (All-nil (λ n. n < 0));
     shown = λ told settled p w to.
         let m = meaning (bounds_of p) in
-        let slots = first.parts.store.objects.slots in
+        let slots = first.parts.volatile.objects.slots in
         record {
           later = numbered_from plan.start to.stable;
           split = refl;
-          so_far = begun m p limit w old.reads slots plan (numbered_from plan.start to.stable) first.parts.store to.due refl empty.0 empty.1
+          so_far = begun m p limit w old.reads slots plan (numbered_from plan.start to.stable) first.parts.volatile to.due refl empty.0 empty.1
               (due_members m p old.reads slots plan to.stable w to.due);
         };
-    moments = λ told settled p w to. let m = meaning (bounds_of p) in (0, takes_none m p limit w old lawful told settled to.due.found.shows (turns m limit 0 w));
+    steps = λ told settled p w to. let m = meaning (bounds_of p) in (0, takes_none m p limit w old lawful told settled to.due.found.shows (turns m limit 0 w));
   }
 
   module _ {mid : Disk} {now : StoreView} {given : List (Record O)} (done : IsDone meaning limit plan first old mid now given) where
@@ -132,14 +131,14 @@ module _ {O : Type 0} {meaning : Bounds → Meaning O} {limit : ℕ} {plan : Pla
 
     -- what a crash leaves over a call that changes nothing
     pub still_moments : {next : Disk} → Stays mid next → old.tells_moments → IsSettled old → (p : Params) (w : World O) → IsToDo meaning plan first old p w → (n : ℕ) × TakesSome (meaning (bounds_of p)) p old next w (turns (meaning (bounds_of p)) limit n w)
-    still_moments {next} kept moments settled p w to =
+    still_moments {next} kept steps settled p w to =
         let m = meaning (bounds_of p) in
         let runs = done.part.objects.runs in
-        let told = runs.begins.telling moments in
+        let told = runs.begins.telling steps in
         let so = (done.shown told settled p w to).so_far in
         let v = run m w (turns m limit so.turned w) in
-        let before = done.moments moments settled p w to in
-        let still = stays_moments m p limit w mid next v (turns m limit 0 v) (runs.time.moments_told.0 moments) (settled_now settled) kept so.shown.files_show in
+        let before = done.steps steps settled p w to in
+        let still = stays_moments m p limit w mid next v (turns m limit 0 v) (runs.time.moments_told.0 steps) (settled_now settled) kept so.shown.files_show in
         join_moments m p limit w old mid next before.0 so.turned 0 (runs.said told) before.1 still
 
     -- such a call
@@ -149,26 +148,26 @@ module _ {O : Type 0} {meaning : Bounds → Meaning O} {limit : ℕ} {plan : Pla
         let read = part_fetch meaning Done (fetch_log {fault = ⊥} kept same (λ is. cc, λ none. absurd none)) (λ none. none, λ none. none) (λ stop is. cc) (λ none. absurd none) in
         record {
           part = part_twice done.part read;
-          above = subst (λ (it : Parts). All (λ n. n < reached 0 given) (numbers it.store.entries)) (sym parts) done.above;
+          above = subst (λ (it : Parts). All (λ n. n < reached 0 given) (numbers it.volatile.entries)) (sym parts) done.above;
           shown = λ told settled p w to.
               let left = done.shown told settled p w to in
               let told_mid = done.part.objects.runs.time.files_told.0 told in
               record {
                 later = left.later;
                 split = left.split;
-                so_far = subst (λ (f : Files). SoFar (meaning (bounds_of p)) p f after.parts.store limit w left.later) (sym (kept.reads told_mid))
-                    (subst (λ (it : Parts). SoFar (meaning (bounds_of p)) p mid.reads it.store limit w left.later) (sym parts) left.so_far);
+                so_far = subst (λ (f : Files). SoFar (meaning (bounds_of p)) p f after.parts.volatile limit w left.later) (sym (kept.reads told_mid))
+                    (subst (λ (it : Parts). SoFar (meaning (bounds_of p)) p mid.reads it.volatile limit w left.later) (sym parts) left.so_far);
               };
-          moments = still_moments kept;
+          steps = still_moments kept;
         }
 
     -- such a call finds too long a value in the slot of one of these objects
-    pub slot_fault : ((x : ℕ) → held first.parts.store.objects.cache x ≡ None) → {next : Disk} {after : SlotsView} {objects : List ℕ} {file : FileNo} {place : ℕ} → Stays mid next → after ≡ now.parts.store.objects.slots
-        → HasLongSlot next now.parts.store.objects.slots objects file place → IsSlotFault old next first.parts.store.objects.slots after file place
+    pub slot_fault : ((x : ℕ) → held first.parts.volatile.objects.cache x ≡ None) → {next : Disk} {after : SlotsView} {objects : List ℕ} {file : FileNo} {place : ℕ} → Stays mid next → after ≡ now.parts.volatile.objects.slots
+        → HasLongSlot next now.parts.volatile.objects.slots objects file place → IsSlotFault old next first.parts.volatile.objects.slots after file place
     slot_fault none {next} {after} {objects} {file} {place} kept same long = record {
       never = λ told is.
           let laid = part_laid done.part told (record { slots = is; clean = λ x e clean had. let h : None ≡ Some e = sym (none x) ∙ had in cc }) in
-          long_untold now.parts.store.objects.slots long.object file place kept (done.part.objects.runs.time.files_told.0 told) laid.slots long.slot;
+          long_untold now.parts.volatile.objects.slots long.object file place kept (done.part.objects.runs.time.files_told.0 told) laid.slots long.slot;
       params = ap (λ (s : SlotsView). s.params) same ∙ done.part.call.params;
       object = long.object;
       long = subst (λ (s : SlotsView). IsLongSlot next s long.object file place) (sym same) long.slot;
@@ -191,7 +190,7 @@ module _ {O : Type 0} {meaning : Bounds → Meaning O} {limit : ℕ} {plan : Pla
 
       -- the reader has given one more
       pub next_left : {reader : NumberedReaderView} {r : Record O} → reader.from ≡ plan.start → reader.records.bounds ≡ log.bounds → IsReadingNumbered (meaning reader.records.bounds) mid log reader (given ++ r ∷ [])
-          → IsLeftWith (meaning (bounds_of p)) p mid.reads now.parts.store limit w (numbered_from plan.start to.stable) given r
+          → IsLeftWith (meaning (bounds_of p)) p mid.reads now.parts.volatile limit w (numbered_from plan.start to.stable) given r
       next_left {reader} {r} from bounds reading =
           let m = meaning (bounds_of p) in
           let own = subst (λ (b : Bounds). IsReadingNumbered (meaning b) mid log reader (given ++ r ∷ [])) (bounds ∙ same_bounds) reading in
@@ -199,20 +198,20 @@ module _ {O : Type 0} {meaning : Bounds → Meaning O} {limit : ℕ} {plan : Pla
           let all : numbered_from plan.start to.stable ≡ (given ++ r ∷ []) ++ front.0 = ap (λ (n : ℕ). numbered_from n to.stable) (sym from) ∙ front.1 in
           let left = done.shown told settled p w to in
           let here : left.later ≡ r ∷ front.0 = append_cancel_left given left.later (r ∷ front.0) (sym left.split ∙ all ∙ append_assoc given (r ∷ []) front.0) in
-          record { rest = front.0; split = all; so_far = subst (λ (l : List (Record O)). SoFar m p mid.reads now.parts.store limit w l) here left.so_far }
+          record { rest = front.0; split = all; so_far = subst (λ (l : List (Record O)). SoFar m p mid.reads now.parts.volatile limit w l) here left.so_far }
 
       -- or it has given all, and the redo is over
       pub all_done : {from : ℕ} → from ≡ plan.start → AreAllNumbered (meaning log.bounds) mid log from given
           → ((n x : ℕ) → IsLive (at (meaning (bounds_of p)) limit w n) → ((at (meaning (bounds_of p)) limit w n).cache x).value ≡ state_after (meaning (bounds_of p)) (commands_of w.history) x)
-          → IsRedone (meaning (bounds_of p)) p mid.reads now.parts.store limit w
+          → IsRedone (meaning (bounds_of p)) p mid.reads now.parts.volatile limit w
       all_done {from} is ended_there map =
           let m = meaning (bounds_of p) in
           let own = subst (λ (b : Bounds). AreAllNumbered (meaning b) mid log from given) same_bounds ended_there in
           let all : numbered_from plan.start to.stable ≡ given = ap (λ (n : ℕ). numbered_from n to.stable) (sym is) ∙ given_all m codes mid log from given to.stable [] agree keeps own in
           let left = done.shown told settled p w to in
           let none : left.later ≡ [] = append_cancel_left given left.later [] (sym left.split ∙ all ∙ sym (append-nil given)) in
-          ended m limit w p mid.reads now.parts.store (λ n. ap (λ (f : ℕ → Bool). f n) (crashed-graph m w to.due.found.crashed)) map
-          (subst (λ (l : List (Record O)). SoFar m p mid.reads now.parts.store limit w l) none left.so_far)
+          ended m limit w p mid.reads now.parts.volatile (λ n. ap (λ (f : ℕ → Bool). f n) (crashed-graph m w to.due.found.crashed)) map
+          (subst (λ (l : List (Record O)). SoFar m p mid.reads now.parts.volatile limit w l) none left.so_far)
 
   -- what the next call of the reader gives
   module _ {mid : Disk} (next : Disk) {now : StoreView} {before : NumberedReaderView} (after : NumberedReaderView) (found : Option (Record O)) (is : IsDoing meaning limit plan first old mid now before)
@@ -233,7 +232,7 @@ module _ {O : Type 0} {meaning : Bounds → Meaning O} {limit : ℕ} {plan : Pla
 
   module _ {mid : Disk} {now : StoreView} {reader : NumberedReaderView} {given : List (Record O)} (r : Record O) (is : IsAt meaning limit plan first old mid now reader given (given ++ r ∷ [])) (used : ArePartsInUse first.parts) where
     -- it is of the grammar, and its number is above those before
-    pub next_in_grammar : IsRecord (meaning (bounds_of (params_of now))) r
+    pub next_in_grammar : IsRecord (meaning (bounds_of (store_params now))) r
     next_in_grammar = subst (λ (q : Params). IsRecord (meaning (bounds_of q)) r) (sym is.so_far.part.call.params)
         (subst (λ (b : Bounds). IsRecord (meaning b) r) (is.bounds ∙ used.bounds) (last_in_grammar (meaning reader.records.bounds) mid first.parts.log reader given r is.reading))
 
@@ -245,8 +244,8 @@ module _ {O : Type 0} {meaning : Bounds → Meaning O} {limit : ℕ} {plan : Pla
 
     -- The record is replayed.
     module _ {next : Disk} {after : StoreView} (replayed : IsReplay mid next now after (λ k. IsBelow k r) ⊥)
-        (shown : mid.tells_files → (p : Params) (w : World O) → IsSound (meaning (bounds_of p)) w → ShowsStore (meaning (bounds_of p)) p (mid.reads Objects) now.parts.store w → IsNextRecord w plan.table r
-        → ShowsStore (meaning (bounds_of p)) p (mid.reads Objects) after.parts.store (after_record (meaning (bounds_of p)) w r))
+        (shown : mid.tells_files → (p : Params) (w : World O) → IsSound (meaning (bounds_of p)) w → ShowsVolatile (meaning (bounds_of p)) p (mid.reads Objects) now.parts.volatile w → IsNextRecord w plan.table r
+        → ShowsVolatile (meaning (bounds_of p)) p (mid.reads Objects) after.parts.volatile (after_record (meaning (bounds_of p)) w r))
         (codes : (b : Bounds) → IsSmall b → HasCodes (meaning b))
         (sound : (b : Bounds) (w : World O) (limit n : ℕ) → IsSmall b → IsSound (meaning b) w → IsAllStable w → IsSound (meaning b) (run (meaning b) w (turns (meaning b) limit n w)))
         (unseen : (p : Params) (files : Files) (w : World O) (next : Step O) → IsSound (meaning (bounds_of p)) w → IsUnseen next → FilesShow (meaning (bounds_of p)) p files w → FilesShow (meaning (bounds_of p)) p files (step (meaning (bounds_of p)) w next)) where
@@ -256,9 +255,9 @@ module _ {O : Type 0} {meaning : Bounds → Meaning O} {limit : ℕ} {plan : Pla
       pub part_on : IsPart meaning old next first after Done
       part_on = part_twice is.so_far.part (part_replay meaning Done replayed (λ stop ends. cc) (λ none. absurd none))
 
-      above_on : All (λ n. n < reached 0 (given ++ r ∷ [])) (numbers after.parts.store.entries)
-      above_on = subst (λ (k : ℕ). All (λ n. n < k) (numbers after.parts.store.entries)) (sym (reached_more 0 given r))
-          (behind_above (reached 0 given) (next_of first) now.parts.store.entries after.parts.store.entries r is.so_far.above rising
+      above_on : All (λ n. n < reached 0 (given ++ r ∷ [])) (numbers after.parts.volatile.entries)
+      above_on = subst (λ (k : ℕ). All (λ n. n < k) (numbers after.parts.volatile.entries)) (sym (reached_more 0 given r))
+          (behind_above (reached 0 given) (next_of first) now.parts.volatile.entries after.parts.volatile.entries r is.so_far.above rising
           (λ k low all. replayed.set.entries k low (subst (λ (es : List Entry). All (λ n. n < k) (numbers es)) (sym replayed.read.entries) all)))
 
       sound_at : (p : Params) (w : World O) → IsToDo meaning plan first old p w → (n : ℕ) → IsSound (meaning (bounds_of p)) (at (meaning (bounds_of p)) limit w n)
@@ -266,7 +265,7 @@ module _ {O : Type 0} {meaning : Bounds → Meaning O} {limit : ℕ} {plan : Pla
           let found = to.due.found in
           sound (bounds_of p) w limit n (small_store p (old.reads Objects) found.shows.objects) found.sound (crashed-stable (meaning (bounds_of p)) w found.crashed found.sound)
 
-      next_on : old.tells_files → IsSettled old → (p : Params) (w : World O) → (to : IsToDo meaning plan first old p w) → IsOnWith (meaning (bounds_of p)) p next.reads after.parts.store limit w (all_of p w to) given r
+      next_on : old.tells_files → IsSettled old → (p : Params) (w : World O) → (to : IsToDo meaning plan first old p w) → IsOnWith (meaning (bounds_of p)) p next.reads after.parts.volatile limit w (all_of p w to) given r
       next_on told settled p w to =
           let m = meaning (bounds_of p) in
           let told_mid = is.so_far.part.objects.runs.time.files_told.0 told in
@@ -274,11 +273,11 @@ module _ {O : Type 0} {meaning : Bounds → Meaning O} {limit : ℕ} {plan : Pla
           let so = left.so_far in
           let v = at m limit w so.turned in
           let shows = shown told_mid p v (sound_at p w to so.turned) so.shown.store_shows (next_is m p limit w plan.table to.due.table so.turned r left.rest so.members) in
-          let on = on_record m p limit w mid.reads now.parts.store after.parts.store r left.rest so (unseen p mid.reads v Replay (sound_at p w to so.turned) tt so.shown.files_show) shows in
+          let on = on_record m p limit w mid.reads now.parts.volatile after.parts.volatile r left.rest so (unseen p mid.reads v Replay (sound_at p w to so.turned) tt so.shown.files_show) shows in
           record {
             rest = left.rest;
             split = left.split;
-            on = subst (λ (f : Files). IsOn m p limit w f after.parts.store left.rest) (sym (replayed.read.read.stays.reads told_mid)) on;
+            on = subst (λ (f : Files). IsOn m p limit w f after.parts.volatile left.rest) (sym (replayed.read.read.stays.reads told_mid)) on;
           }
 
       stable_at : (p : Params) (w : World O) → IsToDo meaning plan first old p w → (n : ℕ) → IsAllStable (at (meaning (bounds_of p)) limit w n)
@@ -286,29 +285,29 @@ module _ {O : Type 0} {meaning : Bounds → Meaning O} {limit : ℕ} {plan : Pla
           let m = meaning (bounds_of p) in
           kept_stable w (at m limit w n) (turns_kept m limit n w) (crashed-stable m w to.due.found.crashed to.due.found.sound)
 
-      shows_on : (told : old.tells_files) (settled : IsSettled old) (p : Params) (w : World O) (to : IsToDo meaning plan first old p w) → StoreShows (meaning (bounds_of p)) p next after.parts.store (at (meaning (bounds_of p)) limit w (next_on told settled p w to).on.turned)
+      shows_on : (told : old.tells_files) (settled : IsSettled old) (p : Params) (w : World O) (to : IsToDo meaning plan first old p w) → VolatileShows (meaning (bounds_of p)) p next after.parts.volatile (at (meaning (bounds_of p)) limit w (next_on told settled p w to).on.turned)
       shows_on told settled p w to =
           let m = meaning (bounds_of p) in
           let on = (next_on told settled p w to).on in
-          store_shows_now m p next after.parts.store (at m limit w on.turned) (part_on.objects.runs.time.files_told.0 told) (part_settled part_on settled)
+          store_shows_now m p next after.parts.volatile (at m limit w on.turned) (part_on.objects.runs.time.files_told.0 told) (part_settled part_on settled)
           (sound_at p w to on.turned) (stable_at p w to on.turned) on.shown.files_show on.shown.store_shows
 
       -- Thin nodes are installed after it.
       module _ {new : Disk}
-          (takes : next.tells_moments → (p : Params) (w : World O) → StoreShows (meaning (bounds_of p)) p next after.parts.store w → IsAllStable w
+          (takes : next.tells_moments → (p : Params) (w : World O) → VolatileShows (meaning (bounds_of p)) p next after.parts.volatile w → IsAllStable w
           → (turned : ℕ) × TakesSome (meaning (bounds_of p)) p next new w (turns (meaning (bounds_of p)) limit turned w)) where
         pub moments_on : old.tells_moments → IsSettled old → (p : Params) (w : World O) → IsToDo meaning plan first old p w → (n : ℕ) × TakesSome (meaning (bounds_of p)) p old new w (turns (meaning (bounds_of p)) limit n w)
-        moments_on moments settled p w to =
+        moments_on steps settled p w to =
             let m = meaning (bounds_of p) in
             let runs = part_on.objects.runs in
-            let told = runs.begins.telling moments in
+            let told = runs.begins.telling steps in
             let turned = (next_on told settled p w to).on.turned in
-            let still = still_moments is.so_far replayed.read.read.stays moments settled p w to in
-            let installs = takes (runs.time.moments_told.0 moments) p (at m limit w turned) (shows_on told settled p w to) (stable_at p w to turned) in
+            let still = still_moments is.so_far replayed.read.read.stays steps settled p w to in
+            let installs = takes (runs.time.moments_told.0 steps) p (at m limit w turned) (shows_on told settled p w to) (stable_at p w to turned) in
             join_moments m p limit w old next new still.0 turned installs.0 (runs.said told) still.1 installs.1
 
-        pub done_on : {last : StoreView} → IsPart meaning next new after last Done → ((k : ℕ) → All (λ n. n < k) (numbers after.parts.store.entries) → All (λ n. n < k) (numbers last.parts.store.entries))
-            → ((p : Params) (w : World O) → StoreShows (meaning (bounds_of p)) p next after.parts.store w → IsAllStable w → IsLimited (meaning (bounds_of p)) p new.reads last.parts.store limit w)
+        pub done_on : {last : StoreView} → IsPart meaning next new after last Done → ((k : ℕ) → All (λ n. n < k) (numbers after.parts.volatile.entries) → All (λ n. n < k) (numbers last.parts.volatile.entries))
+            → ((p : Params) (w : World O) → VolatileShows (meaning (bounds_of p)) p next after.parts.volatile w → IsAllStable w → IsLimited (meaning (bounds_of p)) p new.reads last.parts.volatile limit w)
             → IsDone meaning limit plan first old new last (given ++ r ∷ [])
         done_on {last} part entries limited = record {
           part = part_twice part_on part;
@@ -319,9 +318,9 @@ module _ {O : Type 0} {meaning : Bounds → Meaning O} {limit : ℕ} {plan : Pla
               record {
                 later = is.rest;
                 split = is.split;
-                so_far = limited_so_far m p limit w new.reads last.parts.store is.on.turned is.rest (limited p (at m limit w is.on.turned) (shows_on told settled p w to) (stable_at p w to is.on.turned)) is.on.members;
+                so_far = limited_so_far m p limit w new.reads last.parts.volatile is.on.turned is.rest (limited p (at m limit w is.on.turned) (shows_on told settled p w to) (stable_at p w to is.on.turned)) is.on.members;
               };
-          moments = moments_on;
+          steps = moments_on;
         }
 
     -- and the reader may go on when the objects have changed
@@ -330,27 +329,17 @@ module _ {O : Type 0} {meaning : Bounds → Meaning O} {limit : ℕ} {plan : Pla
         goes_on_beside (meaning reader.records.bounds) mid new first.parts.log reader (given ++ r ∷ [])
         (λ files agrees. let was = runs.agreed files agrees in (was.0, agreed_before kept was.0 was.1, was.2.others)) is.reading
 
--- why the log is not read
-pub log_fails : (rises rises' : Type 0) (fault fault' : FileNo → ℕ → Type 0) (e : LogErr) → (rises → rises') → ((file : FileNo) (place : ℕ) → fault file place → fault' file place)
-    → frames.FailsBy rises fault e → FailsBy rises' fault' (from_log e)
-log_fails rises rises' fault fault' of_log.DiskFault risen there fails = risen fails
-log_fails rises rises' fault fault' (of_log.LogFull used need limit) risen there fails = tt
-log_fails rises rises' fault fault' (of_log.Damaged file place) risen there fails = there file place fails
-log_fails rises rises' fault fault' (of_log.Exhausted epoch) risen there fails = tt
-log_fails rises rises' fault fault' of_log.Memory risen there fails = tt
-
 -- a call that fails as the log is read
-pub part_log : {O : Type 0} (T : Type 0) (meaning : Bounds → Meaning O) {old new : Disk} {before after : StoreView} (fault : FileNo → ℕ → Type 0) (why : LogErr) → Stays old new → after ≡ record before { broken = is_log_fault why }
-    → frames.FailsBy (Rises old.disk_faults new.disk_faults) fault why → IsPart meaning old new before after (ending_of_redo {T = T} (Err (from_log why)))
+pub part_log : {O : Type 0} (T : Type 0) (meaning : Bounds → Meaning O) {old new : Disk} {before after : StoreView} (fault : FileNo → ℕ → Type 0) (why : ReadErr) → Stays old new → after ≡ record before { broken = is_read_fault why }
+    → FailsBy (Rises old.disk_faults new.disk_faults) fault why → IsPart meaning old new before after (ending_of_read {T = T} (Err why))
 part_log T meaning {old} {new} fault why stays same fails =
-    let rises = Rises old.disk_faults new.disk_faults in
-    part_fetch meaning (ending_of_redo {T = T} (Err (from_log why))) (fetch_log {fault = is_log_fault why ≡ true} stays same (λ is. is, λ is. is)) (log_failed T why)
-    (never_stopped {T = T} (Err (from_log why))) (rises_of T rises fault (from_log why) (log_fails rises rises fault fault why (λ risen. risen) (λ file place there. there) fails))
+    part_fetch meaning (ending_of_read {T = T} (Err why)) (fetch_log {fault = is_read_fault why ≡ true} stays same (λ is. is, λ is. is)) (read_failed T why)
+    (never_stopped T why) (rises_of T (Rises old.disk_faults new.disk_faults) fault why fails)
 
 -- and one that fails as a thin node is installed
-pub part_thin : {O : Type 0} (S T : Type 0) {meaning : Bounds → Meaning O} {old new : Disk} {before after : StoreView} (why : ThinErr) → IsCall meaning old new before after 0 Never (ending_of_thin {T = S} (Err why)) → IsBeside old new before after
-    → IsPart meaning old new before after (ending_of_redo {T = T} (Err (from_installs why)))
+pub part_thin : {O : Type 0} (S T : Type 0) {meaning : Bounds → Meaning O} {old new : Disk} {before after : StoreView} (why : StoreErr) → IsCall meaning old new before after 0 Never (ending_of_store {T = S} (Err why)) → IsOnObjectsAlone old new before after
+    → IsPart meaning old new before after (ending_of_read {T = T} (Err (read_from_store why)))
 part_thin S T {meaning} {old} {new} {before} {after} why call beside = record {
-  call = subst (λ (e : Ending). IsCall meaning old new before after 0 Never e) (thin_ends S T why) call;
+  call = subst (λ (e : Ending). IsCall meaning old new before after 0 Never e) (store_ends S T why) call;
   objects = beside.objects;
 }

@@ -16,7 +16,7 @@ use Rattle.explain_core.specs.Turns.{has_work, must_install, thin_name, thin_ste
 use Rattle.explain_core.specs.World.{World, Step, run, end_of, IsLive, node_named}
 use Rattle.explain_core.specs.World.Step.{Slot_gate, Removal, Replay}
 use Rattle.standing.specs.Standing.{FilesShow}
-use Rattle.running_store.specs.Parts.{Store, ShowsStore}
+use Rattle.running_store.specs.Parts.{Volatile, ShowsVolatile}
 use Rattle.redo_pass.specs.Progress.{SoFar}
 use Rattle.redo_pass.specs.Redo.{IsRedone, redone_world}
 
@@ -37,7 +37,7 @@ module _ {O : Type 0} (m : Meaning O) (limit : ℕ) (w : World O) where
   turn_over : (v : World O) → must_install m limit v ≡ false → length v.history < v.next → turn m limit v ≡ []
   turn_over v enough live = cond-false (must_install m limit v) _ _ enough ∙ cond-false (nat_le v.next (length v.history)) _ _ (lt-leb v.next (length v.history) live)
 
-  pub ended : (p : Params) (files : Files) (it : Store) → ((n : ℕ) → w.graph n ≡ false) → ((n x : ℕ) → IsLive (at n) → ((at n).cache x).value ≡ state_after m (commands_of w.history) x)
+  pub ended : (p : Params) (files : Files) (it : Volatile) → ((n : ℕ) → w.graph n ≡ false) → ((n x : ℕ) → IsLive (at n) → ((at n).cache x).value ≡ state_after m (commands_of w.history) x)
       → SoFar m p files it limit w [] → IsRedone m p files it limit w
   ended p files it none map so_far =
       let a = so_far.turned in
@@ -45,7 +45,7 @@ module _ {O : Type 0} (m : Meaning O) (limit : ℕ) (w : World O) where
       let same : at a ≡ redone_world m limit w = all_turns a (2 * (end_of w - w.next)) (turn_over (at a) so_far.enough live) (redo_over m limit w none) in
       record {
         files_show = subst (λ (v : World O). FilesShow m p files v) same so_far.shown.files_show;
-        store_shows = subst (λ (v : World O). ShowsStore m p (files Objects) it v) same so_far.shown.store_shows;
+        store_shows = subst (λ (v : World O). ShowsVolatile m p (files Objects) it v) same so_far.shown.store_shows;
         live = subst IsLive same live;
         enough = ap (must_install m limit) (sym same) ∙ so_far.enough;
         map_is = λ x. ap (λ (v : World O). (v.cache x).value) (sym same) ∙ map a x live;

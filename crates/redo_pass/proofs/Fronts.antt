@@ -11,7 +11,7 @@ use Rattle.log_records.specs.Rewriting.{is_numbered_from, numbered_from}
 use Rattle.stable_objects.specs.SlotsView.{SlotsView}
 use Rattle.explain_core.specs.World.{World}
 use Rattle.analysis_pass.specs.Analysis.{PlanView}
-use Rattle.redo_pass.specs.Redo.{IsDue}
+use Rattle.redo_pass.specs.Redo.{IsRedoDue}
 use Rattle.redo_pass.specs.Rising.{AreMembers}
 use Rattle.redo_pass.proofs.Members.{members_numbered}
 
@@ -30,7 +30,7 @@ numbered_twice {O} from (r ∷ records) = elim (cases_Bool (is_numbered_from fro
 
 -- those that are due are the members of the world's history from the plan's start on
 pub due_members : {O : Type 0} (m : Meaning O) (p : Params) (files : Files) (slots : SlotsView) (plan : PlanView) (stable : List (Record O)) (w : World O)
-    → IsDue m p files slots plan (numbered_from plan.start stable) w → AreMembers w.history plan.start (numbered_from plan.start stable)
+    → IsRedoDue m p files slots plan (numbered_from plan.start stable) w → AreMembers w.history plan.start (numbered_from plan.start stable)
 due_members m p files slots plan stable w due =
     subst (λ (l : List (Record _)). AreMembers w.history plan.start l) (numbered_twice plan.start stable)
     (members_numbered plan.start w.history due.from (numbered_from plan.start stable) due.members (omega (arith, due.start, due.low)) (omega (arith, due.start, due.found.sound.next.1)))

@@ -17,7 +17,7 @@ use Rattle.explain_core.specs.World.{World, Step, step, run, end_of}
 use Rattle.explain_core.specs.World.Step.{Replay}
 use Rattle.standing.specs.Moments.{TakesSome, moments_longer}
 use Rattle.standing.specs.Standing.{FilesShow}
-use Rattle.running_store.specs.Parts.{Store, ShowsStore}
+use Rattle.running_store.specs.Parts.{Volatile, ShowsVolatile}
 use Rattle.redo_pass.specs.Progress.{HasTurned, SoFar, IsLimited}
 use Rattle.redo_pass.specs.Redo.{redo_steps}
 use Rattle.redo_pass.specs.Rising.{AreMembers}
@@ -36,17 +36,17 @@ module _ {O : Type 0} (m : Meaning O) (p : Params) (limit : ℕ) (w : World O) w
       let old : v.next ≤ length v.history = omega (arith, left, ap (λ (h : List (Member O)). length h) (turns_kept m limit turned w).history) in
       sym (run_replay m limit v enough old) ∙ sym (run_join m limit turned 1 w)
 
-  pub replay_turned : (files : Files) (after : Store) (turned : ℕ) → must_install m limit (at m limit w turned) ≡ false → (at m limit w turned).next ≤ length w.history
-      → FilesShow m p files (step m (at m limit w turned) Replay) → ShowsStore m p (files Objects) after (step m (at m limit w turned) Replay) → HasTurned m p files after limit w (turned + 1)
+  pub replay_turned : (files : Files) (after : Volatile) (turned : ℕ) → must_install m limit (at m limit w turned) ≡ false → (at m limit w turned).next ≤ length w.history
+      → FilesShow m p files (step m (at m limit w turned) Replay) → ShowsVolatile m p (files Objects) after (step m (at m limit w turned) Replay) → HasTurned m p files after limit w (turned + 1)
   replay_turned files after turned enough left files_show store_shows =
       let same = replay_on turned enough left in
       record {
         files_show = subst (λ (u : World O). FilesShow m p files u) same files_show;
-        store_shows = subst (λ (u : World O). ShowsStore m p (files Objects) after u) same store_shows;
+        store_shows = subst (λ (u : World O). ShowsVolatile m p (files Objects) after u) same store_shows;
       }
 
   -- nodes are installed after it, until none must be
-  pub limited_so_far : (files : Files) (it : Store) (turned : ℕ) (rest : List (Record O)) → IsLimited m p files it limit (at m limit w turned)
+  pub limited_so_far : (files : Files) (it : Volatile) (turned : ℕ) (rest : List (Record O)) → IsLimited m p files it limit (at m limit w turned)
       → AreMembers w.history (at m limit w turned).next rest → SoFar m p files it limit w rest
   limited_so_far files it turned rest is members =
       let more = is.limiting.turned in
@@ -55,7 +55,7 @@ module _ {O : Type 0} (m : Meaning O) (p : Params) (limit : ℕ) (w : World O) w
         turned = turned + more;
         shown = record {
           files_show = subst (λ (u : World O). FilesShow m p files u) same is.limiting.shown.files_show;
-          store_shows = subst (λ (u : World O). ShowsStore m p (files Objects) it u) same is.limiting.shown.store_shows;
+          store_shows = subst (λ (u : World O). ShowsVolatile m p (files Objects) it u) same is.limiting.shown.store_shows;
         };
         enough = ap (must_install m limit) (sym same) ∙ is.enough;
         members = subst (λ (k : ℕ). AreMembers w.history k rest) (sym is.limiting.next ∙ ap (λ (u : World O). u.next) same) members;

@@ -8,12 +8,13 @@ use Rattle.disk_model.specs.Moments.{stays_here}
 use Rattle.disk_model.specs.declared.machine.FileNo.TheVariants.{Objects}
 use Rattle.oper_core.specs.Meaning.{Meaning}
 use Rattle.oper_core.specs.declared.bounds.Bounds.{Bounds}
+use Rattle.formats.specs.declared.read_err.ReadErr.{ReadErr}
 use Rattle.install_order.specs.declared.entry.Entry.{Entry}
 use Rattle.log_records.specs.RecordLog.{RecordLogView}
 use Rattle.stable_objects.specs.SlotsView.{SlotsView}
 use Rattle.write_graph.specs.Graph.{numbers}
 use Rattle.running_store.specs.Beside.{IsOnObjects, objects_fetch, objects_twice}
-use Rattle.running_store.specs.Calls.{IsCall, IsFailed, Never, call_twice}
+use Rattle.running_store.specs.Calls.{IsCall, IsFailed, Never, call_twice, ending_of_read}
 use Rattle.running_store.specs.Courses.{Stop}
 use Rattle.running_store.specs.Entered.{IsEntry, IsNotEntered}
 use Rattle.running_store.specs.Fetched.{fetched-same}
@@ -23,17 +24,15 @@ use Rattle.running_store.specs.Laid.{IsLaidOn}
 use Rattle.running_store.specs.StoreView.{StoreView}
 use Rattle.running_store.specs.Taking.{Ending}
 use Rattle.running_store.specs.Taking.Ending.{Done, Stopped}
-use Rattle.redo_pass.specs.Causes.{ending_of_redo}
+use Rattle.redo_pass.specs.Endings.{as_error}
 use Rattle.redo_pass.specs.Replayed.{IsInMemory, IsReplay}
-use Rattle.redo_pass.specs.declared.redo_err.RedoErr.{RedoErr}
-use Rattle.redo_pass.proofs.Failing.{as_error}
 
 -- to read the log is to read no slot
 pub fetch_log : {old new : Disk} {before after : StoreView} {failed : Bool} {fault : Type 0} → Stays old new → after ≡ record before { broken = failed } → (failed ≡ true) ↔ fault → IsFetch old new before after fault
 fetch_log {old} {new} {before} {fault = fault} stays same so = subst (λ (s : StoreView). IsFetch old new before s fault) (sym same) (record {
   read = record {
     stays = stays;
-    fetched = fetched-same before.parts.store.objects before.parts.store.objects refl (λ x. refl) (λ x. refl);
+    fetched = fetched-same before.parts.volatile.objects before.parts.volatile.objects refl (λ x. refl) (λ x. refl);
     cells = λ told laid. ((λ x below. refl), laid);
   };
   log = refl;
@@ -59,8 +58,8 @@ module _ {within : ℕ → Type 0} where
     flag = is.flag;
     laid = is.laid;
     entries = λ k low all.
-        subst (λ (l : List ℕ). All (λ n. n < k) l) (sym (ap numbers is.entered.entries ∙ map-append (λ (f : Entry). f.number) before.parts.store.entries (e ∷ [])))
-        (All-append (λ n. n < k) (numbers before.parts.store.entries) (e.number ∷ []) all (All-cons (λ n. n < k) e.number [] (below k low) (All-nil (λ n. n < k))));
+        subst (λ (l : List ℕ). All (λ n. n < k) l) (sym (ap numbers is.entered.entries ∙ map-append (λ (f : Entry). f.number) before.parts.volatile.entries (e ∷ [])))
+        (All-append (λ n. n < k) (numbers before.parts.volatile.entries) (e.number ∷ []) all (All-cons (λ n. n < k) e.number [] (below k low) (All-nil (λ n. n < k))));
   }
 
   -- or is not, for want of memory
@@ -92,9 +91,9 @@ module _ {within : ℕ → Type 0} where
     replay_then fine none is then = record { here = here; read = fetch_as (λ fails. absurd (fine fails), λ fails. absurd (none fails)) is; set = then }
 
 -- a replay that fails by a call's error
-pub replay_error : {T : Type 0} {old new : Disk} {before after : StoreView} {within : ℕ → Type 0} (result : Result T RedoErr) (why : RedoErr) → IsErrAnd result (λ e. e ≡ why)
-    → IsReplay old new before after within (IsFailed (ending_of_redo {T = T} (Err why))) → IsReplay old new before after within (IsFailed (ending_of_redo result))
-replay_error {old = old} {new} {before} {after} {within} = as_error (λ r. IsReplay old new before after within (IsFailed (ending_of_redo r)))
+pub replay_error : {T : Type 0} {old new : Disk} {before after : StoreView} {within : ℕ → Type 0} (result : Result T ReadErr) (why : ReadErr) → IsErrAnd result (λ e. e ≡ why)
+    → IsReplay old new before after within (IsFailed (ending_of_read {T = T} (Err why))) → IsReplay old new before after within (IsFailed (ending_of_read result))
+replay_error {old = old} {new} {before} {after} {within} = as_error (λ r. IsReplay old new before after within (IsFailed (ending_of_read r)))
 
 -- A part of a redo, which may end it: a call in which nothing is logged, and which changes the objects alone.
 pub record IsPart {O : Type 0} (meaning : Bounds → Meaning O) (old new : Disk) (before after : StoreView) (ending : Ending) : Type 0 where
@@ -124,6 +123,7 @@ module _ {O : Type 0} (meaning : Bounds → Meaning O) {old new : Disk} {before 
           rising = omega (arith, call.rising, ap (λ (l : RecordLogView). l.next) set.log);
           identities = omega (arith, call.identities, set.identities);
           settled = call.settled;
+          kept = ⊎_elim (λ failed. inl failed) (λ kept. inr (λ told has. subst (λ (l : RecordLogView). HasLog (meaning l.bounds) new l) (sym set.log) (kept told has))) call.kept;
           attached = ⊎_elim (λ failed. inl failed) (λ kept. inr (λ at told.
               let now = kept at told in (set.laid (new.reads Objects) now.0, subst (λ (l : RecordLogView). HasLog (meaning l.bounds) new l) (sym set.log) now.1))) call.attached;
           stopped = none;
@@ -149,5 +149,5 @@ module _ {O : Type 0} {meaning : Bounds → Meaning O} {old mid : Disk} {before 
   pub part_settled : IsSettled old → IsSettled mid
   part_settled settled = ⊎_elim (λ failed. absurd failed) (λ kept. kept settled) part.call.settled
 
-  pub part_laid : old.tells_files → IsLaidOn before.parts.store.objects (old.reads Objects) → IsLaidOn here.parts.store.objects (mid.reads Objects)
+  pub part_laid : old.tells_files → IsLaidOn before.parts.volatile.objects (old.reads Objects) → IsLaidOn here.parts.volatile.objects (mid.reads Objects)
   part_laid told laid = ⊎_elim (λ set. absurd (part.call.broken.0 set)) (λ kept. kept told laid) part.objects.laid

@@ -1,4 +1,3 @@
-mod Plans
 mod Members
 mod Due
 mod Replays
@@ -9,7 +8,6 @@ mod Fronts
 mod Limits
 mod Loops
 mod Doing
-mod Small
 mod Dues
 mod Replaying
 mod Failing

@@ -16,7 +16,7 @@ use Rattle.stable_objects.specs.SlotsView.{SlotsView}
 use Rattle.dirty_cache.specs.Contents.{held}
 use Rattle.install_order.specs.declared.entry.Entry.{Entry}
 use Rattle.write_graph.specs.Graph.{numbers}
-use Rattle.checkpoint.specs.declared.table.Table.{Table}
+use Rattle.redo_tables.specs.declared.table.Table.{Table}
 use Rattle.explain_core.specs.CountLaws.{count_same, count_none}
 use Rattle.explain_core.specs.History.{Member, numbered}
 use Rattle.explain_core.specs.KeptLog.{run_zero, turns_kept}
@@ -30,10 +30,10 @@ use Rattle.standing.specs.Members.{table_of}
 use Rattle.standing.specs.Moments.{ShowsSome, TakesSome, moments_none}
 use Rattle.standing.specs.Standing.{FilesShow}
 use Rattle.analysis_pass.specs.Analysis.{PlanView}
-use Rattle.running_store.specs.Parts.{Store, ShowsStore}
+use Rattle.running_store.specs.Parts.{Volatile, ShowsVolatile}
 use Rattle.running_store.specs.StoreView.{StoreView, next_of}
 use Rattle.redo_pass.specs.Progress.{HasTurned, SoFar, IsAbove}
-use Rattle.redo_pass.specs.Redo.{IsDue}
+use Rattle.redo_pass.specs.Redo.{IsRedoDue}
 use Rattle.redo_pass.specs.Replayed.{IsNextRecord, after_record}
 use Rattle.redo_pass.specs.Rising.{AreMembers, IsBelow}
 use Rattle.redo_pass.proofs.Begins.{empty_shows}
@@ -42,7 +42,7 @@ use Rattle.redo_pass.proofs.Fronts.{behind}
 use Rattle.redo_pass.proofs.Goes.{numbered_within, replay_on, replay_turned}
 
 -- a record's number is above all in the graph
-pub is_above : {O : Type 0} (low : ℕ) (it : StoreView) (r : Record O) → All (λ n. n < low) (numbers it.parts.store.entries) → Rise low (next_of it) (r ∷ []) → IsAbove it r
+pub is_above : {O : Type 0} (low : ℕ) (it : StoreView) (r : Record O) → All (λ n. n < low) (numbers it.parts.volatile.entries) → Rise low (next_of it) (r ∷ []) → IsAbove it r
 is_above low it (Command number op) all rise = (λ k d within. omega (arith, all k d within, rise.0), rise.1)
 is_above low it (Identity number x value) all rise = (λ k d within. omega (arith, all k d within, rise.0), rise.1)
 is_above low it (Check t) all rise = tt
@@ -56,7 +56,7 @@ behind_above low end before after (Check t) all rise goes = goes low tt all
 
 module _ {O : Type 0} (m : Meaning O) (p : Params) (limit : ℕ) (w : World O) where
   -- no record is replayed yet
-  pub begun : (files : Files) (slots : SlotsView) (plan : PlanView) (records : List (Record O)) (it : Store) → IsDue m p files slots plan records w
+  pub begun : (files : Files) (slots : SlotsView) (plan : PlanView) (records : List (Record O)) (it : Volatile) → IsRedoDue m p files slots plan records w
       → it.objects.slots ≡ slots → ((x : ℕ) → held it.objects.cache x ≡ None) → it.entries ≡ [] → AreMembers w.history plan.start records → SoFar m p files it limit w records
   begun files slots plan records it due same none empty members =
       let here = run_zero m limit w in
@@ -67,7 +67,7 @@ module _ {O : Type 0} (m : Meaning O) (p : Params) (limit : ℕ) (w : World O) w
         turned = 0;
         shown = record {
           files_show = subst (λ (v : World O). FilesShow m p files v) here due.found.shows;
-          store_shows = subst (λ (v : World O). ShowsStore m p (files Objects) it v) here (empty_shows m p files slots plan records w due it same none empty);
+          store_shows = subst (λ (v : World O). ShowsVolatile m p (files Objects) it v) here (empty_shows m p files slots plan records w due it same none empty);
         };
         enough = ap (must_install m limit) (sym here) ∙ enough;
         members = subst (λ (k : ℕ). AreMembers w.history k records) (due.start ∙ ap (λ (v : World O). v.next) here) members;
@@ -84,7 +84,7 @@ module _ {O : Type 0} (m : Meaning O) (p : Params) (limit : ℕ) (w : World O) w
   next_is table plan n (Check t) rest are = tt
 
   -- so far, after some turns, and before nodes are installed
-  pub record IsOn (files : Files) (it : Store) (rest : List (Record O)) : Type 0 where
+  pub record IsOn (files : Files) (it : Volatile) (rest : List (Record O)) : Type 0 where
     pub turned : ℕ
     pub shown : HasTurned m p files it limit w turned
     pub members : AreMembers w.history (at m limit w turned).next rest
@@ -93,8 +93,8 @@ module _ {O : Type 0} (m : Meaning O) (p : Params) (limit : ℕ) (w : World O) w
   unfolding step
   next_number v = refl
 
-  member_on : (files : Files) (after : Store) (n : ℕ) (member : Member O) (rest : List (Record O)) → must_install m limit (at m limit w n) ≡ false → numbered w.history (at m limit w n).next ≡ Some member
-      → AreMembers w.history ((at m limit w n).next + 1) rest → FilesShow m p files (step m (at m limit w n) Replay) → ShowsStore m p (files Objects) after (step m (at m limit w n) Replay) → IsOn files after rest
+  member_on : (files : Files) (after : Volatile) (n : ℕ) (member : Member O) (rest : List (Record O)) → must_install m limit (at m limit w n) ≡ false → numbered w.history (at m limit w n).next ≡ Some member
+      → AreMembers w.history ((at m limit w n).next + 1) rest → FilesShow m p files (step m (at m limit w n) Replay) → ShowsVolatile m p (files Objects) after (step m (at m limit w n) Replay) → IsOn files after rest
   member_on files after n member rest enough is left files_show store_shows =
       let v = at m limit w n in
       let within = numbered_within w.history v.next member is in
@@ -105,17 +105,17 @@ module _ {O : Type 0} (m : Meaning O) (p : Params) (limit : ℕ) (w : World O) w
       }
 
   -- one record more was replayed
-  pub on_record : (files : Files) (it after : Store) (r : Record O) (rest : List (Record O)) (so : SoFar m p files it limit w (r ∷ rest)) → FilesShow m p files (step m (at m limit w so.turned) Replay)
-      → ShowsStore m p (files Objects) after (after_record m (at m limit w so.turned) r) → IsOn files after rest
+  pub on_record : (files : Files) (it after : Volatile) (r : Record O) (rest : List (Record O)) (so : SoFar m p files it limit w (r ∷ rest)) → FilesShow m p files (step m (at m limit w so.turned) Replay)
+      → ShowsVolatile m p (files Objects) after (after_record m (at m limit w so.turned) r) → IsOn files after rest
   on_record files it after (Command number op) rest so files_show store_shows = member_on files after so.turned _ rest so.enough so.members.1 so.members.2 files_show store_shows
   on_record files it after (Identity number x value) rest so files_show store_shows = member_on files after so.turned _ rest so.enough so.members.1 so.members.2 files_show store_shows
   on_record files it after (Check t) rest so files_show store_shows = record { turned = so.turned; shown = record { files_show = so.shown.files_show; store_shows = store_shows }; members = so.members }
 
   -- a call that changes nothing
   pub stays_moments : (mid new : Disk) (v : World O) (steps : List (Step O)) → mid.tells_moments → IsSettled mid → Stays mid new → FilesShow m p mid.reads v → TakesSome m p mid new v steps
-  stays_moments mid new v steps moments settled stays shows =
-      moments_none m p mid new v steps (first_call mid new _ moments stays.time (λ c s left.
-      let is = from_reads mid new Same Same moments settled stays.crash c s left in
+  stays_moments mid new v steps told settled stays shows =
+      moments_none m p mid new v steps (first_call mid new _ told stays.time (λ c s left.
+      let is = from_reads mid new Same Same told settled stays.crash c s left in
       record { silent = is.1; holds = subst (λ (f : Files). FilesShow m p f v) (sym is.0) shows }))
 
   -- two parts of a redo, of some turns each

@@ -1,14 +1,14 @@
 -- What the replay of a member enters in a store that shows a world.
 use Rattle.std.proofs.Common.{◌≡◌, ◌∙◌, sym, subst, ap, ℕ, ◌<◌, ◌≤◌, ◌&&◌, ◌||◌, ◌==◌, nat_lt, nat_le, if◌then◌else◌, Bool, true, false, List, [], ◌∷◌, length, map, refl, arith, inl, inr, Option, Some, None}
 use Rattle.std.specs.Prelude.{All}
-use Rattle.std.proofs.lemmas.Bool.{cases_Bool, both_ways, and_parts, ltb-true, cond-true, cond-false, eq-eqb, or_cases, eqb-true, false_from_ne_true}
+use Rattle.std.proofs.lemmas.Bool.{cases_Bool, both_ways, and_parts, ltb-true, cond-true, cond-false, eq-eqb, eqb-true, false_from_ne_true}
 use Rattle.std.proofs.lemmas.List.Elements.{All-head, All-tail}
 use Rattle.std.proofs.lemmas.Map.Views.{All-from_any}
 use Rattle.std.specs.Cmp.{nat_eq_equiv}
 use Rattle.oper_core.specs.Meaning.{Meaning}
 use Rattle.oper_core.specs.State.{is_among, value_for}
-use Rattle.checkpoint.specs.declared.table.Table.{Table}
-use Rattle.checkpoint.specs.RedoStarts.{redo_from}
+use Rattle.redo_tables.specs.declared.table.Table.{Table}
+use Rattle.redo_tables.specs.RedoStarts.{redo_from}
 use Rattle.formats.specs.declared.params.Params.{Params}
 use Rattle.stable_objects.specs.SlotsView.{id_in}
 use Rattle.dirty_cache.specs.Contents.{held, is_dirty}
@@ -20,22 +20,15 @@ use Rattle.explain_core.specs.History.{Member, numbered, reads_of, writes_of, ef
 use Rattle.explain_core.specs.Sound.{IsSound}
 use Rattle.explain_core.specs.World.{World, step, is_redone, plan_of}
 use Rattle.explain_core.specs.World.Step.{Replay}
+use Rattle.running_store.specs.Among.{all_among, slot_most}
 use Rattle.running_store.specs.Entered.{IsEntered}
 use Rattle.running_store.specs.Fetched.{IsFetched, fetched-shows}
 use Rattle.running_store.specs.Joins.{cell_shown}
 use Rattle.running_store.specs.Laid.{Laid, IsLaidOn, KeepsCells, id_at, lsn_or, values_in}
-use Rattle.running_store.specs.Parts.{Store, ShowsStore, AreInUse, entry_of, store}
+use Rattle.running_store.specs.Parts.{Volatile, ShowsVolatile, AreInUse, entry_of, volatile}
 use Rattle.redo_pass.specs.Replayed.{IsNext, is_due, with_entry}
 use Rattle.redo_pass.proofs.Begins.{due_shown}
 use Rattle.redo_pass.proofs.Replays.{store_replayed}
-
--- an object that is among some that have a property has it
-pub among_all : (P : ℕ → Type 0) (xs : List ℕ) (x : ℕ) → All P xs → is_among x xs ≡ true → P x
-among_all P [] x all there = absurd (both_ways _ refl there)
-among_all P (y ∷ xs) x all there = elim (or_cases (x == y) (is_among x xs) there) [
-  | inl here ↦ subst P (sym (eqb-true x y here)) (All-head P y xs all)
-  | inr later ↦ among_all P xs x (All-tail P y xs all) later
-]
 
 map_same : (f g : ℕ → List ℕ) (n : ℕ) (xs : List ℕ) → ((x : ℕ) → x < n → f x ≡ g x) → All (λ x. x < n) xs → map f xs ≡ map g xs
 map_same f g n [] same all = refl
@@ -49,26 +42,15 @@ and_cases : (d a : Bool) → (d ≡ true → a ≡ true) → (d && a) ≡ d
 and_cases true a there = there refl
 and_cases false a there = refl
 
-module _ (due : List ℕ) (e : Entry) (made : List (List ℕ)) (before after : Store) (is : IsEntered before after due e made) (writes : (x : ℕ) → is_among x due ≡ true → is_among x e.writes ≡ true) where
+module _ (due : List ℕ) (e : Entry) (made : List (List ℕ)) (before after : Volatile) (is : IsEntered before after due e made) (writes : (x : ℕ) → is_among x due ≡ true → is_among x e.writes ≡ true) where
   held_is : (x : ℕ) → held after.objects.cache x ≡ (if is_among x due then Some (record { lsn = e.number; bytes = value_for x e.writes made }) else held before.objects.cache x)
   held_is x = is.held x ∙ set_cases (is_among x due) (is_among x e.writes) (Some (record { lsn = e.number; bytes = value_for x e.writes made })) (held before.objects.cache x) (writes x)
 
   dirty_is : (x : ℕ) → is_dirty after.objects.cache x ≡ (is_among x due || is_dirty before.objects.cache x)
   dirty_is x = is.dirty x ∙ ap (λ (b : Bool). b || is_dirty before.objects.cache x) (and_cases (is_among x due) (is_among x e.writes) (writes x))
 
--- the identifier of a slot is not above that of its object
-slot_most : (p : Params) (next : ℕ) (it : Store) (x : ℕ) → AreInUse p next it → id_in it.objects.slots x ≤ id_at it.objects x
-slot_most p next it x used = by_entry (held it.objects.cache x) refl
-  where
-    by_entry : (o : Option Pair) → held it.objects.cache x ≡ o → id_in it.objects.slots x ≤ id_at it.objects x
-    by_entry None none = omega (arith, ap (λ (h : Option Pair). lsn_or h (id_in it.objects.slots x)) none)
-    by_entry (Some pair) had = elim (cases_Bool (is_dirty it.objects.cache x)) [
-      | inl dirty ↦ omega (arith, (used.dirty x pair dirty had).0, ap (λ (h : Option Pair). lsn_or h (id_in it.objects.slots x)) had)
-      | inr clean ↦ omega (arith, used.clean x pair clean had, ap (λ (h : Option Pair). lsn_or h (id_in it.objects.slots x)) had)
-    ]
-
 -- reading slots raises no identifier
-pub read_ids : (p : Params) (next : ℕ) (it : Store) (after : Laid) (x : ℕ) → AreInUse p next it → IsFetched it.objects after → id_at after x ≤ id_at it.objects x
+pub read_ids : (p : Params) (next : ℕ) (it : Volatile) (after : Laid) (x : ℕ) → AreInUse p next it → IsFetched it.objects after → id_at after x ≤ id_at it.objects x
 read_ids p next it after x used is = by_entry (held after.cache x) refl
   where
     low : id_in it.objects.slots x ≤ id_at it.objects x
@@ -95,14 +77,14 @@ pub due_later : (table : Table) (it after : Laid) (n : ℕ) (writes due : List �
 due_later table it after n writes due dues ids =
     All-from_any nat_eq_equiv (λ x. id_at after x < n) due (λ x there. let low = (due_parts table it n writes x (sym (dues x) ∙ there)).1 in let here = ids x in omega (arith, low, here))
 
-module _ {O : Type 0} (m : Meaning O) (p : Params) (file : List ℕ) (before : Store) (w : World O) (table : Table) (n : ℕ) (member : Member O) (due : List ℕ)
-    (sound : IsSound m w) (shows : ShowsStore m p file before w) (next : IsNext w table n member) (bounds : m.objects ≡ p.objects) (writes : All (λ x. x < p.objects) (writes_of m member))
+module _ {O : Type 0} (m : Meaning O) (p : Params) (file : List ℕ) (before : Volatile) (w : World O) (table : Table) (n : ℕ) (member : Member O) (due : List ℕ)
+    (sound : IsSound m w) (shows : ShowsVolatile m p file before w) (next : IsNext w table n member) (bounds : m.objects ≡ p.objects) (writes : All (λ x. x < p.objects) (writes_of m member))
     (dues : (x : ℕ) → is_among x due ≡ is_due table before.objects n (writes_of m member) x) where
   member_is : numbered w.history w.next ≡ Some member
   member_is = ap (numbered w.history) (sym next.here) ∙ next.member_is
 
   there : (x : ℕ) → is_among x (writes_of m member) ≡ true → x < p.objects
-  there x = among_all (λ y. y < p.objects) (writes_of m member) x writes
+  there x = all_among (λ y. y < p.objects) (writes_of m member) x writes
 
   -- what is due is what the world's replay sets
   set_is : (x : ℕ) → is_among x due ≡ is_redone m w x
@@ -114,7 +96,7 @@ module _ {O : Type 0} (m : Meaning O) (p : Params) (file : List ℕ) (before : S
   ]
 
   -- where nothing is due the store shows the world after the replay as it is
-  pub none_entered : due ≡ [] → ShowsStore m p file before (step m w Replay)
+  pub none_entered : due ≡ [] → ShowsVolatile m p file before (step m w Replay)
   none_entered none =
       let left : (x : ℕ) → is_redone m w x ≡ false = λ x. sym (set_is x) ∙ ap (is_among x) none in
       let unset : some_below m.objects (is_redone m w) ≡ false = false_from_ne_true _ (λ some. let k = some-gives m.objects (is_redone m w) some in both_ways _ (left k.0) k.2) in
@@ -126,10 +108,10 @@ module _ {O : Type 0} (m : Meaning O) (p : Params) (file : List ℕ) (before : S
         entries = sym (ap (λ (b : Bool). with_entry b before.entries (entry_of m w.next member)) unset);
       }) member_is refl there
 
-  module _ (mid : Laid) (after : Store) (made : List (List ℕ)) (fetched : IsFetched before.objects mid) (keeps : KeepsCells file before.objects mid) (laid : IsLaidOn mid file) (reads : All (λ x. x < p.objects) (reads_of m member))
-      (e : Entry) (e_is : e ≡ entry_of m n member) (is : IsEntered (store mid before.entries) after due e made) (values : made ≡ effect_of m member (map (values_in before.objects file) (reads_of m member))) (some : 0 < length due) where
-    is_here : IsEntered (store mid before.entries) after due (entry_of m w.next member) made
-    is_here = subst (λ (f : Entry). IsEntered (store mid before.entries) after due f made) (e_is ∙ ap (λ (k : ℕ). entry_of m k member) next.here) is
+  module _ (mid : Laid) (after : Volatile) (made : List (List ℕ)) (fetched : IsFetched before.objects mid) (keeps : KeepsCells file before.objects mid) (laid : IsLaidOn mid file) (reads : All (λ x. x < p.objects) (reads_of m member))
+      (e : Entry) (e_is : e ≡ entry_of m n member) (is : IsEntered (volatile mid before.entries) after due e made) (values : made ≡ effect_of m member (map (values_in before.objects file) (reads_of m member))) (some : 0 < length due) where
+    is_here : IsEntered (volatile mid before.entries) after due (entry_of m w.next member) made
+    is_here = subst (λ (f : Entry). IsEntered (volatile mid before.entries) after due f made) (e_is ∙ ap (λ (k : ℕ). entry_of m k member) next.here) is
 
     in_writes : (x : ℕ) → is_among x due ≡ true → is_among x (writes_of m member) ≡ true
     in_writes x is_in = (due_parts table before.objects n (writes_of m member) x (sym (dues x) ∙ is_in)).0
@@ -142,15 +124,15 @@ module _ {O : Type 0} (m : Meaning O) (p : Params) (file : List ℕ) (before : S
     first (x ∷ xs) some = (x, ap (λ (b : Bool). b || is_among x xs) (eq-eqb x x refl))
 
     -- and where something is due, the store with it entered
-    pub some_entered : ShowsStore m p file after (step m w Replay)
+    pub some_entered : ShowsVolatile m p file after (step m w Replay)
     some_entered =
         let one = first due some in
         let found : some_below m.objects (is_redone m w) ≡ true = some-from m.objects (is_redone m w) one.0 (omega (arith, there one.0 (in_writes one.0 one.1), bounds)) (sym (set_is one.0) ∙ one.1) in
-        store_replayed m p file (store mid before.entries) after w member made sound (fetched-shows m p file before mid w shows fetched keeps laid) (record {
+        store_replayed m p file (volatile mid before.entries) after w member made sound (fetched-shows m p file before mid w shows fetched keeps laid) (record {
           slots = is.slots;
-          held = λ x. held_is due (entry_of m w.next member) made (store mid before.entries) after is_here in_writes x
+          held = λ x. held_is due (entry_of m w.next member) made (volatile mid before.entries) after is_here in_writes x
               ∙ ap (λ (b : Bool). if b then Some (record { lsn = w.next; bytes = value_for x (writes_of m member) made }) else held mid.cache x) (set_is x);
-          dirty = λ x. dirty_is due (entry_of m w.next member) made (store mid before.entries) after is_here in_writes x ∙ ap (λ (b : Bool). b || is_dirty mid.cache x) (set_is x);
+          dirty = λ x. dirty_is due (entry_of m w.next member) made (volatile mid before.entries) after is_here in_writes x ∙ ap (λ (b : Bool). b || is_dirty mid.cache x) (set_is x);
           entries = is_here.entries ∙ sym (ap (λ (b : Bool). with_entry b before.entries (entry_of m w.next member)) found);
         }) member_is (values ∙ ap (effect_of m member) read) there
 

@@ -27,7 +27,7 @@ use Rattle.explain_core.specs.World.Step.{Replay}
 use Rattle.standing.specs.Standing.{stored}
 use Rattle.running_store.specs.Laid.{cell_or}
 use Rattle.running_store.specs.Courses.{is_identity_at, is_identity_some}
-use Rattle.running_store.specs.Parts.{Store, ShowsStore, entry_of, is_identity}
+use Rattle.running_store.specs.Parts.{Volatile, ShowsVolatile, entry_of, is_identity}
 use Rattle.redo_pass.specs.Replayed.{IsReplayed, with_entry}
 
 joined : (p q g old a b : Bool) → p ≡ true → q ≡ true → g ≡ false → old ≡ (g && a) → a ≡ b → (old || ((p && b) || false)) ≡ (((q && true) || g) && a)
@@ -92,7 +92,7 @@ module _ {O : Type 0} (m : Meaning O) (w : World O) (entries : List Entry) (memb
       of_member (Identity x value) = refl
   identities_after known false n = unjoined (n == w.next) (w.graph n) (list_any (λ e. (e.number == n) && e.identity) entries) (is_identity_at w.history n) (known n)
 
-module _ {O : Type 0} (m : Meaning O) (p : Params) (file : List ℕ) (before after : Store) (w : World O) (member : Member O) (made : List (List ℕ)) (sound : IsSound m w) (shows : ShowsStore m p file before w) (it : IsReplayed m w member made before after)
+module _ {O : Type 0} (m : Meaning O) (p : Params) (file : List ℕ) (before after : Volatile) (w : World O) (member : Member O) (made : List (List ℕ)) (sound : IsSound m w) (shows : ShowsVolatile m p file before w) (it : IsReplayed m w member made before after)
     (member_is : numbered w.history w.next ≡ Some member) (values : made ≡ effect_of m member (map (λ (x : ℕ). (w.cache x).value) (reads_of m member))) (there : (x : ℕ) → is_among x (writes_of m member) ≡ true → x < p.objects) where
   -- an object that is set is one that the member writes, and its identifiers are older
   set_writes : (x : ℕ) → is_redone m w x ≡ true → is_among x (writes_of m member) ≡ true
@@ -135,7 +135,7 @@ module _ {O : Type 0} (m : Meaning O) (p : Params) (file : List ℕ) (before aft
   dirty_left : (y : ℕ) → is_redone m w y ≡ false → is_dirty after.objects.cache y ≡ is_dirty before.objects.cache y
   dirty_left y left = it.dirty y ∙ ap (λ (b : Bool). b || is_dirty before.objects.cache y) left
 
-  pub store_replayed : ShowsStore m p file after (step m w Replay)
+  pub store_replayed : ShowsVolatile m p file after (step m w Replay)
   unfolding step
   store_replayed = record {
     params = ap (λ s. s.params) it.slots ∙ shows.params;

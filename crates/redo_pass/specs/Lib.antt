@@ -1,4 +1,5 @@
 pub mod Causes
+pub mod Endings
 pub mod Rising
 pub mod Redo
 pub mod Replayed

@@ -14,13 +14,13 @@ use Rattle.explain_core.specs.World.{World, Step, run, end_of, plan_of, IsLive}
 use Rattle.standing.specs.Members.{table_of}
 use Rattle.standing.specs.Standing.{FilesShow, IsFound}
 use Rattle.analysis_pass.specs.Analysis.{PlanView}
-use Rattle.running_store.specs.Parts.{Store, ShowsStore}
+use Rattle.running_store.specs.Parts.{Volatile, ShowsVolatile}
 use Rattle.redo_pass.specs.Rising.{AreMembers}
 
 -- The world is the one that a restart finds in the files: they show it, it is sound, and it is as a crash leaves it. The
 -- slots are those of the objects file, the records are the world's members from a number on that is not above the next to
 -- replay, and the plan says what the last of the world's checks says, and starts at the next to replay.
-pub record IsDue {O : Type 0} (m : Meaning O) (p : Params) (files : Files) (slots : SlotsView) (plan : PlanView) (records : List (Record O)) (w : World O) : Type 0 where
+pub record IsRedoDue {O : Type 0} (m : Meaning O) (p : Params) (files : Files) (slots : SlotsView) (plan : PlanView) (records : List (Record O)) (w : World O) : Type 0 where
   pub found : IsFound m p files (commands_of w.history) w
   pub params : slots.params ≡ p
   pub of_file : AreOf slots (files Objects)
@@ -34,7 +34,7 @@ pub record IsDue {O : Type 0} (m : Meaning O) (p : Params) (files : Files) (slot
 pub record IsLogDue {O : Type 0} (m : Meaning O) (p : Params) (d : Disk) (log : RecordLogView) (slots : SlotsView) (plan : PlanView) (w : World O) : Type 0 where
   pub stable : List (Record O)
   pub keeps : Keeps m d log stable []
-  pub due : IsDue m p d.reads slots plan (numbered_from plan.start stable) w
+  pub due : IsRedoDue m p d.reads slots plan (numbered_from plan.start stable) w
 
 -- the steps of a whole redo: all its turns, of which there are at most twice as many as members are left to replay
 abbrev pub redo_steps : {O : Type 0} → Meaning O → ℕ → World O → List (Step O)
@@ -46,9 +46,9 @@ redone_world m limit w = run m w (redo_steps m limit w)
 
 -- The redo of this world is over. Files and store show the world after all its steps: nothing is left to replay, at most
 -- so many objects are dirty or no node is thin, and the cache is the state after the commands.
-pub record IsRedone {O : Type 0} (m : Meaning O) (p : Params) (files : Files) (it : Store) (limit : ℕ) (w : World O) : Type 0 where
+pub record IsRedone {O : Type 0} (m : Meaning O) (p : Params) (files : Files) (it : Volatile) (limit : ℕ) (w : World O) : Type 0 where
   pub files_show : FilesShow m p files (redone_world m limit w)
-  pub store_shows : ShowsStore m p (files Objects) it (redone_world m limit w)
+  pub store_shows : ShowsVolatile m p (files Objects) it (redone_world m limit w)
   pub live : IsLive (redone_world m limit w)
   pub enough : must_install m limit (redone_world m limit w) ≡ false
   pub map_is : (x : ℕ) → ((redone_world m limit w).cache x).value ≡ state_after m (commands_of w.history) x

@@ -3,8 +3,8 @@ use Rattle.std.specs.Prelude.{◌≡◌, ◌<◌, ◌&&◌, ◌||◌, ⊤, ℕ, 
 use Rattle.disk_model.specs.Disk.{Disk}
 use Rattle.oper_core.specs.Meaning.{Meaning}
 use Rattle.oper_core.specs.State.{is_among, value_for}
-use Rattle.checkpoint.specs.RedoStarts.{redo_from}
-use Rattle.checkpoint.specs.declared.table.Table.{Table}
+use Rattle.redo_tables.specs.RedoStarts.{redo_from}
+use Rattle.redo_tables.specs.declared.table.Table.{Table}
 use Rattle.formats.specs.declared.record.Record.{Record}
 use Rattle.formats.specs.declared.record.Record.TheVariants.{Command, Identity, Check}
 use Rattle.dirty_cache.specs.Contents.{held, is_dirty}
@@ -18,7 +18,7 @@ use Rattle.explain_core.specs.World.Step.{Replay}
 use Rattle.standing.specs.Members.{table_of}
 use Rattle.running_store.specs.Fetches.{IsFetch}
 use Rattle.running_store.specs.Laid.{IsLaidOn, Laid, id_at}
-use Rattle.running_store.specs.Parts.{Store, entry_of}
+use Rattle.running_store.specs.Parts.{Volatile, entry_of}
 use Rattle.running_store.specs.StoreView.{StoreView}
 
 -- the objects that a record reads: those that its command reads, or none
@@ -39,7 +39,7 @@ with_entry false entries e = entries
 
 -- The member that is next in the world is replayed: exactly the objects that the world's replay sets are cached under its
 -- number, with the values made, and they are dirty; the graph has an entry of it exactly where there are such objects.
-pub record IsReplayed {O : Type 0} (m : Meaning O) (w : World O) (it : Member O) (made : List (List ℕ)) (before after : Store) : Type 0 where
+pub record IsReplayed {O : Type 0} (m : Meaning O) (w : World O) (it : Member O) (made : List (List ℕ)) (before after : Volatile) : Type 0 where
   pub slots : after.objects.slots ≡ before.objects.slots
   pub held : (x : ℕ) → held after.objects.cache x
       ≡ (if is_redone m w x then Some (record { lsn = w.next; bytes = value_for x (writes_of m it) made }) else held before.objects.cache x)
@@ -49,12 +49,12 @@ pub record IsReplayed {O : Type 0} (m : Meaning O) (w : World O) (it : Member O)
 -- Objects were set in memory by a record whose number is below each of these, or none were: the slots and the log stay, and what is
 -- laid on a file is so still.
 pub record IsInMemory (before after : StoreView) (within : ℕ → Type 0) : Type 0 where
-  pub slots : after.parts.store.objects.slots ≡ before.parts.store.objects.slots
+  pub slots : after.parts.volatile.objects.slots ≡ before.parts.volatile.objects.slots
   pub log : after.parts.log ≡ before.parts.log
   pub identities : after.identities ≡ before.identities
   pub flag : after.broken ≡ before.broken
-  pub laid : (file : List ℕ) → IsLaidOn before.parts.store.objects file → IsLaidOn after.parts.store.objects file
-  pub entries : (k : ℕ) → within k → All (λ n. n < k) (numbers before.parts.store.entries) → All (λ n. n < k) (numbers after.parts.store.entries)
+  pub laid : (file : List ℕ) → IsLaidOn before.parts.volatile.objects file → IsLaidOn after.parts.volatile.objects file
+  pub entries : (k : ℕ) → within k → All (λ n. n < k) (numbers before.parts.volatile.entries) → All (λ n. n < k) (numbers after.parts.volatile.entries)
 
 -- slots were read before that
 pub record IsReplay (old new : Disk) (before after : StoreView) (within : ℕ → Type 0) (failed : Type 0) : Type 0 where

@@ -1,7 +1,7 @@
 // Which of the objects that a record writes are set by its replay.
 ghost use Rattle.std.specs.Prelude.{◌≡◌, ◌<◌, ◌≤◌, ◌+◌, ◌==◌, ◌&&◌, ◌||◌, ℕ, All, nat_lt, nat_le, length};
 ghost use Rattle.oper_core.specs.State.{is_among};
-ghost use Rattle.checkpoint.specs.RedoStarts.{redo_from};
+ghost use Rattle.redo_tables.specs.RedoStarts.{redo_from};
 ghost use Rattle.running_store.specs.Laid.{id_at};
 ghost use Rattle.redo_pass.specs.Replayed.{is_due};
 

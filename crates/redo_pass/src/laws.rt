@@ -3,7 +3,7 @@ ghost use Rattle.disk_model.specs.Disk.{Files};
 ghost use Rattle.disk_model.specs.declared.machine.FileNo.TheVariants.{Objects};
 ghost use Rattle.oper_core.specs.State.{is_among};
 ghost use Rattle.oper_core.specs.declared.bounds.Bounds.{Bounds};
-ghost use Rattle.checkpoint.specs.declared.table.Table.{Table};
+ghost use Rattle.redo_tables.specs.declared.table.Table.{Table};
 ghost use Rattle.dirty_cache.specs.Contents.{held};
 ghost use Rattle.formats.specs.Objects.{bounds_of};
 ghost use Rattle.formats.specs.Records.{records_of};
@@ -18,9 +18,9 @@ ghost use Rattle.explain_core.specs.World.Step.{Replay, Crash};
 ghost use Rattle.explain_core.specs.Turns.{must_install, turns};
 ghost use Rattle.standing.specs.Standing.{FilesShow, IsFound};
 ghost use Rattle.analysis_pass.specs.Analysis.{PlanView, plan_table, least_start};
-ghost use Rattle.running_store.specs.Parts.{Store, ShowsStore};
+ghost use Rattle.running_store.specs.Parts.{Volatile, ShowsVolatile};
 ghost use Rattle.redo_pass.specs.Progress.{HasTurned, SoFar, IsLimited};
-ghost use Rattle.redo_pass.specs.Redo.{IsDue, IsRedone, redone_world};
+ghost use Rattle.redo_pass.specs.Redo.{IsRedoDue, IsRedone, redone_world};
 ghost use Rattle.redo_pass.specs.Replayed.{IsReplayed, IsNext, is_due};
 ghost use Rattle.redo_pass.specs.Rising.{AreMembers};
 
@@ -34,7 +34,7 @@ pub fn a_found_world_is_due<O: Oper>()
         slots.params ≡ p → AreOf slots (files Objects) →
         plan.table ≡ plan_table found.shows.header.base (records_of found.shows.groups) →
         plan.start ≡ least_start plan.table.next plan.table.starts →
-        IsDue (O.meaning (bounds_of p)) p files slots plan (numbered_from plan.start (records_of found.shows.groups)) w }
+        IsRedoDue (O.meaning (bounds_of p)) p files slots plan (numbered_from plan.start (records_of found.shows.groups)) w }
 {
     analysis_pass::a_plan_starts_at_the_least_start::<O>();
 }
@@ -48,32 +48,32 @@ pub fn records_are_members<O: Oper>()
 
 /// A store that shows a world in the middle of a redo shows, with the next member replayed, the world after that step.
 pub fn a_replay_is_shown<O: Oper>()
-    ensures { (p : Params) (file : List ℕ) (before after : Store) (w : World O) (it : Member O) (made : List (List ℕ)) →
-        IsSound (O.meaning (bounds_of p)) w → ShowsStore (O.meaning (bounds_of p)) p file before w →
+    ensures { (p : Params) (file : List ℕ) (before after : Volatile) (w : World O) (it : Member O) (made : List (List ℕ)) →
+        IsSound (O.meaning (bounds_of p)) w → ShowsVolatile (O.meaning (bounds_of p)) p file before w →
         numbered w.history w.next ≡ Some it →
         made ≡ effect_of (O.meaning (bounds_of p)) it (map (λ x. (w.cache x).value) (reads_of (O.meaning (bounds_of p)) it)) →
         IsReplayed (O.meaning (bounds_of p)) w it made before after → ((x : ℕ) → is_among x (writes_of (O.meaning (bounds_of p)) it) ≡ true → x < p.objects) →
-        ShowsStore (O.meaning (bounds_of p)) p file after (step (O.meaning (bounds_of p)) w Replay) }
+        ShowsVolatile (O.meaning (bounds_of p)) p file after (step (O.meaning (bounds_of p)) w Replay) }
 {}
 
 /// A store in which nothing is cached, and whose graph is empty, shows the world whose redo is due.
 pub fn an_empty_store_shows_it<O: Oper>()
-    ensures { (p : Params) (files : Files) (slots : SlotsView) (plan : PlanView) (records : List (Record O)) (w : World O) (it : Store) →
-        IsDue (O.meaning (bounds_of p)) p files slots plan records w →
+    ensures { (p : Params) (files : Files) (slots : SlotsView) (plan : PlanView) (records : List (Record O)) (w : World O) (it : Volatile) →
+        IsRedoDue (O.meaning (bounds_of p)) p files slots plan records w →
         it.objects.slots ≡ slots → ((x : ℕ) → held it.objects.cache x ≡ None) → it.entries ≡ [] →
-        ShowsStore (O.meaning (bounds_of p)) p (files Objects) it w }
+        ShowsVolatile (O.meaning (bounds_of p)) p (files Objects) it w }
 {}
 
 /// What is due in a store that shows a world is what the replay of the next member sets in the world.
 pub fn what_is_due_is_set<O: Oper>()
-    ensures { (p : Params) (file : List ℕ) (it : Store) (w : World O) (table : Table) (n : ℕ) (member : Member O) (x : ℕ) →
-        ShowsStore (O.meaning (bounds_of p)) p file it w → IsNext w table n member → x < p.objects →
+    ensures { (p : Params) (file : List ℕ) (it : Volatile) (w : World O) (table : Table) (n : ℕ) (member : Member O) (x : ℕ) →
+        ShowsVolatile (O.meaning (bounds_of p)) p file it w → IsNext w table n member → x < p.objects →
         is_due table it.objects n (writes_of (O.meaning (bounds_of p)) member) x ≡ is_redone (O.meaning (bounds_of p)) w x }
 {}
 
 /// Where no records are left and nothing is to be installed, the redo of the world that a restart finds is over.
 pub fn a_redo_ends<O: Oper>()
-    ensures { (p : Params) (files : Files) (it : Store) (limit : ℕ) (w : World O) →
+    ensures { (p : Params) (files : Files) (it : Volatile) (limit : ℕ) (w : World O) →
         IsSound (O.meaning (bounds_of p)) w → step (O.meaning (bounds_of p)) w Crash ≡ w →
         SoFar (O.meaning (bounds_of p)) p files it limit w [] → IsRedone (O.meaning (bounds_of p)) p files it limit w }
 {
@@ -89,14 +89,14 @@ pub fn a_redo_leaves_nothing<O: Oper>()
 /// The parts of the redo's loop, of the world that a restart finds. A member that is replayed is one turn more, and what
 /// is installed after it are further turns.
 pub fn a_redo_goes_on<O: Oper>()
-    ensures replayed { (p : Params) (files : Files) (after : Store) (limit turned : ℕ) (w : World O) →
+    ensures replayed { (p : Params) (files : Files) (after : Volatile) (limit turned : ℕ) (w : World O) →
         IsSound (O.meaning (bounds_of p)) w → step (O.meaning (bounds_of p)) w Crash ≡ w →
         must_install (O.meaning (bounds_of p)) limit (run (O.meaning (bounds_of p)) w (turns (O.meaning (bounds_of p)) limit turned w)) ≡ false →
         (run (O.meaning (bounds_of p)) w (turns (O.meaning (bounds_of p)) limit turned w)).next ≤ length w.history →
         FilesShow (O.meaning (bounds_of p)) p files (run (O.meaning (bounds_of p)) w (turns (O.meaning (bounds_of p)) limit turned w)) →
-        ShowsStore (O.meaning (bounds_of p)) p (files Objects) after (step (O.meaning (bounds_of p)) (run (O.meaning (bounds_of p)) w (turns (O.meaning (bounds_of p)) limit turned w)) Replay) →
+        ShowsVolatile (O.meaning (bounds_of p)) p (files Objects) after (step (O.meaning (bounds_of p)) (run (O.meaning (bounds_of p)) w (turns (O.meaning (bounds_of p)) limit turned w)) Replay) →
         HasTurned (O.meaning (bounds_of p)) p files after limit w (turned + 1) }
-    ensures limited { (p : Params) (files : Files) (it : Store) (limit turned : ℕ) (w : World O) (rest : List (Record O)) →
+    ensures limited { (p : Params) (files : Files) (it : Volatile) (limit turned : ℕ) (w : World O) (rest : List (Record O)) →
         IsLimited (O.meaning (bounds_of p)) p files it limit (run (O.meaning (bounds_of p)) w (turns (O.meaning (bounds_of p)) limit turned w)) →
         AreMembers w.history (run (O.meaning (bounds_of p)) w (turns (O.meaning (bounds_of p)) limit turned w)).next rest →
         SoFar (O.meaning (bounds_of p)) p files it limit w rest }

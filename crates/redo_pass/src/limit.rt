@@ -5,32 +5,31 @@ ghost use Rattle.formats.specs.declared.params.Params.{Params};
 ghost use Rattle.explain_core.specs.Turns.{turns};
 ghost use Rattle.explain_core.specs.World.{World, IsAllStable};
 ghost use Rattle.standing.specs.Moments.{TakesSome};
-ghost use Rattle.running_store.specs.Beside.{IsBeside};
-ghost use Rattle.running_store.specs.Calls.{IsCall, Never};
-ghost use Rattle.running_store.specs.Parts.{StoreShows};
-ghost use Rattle.cache_manager.specs.Endings.{ending_of_thin};
+ghost use Rattle.running_store.specs.Beside.{IsOnObjectsAlone};
+ghost use Rattle.running_store.specs.Calls.{IsCall, Never, ending_of_store};
+ghost use Rattle.running_store.specs.Parts.{VolatileShows};
 ghost use Rattle.redo_pass.specs.Progress.{IsLimited};
 
-use cache_manager::{ThinErr, install_thin};
+use cache_manager::install_thin;
 use disk_model::Machine;
 use oper_core::Oper;
-use running_store::{Store, dirty_objects_are_counted};
+use running_store::{Store, StoreErr, dirty_objects_are_counted};
 
 /// While more objects than this are dirty and a node is thin, installs it.
 pub(crate) fn limit_dirty<O: Oper, M: Machine>(
     store: &mut Store<O>,
     machine: &mut M,
     limit: usize,
-) -> Result<(), ThinErr>
+) -> Result<(), StoreErr>
     requires unbroken { store.old.broken ≡ false }
-    ensures call { IsCall O.meaning (M.disk machine.old) (M.disk machine.new) store.old store.new 0 Never (ending_of_thin result) }
-    ensures beside { IsBeside (M.disk machine.old) (M.disk machine.new) store.old store.new }
-    ensures limited { (p : Params) (w : World O) → StoreShows (O.meaning (bounds_of p)) p (M.disk machine.old) store.old.parts.store w → IsAllStable w →
-        OnOk result (IsLimited (O.meaning (bounds_of p)) p (M.disk machine.new).reads store.new.parts.store limit w) }
+    ensures call { IsCall O.meaning (M.disk machine.old) (M.disk machine.new) store.old store.new 0 Never (ending_of_store result) }
+    ensures beside { IsOnObjectsAlone (M.disk machine.old) (M.disk machine.new) store.old store.new }
+    ensures limited { (p : Params) (w : World O) → VolatileShows (O.meaning (bounds_of p)) p (M.disk machine.old) store.old.parts.volatile w → IsAllStable w →
+        OnOk result (IsLimited (O.meaning (bounds_of p)) p (M.disk machine.new).reads store.new.parts.volatile limit w) }
 
     // At each moment, whatever the answer, each image shows the world after some first steps of some turns.
-    ensures any_moment { (M.disk machine.old).tells_moments → (p : Params) (w : World O) →
-        StoreShows (O.meaning (bounds_of p)) p (M.disk machine.old) store.old.parts.store w → IsAllStable w →
+    ensures steps { (M.disk machine.old).tells_moments → (p : Params) (w : World O) →
+        VolatileShows (O.meaning (bounds_of p)) p (M.disk machine.old) store.old.parts.volatile w → IsAllStable w →
         (turned : ℕ) × TakesSome (O.meaning (bounds_of p)) p (M.disk machine.old) (M.disk machine.new) w
         (turns (O.meaning (bounds_of p)) limit turned w) }
 {

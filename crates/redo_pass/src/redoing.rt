@@ -2,20 +2,22 @@
 ghost use Rattle.std.specs.Prelude.{◌≡◌, ℕ, None, [], false, IfErr, OnOk};
 ghost use Rattle.disk_model.specs.Disk.{Rises, IsSettled};
 ghost use Rattle.formats.specs.Objects.{bounds_of};
+ghost use Rattle.formats.specs.Reading.{FailsBy};
 ghost use Rattle.formats.specs.declared.params.Params.{Params};
 ghost use Rattle.dirty_cache.specs.Contents.{held};
 ghost use Rattle.explain_core.specs.World.{World};
 ghost use Rattle.standing.specs.Moments.{TakesSome};
 ghost use Rattle.running_store.specs.Beside.{IsOnObjects};
-ghost use Rattle.running_store.specs.Calls.{IsCall, Never};
-ghost use Rattle.redo_pass.specs.Causes.{FailsBy, IsRedoFault, ending_of_redo};
+ghost use Rattle.running_store.specs.Calls.{IsCall, Never, ending_of_read};
+ghost use Rattle.redo_pass.specs.Causes.{IsRedoFault};
 ghost use Rattle.redo_pass.specs.Redo.{IsLogDue, IsRedone, redo_steps};
 
+use crate::Tuning;
 use crate::limit::limit_dirty;
 use crate::replay::replay;
-use crate::{RedoErr, Tuning};
 use analysis_pass::Plan;
 use disk_model::Machine;
+use formats::ReadErr;
 use oper_core::Oper;
 use running_store::Store;
 
@@ -29,25 +31,25 @@ pub fn redo<O: Oper, M: Machine>(
     store: &mut Store<O>,
     machine: &mut M,
     tuning: Tuning,
-) -> Result<(), RedoErr>
+) -> Result<(), ReadErr>
     requires unbroken { store.old.broken ≡ false }
-    requires empty { ((x : ℕ) → held store.old.parts.store.objects.cache x ≡ None) × (store.old.parts.store.entries ≡ []) }
-    ensures call { IsCall O.meaning (M.disk machine.old) (M.disk machine.new) store.old store.new 0 Never (ending_of_redo result) }
+    requires empty { ((x : ℕ) → held store.old.parts.volatile.objects.cache x ≡ None) × (store.old.parts.volatile.entries ≡ []) }
+    ensures call { IsCall O.meaning (M.disk machine.old) (M.disk machine.new) store.old store.new 0 Never (ending_of_read result) }
     ensures objects { IsOnObjects (M.disk machine.old) (M.disk machine.new) store.old store.new }
 
     // Of each world that a restart finds in the files and of which this is the plan: all steps of its redo are taken.
     ensures redone { (M.disk machine.old).tells_files → IsSettled (M.disk machine.old) → (p : Params) (w : World O) →
-        IsLogDue (O.meaning (bounds_of p)) p (M.disk machine.old) store.old.parts.log store.old.parts.store.objects.slots plan.now w →
-        OnOk result (IsRedone (O.meaning (bounds_of p)) p (M.disk machine.new).reads store.new.parts.store tuning.redo_dirty w) }
+        IsLogDue (O.meaning (bounds_of p)) p (M.disk machine.old) store.old.parts.log store.old.parts.volatile.objects.slots plan.now w →
+        OnOk result (IsRedone (O.meaning (bounds_of p)) p (M.disk machine.new).reads store.new.parts.volatile tuning.redo_dirty w) }
 
     // At each moment, whatever the answer, each image shows the world after some first ones of these steps.
-    ensures any_moment { (M.disk machine.old).tells_moments → IsSettled (M.disk machine.old) → (p : Params) (w : World O) →
-        IsLogDue (O.meaning (bounds_of p)) p (M.disk machine.old) store.old.parts.log store.old.parts.store.objects.slots plan.now w →
+    ensures steps { (M.disk machine.old).tells_moments → IsSettled (M.disk machine.old) → (p : Params) (w : World O) →
+        IsLogDue (O.meaning (bounds_of p)) p (M.disk machine.old) store.old.parts.log store.old.parts.volatile.objects.slots plan.now w →
         TakesSome (O.meaning (bounds_of p)) p (M.disk machine.old) (M.disk machine.new) w
         (redo_steps (O.meaning (bounds_of p)) tuning.redo_dirty w) }
     ensures cause { IfErr result (FailsBy (Rises (M.disk machine.old).disk_faults (M.disk machine.new).disk_faults)
         (IsRedoFault (O.meaning store.old.parts.log.bounds) (M.disk machine.old) (M.disk machine.new) store.old.parts.log.log
-        store.old.parts.store.objects.slots store.new.parts.store.objects.slots)) }
+        store.old.parts.volatile.objects.slots store.new.parts.volatile.objects.slots)) }
 {
     explain_core::turns_keep::<O>();
     standing::unseen_steps_change_nothing::<O>();

@@ -5,26 +5,25 @@ ghost use Rattle.disk_model.specs.declared.machine.FileNo.TheVariants.{Objects a
 ghost use Rattle.oper_core.specs.Meaning.{IsInGrammar};
 ghost use Rattle.formats.specs.Objects.{bounds_of};
 ghost use Rattle.formats.specs.declared.params.Params.{Params};
+ghost use Rattle.formats.specs.Reading.{FailsBy};
 ghost use Rattle.formats.specs.Records.{IsRecord};
 ghost use Rattle.write_graph.specs.Graph.{numbers};
 ghost use Rattle.explain_core.specs.History.Member.{Command as a_command, Identity as an_identity};
 ghost use Rattle.explain_core.specs.Sound.{IsSound};
 ghost use Rattle.explain_core.specs.World.{World, step};
 ghost use Rattle.explain_core.specs.World.Step.{Replay};
-ghost use Rattle.running_store.specs.Calls.{IsFailed};
+ghost use Rattle.running_store.specs.Calls.{IsFailed, ending_of_read};
 ghost use Rattle.running_store.specs.LongSlot.{HasLongSlot};
-ghost use Rattle.running_store.specs.Parts.{ShowsStore};
-ghost use Rattle.running_store.specs.StoreView.{next_of, params_of};
-ghost use Rattle.redo_pass.specs.Causes.{FailsBy, ending_of_redo};
+ghost use Rattle.running_store.specs.Parts.{ShowsVolatile};
+ghost use Rattle.running_store.specs.StoreView.{next_of, store_params};
 ghost use Rattle.redo_pass.specs.Progress.{IsAbove};
 ghost use Rattle.redo_pass.specs.Replayed.{IsInMemory, IsNext, IsNextRecord, IsReplay, after_record, read_by};
 ghost use Rattle.redo_pass.specs.Rising.{IsBelow};
 
-use crate::RedoErr;
 use crate::choosing::due_among;
 use analysis_pass::Plan;
 use disk_model::Machine;
-use formats::Record;
+use formats::{ReadErr, Record};
 use install_order::Entry;
 use oper_core::{Memory, Objs, Oper, Values};
 use running_store::Store;
@@ -36,17 +35,17 @@ fn replay_command<O: Oper, M: Machine>(
     machine: &mut M,
     number: u64,
     op: &O,
-) -> Result<(), RedoErr>
+) -> Result<(), ReadErr>
     requires unbroken { store.old.broken ≡ false }
-    requires grammar { IsInGrammar (O.meaning (bounds_of (params_of store.old))) op.now }
-    requires above { All (λ n. n < number) (numbers store.old.parts.store.entries) × (number < next_of store.old) }
-    ensures replayed { IsReplay (M.disk machine.old) (M.disk machine.new) store.old store.new (λ k. number < k) (IsFailed (ending_of_redo result)) }
+    requires grammar { IsInGrammar (O.meaning (bounds_of (store_params store.old))) op.now }
+    requires above { All (λ n. n < number) (numbers store.old.parts.volatile.entries) × (number < next_of store.old) }
+    ensures replayed { IsReplay (M.disk machine.old) (M.disk machine.new) store.old store.new (λ k. number < k) (IsFailed (ending_of_read result)) }
     ensures shown { (M.disk machine.old).tells_files → OnOk result ((p : Params) (w : World O) → IsSound (O.meaning (bounds_of p)) w →
-        ShowsStore (O.meaning (bounds_of p)) p ((M.disk machine.old).reads ObjectsFile) store.old.parts.store w →
+        ShowsVolatile (O.meaning (bounds_of p)) p ((M.disk machine.old).reads ObjectsFile) store.old.parts.volatile w →
         IsNext w plan.now.table number (a_command op.now) →
-        ShowsStore (O.meaning (bounds_of p)) p ((M.disk machine.old).reads ObjectsFile) store.new.parts.store (step (O.meaning (bounds_of p)) w Replay)) }
+        ShowsVolatile (O.meaning (bounds_of p)) p ((M.disk machine.old).reads ObjectsFile) store.new.parts.volatile (step (O.meaning (bounds_of p)) w Replay)) }
     ensures cause { IfErr result (FailsBy (Rises (M.disk machine.old).disk_faults (M.disk machine.new).disk_faults)
-        (HasLongSlot (M.disk machine.new) store.old.parts.store.objects.slots ((O.meaning (bounds_of (params_of store.old))).reads op.now))) }
+        (HasLongSlot (M.disk machine.new) store.old.parts.volatile.objects.slots ((O.meaning (bounds_of (store_params store.old))).reads op.now))) }
 {
     let bounds = store.objects().bounds();
     // Called for its clauses: the store is in use, and its numbers are small.
@@ -78,14 +77,14 @@ fn replay_identity<O: Oper>(
     value: &[u8],
 ) -> Result<(), Memory>
     requires unbroken { store.old.broken ≡ false }
-    requires below { object < (params_of store.old).objects }
-    requires short { length value.now ≤ (params_of store.old).cap }
-    requires above { All (λ n. n < number) (numbers store.old.parts.store.entries) × (number < next_of store.old) }
+    requires below { object < (store_params store.old).objects }
+    requires short { length value.now ≤ (store_params store.old).cap }
+    requires above { All (λ n. n < number) (numbers store.old.parts.volatile.entries) × (number < next_of store.old) }
     ensures same { IsInMemory store.old store.new (λ k. number < k) }
     ensures shown { OnOk result ((p : Params) (file : List ℕ) (w : World O) → IsSound (O.meaning (bounds_of p)) w →
-        ShowsStore (O.meaning (bounds_of p)) p file store.old.parts.store w →
+        ShowsVolatile (O.meaning (bounds_of p)) p file store.old.parts.volatile w →
         IsNext w plan.now.table number (an_identity object value.now) →
-        ShowsStore (O.meaning (bounds_of p)) p file store.new.parts.store (step (O.meaning (bounds_of p)) w Replay)) }
+        ShowsVolatile (O.meaning (bounds_of p)) p file store.new.parts.volatile (step (O.meaning (bounds_of p)) w Replay)) }
 {
     let writes = Objs::one(object);
     let chosen = due_among(plan, store.objects(), number, writes.as_slice());
@@ -111,18 +110,18 @@ pub(crate) fn replay<O: Oper, M: Machine>(
     store: &mut Store<O>,
     machine: &mut M,
     record: Record<O>,
-) -> Result<(), RedoErr>
+) -> Result<(), ReadErr>
     requires unbroken { store.old.broken ≡ false }
-    requires grammar { IsRecord (O.meaning (bounds_of (params_of store.old))) «record» }
+    requires grammar { IsRecord (O.meaning (bounds_of (store_params store.old))) «record» }
     requires above { IsAbove store.old «record» }
-    ensures replayed { IsReplay (M.disk machine.old) (M.disk machine.new) store.old store.new (λ k. IsBelow k «record») (IsFailed (ending_of_redo result)) }
+    ensures replayed { IsReplay (M.disk machine.old) (M.disk machine.new) store.old store.new (λ k. IsBelow k «record») (IsFailed (ending_of_read result)) }
     ensures shown { (M.disk machine.old).tells_files → OnOk result ((p : Params) (w : World O) → IsSound (O.meaning (bounds_of p)) w →
-        ShowsStore (O.meaning (bounds_of p)) p ((M.disk machine.old).reads ObjectsFile) store.old.parts.store w →
+        ShowsVolatile (O.meaning (bounds_of p)) p ((M.disk machine.old).reads ObjectsFile) store.old.parts.volatile w →
         IsNextRecord w plan.now.table «record» →
-        ShowsStore (O.meaning (bounds_of p)) p ((M.disk machine.old).reads ObjectsFile) store.new.parts.store
+        ShowsVolatile (O.meaning (bounds_of p)) p ((M.disk machine.old).reads ObjectsFile) store.new.parts.volatile
         (after_record (O.meaning (bounds_of p)) w «record»)) }
     ensures cause { IfErr result (FailsBy (Rises (M.disk machine.old).disk_faults (M.disk machine.new).disk_faults)
-        (HasLongSlot (M.disk machine.new) store.old.parts.store.objects.slots (read_by (O.meaning (bounds_of (params_of store.old))) «record»))) }
+        (HasLongSlot (M.disk machine.new) store.old.parts.volatile.objects.slots (read_by (O.meaning (bounds_of (store_params store.old))) «record»))) }
 {
     match record {
         Record::Command(number, op) => replay_command(plan, store, machine, number, &op),

@@ -50,7 +50,7 @@ const LOGS: [(u64, &[u8], u64, &[(u32, u64)]); 6] = [
 ];
 
 fn plan(alloc: Global, base: u64, bytes: &[u8]) -> Result<Plan, Memory> {
-    let last = match checkpoint::decode(alloc, bytes)? {
+    let last = match redo_tables::decode(alloc, bytes)? {
         Some((table, _)) => Some(table),
         None => None,
     };
@@ -61,7 +61,7 @@ fn all_start(plan: &Plan, starts: &[(u32, u64)]) -> bool {
     let mut good = true;
     for (object, start) in starts {
         good = good && plan.redo_from(*object) == *start;
-        good = good && checkpoint::redo_from(plan.table(), *object) == *start;
+        good = good && redo_tables::redo_from(plan.table(), *object) == *start;
     }
     good
 }

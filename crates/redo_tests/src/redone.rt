@@ -4,15 +4,14 @@ ghost use Rattle.dirty_cache.specs.Contents.{held};
 ghost use Rattle.running_store.specs.Flushed.{AreEarly};
 
 use analysis_pass::{Plan, analyse};
-use checkpoint::Table;
 use disk_model::{FileNo, Fuse, MemMachine};
-use log_frames::LogErr;
+use formats::ReadErr;
 use log_records::RecordLog;
 use op_codec::AllOps;
 use oper_core::Bounds;
 use redo_pass::{Tuning, redo};
+use redo_tables::Table;
 use running_store::{Objects, Store};
-use stable_objects::SlotErr;
 use std::alloc::Global;
 use std::test::Fail;
 use write_graph::WriteGraph;
@@ -41,7 +40,7 @@ fn loaded(
     alloc: Global,
     machine: &mut MemMachine,
     b: Bounds,
-) -> Result<(RecordLog<AllOps>, Option<Table>), LogErr>
+) -> Result<(RecordLog<AllOps>, Option<Table>), ReadErr>
     ensures bounds { IfOk result (λ it. it.0.bounds ≡ b) }
     ensures next { IfOk result (λ it. (1 ≤ it.0.next) × (it.0.next ≤ 2 ^ 62)) }
 {
@@ -49,12 +48,12 @@ fn loaded(
 }
 
 // Refuses objects of which a slot is late.
-fn refuse_late(objects: &Objects, next: u64) -> Result<(), SlotErr>
+fn refuse_late(objects: &Objects, next: u64) -> Result<(), ReadErr>
     requires { 0 < next }
     ensures { OnOk result (AreEarly next objects.now) }
 {
     match objects.first_late(next) {
-        Some(place) => Err(SlotErr::Damaged {
+        Some(place) => Err(ReadErr::Damaged {
             file: FileNo::Objects,
             place,
         }),
@@ -65,7 +64,7 @@ fn refuse_late(objects: &Objects, next: u64) -> Result<(), SlotErr>
 // The store of a machine's files, and the plan by which its log has to be done again.
 pub fn begun(alloc: Global, machine: &mut MemMachine) -> Result<(Store<AllOps>, Plan), Fail>
     ensures unbroken { IfOk result (λ it. it.0.broken ≡ false) }
-    ensures empty { IfOk result (λ it. ((x : ℕ) → held it.0.parts.store.objects.cache x ≡ None) × (it.0.parts.store.entries ≡ [])) }
+    ensures empty { IfOk result (λ it. ((x : ℕ) → held it.0.parts.volatile.objects.cache x ≡ None) × (it.0.parts.volatile.entries ≡ [])) }
 {
     let graph = WriteGraph::new(alloc)?;
     let objects = Objects::load(alloc, machine, 2)?;

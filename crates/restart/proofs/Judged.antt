@@ -1,6 +1,6 @@
 -- What a restart says of the files, whatever it answers.
-use Rattle.std.proofs.Common.{◌≡◌, ◌⊎◌, inl, inr, ℕ, refl, ap, sym, subst, Result, Ok, Err, arith}
-use Rattle.std.specs.Prelude.{IfErr, IsErrAnd, IsErrOf, OnOk}
+use Rattle.std.proofs.Common.{◌≡◌, ◌⊎◌, inl, inr, ℕ, refl, Result, Ok, Err, arith}
+use Rattle.std.specs.Prelude.{IfErr, IsErrOf, OnOk}
 use Rattle.std.proofs.lemmas.Result.{IfErr-at_err}
 use Rattle.disk_model.specs.Disk.{Files, Disk, Rises, Stays, Same, IsSettled}
 use Rattle.disk_model.specs.Moments.{runs_wider, runs_twice, told_agrees}
@@ -10,22 +10,19 @@ use Rattle.oper_core.specs.Meaning.{Meaning, HasBounds, IsSmall, IsLawful}
 use Rattle.oper_core.specs.declared.bounds.Bounds.{Bounds}
 use Rattle.formats.specs.Bytes.{IsOpenAt, IsClosedAt}
 use Rattle.formats.specs.FirstFault.{IsDamaged}
+use Rattle.formats.specs.Reading.{FailsBy}
+use Rattle.stable_objects.specs.Reading.{IsNoDamage, OpensNot}
+use Rattle.stable_objects.specs.declared.open_err.OpenErr.{OpenErr}
+use Rattle.stable_objects.specs.declared.open_err.OpenErr.TheVariants.{DiskFault, NotAStore, Damaged, Memory}
 use Rattle.running_store.specs.Finished.{IsQuiet}
 use Rattle.running_store.specs.Kept.{IsAttached}
 use Rattle.running_store.specs.Parts.{Parts}
 use Rattle.running_store.specs.Taking.{ArePartsInUse}
-use Rattle.restart.specs.Causes.{FailsBy, IsNoDamage}
 use Rattle.restart.specs.Damage.{IsReadAsDamaged, IsReported}
 use Rattle.restart.specs.DamageLaws.{passes_all, one_first_fault}
+use Rattle.restart.specs.Loading.{LoadsNot}
 use Rattle.restart.specs.Opening.{IsJudged, IsOpening}
 use Rattle.restart.specs.WellFormed.{IsWellFormed, opens_gate}
-use Rattle.restart.specs.declared.restart_err.RestartErr.{RestartErr}
-use Rattle.restart.specs.declared.restart_err.RestartErr.TheVariants.{DiskFault, NotAStore, Damaged, Memory}
-
--- what is said of the error of a call is said of that of its caller
-pub passed_on : {T E : Type 0} (P : Result T E → Type 0) (result : Result T E) (why : E) → IsErrAnd result (λ e. e ≡ why) → P (Err why) → P result
-passed_on P (Ok value) why is said = absurd is
-passed_on P (Err e) why is said = subst (λ x. P (Err x)) (sym is) said
 
 -- calls that say nothing, one after the other
 pub quiet_stays : (old new : Disk) → Stays old new → IsQuiet old new
@@ -39,11 +36,11 @@ pub rises_behind : (old mid new : Disk) → IsQuiet old mid → Rises mid.disk_f
 rises_behind old mid new first rises small = let rose = rises small in omega (arith, rose, first.time.disk_faults)
 
 -- what holds of each cause holds of the one that is answered
-pub cause_of : {T : Type 0} (rises closed : Type 0) (fault : FileNo → ℕ → Type 0) (e why : RestartErr) → FailsBy rises closed fault e → IsErrOf {T = T} (Err e) why → FailsBy rises closed fault why
-cause_of rises closed fault e why fails is = IfErr-at_err (FailsBy rises closed fault) is fails
+pub cause_of : {T : Type 0} (closed rises : Type 0) (fault : FileNo → ℕ → Type 0) (e why : OpenErr) → OpensNot closed (FailsBy rises fault) e → IsErrOf {T = T} (Err e) why → OpensNot closed (FailsBy rises fault) why
+cause_of closed rises fault e why fails is = IfErr-at_err (OpensNot closed (FailsBy rises fault)) is fails
 
 -- a store that is not opened
-pub not_opened : {O : Type 0} (meaning : Bounds → Meaning O) (old new : Disk) (e : RestartErr) → IsQuiet old new → (IsErrOf {T = Parts} (Err e) DiskFault → Rises old.disk_faults new.disk_faults) → IsOpening meaning old new (Err e)
+pub not_opened : {O : Type 0} (meaning : Bounds → Meaning O) (old new : Disk) (e : OpenErr) → IsQuiet old new → (IsErrOf {T = Parts} (Err e) DiskFault → Rises old.disk_faults new.disk_faults) → IsOpening meaning old new (Err e)
 not_opened meaning old new e quiet rose = record { time = quiet.time; quiet = λ told. quiet.said told; fault = rose; settled = tt; in_use = tt; attached = tt }
 
 -- one that is
@@ -55,19 +52,12 @@ is_opened meaning old new it quiet settled used attached =
 pub none_reported : {O : Type 0} (meaning : Bounds → Meaning O) (old new : Disk) (it : Parts) → IsReported meaning old new (Ok it)
 none_reported meaning old new it = record { damaged = λ file place is files agrees. cc; no_store = λ is files agrees. cc }
 
-pub is_reported : {O : Type 0} (meaning : Bounds → Meaning O) (old new : Disk) (rises closed : Type 0) (fault : FileNo → ℕ → Type 0) (e : RestartErr) → FailsBy rises closed fault e
+pub is_reported : {O : Type 0} (meaning : Bounds → Meaning O) (old new : Disk) (closed rises : Type 0) (fault : FileNo → ℕ → Type 0) (e : OpenErr) → OpensNot closed (FailsBy rises fault) e
     → (closed → (files : Files) → new.agrees files → IsClosedAt 0 (files Objects)) → ((file : FileNo) (place : ℕ) → fault file place → IsReadAsDamaged meaning old new file place) → IsReported meaning old new (Err e)
-is_reported meaning old new rises closed fault e fails gate damaged = record {
-  damaged = λ file place is. damaged file place (cause_of rises closed fault e (Damaged file place) fails is);
-  no_store = λ is. gate (cause_of rises closed fault e NotAStore fails is);
+is_reported meaning old new closed rises fault e fails gate damaged = record {
+  damaged = λ file place is. damaged file place (cause_of closed rises fault e (Damaged file place) fails is);
+  no_store = λ is. gate (cause_of closed rises fault e NotAStore fails is);
 }
-
--- what the redo of files that were read reports
-pub redo_harmless : (rises : Type 0) (fault : FileNo → ℕ → Type 0) (e : RestartErr) → FailsBy rises ⊥ fault e → ((file : FileNo) (place : ℕ) → fault file place → ⊥) → IsNoDamage e
-redo_harmless rises fault DiskFault fails none = tt
-redo_harmless rises fault NotAStore fails none = absurd fails
-redo_harmless rises fault (Damaged file place) fails none = absurd (none file place fails)
-redo_harmless rises fault Memory fails none = tt
 
 on_ok : {T E P : Type 0} (r : Result T E) → P → OnOk r P
 on_ok (Ok value) holds = holds
@@ -75,7 +65,7 @@ on_ok (Err e) holds = tt
 
 module _ {O : Type 0} (meaning : Bounds → Meaning O) (bounded : (b : Bounds) → HasBounds b (meaning b)) (lawful : (b : Bounds) → IsSmall b → IsLawful (meaning b)) (old new : Disk) where
   -- files that meet their format
-  pub judged_whole : IsWellFormed meaning old.reads → (result : Result Parts RestartErr) → IfErr result IsNoDamage → IsJudged meaning old new result
+  pub judged_whole : IsWellFormed meaning old.reads → (result : Result Parts OpenErr) → IfErr result IsNoDamage → IsJudged meaning old new result
   judged_whole image result none = record {
     read = on_ok result image;
     whole = λ is. none;
@@ -87,11 +77,8 @@ module _ {O : Type 0} (meaning : Bounds → Meaning O) (bounded : (b : Bounds) �
   }
 
   -- files that are not loaded
-  module _ (rises : Type 0) (told : old.tells_files) (kept : Stays old new) where
-    abbrev Fails : RestartErr → Type 0
-    Fails = FailsBy rises ((files : Files) → new.agrees files → IsClosedAt 0 (files Objects)) (λ file place. (files : Files) → new.agrees files → IsDamaged meaning files file place)
-
-    exactly : (e : RestartErr) → Fails e → (file : FileNo) (place : ℕ) → IsDamaged meaning old.reads file place
+  module _ (told : old.tells_files) (kept : Stays old new) where
+    exactly : (e : OpenErr) → LoadsNot meaning old new e → (file : FileNo) (place : ℕ) → IsDamaged meaning old.reads file place
         → IsErrOf {T = Parts} (Err e) (Damaged file place) ⊎ (IsErrOf {T = Parts} (Err e) Memory ⊎ IsErrOf {T = Parts} (Err e) DiskFault)
     exactly DiskFault fails file place damage = inr (inr refl)
     exactly NotAStore fails file place damage = absurd (fails old.reads (told_agrees kept told) damage.gate)
@@ -99,13 +86,13 @@ module _ {O : Type 0} (meaning : Bounds → Meaning O) (bounded : (b : Bounds) �
         let same = one_first_fault meaning bounded lawful old.reads at file of place (fails old.reads (told_agrees kept told)).fault damage.fault in inl (λ i. Err (Damaged (same.0 i) (same.1 i)))
     exactly Memory fails file place damage = inr (inl refl)
 
-    pub judged_unread : (e : RestartErr) → (IsWellFormed meaning old.reads → IsNoDamage e) → Fails e → (e ≡ Memory → IsOpenAt 0 (old.reads Objects)) → IsJudged meaning old new (Err e)
+    pub judged_unread : (e : OpenErr) → (IsWellFormed meaning old.reads → IsNoDamage e) → LoadsNot meaning old new e → (e ≡ Memory → IsOpenAt 0 (old.reads Objects)) → IsJudged meaning old new (Err e)
     judged_unread e whole fails memory = record {
       read = tt;
       whole = whole;
       kept = inr kept;
-      no_store = λ is. IfErr-at_err Fails is fails old.reads (told_agrees kept told);
-      damaged = λ file place is. IfErr-at_err Fails is fails old.reads (told_agrees kept told);
+      no_store = λ is. IfErr-at_err (LoadsNot meaning old new) is fails old.reads (told_agrees kept told);
+      damaged = λ file place is. IfErr-at_err (LoadsNot meaning old new) is fails old.reads (told_agrees kept told);
       exactly = exactly e fails;
       memory = λ is. memory (IfErr-at_err (λ why. e ≡ why) is refl);
     }

@@ -1,32 +1,33 @@
 -- What a load makes of the files, and why it fails.
-use Rattle.std.proofs.Common.{◌≡◌, ◌<◌, ◌≤◌, ◌+◌, ◌*◌, ◌^◌, ℕ, Bool, true, false, if◌then◌else◌, List, [], map, refl, sym, ap, ◌∙◌, subst, arith, Err}
-use Rattle.std.specs.Prelude.{All, None, Some, Option, IsErrOf}
+use Rattle.std.proofs.Common.{◌≡◌, ◌<◌, ◌≤◌, ◌+◌, ◌*◌, ◌^◌, ℕ, Bool, true, false, if◌then◌else◌, List, [], map, refl, sym, ap, ◌∙◌, subst, arith}
+use Rattle.std.specs.Prelude.{All, None, Some, Option}
 use Rattle.std.proofs.lemmas.List.{append-nil}
 use Rattle.std.proofs.lemmas.List.Elements.{All-nil}
 use Rattle.disk_model.specs.Disk.{Files, Disk, Rises, Stays, IsSettled}
 use Rattle.disk_model.specs.Moments.{agreed_before, stays_settled, stays_twice, told_agrees}
 use Rattle.disk_model.specs.declared.machine.FileNo.{FileNo}
 use Rattle.disk_model.specs.declared.machine.FileNo.TheVariants.{Objects}
-use Rattle.checkpoint.specs.declared.table.Table.{Table}
+use Rattle.redo_tables.specs.declared.table.Table.{Table}
 use Rattle.oper_core.specs.Meaning.{Meaning, HasBounds, IsSmall, IsLawful}
 use Rattle.oper_core.specs.declared.bounds.Bounds.{Bounds}
-use Rattle.formats.specs.Bytes.{IsOpenAt, IsClosedAt}
+use Rattle.formats.specs.Bytes.{IsOpenAt}
 use Rattle.formats.specs.Log.{Header}
 use Rattle.formats.specs.Objects.{IsInRange, IsObjectsFile, bounds_of, slot_place}
 use Rattle.formats.specs.FirstFault.{IsDamaged, AreObjectsWhole, at_objects, at_logs, at_record, at_late_slot}
 use Rattle.formats.specs.Image.{params_in, IsRecordFault, IsLateSlot}
+use Rattle.formats.specs.Reading.{FailsBy, TellsDamage}
 use Rattle.formats.specs.Records.{AreRecords, last_check, payload_of, records_of, next_after, HoldsRecordLog}
 use Rattle.formats.specs.declared.params.Params.{Params}
+use Rattle.formats.specs.declared.read_err.ReadErr.{ReadErr}
+use Rattle.formats.specs.declared.read_err.ReadErr.TheVariants as of_read
 use Rattle.formats.specs.declared.record.Record.{Record}
-use Rattle.log_frames.specs.Reading as log
-use Rattle.log_frames.specs.declared.log_err.LogErr.{LogErr}
-use Rattle.log_frames.specs.declared.log_err.LogErr.TheVariants as of_log
+use Rattle.log_frames.specs.Reading.{fails_on}
 use Rattle.stable_objects.specs.Laws.{one_store, params_of_file, gate_is_open}
-use Rattle.stable_objects.specs.Reading as slots
+use Rattle.stable_objects.specs.Reading.{FailsAt, IsDamagedAt, IsNoDamage, OpensNot, open_from_read}
 use Rattle.stable_objects.specs.SlotLaws.{none_late, late_slot, is_late}
 use Rattle.stable_objects.specs.SlotsView.{SlotsView, IsLate}
-use Rattle.stable_objects.specs.declared.slot_err.SlotErr.{SlotErr}
-use Rattle.stable_objects.specs.declared.slot_err.SlotErr.TheVariants as of_slots
+use Rattle.stable_objects.specs.declared.open_err.OpenErr.{OpenErr}
+use Rattle.stable_objects.specs.declared.open_err.OpenErr.TheVariants as of_opening
 use Rattle.dirty_cache.specs.Contents.{held}
 use Rattle.install_order.specs.declared.entry.Entry.{Entry}
 use Rattle.log_records.specs.CodecLaws.{HasCodes}
@@ -42,11 +43,9 @@ use Rattle.running_store.specs.Laid.{Laid, IsLaidOn}
 use Rattle.running_store.specs.Parts.{Parts, meaning_in, parts}
 use Rattle.running_store.specs.StoreView.{StoreView, view_of}
 use Rattle.running_store.specs.Taking.{ArePartsInUse}
-use Rattle.restart.specs.Causes.{FailsBy, IsNoDamage, from_log, from_slots}
 use Rattle.restart.specs.DamageLaws.{codes_in, no_late_slot}
-use Rattle.restart.specs.Loading.{IsFiled, IsRead, IsReady}
+use Rattle.restart.specs.Loading.{AreClosed, AreDamaged, IsFiled, IsFreshStore, IsRead, LoadsNot}
 use Rattle.restart.specs.WellFormed.{IsWellFormed}
-use Rattle.restart.specs.declared.restart_err.RestartErr.TheVariants.{Memory}
 
 -- a settled machine stays so over calls that change nothing
 pub all_settled : (old new : Disk) → Stays old new → IsSettled old → IsSettled new
@@ -102,41 +101,29 @@ pub holder_two : (b : Bool) → (if b then 1 else 0) < 2
 holder_two true = omega arith
 holder_two false = omega arith
 
--- slots that are whole report none, and no closed gate
-pub slots_unharmed : (e : SlotErr) → slots.IsNoDamage e → IsNoDamage (from_slots e)
-slots_unharmed of_slots.NotAStore none = absurd none
-slots_unharmed of_slots.DiskFault none = tt
-slots_unharmed (of_slots.Damaged file place) none = absurd none
-slots_unharmed of_slots.Memory none = tt
-
--- memory was refused to the slots
-pub slots_refused : {T U : Type 0} (e : SlotErr) → IsErrOf {T = T} (Err (from_slots e)) Memory → IsErrOf {T = U} (Err e) of_slots.Memory
-slots_refused of_slots.NotAStore is = cc
-slots_refused of_slots.DiskFault is = cc
-slots_refused (of_slots.Damaged file place) is = cc
-slots_refused of_slots.Memory is = refl
-
 -- a log that is whole reports no damage
-pub unharmed : (e : LogErr) → (log.TellsDamage e → ⊥) → IsNoDamage (from_log e)
-unharmed of_log.DiskFault none = tt
-unharmed (of_log.LogFull used need limit) none = tt
-unharmed (of_log.Damaged file place) none = absurd (none tt)
-unharmed (of_log.Exhausted epoch) none = tt
-unharmed of_log.Memory none = tt
+pub unharmed : (e : ReadErr) → (TellsDamage e → ⊥) → IsNoDamage (open_from_read e)
+unharmed of_read.DiskFault none = tt
+unharmed (of_read.Damaged file place) none = absurd (none tt)
+unharmed of_read.Memory none = tt
+
+-- a store is not opened where it is not read
+pub opens_not : (closed : Type 0) (fails : ReadErr → Type 0) (e : ReadErr) → fails e → OpensNot closed fails (open_from_read e)
+opens_not closed fails of_read.DiskFault is = is
+opens_not closed fails (of_read.Damaged file place) is = is
+opens_not closed fails of_read.Memory is = is
 
 module _ {O : Type 0} (meaning : Bounds → Meaning O) where
   -- the slots are not loaded
-  pub slots_fail : (old mid new : Disk) (e : SlotErr) → Stays old mid
-      → slots.FailsBy (Rises mid.disk_faults new.disk_faults) ((files : Files) → new.agrees files → IsClosedAt 0 (files Objects))
-      (slots.FailsAt (λ place. (files : Files) → new.agrees files → slots.IsDamagedAt (files Objects) place)) e
-      → FailsBy (Rises old.disk_faults new.disk_faults) ((files : Files) → new.agrees files → IsClosedAt 0 (files Objects))
-      (λ file place. (files : Files) → new.agrees files → IsDamaged meaning files file place) (from_slots e)
-  slots_fail old mid new of_slots.NotAStore kept fails = fails
-  slots_fail old mid new of_slots.DiskFault kept fails = λ small. let risen = fails small in let later = kept.time.disk_faults in omega arith
-  slots_fail old mid new (of_slots.Damaged file place) kept fails = λ files agrees.
+  pub slots_fail : (old mid new : Disk) (e : OpenErr) → Stays old mid
+      → OpensNot (AreClosed new) (FailsBy (Rises mid.disk_faults new.disk_faults) (FailsAt (λ place. (files : Files) → new.agrees files → IsDamagedAt (files Objects) place))) e
+      → LoadsNot meaning old new e
+  slots_fail old mid new of_opening.NotAStore kept fails = fails
+  slots_fail old mid new of_opening.DiskFault kept fails = λ small. let risen = fails small in let later = kept.time.disk_faults in omega arith
+  slots_fail old mid new (of_opening.Damaged file place) kept fails = λ files agrees.
       let at = fails.1 files agrees in
       subst (λ (f : FileNo). IsDamaged meaning files f place) (sym fails.0) (record { gate = at.gate; fault = at_objects place at.fault })
-  slots_fail old mid new of_slots.Memory kept fails = tt
+  slots_fail old mid new of_opening.Memory kept fails = tt
 
   -- a fault that a load finds damages the store
   damage : (q : Params) (files : Files) (f : FileNo) (n : ℕ) → IsObjectsFile q (files Objects) → IsLoadFault (meaning_in meaning q) files f n → IsDamaged meaning files f n
@@ -148,22 +135,22 @@ module _ {O : Type 0} (meaning : Bounds → Meaning O) where
   }
 
   -- the log is not loaded
-  pub log_fails : (old mid new : Disk) (objects : Laid) (b : Bounds) (e : LogErr) → HasSlots old mid objects → Stays mid new → b ≡ bounds_of objects.slots.params
-      → log.FailsBy (Rises mid.disk_faults new.disk_faults) (λ file place. (files : Files) → new.agrees files → IsLoadFault (meaning b) files file place) e
-      → FailsBy (Rises old.disk_faults new.disk_faults) ((files : Files) → new.agrees files → IsClosedAt 0 (files Objects))
-      (λ file place. (files : Files) → new.agrees files → IsDamaged meaning files file place) (from_log e)
-  log_fails old mid new objects b of_log.DiskFault has more bounds fails = λ small. let risen = fails small in let later = has.kept.time.disk_faults in omega arith
-  log_fails old mid new objects b (of_log.LogFull used need limit) has more bounds fails = tt
-  log_fails old mid new objects b (of_log.Damaged file place) has more bounds fails = λ files agrees.
+  pub log_fails : (old mid new : Disk) (objects : Laid) (b : Bounds) (e : ReadErr) → HasSlots old mid objects → Stays mid new → b ≡ bounds_of objects.slots.params
+      → FailsBy (Rises mid.disk_faults new.disk_faults) (λ file place. (files : Files) → new.agrees files → IsLoadFault (meaning b) files file place) e → LoadsNot meaning old new (open_from_read e)
+  log_fails old mid new objects b e has more bounds fails =
+      let rises = Rises old.disk_faults new.disk_faults in
+      let unread : FileNo → ℕ → Type 0 = λ file place. (files : Files) → new.agrees files → IsLoadFault (meaning b) files file place in
+      opens_not (AreClosed new) (FailsBy rises (AreDamaged meaning new)) e (fails_on (Rises mid.disk_faults new.disk_faults) rises unread (AreDamaged meaning new) e
+      (λ risen small. let rose = risen small in omega (arith, rose, has.kept.time.disk_faults))
+      (λ file place fault files agrees.
       let laid = has.laid files (agreed_before more files agrees) in
-      damage objects.slots.params files file place laid.slots.whole (subst (λ (x : Bounds). IsLoadFault (meaning x) files file place) bounds (fails files agrees))
-  log_fails old mid new objects b (of_log.Exhausted epoch) has more bounds fails = tt
-  log_fails old mid new objects b of_log.Memory has more bounds fails = tt
+      damage objects.slots.params files file place laid.slots.whole (subst (λ (x : Bounds). IsLoadFault (meaning x) files file place) bounds (fault files agrees)))
+      fails)
 
   -- the log of files that meet their format
-  pub log_unharmed : (old mid : Disk) (objects : Laid) (b : Bounds) (e : LogErr) → HasSlots old mid objects → b ≡ bounds_of objects.slots.params → old.tells_files → IsWellFormed meaning old.reads
-      → ((active : FileNo) (header : Header) (groups : List (List (Record O))) → HoldsRecordLog (meaning b) active header groups mid.reads → log.TellsDamage e → ⊥)
-      → IsNoDamage (from_log e)
+  pub log_unharmed : (old mid : Disk) (objects : Laid) (b : Bounds) (e : ReadErr) → HasSlots old mid objects → b ≡ bounds_of objects.slots.params → old.tells_files → IsWellFormed meaning old.reads
+      → ((active : FileNo) (header : Header) (groups : List (List (Record O))) → HoldsRecordLog (meaning b) active header groups mid.reads → TellsDamage e → ⊥)
+      → IsNoDamage (open_from_read e)
   log_unharmed old mid objects b e has bounds told image none =
       let files = sym (has.kept.reads told) in
       let same : image.params ≡ objects.slots.params = one_store image.params objects.slots.params (old.reads Objects) image.objects (slots_told old mid objects has told).slots.whole in
@@ -284,8 +271,8 @@ module _ {O : Type 0} (meaning : Bounds → Meaning O) where
 
       -- The store that is made of it.
       module _ (it : StoreView) (made : it ≡ view_of view objects entries 0 false) where
-        pub is_ready : IsReady last it
-        is_ready = subst (λ (s : StoreView). IsReady last s) (sym made) (record {
+        pub is_ready : IsFreshStore last it
+        is_ready = subst (λ (s : StoreView). IsFreshStore last s) (sym made) (record {
           settled = has.slots.settled;
           fresh = record { unbroken = refl; uncounted = refl };
           empty = (has.slots.empty, empty);
@@ -327,7 +314,7 @@ module _ {O : Type 0} (meaning : Bounds → Meaning O) where
   -- files that hold what was loaded meet their format
   abbrev pub filed_well_formed : (files : Files) (it : Parts) (plan : PlanView) → IsFiled meaning files it plan → IsWellFormed meaning files
   filed_well_formed files it plan is = record {
-    params = it.store.objects.slots.params;
+    params = it.volatile.objects.slots.params;
     active = it.log.log.active;
     header = it.log.log.header;
     groups = is.groups;

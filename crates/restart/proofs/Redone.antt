@@ -1,7 +1,7 @@
 -- What a redo of what was loaded makes of the world, and the check after it.
-use Rattle.std.proofs.Common.{◌≡◌, ◌∙◌, sym, ap, subst, ℕ, zero, suc, ◌++◌, ◌-◌, ◌*◌, List, [], ◌∷◌, map, refl, arith, ⊎_elim, inr, nat_lt, ◌<◌, ◌≢◌, Err}
+use Rattle.std.proofs.Common.{◌≡◌, ◌∙◌, sym, ap, subst, ℕ, zero, suc, ◌++◌, ◌-◌, ◌*◌, List, [], ◌∷◌, map, refl, arith, ⊎_elim, inr, nat_lt, ◌<◌, ◌≢◌}
 use Rattle.std.proofs.lemmas.List.{drop_all}
-use Rattle.disk_model.specs.Disk.{Files, Disk, Stays, IsSettled}
+use Rattle.disk_model.specs.Disk.{Files, Disk, Rises, Stays, IsSettled}
 use Rattle.disk_model.specs.Moments.{agreed_before}
 use Rattle.disk_model.specs.declared.machine.FileNo.{FileNo}
 use Rattle.disk_model.specs.declared.machine.FileNo.TheVariants.{Objects}
@@ -9,8 +9,10 @@ use Rattle.oper_core.specs.Meaning.{Meaning, HasBounds, IsLawful, IsSmall}
 use Rattle.oper_core.specs.declared.bounds.Bounds.{Bounds}
 use Rattle.formats.specs.Log.{Header}
 use Rattle.formats.specs.Objects.{bounds_of, slot_place}
+use Rattle.formats.specs.Reading.{FailsBy}
 use Rattle.formats.specs.Records.{IsRecordLog, payload_of, records_of}
 use Rattle.formats.specs.declared.params.Params.{Params}
+use Rattle.formats.specs.declared.read_err.ReadErr.{ReadErr}
 use Rattle.formats.specs.declared.record.Record.{Record}
 use Rattle.log_frames.specs.LogView.{LogView, used_of}
 use Rattle.log_records.specs.CodecLaws.{HasCodes}
@@ -18,7 +20,7 @@ use Rattle.log_records.specs.Loading.{IsTailFault}
 use Rattle.log_records.specs.RecordLog.{RecordLogView, Keeps}
 use Rattle.log_records.specs.Rewriting.{numbered_from}
 use Rattle.log_records.specs.Uniqueness.{one_records, no_record_fault}
-use Rattle.stable_objects.specs.Reading.{IsLongValue}
+use Rattle.stable_objects.specs.Reading.{IsLongValue, OpensNot, open_from_read}
 use Rattle.stable_objects.specs.SlotsView.{SlotsView, AreOf, head, holder_in}
 use Rattle.explain_core.specs.KeptLog.{AreQuiet, IsQuiet, quiet_turn, turns_kept, kept_stable}
 use Rattle.explain_core.specs.RunLaws.{run-append}
@@ -33,7 +35,7 @@ use Rattle.standing.specs.Moments.{TakesSome, moments_longer, moments_twice}
 use Rattle.standing.specs.Standing.{FilesShow}
 use Rattle.analysis_pass.specs.Analysis.{PlanView, plan_table, least_start}
 use Rattle.running_store.specs.Beside.{IsOnObjects}
-use Rattle.running_store.specs.Calls.{IsCall, IsFailed, Never}
+use Rattle.running_store.specs.Calls.{IsCall, Never}
 use Rattle.running_store.specs.Courses.{Course}
 use Rattle.running_store.specs.Parts.{Parts, Shows, ShowsLog, meaning_in}
 use Rattle.running_store.specs.Stored.{keeps_beside}
@@ -41,20 +43,14 @@ use Rattle.running_store.specs.StoreView.{StoreView}
 use Rattle.running_store.specs.Taking.{Ending, IsAfter, Takes}
 use Rattle.running_store.specs.Taking.Ending.{Done}
 use Rattle.checkpointing.specs.Courses.{closing_course}
-use Rattle.checkpointing.specs.Left.{ending_of_close}
-use Rattle.checkpointing.specs.declared.close_err.CloseErr.{CloseErr}
-use Rattle.checkpointing.specs.declared.close_err.CloseErr.TheVariants as of_check
-use Rattle.redo_pass.specs.Redo.{IsDue, IsLogDue, IsRedone, redo_steps, redone_world}
-use Rattle.redo_pass.specs.Causes as again
-use Rattle.redo_pass.specs.declared.redo_err.RedoErr.{RedoErr}
-use Rattle.redo_pass.specs.declared.redo_err.RedoErr.TheVariants as of_redo
-use Rattle.restart.specs.Causes.{FailsBy, ending_of_opening, from_check, from_redo}
+use Rattle.redo_pass.specs.Redo.{IsRedoDue, IsLogDue, IsRedone, redo_steps, redone_world}
+use Rattle.redo_pass.specs.Causes.{IsSlotFault}
 use Rattle.restart.specs.Courses.{opening_course}
 use Rattle.restart.specs.Damage.{IsFoundInRedo, IsReadAsDamaged}
 use Rattle.restart.specs.DamageLaws.{codes_in}
 use Rattle.restart.specs.Loading.{IsFiled, IsRead}
 use Rattle.restart.specs.Redoing.{IsToRedo}
-use Rattle.restart.proofs.Opened.{filed_well_formed, holder_two}
+use Rattle.restart.proofs.Opened.{filed_well_formed, holder_two, opens_not}
 
 -- no quiet step changes what is stable of a check that waits
 step_pending : {O : Type 0} (m : Meaning O) (w : World O) (s : Step O) → IsQuiet s → (step m w s).pending ≡ w.pending
@@ -100,16 +96,16 @@ module _ {O : Type 0} (meaning : Bounds → Meaning O) (p : Params) (codes : Has
 
   -- its redo is due, by the plan of these records
   pub is_due : ((slots : SlotsView) (plan : PlanView) → slots.params ≡ p → AreOf slots (d.reads Objects) → plan.table ≡ plan_table to.found.shows.header.base (records_of to.found.shows.groups)
-      → plan.start ≡ least_start plan.table.next plan.table.starts → IsDue m p d.reads slots plan (numbered_from plan.start (records_of to.found.shows.groups)) w)
-      → IsLogDue m p d it.log it.store.objects.slots plan w
+      → plan.start ≡ least_start plan.table.next plan.table.starts → IsRedoDue m p d.reads slots plan (numbered_from plan.start (records_of to.found.shows.groups)) w)
+      → IsLogDue m p d it.log it.volatile.objects.slots plan w
   is_due due =
       let planned = to.planned in
       let same = same_log d w to.found.shows to.keeps in
       record {
         stable = to.stable;
         keeps = to.keeps;
-        due = subst (λ (l : List (Record O)). IsDue m p d.reads it.store.objects.slots plan (numbered_from plan.start l) w) (sym same.1)
-            (due it.store.objects.slots plan to.params to.of_file (planned.table ∙ (λ i. plan_table (same.0 i).base (same.1 i))) planned.start);
+        due = subst (λ (l : List (Record O)). IsRedoDue m p d.reads it.volatile.objects.slots plan (numbered_from plan.start l) w) (sym same.1)
+            (due it.volatile.objects.slots plan to.params to.of_file (planned.table ∙ (λ i. plan_table (same.0 i).base (same.1 i))) planned.start);
       }
 
   module _ (limit : ℕ) where
@@ -147,12 +143,12 @@ module _ {O : Type 0} (meaning : Bounds → Meaning O) (p : Params) (codes : Has
             pending_tables = sym (run_pending m w (turns m limit n w) (quiet_turns m limit n w) ∙ crashed-pending m w to.found.crashed);
           }
 
-      redone_shows : IsSound m later → IsRedone m p new.reads after.parts.store limit w → Shows m p new after.parts later
+      redone_shows : IsSound m later → IsRedone m p new.reads after.parts.volatile limit w → Shows m p new after.parts later
       redone_shows sound redone =
           let n = 2 * (end_of w - w.next) in
           let kept = turns_kept m limit n w in
           let stable = crashed-stable m w to.found.crashed to.found.sound in
-          subst (λ (log : RecordLogView). Shows m p new (record { log = log; store = after.parts.store }) later) (sym objects.log) (record {
+          subst (λ (log : RecordLogView). Shows m p new (record { log = log; volatile = after.parts.volatile }) later) (sym objects.log) (record {
             told = objects.runs.time.files_told.0 to.told;
             running = record { sound = sound; live = redone.live; alone = (kept_stable w later kept stable).1 };
             bounds = to.bounds;
@@ -161,7 +157,7 @@ module _ {O : Type 0} (meaning : Bounds → Meaning O) (p : Params) (codes : Has
           })
 
       -- Then the check is taken.
-      module _ (last : Disk) (there : Parts) (sound : IsSound m later) (redone : IsRedone m p new.reads after.parts.store limit w) where
+      module _ (last : Disk) (there : Parts) (sound : IsSound m later) (redone : IsRedone m p new.reads after.parts.volatile limit w) where
         pub opened_after : Takes meaning new last after.parts there (λ m w used. closing_course m w used) Done → IsAfter m p last there w (opening_course m limit w (used_of it.log.log))
         opened_after takes =
             let is = subst (λ (log : RecordLogView). IsAfter m p last there later (closing_course m later (used_of log.log))) objects.log (takes.follows p later (redone_shows sound redone)).1 in
@@ -171,7 +167,7 @@ module _ {O : Type 0} (meaning : Bounds → Meaning O) (p : Params) (codes : Has
         pub check_moments : {ending : Ending} → d.tells_moments → TakesSome m p d new w (redo_steps m limit w) → Takes meaning new last after.parts there (λ m w used. closing_course m w used) ending
             → TakesSome m p d last w (opening_course m limit w (used_of it.log.log)).steps
         check_moments told first takes =
-            let then = takes.moments (objects.runs.time.moments_told.0 told) p later (redone_shows sound redone) in
+            let then = takes.steps (objects.runs.time.moments_told.0 told) p later (redone_shows sound redone) in
             moments_twice m p d new last w (redo_steps m limit w) closing.steps (objects.runs.said to.told) first
             (subst (λ (log : RecordLogView). TakesSome m p new last later (closing_course m later (used_of log.log)).steps) objects.log then)
 
@@ -182,30 +178,15 @@ no_tail_fault m codes d log groups was now file place holds same agrees fault =
     let here = subst (IsRecordLog m log.header groups) (sym same) holds in
     no_record_fault m codes log.header groups (now log.active) place here (fault.1 now agrees (map (payload_of m) groups) here.log)
 
--- why a redo fails, and how the opening then ends
-pub redo_fails : (rises : Type 0) (fault there : FileNo → ℕ → Type 0) (e : RedoErr) → ((file : FileNo) (place : ℕ) → fault file place → there file place) → again.FailsBy rises fault e → FailsBy rises ⊥ there (from_redo e)
-redo_fails rises fault there of_redo.DiskFault so fails = fails
-redo_fails rises fault there (of_redo.Damaged file place) so fails = so file place fails
-redo_fails rises fault there of_redo.Memory so fails = tt
-
-pub redo_ends : (e : RedoErr) → again.ending_of_redo {T = Unit {0}} (Err e) ≡ ending_of_opening {T = Unit {0}} (Err (from_redo e))
-redo_ends of_redo.DiskFault = refl
-redo_ends (of_redo.Damaged file place) = refl
-redo_ends of_redo.Memory = refl
-
--- and why the check does
-pub check_fails : (rises closed : Type 0) (fault : FileNo → ℕ → Type 0) (e : CloseErr) → (IsFailed (ending_of_close {T = Unit {0}} (Err e)) → rises) → FailsBy rises closed fault (from_check e)
-check_fails rises closed fault of_check.DiskFault rose = rose tt
-check_fails rises closed fault of_check.Memory rose = tt
-
-pub check_ends : (e : CloseErr) → ending_of_close {T = Unit {0}} (Err e) ≡ ending_of_opening {T = Unit {0}} (Err (from_check e))
-check_ends of_check.DiskFault = refl
-check_ends of_check.Memory = refl
+-- why a store that was loaded is not opened
+pub opening_fails : {O : Type 0} (meaning : Bounds → Meaning O) (old new : Disk) (before after : Parts) (e : ReadErr) → FailsBy (Rises old.disk_faults new.disk_faults) (IsFoundInRedo meaning old new before after) e
+    → OpensNot ⊥ (FailsBy (Rises old.disk_faults new.disk_faults) (IsFoundInRedo meaning old new before after)) (open_from_read e)
+opening_fails meaning old new before after = opens_not ⊥ (FailsBy (Rises old.disk_faults new.disk_faults) (IsFoundInRedo meaning old new before after))
 
 module _ {O : Type 0} (meaning : Bounds → Meaning O) (bounded : (b : Bounds) → HasBounds b (meaning b)) (lawful : (b : Bounds) → IsSmall b → IsLawful (meaning b)) (old d new : Disk) (kept : Stays old d) (it after : Parts) (plan : PlanView)
-    (bounds : it.log.bounds ≡ bounds_of it.store.objects.slots.params) (file : FileNo) (place : ℕ) (found : IsFoundInRedo meaning d new it after file place) where
+    (bounds : it.log.bounds ≡ bounds_of it.volatile.objects.slots.params) (file : FileNo) (place : ℕ) (found : IsFoundInRedo meaning d new it after file place) where
   abbrev q : Params
-  q = it.store.objects.slots.params
+  q = it.volatile.objects.slots.params
 
   -- Of files that were loaded the redo reads no record that breaks its format.
   no_tail : (was now : Files) → IsFiled meaning was it plan → now it.log.log.active ≡ was it.log.log.active → new.agrees now
@@ -220,8 +201,8 @@ module _ {O : Type 0} (meaning : Bounds → Meaning O) (bounded : (b : Bounds) �
       let told_d = kept.time.files_told.0 told in
       let reads = kept.reads told in
       ⊎_elim
-      (λ (slot : again.IsSlotFault d new it.store.objects.slots after.store.objects.slots file place).
-      slot.never told_d (subst (λ (f : Files). AreOf it.store.objects.slots (f Objects)) (sym reads) read.filed.laid.slots))
+      (λ (slot : IsSlotFault d new it.volatile.objects.slots after.volatile.objects.slots file place).
+      slot.never told_d (subst (λ (f : Files). AreOf it.volatile.objects.slots (f Objects)) (sym reads) read.filed.laid.slots))
       (no_tail old.reads new.reads read.filed ((found.runs.reads told_d).others it.log.log.active read.filed.file.in_force.a_log ∙ ap (λ (f : Files). f it.log.log.active) reads) (found.runs.ends.agreeing (found.runs.time.files_told.0 told_d)))
       found.fault
 
@@ -231,10 +212,10 @@ module _ {O : Type 0} (meaning : Bounds → Meaning O) (bounded : (b : Bounds) �
       let was = found.runs.agreed files agrees in
       let is = filed was.0 was.1 in
       ⊎_elim
-      (λ (slot : again.IsSlotFault d new it.store.objects.slots after.store.objects.slots file place).
+      (λ (slot : IsSlotFault d new it.volatile.objects.slots after.volatile.objects.slots file place).
       let x = slot.object in
       let long = slot.long in
-      let s = holder_in after.store.objects.slots x in
+      let s = holder_in after.volatile.objects.slots x in
       inr (record {
         loaded = was.0;
         before = agreed_before kept was.0 was.1;
@@ -244,7 +225,7 @@ module _ {O : Type 0} (meaning : Bounds → Meaning O) (bounded : (b : Bounds) �
         object = x;
         below = subst (λ (p : Params). x < p.objects) slot.params long.below;
         slot = s;
-        two = holder_two (nat_lt (head after.store.objects.slots x 0) (head after.store.objects.slots x 1));
+        two = holder_two (nat_lt (head after.volatile.objects.slots x 0) (head after.volatile.objects.slots x 1));
         long = subst (λ (p : Params). IsLongValue p.cap (slot_place p.cap x s) (files Objects) place) slot.params (long.long files agrees);
       }))
       (λ tail. absurd (no_tail was.0 files is (was.2.others it.log.log.active is.file.in_force.a_log) agrees tail))

@@ -1,6 +1,7 @@
 -- A restart may be made in every sound world.
 use Rattle.std.proofs.Common.{◌≡◌, ◌∙◌, sym, ap, subst, ℕ, ◌+◌, ◌-◌, ◌*◌, ◌^◌, nat_lt, Bool, true, false, if◌then◌else◌, List, [], ◌∷◌, refl}
 use Rattle.oper_core.specs.Meaning.{Meaning}
+use Rattle.formats.specs.Limits.{log_limit}
 use Rattle.explain_core.specs.History.{Member, commands_of}
 use Rattle.explain_core.specs.KeptLog.{turns_kept, kept_stable}
 use Rattle.explain_core.specs.RunLaws.{run-append, allowed-append}
@@ -10,7 +11,6 @@ use Rattle.explain_core.specs.World.Step.{Block_gate, Crash}
 use Rattle.standing.specs.Crashed.{crashed-stable}
 use Rattle.running_store.specs.Courses.{Course, course, waits, buffered, force_steps, room_steps, grown}
 use Rattle.running_store.specs.Courses.Stop.{Through, Full}
-use Rattle.running_store.specs.Logged.{log_limit}
 use Rattle.running_store.specs.Rewrites.{check_length}
 use Rattle.running_store.specs.Running.{IsRunning, MayBeTaken}
 use Rattle.checkpointing.specs.Courses.{check_steps, logged_course, closing_course}

@@ -44,13 +44,13 @@ crash_twice m w = ap (λ (h : List (Member _)). record (step m w Crash) { histor
 no_waiting : (log : RecordLogView) → log.log.pending ≡ [] → used_of log.log ≡ log.log.end
 no_waiting log none = ap (λ (bytes : List ℕ). end_with log.log.end bytes) none
 
-module _ {O : Type 0} (meaning : Bounds → Meaning O) (old d : Disk) (kept : Stays old d) (it : Parts) (plan : PlanView) (bounds : it.log.bounds ≡ bounds_of it.store.objects.slots.params) where
+module _ {O : Type 0} (meaning : Bounds → Meaning O) (old d : Disk) (kept : Stays old d) (it : Parts) (plan : PlanView) (bounds : it.log.bounds ≡ bounds_of it.volatile.objects.slots.params) where
   -- what was read is attached
   pub read_attached : (old.tells_files → IsRead meaning old.reads d it plan) → IsAttached meaning d it
   read_attached read told_d =
       let told = kept.time.files_told.1 told_d in
       let is = read told in (
-        subst (λ (f : Files). IsLaidOn it.store.objects (f Objects)) (sym (kept.reads told)) is.filed.laid,
+        subst (λ (f : Files). IsLaidOn it.volatile.objects (f Objects)) (sym (kept.reads told)) is.filed.laid,
         record { stable = records_of is.filed.groups; pending = []; keeps = subst (λ (b : Bounds). Keeps (meaning b) d it.log (records_of is.filed.groups) []) (sym bounds) is.keeps },
       )
 
@@ -64,7 +64,7 @@ module _ {O : Type 0} (meaning : Bounds → Meaning O) (old d : Disk) (kept : St
     -- the world after the crash is found in the files, and is to be redone
     pub to_redo : IsRead meaning old.reads d it plan → IsSound m crashed → FilesShow m p old.reads crashed → IsToRedo m p d it plan crashed
     to_redo read sound shows =
-        let same : it.store.objects.slots.params ≡ p = one_store it.store.objects.slots.params p (old.reads Objects) read.filed.laid.slots.whole opens.shows.objects in
+        let same : it.volatile.objects.slots.params ≡ p = one_store it.volatile.objects.slots.params p (old.reads Objects) read.filed.laid.slots.whole opens.shows.objects in
         let files = sym (kept.reads opens.told) in
         record {
           told = kept.time.files_told.0 opens.told;
@@ -76,7 +76,7 @@ module _ {O : Type 0} (meaning : Bounds → Meaning O) (old d : Disk) (kept : St
           };
           params = same;
           bounds = bounds ∙ ap (λ (q : Params). bounds_of q) same;
-          of_file = subst (λ (f : Files). AreOf it.store.objects.slots (f Objects)) files read.filed.laid.slots;
+          of_file = subst (λ (f : Files). AreOf it.volatile.objects.slots (f Objects)) files read.filed.laid.slots;
           stable = records_of read.filed.groups;
           keeps = subst (λ (q : Params). Keeps (meaning_in meaning q) d it.log (records_of read.filed.groups) []) same read.keeps;
           planned = read.filed.planned;

@@ -9,11 +9,11 @@ use Rattle.formats.specs.Bytes.{IsClosedAt}
 use Rattle.formats.specs.FirstFault.{IsDamaged}
 use Rattle.formats.specs.Objects.{slot_place}
 use Rattle.stable_objects.specs.Reading.{IsLongValue}
+use Rattle.stable_objects.specs.declared.open_err.OpenErr.{OpenErr}
+use Rattle.stable_objects.specs.declared.open_err.OpenErr.TheVariants.{NotAStore, Damaged}
 use Rattle.running_store.specs.Parts.{Parts}
 use Rattle.redo_pass.specs.Causes.{IsRedoFault}
 use Rattle.restart.specs.WellFormed.{IsWellFormed}
-use Rattle.restart.specs.declared.restart_err.RestartErr.{RestartErr}
-use Rattle.restart.specs.declared.restart_err.RestartErr.TheVariants.{NotAStore, Damaged}
 
 -- Files that agreed before met their format. These differ from them at most in the objects file, and there a slot of an object,
 -- open or not, has at this place a length that is more than the store allows, or goes past the end of the file.
@@ -38,10 +38,10 @@ IsReadAsDamaged meaning old new file place = (files : Files) → new.agrees file
 -- A redo, which changed the objects file alone, found this fault.
 pub record IsFoundInRedo {O : Type 0} (meaning : Bounds → Meaning O) (old new : Disk) (before after : Parts) (file : FileNo) (place : ℕ) : Type 0 where
   pub runs : Runs (In Objects Any) Same old new
-  pub fault : IsRedoFault (meaning before.log.bounds) old new before.log.log before.store.objects.slots after.store.objects.slots file place
+  pub fault : IsRedoFault (meaning before.log.bounds) old new before.log.log before.volatile.objects.slots after.volatile.objects.slots file place
 
 -- Where a restart reports damage, all files that agree with what was read are read as damaged there. Where it finds no store,
 -- the objects gate is closed in all of them.
-pub record IsReported {O : Type 0} (meaning : Bounds → Meaning O) (old new : Disk) (result : Result Parts RestartErr) : Type 0 where
+pub record IsReported {O : Type 0} (meaning : Bounds → Meaning O) (old new : Disk) (result : Result Parts OpenErr) : Type 0 where
   pub damaged : (file : FileNo) (place : ℕ) → IsErrOf result (Damaged file place) → IsReadAsDamaged meaning old new file place
   pub no_store : IsErrOf result NotAStore → (files : Files) → new.agrees files → IsClosedAt 0 (files Objects)

@@ -1,7 +1,6 @@
 pub mod WellFormed
 pub mod DamageLaws
 pub mod Damage
-pub mod Causes
 pub mod Courses
 pub mod Starts
 pub mod Loading

@@ -10,6 +10,9 @@ use Rattle.formats.specs.Bytes.{IsOpenAt, IsClosedAt}
 use Rattle.formats.specs.FirstFault.{IsDamaged}
 use Rattle.formats.specs.Image.{EndsAt}
 use Rattle.formats.specs.declared.params.Params.{Params}
+use Rattle.stable_objects.specs.Reading.{IsNoDamage}
+use Rattle.stable_objects.specs.declared.open_err.OpenErr.{OpenErr}
+use Rattle.stable_objects.specs.declared.open_err.OpenErr.TheVariants.{DiskFault, NotAStore, Damaged, Memory}
 use Rattle.explain_core.specs.Sound.{IsSound}
 use Rattle.explain_core.specs.World.{World, Step}
 use Rattle.standing.specs.Moments.{ShowsSome}
@@ -18,11 +21,8 @@ use Rattle.running_store.specs.Kept.{IsAttached}
 use Rattle.running_store.specs.Parts.{Parts}
 use Rattle.running_store.specs.StoreView.{StoreView}
 use Rattle.running_store.specs.Taking.{ArePartsInUse}
-use Rattle.restart.specs.Causes.{IsNoDamage}
 use Rattle.restart.specs.Starts.{OrAtStart}
 use Rattle.restart.specs.WellFormed.{IsWellFormed}
-use Rattle.restart.specs.declared.restart_err.RestartErr.{RestartErr}
-use Rattle.restart.specs.declared.restart_err.RestartErr.TheVariants.{DiskFault, NotAStore, Damaged, Memory}
 
 -- The machine reports its files, which need not be settled; what reads give shows the world, which is sound, and there the
 -- log in force has this length.
@@ -34,7 +34,7 @@ pub record OpensOn {O : Type 0} (m : Meaning O) (p : Params) (d : Disk) (used : 
 
 -- What a restart says on every machine: time passes and nothing is said, and a fault of the disk is counted. What it opens
 -- is in use, and settled; where the machine reports its files, it is attached to them.
-pub record IsOpening {O : Type 0} (meaning : Bounds → Meaning O) (old new : Disk) (result : Result Parts RestartErr) : Type 0 where
+pub record IsOpening {O : Type 0} (meaning : Bounds → Meaning O) (old new : Disk) (result : Result Parts OpenErr) : Type 0 where
   pub time : Passes old new
   pub quiet : old.tells_files → new.said ≡ old.said
   pub fault : IsErrOf result DiskFault → Rises old.disk_faults new.disk_faults
@@ -45,7 +45,7 @@ pub record IsOpening {O : Type 0} (meaning : Bounds → Meaning O) (old new : Di
 -- What a restart says of the files, where the machine reports them. A store is opened only where they meet their format;
 -- where they do, they are neither called damaged nor no store. Where they do not, they stay as they are, and the damage
 -- that is reported is there, and none other: it is that of the first check that fails.
-pub record IsJudged {O : Type 0} (meaning : Bounds → Meaning O) (old new : Disk) (result : Result Parts RestartErr) : Type 0 where
+pub record IsJudged {O : Type 0} (meaning : Bounds → Meaning O) (old new : Disk) (result : Result Parts OpenErr) : Type 0 where
   pub read : OnOk result (IsWellFormed meaning old.reads)
   pub whole : IsWellFormed meaning old.reads → IfErr result IsNoDamage
   pub kept : IsWellFormed meaning old.reads ⊎ Stays old new
@@ -62,6 +62,6 @@ abbrev pub OpensThrough : {O : Type 0} → Meaning O → Params → Disk → Dis
 OpensThrough m p old new w steps = LeavesOnly old new (OrAtStart old (IsSilent (ShowsSome m p w steps) old.said))
 
 -- the parts of the store that a restart answers
-abbrev pub opened : Result StoreView RestartErr → Result Parts RestartErr
+abbrev pub opened : Result StoreView OpenErr → Result Parts OpenErr
 opened (Ok it) = Ok it.parts
 opened (Err cause) = Err cause

@@ -20,9 +20,9 @@ use Rattle.restart.specs.Loading.{IsPlanned}
 pub record IsToRedo {O : Type 0} (m : Meaning O) (p : Params) (d : Disk) (it : Parts) (plan : PlanView) (w : World O) : Type 0 where
   pub told : d.tells_files
   pub found : IsFound m p d.reads (commands_of w.history) w
-  pub params : it.store.objects.slots.params ≡ p
+  pub params : it.volatile.objects.slots.params ≡ p
   pub bounds : it.log.bounds ≡ bounds_of p
-  pub of_file : AreOf it.store.objects.slots (d.reads Objects)
+  pub of_file : AreOf it.volatile.objects.slots (d.reads Objects)
   pub stable : List (Record O)
   pub keeps : Keeps m d it.log stable []
   pub planned : IsPlanned it.log.log.header.base stable plan

@@ -11,10 +11,9 @@
 mod laws;
 mod loading;
 mod opening;
-mod restart_err;
 mod restarting;
 
 pub use laws::{a_restart_may_be_made, one_damage};
 pub use redo_pass::Tuning;
-pub use restart_err::RestartErr;
 pub use restarting::restart;
+pub use stable_objects::OpenErr;

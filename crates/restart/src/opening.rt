@@ -1,23 +1,24 @@
 // What is loaded is done again, and a check is logged.
 ghost use Rattle.std.specs.Prelude.{IfErr, OnOk};
 ghost use Rattle.disk_model.specs.Disk.{Rises};
+ghost use Rattle.formats.specs.Reading.{FailsBy};
 ghost use Rattle.formats.specs.declared.params.Params.{Params as Numbers};
 ghost use Rattle.explain_core.specs.World.{World};
 ghost use Rattle.standing.specs.Moments.{TakesSome};
-ghost use Rattle.running_store.specs.Calls.{IsCall, Never};
+ghost use Rattle.running_store.specs.Calls.{IsCall, Never, ending_of_read};
 ghost use Rattle.running_store.specs.Parts.{meaning_in};
-ghost use Rattle.running_store.specs.StoreView.{length_of};
+ghost use Rattle.running_store.specs.StoreView.{log_length};
 ghost use Rattle.running_store.specs.Taking.{IsAfter};
-ghost use Rattle.restart.specs.Causes.{FailsBy, ending_of_opening};
 ghost use Rattle.restart.specs.Courses.{opening_course};
 ghost use Rattle.restart.specs.Damage.{IsFoundInRedo};
-ghost use Rattle.restart.specs.Loading.{IsReady};
+ghost use Rattle.restart.specs.Loading.{IsFreshStore};
 ghost use Rattle.restart.specs.Redoing.{IsToRedo};
 
-use crate::{RestartErr, Tuning};
+use crate::Tuning;
 use analysis_pass::Plan;
 use checkpointing::closing_check;
 use disk_model::Machine;
+use formats::ReadErr;
 use oper_core::Oper;
 use redo_pass::redo;
 use running_store::Store;
@@ -29,18 +30,18 @@ pub(crate) fn open<O: Oper, M: Machine>(
     store: &mut Store<O>,
     machine: &mut M,
     tuning: Tuning,
-) -> Result<(), RestartErr>
-    requires ready { IsReady (M.disk machine.old) store.old }
-    ensures call { IsCall O.meaning (M.disk machine.old) (M.disk machine.new) store.old store.new 0 Never (ending_of_opening result) }
+) -> Result<(), ReadErr>
+    requires ready { IsFreshStore (M.disk machine.old) store.old }
+    ensures call { IsCall O.meaning (M.disk machine.old) (M.disk machine.new) store.old store.new 0 Never (ending_of_read result) }
     ensures follows { (p : Numbers) (w : World O) →
         IsToRedo (meaning_in O.meaning p) p (M.disk machine.old) store.old.parts plan.now w →
         OnOk result (IsAfter (meaning_in O.meaning p) p (M.disk machine.new) store.new.parts w
-        (opening_course (meaning_in O.meaning p) tuning.redo_dirty w (length_of store.old))) }
-    ensures moments { (M.disk machine.old).tells_moments → (p : Numbers) (w : World O) →
+        (opening_course (meaning_in O.meaning p) tuning.redo_dirty w (log_length store.old))) }
+    ensures steps { (M.disk machine.old).tells_moments → (p : Numbers) (w : World O) →
         IsToRedo (meaning_in O.meaning p) p (M.disk machine.old) store.old.parts plan.now w →
         TakesSome (meaning_in O.meaning p) p (M.disk machine.old) (M.disk machine.new) w
-        (opening_course (meaning_in O.meaning p) tuning.redo_dirty w (length_of store.old)).steps }
-    ensures damage { IfErr result (FailsBy (Rises (M.disk machine.old).disk_faults (M.disk machine.new).disk_faults) ⊥
+        (opening_course (meaning_in O.meaning p) tuning.redo_dirty w (log_length store.old)).steps }
+    ensures damage { IfErr result (FailsBy (Rises (M.disk machine.old).disk_faults (M.disk machine.new).disk_faults)
         (IsFoundInRedo O.meaning (M.disk machine.old) (M.disk machine.new) store.old.parts store.new.parts)) }
 {
     explain_core::turns_keep::<O>();

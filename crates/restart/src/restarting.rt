@@ -9,12 +9,13 @@ ghost use Rattle.restart.specs.Damage.{IsReported};
 ghost use Rattle.restart.specs.Loading.{IsFresh};
 ghost use Rattle.restart.specs.Opening.{IsJudged, IsOpening, OpensOn, OpensThrough, opened};
 
+use crate::Tuning;
 use crate::loading::load;
 use crate::opening::open;
-use crate::{RestartErr, Tuning};
 use disk_model::Machine;
 use oper_core::Oper;
 use running_store::Store;
+use stable_objects::OpenErr;
 use std::alloc::Global;
 
 /// Opens the files: they are read, the records are done again, and a check is logged where the log stays within 2^48 bytes.
@@ -24,7 +25,7 @@ pub fn restart<O: Oper, M: Machine>(
     alloc: Global,
     machine: &mut M,
     tuning: Tuning,
-) -> Result<Store<O>, RestartErr>
+) -> Result<Store<O>, OpenErr>
     requires some { 0 < tuning.clean }
     ensures opening { IsOpening O.meaning (M.disk machine.old) (M.disk machine.new) (opened result) }
     ensures judged { (M.disk machine.old).tells_files → IsJudged O.meaning (M.disk machine.old) (M.disk machine.new) (opened result) }
@@ -35,7 +36,7 @@ pub fn restart<O: Oper, M: Machine>(
     ensures follows { (p : Numbers) (used : ℕ) (w : World O) → OpensOn (meaning_in O.meaning p) p (M.disk machine.old) used w →
         IfOk (opened result) (λ it. IsAfter (meaning_in O.meaning p) p (M.disk machine.new) it w
         (restart_course (meaning_in O.meaning p) tuning.redo_dirty w used)) }
-    ensures moments { (M.disk machine.old).tells_moments → (p : Numbers) (used : ℕ) (w : World O) →
+    ensures steps { (M.disk machine.old).tells_moments → (p : Numbers) (used : ℕ) (w : World O) →
         OpensOn (meaning_in O.meaning p) p (M.disk machine.old) used w →
         OpensThrough (meaning_in O.meaning p) p (M.disk machine.old) (M.disk machine.new) w
         (restart_course (meaning_in O.meaning p) tuning.redo_dirty w used).steps }
@@ -52,7 +53,7 @@ pub fn restart<O: Oper, M: Machine>(
         Err(cause) => {
             // A value of many parts is dropped by a call, which the proof passes in one step.
             drop(store);
-            Err(cause)
+            Err(OpenErr::from(cause))
         }
     }
 }

@@ -7,21 +7,21 @@ use Rattle.disk_model.specs.Disk.{Disk}
 use Rattle.disk_model.specs.declared.machine.Failed.{Failed as Failure}
 use Rattle.oper_core.specs.Meaning.{Meaning}
 use Rattle.oper_core.specs.declared.bounds.Bounds.{Bounds}
+use Rattle.formats.specs.Limits.{log_limit}
 use Rattle.formats.specs.Objects.{bounds_of}
 use Rattle.formats.specs.declared.params.Params.{Params}
 use Rattle.explain_core.specs.History.{commands_of}
 use Rattle.explain_core.specs.RunLaws.{run-append}
 use Rattle.explain_core.specs.Sound.{IsSound}
-use Rattle.explain_core.specs.World.{World, Step, Table, step, run, IsAllowed}
+use Rattle.explain_core.specs.World.{World, Step, Starts, step, run, IsAllowed}
 use Rattle.explain_core.specs.World.Step.{Begin, End, Block_gate}
 use Rattle.standing.specs.Moments.{moments_longer}
 use Rattle.running_store.specs.Appended.{next_number}
 use Rattle.running_store.specs.Courses.{force_steps, waits}
-use Rattle.running_store.specs.Logged.{log_limit}
 use Rattle.running_store.specs.Taking.Ending.{Done, Failed}
 use Rattle.cache_manager.specs.Upkeep.{upkeep_force}
 use Rattle.store_engine.specs.Calls.{IsBeginning, IsForcing}
-use Rattle.store_engine.specs.Engine.{EngineView, IsCall, Kept, ShowsIn}
+use Rattle.store_engine.specs.Engine.{EngineView, IsEngineCall, Kept, ShowsIn}
 use Rattle.store_engine.specs.Store.{meaning_in}
 use Rattle.store_engine.proofs.Steps.{are_plain, same_commands, steps_extend}
 
@@ -37,7 +37,7 @@ record IsStill {O : Type 0} (w : World O) : Type 0 where
   pub forced : w.forced ≡ length w.history
   pub none : w.pending ≡ []
 
-no_tables : (l : List Table) → nat_lt 0 (length l) ≡ false → l ≡ []
+no_tables : (l : List Starts) → nat_lt 0 (length l) ≡ false → l ≡ []
 no_tables [] is = refl
 no_tables (t ∷ l) is = absurd (omega (arith, ltb-false _ _ is))
 
@@ -55,10 +55,10 @@ module _ {O : Type 0} (meaning : Bounds → Meaning O) (old new : Disk) (before 
   -- the force failed
   pub not_begun : (e : Failure) → IsForcing meaning old new before mid (Err e) → IsBeginning meaning old new before mid {T = Unit {0}} (Err e)
   not_begun e it = record {
-    call = subst (λ (o : Option ℕ). IsCall meaning log_limit old new before (record mid { group = o }) 0 Failed) it.call.group it.call;
+    call = subst (λ (o : Option ℕ). IsEngineCall meaning log_limit old new before (record mid { group = o }) 0 Failed) it.call.group it.call;
     takes = record {
       follows = λ p w shows. tt;
-      moments = λ told p w shows. moments_longer (meaning_in meaning p) p old new w (force_steps (meaning_in meaning p) w) (Begin ∷ []) (it.takes.moments told p w shows);
+      steps = λ told p w shows. moments_longer (meaning_in meaning p) p old new w (force_steps (meaning_in meaning p) w) (Begin ∷ []) (it.takes.steps told p w shows);
     };
     commands = it.commands;
     opened = tt;
@@ -105,12 +105,12 @@ module _ {O : Type 0} (meaning : Bounds → Meaning O) (old new : Disk) (before 
     -- the force was made, and the group is open
     pub begun : IsBeginning meaning old new before opened_engine {T = Unit {0}} (Ok tt)
     begun = record {
-      call = subst (λ (o : Option ℕ). IsCall meaning log_limit old new before (record mid { group = o }) 0 Done) it.call.group it.call;
+      call = subst (λ (o : Option ℕ). IsEngineCall meaning log_limit old new before (record mid { group = o }) 0 Done) it.call.group it.call;
       takes = record {
         follows = λ p w shows.
             let there = it.takes.follows p w shows in
             (refl, record { shows = shown_after p w shows there.1.shows; used = there.1.used });
-        moments = λ told p w shows. moments_longer (meaning_in meaning p) p old new w (force_steps (meaning_in meaning p) w) (Begin ∷ []) (it.takes.moments told p w shows);
+        steps = λ told p w shows. moments_longer (meaning_in meaning p) p old new w (force_steps (meaning_in meaning p) w) (Begin ∷ []) (it.takes.steps told p w shows);
       };
       commands = record {
         holds = λ p commands holds.

@@ -13,11 +13,11 @@ use Rattle.running_store.specs.Courses.{Course, Stop}
 use Rattle.running_store.specs.StoreView.{StoreView}
 use Rattle.running_store.specs.Taking.{Ending, Takes}
 use Rattle.execution.specs.Stops.{StopsCommand}
-use Rattle.store_engine.specs.Engine.{EngineView, IsCall, KeepsCommands, TakesIn, engine_of}
+use Rattle.store_engine.specs.Engine.{EngineView, IsEngineCall, KeepsCommands, TakesIn, engine_of}
 use Rattle.store_engine.proofs.Grouped.{takes_alone}
 use Rattle.store_engine.proofs.Holding.{Stand}
 use Rattle.store_engine.proofs.Keeping.{IsPlainCourse, KeepsRuns, MayTake, takes_keeps}
-use Rattle.store_engine.proofs.Ways.{unbroken_unless}
+use Rattle.store_engine.proofs.Ways.{unbroken_or}
 
 -- a group that began with a number up to the next one did so still
 pub begun_still : (group : Option ℕ) (next later : ℕ) → next ≤ later → IfSome group (λ n. n ≤ next) → IfSome group (λ n. n ≤ later)
@@ -34,7 +34,7 @@ as_alone store later group before is none P has =
 module _ {O : Type 0} (meaning : Bounds → Meaning O) (old new : Disk) (store later : StoreView) (logged : ℕ) (stops : RecordLogView → Stop → Type 0) (ending : Ending)
     (call : of_store.IsCall meaning old new store later logged stops ending) where
   pub call_of : (most : ℕ) (group : Option ℕ) → ((log : RecordLogView) (stop : Stop) → stops log stop → StopsCommand (is_some group) most log stop)
-      → IsCall meaning most old new (engine_of store group) (engine_of later group) logged ending
+      → IsEngineCall meaning most old new (engine_of store group) (engine_of later group) logged ending
   call_of most group so = record {
     time = call.quiet.time;
     quiet = call.quiet.said;
@@ -48,7 +48,7 @@ module _ {O : Type 0} (meaning : Bounds → Meaning O) (old new : Disk) (store l
   }
 
   pub fine : IsFailed ending ⊎ (later.broken ≡ false)
-  fine = unbroken_unless later.broken ending call.broken
+  fine = unbroken_or later.broken (IsFailed ending) call.broken
 
   -- outside groups
   module _ (course : Meaning O → World O → ℕ → Course O) (takes : Takes meaning old new store.parts later.parts course ending) where

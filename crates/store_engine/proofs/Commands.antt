@@ -20,14 +20,14 @@ use Rattle.explain_core.specs.RunLaws.{Begins, begins-all, begins-allowed}
 use Rattle.explain_core.specs.StableLaws.{commands_of-append}
 use Rattle.explain_core.specs.Sound.{IsGroup, IsSound}
 use Rattle.explain_core.specs.Taken.{IsAfterSome}
-use Rattle.explain_core.specs.World.{World, Step, Table, step, run, end_of, IsLive}
+use Rattle.explain_core.specs.World.{World, Step, Starts, step, run, end_of, IsLive}
 use Rattle.explain_core.specs.World.Step.{Append, Block_gate}
 use Rattle.standing.specs.Moments.{ShowsSome, TakesSome}
 use Rattle.standing.specs.Standing.{FilesShow}
 use Rattle.running_store.specs.Appended.{next_number}
 use Rattle.running_store.specs.Courses.{Course, force_steps, grown, is_through, waits}
 use Rattle.running_store.specs.Parts.{Shows}
-use Rattle.running_store.specs.StoreView.{StoreView, length_of}
+use Rattle.running_store.specs.StoreView.{StoreView, log_length}
 use Rattle.running_store.specs.Taking.{Ending, Follows, Takes}
 use Rattle.running_store.specs.Taking.Ending.{Done, Stopped, Short, Failed}
 use Rattle.running_store.specs.Commands.{command_length}
@@ -181,12 +181,12 @@ module _ {O : Type 0} (meaning : Bounds → Meaning O) (p : Params) (old new : D
   exec_follows grouped is e unbroken f = course_after (exec_course m grouped (params_of before).limit op (ungrouped w) (used_in before)) (same_course grouped is) e unbroken f
 
   pub exec_moments : (grouped : Bool) → grouped ≡ is_some before.group → TakesSome m p old new (ungrouped w) (exec_course m grouped (params_of before).limit op (ungrouped w) (used_in before)).steps → TakesSome m p old new w whole.steps
-  exec_moments grouped is moments =
+  exec_moments grouped is steps =
       silent_weaker old new (ShowsSome m p (ungrouped w) whole.steps) (ShowsSome m p w whole.steps) some_after
-      (subst (λ (c : Course O). TakesSome m p old new (ungrouped w) c.steps) (same_course grouped is) moments)
+      (subst (λ (c : Course O). TakesSome m p old new (ungrouped w) c.steps) (same_course grouped is) steps)
 
 -- why a command gets its answer is said of the world but for its group
-pub world_cause : {O : Type 0} (grouped : Bool) (m : Meaning O) (limit : ℕ) (w : World O) (used : ℕ) (op : O) (r : Result ℕ ExecErr) → of_world.HasCause grouped m limit (ungrouped w) used op r → of_world.HasCause grouped m limit w used op r
+pub world_cause : {O : Type 0} (grouped : Bool) (m : Meaning O) (limit : ℕ) (w : World O) (used : ℕ) (op : O) (r : Result ℕ ExecErr) → of_world.HasCauseIn grouped m limit (ungrouped w) used op r → of_world.HasCauseIn grouped m limit w used op r
 world_cause grouped m limit w used op (Ok n) cause = cause
 world_cause grouped m limit w used op (Err (Refused refusal)) cause = cause
 world_cause grouped m limit w used op (Err (LogFull held need most)) cause = (cause.0, cause.1, cause.2, cause.3 ∙ same_need grouped, cause.4)
@@ -205,7 +205,7 @@ pub exec_takes : {O : Type 0} (meaning : Bounds → Meaning O) (old new : Disk) 
     → TakesIn meaning old new before after (λ m w used. exec_course m (is_some w.group) (params_of before).limit op w used) (ending_of_exec r)
 exec_takes meaning old new before after op r grouped is keeps may same unbroken takes = record {
   follows = λ p w shows. exec_follows meaning p old new before after op keeps may same w shows grouped is (ending_of_exec r) unbroken (takes.follows p (ungrouped w) shows.shows);
-  moments = λ told p w shows. exec_moments meaning p old new before after op keeps may same w shows grouped is (takes.moments told p (ungrouped w) shows.shows);
+  steps = λ told p w shows. exec_moments meaning p old new before after op keeps may same w shows grouped is (takes.steps told p (ungrouped w) shows.shows);
 }
 
 module _ {O : Type 0} (meaning : Bounds → Meaning O) (p : Params) (old new : Disk) (before after : EngineView) (op : O) (keeps : KeepsRuns meaning) (may : MayExecAll meaning (params_of before).limit op)
@@ -257,7 +257,7 @@ module _ {O : Type 0} (meaning : Bounds → Meaning O) (p : Params) (old new : D
       }
 
   -- a command that is done is after the others
-  pub exec_ok : (r : Result ℕ ExecErr) → FollowsIn meaning p new after w course_here (ending_of_exec r) → of_world.HasCause (is_some w.group) mean p.limit w (used_in before) op r
+  pub exec_ok : (r : Result ℕ ExecErr) → FollowsIn meaning p new after w course_here (ending_of_exec r) → of_world.HasCauseIn (is_some w.group) mean p.limit w (used_in before) op r
       → OnOk r (Kept meaning p before new after (commands ++ op ∷ []))
   exec_ok (Ok n) f cause =
       kept_run course_here.steps (begins-all course_here.steps) f.1.shows (commands ++ op ∷ []) (may_world.done cause.0 f.0 ∙ ap (λ (l : List O). l ++ op ∷ []) holds.commands_are)
@@ -284,7 +284,7 @@ module _ {O : Type 0} (meaning : Bounds → Meaning O) (p : Params) (old new : D
   refused_same refusal is = ap (λ (l : List (Step O)). commands_of (run mean w l).history) (may_world.refused refusal is)
 
   -- one that is not done leaves them, unless the disk fails
-  pub exec_err : (r : Result ℕ ExecErr) → FollowsIn meaning p new after w course_here (ending_of_exec r) → of_world.HasCause (is_some w.group) mean p.limit w (used_in before) op r
+  pub exec_err : (r : Result ℕ ExecErr) → FollowsIn meaning p new after w course_here (ending_of_exec r) → of_world.HasCauseIn (is_some w.group) mean p.limit w (used_in before) op r
       → (grouped : Bool) → IfErr r (IsUndone grouped before.parts after.parts) → OnErr r ((r ≡ Err DiskFault) ⊎ Kept meaning p before new after commands)
   exec_err (Ok n) f cause grouped undone = tt
   exec_err (Err (Refused refusal)) f cause grouped undone = inr (kept_whole f.1.shows (refused_same refusal cause))
@@ -303,7 +303,7 @@ module _ {O : Type 0} (meaning : Bounds → Meaning O) (p : Params) (old new : D
       between_front meaning p old before commands holds later files said (front some.taken some.begins) (stable_still some.taken some.begins) is.silent (stand files later sound some.holds)
 
   pub exec_images : Stand meaning p → TakesSome mean p old new w course_here.steps → LeavesOnly old new (Between meaning p old before.group (forced_in before) (accepted_in before) commands)
-  exec_images stand moments = weaker old new (IsSilent (ShowsSome mean p w course_here.steps) old.said) (Between meaning p old before.group (forced_in before) (accepted_in before) commands) moments (exec_between stand)
+  exec_images stand steps = weaker old new (IsSilent (ShowsSome mean p w course_here.steps) old.said) (Between meaning p old before.group (forced_in before) (accepted_in before) commands) steps (exec_between stand)
 
   refusal_same : IsLiveMap mean → refusal_in mean w op ≡ refusal_after meaning p commands op
   refusal_same map =
@@ -318,7 +318,7 @@ module _ {O : Type 0} (meaning : Bounds → Meaning O) (p : Params) (old new : D
       by_size zero is none =
           cond-false (waits mean w) n (n + 5) (
           ap (λ (b : Bool). b || nat_lt 0 (length w.pending)) (le-ltb w.forced (length w.history) (omega (arith, is)))
-          ∙ ap (λ (l : List Table). nat_lt 0 (length l)) none
+          ∙ ap (λ (l : List Starts). nat_lt 0 (length l)) none
           )
       by_size (suc k) is none =
           cond-true (waits mean w) n (n + 5) (ap (λ (b : Bool). b || nat_lt 0 (length w.pending)) (lt-ltb w.forced (length w.history) (omega (arith, is))))
@@ -345,7 +345,7 @@ module _ {O : Type 0} (meaning : Bounds → Meaning O) (p : Params) (old new : D
       is_none (Some begun) is = cc is
 
   -- what the world says of an answer, the map says
-  pub exec_cause : IsLiveMap mean → IsGroupCounted mean → (r : Result ℕ ExecErr) → of_world.HasCause (is_some w.group) mean p.limit w (used_in before) op r → HasCause meaning (group_size before) p commands op r
+  pub exec_cause : IsLiveMap mean → IsGroupCounted mean → (r : Result ℕ ExecErr) → of_world.HasCauseIn (is_some w.group) mean p.limit w (used_in before) op r → HasCause meaning (group_size before) p commands op r
   exec_cause map counted (Ok n) cause =
       let count = ap (λ (l : List O). length l) holds.commands_are in
       (sym (refusal_same map) ∙ cause.0, omega (arith, cause.2, commands-members_of w.history, count), omega (arith, cause.3, count))
@@ -358,14 +358,14 @@ module _ {O : Type 0} (meaning : Bounds → Meaning O) (p : Params) (old new : D
 
 -- what the call on the store says of a command, by the flag that says whether a group is open
 pub record IsExecuted {O : Type 0} (meaning : Bounds → Meaning O) (old new : Disk) (store later : StoreView) (op : O) (r : Result ℕ ExecErr) (grouped : Bool) : Type 0 where
-  pub call : of_store.IsCall meaning old new store later 0 (StopsCommand grouped store.parts.store.objects.slots.params.limit) (ending_of_exec r)
-  pub takes : Takes meaning old new store.parts later.parts (λ m w used. exec_course m grouped store.parts.store.objects.slots.params.limit op w used) (ending_of_exec r)
-  pub exactly : (p : Params) (w : World O) → Shows (meaning_in meaning p) p old store.parts w → of_world.HasCause grouped (meaning_in meaning p) p.limit w (length_of store) op r
+  pub call : of_store.IsCall meaning old new store later 0 (StopsCommand grouped store.parts.volatile.objects.slots.params.limit) (ending_of_exec r)
+  pub takes : Takes meaning old new store.parts later.parts (λ m w used. exec_course m grouped store.parts.volatile.objects.slots.params.limit op w used) (ending_of_exec r)
+  pub in_world : (p : Params) (w : World O) → Shows (meaning_in meaning p) p old store.parts w → of_world.HasCauseIn grouped (meaning_in meaning p) p.limit w (log_length store) op r
   pub outcome : of_store_command.IsOutcome meaning grouped old new store.parts later.parts op r
 
 -- the engine says the same, of what it shows
 module _ {O : Type 0} (meaning : Bounds → Meaning O) (old new : Disk) (store later : StoreView) (group : Option ℕ) (op : O) (r : Result ℕ ExecErr) (grouped : Bool) (flag : grouped ≡ is_some group)
-    (executed : IsExecuted meaning old new store later op r grouped) (keeps : KeepsRuns meaning) (may : MayExecAll meaning store.parts.store.objects.slots.params.limit op) where
+    (executed : IsExecuted meaning old new store later op r grouped) (keeps : KeepsRuns meaning) (may : MayExecAll meaning store.parts.volatile.objects.slots.params.limit op) where
   it : IsExecuted meaning old new store later op r (is_some group)
   it = subst (λ (b : Bool). IsExecuted meaning old new store later op r b) flag executed
 
@@ -378,11 +378,11 @@ module _ {O : Type 0} (meaning : Bounds → Meaning O) (old new : Disk) (store l
   taken : TakesIn meaning old new before after (λ m w used. exec_course m (is_some w.group) (params_of before).limit op w used) (ending_of_exec r)
   taken = exec_takes meaning old new before after op r (is_some group) refl keeps may refl (fine meaning old new store later 0 _ (ending_of_exec r) it.call) it.takes
 
-  cause : (p : Params) (w : World O) → ShowsIn meaning p old before w → of_world.HasCause (is_some w.group) (meaning_in meaning p) p.limit w (used_in before) op r
+  cause : (p : Params) (w : World O) → ShowsIn meaning p old before w → of_world.HasCauseIn (is_some w.group) (meaning_in meaning p) p.limit w (used_in before) op r
   cause p w shows =
       let m = meaning_in meaning p in
-      subst (λ (o : Option ℕ). of_world.HasCause (is_some o) m p.limit w (used_in before) op r) (sym shows.group)
-      (world_cause (is_some group) m p.limit w (used_in before) op r (it.exactly p (ungrouped w) shows.shows))
+      subst (λ (o : Option ℕ). of_world.HasCauseIn (is_some o) m p.limit w (used_in before) op r) (sym shows.group)
+      (world_cause (is_some group) m p.limit w (used_in before) op r (it.in_world p (ungrouped w) shows.shows))
 
   undone : IfErr r (IsUndone (is_some group) before.parts after.parts)
   undone = by_answer r it.outcome
@@ -397,8 +397,8 @@ module _ {O : Type 0} (meaning : Bounds → Meaning O) (old new : Disk) (store l
     takes = taken;
     ok = λ p commands holds. exec_ok meaning p old new before after op keeps may refl commands holds r (taken.follows p holds.world holds.shows) (cause p holds.world holds.shows);
     err = λ p commands holds. exec_err meaning p old new before after op keeps may refl commands holds r (taken.follows p holds.world holds.shows) (cause p holds.world holds.shows) (is_some group) undone;
-    images = λ told p commands holds. exec_images meaning p old new before after op keeps may refl commands holds (stand p) (taken.moments told p holds.world holds.shows);
-    answers = cause;
-    exactly = λ p commands holds. exec_cause meaning p old new before after op keeps may refl commands holds (map p) (counted p) r (cause p holds.world holds.shows);
+    images = λ told p commands holds. exec_images meaning p old new before after op keeps may refl commands holds (stand p) (taken.steps told p holds.world holds.shows);
+    in_world = cause;
+    on_map = λ p commands holds. exec_cause meaning p old new before after op keeps may refl commands holds (map p) (counted p) r (cause p holds.world holds.shows);
     outcome = it.outcome;
   }

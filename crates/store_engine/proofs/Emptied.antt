@@ -4,6 +4,7 @@ use Rattle.std.specs.Prelude.{IsFalse, nat_lt, nat_le}
 use Rattle.std.proofs.Math.Seq.{drop-length}
 use Rattle.std.proofs.lemmas.Bool.{both_ways, cond_both}
 use Rattle.oper_core.specs.Meaning.{Meaning}
+use Rattle.formats.specs.Limits.{log_limit}
 use Rattle.install_order.specs.Computed.{least_below}
 use Rattle.install_order.specs.NodeLaws.{least-is}
 use Rattle.explain_core.specs.RunLaws.{run-append}
@@ -11,9 +12,9 @@ use Rattle.explain_core.specs.World.{World, Step, step, run, end_of}
 use Rattle.explain_core.specs.World.Step.{Block_gate, Header_gate}
 use Rattle.running_store.specs.Courses.{Course, force_steps, waits}
 use Rattle.running_store.specs.Courses.Stop.{Through}
-use Rattle.running_store.specs.Logged.{log_limit}
 use Rattle.running_store.specs.Rewrites.{new_base, rewrite_course, trimmed_file}
-use Rattle.checkpointing.specs.Courses.{last_epoch, trim_course}
+use Rattle.formats.specs.Limits.{numbers_end}
+use Rattle.checkpointing.specs.Courses.{trim_course}
 use Rattle.store_engine.specs.Emptied.{IsEmptied}
 
 module _ {O : Type 0} (m : Meaning O) (w : World O) (none : (n : ℕ) → IsFalse (w.graph n)) where
@@ -44,4 +45,4 @@ module _ {O : Type 0} (m : Meaning O) (w : World O) (none : (n : ℕ) → IsFals
       (λ fits. λ is. subst (λ (u : World O). IsEmptied u) (sym (run-append m w (force_steps m w) (Header_gate (new_base m v) ∷ []))) (rewritten_empty v forced_none))
 
   pub trimmed_empty : (epoch used : ℕ) → (trim_course m epoch w used).stop ≡ Through → IsEmptied (run m w (trim_course m epoch w used).steps)
-  trimmed_empty epoch used = cond_both (nat_le last_epoch epoch) _ _ (λ (c : Course O). c.stop ≡ Through → IsEmptied (run m w c.steps)) (λ worn. λ is. cc) (λ left. λ is. behind_force used is)
+  trimmed_empty epoch used = cond_both (nat_le numbers_end epoch) _ _ (λ (c : Course O). c.stop ≡ Through → IsEmptied (run m w c.steps)) (λ worn. λ is. cc) (λ left. λ is. behind_force used is)

@@ -39,7 +39,7 @@ module _ {O : Type 0} (meaning : Bounds → Meaning O) (old new : Disk) (before 
       → TakesIn meaning old new before after course ending
   takes_alone takes was is unbroken = record {
     follows = λ p w shows. by_ending p w (course (meaning_in meaning p) w (used_of before.parts.log.log)) ending unbroken (takes.follows p w (alone_shown meaning p old before w shows was));
-    moments = λ told p w shows. takes.moments told p w (alone_shown meaning p old before w shows was);
+    steps = λ told p w shows. takes.steps told p w (alone_shown meaning p old before w shows was);
   }
     where
       by_ending : (p : Params) (w : World O) (c : Course O) (e : Ending) → IsFailed e ⊎ (after.broken ≡ false) → Follows (meaning_in meaning p) p new after.parts w c e → FollowsIn meaning p new after w c e

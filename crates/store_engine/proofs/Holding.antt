@@ -78,9 +78,9 @@ module _ {O : Type 0} (meaning : Bounds → Meaning O) (p : Params) (d : Disk) (
       (subst (λ (l : List O). StandsFor meaning p d.reads l) (sym holds_taken) (stand d.reads holds.world holds.shows.sound (files_shown m p d engine.parts (ungrouped holds.world) shown)))
 
   -- the cache laid over the slots is the state after the commands
-  pub holds_map : IsLiveMap m → (x : ℕ) → x < p.objects → values_in engine.parts.store.objects (d.reads Objects) x ≡ state_of meaning p commands x
+  pub holds_map : IsLiveMap m → (x : ℕ) → x < p.objects → values_in engine.parts.volatile.objects (d.reads Objects) x ≡ state_of meaning p commands x
   holds_map map x below =
-      ap (λ (c : Cell). c.value) (cell_shown m p (d.reads Objects) engine.parts.store (ungrouped holds.world) shown.store x below)
+      ap (λ (c : Cell). c.value) (cell_shown m p (d.reads Objects) engine.parts.volatile (ungrouped holds.world) shown.store x below)
       ∙ map holds.world x holds.shows.sound shown.running.live ∙ ap (λ (l : List O). state_after m l x) holds.commands_are
 
   -- where nothing waits all are forced

@@ -45,7 +45,7 @@ IsPlainCourse {O} course = (m : Meaning O) (w : World O) (used : ℕ) → ArePla
 
 -- a store that is shown has small numbers
 pub small_shown : {O : Type 0} (m : Meaning O) (p : Params) (d : Disk) (it : Parts) (w : World O) → Shows m p d it w → IsSmall (bounds_of p)
-small_shown m p d it w shows = small_in m p (d.reads Objects) it.store w shows.store
+small_shown m p d it w shows = small_in m p (d.reads Objects) it.volatile w shows.store
 
 -- an image that shows a sound later world, of whose stable members these are first commands: within a group the stable ones
 pub between_front : {O : Type 0} (meaning : Bounds → Meaning O) (p : Params) (old : Disk) (before : EngineView) (commands : List O) (holds : Holds meaning p old before commands) (later : World O) (files : Files) (said : List ℕ)
@@ -126,6 +126,6 @@ takes_keeps {O} meaning old new before after course ending takes was still unbro
       let used = used_of before.parts.log.log in
       let shows = alone_shown meaning p old before w holds.shows was in
       let allowed = (may (bounds_of p) w used (small_shown m p old before.parts w shows) shows.running).allowed in
-      weaker old new (IsSilent (ShowsSome m p w (course m w used).steps) old.said) (Between meaning p old before.group (forced_in before) (accepted_in before) commands) (takes.moments told p w shows)
+      weaker old new (IsSilent (ShowsSome m p w (course m w used).steps) old.said) (Between meaning p old before.group (forced_in before) (accepted_in before) commands) (takes.steps told p w shows)
       (λ files said is. between_plainly meaning p old new before after was still commands holds keeps (stand p) (course m w used).steps (plain m w used) allowed files said is);
 }

@@ -1,5 +1,5 @@
 -- What the laying out of a store leaves at each moment.
-use Rattle.std.proofs.Common.{OnOk, Result, Ok, Err, is_err, false, ◌≡◌, inl, inr, ℕ, List, [], ◌∷◌, length, get_or, take, drop, sym, ◌∙◌, ap, subst, arith, length-take}
+use Rattle.std.proofs.Common.{◌≡◌, inl, inr, ℕ, List, [], ◌∷◌, length, get_or, take, drop, sym, ◌∙◌, ap, subst, arith, length-take}
 use Rattle.std.specs.Prelude.{codes}
 use Rattle.std.proofs.lemmas.List.{get_or-take}
 use Rattle.std.proofs.lemmas.Bool.{cases_eq}
@@ -47,11 +47,6 @@ in_a_row old first second third kept run logs =
 -- where nothing changes, no store begins that did not begin before
 pub none_still : (old mid : Disk) → Stays old mid → old.tells_moments → (BeginsStore (old.reads Objects) → ⊥) → BeginsStore (mid.reads Objects) → ⊥
 none_still old mid kept told none begins = none (subst (λ (f : Files). BeginsStore (f Objects)) (kept.reads (kept.begins.telling told)) begins)
-
--- where a call did not fail, its clause on success holds
-pub on_ok : {T E : Type 0} (r : Result T E) (P : Type 0) → is_err r ≡ false → OnOk r P → P
-on_ok (Ok x) P fine here = here
-on_ok (Err e) P fine here = cc
 
 -- the files of a new store stand for no commands
 abbrev pub NewStand : {O : Type 0} → (Bounds → Meaning O) → Params → Type 0

@@ -1,5 +1,5 @@
 -- Properties that tell one ending, or one answer, from the others: a value that has one differs from each that lacks it.
-use Rattle.std.proofs.Common.{ℕ, Option, None, Some}
+use Rattle.std.proofs.Common.{ℕ}
 use Rattle.std.specs.Prelude.{⊤, Result, Ok, Err}
 use Rattle.running_store.specs.Taking.{Ending}
 use Rattle.running_store.specs.Taking.Ending.{Done, Stopped, Short, Failed}
@@ -21,10 +21,6 @@ IsNoFault (LogFull used need limit) = ⊤
 IsNoFault (LsnEnd number) = ⊤
 IsNoFault (Damaged file place) = ⊤
 IsNoFault Memory = ⊤
-
-abbrev pub HasNoFault : Option ExecErr → Type 0
-HasNoFault None = ⊤
-HasNoFault (Some e) = IsNoFault e
 
 abbrev pub EndsWithNoFault : Result ℕ ExecErr → Type 0
 EndsWithNoFault (Ok n) = ⊤

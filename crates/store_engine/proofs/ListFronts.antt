@@ -98,7 +98,7 @@ module _ {O : Type 0} (meaning : Bounds → Meaning O) (p : Params) where
 
     -- a machine that reads alone
     still_takes : Stays mid new → old.tells_moments → TakesSome m p old new w one.steps
-    still_takes stays told = leaves_still old mid new (IsSilent (ShowsSome m p w one.steps) old.said) lawful_mid first.time stays told (first.takes told)
+    still_takes stays told = leaves_still old mid new (IsSilent (ShowsSome m p w one.steps) old.said) lawful_mid first.time stays told (first.steps told)
 
     risen : forced_in before ≤ forced_in between
     risen = ⊎_elim (λ failed. absurd failed) (λ rising. rising) first.rising
@@ -172,10 +172,10 @@ module _ {O : Type 0} (meaning : Bounds → Meaning O) (p : Params) where
             (leaves_more old old mid before.group (forced_in before) (forced_in before) (length commands) (length commands) (commands ++ take first.done front) (take second.done ops) (commands ++ take n (front ++ ops)) refl (omega arith) (inl refl) (omega arith) first_added (first.images told))
             (leaves_more old mid new before.group (forced_in between) (forced_in before) (length commands) (length (commands ++ front)) ((commands ++ front) ++ take second.done ops) [] (commands ++ take n (front ++ ops)) (quiet told) risen risen_so (omega (arith, length-append commands front)) (append-nil ((commands ++ front) ++ take second.done ops) ∙ all_added)
             (subst (λ (o : Option ℕ). LeavesOnly mid new (Between meaning p mid o (forced_in between) (length (commands ++ front)) ((commands ++ front) ++ take second.done ops))) first.group (second.images (first.time.moments_told.0 told))));
-        takes = λ told.
+        steps = λ told.
             subst (λ (c : Course O). TakesSome m p old new w c.steps) (sym (behind_one ops))
-            (moments_twice m p old mid new w one.steps (next ops).steps (quiet told) (first.takes told)
-            (subst (λ (u : World O). TakesSome m p mid new u (next ops).steps) reached.ends.1.world_is (second.takes (first.time.moments_told.0 told))));
+            (moments_twice m p old mid new w one.steps (next ops).steps (quiet told) (first.steps told)
+            (subst (λ (u : World O). TakesSome m p mid new u (next ops).steps) reached.ends.1.world_is (second.steps (first.time.moments_told.0 told))));
       }
 
     -- a call that leaves log and group leaves the number of the group's commands
@@ -203,7 +203,7 @@ module _ {O : Type 0} (meaning : Bounds → Meaning O) (p : Params) where
       stopped = first.stopped;
       identities = counted ∙ first.identities;
       images = λ told. leaves_still old mid new (Between meaning p old before.group (forced_in before) (length commands) (commands ++ take first.done front)) lawful_mid first.time stays told (first.images told);
-      takes = still_takes stays;
+      steps = still_takes stays;
     }
 
     still_front : (rest : List O) → take first.done (front ++ rest) ≡ take first.done front
@@ -226,7 +226,7 @@ module _ {O : Type 0} (meaning : Bounds → Meaning O) (p : Params) where
       images = λ told.
           subst (λ (l : List O). LeavesOnly old new (Between meaning p old before.group (forced_in before) (length commands) (commands ++ l))) (sym (still_front rest))
           (leaves_still old mid new (Between meaning p old before.group (forced_in before) (length commands) (commands ++ take first.done front)) lawful_mid first.time stays told (first.images told));
-      takes = λ told. longer new rest (still_takes stays told);
+      steps = λ told. longer new rest (still_takes stays told);
     }
 
     -- memory runs out here, whatever would have come
@@ -249,5 +249,5 @@ module _ {O : Type 0} (meaning : Bounds → Meaning O) (p : Params) where
       stopped = λ stop e. cc;
       identities = first.identities;
       images = λ told. subst (λ (l : List O). LeavesOnly old mid (Between meaning p old before.group (forced_in before) (length commands) (commands ++ l))) (sym (still_front rest)) (first.images told);
-      takes = λ told. longer mid rest (first.takes told);
+      steps = λ told. longer mid rest (first.steps told);
     }

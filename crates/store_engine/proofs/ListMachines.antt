@@ -9,6 +9,8 @@ use Rattle.disk_model.specs.Moments.{passes_none, passes_twice}
 use Rattle.oper_core.specs.Meaning.{Meaning}
 use Rattle.oper_core.specs.declared.bounds.Bounds.{Bounds}
 use Rattle.formats.specs.declared.params.Params.{Params}
+use Rattle.formats.specs.declared.read_err.ReadErr.{ReadErr}
+use Rattle.formats.specs.declared.read_err.ReadErr.TheVariants as of_read
 use Rattle.running_store.specs.Courses.{Stop}
 use Rattle.running_store.specs.Taking.{Ending}
 use Rattle.running_store.specs.Taking.Ending.{Stopped}
@@ -17,10 +19,10 @@ use Rattle.execution.specs.Stops.{StopsCommand}
 use Rattle.execution.specs.declared.exec_err.ExecErr.{ExecErr}
 use Rattle.execution.specs.declared.exec_err.ExecErr.TheVariants.{Refused, LogFull, LsnEnd, DiskFault, Damaged, Memory}
 use Rattle.running_store.specs.Calls.{IsFailed}
-use Rattle.store_engine.specs.Engine.{EngineView, IsAttached, IsCall, params_of}
+use Rattle.store_engine.specs.Engine.{EngineView, IsAttached, IsEngineCall, params_of}
 use Rattle.store_engine.specs.FailureLaws.{none_damaged, still_none_damaged}
 use Rattle.store_engine.specs.Failures.{IsFetchFailure}
-use Rattle.store_engine.specs.Lists.{AreCalls, IsUndamaged, ending_of}
+use Rattle.store_engine.specs.Lists.{AreCalls, IsUndamaged, as_exec, ending_of}
 use Rattle.store_engine.specs.Commands.{HasFetched, HasRun}
 
 -- a count that rises in a later call has risen since an earlier one
@@ -50,12 +52,7 @@ module _ {O : Type 0} (meaning : Bounds → Meaning O) (old new : Disk) (before 
 
   same_ending : (r : Result ℕ ExecErr) → ending_of_exec r ≡ ending_of (result_err r)
   same_ending (Ok n) = refl
-  same_ending (Err (Refused refusal)) = refl
-  same_ending (Err (LogFull used need limit)) = refl
-  same_ending (Err (LsnEnd number)) = refl
-  same_ending (Err DiskFault) = refl
-  same_ending (Err (Damaged file place)) = refl
-  same_ending (Err Memory) = refl
+  same_ending (Err e) = refl
 
   undamaged_run : IsDisk new → (op : O) (r : Result ℕ ExecErr) → HasRun meaning old new before after op r → old.tells_files → IsAttached meaning old before → IsUndamaged (result_err r)
   undamaged_run lawful op (Ok n) ran told attached = tt
@@ -69,54 +66,42 @@ module _ {O : Type 0} (meaning : Bounds → Meaning O) (old new : Disk) (before 
 
   pub calls_run : IsDisk new → (op : O) (r : Result ℕ ExecErr) → HasRun meaning old new before after op r → AreCalls meaning old new before after (result_err r)
   calls_run lawful op r ran = record {
-    call = subst (λ (e : Ending). IsCall meaning (params_of before).limit old new before after 0 e) (same_ending r) ran.call;
+    call = subst (λ (e : Ending). IsEngineCall meaning (params_of before).limit old new before after 0 e) (same_ending r) ran.call;
     undamaged = undamaged_run lawful op r ran;
   }
 
   -- ---- an object
 
   module _ (object : ℕ) where
-    abbrev Failure : Option ExecErr → Type 0
+    abbrev Failure : Option ReadErr → Type 0
     Failure error = IfSome error (IsFetchFailure old new before object)
 
-    not_stopped : (error : Option ExecErr) → Failure error → (most : ℕ) (stop : Stop) → ending_of error ≡ Stopped stop → StopsCommand (is_some before.group) most after.parts.log stop
-    not_stopped None cause most stop is = cc
-    not_stopped (Some (Refused refusal)) cause most stop is = cc
-    not_stopped (Some (LogFull used need limit)) cause most stop is = absurd cause.1
-    not_stopped (Some (LsnEnd number)) cause most stop is = absurd cause.1
-    not_stopped (Some DiskFault) cause most stop is = cc
-    not_stopped (Some (Damaged file place)) cause most stop is = cc
-    not_stopped (Some Memory) cause most stop is = cc
+    not_stopped : (error : Option ReadErr) (most : ℕ) (stop : Stop) → ending_of (as_exec error) ≡ Stopped stop → StopsCommand (is_some before.group) most after.parts.log stop
+    not_stopped None most stop is = cc
+    not_stopped (Some of_read.DiskFault) most stop is = cc
+    not_stopped (Some (of_read.Damaged file place)) most stop is = cc
+    not_stopped (Some of_read.Memory) most stop is = cc
 
     -- the disk failed exactly where it is the answer
-    fails_so : (error : Option ExecErr) → (error ≡ Some DiskFault) ↔ IsFailed (ending_of error)
+    fails_so : (error : Option ReadErr) → (error ≡ Some of_read.DiskFault) ↔ IsFailed (ending_of (as_exec error))
     fails_so None = ((λ e. cc), (λ failed. absurd failed))
-    fails_so (Some (Refused refusal)) = ((λ e. cc), (λ failed. absurd failed))
-    fails_so (Some (LogFull used need limit)) = ((λ e. cc), (λ failed. absurd failed))
-    fails_so (Some (LsnEnd number)) = ((λ e. cc), (λ failed. absurd failed))
-    fails_so (Some DiskFault) = ((λ e. tt), (λ failed. refl))
-    fails_so (Some (Damaged file place)) = ((λ e. cc), (λ failed. absurd failed))
-    fails_so (Some Memory) = ((λ e. cc), (λ failed. absurd failed))
+    fails_so (Some of_read.DiskFault) = ((λ e. tt), (λ failed. refl))
+    fails_so (Some (of_read.Damaged file place)) = ((λ e. cc), (λ failed. absurd failed))
+    fails_so (Some of_read.Memory) = ((λ e. cc), (λ failed. absurd failed))
 
-    fault_of : (error : Option ExecErr) → Failure error → IsFailed (ending_of error) → Rises old.disk_faults new.disk_faults
+    fault_of : (error : Option ReadErr) → Failure error → IsFailed (ending_of (as_exec error)) → Rises old.disk_faults new.disk_faults
     fault_of None cause failed = absurd failed
-    fault_of (Some (Refused refusal)) cause failed = absurd failed
-    fault_of (Some (LogFull used need limit)) cause failed = absurd failed
-    fault_of (Some (LsnEnd number)) cause failed = absurd failed
-    fault_of (Some DiskFault) cause failed = cause.1
-    fault_of (Some (Damaged file place)) cause failed = absurd failed
-    fault_of (Some Memory) cause failed = absurd failed
+    fault_of (Some of_read.DiskFault) cause failed = cause.1
+    fault_of (Some (of_read.Damaged file place)) cause failed = absurd failed
+    fault_of (Some of_read.Memory) cause failed = absurd failed
 
-    undamaged_fetch : Stays old new → (error : Option ExecErr) → Failure error → old.tells_files → IsAttached meaning old before → IsUndamaged error
+    undamaged_fetch : Stays old new → (error : Option ReadErr) → Failure error → old.tells_files → IsAttached meaning old before → IsUndamaged (as_exec error)
     undamaged_fetch stays None cause told attached = tt
-    undamaged_fetch stays (Some (Refused refusal)) cause told attached = tt
-    undamaged_fetch stays (Some (LogFull used need limit)) cause told attached = tt
-    undamaged_fetch stays (Some (LsnEnd number)) cause told attached = tt
-    undamaged_fetch stays (Some DiskFault) cause told attached = tt
-    undamaged_fetch stays (Some (Damaged file place)) cause told attached = none_damaged meaning before.parts stays told attached cause.1
-    undamaged_fetch stays (Some Memory) cause told attached = tt
+    undamaged_fetch stays (Some of_read.DiskFault) cause told attached = tt
+    undamaged_fetch stays (Some (of_read.Damaged file place)) cause told attached = none_damaged meaning before.parts stays told attached cause.1
+    undamaged_fetch stays (Some of_read.Memory) cause told attached = tt
 
-    pub calls_fetched : (error : Option ExecErr) → HasFetched meaning old new before after object error → AreCalls meaning old new before after error
+    pub calls_fetched : (error : Option ReadErr) → HasFetched meaning old new before after object error → AreCalls meaning old new before after (as_exec error)
     calls_fetched error fetched = record {
       call = record {
         time = fetched.call.kept.time;
@@ -125,7 +110,7 @@ module _ {O : Type 0} (meaning : Bounds → Meaning O) (old new : Disk) (before 
         group = fetched.call.group;
         attached = inr fetched.call.attached;
         identities = omega (arith, fetched.call.identities);
-        stopped = not_stopped error fetched.cause (params_of before).limit;
+        stopped = not_stopped error (params_of before).limit;
         broken = ((λ broken. (fails_so error).0 (fetched.call.broken.0 broken)), (λ failed. fetched.call.broken.1 ((fails_so error).1 failed)));
         fault = fault_of error fetched.cause;
       };

@@ -5,16 +5,16 @@ use Rattle.std.specs.Option.{is_some}
 use Rattle.std.proofs.lemmas.List.{append-nil}
 use Rattle.std.proofs.Math.Path.{fun_ext}
 use Rattle.disk_model.specs.Disk.{Disk, LeavesOnly}
-use Rattle.oper_core.specs.Meaning.{Meaning, refusal_of, state_after}
+use Rattle.oper_core.specs.Meaning.{Meaning, refusal_of}
 use Rattle.oper_core.specs.State.{State}
 use Rattle.oper_core.specs.declared.bounds.Bounds.{Bounds}
 use Rattle.oper_core.specs.declared.refusal.Refusal.{Refusal}
 use Rattle.formats.specs.declared.params.Params.{Params}
 use Rattle.log_records.specs.RecordLog.{RecordLogView}
 use Rattle.explain_core.specs.History.{commands_of}
-use Rattle.explain_core.specs.Sound.{IsGroup, IsSound}
+use Rattle.explain_core.specs.Sound.{IsGroup}
 use Rattle.explain_core.specs.Taken.{IsAfterSome, after_longer}
-use Rattle.explain_core.specs.World.{World, IsLive, Step, run}
+use Rattle.explain_core.specs.World.{World, Step, run}
 use Rattle.standing.specs.Moments.{TakesSome, moments_longer}
 use Rattle.running_store.specs.CourseLaws.{behind_both}
 use Rattle.running_store.specs.Courses.{Course, Stop, course, is_through}
@@ -35,7 +35,9 @@ use Rattle.store_engine.specs.Lists.{AddsFront, ComesNext, EndsBy, HasReached, I
 use Rattle.store_engine.specs.Commands.{HasRun}
 use Rattle.store_engine.proofs.ListCourses.{IsSameWhereAsMany, commands_stopped, commands_through, course_of_one, course_stopped, same_commands, same_none}
 use Rattle.store_engine.proofs.ListEndings.{EndsWithNoFault, IsUnstopped}
+use Rattle.store_engine.proofs.Holding.{IsLiveMap}
 use Rattle.store_engine.proofs.ListFronts.{leaves_more}
+use Rattle.store_engine.proofs.ListStart.{larger_none}
 
 -- what a call was stopped by
 abbrev stop_of : Ending → Stop
@@ -43,14 +45,6 @@ stop_of (Stopped stop) = stop
 stop_of Done = Through
 stop_of Short = Through
 stop_of Failed = Through
-
--- in a sound live world the cache is the state after its commands
-abbrev pub IsLiveMap : {O : Type 0} → Meaning O → Type 0
-IsLiveMap {O} m = (w : World O) (x : ℕ) → IsSound m w → IsLive w → (w.cache x).value ≡ state_after m (commands_of w.history) x
-
-larger_none : (size : Option ℕ) → size ≡ larger size 0
-larger_none None = refl
-larger_none (Some n) = ap (λ (k : ℕ). Some k) (omega arith)
 
 -- a command that is not done takes no number
 same_next : (grouped : Bool) (before log : RecordLogView) (e : ExecErr) → LogWithout grouped before log e → log.next ≡ before.next
@@ -120,7 +114,7 @@ module _ {O : Type 0} (meaning : Bounds → Meaning O) (p : Params) (old new : D
 
     -- and show some first steps of its course
     takes_of : (c : Course O) → exec_course m (is_some w.group) (params_of before).limit op w used ≡ c → old.tells_moments → TakesSome m p old new w c.steps
-    takes_of c is told = subst (λ (d : Course O). TakesSome m p old new w d.steps) is (ran.takes.moments told p w shows)
+    takes_of c is told = subst (λ (d : Course O). TakesSome m p old new w d.steps) is (ran.takes.steps told p w shows)
 
     counted : after.identities ≡ before.identities
     counted = omega (arith, ran.call.identities)
@@ -129,7 +123,7 @@ module _ {O : Type 0} (meaning : Bounds → Meaning O) (p : Params) (old new : D
   ran_done n ran =
       let kept : Kept meaning p before new after (commands ++ op ∷ []) = ran.ok p commands holds in
       let f = ran.takes.follows p w shows in
-      let is = accepted_course (ran.answers p w shows).0 in
+      let is = accepted_course (ran.in_world p w shows).0 in
       let through : one.stop ≡ Through = ap (λ (c : Course O). c.stop) (sym is) ∙ f.0 in
       let there : IsAfterIn meaning p new after w one = subst (λ (c : Course O). IsAfterIn meaning p new after w c) is f.1 in
       let alone = course_of_one m p.limit op w used through in
@@ -153,7 +147,7 @@ module _ {O : Type 0} (meaning : Bounds → Meaning O) (p : Params) (old new : D
         stopped = λ stop e. absurd (subst IsUnstopped e tt);
         identities = counted (Ok n) ran;
         images = images_of (Ok n) ran (op ∷ []) (commands ++ op ∷ []) refl;
-        takes = λ told.
+        steps = λ told.
             subst (λ (c : Course O). TakesSome m p old new w c.steps) (sym alone)
             (subst (λ (l : List (Step O)). TakesSome m p old new w l) (sym (append-nil one.steps)) (takes_of (Ok n) ran one is told));
       }
@@ -172,7 +166,7 @@ module _ {O : Type 0} (meaning : Bounds → Meaning O) (p : Params) (old new : D
   ran_refused r ran =
       let kept = kept_of (Refused r) (λ e. subst EndsWithNoFault e tt) ran in
       let f = ran.takes.follows p w shows in
-      let is = refused_course r (ran.answers p w shows) in
+      let is = refused_course r (ran.in_world p w shows) in
       let there : IsAfterIn meaning p new after w (course [] used Through) = subst (λ (c : Course O). IsAfterIn meaning p new after w c) is f.1 in
       record {
         time = ran.call.time;
@@ -192,7 +186,7 @@ module _ {O : Type 0} (meaning : Bounds → Meaning O) (p : Params) (old new : D
         stopped = λ stop e. absurd (subst IsUnstopped e tt);
         identities = counted (Err (Refused r)) ran;
         images = images_of (Err (Refused r)) ran [] (commands ++ []) refl;
-        takes = takes_of (Err (Refused r)) ran (course [] used Through) is;
+        steps = takes_of (Err (Refused r)) ran (course [] used Through) is;
       }
 
   -- whatever was to come, none is added
@@ -213,7 +207,7 @@ module _ {O : Type 0} (meaning : Bounds → Meaning O) (p : Params) (old new : D
     stopped = stopped;
     identities = counted (Err e) ran;
     images = images_of (Err e) ran [] (commands ++ []) refl;
-    takes = takes;
+    steps = takes;
   }
 
   -- the log stops the command
@@ -244,15 +238,15 @@ module _ {O : Type 0} (meaning : Bounds → Meaning O) (p : Params) (old new : D
   ran_stopped rest (Refused r) stop ran is = absurd (subst IsUnstopped is tt)
   ran_stopped rest (LogFull held need limit) stop ran is =
       let kept = kept_of (LogFull held need limit) (λ e. subst EndsWithNoFault e tt) ran in
-      let cause = ran.answers p w shows in
-      let exact = ran.exactly p commands holds in
+      let cause = ran.in_world p w shows in
+      let exact = ran.on_map p commands holds in
       subst (λ (s : Stop). AddsFront meaning p old new before after w commands (op ∷ rest) (Stopped s)) (ap stop_of is)
       (adds_none (LogFull held need limit) ran (op ∷ rest) (Stopped (Full held need limit)) tt (inr (stopped_here rest (Full held need limit) refl cause.0 (ran.takes.follows p w shows))) (inr kept.rising) (inr (which_of kept))
       (λ s at. record { op = op; rest = rest; here = refl; need = subst (λ (t : Stop). IsNeed meaning p (larger (group_size before) 0) op t) (ap stop_of at) (subst (λ (size : Option ℕ). IsNeed meaning p size op (Full held need limit)) (larger_none (group_size before)) (exact.1, exact.2)) })
       (takes_of (Err (LogFull held need limit)) ran (commands_course m p.limit (op ∷ rest) w used) (stopped_course rest (Full held need limit) refl cause.0 (ran.takes.follows p w shows))))
   ran_stopped rest (LsnEnd number) stop ran is =
       let kept = kept_of (LsnEnd number) (λ e. subst EndsWithNoFault e tt) ran in
-      let cause = ran.answers p w shows in
+      let cause = ran.in_world p w shows in
       subst (λ (s : Stop). AddsFront meaning p old new before after w commands (op ∷ rest) (Stopped s)) (ap stop_of is)
       (adds_none (LsnEnd number) ran (op ∷ rest) (Stopped (At_end number)) tt (inr (stopped_here rest (At_end number) refl cause.0 (ran.takes.follows p w shows))) (inr kept.rising) (inr (which_of kept))
       (λ s at. record { op = op; rest = rest; here = refl; need = subst (λ (t : Stop). IsNeed meaning p (larger (group_size before) 0) op t) (ap stop_of at) tt })
@@ -293,7 +287,7 @@ module _ {O : Type 0} (meaning : Bounds → Meaning O) (p : Params) (old new : D
     of_next P longer has ops (inr next) = subst (λ (l : List O). P (commands_course m p.limit l w used).steps) (sym next.1) (of_first P longer has next.0)
 
     takes_next : (r : Result ℕ ExecErr) → HasRun meaning old new before after op r → (ops : List O) → ComesNext meaning p commands op ops → old.tells_moments → TakesSome m p old new w (commands_course m p.limit ops w used).steps
-    takes_next r ran ops next told = of_next (λ (l : List (Step O)). TakesSome m p old new w l) (λ xs ys takes. moments_longer m p old new w xs ys takes) (ran.takes.moments told p w shows) ops next
+    takes_next r ran ops next told = of_next (λ (l : List (Step O)). TakesSome m p old new w l) (λ xs ys takes. moments_longer m p old new w xs ys takes) (ran.takes.steps told p w shows) ops next
 
     -- short of memory, it has taken some first steps, which add no command
     short_here : (ops : List O) → ComesNext meaning p commands op ops → Kept meaning p before new after commands → IsAfterSome m (λ (v : World O). ShowsIn meaning p new after v) w (exec_course m (is_some w.group) (params_of before).limit op w used).steps
@@ -319,7 +313,7 @@ module _ {O : Type 0} (meaning : Bounds → Meaning O) (p : Params) (old new : D
     ran_failed ops (LogFull held need limit) ran next off = absurd off
     ran_failed ops (LsnEnd number) ran next off = absurd off
     ran_failed ops DiskFault ran next off = adds_none DiskFault ran ops Failed tt (inl tt) (inl tt) (inl tt) (λ stop e. absurd (subst IsUnstopped e tt)) (takes_next (Err DiskFault) ran ops next)
-    ran_failed ops (Damaged file place) ran next off = absurd (ran.answers p w shows)
+    ran_failed ops (Damaged file place) ran next off = absurd (ran.in_world p w shows)
     ran_failed ops Memory ran next off =
         let kept = kept_of Memory (λ e. subst EndsWithNoFault e tt) ran in
         adds_none Memory ran ops Short tt (inr (short_here ops next kept (ran.takes.follows p w shows))) (inr kept.rising) (inr (which_of kept)) (λ stop e. absurd (subst IsUnstopped e tt)) (takes_next (Err Memory) ran ops next)

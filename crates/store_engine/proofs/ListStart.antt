@@ -20,6 +20,11 @@ use Rattle.store_engine.specs.Grouping.{ungrouped}
 use Rattle.store_engine.specs.Store.{meaning_in}
 use Rattle.store_engine.specs.Lists.{AddsFront, larger}
 
+-- a group with none more has as many
+pub larger_none : (size : Option ℕ) → size ≡ larger size 0
+larger_none None = refl
+larger_none (Some n) = ap (λ (k : ℕ). Some k) (omega arith)
+
 module _ {O : Type 0} (meaning : Bounds → Meaning O) (p : Params) (d : Disk) (engine : EngineView) (commands : List O) (holds : Holds meaning p d engine commands) (lawful : IsDisk d) (says : Says meaning p d engine commands) where
   -- an image of the moment stands for the forced ones
   between_now : d.tells_moments → (files : Files) (said : List ℕ) → d.left_since d.clock files said → Between meaning p d engine.group (forced_in engine) (length commands) commands files said
@@ -42,10 +47,6 @@ module _ {O : Type 0} (meaning : Bounds → Meaning O) (p : Params) (d : Disk) (
         holds = after_none m (FilesShow m p files) holds.world [] (subst (λ (f : Files). FilesShow m p f holds.world) (fun_ext (λ (n : FileNo). sym (shown.log.keeps.settled n told files said left))) (files_shown m p d engine.parts (ungrouped holds.world) shown));
       }
 
-  same_size : (size : Option ℕ) → size ≡ larger size 0
-  same_size None = refl
-  same_size (Some n) = ap (λ (k : ℕ). Some k) (omega arith)
-
   pub front_none : AddsFront meaning p d d engine engine holds.world commands [] Done
   unfolding run
   front_none = record {
@@ -62,9 +63,9 @@ module _ {O : Type 0} (meaning : Bounds → Meaning O) (p : Params) (d : Disk) (
     rising = inr (omega arith);
     which = inr (inl refl);
     group = refl;
-    size = same_size (group_size engine);
+    size = larger_none (group_size engine);
     stopped = λ stop e. cc;
     identities = refl;
     images = λ told. started d (Between meaning p d engine.group (forced_in engine) (length commands) (commands ++ [])) (subst (λ (l : List O). (files : Files) (said : List ℕ) → d.left_since d.clock files said → Between meaning p d engine.group (forced_in engine) (length commands) l files said) (sym (append-nil commands)) (between_now told));
-    takes = λ told. started d (IsSilent (ShowsSome (meaning_in meaning p) p holds.world []) d.said) (shows_now told);
+    steps = λ told. started d (IsSilent (ShowsSome (meaning_in meaning p) p holds.world []) d.said) (shows_now told);
   }

@@ -3,17 +3,18 @@ use Rattle.std.proofs.Common.{ℕ, zero, suc, ◌+◌, Bool, List, [], ◌∷◌
 use Rattle.std.specs.Prelude.{◌*◌, ◌-◌, nat_lt, nat_le, if◌then◌else◌}
 use Rattle.std.proofs.lemmas.Bool.{cond_both}
 use Rattle.oper_core.specs.Meaning.{Meaning}
+use Rattle.formats.specs.Limits.{log_limit}
 use Rattle.install_order.specs.Computed.{some_below, least_below}
 use Rattle.explain_core.specs.Turns.{turn, turns, thin_steps, thin_name, has_work, must_install}
 use Rattle.explain_core.specs.World.{World, Step, run, end_of, node_named}
 use Rattle.explain_core.specs.World.Step.{Slot_gate, Removal, Replay, Header_gate}
 use Rattle.running_store.specs.Courses.{Course, course, grown, is_through, force_steps, force_course, room_steps}
 use Rattle.running_store.specs.Courses.Stop.{Through, Full}
-use Rattle.running_store.specs.Logged.{log_limit}
 use Rattle.running_store.specs.Running.{AreUpkeep}
 use Rattle.running_store.specs.Rewrites.{check_length, new_base, rewrite_course, trimmed, trimmed_file}
 use Rattle.cache_manager.specs.Upkeep.{upkeep_append, upkeep_either, upkeep_force, upkeep_room, upkeep_then}
-use Rattle.checkpointing.specs.Courses.{check_course, check_steps, checkpoint_course, closing_course, logged_course, last_epoch, trim_course}
+use Rattle.formats.specs.Limits.{numbers_end}
+use Rattle.checkpointing.specs.Courses.{check_course, check_steps, checkpoint_course, closing_course, logged_course, trim_course}
 use Rattle.redo_pass.specs.Redo.{redo_steps}
 use Rattle.store_engine.proofs.Steps.{ArePlain, plain_append}
 
@@ -40,7 +41,7 @@ module _ {O : Type 0} (m : Meaning O) where
       upkeep_either m (nat_lt log_limit (trimmed_file m w)) (course [] used (Full used (trimmed_file m w) log_limit)) (course (Header_gate (new_base m w) ∷ []) (trimmed m w) Through) tt (tt, tt)
 
   pub upkeep_trim : (epoch : ℕ) (w : World O) (used : ℕ) → AreUpkeep (trim_course m epoch w used).steps
-  upkeep_trim epoch w used = cond_both (nat_le last_epoch epoch) _ _ (λ (c : Course O). AreUpkeep c.steps) (λ worn. tt)
+  upkeep_trim epoch w used = cond_both (nat_le numbers_end epoch) _ _ (λ (c : Course O). AreUpkeep c.steps) (λ worn. tt)
       (λ left. upkeep_then m w (force_course m w used) (rewrite_course m) (upkeep_force m w) (λ v used. upkeep_rewrite v used))
 
   plain_if : (b : Bool) (xs ys : List (Step O)) → ArePlain xs → ArePlain ys → ArePlain (if b then xs else ys)

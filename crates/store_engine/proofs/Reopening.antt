@@ -115,5 +115,5 @@ module _ {O : Type 0} (meaning : Bounds → Meaning O) (p : Params) (old new : D
   -- and each image within the restart for a front of them
   pub restart_images : IsSmall (bounds_of p) → KeepsRuns meaning → Stand meaning p → AreAllowed m w (restart_course m dirty w used).steps
       → OpensThrough m p old new w (restart_course m dirty w used).steps → LeavesOnly old new (OrAtStart old (Between meaning p old None (length commands) (length commands) commands))
-  restart_images small keeps stand may moments =
-      or_weaker old new (IsSilent (ShowsSome m p w (restart_course m dirty w used).steps) old.said) (Between meaning p old None (length commands) (length commands) commands) moments (restart_between small keeps stand may)
+  restart_images small keeps stand may steps =
+      or_weaker old new (IsSilent (ShowsSome m p w (restart_course m dirty w used).steps) old.said) (Between meaning p old None (length commands) (length commands) commands) steps (restart_between small keeps stand may)

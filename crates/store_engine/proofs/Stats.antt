@@ -19,7 +19,7 @@ use Rattle.explain_core.specs.GraphLaws.{graph-within}
 use Rattle.explain_core.specs.Sound.{IsSound}
 use Rattle.explain_core.specs.Turns.{count_below}
 use Rattle.explain_core.specs.World.{World, end_of, graph_access, node_named}
-use Rattle.running_store.specs.Parts.{Store, ShowsStore}
+use Rattle.running_store.specs.Parts.{Volatile, ShowsVolatile}
 
 -- numbers after one that rise with it rise
 rising-tail : (x : ℕ) (xs : List ℕ) → IsStrictlyIncreasing (x ∷ xs) → IsStrictlyIncreasing xs
@@ -51,10 +51,10 @@ same_test false true to from = from refl
 same_test false false to from = refl
 
 -- a store that is shown has small numbers
-pub small_in : {O : Type 0} (m : Meaning O) (p : Params) (file : List ℕ) (it : Store) (w : World O) → ShowsStore m p file it w → IsSmall (bounds_of p)
+pub small_in : {O : Type 0} (m : Meaning O) (p : Params) (file : List ℕ) (it : Volatile) (w : World O) → ShowsVolatile m p file it w → IsSmall (bounds_of p)
 small_in m p file it w shows = small_store p file (subst (λ (q : Params). IsObjectsFile q file) shows.params shows.laid.slots.whole)
 
-module _ {O : Type 0} (m : Meaning O) (lawful : IsLawful m) (p : Params) (file : List ℕ) (it : Store) (w : World O) (sound : IsSound m w) (shows : ShowsStore m p file it w) where
+module _ {O : Type 0} (m : Meaning O) (lawful : IsLawful m) (p : Params) (file : List ℕ) (it : Volatile) (w : World O) (sound : IsSound m w) (shows : ShowsVolatile m p file it w) where
   abbrev end : ℕ
   end = end_of w
 

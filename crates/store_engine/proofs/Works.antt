@@ -5,19 +5,21 @@ use Rattle.disk_model.specs.Disk.{Disk}
 use Rattle.disk_model.specs.declared.machine.Failed.{Failed as Failure}
 use Rattle.oper_core.specs.Meaning.{Meaning}
 use Rattle.oper_core.specs.declared.bounds.Bounds.{Bounds}
+use Rattle.formats.specs.Limits.{log_limit}
 use Rattle.formats.specs.declared.params.Params.{Params}
 use Rattle.log_records.specs.Loading.{IsTailFault}
 use Rattle.log_records.specs.RecordLog.{RecordLogView}
+use Rattle.log_records.specs.declared.rewrite_err.RewriteErr.{RewriteErr}
 use Rattle.dirty_cache.specs.Contents.{is_dirty}
 use Rattle.explain_core.specs.World.{World}
 use Rattle.running_store.specs.Calls as of_store
 use Rattle.running_store.specs.Calls.{IsForce, Never, ending_of_force}
 use Rattle.running_store.specs.Courses.{force_course}
 use Rattle.cache_manager.specs.InstallCourses.{drain_course, install_course, removals}
-use Rattle.running_store.specs.Kept.{IsAttached, StopsAt}
-use Rattle.running_store.specs.Logged.{log_limit}
+use Rattle.running_store.specs.Kept.{HasLog, StopsAt}
 use Rattle.running_store.specs.Parts.{Shows}
-use Rattle.running_store.specs.StoreView.{StoreView, length_of, logged_since, next_of}
+use Rattle.running_store.specs.Rewrites.{ending_of_rewrite}
+use Rattle.running_store.specs.StoreView.{StoreView, log_length, logged_since, next_of}
 use Rattle.running_store.specs.Taking.{Takes}
 use Rattle.cache_manager.specs.Endings.{ending_of}
 use Rattle.cache_manager.specs.Told.{IsInstall, TellsParts}
@@ -26,10 +28,8 @@ use Rattle.cache_manager.specs.declared.install.Install.{Install}
 use Rattle.cache_manager.specs.declared.install_err.InstallErr.{InstallErr}
 use Rattle.checkpointing.specs.Left.{ending_of_check}
 use Rattle.checkpointing.specs.Courses.{checkpoint_course, trim_course}
-use Rattle.checkpointing.specs.Left as of_trim
 use Rattle.checkpointing.specs.Left.{DamagedBy, IsTooLong}
 use Rattle.checkpointing.specs.declared.check_err.CheckErr.{CheckErr}
-use Rattle.checkpointing.specs.declared.trim_err.TrimErr.{TrimErr}
 use Rattle.store_engine.specs.Calls.{IsChecking, IsDraining, IsForcing, IsInstalling, IsTrimming}
 use Rattle.store_engine.specs.Engine.{engine_of}
 use Rattle.store_engine.specs.Store.{meaning_in}
@@ -74,7 +74,7 @@ module _ {O : Type 0} (meaning : Bounds → Meaning O) (old new : Disk) (store l
 
   pub installing : (r : Result Install InstallErr) → of_store.IsCall meaning old new store later (logged_since store later) (StopsAt log_limit) (ending_of r)
       → Takes meaning old new store.parts later.parts (λ m w used. install_course m 0 w used) (ending_of r)
-      → ((p : Params) (w : World O) → Shows (meaning_in meaning p) p old store.parts w → IfOk r (IsInstall (meaning_in meaning p) w (install_course (meaning_in meaning p) 0 w (length_of store)).steps))
+      → ((p : Params) (w : World O) → Shows (meaning_in meaning p) p old store.parts w → IfOk r (IsInstall (meaning_in meaning p) w (install_course (meaning_in meaning p) 0 w (log_length store)).steps))
       → IfOk r (TellsParts store.parts later.parts) → MayTake meaning (λ m w used. install_course m 0 w used) → IsInstalling meaning old new (engine_of store None) (engine_of later None) r
   installing r call takes told tells may = record {
     call = call_of meaning old new store later (logged_since store later) (StopsAt log_limit) (ending_of r) call log_limit None (λ log stop at. at);
@@ -86,16 +86,16 @@ module _ {O : Type 0} (meaning : Bounds → Meaning O) (old new : Disk) (store l
 
   pub draining : (r : Result ℕ InstallErr) → of_store.IsCall meaning old new store later (logged_since store later) (StopsAt log_limit) (ending_of r)
       → Takes meaning old new store.parts later.parts (λ m w used. drain_course m 0 w used) (ending_of r)
-      → ((p : Params) (w : World O) → Shows (meaning_in meaning p) p old store.parts w → IfOk r (λ n. n ≡ removals (drain_course (meaning_in meaning p) 0 w (length_of store)).steps))
-      → IfOk r (λ n. n + next_of store ≤ length store.parts.store.entries + next_of later) → OnOk r (later.parts.store.entries ≡ [])
-      → ((p : Params) (w : World O) → Shows (meaning_in meaning p) p old store.parts w → OnOk r ((x : ℕ) → is_dirty later.parts.store.objects.cache x ≡ false))
+      → ((p : Params) (w : World O) → Shows (meaning_in meaning p) p old store.parts w → IfOk r (λ n. n ≡ removals (drain_course (meaning_in meaning p) 0 w (log_length store)).steps))
+      → IfOk r (λ n. n + next_of store ≤ length store.parts.volatile.entries + next_of later) → OnOk r (later.parts.volatile.entries ≡ [])
+      → ((p : Params) (w : World O) → Shows (meaning_in meaning p) p old store.parts w → OnOk r ((x : ℕ) → is_dirty later.parts.volatile.objects.cache x ≡ false))
       → MayTake meaning (λ m w used. drain_course m 0 w used) → IsDraining meaning old new (engine_of store None) (engine_of later None) r
   draining r call takes count bounded drained clean may = record {
     call = call_of meaning old new store later (logged_since store later) (StopsAt log_limit) (ending_of r) call log_limit None (λ log stop at. at);
     takes = takes_of meaning old new store later (logged_since store later) (StopsAt log_limit) (ending_of r) call (λ m w used. drain_course m 0 w used) takes;
     commands = keeps_of meaning old new store later (logged_since store later) (StopsAt log_limit) (ending_of r) call (λ m w used. drain_course m 0 w used) takes keeps stand may (λ m w used. are_plain (drain_course m 0 w used).steps (upkeep_drain m 0 w used));
     count = λ p w shows. count p w (alone_shown meaning p old (engine_of store None) w shows refl);
-    bounded = bounded_so r (next_of store) (next_of later) (length store.parts.store.entries) call.rising bounded;
+    bounded = bounded_so r (next_of store) (next_of later) (length store.parts.volatile.entries) call.rising bounded;
     drained = drained;
     clean = λ p w shows. clean p w (alone_shown meaning p old (engine_of store None) w shows refl);
   }
@@ -114,17 +114,17 @@ module _ {O : Type 0} (meaning : Bounds → Meaning O) (old new : Disk) (store l
   abbrev epoch : ℕ
   epoch = store.parts.log.log.header.epoch
 
-  pub trimming : {T : Type 0} (r : Result T TrimErr) → of_store.IsCall meaning old new store later 0 (StopsAt log_limit) (of_trim.ending_of r)
-      → Takes meaning old new store.parts later.parts (λ m w used. trim_course m store.parts.log.log.header.epoch w used) (of_trim.ending_of r)
-      → OnOk r (later.parts.log.log.header.epoch ≡ store.parts.log.log.header.epoch + 1) → (old.tells_files → IsAttached meaning old store.parts → IfErr r (DamagedBy (λ file place. ⊥)))
-      → IfErr r (DamagedBy (IsTailFault (meaning later.parts.log.bounds) new later.parts.log.log)) → IfErr r IsTooLong → (store.parts.store.entries ≡ [] → OnOk r (later.parts.log.log.header.base ≡ next_of later))
+  pub trimming : {T : Type 0} (r : Result T RewriteErr) → of_store.IsCall meaning old new store later 0 (StopsAt log_limit) (ending_of_rewrite r)
+      → Takes meaning old new store.parts later.parts (λ m w used. trim_course m store.parts.log.log.header.epoch w used) (ending_of_rewrite r)
+      → OnOk r (later.parts.log.log.header.epoch ≡ store.parts.log.log.header.epoch + 1) → (old.tells_files → HasLog (meaning store.parts.log.bounds) old store.parts.log → IfErr r (DamagedBy (λ file place. ⊥)))
+      → IfErr r (DamagedBy (IsTailFault (meaning later.parts.log.bounds) new later.parts.log.log)) → IfErr r IsTooLong → (store.parts.volatile.entries ≡ [] → OnOk r (later.parts.log.log.header.base ≡ next_of later))
       → MayTake meaning (λ m w used. trim_course m store.parts.log.log.header.epoch w used) → IsTrimming meaning old new (engine_of store None) (engine_of later None) r
   trimming r call takes raised undamaged damage long emptied may = record {
-    call = call_of meaning old new store later 0 (StopsAt log_limit) (of_trim.ending_of r) call log_limit None (λ log stop at. at);
-    takes = takes_of meaning old new store later 0 (StopsAt log_limit) (of_trim.ending_of r) call (λ m w used. trim_course m epoch w used) takes;
-    commands = keeps_of meaning old new store later 0 (StopsAt log_limit) (of_trim.ending_of r) call (λ m w used. trim_course m epoch w used) takes keeps stand may (λ m w used. are_plain (trim_course m epoch w used).steps (upkeep_trim m epoch w used));
+    call = call_of meaning old new store later 0 (StopsAt log_limit) (ending_of_rewrite r) call log_limit None (λ log stop at. at);
+    takes = takes_of meaning old new store later 0 (StopsAt log_limit) (ending_of_rewrite r) call (λ m w used. trim_course m epoch w used) takes;
+    commands = keeps_of meaning old new store later 0 (StopsAt log_limit) (ending_of_rewrite r) call (λ m w used. trim_course m epoch w used) takes keeps stand may (λ m w used. are_plain (trim_course m epoch w used).steps (upkeep_trim m epoch w used));
     epoch = raised;
-    undamaged = λ told attached file place is. damaged_by (λ f n. ⊥) r file place (undamaged told attached) is;
+    undamaged = λ told attached file place is. damaged_by (λ f n. ⊥) r file place (undamaged told (attached told).1) is;
     damage = λ file place is. damaged_by _ r file place damage is;
     long = long;
     emptied = emptied;

@@ -5,29 +5,29 @@ use Rattle.disk_model.specs.declared.machine.Failed.{Failed}
 use Rattle.disk_model.specs.declared.machine.FileNo.{FileNo}
 use Rattle.oper_core.specs.Meaning.{Meaning}
 use Rattle.oper_core.specs.declared.bounds.Bounds.{Bounds}
+use Rattle.formats.specs.Limits.{log_limit}
 use Rattle.formats.specs.declared.params.Params.{Params}
 use Rattle.log_records.specs.Loading.{IsTailFault}
+use Rattle.log_records.specs.declared.rewrite_err.RewriteErr.{RewriteErr}
+use Rattle.log_records.specs.declared.rewrite_err.RewriteErr.TheVariants as of_rewrite
 use Rattle.dirty_cache.specs.Contents.{is_dirty}
 use Rattle.explain_core.specs.World.{World}
 use Rattle.explain_core.specs.World.Step.{Begin, End}
 use Rattle.running_store.specs.Courses.{Course, course, force_course, force_steps}
 use Rattle.cache_manager.specs.InstallCourses.{install_course, drain_course, removals}
 use Rattle.running_store.specs.Courses.Stop.{Through}
-use Rattle.running_store.specs.Logged.{log_limit}
 use Rattle.running_store.specs.Calls.{ending_of_force}
+use Rattle.running_store.specs.Rewrites.{ending_of_rewrite}
 use Rattle.cache_manager.specs.Endings.{ending_of}
 use Rattle.cache_manager.specs.Told.{IsInstall, TellsParts}
 use Rattle.cache_manager.specs.declared.install.Install.{Install}
 use Rattle.cache_manager.specs.declared.install_err.InstallErr.{InstallErr}
 use Rattle.cache_manager.specs.declared.install_err.InstallErr.TheVariants as of_install
 use Rattle.checkpointing.specs.Courses.{checkpoint_course, trim_course}
-use Rattle.checkpointing.specs.Left as of_trim
 use Rattle.checkpointing.specs.Left.{IsTooLong, ending_of_check}
 use Rattle.checkpointing.specs.declared.check_err.CheckErr.{CheckErr}
 use Rattle.checkpointing.specs.declared.check_err.CheckErr.TheVariants as of_checking
-use Rattle.checkpointing.specs.declared.trim_err.TrimErr.{TrimErr}
-use Rattle.checkpointing.specs.declared.trim_err.TrimErr.TheVariants as of_trimming
-use Rattle.store_engine.specs.Engine.{EngineView, Holds, IsAttached, IsCall, KeepsCommands, ShowsIn, TakesIn, forced_in, logged_since, used_in}
+use Rattle.store_engine.specs.Engine.{EngineView, Holds, IsAttached, IsEngineCall, KeepsCommands, ShowsIn, TakesIn, forced_in, logged_since, used_in}
 use Rattle.store_engine.specs.Store.{meaning_in}
 use Rattle.store_engine.specs.declared.work_err.WorkErr.{WorkErr}
 use Rattle.store_engine.specs.declared.work_err.WorkErr.TheVariants.{InGroup, LogFull, LsnEnd, Exhausted, DiskFault, Damaged, Memory}
@@ -49,12 +49,12 @@ work_from_check (of_checking.LogFull used need limit) = LogFull used need limit
 work_from_check of_checking.DiskFault = DiskFault
 work_from_check of_checking.Memory = Memory
 
-abbrev pub work_from_trim : TrimErr → WorkErr
-work_from_trim (of_trimming.Exhausted epoch) = Exhausted epoch
-work_from_trim of_trimming.DiskFault = DiskFault
-work_from_trim (of_trimming.Damaged file place) = Damaged file place
-work_from_trim (of_trimming.LogFull used need limit) = LogFull used need limit
-work_from_trim of_trimming.Memory = Memory
+abbrev pub work_from_rewrite : RewriteErr → WorkErr
+work_from_rewrite (of_rewrite.LogFull used need limit) = LogFull used need limit
+work_from_rewrite (of_rewrite.Exhausted epoch) = Exhausted epoch
+work_from_rewrite of_rewrite.DiskFault = DiskFault
+work_from_rewrite (of_rewrite.Damaged file place) = Damaged file place
+work_from_rewrite of_rewrite.Memory = Memory
 
 -- what they answer
 abbrev pub work_of : {T E : Type 0} → (E → WorkErr) → Result T E → Result T WorkErr
@@ -70,8 +70,8 @@ work_of_install = work_of work_from_install
 abbrev pub work_of_check : {T : Type 0} → Result T CheckErr → Result T WorkErr
 work_of_check = work_of work_from_check
 
-abbrev pub work_of_trim : {T : Type 0} → Result T TrimErr → Result T WorkErr
-work_of_trim = work_of work_from_trim
+abbrev pub work_of_trim : {T : Type 0} → Result T RewriteErr → Result T WorkErr
+work_of_trim = work_of work_from_rewrite
 
 -- the course of the beginning of a group: what waits is forced first
 abbrev pub begin_course : {O : Type 0} → Meaning O → World O → ℕ → Course O
@@ -90,7 +90,7 @@ pub record IsRefused {T : Type 0} {M : Type 0} (size : ℕ) (old new : M) (befor
 module _ {O : Type 0} (meaning : Bounds → Meaning O) (old new : Disk) (before after : EngineView) where
   -- the log was forced, or the disk failed
   pub record IsForcing (answer : Result ℕ Failed) : Type 0 where
-    pub call : IsCall meaning log_limit old new before after 0 (ending_of_force answer)
+    pub call : IsEngineCall meaning log_limit old new before after 0 (ending_of_force answer)
     pub takes : TakesIn meaning old new before after (λ m w used. force_course m w used) (ending_of_force answer)
     pub commands : KeepsCommands meaning old new before after (ending_of_force answer)
     pub forced : (p : Params) (commands : List O) → Holds meaning p old before commands → IfOk answer (λ n. (n ≡ length commands) × (forced_in after ≡ length commands))
@@ -99,7 +99,7 @@ module _ {O : Type 0} (meaning : Bounds → Meaning O) (old new : Disk) (before 
 
   -- a node was installed, or none was left
   pub record IsInstalling (answer : Result Install InstallErr) : Type 0 where
-    pub call : IsCall meaning log_limit old new before after (logged_since before after) (ending_of answer)
+    pub call : IsEngineCall meaning log_limit old new before after (logged_since before after) (ending_of answer)
     pub takes : TakesIn meaning old new before after (λ m w used. install_course m 0 w used) (ending_of answer)
     pub commands : KeepsCommands meaning old new before after (ending_of answer)
     pub told : (p : Params) (w : World O) → ShowsIn meaning p old before w → IfOk answer (IsInstall (meaning_in meaning p) w (install_course (meaning_in meaning p) 0 w (used_in before)).steps)
@@ -107,36 +107,36 @@ module _ {O : Type 0} (meaning : Bounds → Meaning O) (old new : Disk) (before 
 
   -- nodes were installed until none was left
   pub record IsDraining (answer : Result ℕ InstallErr) : Type 0 where
-    pub call : IsCall meaning log_limit old new before after (logged_since before after) (ending_of answer)
+    pub call : IsEngineCall meaning log_limit old new before after (logged_since before after) (ending_of answer)
     pub takes : TakesIn meaning old new before after (λ m w used. drain_course m 0 w used) (ending_of answer)
     pub commands : KeepsCommands meaning old new before after (ending_of answer)
     pub count : (p : Params) (w : World O) → ShowsIn meaning p old before w → IfOk answer (λ n. n ≡ removals (drain_course (meaning_in meaning p) 0 w (used_in before)).steps)
     -- each install takes an entry out of the graph at least, and each identity write puts one in
-    pub bounded : IfOk answer (λ n. n ≤ length before.parts.store.entries + logged_since before after)
-    pub drained : OnOk answer (after.parts.store.entries ≡ [])
-    pub clean : (p : Params) (w : World O) → ShowsIn meaning p old before w → OnOk answer ((x : ℕ) → is_dirty after.parts.store.objects.cache x ≡ false)
+    pub bounded : IfOk answer (λ n. n ≤ length before.parts.volatile.entries + logged_since before after)
+    pub drained : OnOk answer (after.parts.volatile.entries ≡ [])
+    pub clean : (p : Params) (w : World O) → ShowsIn meaning p old before w → OnOk answer ((x : ℕ) → is_dirty after.parts.volatile.objects.cache x ≡ false)
 
   -- a check was taken and forced
   pub record IsChecking {T : Type 0} (answer : Result T CheckErr) : Type 0 where
-    pub call : IsCall meaning log_limit old new before after 0 (ending_of_check answer)
+    pub call : IsEngineCall meaning log_limit old new before after 0 (ending_of_check answer)
     pub takes : TakesIn meaning old new before after (λ m w used. checkpoint_course m w used) (ending_of_check answer)
     pub commands : KeepsCommands meaning old new before after (ending_of_check answer)
 
   -- the log was rewritten
-  pub record IsTrimming {T : Type 0} (answer : Result T TrimErr) : Type 0 where
-    pub call : IsCall meaning log_limit old new before after 0 (of_trim.ending_of answer)
-    pub takes : TakesIn meaning old new before after (λ m w used. trim_course m before.parts.log.log.header.epoch w used) (of_trim.ending_of answer)
-    pub commands : KeepsCommands meaning old new before after (of_trim.ending_of answer)
+  pub record IsTrimming {T : Type 0} (answer : Result T RewriteErr) : Type 0 where
+    pub call : IsEngineCall meaning log_limit old new before after 0 (ending_of_rewrite answer)
+    pub takes : TakesIn meaning old new before after (λ m w used. trim_course m before.parts.log.log.header.epoch w used) (ending_of_rewrite answer)
+    pub commands : KeepsCommands meaning old new before after (ending_of_rewrite answer)
     pub epoch : OnOk answer (after.parts.log.log.header.epoch ≡ before.parts.log.log.header.epoch + 1)
-    pub undamaged : old.tells_files → IsAttached meaning old before → (file : FileNo) (place : ℕ) → IsErrOf answer (of_trimming.Damaged file place) → ⊥
-    pub damage : (file : FileNo) (place : ℕ) → IsErrOf answer (of_trimming.Damaged file place) → IsTailFault (meaning after.parts.log.bounds) new after.parts.log.log file place
+    pub undamaged : old.tells_files → IsAttached meaning old before → (file : FileNo) (place : ℕ) → IsErrOf answer (of_rewrite.Damaged file place) → ⊥
+    pub damage : (file : FileNo) (place : ℕ) → IsErrOf answer (of_rewrite.Damaged file place) → IsTailFault (meaning after.parts.log.bounds) new after.parts.log.log file place
     pub long : IfErr answer IsTooLong
     -- where all is installed the log that is left has no command and no identity write: it begins at the next number
-    pub emptied : before.parts.store.entries ≡ [] → OnOk answer (after.parts.log.log.header.base ≡ after.parts.log.next)
+    pub emptied : before.parts.volatile.entries ≡ [] → OnOk answer (after.parts.log.log.header.base ≡ after.parts.log.next)
 
   -- the log was forced, and a group is open that has no command yet; or the disk failed
   pub record IsBeginning {T : Type 0} (answer : Result T Failed) : Type 0 where
-    pub call : IsCall meaning log_limit old new before (record after { group = before.group }) 0 (ending_of_force answer)
+    pub call : IsEngineCall meaning log_limit old new before (record after { group = before.group }) 0 (ending_of_force answer)
     pub takes : TakesIn meaning old new before after (λ m w used. begin_course m w used) (ending_of_force answer)
     pub commands : KeepsCommands meaning old new before after (ending_of_force answer)
     pub opened : OnOk answer (after.group ≡ Some after.parts.log.next)

@@ -13,6 +13,7 @@ use Rattle.formats.specs.declared.params.Params.{Params}
 use Rattle.log_frames.specs.Creating.{IsNewLog}
 use Rattle.log_frames.specs.LogView.{used_of}
 use Rattle.stable_objects.specs.Making.{IsNewFile}
+use Rattle.stable_objects.specs.declared.open_err.OpenErr.{OpenErr}
 use Rattle.dirty_cache.specs.Contents.{held}
 use Rattle.install_order.specs.Computed.{least_below}
 use Rattle.explain_core.specs.History.{commands_of}
@@ -34,7 +35,6 @@ use Rattle.execution.specs.Done as of_command
 use Rattle.execution.specs.Stops.{StopsCommand}
 use Rattle.execution.specs.declared.exec_err.ExecErr.{ExecErr}
 use Rattle.execution.specs.declared.exec_err.ExecErr.TheVariants.{Refused, LogFull, LsnEnd, DiskFault, Damaged, Memory}
-use Rattle.restart.specs.declared.restart_err.RestartErr.{RestartErr}
 use Rattle.store_engine.specs.Grouping.{ungrouped}
 use Rattle.store_engine.specs.Store.{meaning_in, state_of, refusal_after, record_length, Stands}
 use Rattle.store_engine.specs.declared.stat.Stat.{Stat}
@@ -56,7 +56,7 @@ engine_of store group = record { parts = store.parts; identities = store.identit
 
 -- the numbers of its store
 abbrev pub params_of : EngineView → Params
-params_of engine = engine.parts.store.objects.slots.params
+params_of engine = engine.parts.volatile.objects.slots.params
 
 -- the length of its log, what waits for a force counted
 abbrev pub used_in : EngineView → ℕ
@@ -87,14 +87,14 @@ needed_in (Some (suc k)) n = n
 
 -- an object is cached
 abbrev pub IsCached : EngineView → ℕ → Type 0
-IsCached engine x = IsSome (held engine.parts.store.objects.cache x)
+IsCached engine x = IsSome (held engine.parts.volatile.objects.cache x)
 
 -- this is true of the files and of whatever a crash now leaves of them
 abbrev pub InEachImage : Disk → (Files → Type 0) → Type 0
 InEachImage d P = P d.reads × (d.tells_moments → (files : Files) (said : List ℕ) → d.left_since d.clock files said → P files)
 
 -- what an opening answers, without the counts of the engine
-abbrev pub opened : Result EngineView RestartErr → Result Parts RestartErr
+abbrev pub opened : Result EngineView OpenErr → Result Parts OpenErr
 opened (Ok engine) = Ok engine.parts
 opened (Err cause) = Err cause
 
@@ -120,7 +120,7 @@ module _ {O : Type 0} (meaning : Bounds → Meaning O) where
   -- said, the store's numbers stay, and the open group; unless the disk failed the engine stays attached; so many identity
   -- writes are logged; a call that was stopped says the numbers of the log that it leaves; the engine is broken exactly if
   -- the disk failed, and then the disk counted that.
-  pub record IsCall (most : ℕ) (old new : Disk) (before after : EngineView) (logged : ℕ) (ending : Ending) : Type 0 where
+  pub record IsEngineCall (most : ℕ) (old new : Disk) (before after : EngineView) (logged : ℕ) (ending : Ending) : Type 0 where
     pub time : Passes old new
     pub quiet : old.tells_files → new.said ≡ old.said
     pub params : params_of after ≡ params_of before
@@ -133,7 +133,7 @@ module _ {O : Type 0} (meaning : Bounds → Meaning O) where
 
   -- What holds on every machine of a fetch: the files, the log, the counts and the open group stay, and nothing is said; the
   -- engine stays attached; it is broken exactly if the disk failed.
-  pub record IsFetch (old new : Disk) (before after : EngineView) (failed : Type 0) : Type 0 where
+  pub record IsEngineFetch (old new : Disk) (before after : EngineView) (failed : Type 0) : Type 0 where
     pub kept : Stays old new
     pub log : after.parts.log ≡ before.parts.log
     pub identities : after.identities ≡ before.identities
@@ -171,7 +171,7 @@ module _ {O : Type 0} (meaning : Bounds → Meaning O) where
   -- crash at any moment of it leaves the world after some first steps of the course.
   pub record TakesIn (old new : Disk) (before after : EngineView) (course : Meaning O → World O → ℕ → Course O) (ending : Ending) : Type 0 where
     pub follows : (p : Params) (w : World O) → ShowsIn p old before w → FollowsIn p new after w (course (meaning_in meaning p) w (used_in before)) ending
-    pub moments : old.tells_moments → (p : Params) (w : World O) → ShowsIn p old before w
+    pub steps : old.tells_moments → (p : Params) (w : World O) → ShowsIn p old before w
         → TakesSome (meaning_in meaning p) p old new w (course (meaning_in meaning p) w (used_in before)).steps
 
   -- Engine and files stand for the commands: they show a sound world whose history has these commands.
@@ -182,7 +182,7 @@ module _ {O : Type 0} (meaning : Bounds → Meaning O) where
 
   -- the cache, laid over the slots, is the state after the commands
   abbrev pub IsMapOf : Params → Disk → EngineView → List O → Type 0
-  IsMapOf p d engine commands = (x : ℕ) → x < p.objects → values_in engine.parts.store.objects (d.reads Objects) x ≡ state_of meaning p commands x
+  IsMapOf p d engine commands = (x : ℕ) → x < p.objects → values_in engine.parts.volatile.objects (d.reads Objects) x ≡ state_of meaning p commands x
 
   -- What the images of a moment and the map say, where engine and files stand for the commands: the images stand for those
   -- that are forced, the map is that of all. Where nothing waits all are forced, and the log in the files is as long as the

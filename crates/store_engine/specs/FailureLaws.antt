@@ -12,13 +12,13 @@ use Rattle.running_store.specs.Parts.{Parts}
 
 module _ {O : Type 0} (meaning : Bounds → Meaning O) {old new : Disk} (before : Parts) {object : ℕ} {file : FileNo} {place : ℕ} where
   -- where a call leaves the files as they are
-  pub none_damaged : Stays old new → old.tells_files → IsAttached meaning old before → IsLongSlot new before.store.objects.slots object file place → ⊥
-  none_damaged stays told attached slot = long_untold before.store.objects.slots object file place stays told (attached told).0.slots slot
+  pub none_damaged : Stays old new → old.tells_files → IsAttached meaning old before → IsLongSlot new before.volatile.objects.slots object file place → ⊥
+  none_damaged stays told attached slot = long_untold before.volatile.objects.slots object file place stays told (attached told).0.slots slot
 
   -- and where it leaves the engine attached, with the same slots
-  pub still_none_damaged : (after : Parts) → IsDisk new → Passes old new → after.store.objects.slots ≡ before.store.objects.slots → (IsAttached meaning old before → IsAttached meaning new after)
-      → old.tells_files → IsAttached meaning old before → IsLongSlot new before.store.objects.slots object file place → ⊥
+  pub still_none_damaged : (after : Parts) → IsDisk new → Passes old new → after.volatile.objects.slots ≡ before.volatile.objects.slots → (IsAttached meaning old before → IsAttached meaning new after)
+      → old.tells_files → IsAttached meaning old before → IsLongSlot new before.volatile.objects.slots object file place → ⊥
   still_none_damaged after disk time slots keeps told attached slot =
       let now = time.files_told.0 told in
       let laid = (keeps attached now).0 in
-      long_never new before.store.objects.slots object file place new.reads (disk.agreeing now) (subst (λ (s : SlotsView). AreOf s (new.reads Objects)) slots laid.slots) slot
+      long_never new before.volatile.objects.slots object file place new.reads (disk.agreeing now) (subst (λ (s : SlotsView). AreOf s (new.reads Objects)) slots laid.slots) slot

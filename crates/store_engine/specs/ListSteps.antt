@@ -5,11 +5,13 @@ use Rattle.oper_core.specs.Meaning.{Meaning}
 use Rattle.oper_core.specs.declared.bounds.Bounds.{Bounds}
 use Rattle.oper_core.specs.declared.refusal.Refusal.{Refusal}
 use Rattle.formats.specs.declared.params.Params.{Params}
+use Rattle.formats.specs.declared.read_err.ReadErr.{ReadErr}
 use Rattle.explain_core.specs.History.{commands_of}
 use Rattle.explain_core.specs.World.{World}
 use Rattle.running_store.specs.Courses.{Stop}
 use Rattle.running_store.specs.Taking.{Ending}
 use Rattle.running_store.specs.Taking.Ending.{Done, Stopped, Short}
+use Rattle.execution.specs.Failures.{exec_from_read}
 use Rattle.execution.specs.declared.exec_err.ExecErr.{ExecErr}
 use Rattle.execution.specs.declared.exec_err.ExecErr.TheVariants.{Refused}
 use Rattle.store_engine.specs.Engine.{EngineView, ShowsIn}
@@ -49,15 +51,15 @@ module _ {O T : Type 0} (meaning : Bounds → Meaning O) (disk : T → Disk) whe
 
   -- an object is fetched, or there is none
   abbrev pub FetchDone : Type 0
-  FetchDone = (old mid new : T) (before between after : EngineView) (p : Params) (w : World O) (commands front : List O) (object : ℕ) (error : Option ExecErr)
-      → AddsFront meaning p (disk old) (disk mid) before between w commands front Done → HasFetched meaning (disk mid) (disk new) between after object error
-      → ending_of error ≡ Done → AddsFront meaning p (disk old) (disk new) before after w commands front Done
+  FetchDone = (old mid new : T) (before between after : EngineView) (p : Params) (w : World O) (commands front : List O) (object : ℕ)
+      → AddsFront meaning p (disk old) (disk mid) before between w commands front Done → HasFetched meaning (disk mid) (disk new) between after object None
+      → AddsFront meaning p (disk old) (disk new) before after w commands front Done
 
   -- a fetch fails, whatever was to come
   abbrev pub FetchFailed : Type 0
-  FetchFailed = (old mid new : T) (before between after : EngineView) (p : Params) (w : World O) (commands front rest : List O) (object : ℕ) (error : Option ExecErr)
-      → AddsFront meaning p (disk old) (disk mid) before between w commands front Done → HasFetched meaning (disk mid) (disk new) between after object error
-      → IsCutOff (ending_of error) → AddsFront meaning p (disk old) (disk new) before after w commands (front ++ rest) (ending_of error)
+  FetchFailed = (old mid new : T) (before between after : EngineView) (p : Params) (w : World O) (commands front rest : List O) (object : ℕ) (e : ReadErr)
+      → AddsFront meaning p (disk old) (disk mid) before between w commands front Done → HasFetched meaning (disk mid) (disk new) between after object (Some e)
+      → AddsFront meaning p (disk old) (disk new) before after w commands (front ++ rest) (ending_of (Some (exec_from_read e)))
 
   -- memory runs out after what was added, whatever was to come
   abbrev pub RunsShort : Type 0

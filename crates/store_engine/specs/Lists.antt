@@ -6,6 +6,7 @@ use Rattle.oper_core.specs.Meaning.{Meaning}
 use Rattle.oper_core.specs.declared.bounds.Bounds.{Bounds}
 use Rattle.oper_core.specs.declared.refusal.Refusal.{Refusal}
 use Rattle.formats.specs.declared.params.Params.{Params}
+use Rattle.formats.specs.declared.read_err.ReadErr.{ReadErr}
 use Rattle.explain_core.specs.History.{commands_of}
 use Rattle.explain_core.specs.Taken.{IsAfterSome}
 use Rattle.explain_core.specs.World.{World, run}
@@ -15,21 +16,23 @@ use Rattle.running_store.specs.Courses.{Course, Stop, and_then, course}
 use Rattle.running_store.specs.Courses.Stop.{Through, Full, At_end, Worn}
 use Rattle.running_store.specs.Taking.{Ending}
 use Rattle.running_store.specs.Taking.Ending.{Done, Stopped, Short, Failed}
+use Rattle.execution.specs.Answers.{ending_of_error}
 use Rattle.execution.specs.Courses.{append_course}
+use Rattle.execution.specs.Failures.{exec_from_read}
 use Rattle.execution.specs.declared.exec_err.ExecErr.{ExecErr}
 use Rattle.execution.specs.declared.exec_err.ExecErr.TheVariants.{Refused, LogFull, LsnEnd, DiskFault, Damaged, Memory}
-use Rattle.store_engine.specs.Engine.{EngineView, Between, IsAttached, IsCall, ShowsIn, forced_in, group_size, needed_in, params_of, used_in}
+use Rattle.store_engine.specs.Engine.{EngineView, Between, IsAttached, IsEngineCall, ShowsIn, forced_in, group_size, needed_in, params_of, used_in}
 use Rattle.store_engine.specs.Store.{meaning_in, record_length, refusal_after}
 
 -- how a call ends that answers this error, or none: one that is refused has done all that it does
 abbrev pub ending_of : Option ExecErr → Ending
 ending_of None = Done
-ending_of (Some (Refused refusal)) = Done
-ending_of (Some (LogFull used need limit)) = Stopped (Full used need limit)
-ending_of (Some (LsnEnd number)) = Stopped (At_end number)
-ending_of (Some DiskFault) = Failed
-ending_of (Some (Damaged file place)) = Short
-ending_of (Some Memory) = Short
+ending_of (Some e) = ending_of_error e
+
+-- a read that fails in the terms of a command, or none
+abbrev pub as_exec : Option ReadErr → Option ExecErr
+as_exec None = None
+as_exec (Some e) = Some (exec_from_read e)
 
 -- the number of commands of the open group with some more
 abbrev pub larger : Option ℕ → ℕ → Option ℕ
@@ -84,7 +87,7 @@ module _ {O : Type 0} (m : Meaning O) where
 -- of every call, and no identity write is logged; where the machine reports its files and the engine is attached to them,
 -- none is damaged.
 pub record AreCalls {O : Type 0} (meaning : Bounds → Meaning O) (old new : Disk) (before after : EngineView) (error : Option ExecErr) : Type 0 where
-  pub call : IsCall meaning (params_of before).limit old new before after 0 (ending_of error)
+  pub call : IsEngineCall meaning (params_of before).limit old new before after 0 (ending_of error)
   pub undamaged : old.tells_files → IsAttached meaning old before → IsUndamaged error
 
 module _ {O : Type 0} (meaning : Bounds → Meaning O) (p : Params) where
@@ -132,4 +135,4 @@ module _ {O : Type 0} (meaning : Bounds → Meaning O) (p : Params) where
     pub stopped : (stop : Stop) → ending ≡ Stopped stop → IsStoppedAt (group_size before) ops done stop
     pub identities : after.identities ≡ before.identities
     pub images : old.tells_moments → LeavesOnly old new (Between meaning p old before.group (forced_in before) (length commands) (commands ++ take done ops))
-    pub takes : old.tells_moments → TakesSome (meaning_in meaning p) p old new w (commands_course (meaning_in meaning p) p.limit ops w (used_in before)).steps
+    pub steps : old.tells_moments → TakesSome (meaning_in meaning p) p old new w (commands_course (meaning_in meaning p) p.limit ops w (used_in before)).steps

@@ -1,17 +1,16 @@
-ghost use Rattle.std.specs.Prelude.{◌≡◌, ◌<◌, ℕ, List, false, OnOk};
+ghost use Rattle.std.specs.Prelude.{◌≡◌, ℕ, List, false, true, nat_lt, IfOk};
 ghost use Rattle.std.specs.Result.{result_err};
 ghost use Rattle.formats.specs.Objects.{IsInRange};
 ghost use Rattle.formats.specs.declared.params.Params.{Params as Numbers};
 ghost use Rattle.running_store.specs.Laid.{values_in};
 ghost use Rattle.store_engine.specs.Engine.{Holds, IsCached, params_of};
-ghost use Rattle.store_engine.specs.Lists.{AreCalls};
 ghost use Rattle.store_engine.specs.Commands.{HasFetched};
+ghost use Rattle.store_engine.specs.Lists.{AreCalls, as_exec};
 ghost use Rattle.store_engine.specs.Store.{state_of};
 
 use disk_model::Machine;
-use execution::ExecErr;
-use formats::Params;
-use oper_core::{Oper, Refusal};
+use formats::{Params, ReadErr};
+use oper_core::Oper;
 use running_store::Store;
 use std::marker::Model;
 
@@ -62,32 +61,34 @@ impl<O: Oper> Engine<O> {
         self.store.log().accepted()
     }
 
-    /// Sees that an object is cached, so that `get` reports its value: where it is not, its slot is read.
+    /// Sees that an object is cached, so that `get` reports its value: where it is not, its slot is read. It answers whether
+    /// there is such an object.
     ///
-    /// It answers `Refused(NoObject)` exactly where there is no such object, `DiskFault`, `Damaged` where the slot breaks
-    /// its format, and `Memory`; of the other answers none. Each object has the value that it had.
-    pub fn fetch<M: Machine>(&mut self, machine: &mut M, object: u32) -> Result<(), ExecErr>
+    /// It fails with `DiskFault`, with `Damaged` where the slot breaks its format, and with `Memory`. Each object has the
+    /// value that it had.
+    pub fn fetch<M: Machine>(&mut self, machine: &mut M, object: u32) -> Result<bool, ReadErr>
         requires unbroken { self.old.broken ≡ false }
         ensures fetched { HasFetched O.meaning (M.disk machine.old) (M.disk machine.new) self.old self.new object (result_err result) }
-        ensures calls { AreCalls O.meaning (M.disk machine.old) (M.disk machine.new) self.old self.new (result_err result) }
-        ensures cached { OnOk result ((object < (params_of self.new).objects) × IsCached self.new object) }
+        ensures calls { AreCalls O.meaning (M.disk machine.old) (M.disk machine.new) self.old self.new (as_exec (result_err result)) }
+        ensures there { IfOk result (λ there. there ≡ nat_lt object (params_of self.old).objects) }
+        ensures cached { IfOk result (λ there. there ≡ true → IsCached self.new object) }
         ensures value { (p : Numbers) (commands : List O) → Holds O.meaning p (M.disk machine.old) self.old commands →
-            OnOk result ((file : List ℕ) → values_in self.new.parts.store.objects file object ≡ state_of O.meaning p commands object) }
+            IfOk result (λ there. there ≡ true → (file : List ℕ) → values_in self.new.parts.volatile.objects file object ≡ state_of O.meaning p commands object) }
         // What is cached costs no device call.
         ensures known { IsCached self.old object → machine.new ≡ machine.old }
     {
         explain_core::live_cache_is_the_map::<O>();
         if object >= self.params().objects {
-            return Err(ExecErr::Refused(Refusal::NoObject));
+            return Ok(false);
         }
         self.store.fetch(machine, object)?;
-        Ok(())
+        Ok(true)
     }
 
     /// The value of an object that was fetched and is still cached.
     pub fn get(&self, object: u32) -> &[u8]
         requires { IsCached self.now object }
-        ensures value { (file : List ℕ) → result.now ≡ values_in self.now.parts.store.objects file object }
+        ensures value { (file : List ℕ) → result.now ≡ values_in self.now.parts.volatile.objects file object }
     {
         self.store.objects().value(object)
     }

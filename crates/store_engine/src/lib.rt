@@ -26,9 +26,10 @@ mod work_err;
 mod working;
 
 pub use cache_manager::{Install, InstallErr};
-pub use checkpointing::{CheckErr, TrimErr};
+pub use checkpointing::CheckErr;
 pub use engine::Engine;
 pub use execution::ExecErr;
+pub use formats::ReadErr;
 pub use grouping::NoGroup;
 pub use init_err::InitErr;
 pub use laws::{
@@ -39,7 +40,8 @@ pub use lists::{
     calls_go_on, commands_log_no_identity, exec_goes_on, fetch_goes_on, fronts_are_joined,
     nothing_is_made,
 };
-pub use restart::{RestartErr, Tuning, one_damage};
+pub use restart::{Tuning, one_damage};
+pub use stable_objects::OpenErr;
 pub use stat::Stat;
 pub use uniqueness::one_state;
 pub use work_err::WorkErr;

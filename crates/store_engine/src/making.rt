@@ -27,7 +27,7 @@ impl<O: Oper> Engine<O> {
         // Where there is a store, each image then begins it.
         ensures already { IsErrOf result InitErr.AlreadyStore → IsSettled (M.disk machine.new) × ((M.disk machine.old).tells_files → BeginsStore ((M.disk machine.old).reads Objects)) }
         ensures kept { (M.disk machine.old).tells_files → BeginsStore ((M.disk machine.old).reads Objects) → Stays (M.disk machine.old) (M.disk machine.new) }
-        ensures moments { (M.disk machine.old).tells_moments → (BeginsStore ((M.disk machine.old).reads Objects) → ⊥) →
+        ensures images { (M.disk machine.old).tells_moments → (BeginsStore ((M.disk machine.old).reads Objects) → ⊥) →
             LeavesOnly (M.disk machine.old) (M.disk machine.new) (OrAtStart (M.disk machine.old) (λ files said. IsNew O.meaning params files × (said ≡ (M.disk machine.old).said))) }
         ensures fresh { (M.disk machine.old).tells_files → OnOk result (BeginsStore ((M.disk machine.old).reads Objects) → ⊥) }
         ensures fault { IsErrOf result InitErr.DiskFault → Rises (M.disk machine.old).disk_faults (M.disk machine.new).disk_faults }
@@ -38,9 +38,7 @@ impl<O: Oper> Engine<O> {
             return Err(InitErr::AlreadyStore);
         }
         Slots::close(machine)?;
-        if RecordLog::<O>::create(machine).is_err() {
-            return Err(InitErr::DiskFault);
-        }
+        RecordLog::<O>::create(machine)?;
         let bounds = Bounds {
             objects: params.objects,
             cap: params.cap,

@@ -14,7 +14,8 @@ ghost use Rattle.store_engine.specs.Store.{meaning_in};
 use crate::Engine;
 use disk_model::Machine;
 use oper_core::Oper;
-use restart::{RestartErr, Tuning};
+use restart::Tuning;
+use stable_objects::OpenErr;
 use std::alloc::Global;
 
 impl<O: Oper> Engine<O> {
@@ -27,7 +28,7 @@ impl<O: Oper> Engine<O> {
         alloc: Global,
         machine: &mut M,
         tuning: Tuning,
-    ) -> Result<Engine<O>, RestartErr>
+    ) -> Result<Engine<O>, OpenErr>
         requires { 0 < tuning.clean }
         ensures opening { IsOpening O.meaning (M.disk machine.old) (M.disk machine.new) (opened result) }
         ensures judged { (M.disk machine.old).tells_files → IsJudged O.meaning (M.disk machine.old) (M.disk machine.new) (opened result) }
@@ -37,7 +38,7 @@ impl<O: Oper> Engine<O> {
         // Of each world that the files show the whole course is taken, and the log is as long as that says.
         ensures follows { (p : Params) (used : ℕ) (w : World O) → OpensOn (meaning_in O.meaning p) p (M.disk machine.old) used w →
             IfOk result (λ engine. IsAfter (meaning_in O.meaning p) p (M.disk machine.new) engine.parts w (restart_course (meaning_in O.meaning p) tuning.redo_dirty w used)) }
-        ensures moments { (M.disk machine.old).tells_moments → (p : Params) (used : ℕ) (w : World O) → OpensOn (meaning_in O.meaning p) p (M.disk machine.old) used w →
+        ensures steps { (M.disk machine.old).tells_moments → (p : Params) (used : ℕ) (w : World O) → OpensOn (meaning_in O.meaning p) p (M.disk machine.old) used w →
             OpensThrough (meaning_in O.meaning p) p (M.disk machine.old) (M.disk machine.new) w (restart_course (meaning_in O.meaning p) tuning.redo_dirty w used).steps }
 
         // So engine and files stand for the commands of the files, all of them forced.

@@ -4,7 +4,7 @@ ghost use Rattle.dirty_cache.specs.Contents.{AreDirty};
 ghost use Rattle.explain_core.specs.Sound.{IsSound};
 ghost use Rattle.explain_core.specs.World.{World};
 ghost use Rattle.write_graph.specs.Graph.{IsCount, NamesNode};
-ghost use Rattle.running_store.specs.Parts.{ShowsStore};
+ghost use Rattle.running_store.specs.Parts.{ShowsVolatile};
 ghost use Rattle.store_engine.specs.Engine.{IsStat, accepted_in, forced_in, used_in};
 ghost use Rattle.store_engine.specs.Store.{meaning_in};
 
@@ -34,9 +34,9 @@ impl<O: Oper> Engine<O> {
     /// What the store reports of itself.
     pub fn stat(&self) -> Stat
         ensures counts { (result.used ≡ used_in self.now) × (result.accepted ≡ accepted_in self.now) × (result.forced ≡ forced_in self.now) × (result.identities ≡ self.now.identities) }
-        ensures own { (result.uninstalled ≡ length self.now.parts.store.entries) × IsCount (NamesNode self.now.parts.store.entries) result.nodes }
-        ensures dirty { (objects : List ℕ) × AreDirty self.now.parts.store.objects.cache objects × (result.dirty ≡ length objects) }
-        ensures shown { (p : Params) (file : List ℕ) (w : World O) → IsSound (meaning_in O.meaning p) w → ShowsStore (meaning_in O.meaning p) p file self.now.parts.store w → IsStat O.meaning p w result }
+        ensures own { (result.uninstalled ≡ length self.now.parts.volatile.entries) × IsCount (NamesNode self.now.parts.volatile.entries) result.nodes }
+        ensures dirty { (objects : List ℕ) × AreDirty self.now.parts.volatile.objects.cache objects × (result.dirty ≡ length objects) }
+        ensures shown { (p : Params) (file : List ℕ) (w : World O) → IsSound (meaning_in O.meaning p) w → ShowsVolatile (meaning_in O.meaning p) p file self.now.parts.volatile w → IsStat O.meaning p w result }
     {
         running_store::dirty_objects_are_counted::<O>();
         Stat {

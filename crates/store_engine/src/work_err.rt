@@ -1,10 +1,11 @@
 ghost use Rattle.std.specs.Prelude.{◌≡◌};
-ghost use Rattle.store_engine.specs.Calls.{work_from_check, work_from_install, work_from_trim};
+ghost use Rattle.store_engine.specs.Calls.{work_from_check, work_from_install, work_from_rewrite};
 ghost use Rattle.store_engine.specs.declared.work_err.WorkErr.TheVariants.{DiskFault};
 
 use cache_manager::InstallErr;
-use checkpointing::{CheckErr, TrimErr};
+use checkpointing::CheckErr;
 use disk_model::{Failed, FileNo};
+use log_records::RewriteErr;
 use thiserror::Error;
 
 /// Why a begin, a force, an install, a drain, a checkpoint or a trim was not done.
@@ -66,16 +67,16 @@ impl From<CheckErr> for WorkErr {
     }
 }
 
-impl From<TrimErr> for WorkErr {
-    ghost from_gives = { λ cause e. e ≡ work_from_trim cause };
+impl From<RewriteErr> for WorkErr {
+    ghost from_gives = { λ cause e. e ≡ work_from_rewrite cause };
 
-    fn from(cause: TrimErr) -> Self {
+    fn from(cause: RewriteErr) -> Self {
         match cause {
-            TrimErr::Exhausted { epoch } => WorkErr::Exhausted { epoch },
-            TrimErr::DiskFault => WorkErr::DiskFault,
-            TrimErr::Damaged { file, place } => WorkErr::Damaged { file, place },
-            TrimErr::LogFull { used, need, limit } => WorkErr::LogFull { used, need, limit },
-            TrimErr::Memory => WorkErr::Memory,
+            RewriteErr::LogFull { used, need, limit } => WorkErr::LogFull { used, need, limit },
+            RewriteErr::Exhausted { epoch } => WorkErr::Exhausted { epoch },
+            RewriteErr::DiskFault => WorkErr::DiskFault,
+            RewriteErr::Damaged { file, place } => WorkErr::Damaged { file, place },
+            RewriteErr::Memory => WorkErr::Memory,
         }
     }
 }

@@ -1,10 +1,10 @@
 // The calls that no group allows.
 ghost use Rattle.std.specs.Prelude.{◌≡◌, ℕ, false, None, IfSome, Result};
 ghost use Rattle.disk_model.specs.declared.machine.Failed.{Failed as ForceFailure};
+ghost use Rattle.log_records.specs.declared.rewrite_err.RewriteErr.{RewriteErr as RewriteFailure};
 ghost use Rattle.cache_manager.specs.declared.install.Install.{Install as Installs};
 ghost use Rattle.cache_manager.specs.declared.install_err.InstallErr.{InstallErr as InstallFailure};
 ghost use Rattle.checkpointing.specs.declared.check_err.CheckErr.{CheckErr as CheckFailure};
-ghost use Rattle.checkpointing.specs.declared.trim_err.TrimErr.{TrimErr as TrimFailure};
 ghost use Rattle.store_engine.specs.Calls.{IsBeginning, IsChecking, IsDraining, IsForcing, IsInstalling, IsRefused, IsTrimming, refused_in, work_of_check, work_of_force, work_of_install, work_of_trim};
 ghost use Rattle.store_engine.specs.Engine.{group_size};
 
@@ -112,7 +112,7 @@ impl<O: Oper> Engine<O> {
     pub fn trim<M: Machine>(&mut self, machine: &mut M) -> Result<(), WorkErr>
         requires unbroken { self.old.broken ≡ false }
         ensures in_group { IfSome (group_size self.old) (λ size. IsRefused size machine.old machine.new self.old self.new result) }
-        ensures alone { self.old.group ≡ None → (answer : Result _ TrimFailure) × (result ≡ work_of_trim answer) × IsTrimming O.meaning (M.disk machine.old) (M.disk machine.new) self.old self.new answer }
+        ensures alone { self.old.group ≡ None → (answer : Result _ RewriteFailure) × (result ≡ work_of_trim answer) × IsTrimming O.meaning (M.disk machine.old) (M.disk machine.new) self.old self.new answer }
     {
         explain_core::every_run_keeps::<O>();
         standing::image_stands::<O>();

@@ -2,7 +2,7 @@ use Rattle.std.proofs.Common.{◌∙◌, ap, ℕ, ◌&&◌, List, arith}
 use Rattle.std.specs.Prelude.{nat_lt, nat_le}
 use Rattle.std.proofs.lemmas.List.{take_all}
 use Rattle.oper_core.specs.State.{is_among}
-use Rattle.checkpoint.specs.RedoStarts.{redo_from}
+use Rattle.redo_tables.specs.RedoStarts.{redo_from}
 use Rattle.running_store.specs.Laid.{id_at}
 use Rattle.redo_pass.proofs.Dues.{due_next}
 use Rattle.redo_pass.proofs.choosing.due_among.Goals as goal

@@ -1,7 +1,7 @@
 use Rattle.std.proofs.Common.{◌≡◌, ◌≤◌, ◌&&◌, ℕ, length, take}
 use Rattle.std.specs.Prelude.{nat_lt, nat_le}
 use Rattle.oper_core.specs.State.{is_among}
-use Rattle.checkpoint.specs.RedoStarts.{redo_from}
+use Rattle.redo_tables.specs.RedoStarts.{redo_from}
 use Rattle.running_store.specs.Laid.{id_at}
 use Rattle.redo_pass.proofs.choosing.due_among.Given as goal
 

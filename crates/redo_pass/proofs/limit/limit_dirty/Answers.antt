@@ -5,11 +5,11 @@ use Rattle.formats.specs.Objects.{bounds_of}
 use Rattle.explain_core.specs.Turns.{turns}
 use Rattle.explain_core.specs.World.{run}
 use Rattle.running_store.specs.Beside.{beside_twice}
-use Rattle.running_store.specs.Calls.{IsCall, Never, call_twice}
+use Rattle.running_store.specs.Calls.{IsCall, Never, call_twice, ending_of_store}
 use Rattle.running_store.specs.Taking.{Ending}
 use Rattle.running_store.specs.Taking.Ending.{Done}
-use Rattle.cache_manager.specs.Endings.{ending_of_thin}
-use Rattle.redo_pass.proofs.Failing.{as_error, thin_same}
+use Rattle.redo_pass.specs.Endings.{as_error}
+use Rattle.redo_pass.proofs.Failing.{thin_same}
 use Rattle.redo_pass.proofs.Limits.{dirty_is, limited_few, limited_last, limited_moments, limited_more, limited_start}
 use Rattle.redo_pass.proofs.limit.limit_dirty.Goals as goal
 
@@ -24,9 +24,9 @@ returns-in_err-install_thin-clause-call g c =
     let old = g.M.Machine.disk c.args.machine.now in
     let new = g.M.Machine.disk c.install_thin.new.machine in
     let why = c.in_err-install_thin.field-0.0 in
-    let all = call_twice g.O.Oper.meaning old (g.M.Machine.disk c.loop-store.machine) new c.args.store.now c.loop-store.store c.install_thin.new.store 0 0 Never Never (ending_of_thin {T = Bool} (Err why)) c.loop-store.invariant.call
+    let all = call_twice g.O.Oper.meaning old (g.M.Machine.disk c.loop-store.machine) new c.args.store.now c.loop-store.store c.install_thin.new.store 0 0 Never Never (ending_of_store {T = Bool} (Err why)) c.loop-store.invariant.call
     c.in_err-install_thin.ensures.call in
-    as_error (λ r. IsCall g.O.Oper.meaning old new c.args.store.now c.install_thin.new.store 0 Never (ending_of_thin r)) c.from_residual.result why c.from_residual.ensures.1
+    as_error (λ r. IsCall g.O.Oper.meaning old new c.args.store.now c.install_thin.new.store 0 Never (ending_of_store r)) c.from_residual.result why c.from_residual.ensures.1
     (subst (λ (e : Ending). IsCall g.O.Oper.meaning old new c.args.store.now c.install_thin.new.store 0 Never e) (thin_same Bool (Unit {0}) why) all)
 
 pub returns-in_err-install_thin-clause-beside : goal.returns-in_err-install_thin-clause-beside
@@ -34,10 +34,10 @@ returns-in_err-install_thin-clause-beside g c =
     beside_twice (g.M.Machine.disk c.args.machine.now) (g.M.Machine.disk c.loop-store.machine) (g.M.Machine.disk c.install_thin.new.machine) c.args.store.now c.loop-store.store c.install_thin.new.store
     (λ set. c.loop-store.invariant.call.broken.0 set) c.loop-store.invariant.beside c.install_thin.ensures.beside
 
-pub returns-in_err-install_thin-clause-any_moment : goal.returns-in_err-install_thin-clause-any_moment
-returns-in_err-install_thin-clause-any_moment g c =
-    let count = dirty_is g.O.Oper.meaning (g.M.Machine.disk c.loop-store.machine) c.objects.result.now c.loop-store.store.parts.store c.dirty_count.result c.dirty_objects_are_counted.ensures c.objects.ensures c.dirty_count.ensures in
-    limited_moments c.loop-store.invariant c.turns_keep.ensures.sound (λ p w shows. omega (arith, c.loop-store-test.true, count p w shows)) c.install_thin.ensures.moments
+pub returns-in_err-install_thin-clause-steps : goal.returns-in_err-install_thin-clause-steps
+returns-in_err-install_thin-clause-steps g c =
+    let count = dirty_is g.O.Oper.meaning (g.M.Machine.disk c.loop-store.machine) c.objects.result.now c.loop-store.store.parts.volatile c.dirty_count.result c.dirty_objects_are_counted.ensures c.objects.ensures c.dirty_count.ensures in
+    limited_moments c.loop-store.invariant c.turns_keep.ensures.sound (λ p w shows. omega (arith, c.loop-store-test.true, count p w shows)) c.install_thin.ensures.steps
 
 pub returns-then-not-branch-clause-call : goal.returns-then-not-branch-clause-call
 returns-then-not-branch-clause-call g c =
@@ -50,18 +50,18 @@ returns-then-not-branch-clause-beside g c =
 
 pub returns-then-not-branch-clause-limited : goal.returns-then-not-branch-clause-limited
 returns-then-not-branch-clause-limited g c =
-    let count = dirty_is g.O.Oper.meaning (g.M.Machine.disk c.loop-store.machine) c.objects.result.now c.loop-store.store.parts.store c.dirty_count.result c.dirty_objects_are_counted.ensures c.objects.ensures c.dirty_count.ensures in
-    limited_last c.loop-store.invariant c.turns_keep.ensures.sound (λ p w shows. omega (arith, c.loop-store-test.true, count p w shows)) c.install_thin.ensures.moments c.install_thin.new.store c.in_ok-install_thin.ensures.shows c.if-not-branch.true
+    let count = dirty_is g.O.Oper.meaning (g.M.Machine.disk c.loop-store.machine) c.objects.result.now c.loop-store.store.parts.volatile c.dirty_count.result c.dirty_objects_are_counted.ensures c.objects.ensures c.dirty_count.ensures in
+    limited_last c.loop-store.invariant c.turns_keep.ensures.sound (λ p w shows. omega (arith, c.loop-store-test.true, count p w shows)) c.install_thin.ensures.steps c.install_thin.new.store c.in_ok-install_thin.ensures.shows c.if-not-branch.true
 
-pub returns-then-not-branch-clause-any_moment : goal.returns-then-not-branch-clause-any_moment
-returns-then-not-branch-clause-any_moment g c =
-    let count = dirty_is g.O.Oper.meaning (g.M.Machine.disk c.loop-store.machine) c.objects.result.now c.loop-store.store.parts.store c.dirty_count.result c.dirty_objects_are_counted.ensures c.objects.ensures c.dirty_count.ensures in
-    limited_moments c.loop-store.invariant c.turns_keep.ensures.sound (λ p w shows. omega (arith, c.loop-store-test.true, count p w shows)) c.install_thin.ensures.moments
+pub returns-then-not-branch-clause-steps : goal.returns-then-not-branch-clause-steps
+returns-then-not-branch-clause-steps g c =
+    let count = dirty_is g.O.Oper.meaning (g.M.Machine.disk c.loop-store.machine) c.objects.result.now c.loop-store.store.parts.volatile c.dirty_count.result c.dirty_objects_are_counted.ensures c.objects.ensures c.dirty_count.ensures in
+    limited_moments c.loop-store.invariant c.turns_keep.ensures.sound (λ p w shows. omega (arith, c.loop-store-test.true, count p w shows)) c.install_thin.ensures.steps
 
 pub loop-store-preserved : goal.loop-store-preserved
 loop-store-preserved g c =
-    let count = dirty_is g.O.Oper.meaning (g.M.Machine.disk c.loop-store.machine) c.objects.result.now c.loop-store.store.parts.store c.dirty_count.result c.dirty_objects_are_counted.ensures c.objects.ensures c.dirty_count.ensures in
-    limited_more c.loop-store.invariant c.turns_keep.ensures.sound (λ p w shows. omega (arith, c.loop-store-test.true, count p w shows)) c.install_thin.ensures.moments c.install_thin.new.store c.in_ok-install_thin.ensures.shows c.if-not-branch.false c.in_ok-install_thin.ensures.call c.install_thin.ensures.beside
+    let count = dirty_is g.O.Oper.meaning (g.M.Machine.disk c.loop-store.machine) c.objects.result.now c.loop-store.store.parts.volatile c.dirty_count.result c.dirty_objects_are_counted.ensures c.objects.ensures c.dirty_count.ensures in
+    limited_more c.loop-store.invariant c.turns_keep.ensures.sound (λ p w shows. omega (arith, c.loop-store-test.true, count p w shows)) c.install_thin.ensures.steps c.install_thin.new.store c.in_ok-install_thin.ensures.shows c.if-not-branch.false c.in_ok-install_thin.ensures.call c.install_thin.ensures.beside
 
 pub returns-clause-call : goal.returns-clause-call
 returns-clause-call g c = c.loop-store.invariant.call
@@ -72,9 +72,9 @@ returns-clause-beside g c = c.loop-store.invariant.beside
 pub returns-clause-limited : goal.returns-clause-limited
 returns-clause-limited g c = λ p w shows stable.
     let m = g.O.Oper.meaning (bounds_of p) in
-    let count = dirty_is g.O.Oper.meaning (g.M.Machine.disk c.loop-store.machine) c.objects.result.now c.loop-store.store.parts.store c.dirty_count.result c.dirty_objects_are_counted.ensures c.objects.ensures c.dirty_count.ensures in
+    let count = dirty_is g.O.Oper.meaning (g.M.Machine.disk c.loop-store.machine) c.objects.result.now c.loop-store.store.parts.volatile c.dirty_count.result c.dirty_objects_are_counted.ensures c.objects.ensures c.dirty_count.ensures in
     let so = (c.loop-store.invariant.shown p w shows stable).0 in
-    limited_few m p c.args.limit w (g.M.Machine.disk c.loop-store.machine).reads c.loop-store.store.parts.store so (omega (arith, c.loop-store-test.false, count p (run m w (turns m c.args.limit so.turned w)) so.shown.store_shows))
+    limited_few m p c.args.limit w (g.M.Machine.disk c.loop-store.machine).reads c.loop-store.store.parts.volatile so (omega (arith, c.loop-store-test.false, count p (run m w (turns m c.args.limit so.turned w)) so.shown.store_shows))
 
-pub returns-clause-any_moment : goal.returns-clause-any_moment
-returns-clause-any_moment g c = λ told p w shows stable. let first = c.loop-store.invariant.shown p w shows stable in (first.0.turned, first.1 told)
+pub returns-clause-steps : goal.returns-clause-steps
+returns-clause-steps g c = λ told p w shows stable. let first = c.loop-store.invariant.shown p w shows stable in (first.0.turned, first.1 told)

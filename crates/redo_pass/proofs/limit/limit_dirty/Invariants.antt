@@ -6,4 +6,4 @@ abbrev pub invariant-loop-store : goal.invariant-loop-store
 invariant-loop-store g l = HasLimited g.O.Oper.meaning l.fn.limit (g.M.Machine.disk l.fn.machine) (g.M.Machine.disk l.machine) l.fn.store l.store
 
 abbrev pub decreases-loop-store : goal.decreases-loop-store
-decreases-loop-store g l = length l.store.parts.store.entries
+decreases-loop-store g l = length l.store.parts.volatile.entries

@@ -1,27 +1,30 @@
 use Rattle.std.proofs.Common.{◌≡◌, ◌∙◌, ◌<◌, ◌≤◌, ap, sym, subst, length, map, List, ℕ, true, false}
 use Rattle.std.specs.Prelude.{All}
 use Rattle.std.proofs.lemmas.Bool.{false_from_ne_true}
+use Rattle.disk_model.specs.Disk.{Rises}
 use Rattle.disk_model.specs.declared.machine.FileNo.TheVariants.{Objects}
 use Rattle.oper_core.specs.Meaning.{FitsReads, IsInGrammar}
 use Rattle.oper_core.specs.State.{is_among}
 use Rattle.oper_core.specs.declared.bounds.Bounds.{Bounds}
 use Rattle.formats.specs.Objects.{IsInRange, bounds_of}
+use Rattle.formats.specs.Reading.{FailsBy}
 use Rattle.formats.specs.declared.params.Params.{Params}
+use Rattle.formats.specs.declared.read_err.ReadErr.TheVariants.{Memory as OutOfMemory}
 use Rattle.install_order.specs.declared.entry.Entry.{Entry}
 use Rattle.log_records.specs.RecordLog.{RecordLogView}
 use Rattle.stable_objects.specs.SlotsView.{SlotsView}
 use Rattle.write_graph.specs.Graph.{numbers}
 use Rattle.explain_core.specs.History.Member.{Command}
+use Rattle.running_store.specs.Among.{small_bounds}
 use Rattle.running_store.specs.Entered.{IsEntered}
 use Rattle.running_store.specs.Laid.{Laid, values_in}
-use Rattle.running_store.specs.Parts.{entry_of, store}
-use Rattle.redo_pass.specs.Causes.{from_slots}
+use Rattle.running_store.specs.LongSlot.{HasLongSlot}
+use Rattle.running_store.specs.Parts.{entry_of, volatile}
+use Rattle.redo_pass.specs.Endings.{error_fails}
 use Rattle.redo_pass.specs.Replayed.{is_due}
-use Rattle.redo_pass.specs.declared.redo_err.RedoErr.TheVariants.{Memory as OutOfMemory}
-use Rattle.redo_pass.proofs.Failing.{error_fails, slot_failed, unread}
+use Rattle.redo_pass.proofs.Failing.{read_failed}
 use Rattle.redo_pass.proofs.Leaves.{memory_entered, memory_left, memory_none, replay_error, replay_fetch, replay_memory, replay_then}
 use Rattle.redo_pass.proofs.Replaying.{due_later, none_entered, read_ids, some_entered, nil_if, some_if}
-use Rattle.redo_pass.proofs.Small.{small_bounds}
 use Rattle.redo_pass.proofs.replay.replay_command.Goals as goal
 
 pub returns-then-is_empty-clause-replayed : goal.returns-then-is_empty-clause-replayed
@@ -32,7 +35,7 @@ returns-then-is_empty-clause-shown g c = λ told p w sound shows next.
     let b = bounds_of p in
     let m = g.O.Oper.meaning b in
     let op = c.args.op.now in
-    let it = c.args.store.now.parts.store in
+    let it = c.args.store.now.parts.volatile in
     let lawful = g.met.O.Oper.lawful b (small_bounds p (subst (λ (q : Params). IsInRange q) shows.params c.params-params.ensures.range)) in
     let grammar = subst (λ (q : Params). IsInGrammar (g.O.Oper.meaning (bounds_of q)) op) shows.params c.requires.grammar in
     let bounds = (g.met.O.Oper.bounded b).objects in
@@ -44,14 +47,16 @@ returns-then-is_empty-clause-shown g c = λ told p w sound shows next.
 pub returns-in_err-values-clause-replayed : goal.returns-in_err-values-clause-replayed
 returns-in_err-values-clause-replayed g c =
     let why = c.in_err-values.field-0.0 in
-    replay_error c.from_residual.result (from_slots why) c.from_residual.ensures.1
-    (replay_fetch (slot_failed (Unit {0}) why) c.in_err-values.ensures.call)
+    replay_error c.from_residual.result why c.from_residual.ensures.1 (replay_fetch (read_failed (Unit {0}) why) c.in_err-values.ensures.call)
 
 pub returns-in_err-values-clause-cause : goal.returns-in_err-values-clause-cause
 returns-in_err-values-clause-cause g c =
-    let b = bounds_of c.args.store.now.parts.store.objects.slots.params in
-    error_fails _ _ c.from_residual.result (from_slots c.in_err-values.field-0.0) c.from_residual.ensures.1
-    (unread _ _ _ c.as_slice-3.result.now _ c.in_err-values.field-0.0 (c.as_slice-3.ensures.value ∙ c.reads-reads.ensures b) c.in_err-values.ensures.cause)
+    let slots = c.args.store.now.parts.volatile.objects.slots in
+    let new = g.M.Machine.disk c.values_of.new.machine in
+    let rises = Rises (g.M.Machine.disk c.args.machine.now).disk_faults new.disk_faults in
+    let why = c.in_err-values.field-0.0 in
+    error_fails _ _ c.from_residual.result why c.from_residual.ensures.1
+    (subst (λ (l : List ℕ). FailsBy rises (HasLongSlot new slots l) why) (c.as_slice-3.ensures.value ∙ c.reads-reads.ensures (bounds_of slots.params)) c.in_err-values.ensures.cause)
 
 pub returns-in_err-made-clause-replayed : goal.returns-in_err-made-clause-replayed
 returns-in_err-made-clause-replayed g c =
@@ -69,7 +74,7 @@ enter-requires-clause-unbroken g c = false_from_ne_true c.values_of.new.self.bro
 
 pub enter-requires-clause-below : goal.enter-requires-clause-below
 enter-requires-clause-below g c =
-    let p = c.args.store.now.parts.store.objects.slots.params in
+    let p = c.args.store.now.parts.volatile.objects.slots.params in
     let b = bounds_of p in
     let op = c.args.op.now in
     let lawful = g.met.O.Oper.lawful b (small_bounds p c.params-params.ensures.range) in
@@ -79,7 +84,7 @@ enter-requires-clause-below g c =
 
 pub enter-requires-clause-values : goal.enter-requires-clause-values
 enter-requires-clause-values g c =
-    let p = c.args.store.now.parts.store.objects.slots.params in
+    let p = c.args.store.now.parts.volatile.objects.slots.params in
     let b = bounds_of p in
     let m = g.O.Oper.meaning b in
     let op = c.args.op.now in
@@ -107,8 +112,8 @@ enter-requires-clause-above g c =
 
 pub enter-requires-clause-later : goal.enter-requires-clause-later
 enter-requires-clause-later g c =
-    let it = c.args.store.now.parts.store in
-    let after = c.values_of.new.self.parts.store.objects in
+    let it = c.args.store.now.parts.volatile in
+    let after = c.values_of.new.self.parts.volatile.objects in
     let used = (c.params-params.ensures.in_use c.requires.unbroken).store in
     due_later c.args.plan.now.table it.objects after c.args.number c.writes-writes.result c.as_slice-4.result.now
     (λ x. ap (is_among x) c.as_slice-4.ensures.value ∙ c.due_among-due.ensures x ∙ (λ i. is_due c.args.plan.now.table (c.objects-2.ensures i) c.args.number (c.as_slice.ensures.value i) x))
@@ -124,7 +129,7 @@ returns-clause-shown g c = λ told p w sound shows next.
     let b = bounds_of p in
     let m = g.O.Oper.meaning b in
     let op = c.args.op.now in
-    let it = c.args.store.now.parts.store in
+    let it = c.args.store.now.parts.volatile in
     let file = (g.M.Machine.disk c.args.machine.now).reads Objects in
     let lawful = g.met.O.Oper.lawful b (small_bounds p (subst (λ (q : Params). IsInRange q) shows.params c.params-params.ensures.range)) in
     let grammar = subst (λ (q : Params). IsInGrammar (g.O.Oper.meaning (bounds_of q)) op) shows.params c.requires.grammar in
@@ -141,7 +146,7 @@ returns-clause-shown g c = λ told p w sound shows next.
     ∙ ap (m.effect op) values in
     let same : c.as_slice-2.result.now ≡ c.as_slice-4.result.now = c.as_slice-2.ensures.value ∙ sym c.as_slice-4.ensures.value in
     let some : 0 < length c.as_slice-4.result.now = subst (λ (l : List ℕ). 0 < length l) same (some_if c.as_slice-2.result.now (sym c.is_empty.ensures ∙ c.if-is_empty.false)) in
-    let is = subst (λ (es : List Entry). IsEntered (store c.values_of.new.self.parts.store.objects es) c.enter.new.self.parts.store c.as_slice-4.result.now e c.in_ok-made.made) c.in_ok-values.ensures.call.entries c.in_ok-enter.ensures.entered in
+    let is = subst (λ (es : List Entry). IsEntered (volatile c.values_of.new.self.parts.volatile.objects es) c.enter.new.self.parts.volatile c.as_slice-4.result.now e c.in_ok-made.made) c.in_ok-values.ensures.call.entries c.in_ok-enter.ensures.entered in
     some_entered m p file it w c.args.plan.now.table c.args.number (Command op) c.as_slice-4.result.now sound shows next bounds writes
     (λ x. ap (is_among x) c.as_slice-4.ensures.value ∙ c.due_among-due.ensures x ∙ (λ i. is_due c.args.plan.now.table (c.objects-2.ensures i) c.args.number ((c.as_slice.ensures.value ∙ c.writes-writes.ensures b) i) x))
-    c.values_of.new.self.parts.store.objects c.enter.new.self.parts.store c.in_ok-made.made fetch.fetched read.0 read.1 reads e e_is is made some
+    c.values_of.new.self.parts.volatile.objects c.enter.new.self.parts.volatile c.in_ok-made.made fetch.fetched read.0 read.1 reads e e_is is made some

@@ -18,7 +18,7 @@ returns-then-is_empty-clause-same g c = memory_none c.args.store.now
 pub returns-then-is_empty-clause-shown : goal.returns-then-is_empty-clause-shown
 returns-then-is_empty-clause-shown g c = λ p file w sound shows next.
     let m = g.O.Oper.meaning (bounds_of p) in
-    let it = c.args.store.now.parts.store in
+    let it = c.args.store.now.parts.volatile in
     let x = c.args.object in
     let below = subst (λ (q : Params). x < q.objects) shows.params c.requires.below in
     let writes = All-cons (λ y. y < p.objects) x [] below (All-nil (λ y. y < p.objects)) in
@@ -32,7 +32,7 @@ returns-clause-same g c = memory_entered (λ k low. low) c.in_ok-enter.ensures
 pub returns-clause-shown : goal.returns-clause-shown
 returns-clause-shown g c = λ p file w sound shows next.
     let m = g.O.Oper.meaning (bounds_of p) in
-    let it = c.args.store.now.parts.store in
+    let it = c.args.store.now.parts.volatile in
     let x = c.args.object in
     let v = c.args.value.now in
     let below = subst (λ (q : Params). x < q.objects) shows.params c.requires.below in
@@ -44,5 +44,5 @@ returns-clause-shown g c = λ p file w sound shows next.
     let some : 0 < length c.as_slice-3.result.now = subst (λ (l : List ℕ). 0 < length l) same (some_if c.as_slice-2.result.now (sym c.is_empty.ensures ∙ c.if-is_empty.false)) in
     some_entered m p file it w c.args.plan.now.table c.args.number (Identity x v) c.as_slice-3.result.now sound shows next (g.met.O.Oper.bounded (bounds_of p)).objects writes
     (λ y. ap (is_among y) c.as_slice-3.ensures.value ∙ c.due_among-chosen.ensures y ∙ (λ i. is_due c.args.plan.now.table (c.objects.ensures i) c.args.number ((c.as_slice.ensures.value ∙ c.one-writes.ensures) i) y))
-    it.objects c.enter.new.self.parts.store c.push.new.self (fetched-same it.objects it.objects refl (λ y. refl) (λ y. refl)) (λ y there. refl) shows.laid
+    it.objects c.enter.new.self.parts.volatile c.push.new.self (fetched-same it.objects it.objects refl (λ y. refl) (λ y. refl)) (λ y there. refl) shows.laid
     (All-nil (λ y. y < p.objects)) e e_is c.in_ok-enter.ensures.entered made some

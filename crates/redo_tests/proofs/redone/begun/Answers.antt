@@ -26,4 +26,4 @@ returns-clause-unbroken c = ap (λ (s : StoreView). s.broken) c.new-2.ensures
 
 pub returns-clause-empty : goal.returns-clause-empty
 returns-clause-empty c =
-    subst (λ (s : StoreView). ((x : ℕ) → held s.parts.store.objects.cache x ≡ None) × (s.parts.store.entries ≡ [])) (sym c.new-2.ensures) (c.in_ok-objects.ensures.empty, c.in_ok-graph.ensures)
+    subst (λ (s : StoreView). ((x : ℕ) → held s.parts.volatile.objects.cache x ≡ None) × (s.parts.volatile.entries ≡ [])) (sym c.new-2.ensures) (c.in_ok-objects.ensures.empty, c.in_ok-graph.ensures)

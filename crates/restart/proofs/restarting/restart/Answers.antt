@@ -1,37 +1,41 @@
-use Rattle.std.proofs.Common.{inl, arith, ⊎_elim, Ok, Err}
+use Rattle.std.proofs.Common.{inl, arith, sym, subst, ⊎_elim, Ok, Err}
 use Rattle.std.proofs.lemmas.Bool.{false_from_ne_true}
 use Rattle.disk_model.specs.declared.machine.FileNo.TheVariants.{Objects}
 use Rattle.formats.specs.Objects.{bounds_of}
+use Rattle.log_frames.specs.Reading.{none_told}
+use Rattle.stable_objects.specs.Reading.{open_from_read}
+use Rattle.stable_objects.specs.declared.open_err.OpenErr.{OpenErr}
 use Rattle.explain_core.specs.World.{step}
 use Rattle.explain_core.specs.World.Step.{Crash}
 use Rattle.standing.specs.OneStable.{small_store}
+use Rattle.redo_pass.specs.Endings.{as_error}
 use Rattle.restart.specs.Damage.{IsReported}
 use Rattle.restart.specs.Opening.{IsJudged, IsOpening, opened}
 use Rattle.restart.specs.Starts.{at_start}
-use Rattle.restart.proofs.Judged.{passed_on, quiet_stays, quiet_then, rises_behind, cause_of, not_opened, is_opened, is_reported, none_reported, redo_harmless, judged_whole, judged_unread}
-use Rattle.restart.proofs.Opened.{filed_well_formed}
-use Rattle.restart.proofs.Redone.{redo_damages, redo_never}
+use Rattle.restart.proofs.Judged.{quiet_stays, quiet_then, rises_behind, cause_of, not_opened, is_opened, is_reported, none_reported, judged_whole, judged_unread}
+use Rattle.restart.proofs.Opened.{filed_well_formed, unharmed}
+use Rattle.restart.proofs.Redone.{opening_fails, redo_damages, redo_never}
 use Rattle.restart.proofs.Restarts.{read_attached, to_redo, whole_after, whole_moments}
 use Rattle.restart.proofs.restarting.restart.Goals as goal
 
 pub returns-in_err-store-clause-opening : goal.returns-in_err-store-clause-opening
 returns-in_err-store-clause-opening g c =
-    passed_on (λ r. IsOpening g.O.Oper.meaning (g.M.Machine.disk c.args.machine.now) (g.M.Machine.disk c.load.new.machine) (opened r)) c.from_residual.result c.in_err-store.field-0.0 c.from_residual.ensures.1
+    as_error (λ r. IsOpening g.O.Oper.meaning (g.M.Machine.disk c.args.machine.now) (g.M.Machine.disk c.load.new.machine) (opened r)) c.from_residual.result c.in_err-store.field-0.0 c.from_residual.ensures.1
     (not_opened g.O.Oper.meaning (g.M.Machine.disk c.args.machine.now) (g.M.Machine.disk c.load.new.machine) c.in_err-store.field-0.0 (quiet_stays (g.M.Machine.disk c.args.machine.now) (g.M.Machine.disk c.load.new.machine) c.load.ensures.kept) (cause_of _ _ _ _ _ c.in_err-store.ensures.cause))
 
 pub returns-in_err-store-clause-judged : goal.returns-in_err-store-clause-judged
 returns-in_err-store-clause-judged g c told =
-    passed_on (λ r. IsJudged g.O.Oper.meaning (g.M.Machine.disk c.args.machine.now) (g.M.Machine.disk c.load.new.machine) (opened r)) c.from_residual.result c.in_err-store.field-0.0 c.from_residual.ensures.1
-    (judged_unread g.O.Oper.meaning g.met.O.Oper.bounded g.met.O.Oper.lawful (g.M.Machine.disk c.args.machine.now) (g.M.Machine.disk c.load.new.machine) _ told c.load.ensures.kept c.in_err-store.field-0.0 (c.in_err-store.ensures.whole told) c.in_err-store.ensures.cause (λ is. c.in_err-store.ensures.memory told (λ i. Err (is i))))
+    as_error (λ r. IsJudged g.O.Oper.meaning (g.M.Machine.disk c.args.machine.now) (g.M.Machine.disk c.load.new.machine) (opened r)) c.from_residual.result c.in_err-store.field-0.0 c.from_residual.ensures.1
+    (judged_unread g.O.Oper.meaning g.met.O.Oper.bounded g.met.O.Oper.lawful (g.M.Machine.disk c.args.machine.now) (g.M.Machine.disk c.load.new.machine) told c.load.ensures.kept c.in_err-store.field-0.0 (c.in_err-store.ensures.whole told) c.in_err-store.ensures.cause (λ is. c.in_err-store.ensures.memory told (λ i. Err (is i))))
 
 pub returns-in_err-store-clause-reported : goal.returns-in_err-store-clause-reported
 returns-in_err-store-clause-reported g c =
-    passed_on (λ r. IsReported g.O.Oper.meaning (g.M.Machine.disk c.args.machine.now) (g.M.Machine.disk c.load.new.machine) (opened r)) c.from_residual.result c.in_err-store.field-0.0 c.from_residual.ensures.1
+    as_error (λ r. IsReported g.O.Oper.meaning (g.M.Machine.disk c.args.machine.now) (g.M.Machine.disk c.load.new.machine) (opened r)) c.from_residual.result c.in_err-store.field-0.0 c.from_residual.ensures.1
     (is_reported g.O.Oper.meaning (g.M.Machine.disk c.args.machine.now) (g.M.Machine.disk c.load.new.machine) _ _ _ c.in_err-store.field-0.0 c.in_err-store.ensures.cause (λ closed. closed)
     (λ file place damaged files agrees. inl (damaged files agrees)))
 
-pub returns-in_err-store-clause-moments : goal.returns-in_err-store-clause-moments
-returns-in_err-store-clause-moments g c told p used w opens =
+pub returns-in_err-store-clause-steps : goal.returns-in_err-store-clause-steps
+returns-in_err-store-clause-steps g c told p used w opens =
     at_start (g.M.Machine.disk c.args.machine.now) (g.M.Machine.disk c.load.new.machine) _ c.load.ensures.kept told
 
 pub open-requires : goal.open-requires
@@ -41,25 +45,28 @@ open-requires g c =
 pub returns-clause-opening : goal.returns-clause-opening
 returns-clause-opening g c =
     let first = quiet_stays (g.M.Machine.disk c.args.machine.now) (g.M.Machine.disk c.load.new.machine) c.load.ensures.kept in
-    not_opened g.O.Oper.meaning (g.M.Machine.disk c.args.machine.now) (g.M.Machine.disk c.open.new.machine) c.in-Err.cause (quiet_then (g.M.Machine.disk c.args.machine.now) (g.M.Machine.disk c.load.new.machine) (g.M.Machine.disk c.open.new.machine) first c.in-Err.ensures.call.quiet)
-    (λ is. rises_behind (g.M.Machine.disk c.args.machine.now) (g.M.Machine.disk c.load.new.machine) (g.M.Machine.disk c.open.new.machine) first (cause_of _ _ _ _ _ c.in-Err.ensures.damage is))
+    subst (λ (e : OpenErr). IsOpening g.O.Oper.meaning (g.M.Machine.disk c.args.machine.now) (g.M.Machine.disk c.open.new.machine) (Err e)) (sym c.from.ensures)
+    (not_opened g.O.Oper.meaning (g.M.Machine.disk c.args.machine.now) (g.M.Machine.disk c.open.new.machine) (open_from_read c.in-Err.cause) (quiet_then (g.M.Machine.disk c.args.machine.now) (g.M.Machine.disk c.load.new.machine) (g.M.Machine.disk c.open.new.machine) first c.in-Err.ensures.call.quiet)
+    (λ is. rises_behind (g.M.Machine.disk c.args.machine.now) (g.M.Machine.disk c.load.new.machine) (g.M.Machine.disk c.open.new.machine) first (cause_of _ _ _ (open_from_read c.in-Err.cause) _ (opening_fails g.O.Oper.meaning (g.M.Machine.disk c.load.new.machine) (g.M.Machine.disk c.open.new.machine) c.in_ok-store.store.parts c.open.new.store.parts c.in-Err.cause c.in-Err.ensures.damage) is)))
 
 pub returns-clause-judged : goal.returns-clause-judged
 returns-clause-judged g c told =
-    judged_whole g.O.Oper.meaning g.met.O.Oper.bounded g.met.O.Oper.lawful (g.M.Machine.disk c.args.machine.now) (g.M.Machine.disk c.open.new.machine) (filed_well_formed g.O.Oper.meaning (g.M.Machine.disk c.args.machine.now).reads c.in_ok-store.store.parts c.in_ok-store.plan (c.in_ok-store.ensures.read told).filed) (Err c.in-Err.cause)
-    (redo_harmless _ _ c.in-Err.cause c.in-Err.ensures.damage (λ f place found. redo_never g.O.Oper.meaning g.met.O.Oper.bounded g.met.O.Oper.lawful (g.M.Machine.disk c.args.machine.now) (g.M.Machine.disk c.load.new.machine) (g.M.Machine.disk c.open.new.machine) c.load.ensures.kept c.in_ok-store.store.parts c.open.new.store.parts c.in_ok-store.plan c.in_ok-store.ensures.ready.bounds f place found told (c.in_ok-store.ensures.read told)))
+    subst (λ (e : OpenErr). IsJudged g.O.Oper.meaning (g.M.Machine.disk c.args.machine.now) (g.M.Machine.disk c.open.new.machine) (Err e)) (sym c.from.ensures)
+    (judged_whole g.O.Oper.meaning g.met.O.Oper.bounded g.met.O.Oper.lawful (g.M.Machine.disk c.args.machine.now) (g.M.Machine.disk c.open.new.machine) (filed_well_formed g.O.Oper.meaning (g.M.Machine.disk c.args.machine.now).reads c.in_ok-store.store.parts c.in_ok-store.plan (c.in_ok-store.ensures.read told).filed) (Err (open_from_read c.in-Err.cause))
+    (unharmed c.in-Err.cause (none_told _ _ c.in-Err.cause (λ f place found. redo_never g.O.Oper.meaning g.met.O.Oper.bounded g.met.O.Oper.lawful (g.M.Machine.disk c.args.machine.now) (g.M.Machine.disk c.load.new.machine) (g.M.Machine.disk c.open.new.machine) c.load.ensures.kept c.in_ok-store.store.parts c.open.new.store.parts c.in_ok-store.plan c.in_ok-store.ensures.ready.bounds f place found told (c.in_ok-store.ensures.read told)) c.in-Err.ensures.damage)))
 
 pub returns-clause-reported : goal.returns-clause-reported
 returns-clause-reported g c =
-    is_reported g.O.Oper.meaning (g.M.Machine.disk c.args.machine.now) (g.M.Machine.disk c.open.new.machine) _ _ _ c.in-Err.cause c.in-Err.ensures.damage (λ none. absurd none)
-    (λ f place found. redo_damages g.O.Oper.meaning g.met.O.Oper.bounded g.met.O.Oper.lawful (g.M.Machine.disk c.args.machine.now) (g.M.Machine.disk c.load.new.machine) (g.M.Machine.disk c.open.new.machine) c.load.ensures.kept c.in_ok-store.store.parts c.open.new.store.parts c.in_ok-store.plan c.in_ok-store.ensures.ready.bounds f place found c.in_ok-store.ensures.formed)
+    subst (λ (e : OpenErr). IsReported g.O.Oper.meaning (g.M.Machine.disk c.args.machine.now) (g.M.Machine.disk c.open.new.machine) (Err e)) (sym c.from.ensures)
+    (is_reported g.O.Oper.meaning (g.M.Machine.disk c.args.machine.now) (g.M.Machine.disk c.open.new.machine) _ _ _ (open_from_read c.in-Err.cause) (opening_fails g.O.Oper.meaning (g.M.Machine.disk c.load.new.machine) (g.M.Machine.disk c.open.new.machine) c.in_ok-store.store.parts c.open.new.store.parts c.in-Err.cause c.in-Err.ensures.damage) (λ none. absurd none)
+    (λ f place found. redo_damages g.O.Oper.meaning g.met.O.Oper.bounded g.met.O.Oper.lawful (g.M.Machine.disk c.args.machine.now) (g.M.Machine.disk c.load.new.machine) (g.M.Machine.disk c.open.new.machine) c.load.ensures.kept c.in_ok-store.store.parts c.open.new.store.parts c.in_ok-store.plan c.in_ok-store.ensures.ready.bounds f place found c.in_ok-store.ensures.formed))
 
-pub returns-clause-moments : goal.returns-clause-moments
-returns-clause-moments g c told p used w opens =
+pub returns-clause-steps : goal.returns-clause-steps
+returns-clause-steps g c told p used w opens =
     let m = g.O.Oper.meaning (bounds_of p) in
     let small = small_store p ((g.M.Machine.disk c.args.machine.now).reads Objects) opens.shows.objects in
     let to = to_redo g.O.Oper.meaning (g.M.Machine.disk c.args.machine.now) (g.M.Machine.disk c.load.new.machine) c.load.ensures.kept c.in_ok-store.store.parts c.in_ok-store.plan c.in_ok-store.ensures.ready.bounds p used w opens (c.in_ok-store.ensures.read opens.told) (c.crash_keeps.ensures (bounds_of p) w small opens.sound) (c.unseen_steps_change_nothing.ensures p (g.M.Machine.disk c.args.machine.now).reads w Crash opens.sound tt opens.shows) in
-    whole_moments g.O.Oper.meaning (g.M.Machine.disk c.args.machine.now) (g.M.Machine.disk c.load.new.machine) c.load.ensures.kept c.in_ok-store.store.parts c.in_ok-store.plan c.in_ok-store.ensures.ready.bounds p used w opens to c.args.tuning.redo_dirty (g.M.Machine.disk c.open.new.machine) told (c.open.ensures.moments (c.load.ensures.kept.time.moments_told.0 told) p (step m w Crash) to)
+    whole_moments g.O.Oper.meaning (g.M.Machine.disk c.args.machine.now) (g.M.Machine.disk c.load.new.machine) c.load.ensures.kept c.in_ok-store.store.parts c.in_ok-store.plan c.in_ok-store.ensures.ready.bounds p used w opens to c.args.tuning.redo_dirty (g.M.Machine.disk c.open.new.machine) told (c.open.ensures.steps (c.load.ensures.kept.time.moments_told.0 told) p (step m w Crash) to)
 
 pub returns-in-Ok-clause-opening : goal.returns-in-Ok-clause-opening
 returns-in-Ok-clause-opening g c =
@@ -89,9 +96,9 @@ returns-in-Ok-clause-follows g c p used w opens =
     let to = to_redo g.O.Oper.meaning (g.M.Machine.disk c.args.machine.now) (g.M.Machine.disk c.load.new.machine) c.load.ensures.kept c.in_ok-store.store.parts c.in_ok-store.plan c.in_ok-store.ensures.ready.bounds p used w opens (c.in_ok-store.ensures.read opens.told) (c.crash_keeps.ensures (bounds_of p) w small opens.sound) (c.unseen_steps_change_nothing.ensures p (g.M.Machine.disk c.args.machine.now).reads w Crash opens.sound tt opens.shows) in
     whole_after g.O.Oper.meaning (g.M.Machine.disk c.args.machine.now) (g.M.Machine.disk c.load.new.machine) c.load.ensures.kept c.in_ok-store.store.parts c.in_ok-store.plan c.in_ok-store.ensures.ready.bounds p used w opens to c.args.tuning.redo_dirty (g.M.Machine.disk c.open.new.machine) c.open.new.store.parts (c.in-Ok.ensures.follows p (step m w Crash) to)
 
-pub returns-in-Ok-clause-moments : goal.returns-in-Ok-clause-moments
-returns-in-Ok-clause-moments g c told p used w opens =
+pub returns-in-Ok-clause-steps : goal.returns-in-Ok-clause-steps
+returns-in-Ok-clause-steps g c told p used w opens =
     let m = g.O.Oper.meaning (bounds_of p) in
     let small = small_store p ((g.M.Machine.disk c.args.machine.now).reads Objects) opens.shows.objects in
     let to = to_redo g.O.Oper.meaning (g.M.Machine.disk c.args.machine.now) (g.M.Machine.disk c.load.new.machine) c.load.ensures.kept c.in_ok-store.store.parts c.in_ok-store.plan c.in_ok-store.ensures.ready.bounds p used w opens (c.in_ok-store.ensures.read opens.told) (c.crash_keeps.ensures (bounds_of p) w small opens.sound) (c.unseen_steps_change_nothing.ensures p (g.M.Machine.disk c.args.machine.now).reads w Crash opens.sound tt opens.shows) in
-    whole_moments g.O.Oper.meaning (g.M.Machine.disk c.args.machine.now) (g.M.Machine.disk c.load.new.machine) c.load.ensures.kept c.in_ok-store.store.parts c.in_ok-store.plan c.in_ok-store.ensures.ready.bounds p used w opens to c.args.tuning.redo_dirty (g.M.Machine.disk c.open.new.machine) told (c.open.ensures.moments (c.load.ensures.kept.time.moments_told.0 told) p (step m w Crash) to)
+    whole_moments g.O.Oper.meaning (g.M.Machine.disk c.args.machine.now) (g.M.Machine.disk c.load.new.machine) c.load.ensures.kept c.in_ok-store.store.parts c.in_ok-store.plan c.in_ok-store.ensures.ready.bounds p used w opens to c.args.tuning.redo_dirty (g.M.Machine.disk c.open.new.machine) told (c.open.ensures.steps (c.load.ensures.kept.time.moments_told.0 told) p (step m w Crash) to)

@@ -1,11 +1,9 @@
-use Rattle.std.proofs.Common.{◌≡◌, subst, refl, Ok, Err, None}
-use Rattle.std.specs.Prelude.{Result}
+use Rattle.std.proofs.Common.{◌≡◌, None}
 use Rattle.disk_model.specs.Disk.{Disk}
-use Rattle.checkpointing.specs.declared.check_err.CheckErr.{CheckErr}
-use Rattle.store_engine.specs.Calls.{IsChecking}
+use Rattle.store_engine.specs.Calls.{IsChecking, work_from_check}
 use Rattle.store_engine.specs.Engine.{EngineView, engine_of}
 use Rattle.store_engine.proofs.Calls.{as_alone}
-use Rattle.store_engine.proofs.Ways.{error_from}
+use Rattle.store_engine.proofs.Ways.{works_err, works_ok}
 use Rattle.store_engine.proofs.Works.{checking}
 use Rattle.store_engine.proofs.engine.Engine.checkpoint.Given.{Over}
 use Rattle.store_engine.proofs.engine.Engine.checkpoint.Goals.{After-checkpoint}
@@ -29,16 +27,10 @@ module _ (g : Over) (c : After-checkpoint g) where
 
 pub returns-in_err-checkpoint-clause-alone : goal.returns-in_err-checkpoint-clause-alone
 returns-in_err-checkpoint-clause-alone g c = λ none.
-    let at = (goal.at.returns-in_err-checkpoint-clause-alone g c).After-checkpoint in (
-      Err c.in_err-checkpoint.field-0.0,
-      error_from c.from_residual-in_err-checkpoint.result _ c.from_residual-in_err-checkpoint.ensures.1,
-      subst (λ (r : Result _ CheckErr). IsChecking g.O.Oper.meaning (old g at) (new g at) c.args.self.now (after g at) r) c.in_err-checkpoint.was (worked g at none),
-    )
+    let at = (goal.at.returns-in_err-checkpoint-clause-alone g c).After-checkpoint in
+    works_err work_from_check (λ r. IsChecking g.O.Oper.meaning (old g at) (new g at) c.args.self.now (after g at) r) c.from_residual-in_err-checkpoint.result c.checkpoint.result c.in_err-checkpoint.field-0.0 c.from_residual-in_err-checkpoint.ensures.1 c.in_err-checkpoint.was (worked g at none)
 
 pub returns-clause-alone : goal.returns-clause-alone
 returns-clause-alone g c = λ none.
-    let at = (goal.at.returns-clause-alone g c).After-checkpoint in (
-      Ok c.in_ok-checkpoint.field-0,
-      refl,
-      subst (λ (r : Result _ CheckErr). IsChecking g.O.Oper.meaning (old g at) (new g at) c.args.self.now (after g at) r) c.in_ok-checkpoint.was (worked g at none),
-    )
+    let at = (goal.at.returns-clause-alone g c).After-checkpoint in
+    works_ok work_from_check (λ r. IsChecking g.O.Oper.meaning (old g at) (new g at) c.args.self.now (after g at) r) c.checkpoint.result c.in_ok-checkpoint.field-0 c.in_ok-checkpoint.was (worked g at none)

@@ -1,11 +1,9 @@
-use Rattle.std.proofs.Common.{◌≡◌, subst, refl, Ok, Err, None}
-use Rattle.std.specs.Prelude.{Result}
+use Rattle.std.proofs.Common.{◌≡◌, None}
 use Rattle.disk_model.specs.Disk.{Disk}
-use Rattle.cache_manager.specs.declared.install_err.InstallErr.{InstallErr}
-use Rattle.store_engine.specs.Calls.{IsDraining}
+use Rattle.store_engine.specs.Calls.{IsDraining, work_from_install}
 use Rattle.store_engine.specs.Engine.{EngineView, engine_of}
 use Rattle.store_engine.proofs.Calls.{as_alone}
-use Rattle.store_engine.proofs.Ways.{error_from}
+use Rattle.store_engine.proofs.Ways.{works_err, works_ok}
 use Rattle.store_engine.proofs.Works.{draining}
 use Rattle.store_engine.proofs.engine.Engine.drain.Given.{Over}
 use Rattle.store_engine.proofs.engine.Engine.drain.Goals.{After-drain}
@@ -29,16 +27,10 @@ module _ (g : Over) (c : After-drain g) where
 
 pub returns-in_err-drain-clause-alone : goal.returns-in_err-drain-clause-alone
 returns-in_err-drain-clause-alone g c = λ none.
-    let at = (goal.at.returns-in_err-drain-clause-alone g c).After-drain in (
-      Err c.in_err-drain.field-0.0,
-      error_from c.from_residual-in_err-drain.result _ c.from_residual-in_err-drain.ensures.1,
-      subst (λ (r : Result _ InstallErr). IsDraining g.O.Oper.meaning (old g at) (new g at) c.args.self.now (after g at) r) c.in_err-drain.was (worked g at none),
-    )
+    let at = (goal.at.returns-in_err-drain-clause-alone g c).After-drain in
+    works_err work_from_install (λ r. IsDraining g.O.Oper.meaning (old g at) (new g at) c.args.self.now (after g at) r) c.from_residual-in_err-drain.result c.drain.result c.in_err-drain.field-0.0 c.from_residual-in_err-drain.ensures.1 c.in_err-drain.was (worked g at none)
 
 pub returns-clause-alone : goal.returns-clause-alone
 returns-clause-alone g c = λ none.
-    let at = (goal.at.returns-clause-alone g c).After-drain in (
-      Ok c.in_ok-drain.field-0,
-      refl,
-      subst (λ (r : Result _ InstallErr). IsDraining g.O.Oper.meaning (old g at) (new g at) c.args.self.now (after g at) r) c.in_ok-drain.was (worked g at none),
-    )
+    let at = (goal.at.returns-clause-alone g c).After-drain in
+    works_ok work_from_install (λ r. IsDraining g.O.Oper.meaning (old g at) (new g at) c.args.self.now (after g at) r) c.drain.result c.in_ok-drain.field-0 c.in_ok-drain.was (worked g at none)

@@ -1,7 +1,7 @@
 use Rattle.std.proofs.Common.{◌∙◌, ap, subst}
 use Rattle.disk_model.specs.Disk.{Disk}
 use Rattle.formats.specs.Objects.{bounds_of}
-use Rattle.running_store.specs.StoreView.{next_of, params_of}
+use Rattle.running_store.specs.StoreView.{next_of, store_params}
 use Rattle.store_engine.specs.Commands.{HasRun}
 use Rattle.store_engine.specs.Engine.{EngineView, engine_of}
 use Rattle.store_engine.proofs.Calls.{begun_still}
@@ -25,9 +25,9 @@ module _ (g : Over) (c : After-execute g) where
       let new : Disk = g.M.Machine.disk c.execute.new.machine in
       subst (λ (e : EngineView). HasRun g.O.Oper.meaning old new e (engine_of c.execute.new.store c.self.inside.group) c.args.op c.execute.result) c.self.view_is
       (ran g.O.Oper.meaning old new c.self.inside.store c.execute.new.store c.self.inside.group c.args.op c.execute.result c.is_some.result c.is_some.ensures
-      (record { call = c.execute.ensures.call; takes = c.execute.ensures.takes; exactly = c.execute.ensures.exactly; outcome = c.execute.ensures.outcome })
+      (record { call = c.execute.ensures.call; takes = c.execute.ensures.takes; in_world = c.execute.ensures.in_world; outcome = c.execute.ensures.outcome })
       (λ b w steps. c.every_run_keeps.ensures.from_sound b w steps)
-      (λ b w used small sound live. c.exec_may_be_taken.ensures b w (params_of c.self.inside.store).limit c.args.op used small sound live)
+      (λ b w used small sound live. c.exec_may_be_taken.ensures b w (store_params c.self.inside.store).limit c.args.op used small sound live)
       (λ p files w. c.image_stands.ensures p files w) (λ p w x. c.live_cache_is_the_map.ensures (bounds_of p) w x) (λ p w begun. c.crash_takes_the_group.ensures.commands (bounds_of p) w begun))
 
 pub returns-clause-run : goal.returns-clause-run

@@ -1,11 +1,10 @@
-use Rattle.std.proofs.Common.{◌≡◌, ◌∙◌, ap, sym, subst, refl, ℕ, Ok, Err, None}
-use Rattle.std.specs.Prelude.{Result}
+use Rattle.std.proofs.Common.{◌≡◌, ◌∙◌, ap, sym, ℕ, Ok, None}
 use Rattle.disk_model.specs.Disk.{Disk}
-use Rattle.disk_model.specs.declared.machine.Failed.{Failed as Failure}
 use Rattle.store_engine.specs.Calls.{IsForcing}
 use Rattle.store_engine.specs.Engine.{EngineView, engine_of}
+use Rattle.store_engine.specs.declared.work_err.WorkErr.TheVariants.{DiskFault}
 use Rattle.store_engine.proofs.Calls.{as_alone}
-use Rattle.store_engine.proofs.Ways.{error_from}
+use Rattle.store_engine.proofs.Ways.{works_err, works_ok}
 use Rattle.store_engine.proofs.Works.{counted, forcing}
 use Rattle.store_engine.proofs.engine.Engine.force.Given.{Over}
 use Rattle.store_engine.proofs.engine.Engine.force.Goals.{After-force}
@@ -29,17 +28,12 @@ module _ (g : Over) (c : After-force g) where
 
 pub returns-in_err-force-clause-alone : goal.returns-in_err-force-clause-alone
 returns-in_err-force-clause-alone g c = λ none.
-    let at = (goal.at.returns-in_err-force-clause-alone g c).After-force in (
-      Err c.in_err-force.field-0.0,
-      error_from c.from_residual-in_err-force.result _ c.from_residual-in_err-force.ensures.1,
-      subst (λ (r : Result _ Failure). IsForcing g.O.Oper.meaning (old g at) (new g at) c.args.self.now (after g at) (counted c.force.new.self r)) c.in_err-force.was (forced g at none),
-    )
+    let at = (goal.at.returns-in_err-force-clause-alone g c).After-force in
+    works_err (λ e. DiskFault) (λ r. IsForcing g.O.Oper.meaning (old g at) (new g at) c.args.self.now (after g at) r) c.from_residual-in_err-force.result (counted c.force.new.self c.force.result) c.in_err-force.field-0.0 c.from_residual-in_err-force.ensures.1
+    (ap (counted c.force.new.self) c.in_err-force.was) (forced g at none)
 
 pub returns-clause-alone : goal.returns-clause-alone
 returns-clause-alone g c = λ none.
-    let at = (goal.at.returns-clause-alone g c).After-force in (
-      Ok c.forced.result,
-      refl,
-      subst (λ (n : ℕ). IsForcing g.O.Oper.meaning (old g at) (new g at) c.args.self.now (after g at) (Ok n)) (sym (c.forced.ensures ∙ ap (λ log. log.forced) c.log.ensures))
-          (subst (λ (r : Result _ Failure). IsForcing g.O.Oper.meaning (old g at) (new g at) c.args.self.now (after g at) (counted c.force.new.self r)) c.in_ok-force.was (forced g at none)),
-    )
+    let at = (goal.at.returns-clause-alone g c).After-force in
+    works_ok (λ e. DiskFault) (λ r. IsForcing g.O.Oper.meaning (old g at) (new g at) c.args.self.now (after g at) r) (counted c.force.new.self c.force.result) c.forced.result
+    (ap (counted c.force.new.self) c.in_ok-force.was ∙ ap (λ (n : ℕ). Ok n) (sym (c.forced.ensures ∙ ap (λ log. log.forced) c.log.ensures))) (forced g at none)

@@ -1,11 +1,9 @@
-use Rattle.std.proofs.Common.{◌≡◌, subst, refl, Ok, Err, None}
-use Rattle.std.specs.Prelude.{Result}
+use Rattle.std.proofs.Common.{◌≡◌, None}
 use Rattle.disk_model.specs.Disk.{Disk}
-use Rattle.cache_manager.specs.declared.install_err.InstallErr.{InstallErr}
-use Rattle.store_engine.specs.Calls.{IsInstalling}
+use Rattle.store_engine.specs.Calls.{IsInstalling, work_from_install}
 use Rattle.store_engine.specs.Engine.{EngineView, engine_of}
 use Rattle.store_engine.proofs.Calls.{as_alone}
-use Rattle.store_engine.proofs.Ways.{error_from}
+use Rattle.store_engine.proofs.Ways.{works_err, works_ok}
 use Rattle.store_engine.proofs.Works.{installing}
 use Rattle.store_engine.proofs.engine.Engine.install_one.Given.{Over}
 use Rattle.store_engine.proofs.engine.Engine.install_one.Goals.{After-install_one}
@@ -29,16 +27,10 @@ module _ (g : Over) (c : After-install_one g) where
 
 pub returns-in_err-install_one-clause-alone : goal.returns-in_err-install_one-clause-alone
 returns-in_err-install_one-clause-alone g c = λ none.
-    let at = (goal.at.returns-in_err-install_one-clause-alone g c).After-install_one in (
-      Err c.in_err-install_one.field-0.0,
-      error_from c.from_residual-in_err-install_one.result _ c.from_residual-in_err-install_one.ensures.1,
-      subst (λ (r : Result _ InstallErr). IsInstalling g.O.Oper.meaning (old g at) (new g at) c.args.self.now (after g at) r) c.in_err-install_one.was (worked g at none),
-    )
+    let at = (goal.at.returns-in_err-install_one-clause-alone g c).After-install_one in
+    works_err work_from_install (λ r. IsInstalling g.O.Oper.meaning (old g at) (new g at) c.args.self.now (after g at) r) c.from_residual-in_err-install_one.result c.install_one.result c.in_err-install_one.field-0.0 c.from_residual-in_err-install_one.ensures.1 c.in_err-install_one.was (worked g at none)
 
 pub returns-clause-alone : goal.returns-clause-alone
 returns-clause-alone g c = λ none.
-    let at = (goal.at.returns-clause-alone g c).After-install_one in (
-      Ok c.in_ok-install_one.field-0,
-      refl,
-      subst (λ (r : Result _ InstallErr). IsInstalling g.O.Oper.meaning (old g at) (new g at) c.args.self.now (after g at) r) c.in_ok-install_one.was (worked g at none),
-    )
+    let at = (goal.at.returns-clause-alone g c).After-install_one in
+    works_ok work_from_install (λ r. IsInstalling g.O.Oper.meaning (old g at) (new g at) c.args.self.now (after g at) r) c.install_one.result c.in_ok-install_one.field-0 c.in_ok-install_one.was (worked g at none)

@@ -3,10 +3,10 @@ use Rattle.std.specs.Prelude.{Result}
 use Rattle.disk_model.specs.Disk.{Disk, LeavesOnly}
 use Rattle.formats.specs.Objects.{bounds_of}
 use Rattle.formats.specs.declared.params.Params.{Params}
+use Rattle.stable_objects.specs.declared.open_err.OpenErr.{OpenErr}
 use Rattle.restart.specs.Damage.{IsReported}
 use Rattle.restart.specs.Opening.{IsJudged, IsOpening, OpensOn}
 use Rattle.restart.specs.Starts.{OrAtStart}
-use Rattle.restart.specs.declared.restart_err.RestartErr.{RestartErr}
 use Rattle.standing.specs.OneStable.{small_store}
 use Rattle.store_engine.specs.Engine.{Between, EngineView, Opens, engine_of, opened}
 use Rattle.store_engine.specs.ImageLaws.{stands_end}
@@ -19,16 +19,16 @@ use Rattle.store_engine.proofs.engine.Engine.restart.Goals as goal
 
 pub returns-in_err-store-clause-opening : goal.returns-in_err-store-clause-opening
 returns-in_err-store-clause-opening g c =
-    subst (λ (r : Result EngineView RestartErr). IsOpening g.O.Oper.meaning (g.M.Machine.disk c.args.machine.now) (g.M.Machine.disk c.restart.new.machine) (opened r)) (sym (error_from c.from_residual.result _ c.from_residual.ensures.1)) c.in_err-store.ensures.opening
+    subst (λ (r : Result EngineView OpenErr). IsOpening g.O.Oper.meaning (g.M.Machine.disk c.args.machine.now) (g.M.Machine.disk c.restart.new.machine) (opened r)) (sym (error_from c.from_residual.result _ c.from_residual.ensures.1)) c.in_err-store.ensures.opening
 
 pub returns-in_err-store-clause-judged : goal.returns-in_err-store-clause-judged
 returns-in_err-store-clause-judged g c = λ told.
-    subst (λ (r : Result EngineView RestartErr). IsJudged g.O.Oper.meaning (g.M.Machine.disk c.args.machine.now) (g.M.Machine.disk c.restart.new.machine) (opened r)) (sym (error_from c.from_residual.result _ c.from_residual.ensures.1))
+    subst (λ (r : Result EngineView OpenErr). IsJudged g.O.Oper.meaning (g.M.Machine.disk c.args.machine.now) (g.M.Machine.disk c.restart.new.machine) (opened r)) (sym (error_from c.from_residual.result _ c.from_residual.ensures.1))
     (c.in_err-store.ensures.judged told)
 
 pub returns-in_err-store-clause-reported : goal.returns-in_err-store-clause-reported
 returns-in_err-store-clause-reported g c =
-    subst (λ (r : Result EngineView RestartErr). IsReported g.O.Oper.meaning (g.M.Machine.disk c.args.machine.now) (g.M.Machine.disk c.restart.new.machine) (opened r)) (sym (error_from c.from_residual.result _ c.from_residual.ensures.1)) c.in_err-store.ensures.reported
+    subst (λ (r : Result EngineView OpenErr). IsReported g.O.Oper.meaning (g.M.Machine.disk c.args.machine.now) (g.M.Machine.disk c.restart.new.machine) (opened r)) (sym (error_from c.from_residual.result _ c.from_residual.ensures.1)) c.in_err-store.ensures.reported
 
 pub returns-clause-opening : goal.returns-clause-opening
 returns-clause-opening g c = c.in_ok-store.ensures.opening
@@ -65,7 +65,7 @@ module _ (g : Over) (c : After-restart g) where
       let small = small_store p (old.reads _) found.shows.objects in
       restart_images g.O.Oper.meaning p old new commands w found c.args.tuning.redo_dirty place.0 small
       (λ b w steps. c.every_run_keeps.ensures.from_sound b w steps) (λ files w. c.image_stands.ensures p files w) (c.a_restart_may_be_made.ensures.allowed (bounds_of p) w c.args.tuning.redo_dirty place.0 small found.sound)
-      (c.restart.ensures.moments told p place.0 w on)
+      (c.restart.ensures.steps told p place.0 w on)
 
 pub returns-in_err-store-clause-images : goal.returns-in_err-store-clause-images
 returns-in_err-store-clause-images g c = images g (goal.at.returns-in_err-store-clause-images g c).After-restart

@@ -23,18 +23,18 @@ returns-clause-counts g c = (
 )
 
 module _ (g : Over) (c : After-identities g) where
-  entries_are : c.graph.result.now.entries ≡ c.args.self.now.parts.store.entries
-  entries_are = c.graph.ensures ∙ ap (λ (e : EngineView). e.parts.store.entries) c.self.view_is
+  entries_are : c.graph.result.now.entries ≡ c.args.self.now.parts.volatile.entries
+  entries_are = c.graph.ensures ∙ ap (λ (e : EngineView). e.parts.volatile.entries) c.self.view_is
 
-  listed : c.graph-2.result.now.entries ≡ c.args.self.now.parts.store.entries
-  listed = c.graph-2.ensures ∙ ap (λ (e : EngineView). e.parts.store.entries) c.self.view_is
+  listed : c.graph-2.result.now.entries ≡ c.args.self.now.parts.volatile.entries
+  listed = c.graph-2.ensures ∙ ap (λ (e : EngineView). e.parts.volatile.entries) c.self.view_is
 
-  nodes : IsCount (NamesNode c.args.self.now.parts.store.entries) c.node_count.result
+  nodes : IsCount (NamesNode c.args.self.now.parts.volatile.entries) c.node_count.result
   nodes = subst (λ (l : List Entry). IsCount (NamesNode l) c.node_count.result) entries_are c.node_count.ensures.count
 
-  dirty : (objects : List ℕ) × AreDirty c.args.self.now.parts.store.objects.cache objects × (c.dirty_count.result ≡ length objects)
+  dirty : (objects : List ℕ) × AreDirty c.args.self.now.parts.volatile.objects.cache objects × (c.dirty_count.result ≡ length objects)
   dirty =
-      subst (λ (o : Laid). (objects : List ℕ) × AreDirty o.cache objects × (c.dirty_count.result ≡ length objects)) (c.objects.ensures ∙ ap (λ (e : EngineView). e.parts.store.objects) c.self.view_is) c.dirty_count.ensures
+      subst (λ (o : Laid). (objects : List ℕ) × AreDirty o.cache objects × (c.dirty_count.result ≡ length objects)) (c.objects.ensures ∙ ap (λ (e : EngineView). e.parts.volatile.objects) c.self.view_is) c.dirty_count.ensures
 
 pub returns-clause-own : goal.returns-clause-own
 returns-clause-own g c =
@@ -47,7 +47,7 @@ pub returns-clause-shown : goal.returns-clause-shown
 returns-clause-shown g c = λ p file w sound shows.
     let at = (goal.at.returns-clause-shown g c).After-identities in
     let m = meaning_in g.O.Oper.meaning p in
-    let it = c.args.self.now.parts.store in
+    let it = c.args.self.now.parts.volatile in
     let lawful = g.met.O.Oper.lawful (bounds_of p) (small_in m p file it w shows) in
     let rising = subst (λ (l : List Entry). IsStrictlyIncreasing (numbers l)) (listed g at) c.len.ensures.rising in
     record {

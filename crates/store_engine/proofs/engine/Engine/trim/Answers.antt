@@ -1,11 +1,9 @@
-use Rattle.std.proofs.Common.{◌≡◌, subst, refl, Ok, Err, None}
-use Rattle.std.specs.Prelude.{Result}
+use Rattle.std.proofs.Common.{◌≡◌, None}
 use Rattle.disk_model.specs.Disk.{Disk}
-use Rattle.checkpointing.specs.declared.trim_err.TrimErr.{TrimErr}
-use Rattle.store_engine.specs.Calls.{IsTrimming}
+use Rattle.store_engine.specs.Calls.{IsTrimming, work_from_rewrite}
 use Rattle.store_engine.specs.Engine.{EngineView, engine_of}
 use Rattle.store_engine.proofs.Calls.{as_alone}
-use Rattle.store_engine.proofs.Ways.{error_from}
+use Rattle.store_engine.proofs.Ways.{works_err, works_ok}
 use Rattle.store_engine.proofs.Works.{trimming}
 use Rattle.store_engine.proofs.engine.Engine.trim.Given.{Over}
 use Rattle.store_engine.proofs.engine.Engine.trim.Goals.{After-trim}
@@ -29,16 +27,10 @@ module _ (g : Over) (c : After-trim g) where
 
 pub returns-in_err-trim-clause-alone : goal.returns-in_err-trim-clause-alone
 returns-in_err-trim-clause-alone g c = λ none.
-    let at = (goal.at.returns-in_err-trim-clause-alone g c).After-trim in (
-      Err c.in_err-trim.field-0.0,
-      error_from c.from_residual-in_err-trim.result _ c.from_residual-in_err-trim.ensures.1,
-      subst (λ (r : Result _ TrimErr). IsTrimming g.O.Oper.meaning (old g at) (new g at) c.args.self.now (after g at) r) c.in_err-trim.was (worked g at none),
-    )
+    let at = (goal.at.returns-in_err-trim-clause-alone g c).After-trim in
+    works_err work_from_rewrite (λ r. IsTrimming g.O.Oper.meaning (old g at) (new g at) c.args.self.now (after g at) r) c.from_residual-in_err-trim.result c.trim.result c.in_err-trim.field-0.0 c.from_residual-in_err-trim.ensures.1 c.in_err-trim.was (worked g at none)
 
 pub returns-clause-alone : goal.returns-clause-alone
 returns-clause-alone g c = λ none.
-    let at = (goal.at.returns-clause-alone g c).After-trim in (
-      Ok c.in_ok-trim.field-0,
-      refl,
-      subst (λ (r : Result _ TrimErr). IsTrimming g.O.Oper.meaning (old g at) (new g at) c.args.self.now (after g at) r) c.in_ok-trim.was (worked g at none),
-    )
+    let at = (goal.at.returns-clause-alone g c).After-trim in
+    works_ok work_from_rewrite (λ r. IsTrimming g.O.Oper.meaning (old g at) (new g at) c.args.self.now (after g at) r) c.trim.result c.in_ok-trim.field-0 c.in_ok-trim.was (worked g at none)
