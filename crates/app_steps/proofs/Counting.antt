@@ -5,8 +5,7 @@ use Rattle.std.proofs.lemmas.Bool.{cond-true, cond-false}
 use Rattle.std.proofs.lemmas.List.{append-nil, replicate-append-replicate}
 use Rattle.oper_core.specs.declared.refusal.Refusal.{Refusal}
 use Rattle.formats.specs.declared.params.Params.{Params}
-use Rattle.op_codec.specs.AllOps.{all_meaning}
-use Rattle.op_codec.specs.declared.all_ops.AllOps.{AllOps}
+use Rattle.op_codec.specs.AllOps.{AllOps, all_meaning}
 use Rattle.store_engine.specs.Store.{refusal_after}
 use Rattle.store_engine.specs.Lists.{ComesNext}
 use Rattle.app_steps.specs.Steps.{step_of, steps, steps_accepted}

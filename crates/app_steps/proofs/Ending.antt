@@ -7,8 +7,7 @@ use Rattle.disk_model.specs.Disk.{Disk}
 use Rattle.oper_core.specs.declared.refusal.Refusal.{Refusal}
 use Rattle.oper_core.specs.declared.refusal.Refusal.TheVariants.{NoInput}
 use Rattle.formats.specs.declared.params.Params.{Params}
-use Rattle.op_codec.specs.AllOps.{all_meaning}
-use Rattle.op_codec.specs.declared.all_ops.AllOps.{AllOps}
+use Rattle.op_codec.specs.AllOps.{AllOps, all_meaning}
 use Rattle.running_store.specs.Courses.{Stop}
 use Rattle.running_store.specs.Courses.Stop.{Full, At_end}
 use Rattle.running_store.specs.Taking.Ending.{Done, Stopped}
@@ -44,7 +43,7 @@ module _ {T : Type 0} (disk : T → Disk) (old mid new : T) (before between now 
 
     -- why the next step gets its answer, on the map after those that are done
     cause : (r : Result ℕ ExecErr) → HasRun all_meaning (disk mid) (disk new) between now op r → HasCause all_meaning (group_size between) p (after p commands app n done) op r
-    cause r ran = ran.exactly p (commands ++ replicate done op) (all_hold all_meaning (disk old) (disk mid) before between p holds.world commands (replicate done op) made.front)
+    cause r ran = ran.on_map p (commands ++ replicate done op) (all_hold all_meaning (disk old) (disk mid) before between p holds.world commands (replicate done op) made.front)
 
     pub one_more : ExecDone all_meaning disk → done < n → (k : ℕ) → HasRun all_meaning (disk mid) (disk new) between now op (Ok k) → IsMade p (disk old) (disk new) before now commands holds app n (done + 1)
     one_more goes more k ran = record {

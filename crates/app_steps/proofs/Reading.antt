@@ -1,22 +1,21 @@
 -- So many steps of an application read as many bytes of its input.
 use Rattle.std.proofs.Common.{◌≡◌, ◌∙◌, sym, ap, ℕ, zero, suc, ◌+◌, ◌*◌, ◌%◌, ◌^◌, ◌<◌, ◌≤◌, Bool, true, false, inl, inr, List, [], ◌∷◌, ◌++◌, length, take, drop, replicate, refl, Option, None, Some, arith, append_assoc, length-append}
-use Rattle.std.specs.Prelude.{◌&&◌, ◌||◌, ◌==◌, nat_lt, min, is_some, unwrap_or, if◌then◌else◌}
+use Rattle.std.specs.Prelude.{◌&&◌, ◌||◌, ◌==◌, nat_le, nat_lt, min, is_some, unwrap_or, if◌then◌else◌}
 use Rattle.std.specs.List.{fold}
 use Rattle.std.proofs.Math.Nat.{eq-zero-or-pos, mod-add-mod, mod-eq_of_lt}
-use Rattle.std.proofs.lemmas.Bool.{eq-eqb, lt-ltb}
+use Rattle.std.proofs.lemmas.Bool.{eq-eqb, le-leb, lt-ltb}
 use Rattle.std.proofs.lemmas.List.{append-nil}
 use Rattle.std.proofs.lemmas.List.Sums.{fold-append}
 use Rattle.oper_core.specs.State.{State, start, with_values}
 use Rattle.oper_core.specs.Meaning.{after, or_else, unless}
 use Rattle.oper_core.specs.declared.refusal.Refusal.{Refusal}
-use Rattle.oper_core.specs.declared.refusal.Refusal.TheVariants.{NoObject, NotApp, NoInput}
+use Rattle.oper_core.specs.declared.refusal.Refusal.TheVariants.{NoObject, NotApp, NoInput, TooLarge}
 use Rattle.formats.specs.declared.params.Params.{Params}
 use Rattle.op_meaning.specs.AppState.{Application, app_of, new_application, state_code, state_in, stepped}
 use Rattle.op_meaning.specs.AppStateLaws.{state_in-state_code}
 use Rattle.op_meaning.specs.Rows.{if_applicable}
 use Rattle.op_meaning.specs.Table.{exec_check}
-use Rattle.op_codec.specs.AllOps.{all_meaning}
-use Rattle.op_codec.specs.declared.all_ops.AllOps.{AllOps}
+use Rattle.op_codec.specs.AllOps.{AllOps, all_meaning}
 use Rattle.store_engine.specs.Store.{meaning_in, refusal_after, state_of}
 use Rattle.app_steps.specs.Runs.{IsRunnable, after_steps, has_read, read_byte}
 use Rattle.app_steps.specs.Steps.{step_of, steps_accepted}
@@ -84,7 +83,9 @@ module _ (p : Params) (app : ℕ) (there : app < p.objects) where
   Has commands s = state_in (state_of all_meaning p commands app) ≡ Some s
 
   in_grammar : (meaning_in all_meaning p).shape op ≡ None
-  in_grammar = ap (λ (b : Bool). or_else (unless (b && true) NoObject) None) (lt-ltb app p.objects there)
+  in_grammar =
+      ap (λ (b : Bool). or_else (or_else (unless (b && true) NoObject) None) (unless (nat_le 0 p.cap) TooLarge)) (lt-ltb app p.objects there)
+      ∙ ap (λ (b : Bool). unless b TooLarge) (le-leb 0 p.cap (omega arith))
 
   -- what is told of a state that was found
   abbrev check_of : Option Application → Option Refusal

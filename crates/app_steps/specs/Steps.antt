@@ -3,23 +3,22 @@ use Rattle.std.specs.Prelude.{◌≡◌, ◌≢◌, ⊤, ℕ, zero, suc, List, [
 use Rattle.oper_core.specs.declared.refusal.Refusal.{Refusal}
 use Rattle.oper_core.specs.declared.refusal.Refusal.TheVariants.{NoInput}
 use Rattle.formats.specs.declared.params.Params.{Params}
-use Rattle.op_codec.specs.AllOps.{all_meaning}
-use Rattle.op_codec.specs.declared.all_ops.AllOps.{AllOps}
-use Rattle.op_codec.specs.declared.all_ops.AllOps.TheVariants.{Exec, AppRead, AppWrite}
+use Rattle.op_codec.specs.AllOps.{AllOps, all_meaning, plain}
+use Rattle.op_meaning.specs.declared.plain_op.PlainOp.TheVariants.{Exec, AppRead, AppWrite}
 use Rattle.execution.specs.declared.exec_err.ExecErr.{ExecErr}
 use Rattle.execution.specs.declared.exec_err.ExecErr.TheVariants.{Refused, LogFull, LsnEnd, DiskFault, Damaged, Memory}
 use Rattle.store_engine.specs.Store.{refusal_after}
 
 -- one step of the application in this object
 abbrev pub step_of : ℕ → AllOps
-step_of app = Exec (record { app = app })
+step_of app = plain (Exec app)
 
 -- the value of this object as more input of the application, and its output as the value of this object
 abbrev pub feed_of : ℕ → ℕ → AllOps
-feed_of app from = AppRead (record { app = app; from = from })
+feed_of app from = plain (AppRead app from)
 
 abbrev pub drain_of : ℕ → ℕ → AllOps
-drain_of app to = AppWrite (record { app = app; to = to })
+drain_of app to = plain (AppWrite app to)
 
 -- A run has done some steps and its next is refused, or fails: it answers how many were done, but where the first is refused
 -- for another reason than lack of input, and where it fails, it answers why.

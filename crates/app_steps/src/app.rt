@@ -1,16 +1,15 @@
 ghost use Rattle.std.specs.Prelude.{◌≡◌, false, List};
 ghost use Rattle.std.specs.Result.{result_err};
 ghost use Rattle.formats.specs.declared.params.Params.{Params};
-ghost use Rattle.op_codec.specs.AllOps.{all_meaning};
-ghost use Rattle.op_codec.specs.declared.all_ops.AllOps.{AllOps as Command};
+ghost use Rattle.op_codec.specs.AllOps.{AllOps as Command, all_meaning};
 ghost use Rattle.store_engine.specs.Engine.{Holds};
 ghost use Rattle.store_engine.specs.Lists.{AddsFront, AreCalls, ending_of};
 ghost use Rattle.store_engine.specs.Commands.{HasRun};
 ghost use Rattle.app_steps.specs.Steps.{EndsSo, HasAnswer, drain_of, feed_of, step_of, steps};
 
 use disk_model::Machine;
-use op_codec::AllOps;
-use op_meaning::{AppRead, AppWrite, Exec};
+use op_codec::{AllOps, plain_op};
+use op_meaning::PlainOp;
 use oper_core::Refusal;
 use store_engine::{Engine, ExecErr, calls_go_on, exec_goes_on, nothing_is_made};
 
@@ -52,7 +51,7 @@ impl App {
     {
         engine.exec(
             machine,
-            AllOps::AppRead(AppRead {
+            plain_op(PlainOp::AppRead {
                 app: self.app,
                 from,
             }),
@@ -69,7 +68,7 @@ impl App {
         ensures run { HasRun all_meaning (M.disk machine.old) (M.disk machine.new) engine.old engine.new (step_of self.now.app) result }
         ensures calls { AreCalls all_meaning (M.disk machine.old) (M.disk machine.new) engine.old engine.new (result_err result) }
     {
-        engine.exec(machine, AllOps::Exec(Exec { app: self.app }))
+        engine.exec(machine, plain_op(PlainOp::Exec { app: self.app }))
     }
 
     /// Makes the application's output the value of an object. It answers as `Engine::exec` does.
@@ -83,7 +82,7 @@ impl App {
         ensures run { HasRun all_meaning (M.disk machine.old) (M.disk machine.new) engine.old engine.new (drain_of self.now.app to) result }
         ensures calls { AreCalls all_meaning (M.disk machine.old) (M.disk machine.new) engine.old engine.new (result_err result) }
     {
-        engine.exec(machine, AllOps::AppWrite(AppWrite { app: self.app, to }))
+        engine.exec(machine, plain_op(PlainOp::AppWrite { app: self.app, to }))
     }
 
     /// Does steps until `most` are done or one is refused. It answers how many were done.

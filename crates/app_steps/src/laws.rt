@@ -2,8 +2,7 @@
 ghost use Rattle.std.specs.Prelude.{◌≡◌, ◌<◌, ◌≤◌, ◌^◌, ◌++◌, ℕ, List, Some, length, min, replicate};
 ghost use Rattle.formats.specs.declared.params.Params.{Params};
 ghost use Rattle.op_meaning.specs.AppState.{Application, state_in};
-ghost use Rattle.op_codec.specs.AllOps.{all_meaning};
-ghost use Rattle.op_codec.specs.declared.all_ops.AllOps.{AllOps as Command};
+ghost use Rattle.op_codec.specs.AllOps.{AllOps as Command, all_meaning};
 ghost use Rattle.store_engine.specs.Store.{state_of};
 ghost use Rattle.app_steps.specs.Runs.{IsRunnable, after_steps, has_read};
 ghost use Rattle.app_steps.specs.Steps.{step_of, steps_accepted};

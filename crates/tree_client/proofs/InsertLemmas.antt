@@ -6,8 +6,7 @@ use Rattle.disk_model.specs.Disk.{Disk}
 use Rattle.formats.specs.Objects.{bounds_of}
 use Rattle.formats.specs.declared.params.Params.{Params}
 use Rattle.btree_ops.specs.declared.node_op.NodeOp.{NodeOp}
-use Rattle.op_codec.specs.AllOps.{all_meaning}
-use Rattle.op_codec.specs.declared.all_ops.AllOps.TheVariants.{Node}
+use Rattle.op_codec.specs.AllOps.{all_meaning, node}
 use Rattle.explain_core.specs.History.{commands_of}
 use Rattle.explain_core.specs.World.{World}
 use Rattle.running_store.specs.Taking.{Ending}
@@ -52,7 +51,7 @@ early_is_not Failed early done = cc done
 -- A front of the plan's commands is made: engine and files stand for these too, and so many turns are left.
 pub record IsUnderWay (old mid : Disk) (before between : EngineView) (p : Params) (w : World Command) (lo hi : ℕ) (key value : List ℕ) (left : ℕ) : Type 0 where
   pub front : List NodeOp
-  pub adds : AddsFront all_meaning p old mid before between w (commands_of w.history) (map Node front) Done
+  pub adds : AddsFront all_meaning p old mid before between w (commands_of w.history) (map node front) Done
   pub going : IsGoing p lo hi key value (commands_of w.history) front left
 
 -- engine and files stand for the front after the commands that were there
@@ -85,9 +84,9 @@ module _ {T : Type 0} (disk : T → Disk) (on : AddsOn disk) (old mid new : T) (
   ops q commands = made_of q.cap (turn_plan (insert_next (bounds_of q) lo hi (state_of q commands) key value)).commands
 
   abbrev pub now : List Command
-  now = c ++ map Node way.front
+  now = c ++ map node way.front
 
-  pub holds_now : Holds p (disk mid) between (commands_of w.history ++ map Node way.front)
+  pub holds_now : Holds p (disk mid) between (commands_of w.history ++ map node way.front)
   holds_now = holds_on way.adds
 
   abbrev whole : Plan
@@ -97,9 +96,9 @@ module _ {T : Type 0} (disk : T → Disk) (on : AddsOn disk) (old mid new : T) (
   Front made ending = AddsFront all_meaning p (disk old) (disk new) before after w c made ending
 
   -- the turn's commands after the front
-  behind : (error : Option ExecErr) (rest : List Command) → Makes (disk mid) (disk new) between after ops error → (ending_of error ≡ Done → rest ≡ []) → Front (map Node way.front ++ (ops p now ++ rest)) (ending_of error)
+  behind : (error : Option ExecErr) (rest : List Command) → Makes (disk mid) (disk new) between after ops error → (ending_of error ≡ Done → rest ≡ []) → Front (map node way.front ++ (ops p now ++ rest)) (ending_of error)
   behind error rest makes ended =
-      on old mid new before between after error p w (map Node way.front) (ops p now) rest way.adds
+      on old mid new before between after error p w (map node way.front) (ops p now) rest way.adds
       (λ v shows is more stops. subst (λ (l : List Command). AddsFront all_meaning p (disk mid) (disk new) between after v (commands_of v.history) (ops p l ++ more) (ending_of error)) is (makes.adds p v shows more stops)) ended
 
   -- a split is made, and the turns go on

@@ -1,23 +1,25 @@
 -- Calls that come one after the other.
-use Rattle.std.proofs.Common.{◌≡◌, ◌<◌, refl, sym, ap, ◌∙◌, subst, inl, inr, ℕ, false, Option, None, Some, List, [], ◌++◌, append-nil, arith}
+use Rattle.std.proofs.Common.{◌≡◌, ◌<◌, refl, sym, ap, ◌∙◌, subst, inl, inr, ℕ, false, Option, None, Some, List, [], ◌++◌, append-nil, arith, true≢false}
 use Rattle.std.proofs.Math.Seq.{take-nil}
-use Rattle.std.proofs.lemmas.Bool.{false_from_ne_true}
+use Rattle.std.proofs.lemmas.Bool.{false_from_ne_true, lt-ltb}
 use Rattle.disk_model.specs.Disk.{Disk}
 use Rattle.formats.specs.declared.params.Params.{Params}
+use Rattle.formats.specs.declared.read_err.ReadErr.{ReadErr}
+use Rattle.formats.specs.declared.read_err.ReadErr.TheVariants as of_read
 use Rattle.op_codec.specs.AllOps.{all_meaning}
 use Rattle.explain_core.specs.History.{commands_of}
 use Rattle.explain_core.specs.World.{World}
 use Rattle.running_store.specs.Taking.Ending.{Done, Short}
+use Rattle.execution.specs.Failures.{exec_from_read}
 use Rattle.execution.specs.declared.exec_err.ExecErr.{ExecErr}
-use Rattle.execution.specs.declared.exec_err.ExecErr.TheVariants.{Refused, LogFull, LsnEnd, DiskFault, Damaged, Memory}
 use Rattle.store_engine.specs.Engine.{EngineView, params_of}
-use Rattle.store_engine.specs.Lists.{AddsFront, AreCalls, IsCutOff, ending_of}
+use Rattle.store_engine.specs.Lists.{AddsFront, AreCalls, as_exec, ending_of}
 use Rattle.store_engine.specs.ListSteps.{AddsBehind, CallsBehind, FetchDone, FetchFailed, RunsShort}
 use Rattle.store_engine.specs.Commands.{HasFetched}
-use Rattle.std.specs.Prelude.{Result, Ok, Err, IfErr}
+use Rattle.std.specs.Prelude.{Result, Ok, Err, IfErr, OnErr, nat_lt}
 use Rattle.tree_client.specs.Answers.{cause_in, cause_of}
 use Rattle.tree_client.specs.declared.tree_err.TreeErr.{TreeErr}
-use Rattle.tree_client.specs.declared.tree_err.TreeErr.TheVariants.{Memory as OutOfMemory}
+use Rattle.tree_client.specs.declared.tree_err.TreeErr.TheVariants.{Exec, Memory as OutOfMemory}
 use Rattle.tree_client.specs.Joining.{AddsOn, ReadsBehind, ReadsShort}
 use Rattle.tree_client.specs.Making.{Reads}
 use Rattle.tree_client.specs.Store.{Command, Holds, ShowsIn}
@@ -93,45 +95,35 @@ module _ {T : Type 0} (disk : T → Disk) (old new : T) (before after : EngineVi
   }
 
   -- what a fetch makes
-  pub fetch_reads : FetchDone all_meaning disk → FetchFailed all_meaning disk → IsBegin → (object : ℕ) (error : Option ExecErr)
-      → AreCalls all_meaning (disk old) (disk new) before after error → HasFetched all_meaning (disk old) (disk new) before after object error → Reads (disk old) (disk new) before after error
+  pub fetch_reads : FetchDone all_meaning disk → FetchFailed all_meaning disk → IsBegin → (object : ℕ) (error : Option ReadErr)
+      → AreCalls all_meaning (disk old) (disk new) before after (as_exec error) → HasFetched all_meaning (disk old) (disk new) before after object error → Reads (disk old) (disk new) before after (as_exec error)
   fetch_reads done failed begin object error calls fetch = record { calls = calls; adds = λ p w shows rest ended. by_error p w shows rest error fetch ended }
     where
       start : (p : Params) (w : World Command) → ShowsIn p (disk old) before w → AddsFront all_meaning p (disk old) (disk old) before before w (commands_of w.history) [] Done
       start p w shows = begin p (commands_of w.history) (record { world = w; shows = shows; commands_are = refl })
 
-      cut : (p : Params) (w : World Command) → ShowsIn p (disk old) before w → (rest : List Command) (e : Option ExecErr) → HasFetched all_meaning (disk old) (disk new) before after object e → IsCutOff (ending_of e)
-          → AddsFront all_meaning p (disk old) (disk new) before after w (commands_of w.history) rest (ending_of e)
-      cut p w shows rest e fetch is = failed old old new before before after p w (commands_of w.history) [] rest object e (start p w shows) fetch is
+      by_error : (p : Params) (w : World Command) → ShowsIn p (disk old) before w → (rest : List Command) (e : Option ReadErr) → HasFetched all_meaning (disk old) (disk new) before after object e → (ending_of (as_exec e) ≡ Done → rest ≡ [])
+          → AddsFront all_meaning p (disk old) (disk new) before after w (commands_of w.history) rest (ending_of (as_exec e))
+      by_error p w shows rest None fetch ended =
+          subst (λ (l : List Command). AddsFront all_meaning p (disk old) (disk new) before after w (commands_of w.history) l Done) (sym (ended refl))
+          (done old old new before before after p w (commands_of w.history) [] object (start p w shows) fetch)
+      by_error p w shows rest (Some e) fetch ended = failed old old new before before after p w (commands_of w.history) [] rest object e (start p w shows) fetch
 
-      whole : (p : Params) (w : World Command) → ShowsIn p (disk old) before w → (rest : List Command) (e : Option ExecErr) → HasFetched all_meaning (disk old) (disk new) before after object e → ending_of e ≡ Done → rest ≡ []
-          → AddsFront all_meaning p (disk old) (disk new) before after w (commands_of w.history) rest Done
-      whole p w shows rest e fetch is none =
-          subst (λ (l : List Command). AddsFront all_meaning p (disk old) (disk new) before after w (commands_of w.history) l Done) (sym none)
-          (done old old new before before after p w (commands_of w.history) [] object e (start p w shows) fetch is)
+-- a read that fails is no refusal
+read_fails : (e : ReadErr) → ending_of (Some (exec_from_read e)) ≡ Done → ⊥
+read_fails of_read.DiskFault done = cc
+read_fails (of_read.Damaged file place) done = cc
+read_fails of_read.Memory done = cc
 
-      by_error : (p : Params) (w : World Command) → ShowsIn p (disk old) before w → (rest : List Command) (e : Option ExecErr) → HasFetched all_meaning (disk old) (disk new) before after object e → (ending_of e ≡ Done → rest ≡ [])
-          → AddsFront all_meaning p (disk old) (disk new) before after w (commands_of w.history) rest (ending_of e)
-      by_error p w shows rest None fetch ended = whole p w shows rest None fetch refl (ended refl)
-      by_error p w shows rest (Some (Refused refusal)) fetch ended = whole p w shows rest (Some (Refused refusal)) fetch refl (ended refl)
-      by_error p w shows rest (Some (LogFull used need limit)) fetch ended = absurd fetch.cause.1
-      by_error p w shows rest (Some (LsnEnd number)) fetch ended = absurd fetch.cause.1
-      by_error p w shows rest (Some DiskFault) fetch ended = cut p w shows rest (Some DiskFault) fetch tt
-      by_error p w shows rest (Some (Damaged file place)) fetch ended = cut p w shows rest (Some (Damaged file place)) fetch tt
-      by_error p w shows rest (Some Memory) fetch ended = cut p w shows rest (Some Memory) fetch tt
+pub fetch_fails : {U : Type 0} (r : Result U TreeErr) (e : ReadErr) → r ≡ Err (Exec (exec_from_read e)) → OnErr r (ending_of (cause_in r) ≡ Done → ⊥)
+fetch_fails {U} r e is = subst (λ (q : Result U TreeErr). OnErr q (ending_of (cause_in q) ≡ Done → ⊥)) (sym is) (read_fails e)
 
--- an object that there is is not refused
-pub fetch_refuses : {p : Params} {old new : Disk} {before after : EngineView} {commands : List Command} (object : ℕ) (error : ExecErr) → Holds p old before commands → object < p.objects
-    → HasFetched all_meaning old new before after object (Some error) → ending_of (Some error) ≡ Done → ⊥
-fetch_refuses {p} {before = before} object (Refused refusal) holds below fetch done =
-    let past = fetch.cause.1 in
+-- an object that there is is found
+pub object_is_there : {p : Params} {old : Disk} {before : EngineView} {commands : List Command} (object : ℕ) → Holds p old before commands → object < p.objects
+    → false ≡ nat_lt object (params_of before).objects → ⊥
+object_is_there {p} {before = before} object holds below past =
     let same : (params_of before).objects ≡ p.objects = ap (λ (q : Params). q.objects) holds.shows.shows.store.params in
-    omega (arith, past, same, below)
-fetch_refuses object (LogFull used need limit) holds below fetch done = cc
-fetch_refuses object (LsnEnd number) holds below fetch done = cc
-fetch_refuses object DiskFault holds below fetch done = cc
-fetch_refuses object (Damaged file place) holds below fetch done = cc
-fetch_refuses object Memory holds below fetch done = cc
+    true≢false (sym (lt-ltb object (params_of before).objects (omega (arith, same, below))) ∙ sym past)
 
 -- what is done after calls that only read, and may run out of memory alone
 pub reads_then : {T U : Type 0} (disk : T → Disk) → ReadsShort disk → (old now : T) (before after : EngineView) (r : Result U TreeErr) → Reads (disk old) (disk now) before after None → IfErr r (λ e. e ≡ OutOfMemory)

@@ -9,8 +9,7 @@ use Rattle.oper_core.specs.declared.refusal.Refusal.TheVariants.{TooLarge}
 use Rattle.formats.specs.declared.params.Params.{Params}
 use Rattle.btree_ops.specs.EntryLaws.{same_some}
 use Rattle.btree_ops.specs.declared.node_op.NodeOp.{NodeOp}
-use Rattle.op_codec.specs.AllOps.{all_meaning}
-use Rattle.op_codec.specs.declared.all_ops.AllOps.TheVariants.{Node}
+use Rattle.op_codec.specs.AllOps.{all_meaning, node}
 use Rattle.explain_core.specs.History.{commands_of}
 use Rattle.explain_core.specs.World.{World}
 use Rattle.running_store.specs.Courses.{Stop}
@@ -32,11 +31,11 @@ use Rattle.tree_client.specs.declared.tree_err.TreeErr.{TreeErr}
 use Rattle.tree_client.specs.declared.tree_err.TreeErr.TheVariants.{Exec}
 use Rattle.tree_client.proofs.JoinLemmas.{IsBegin}
 
-pub made_wide : (cap : ℕ) (ops : List NodeOp) → 1024 ≤ cap → made_of cap ops ≡ map Node ops
-made_wide cap ops wide = cond-true (nat_le 1024 cap) (map Node ops) [] (le-leb 1024 cap wide)
+pub made_wide : (cap : ℕ) (ops : List NodeOp) → 1024 ≤ cap → made_of cap ops ≡ map node ops
+made_wide cap ops wide = cond-true (nat_le 1024 cap) (map node ops) [] (le-leb 1024 cap wide)
 
 pub made_narrow : (cap : ℕ) (ops : List NodeOp) → cap < 1024 → made_of cap ops ≡ []
-made_narrow cap ops narrow = cond-false (nat_le 1024 cap) (map Node ops) [] (lt-leb 1024 cap narrow)
+made_narrow cap ops narrow = cond-false (nat_le 1024 cap) (map node ops) [] (lt-leb 1024 cap narrow)
 
 -- of no commands none is made
 pub made_none : (cap : ℕ) → made_of cap [] ≡ []
@@ -59,7 +58,7 @@ module _ {T : Type 0} (disk : T → Disk) (old new : T) (before after : EngineVi
   holds = record { world = w; shows = shows; commands_are = refl }
 
   abbrev Ran : Result ℕ ExecErr → Type 0
-  Ran result = HasRun all_meaning (disk old) (disk new) before after (Node op) result
+  Ran result = HasRun all_meaning (disk old) (disk new) before after (node op) result
 
   abbrev Front : List Command → Ending → Type 0
   Front ops ending = AddsFront all_meaning p (disk old) (disk new) before after w c ops ending
@@ -71,20 +70,20 @@ module _ {T : Type 0} (disk : T → Disk) (old new : T) (before after : EngineVi
     -- it is accepted only in wide values
     pub adds_done : (n : ℕ) → Ran (Ok n) → (rest : List Command) → rest ≡ [] → Front (made_of p.cap (op ∷ []) ++ rest) Done
     adds_done n ran rest none = elim (cases_lt p.cap 1024) [
-      | inl narrow ↦ absurd (cc ((ran.exactly p c holds).0, due.narrow narrow))
+      | inl narrow ↦ absurd (cc ((ran.on_map p c holds).0, due.narrow narrow))
       | inr wide ↦
           subst (λ (l : List Command). Front (l ++ rest) Done) (sym (made_wide p.cap (op ∷ []) wide))
-          (subst (λ (r : List Command). Front ((Node op ∷ []) ++ r) Done) (sym none) (done old old new before before after p w c [] (Node op) n start ran))
+          (subst (λ (r : List Command). Front ((node op ∷ []) ++ r) Done) (sym none) (done old old new before before after p w c [] (node op) n start ran))
     ]
 
     narrow_refusal : (r : Refusal) → Ran (Err (Refused r)) → 1024 ≤ p.cap → ⊥
-    narrow_refusal r ran wide = cc (ran.exactly p c holds, due.wide wide)
+    narrow_refusal r ran wide = cc (ran.on_map p c holds, due.wide wide)
 
     adds_refused : (r : Refusal) → Ran (Err (Refused r)) → (rest : List Command) → rest ≡ [] → Front (made_of p.cap (op ∷ []) ++ rest) Done
     adds_refused r ran rest none = elim (cases_lt p.cap 1024) [
       | inl narrow ↦
           subst (λ (l : List Command). Front (l ++ rest) Done) (sym (made_narrow p.cap (op ∷ []) narrow))
-          (subst (λ (l : List Command). Front l Done) (sym none) (refused old old new before before after p w c [] (Node op) r start ran))
+          (subst (λ (l : List Command). Front l Done) (sym none) (refused old old new before before after p w c [] (node op) r start ran))
       | inr wide ↦ absurd (narrow_refusal r ran wide)
     ]
 
@@ -94,24 +93,24 @@ module _ {T : Type 0} (disk : T → Disk) (old new : T) (before after : EngineVi
       | inl narrow ↦ absurd (wide narrow)
       | inr enough ↦
           subst (λ (l : List Command). Front (l ++ rest) (Stopped stop)) (sym (made_wide p.cap (op ∷ []) enough))
-          (stopped old old new before before after p w c [] (Node op) rest e stop start ran is)
+          (stopped old old new before before after p w c [] (node op) rest e stop start ran is)
     ]
 
     -- in wide values it is the first that is to come, in narrow ones it is refused
-    comes_next : (rest : List Command) → ComesNext all_meaning p (c ++ []) (Node op) (made_of p.cap (op ∷ []) ++ rest)
+    comes_next : (rest : List Command) → ComesNext all_meaning p (c ++ []) (node op) (made_of p.cap (op ∷ []) ++ rest)
     comes_next rest = elim (cases_lt p.cap 1024) [
-      | inl narrow ↦ inl (TooLarge, ap (λ (l : List Command). refusal_after all_meaning p l (Node op)) (append-nil c) ∙ due.narrow narrow)
+      | inl narrow ↦ inl (TooLarge, ap (λ (l : List Command). refusal_after all_meaning p l (node op)) (append-nil c) ∙ due.narrow narrow)
       | inr wide ↦ inr (rest, ap (λ (l : List Command). l ++ rest) (made_wide p.cap (op ∷ []) wide))
     ]
 
     adds_cut : (e : ExecErr) → Ran (Err e) → IsCutOff (ending_of (Some e)) → (rest : List Command) → Front (made_of p.cap (op ∷ []) ++ rest) (ending_of (Some e))
-    adds_cut e ran is rest = failed old old new before before after p w c [] (Node op) (made_of p.cap (op ∷ []) ++ rest) e start ran (comes_next rest) is
+    adds_cut e ran is rest = failed old old new before before after p w c [] (node op) (made_of p.cap (op ∷ []) ++ rest) e start ran (comes_next rest) is
 
     pub adds_err : (e : ExecErr) → Ran (Err e) → Adds (disk old) (disk new) before after p w (made_of p.cap (op ∷ [])) (Some e)
     adds_err (Refused r) ran rest ended = adds_refused r ran rest (ended refl)
     adds_err (LogFull used need limit) ran rest ended =
-        adds_stopped (LogFull used need limit) (Full used need limit) ran refl (λ narrow. cc ((ran.exactly p c holds).0, due.narrow narrow)) rest
-    adds_err (LsnEnd number) ran rest ended = adds_stopped (LsnEnd number) (At_end number) ran refl (λ narrow. cc (ran.exactly p c holds, due.narrow narrow)) rest
+        adds_stopped (LogFull used need limit) (Full used need limit) ran refl (λ narrow. cc ((ran.on_map p c holds).0, due.narrow narrow)) rest
+    adds_err (LsnEnd number) ran rest ended = adds_stopped (LsnEnd number) (At_end number) ran refl (λ narrow. cc (ran.on_map p c holds, due.narrow narrow)) rest
     adds_err DiskFault ran rest ended = adds_cut DiskFault ran tt rest
     adds_err (Damaged file place) ran rest ended = adds_cut (Damaged file place) ran tt rest
     adds_err Memory ran rest ended = adds_cut Memory ran tt rest
@@ -119,14 +118,14 @@ module _ {T : Type 0} (disk : T → Disk) (old new : T) (before after : EngineVi
     -- what it answers
     pub answers_done : (n : ℕ) → Ran (Ok n) → None ≡ refused_of p.cap (op ∷ []) None
     answers_done n ran = elim (cases_lt p.cap 1024) [
-      | inl narrow ↦ absurd (cc ((ran.exactly p c holds).0, due.narrow narrow))
+      | inl narrow ↦ absurd (cc ((ran.on_map p c holds).0, due.narrow narrow))
       | inr wide ↦ sym (refused_wide p.cap op [] None wide)
     ]
 
     pub answers_err : (e : ExecErr) → Ran (Err e) → ending_of (Some e) ≡ Done → Some (Exec e) ≡ refused_of p.cap (op ∷ []) None
     answers_err (Refused r) ran is = elim (cases_lt p.cap 1024) [
       | inl narrow ↦
-          ap (λ (q : Refusal). Some (Exec (Refused q))) (same_some r TooLarge (sym (ran.exactly p c holds) ∙ due.narrow narrow))
+          ap (λ (q : Refusal). Some (Exec (Refused q))) (same_some r TooLarge (sym (ran.on_map p c holds) ∙ due.narrow narrow))
           ∙ sym (refused_narrow p.cap op [] None narrow)
       | inr wide ↦ absurd (narrow_refusal r ran wide)
     ]

@@ -10,8 +10,7 @@ use Rattle.btree_ops.specs.Effects.{has}
 use Rattle.btree_ops.specs.Operation.{node_meaning}
 use Rattle.btree_ops.specs.declared.node_op.NodeOp.{NodeOp}
 use Rattle.btree_ops.specs.declared.node_op.NodeOp.TheVariants.{Put}
-use Rattle.op_codec.specs.AllOps.{all_meaning}
-use Rattle.op_codec.specs.declared.all_ops.AllOps.TheVariants.{Node}
+use Rattle.op_codec.specs.AllOps.{all_meaning, node}
 use Rattle.logical_btree.specs.Walk.{Pair, walk, size}
 use Rattle.logical_btree.specs.Plan.{Full, Next, Plan, first_full, free_in, insert_from, insert_next, insert_plan, is_there, next_on, next_with, plan_next, split_with, steps_of}
 use Rattle.logical_btree.specs.Plan.Next.{splits, puts, refuses}
@@ -141,23 +140,23 @@ abbrev pub with_front : List NodeOp → Plan → Plan
 with_front front plan = record { commands = front ++ plan.commands; refusal = plan.refusal }
 
 -- the state after one command more
-state_after_one : (p : Params) (commands : List Command) (op : NodeOp) → state_of p (commands ++ Node op ∷ []) ≡ after (node_meaning (bounds_of p)) (state_of p commands) op
-state_after_one p commands op = fold_more (after (all_meaning (bounds_of p))) _ commands (Node op)
+state_after_one : (p : Params) (commands : List Command) (op : NodeOp) → state_of p (commands ++ node op ∷ []) ≡ after (node_meaning (bounds_of p)) (state_of p commands) op
+state_after_one p commands op = fold_more (after (all_meaning (bounds_of p))) _ commands (node op)
   where
     fold_more : (f : State → Command → State) (s : State) (l : List Command) (x : Command) → fold f s (l ++ x ∷ []) ≡ f (fold f s l) x
     fold_more f s [] x = refl
     fold_more f s (y ∷ l) x = fold_more f (f s y) l x
 
-map-more : (front : List NodeOp) (ops : List NodeOp) → map Node (front ++ ops) ≡ map Node front ++ map Node ops
+map-more : (front : List NodeOp) (ops : List NodeOp) → map node (front ++ ops) ≡ map node front ++ map node ops
 map-more [] ops = refl
-map-more (x ∷ front) ops = ap (λ (l : List Command). Node x ∷ l) (map-more front ops)
+map-more (x ∷ front) ops = ap (λ (l : List Command). node x ∷ l) (map-more front ops)
 
 -- where a front was made, values are wide
 abbrev pub IsWide : ℕ → List NodeOp → Type 0
 IsWide cap front = (front ≡ []) ⊎ (1024 ≤ cap)
 
-made_front : (cap : ℕ) (front : List NodeOp) → IsWide cap front → made_of cap front ≡ map Node front
-made_front cap front (inl none) = ap (made_of cap) none ∙ made_none cap ∙ sym (ap (λ (l : List NodeOp). map Node l) none)
+made_front : (cap : ℕ) (front : List NodeOp) → IsWide cap front → made_of cap front ≡ map node front
+made_front cap front (inl none) = ap (made_of cap) none ∙ made_none cap ∙ sym (ap (λ (l : List NodeOp). map node l) none)
 made_front cap front (inr wide) = made_wide cap front wide
 
 refused_front : (cap : ℕ) (front : List NodeOp) (planned : Option TreeErr) → IsWide cap front → refused_of cap front planned ≡ planned
@@ -171,7 +170,7 @@ module _ (p : Params) (lo hi : ℕ) (key value : List ℕ) (commands : List Comm
 
   -- A front of the plan's commands is made, and so many turns are left.
   pub record IsGoing (front : List NodeOp) (left : ℕ) : Type 0 where
-    pub plan : whole_plan ≡ with_front front (insert_from (bounds_of p) lo hi key value left (state_of p (commands ++ map Node front)))
+    pub plan : whole_plan ≡ with_front front (insert_from (bounds_of p) lo hi key value left (state_of p (commands ++ map node front)))
     pub wide : IsWide p.cap front
 
   pub going_begins : IsGoing [] (suc (size lo hi))
@@ -179,7 +178,7 @@ module _ (p : Params) (lo hi : ℕ) (key value : List ℕ) (commands : List Comm
 
   module _ (front : List NodeOp) (n : ℕ) (going : IsGoing front (suc n)) where
     abbrev pub here : List Command
-    here = commands ++ map Node front
+    here = commands ++ map node front
 
     abbrev pub next : Next
     next = insert_next (bounds_of p) lo hi (state_of p here) key value
@@ -187,10 +186,10 @@ module _ (p : Params) (lo hi : ℕ) (key value : List ℕ) (commands : List Comm
     abbrev on : NodeOp → Plan
     on op = insert_from (bounds_of p) lo hi key value n (after (node_meaning (bounds_of p)) (state_of p here) op)
 
-    more_here : (op : NodeOp) → state_of p (commands ++ map Node (front ++ op ∷ [])) ≡ after (node_meaning (bounds_of p)) (state_of p here) op
+    more_here : (op : NodeOp) → state_of p (commands ++ map node (front ++ op ∷ [])) ≡ after (node_meaning (bounds_of p)) (state_of p here) op
     more_here op =
         ap (λ (l : List Command). state_of p (commands ++ l)) (map-more front (op ∷ []))
-        ∙ ap (λ (l : List Command). state_of p l) (sym (append_assoc commands (map Node front) (Node op ∷ [])))
+        ∙ ap (λ (l : List Command). state_of p l) (sym (append_assoc commands (map node front) (node op ∷ [])))
         ∙ state_after_one p here op
 
     -- a split is made, and the turns go on
@@ -213,7 +212,7 @@ module _ (p : Params) (lo hi : ℕ) (key value : List ℕ) (commands : List Comm
 
     -- the commands of the plan are those of the front, those of the turn, and others
     pub record IsRest (rest : List Command) : Type 0 where
-      pub whole : map Node front ++ (made_of p.cap (turn_plan next).commands ++ rest) ≡ made_of p.cap whole_plan.commands
+      pub whole : map node front ++ (made_of p.cap (turn_plan next).commands ++ rest) ≡ made_of p.cap whole_plan.commands
 
     rest_on : Next → List NodeOp
     rest_on (splits op) = (on op).commands
@@ -233,17 +232,17 @@ module _ (p : Params) (lo hi : ℕ) (key value : List ℕ) (commands : List Comm
         record {
           whole =
               let none : front ≡ [] = elim going.wide [ inl is_none ↦ is_none | inr wide ↦ absurd (omega (arith, narrow, wide)) ] in
-              ap (λ (l : List NodeOp). map Node l ++ (made_of p.cap (turn_plan next).commands ++ [])) none
+              ap (λ (l : List NodeOp). map node l ++ (made_of p.cap (turn_plan next).commands ++ [])) none
               ∙ append-nil (made_of p.cap (turn_plan next).commands) ∙ made_narrow p.cap (turn_plan next).commands narrow ∙ sym (made_narrow p.cap whole_plan.commands narrow);
         },
       )
       | inr wide ↦ (
-        map Node (rest_on next),
+        map node (rest_on next),
         record {
           whole =
-              ap (λ (l : List Command). map Node front ++ (l ++ map Node (rest_on next))) (made_wide p.cap (turn_plan next).commands wide)
-              ∙ ap (λ (l : List Command). map Node front ++ l) (sym (map-more (turn_plan next).commands (rest_on next)))
-              ∙ ap (λ (l : List NodeOp). map Node front ++ map Node l) (sym (split_next next))
+              ap (λ (l : List Command). map node front ++ (l ++ map node (rest_on next))) (made_wide p.cap (turn_plan next).commands wide)
+              ∙ ap (λ (l : List Command). map node front ++ l) (sym (map-more (turn_plan next).commands (rest_on next)))
+              ∙ ap (λ (l : List NodeOp). map node front ++ map node l) (sym (split_next next))
               ∙ sym (map-more front (plan_next on next).commands)
               ∙ sym (made_wide p.cap (front ++ (plan_next on next).commands) wide)
               ∙ ap (λ (q : Plan). made_of p.cap q.commands) (sym going.plan);
@@ -253,38 +252,38 @@ module _ (p : Params) (lo hi : ℕ) (key value : List ℕ) (commands : List Comm
 
     -- where the turn is refused, so is the whole, and nothing more is made
     pub turn_refuses : (e : TreeErr) → Some e ≡ refused_in p.cap (turn_plan next)
-        → (Some e ≡ refused_in p.cap whole_plan) × (map Node front ++ (made_of p.cap (turn_plan next).commands ++ []) ≡ made_of p.cap whole_plan.commands)
+        → (Some e ≡ refused_in p.cap whole_plan) × (map node front ++ (made_of p.cap (turn_plan next).commands ++ []) ≡ made_of p.cap whole_plan.commands)
     turn_refuses e is = by_next next refl
       where
         at_command : (op : NodeOp) → turn_plan next ≡ record { commands = op ∷ []; refusal = None } → (more : List NodeOp) → (plan_next on next).commands ≡ op ∷ more
-            → (Some e ≡ refused_in p.cap whole_plan) × (map Node front ++ (made_of p.cap (turn_plan next).commands ++ []) ≡ made_of p.cap whole_plan.commands)
+            → (Some e ≡ refused_in p.cap whole_plan) × (map node front ++ (made_of p.cap (turn_plan next).commands ++ []) ≡ made_of p.cap whole_plan.commands)
         at_command op turn more plan = elim (cases_lt p.cap 1024) [
           | inl narrow ↦
               let none : front ≡ [] = elim going.wide [ inl is_none ↦ is_none | inr wide ↦ absurd (omega (arith, narrow, wide)) ] in
               let first : whole_plan.commands ≡ op ∷ more = ap (λ (q : Plan). q.commands) going.plan ∙ ap (λ (l : List NodeOp). l ++ (plan_next on next).commands) none ∙ plan in
               let large : Some e ≡ Some (Exec (Refused TooLarge)) = is ∙ ap (refused_in p.cap) turn ∙ refused_narrow p.cap op [] None narrow in (
                 large ∙ sym (ap (λ (l : List NodeOp). refused_of p.cap l (option_map error_of whole_plan.refusal)) first ∙ refused_narrow p.cap op more (option_map error_of whole_plan.refusal) narrow),
-                ap (λ (l : List NodeOp). map Node l ++ (made_of p.cap (turn_plan next).commands ++ [])) none
+                ap (λ (l : List NodeOp). map node l ++ (made_of p.cap (turn_plan next).commands ++ [])) none
                     ∙ append-nil (made_of p.cap (turn_plan next).commands) ∙ made_narrow p.cap (turn_plan next).commands narrow ∙ sym (made_narrow p.cap whole_plan.commands narrow),
               )
           | inr wide ↦ absurd (cc (is ∙ ap (refused_in p.cap) turn ∙ refused_wide p.cap op [] None wide))
         ]
 
-        by_next : (x : Next) → next ≡ x → (Some e ≡ refused_in p.cap whole_plan) × (map Node front ++ (made_of p.cap (turn_plan next).commands ++ []) ≡ made_of p.cap whole_plan.commands)
+        by_next : (x : Next) → next ≡ x → (Some e ≡ refused_in p.cap whole_plan) × (map node front ++ (made_of p.cap (turn_plan next).commands ++ []) ≡ made_of p.cap whole_plan.commands)
         by_next (splits op) same = at_command op (ap turn_plan same) (on op).commands (ap (λ (x : Next). (plan_next on x).commands) same)
         by_next (puts op) same = at_command op (ap turn_plan same) [] (ap (λ (x : Next). (plan_next on x).commands) same)
         by_next (refuses r) same =
             let all = none_made r same in (
               is ∙ ap (λ (x : Next). refused_in p.cap (turn_plan x)) same ∙ sym (ap (refused_in p.cap) all ∙ refused_front p.cap front (Some (error_of r)) going.wide),
-              ap (λ (x : Next). map Node front ++ (made_of p.cap (turn_plan x).commands ++ [])) same
-                  ∙ ap (λ (l : List Command). map Node front ++ (l ++ [])) (made_none p.cap)
-                  ∙ append-nil (map Node front) ∙ sym (ap (λ (q : Plan). made_of p.cap q.commands) all ∙ made_front p.cap front going.wide),
+              ap (λ (x : Next). map node front ++ (made_of p.cap (turn_plan x).commands ++ [])) same
+                  ∙ ap (λ (l : List Command). map node front ++ (l ++ [])) (made_none p.cap)
+                  ∙ append-nil (map node front) ∙ sym (ap (λ (q : Plan). made_of p.cap q.commands) all ∙ made_front p.cap front going.wide),
             )
 
     -- a turn that is done made a command, and values are wide
     pub record IsTurned (op : NodeOp) : Type 0 where
       pub wide : 1024 ≤ p.cap
-      pub made : map Node front ++ (made_of p.cap (turn_plan next).commands ++ []) ≡ map Node (front ++ op ∷ [])
+      pub made : map node front ++ (made_of p.cap (turn_plan next).commands ++ []) ≡ map node (front ++ op ∷ [])
 
     turned_by : (op : NodeOp) → turn_plan next ≡ record { commands = op ∷ []; refusal = None } → None ≡ refused_in p.cap (turn_plan next) → IsTurned op
     turned_by op turn is = elim (cases_lt p.cap 1024) [
@@ -292,8 +291,8 @@ module _ (p : Params) (lo hi : ℕ) (key value : List ℕ) (commands : List Comm
       | inr wide ↦ record {
         wide = wide;
         made =
-            ap (λ (q : Plan). map Node front ++ (made_of p.cap q.commands ++ [])) turn
-            ∙ ap (λ (l : List Command). map Node front ++ (l ++ [])) (made_wide p.cap (op ∷ []) wide)
+            ap (λ (q : Plan). map node front ++ (made_of p.cap q.commands ++ [])) turn
+            ∙ ap (λ (l : List Command). map node front ++ (l ++ [])) (made_wide p.cap (op ∷ []) wide)
             ∙ sym (map-more front (op ∷ []));
       }
     ]
@@ -316,14 +315,14 @@ module _ (p : Params) (lo hi : ℕ) (key value : List ℕ) (commands : List Comm
 
   -- with the put, the plan is made
   pub put_made : (front : List NodeOp) (n : ℕ) (going : IsGoing front (suc n)) (op : NodeOp) → whole_plan ≡ record { commands = front ++ op ∷ []; refusal = None } → 1024 ≤ p.cap
-      → (map Node (front ++ op ∷ []) ≡ made_of p.cap whole_plan.commands) × (None ≡ refused_in p.cap whole_plan)
+      → (map node (front ++ op ∷ []) ≡ made_of p.cap whole_plan.commands) × (None ≡ refused_in p.cap whole_plan)
   put_made front n going op all wide = (
     sym (ap (λ (q : Plan). made_of p.cap q.commands) all ∙ made_front p.cap (front ++ op ∷ []) (inr wide)),
     sym (ap (refused_in p.cap) all ∙ refused_front p.cap (front ++ op ∷ []) None (inr wide)),
   )
 
   -- without turns left, too
-  pub out_of_turns : (front : List NodeOp) → IsGoing front 0 → (map Node front ≡ made_of p.cap whole_plan.commands) × (None ≡ refused_in p.cap whole_plan)
+  pub out_of_turns : (front : List NodeOp) → IsGoing front 0 → (map node front ≡ made_of p.cap whole_plan.commands) × (None ≡ refused_in p.cap whole_plan)
   out_of_turns front going =
       let all : whole_plan ≡ record { commands = front; refusal = None } = going.plan ∙ (λ i. record { commands = append-nil front i; refusal = None }) in (
         sym (ap (λ (q : Plan). made_of p.cap q.commands) all ∙ made_front p.cap front going.wide),

@@ -2,7 +2,7 @@
 use Rattle.std.specs.Prelude.{ℕ, nat_le, Option, None, Some, Result, Ok, Err, List, [], ◌∷◌, map, if◌then◌else◌, option_map}
 use Rattle.oper_core.specs.declared.refusal.Refusal.TheVariants.{TooLarge}
 use Rattle.btree_ops.specs.declared.node_op.NodeOp.{NodeOp}
-use Rattle.op_codec.specs.declared.all_ops.AllOps.TheVariants.{Node}
+use Rattle.op_codec.specs.AllOps.{node}
 use Rattle.logical_btree.specs.Plan.{Plan}
 use Rattle.logical_btree.specs.declared.refusal.TreeRefusal.{TreeRefusal}
 use Rattle.logical_btree.specs.declared.refusal.TreeRefusal.TheVariants as refusals
@@ -39,7 +39,7 @@ cause_in (Err error) = cause_of error
 
 -- Of the commands of a plan a call makes all, or none where a value may hold fewer than 1,024 bytes.
 abbrev pub made_of : ℕ → List NodeOp → List Command
-made_of cap ops = if nat_le 1024 cap then map Node ops else []
+made_of cap ops = if nat_le 1024 cap then map node ops else []
 
 -- Then the first of them is refused, if there is one; else the plan says why the call is refused, if it is.
 abbrev pub refused_of : ℕ → List NodeOp → Option TreeErr → Option TreeErr

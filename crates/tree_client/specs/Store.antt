@@ -4,8 +4,7 @@ use Rattle.oper_core.specs.State.{State}
 use Rattle.oper_core.specs.Meaning.{Meaning}
 use Rattle.disk_model.specs.Disk.{Disk}
 use Rattle.formats.specs.declared.params.Params.{Params}
-use Rattle.op_codec.specs.declared.all_ops.AllOps.{AllOps}
-use Rattle.op_codec.specs.AllOps.{all_meaning}
+use Rattle.op_codec.specs.AllOps.{AllOps, all_meaning}
 use Rattle.explain_core.specs.World.{World}
 use Rattle.store_engine.specs.Store as of_store
 use Rattle.store_engine.specs.Engine as of_engine

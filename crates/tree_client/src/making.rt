@@ -2,10 +2,11 @@
 ghost use Rattle.std.specs.Prelude.{◌≡◌, [], ◌∷◌, None, false};
 ghost use Rattle.std.specs.Result.{result_err};
 ghost use Rattle.formats.specs.declared.params.Params.{Params};
-ghost use Rattle.op_codec.specs.AllOps.{all_meaning};
+ghost use Rattle.op_codec.specs.AllOps.{all_meaning, node};
 ghost use Rattle.explain_core.specs.World.{World};
 ghost use Rattle.explain_core.specs.History.{commands_of};
 ghost use Rattle.running_store.specs.Taking.Ending.{Done};
+ghost use Rattle.store_engine.specs.Commands.{HasRun};
 ghost use Rattle.store_engine.specs.Lists.{AreCalls, ending_of};
 ghost use Rattle.tree_client.specs.Answers.{cause_in, made_of, refused_of};
 ghost use Rattle.tree_client.specs.Due.{IsDue};
@@ -15,8 +16,21 @@ ghost use Rattle.tree_client.specs.Store.{Command, ShowsIn, state_of};
 use crate::tree_err::TreeErr;
 use btree_ops::NodeOp;
 use disk_model::Machine;
-use op_codec::AllOps;
-use store_engine::{Engine, exec_goes_on, nothing_is_made};
+use op_codec::{AllOps, node_op};
+use store_engine::{Engine, ExecErr, exec_goes_on, nothing_is_made};
+
+/// Runs a command on nodes. It answers as `Engine::exec` does.
+fn run_node<M: Machine>(
+    engine: &mut Engine<AllOps>,
+    machine: &mut M,
+    op: NodeOp,
+) -> Result<u64, ExecErr>
+    requires unbroken { engine.old.broken ≡ false }
+    ensures run { HasRun all_meaning (M.disk machine.old) (M.disk machine.new) engine.old engine.new (node op) result }
+    ensures calls { AreCalls all_meaning (M.disk machine.old) (M.disk machine.new) engine.old engine.new (result_err result) }
+{
+    engine.exec(machine, node_op(op))
+}
 
 /// Runs a command that is due: it is accepted, or refused as too large where a value may hold fewer than 1,024 bytes.
 pub(crate) fn make<M: Machine>(
@@ -33,7 +47,7 @@ pub(crate) fn make<M: Machine>(
 {
     nothing_is_made(machine, engine);
     exec_goes_on::<AllOps, M>();
-    match engine.exec(machine, AllOps::Node(op)) {
+    match run_node(engine, machine, op) {
         Ok(_) => Ok(()),
         Err(cause) => Err(TreeErr::Exec(cause)),
     }

@@ -27,14 +27,14 @@ fn see<M: Machine>(engine: &mut Engine<AllOps>, machine: &mut M, object: u32) ->
         OnErr result (ending_of (cause_in result) ≡ Done → ⊥) }
     ensures cached { OnOk result (IsCached engine.new object) }
     ensures value { (p : Params) (commands : List Command) → Holds p (M.disk machine.old) engine.old commands →
-        OnOk result ((file : List ℕ) → values_in engine.new.parts.store.objects file object ≡ state_of p commands object) }
+        OnOk result ((file : List ℕ) → values_in engine.new.parts.volatile.objects file object ≡ state_of p commands object) }
 {
     nothing_is_made(machine, engine);
     fetch_goes_on::<AllOps, M>();
-    match engine.fetch(machine, object) {
-        Ok(()) => Ok(()),
-        Err(cause) => Err(TreeErr::Exec(cause)),
+    if engine.fetch(machine, object)? {
+        return Ok(());
     }
+    Err(TreeErr::NoObject)
 }
 
 /// The node of an object of the range. It is refused as `BadTree` where the object is bad.

@@ -1,6 +1,8 @@
 ghost use Rattle.std.specs.Prelude.{◌≡◌};
+ghost use Rattle.execution.specs.Failures.{exec_from_read};
 ghost use Rattle.tree_client.specs.declared.tree_err.TreeErr.TheVariants.{Exec, Memory as OutOfMemory};
 
+use formats::ReadErr;
 use std::alloc::{AllocError, AllocFailed};
 use store_engine::ExecErr;
 use thiserror::Error;
@@ -34,6 +36,14 @@ impl From<ExecErr> for TreeErr {
 
     fn from(cause: ExecErr) -> Self {
         TreeErr::Exec(cause)
+    }
+}
+
+impl From<ReadErr> for TreeErr {
+    ghost from_gives = { λ cause e. e ≡ Exec (exec_from_read cause) };
+
+    fn from(cause: ReadErr) -> Self {
+        TreeErr::Exec(cause.into())
     }
 }
 

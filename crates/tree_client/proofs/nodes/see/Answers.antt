@@ -1,16 +1,31 @@
 use Rattle.std.proofs.Common.{None, Some}
-use Rattle.tree_client.proofs.JoinLemmas.{fetch_reads, fetch_refuses}
+use Rattle.execution.specs.Failures.{exec_from_read}
+use Rattle.tree_client.specs.declared.tree_err.TreeErr.TheVariants.{Exec}
+use Rattle.tree_client.proofs.JoinLemmas.{fetch_fails, fetch_reads}
+use Rattle.tree_client.proofs.ReadLemmas.{makes_err, passed}
 use Rattle.tree_client.proofs.nodes.see.Goals as goal
 
-pub returns-in-Ok-clause-reads : goal.returns-in-Ok-clause-reads
-returns-in-Ok-clause-reads g c =
-    fetch_reads g.M.Machine.disk c.args.machine.now c.fetch.new.machine c.args.engine.now c.fetch.new.self c.fetch_goes_on.ensures.done c.fetch_goes_on.ensures.failed
-    c.nothing_is_made.ensures.front c.args.object None c.in-Ok.ensures.calls c.in-Ok.ensures.fetched
+pub returns-in_err-fetch-clause-reads : goal.returns-in_err-fetch-clause-reads
+returns-in_err-fetch-clause-reads g c =
+    let cause = c.in_err-fetch.field-0.0 in
+    makes_err c.from_residual.result (Exec (exec_from_read cause)) (passed c.from_residual.result (Exec (exec_from_read cause)) c.from_residual.ensures.1)
+    (fetch_reads g.M.Machine.disk c.args.machine.now c.fetch.new.machine c.args.engine.now c.fetch.new.self c.fetch_goes_on.ensures.done c.fetch_goes_on.ensures.failed
+    c.nothing_is_made.ensures.front c.args.object (Some cause) c.in_err-fetch.ensures.calls c.in_err-fetch.ensures.fetched)
 
-pub returns-in-Err-clause-reads : goal.returns-in-Err-clause-reads
-returns-in-Err-clause-reads g c =
-    fetch_reads g.M.Machine.disk c.args.machine.now c.fetch.new.machine c.args.engine.now c.fetch.new.self c.fetch_goes_on.ensures.done c.fetch_goes_on.ensures.failed
-    c.nothing_is_made.ensures.front c.args.object (Some c.in-Err.cause) c.in-Err.ensures.calls c.in-Err.ensures.fetched
+pub returns-in_err-fetch-clause-refused : goal.returns-in_err-fetch-clause-refused
+returns-in_err-fetch-clause-refused g c = λ p commands holds below.
+    let cause = c.in_err-fetch.field-0.0 in
+    fetch_fails c.from_residual.result cause (passed c.from_residual.result (Exec (exec_from_read cause)) c.from_residual.ensures.1)
 
-pub returns-in-Err-clause-refused : goal.returns-in-Err-clause-refused
-returns-in-Err-clause-refused g c = λ p commands holds below. fetch_refuses c.args.object c.in-Err.cause holds below c.in-Err.ensures.fetched
+pub returns-then-branch-clause-reads : goal.returns-then-branch-clause-reads
+returns-then-branch-clause-reads g c =
+    fetch_reads g.M.Machine.disk c.args.machine.now c.fetch.new.machine c.args.engine.now c.fetch.new.self c.fetch_goes_on.ensures.done c.fetch_goes_on.ensures.failed
+    c.nothing_is_made.ensures.front c.args.object None c.in_ok-fetch.ensures.calls c.in_ok-fetch.ensures.fetched
+
+pub returns-then-branch-clause-value : goal.returns-then-branch-clause-value
+returns-then-branch-clause-value g c = λ p commands holds. c.in_ok-fetch.ensures.value p commands holds c.if-branch.true
+
+pub returns-clause-reads : goal.returns-clause-reads
+returns-clause-reads g c =
+    fetch_reads g.M.Machine.disk c.args.machine.now c.fetch.new.machine c.args.engine.now c.fetch.new.self c.fetch_goes_on.ensures.done c.fetch_goes_on.ensures.failed
+    c.nothing_is_made.ensures.front c.args.object None c.in_ok-fetch.ensures.calls c.in_ok-fetch.ensures.fetched

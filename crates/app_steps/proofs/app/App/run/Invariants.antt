@@ -1,8 +1,7 @@
 use Rattle.std.proofs.Common.{◌≡◌, List, false}
 use Rattle.std.specs.Prelude.{None}
 use Rattle.formats.specs.declared.params.Params.{Params}
-use Rattle.op_codec.specs.AllOps.{all_meaning}
-use Rattle.op_codec.specs.declared.all_ops.AllOps.{AllOps}
+use Rattle.op_codec.specs.AllOps.{AllOps, all_meaning}
 use Rattle.store_engine.specs.Engine.{Holds}
 use Rattle.store_engine.specs.Lists.{AreCalls}
 use Rattle.app_steps.proofs.Ending.{IsMade}
