@@ -37,7 +37,7 @@ IsAllowed (Init params) = IsInRange params
 IsAllowed (Demo seed steps) = (seed < 2 ^ 64) × (steps ≤ 1000000)
 
 -- the subcommand that was named asks this
-pub record IsAsked (named : Option (Text × List Row)) (asked : Asked) : Type 0 where
+pub record NamesForm (named : Option (Text × List Row)) (asked : Asked) : Type 0 where
   pub name : Text
   pub rows : List Row
   pub is : named ≡ Some (name, rows)
@@ -47,4 +47,4 @@ pub record IsAsked (named : Option (Text × List Row)) (asked : Asked) : Type 0 
 -- The words, the program's name first, ask this: clap finds no fault in them, and the subcommand that they name asks it.
 pub record Asks (words : List Text) (asked : Asked) : Type 0 where
   pub faultless : fault_of redo words ≡ []
-  pub named : IsAsked (subcommand_of redo words) asked
+  pub named : NamesForm (subcommand_of redo words) asked

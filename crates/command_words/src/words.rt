@@ -4,7 +4,7 @@ ghost use Rattle.clap.specs.Words.{found_of, kind_of, rows_of, subcommand_rows_o
 ghost use Rattle.command_words.specs.declared.asked.Asked.{Asked};
 ghost use Rattle.formats.specs.declared.params.Params.{Params};
 ghost use Rattle.formats.specs.Objects.{IsInRange};
-ghost use Rattle.command_words.specs.Words.{Asks, Gives, GivesParams, GivesDemo, IsAsked};
+ghost use Rattle.command_words.specs.Words.{Asks, Gives, GivesParams, GivesDemo, NamesForm};
 ghost use Rattle.command_words.specs.Refusals.{IsRefusal};
 
 use crate::asked::Asked;
@@ -74,8 +74,8 @@ fn demo(values: &ArgMatches<'_>) -> Option<(u64, u32)>
 /// What the subcommand asks that was named. `None` exactly where it asks nothing: where its numbers are not those of a
 /// store.
 fn asked(matches: &ArgMatches<'_>) -> Option<Asked>
-    ensures some { IfSome result (IsAsked (subcommand_rows_of matches.now)) }
-    ensures none { IfNone result ((asked : Asked) → IsAsked (subcommand_rows_of matches.now) asked → ⊥) }
+    ensures some { IfSome result (NamesForm (subcommand_rows_of matches.now)) }
+    ensures none { IfNone result ((asked : Asked) → NamesForm (subcommand_rows_of matches.now) asked → ⊥) }
 {
     let (name, values) = matches.subcommand()?;
     match name {

@@ -1,9 +1,10 @@
 -- The entries of the commands that the lines of a script ask for, all of them taken as accepted.
 use Rattle.std.specs.Prelude.{◌≡◌, ⊤, ℕ, ◌+◌, false, List, [], ◌∷◌, ◌++◌, length, Option, Some, None}
 use Rattle.install_order.specs.declared.entry.Entry.{Entry}
-use Rattle.op_meaning.specs.Rows.{Row}
-use Rattle.op_meaning.specs.Table.{copy_row, append_row, cut_row, sort_row, swap_row, exec_row, app_read_row, app_write_row}
-use Rattle.script_lines.specs.Grammar.{put, copy, append, cut, sort, swap, exec, arun, aread, awrite, tinsert, tdelete, Request, AsksFor, IsBad, lines_of}
+use Rattle.op_meaning.specs.Table.{plain_row}
+use Rattle.op_meaning.specs.declared.plain_op.PlainOp.{PlainOp}
+use Rattle.script_lines.specs.Grammar.{Request, AsksFor, IsBad, lines_of}
+use Rattle.script_lines.specs.declared.line.Line.TheVariants.{Run, AppRun, TreeInsert, TreeDelete, TreeGet, TreeRange, Get, Force, Install, Drain, Checkpoint, Trim, Begin, End, Stat, Skip}
 use Rattle.graph_view.specs.declared.accesses.Accesses.{Accesses}
 use Rattle.graph_view.specs.declared.asked.Asked.{Asked}
 use Rattle.graph_view.specs.declared.asked.Asked.TheVariants.{Command, Nothing, Several, Bad}
@@ -11,26 +12,29 @@ use Rattle.graph_view.specs.declared.draw_error.DrawError.{DrawError}
 use Rattle.graph_view.specs.declared.draw_error.DrawError.TheVariants as errors
 use Rattle.graph_view.specs.Dot.{IsGraph}
 
--- a command that is this operation of the table
-abbrev pub by_row : {O : Type 0} → Row O → O → Asked
-by_row row op = Command (record { reads = row.reads op; writes = row.writes op })
+-- a command that is this operation
+abbrev pub by_row : PlainOp → Asked
+by_row op = Command (record { reads = (plain_row op).names.reads; writes = (plain_row op).names.writes })
 
--- what a request is to the write graph: a put reads nothing, and writes its object; how many commands a run of an
--- application or a change of a tree makes depends on the values; all others but the operations make none
+-- what a request is to the write graph: how many commands a run of an application or a change of a tree makes depends on the
+-- values; all others but the operations make none
 abbrev pub asked_by : Request → Asked
-asked_by (put x bytes) = Command (record { reads = []; writes = x ∷ [] })
-asked_by (copy x y) = by_row copy_row (record { from = x; to = y })
-asked_by (append x y) = by_row append_row (record { from = x; to = y })
-asked_by (cut x y place) = by_row cut_row (record { from = x; to = y; place = place })
-asked_by (sort x y width) = by_row sort_row (record { from = x; to = y; width = width })
-asked_by (swap x y) = by_row swap_row (record { first = x; second = y })
-asked_by (exec app) = by_row exec_row (record { app = app })
-asked_by (aread app x) = by_row app_read_row (record { app = app; from = x })
-asked_by (awrite app x) = by_row app_write_row (record { app = app; to = x })
-asked_by (arun app steps) = Several
-asked_by (tinsert low high key value) = Several
-asked_by (tdelete low high key) = Several
-asked_by request = Nothing
+asked_by (Run op) = by_row op
+asked_by (AppRun app steps) = Several
+asked_by (TreeInsert low high key value) = Several
+asked_by (TreeDelete low high key) = Several
+asked_by (TreeGet low high key) = Nothing
+asked_by (TreeRange low high from to) = Nothing
+asked_by (Get x) = Nothing
+asked_by Force = Nothing
+asked_by Install = Nothing
+asked_by Drain = Nothing
+asked_by Checkpoint = Nothing
+asked_by Trim = Nothing
+asked_by Begin = Nothing
+asked_by End = Nothing
+asked_by Stat = Nothing
+asked_by Skip = Nothing
 
 -- what a line is to the write graph
 abbrev pub IsAsked : List ℕ → Asked → Type 0

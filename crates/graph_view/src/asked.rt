@@ -1,11 +1,11 @@
-ghost use Rattle.std.specs.Prelude.{List, ℕ};
-ghost use Rattle.script_lines.specs.Grammar.{IsParsed};
+ghost use Rattle.std.specs.Prelude.{List, ℕ, IfOk};
+ghost use Rattle.script_lines.specs.Grammar.{AsksFor};
 ghost use Rattle.graph_view.specs.Lines.{IsAsked};
 
 use crate::accesses::Accesses;
-use op_meaning::{AppRead, AppWrite, Append, Copy, Cut, Exec, Sort, Swap};
-use oper_core::Objs;
-use script_lines::{Line, parse_line};
+use oper_core::Memory;
+use script_lines::{Line, LineErr, parse_line};
+use std::alloc::Global;
 
 /// What a line of a script is to the write graph.
 #[derive(Drop)]
@@ -20,36 +20,39 @@ pub enum Asked {
     Bad,
 }
 
-/// What a line is to the write graph.
-pub fn asked_in(line: &[u8]) -> Asked
-    ensures { IsAsked line.now result }
-{
-    match parse_line(line) {
-        Ok(asked) => asked_by(asked),
-        Err(_) => Asked::Bad,
+impl Asked {
+    /// What a line is to the write graph. Out of memory is the only error.
+    pub fn of_line(alloc: Global, line: &[u8]) -> Result<Self, Memory>
+        ensures { IfOk result (IsAsked line.now) }
+    {
+        match parse_line(alloc, line) {
+            Ok(asked) => Ok(Asked::of(asked)),
+            Err(LineErr::Bad) => Ok(Asked::Bad),
+            Err(LineErr::Memory) => Err(Memory),
+        }
     }
-}
 
-/// The same of a line that was taken apart.
-fn asked_by(line: Line<'_>) -> Asked
-    ensures { (bytes : List ℕ) → IsParsed bytes line.entry → IsAsked bytes result }
-{
-    match line {
-        Line::Put { object, .. } => Asked::Command(Accesses {
-            reads: Objs::new(),
-            writes: Objs::one(object),
-        }),
-        Line::Copy { from, to } => Asked::Command(Accesses::of(Copy { from, to })),
-        Line::Append { from, to } => Asked::Command(Accesses::of(Append { from, to })),
-        Line::Cut { from, to, place } => Asked::Command(Accesses::of(Cut { from, to, place })),
-        Line::Sort { from, to, width } => Asked::Command(Accesses::of(Sort { from, to, width })),
-        Line::Swap { first, second } => Asked::Command(Accesses::of(Swap { first, second })),
-        Line::Exec { app } => Asked::Command(Accesses::of(Exec { app })),
-        Line::AppRead { app, from } => Asked::Command(Accesses::of(AppRead { app, from })),
-        Line::AppWrite { app, to } => Asked::Command(Accesses::of(AppWrite { app, to })),
-        Line::AppRun { .. } => Asked::Several,
-        // (A key is named so that the prover is told its type.)
-        Line::TreeInsert { key: _key, .. } | Line::TreeDelete { key: _key, .. } => Asked::Several,
-        _ => Asked::Nothing,
+    /// The same of a line that was taken apart.
+    fn of(line: Line) -> Self
+        ensures { (bytes : List ℕ) → AsksFor bytes line → IsAsked bytes result }
+    {
+        match line {
+            Line::Run(op) => Asked::Command(Accesses::of(op)),
+            Line::AppRun { .. } | Line::TreeInsert { .. } | Line::TreeDelete { .. } => {
+                Asked::Several
+            }
+            Line::TreeGet { .. }
+            | Line::TreeRange { .. }
+            | Line::Get { .. }
+            | Line::Force
+            | Line::Install
+            | Line::Drain
+            | Line::Checkpoint
+            | Line::Trim
+            | Line::Begin
+            | Line::End
+            | Line::Stat
+            | Line::Skip => Asked::Nothing,
+        }
     }
 }

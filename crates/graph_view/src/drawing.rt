@@ -4,7 +4,7 @@ ghost use Rattle.install_order.specs.declared.entry.Entry.{Entry};
 ghost use Rattle.graph_view.specs.Dot.{IsGraph};
 ghost use Rattle.graph_view.specs.Lines.{AreEntries, IsAdded, IsNextAsked, IsRefused, IsCause, IsGraphOf};
 
-use crate::asked::{Asked, asked_in};
+use crate::asked::Asked;
 use crate::commands::Commands;
 use crate::draw_error::DrawError;
 use disk_model::Source;
@@ -12,12 +12,16 @@ use script_lines::{LineReader, Next, ReadError};
 use std::alloc::Global;
 
 /// What the next line is to the write graph; none where no line is left.
-fn next_asked<S: Source>(lines: &mut LineReader, input: &mut S) -> Result<Option<Asked>, ReadError>
+fn next_asked<S: Source>(
+    alloc: Global,
+    lines: &mut LineReader,
+    input: &mut S,
+) -> Result<Option<Asked>, ReadError>
     ensures told { S.tells input.old → S.tells input.new }
     ensures next { S.tells input.old → IfOk result (λ asked. IsNextAsked asked (lines.old.ahead ++ S.left input.old) (lines.new.ahead ++ S.left input.new)) }
 {
     match lines.next(input)? {
-        Next::Line => Ok(Some(asked_in(lines.line()))),
+        Next::Line => Ok(Some(Asked::of_line(alloc, lines.line())?)),
         Next::Long => Ok(Some(Asked::Bad)),
         Next::End => Ok(None),
     }
@@ -39,6 +43,7 @@ fn add_asked(commands: &mut Commands, asked: Asked, line: u64) -> Result<(), Dra
 
 /// Adds the commands of all lines that are left.
 fn read_lines<S: Source>(
+    alloc: Global,
     lines: &mut LineReader,
     input: &mut S,
     commands: &mut Commands,
@@ -49,7 +54,7 @@ fn read_lines<S: Source>(
     ensures cause { S.tells input.old → IfErr result (IsCause (lines_of (S.left input.old))) }
 {
     for line in 1..u64::MAX {
-        match next_asked(lines, input)? {
+        match next_asked(alloc, lines, input)? {
             Some(asked) => add_asked(commands, asked, line)?,
             None => return Ok(()),
         }
@@ -68,7 +73,7 @@ fn read_script<S: Source>(
     ensures cause { S.tells input.old → IfErr result (IsCause (lines_of (S.left input.old))) }
 {
     let mut lines = LineReader::new(alloc)?;
-    read_lines(&mut lines, input, commands)
+    read_lines(alloc, &mut lines, input, commands)
 }
 
 /// The write graph of the commands of a script, in the DOT language. All commands are taken as accepted, and none as

@@ -1,9 +1,11 @@
+pub mod DemoShort
 pub mod FieldLemmas
-pub mod FormLemmas
 pub mod HexLemmas
+pub mod Left
 pub mod LineLemmas
 pub mod NumberLemmas
 pub mod OneLemmas
 pub mod PlaceLemmas
+pub mod ReadLemmas
 pub mod ReplyLemmas
 pub mod ShortLemmas

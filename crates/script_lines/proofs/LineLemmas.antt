@@ -5,7 +5,7 @@ use Rattle.std.proofs.lemmas.Bool.{cases_lt}
 use Rattle.std.proofs.lemmas.List.{append-nil, take_all}
 use Rattle.script_lines.specs.Grammar.{lines_of, before_first}
 use Rattle.script_lines.specs.Reader.{Reader, unread}
-use Rattle.script_lines.specs.Reading.{IsNext, Takes, IsPlain, TakesRun, still_to_give}
+use Rattle.script_lines.specs.Reading.{IsNext, ReadsOn, IsPlain, TakesRun, still_to_give}
 use Rattle.script_lines.proofs.PlaceLemmas.{split_at, plain_front, plain_all}
 use Rattle.script_lines.specs.declared.next.Next.{Next}
 use Rattle.script_lines.specs.declared.next.Next.TheVariants.{Line, Long, End}
@@ -33,10 +33,7 @@ pub record Taken (old now stored : List ℕ) : Type 0 where
   pub plain : IsPlain bytes
   pub kept : stored ≡ take 40001 bytes
 
-pub none_taken : (old : List ℕ) → Taken old old []
-none_taken old = record { bytes = []; front = refl; plain = tt; kept = refl }
-
-pub takes_on : {a b c : List ℕ} {x y z : ℕ} → Takes a b x y → Takes b c y z → Takes a c x z
+pub takes_on : {a b c : List ℕ} {x y z : ℕ} → ReadsOn a b x y → ReadsOn b c y z → ReadsOn a c x z
 takes_on p q = record {
   bytes = p.bytes ++ q.bytes;
   front = p.front ∙ ap (λ l. p.bytes ++ l) q.front ∙ sym (append_assoc p.bytes q.bytes _);

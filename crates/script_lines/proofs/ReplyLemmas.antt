@@ -8,10 +8,10 @@ use Rattle.std.specs.Fmt.{decimal}
 use Rattle.std.specs.Str.{bytes_eq, all_ascii_digits}
 use Rattle.std.specs.Char.{is_ascii_digit}
 use Rattle.oper_core.specs.declared.refusal.Refusal.{Refusal}
-use Rattle.oper_core.specs.declared.refusal.Refusal.TheVariants.{NoObject, Same, BadPlace, BadWidth, NotApp, NoInput, NotNode, NoKey, NodeFull, TooLarge}
+use Rattle.oper_core.specs.declared.refusal.Refusal.TheVariants.{NoObject, Same, BadPlace, BadWidth, NotApp, NotCode, Halted, NoInput, NotNode, NoKey, NodeFull, TooLarge}
 use Rattle.script_lines.specs.Replies.{Reply, ok, value, forced, bad, refused, full, end, object_value, command_count, stat, ran, pairs, bad_tree, tree_full, in_group, no_group, summary, silence, Pair, pair_text, spaced_pair, pairs_reply, spaced, numbers_of, AreSmall, HasSmallNumbers, hex_glyph, hex_pair, hex_text, name_of, text_of, reply_of, said_line}
 use Rattle.script_lines.specs.declared.answer.Answer.{Answer}
-use Rattle.script_lines.specs.declared.answer.Counts.{Counts}
+use Rattle.script_lines.specs.declared.answer.StatLine.{StatLine}
 use Rattle.script_lines.specs.declared.answer.Totals.{Totals}
 use Rattle.script_lines.specs.declared.answer.Answer.TheVariants.{Done, Value, Forced, Bad, Refused, Full, End, Object, Commands, Stat, Ran, Pairs, BadTree, TreeFull, InGroup, NoGroup, Summary}
 use Rattle.script_lines.proofs.NumberLemmas.{own}
@@ -246,7 +246,7 @@ spaced_one (a ∷ c ∷ m) (b ∷ d ∷ n) p q like same =
     cc (both.0, others)
 
 -- the counts that have these numbers
-abbrev counts_with : List ℕ → Counts
+abbrev counts_with : List ℕ → StatLine
 counts_with numbers = record {
   nodes = get_or numbers 0 0;
   dirty = get_or numbers 1 0;
@@ -257,7 +257,7 @@ counts_with numbers = record {
   identities = get_or numbers 6 0;
 }
 
-counts_one : (a b : Counts) → numbers_of a ≡ numbers_of b → a ≡ b
+counts_one : (a b : StatLine) → numbers_of a ≡ numbers_of b → a ≡ b
 counts_one a b same = ap counts_with same
 
 -- the refusal of a name
@@ -268,6 +268,8 @@ refusal_of name =
     else if bytes_eq name (codes "BadPlace") then BadPlace
     else if bytes_eq name (codes "BadWidth") then BadWidth
     else if bytes_eq name (codes "NotApp") then NotApp
+    else if bytes_eq name (codes "NotCode") then NotCode
+    else if bytes_eq name (codes "Halted") then Halted
     else if bytes_eq name (codes "NoInput") then NoInput
     else if bytes_eq name (codes "NotNode") then NotNode
     else if bytes_eq name (codes "NoKey") then NoKey
@@ -280,6 +282,8 @@ named Same = refl
 named BadPlace = refl
 named BadWidth = refl
 named NotApp = refl
+named NotCode = refl
+named Halted = refl
 named NoInput = refl
 named NotNode = refl
 named NoKey = refl
@@ -299,6 +303,8 @@ other_name Same = refl
 other_name BadPlace = refl
 other_name BadWidth = refl
 other_name NotApp = refl
+other_name NotCode = refl
+other_name Halted = refl
 other_name NoInput = refl
 other_name NotNode = refl
 other_name NoKey = refl
@@ -323,6 +329,8 @@ no_colon_name Same = refl
 no_colon_name BadPlace = refl
 no_colon_name BadWidth = refl
 no_colon_name NotApp = refl
+no_colon_name NotCode = refl
+no_colon_name Halted = refl
 no_colon_name NoInput = refl
 no_colon_name NotNode = refl
 no_colon_name NoKey = refl

@@ -1,9 +1,11 @@
 -- The lines of a script, and what each may ask.
-use Rattle.std.specs.Prelude.{◌≡◌, ⊤, ℕ, ◌+◌, ◌*◌, ◌-◌, ◌^◌, ◌<◌, ◌≤◌, ◌⊎◌, ◌++◌, List, [], ◌∷◌, Option, Some, None, codes, if◌then◌else◌, ◌==◌, nat_le, nat_lt, length, IsTrue}
+use Rattle.std.specs.Prelude.{◌≡◌, ℕ, ◌+◌, ◌*◌, ◌-◌, ◌^◌, ◌<◌, ◌≤◌, ◌⊎◌, ◌++◌, List, [], ◌∷◌, Option, Some, None, codes, if◌then◌else◌, ◌==◌, nat_le, nat_lt, length, IsTrue}
 use Rattle.std.specs.Fmt.{decimal}
+use Rattle.std.specs.Str.{bytes_eq}
 use Rattle.btree_ops.specs.Short.{is_short}
+use Rattle.op_meaning.specs.declared.plain_op.PlainOp.TheVariants.{Put, Copy, Append, Cut, Sort, Swap, Exec, AppRead, AppWrite}
 use Rattle.script_lines.specs.declared.line.Line.{Line}
-use Rattle.script_lines.specs.declared.line.Line.TheVariants.{Put, Copy, Append, Cut, Sort, Swap, Exec, AppRun, AppRead, AppWrite, TreeInsert, TreeGet, TreeDelete, TreeRange, Get, Force, Install, Drain, Checkpoint, Trim, Begin, End, Stat, Skip}
+use Rattle.script_lines.specs.declared.line.Line.TheVariants.{Run, AppRun, TreeInsert, TreeGet, TreeDelete, TreeRange, Get, Force, Install, Drain, Checkpoint, Trim, Begin, End, Stat, Skip}
 
 -- one byte more in front of the first text
 abbrev pub before_first : ℕ → List (List ℕ) → List (List ℕ)
@@ -47,168 +49,138 @@ hex_digit c =
     else if nat_le c 102 then Some (c - 87)
     else None
 
+-- the byte of two digits' values
+abbrev pub hex_byte : Option ℕ → Option ℕ → Option ℕ
+hex_byte (Some high) (Some low) = Some (16 * high + low)
+hex_byte high low = None
+
 -- two digits for each byte
 pub data IsHexOf : List ℕ → List ℕ → Type 0 where
   none : IsHexOf [] []
-  byte : {high low a b : ℕ} {text bytes : List ℕ} → hex_digit high ≡ Some a → hex_digit low ≡ Some b → IsHexOf text bytes
-      → IsHexOf (high ∷ low ∷ text) ((16 * a + b) ∷ bytes)
+  byte : {high low b : ℕ} {text bytes : List ℕ} → hex_byte (hex_digit high) (hex_digit low) ≡ Some b → IsHexOf text bytes → IsHexOf (high ∷ low ∷ text) (b ∷ bytes)
 
 -- `-` for no bytes, or two digits for each of some
 abbrev pub IsHex : List ℕ → List ℕ → Type 0
 IsHex text bytes = ((text ≡ codes "-") × (bytes ≡ [])) ⊎ ((0 < length text) × IsHexOf text bytes)
 
--- what a line may ask
-pub data Request : Type 0 where
-  -- the object gets these bytes
-  put : ℕ → List ℕ → Request
-  -- the first object's value goes to the second
-  copy : ℕ → ℕ → Request
-  -- the first object's value is added to the second's
-  append : ℕ → ℕ → Request
-  -- the first object keeps so many bytes, the third number, and the second gets its others
-  cut : ℕ → ℕ → ℕ → Request
-  -- the second object gets the first's records in order, each of so many bytes, the third number
-  sort : ℕ → ℕ → ℕ → Request
-  -- the two objects' values are exchanged
-  swap : ℕ → ℕ → Request
-  -- the application takes one step
-  exec : ℕ → Request
-  -- the application takes so many steps, the second number, or as many as its input has
-  arun : ℕ → ℕ → Request
-  -- the object's value, the second number, is added to the application's input
-  aread : ℕ → ℕ → Request
-  -- the object, the second number, gets the application's output
-  awrite : ℕ → ℕ → Request
-  -- the key gets this value, in the tree of the objects from the first number to the second
-  tinsert : ℕ → ℕ → List ℕ → List ℕ → Request
-  -- the value of the key is reported
-  tget : ℕ → ℕ → List ℕ → Request
-  -- the key leaves the tree, with its value
-  tdelete : ℕ → ℕ → List ℕ → Request
-  -- the keys from the first up to the second, which is left out, are reported, with their values
-  trange : ℕ → ℕ → List ℕ → List ℕ → Request
-  -- the value of the object is reported
-  get : ℕ → Request
-  -- all commands are made stable
-  force : Request
-  -- one node of the write graph is installed, where there is one
-  install : Request
-  -- all nodes are installed
-  drain : Request
-  -- a check is logged and made stable
-  checkpoint : Request
-  -- the log is rewritten without the records that no redo needs
-  trim : Request
-  -- a group of commands begins, of which a crash leaves all or none
-  begin_group : Request
-  -- it ends
-  end_group : Request
-  -- the counts of the store are reported
-  stat : Request
-  -- nothing, and there is no answer
-  skip : Request
+-- what a line may ask: what the program's `Line` says
+abbrev pub Request : Type 0
+Request = Line
 
--- it makes new values from old ones
-abbrev pub IsChange : Request → Type 0
-IsChange (put x bytes) = ⊤
-IsChange (copy x y) = ⊤
-IsChange (append x y) = ⊤
-IsChange (cut x y place) = ⊤
-IsChange (sort x y width) = ⊤
-IsChange (swap x y) = ⊤
-IsChange request = ⊥
-
--- it is asked of an application
-abbrev pub IsOfApp : Request → Type 0
-IsOfApp (exec app) = ⊤
-IsOfApp (arun app steps) = ⊤
-IsOfApp (aread app x) = ⊤
-IsOfApp (awrite app x) = ⊤
-IsOfApp request = ⊥
-
--- it names one key of a tree
-abbrev pub IsOfKey : Request → Type 0
-IsOfKey (tget low high key) = ⊤
-IsOfKey (tdelete low high key) = ⊤
-IsOfKey request = ⊥
-
--- it names a key of a tree and its value, or two keys
-abbrev pub IsOfPair : Request → Type 0
-IsOfPair (tinsert low high key value) = ⊤
-IsOfPair (trange low high from to) = ⊤
-IsOfPair request = ⊥
-
--- it is asked of the store
-abbrev pub IsOfStore : Request → Type 0
-IsOfStore (get x) = ⊤
-IsOfStore force = ⊤
-IsOfStore install = ⊤
-IsOfStore drain = ⊤
-IsOfStore checkpoint = ⊤
-IsOfStore trim = ⊤
-IsOfStore begin_group = ⊤
-IsOfStore end_group = ⊤
-IsOfStore stat = ⊤
-IsOfStore request = ⊥
-
--- what a field may say
-pub data Field : Type 0 where
-  word : List ℕ → Field
-  number : ℕ → Field
-  hex : List ℕ → Field
+-- the fields after a word, one after the other, and what they make
+pub data Form : Type 0 where
+  -- no field more: this is asked
+  asks : Request → Form
+  number : (ℕ → Form) → Form
+  -- the bytes of a value
+  hex : (List ℕ → Form) → Form
   -- a key, or the value of one
-  short : List ℕ → Field
+  short : (List ℕ → Form) → Form
 
--- the fields of a line that asks this
-abbrev pub form_of : Request → List Field
-form_of (put x bytes) = word (codes "put") ∷ number x ∷ hex bytes ∷ []
-form_of (copy x y) = word (codes "copy") ∷ number x ∷ number y ∷ []
-form_of (append x y) = word (codes "append") ∷ number x ∷ number y ∷ []
-form_of (cut x y place) = word (codes "cut") ∷ number x ∷ number y ∷ number place ∷ []
-form_of (sort x y width) = word (codes "sort") ∷ number x ∷ number y ∷ number width ∷ []
-form_of (swap x y) = word (codes "swap") ∷ number x ∷ number y ∷ []
-form_of (exec app) = word (codes "exec") ∷ number app ∷ []
-form_of (arun app steps) = word (codes "arun") ∷ number app ∷ number steps ∷ []
-form_of (aread app x) = word (codes "aread") ∷ number app ∷ number x ∷ []
-form_of (awrite app x) = word (codes "awrite") ∷ number app ∷ number x ∷ []
-form_of (tinsert low high key value) = word (codes "tinsert") ∷ number low ∷ number high ∷ short key ∷ short value ∷ []
-form_of (tget low high key) = word (codes "tget") ∷ number low ∷ number high ∷ short key ∷ []
-form_of (tdelete low high key) = word (codes "tdelete") ∷ number low ∷ number high ∷ short key ∷ []
-form_of (trange low high from to) = word (codes "trange") ∷ number low ∷ number high ∷ short from ∷ short to ∷ []
-form_of (get x) = word (codes "get") ∷ number x ∷ []
-form_of force = word (codes "force") ∷ []
-form_of install = word (codes "install") ∷ []
-form_of drain = word (codes "drain") ∷ []
-form_of checkpoint = word (codes "checkpoint") ∷ []
-form_of trim = word (codes "trim") ∷ []
-form_of begin_group = word (codes "begin") ∷ []
-form_of end_group = word (codes "end") ∷ []
-form_of stat = word (codes "stat") ∷ []
-form_of skip = []
+abbrev pub one : (ℕ → Request) → Form
+one make = number (λ x. asks (make x))
 
--- a text says what the field is to say
-abbrev pub Says : Field → List ℕ → Type 0
-Says (word w) text = text ≡ w
-Says (number n) text = (text ≡ decimal n) × (n < 2 ^ 32)
-Says (hex bytes) text = IsHex text bytes
-Says (short bytes) text = IsHex text bytes × IsTrue (is_short bytes)
+abbrev pub two : (ℕ → ℕ → Request) → Form
+two make = number (λ x. one (make x))
 
--- the texts say the fields, one each
-abbrev pub SayAll : List Field → List (List ℕ) → Type 0
-SayAll [] [] = ⊤
-SayAll [] (text ∷ texts) = ⊥
-SayAll (field ∷ fields) [] = ⊥
-SayAll (field ∷ fields) (text ∷ texts) = Says field text × SayAll fields texts
+abbrev pub three : (ℕ → ℕ → ℕ → Request) → Form
+three make = number (λ x. two (make x))
 
--- no field, or a comment
-abbrev pub IsSkipped : List (List ℕ) → Type 0
-IsSkipped [] = ⊤
-IsSkipped (first ∷ others) = (comment : List ℕ) × (first ≡ codes "#" ++ comment)
+-- an object and its value
+abbrev pub object_and_value : (ℕ → List ℕ → Request) → Form
+object_and_value make = number (λ x. hex (λ bytes. asks (make x bytes)))
 
--- the fields ask this
+-- a range of objects and a key
+abbrev pub range_and_key : (ℕ → ℕ → List ℕ → Request) → Form
+range_and_key make = number (λ low. number (λ high. short (λ key. asks (make low high key))))
+
+-- a range of objects and a key with its value, or two keys
+abbrev pub range_and_two : (ℕ → ℕ → List ℕ → List ℕ → Request) → Form
+range_and_two make = number (λ low. number (λ high. short (λ key. short (λ other. asks (make low high key other)))))
+
+-- a word, and the fields after it with what they make
+pub record Row : Type 0 where
+  pub word : List ℕ
+  pub form : Form
+
+abbrev pub row : List ℕ → Form → Row
+row word form = record { word = word; form = form }
+
+-- The lines, one row each: those that are asked of the store,
+abbrev pub store_rows : List Row
+store_rows =
+    row (codes "get") (one (λ x. Get x))
+    ∷ row (codes "force") (asks Force)
+    ∷ row (codes "install") (asks Install)
+    ∷ row (codes "drain") (asks Drain)
+    ∷ row (codes "checkpoint") (asks Checkpoint)
+    ∷ row (codes "trim") (asks Trim)
+    ∷ row (codes "begin") (asks Begin)
+    ∷ row (codes "end") (asks End)
+    ∷ row (codes "stat") (asks Stat)
+    ∷ []
+
+-- before these those that are asked of a tree, or for several steps of an application,
+abbrev pub made_rows : List Row
+made_rows =
+    row (codes "arun") (two (λ app steps. AppRun app steps))
+    ∷ row (codes "tinsert") (range_and_two (λ low high key value. TreeInsert low high key value))
+    ∷ row (codes "tget") (range_and_key (λ low high key. TreeGet low high key))
+    ∷ row (codes "tdelete") (range_and_key (λ low high key. TreeDelete low high key))
+    ∷ row (codes "trange") (range_and_two (λ low high from to. TreeRange low high from to))
+    ∷ store_rows
+
+-- and before all of these those that are one command.
+abbrev pub rows : List Row
+rows =
+    row (codes "put") (object_and_value (λ x bytes. Run (Put x bytes)))
+    ∷ row (codes "copy") (two (λ x y. Run (Copy x y)))
+    ∷ row (codes "append") (two (λ x y. Run (Append x y)))
+    ∷ row (codes "cut") (three (λ x y place. Run (Cut x y place)))
+    ∷ row (codes "sort") (three (λ x y width. Run (Sort x y width)))
+    ∷ row (codes "swap") (two (λ x y. Run (Swap x y)))
+    ∷ row (codes "exec") (one (λ app. Run (Exec app)))
+    ∷ row (codes "aread") (two (λ app x. Run (AppRead app x)))
+    ∷ row (codes "awrite") (two (λ app x. Run (AppWrite app x)))
+    ∷ made_rows
+
+-- the form of the fields after a word, if a row has it
+abbrev pub form_in : List Row → List ℕ → Option Form
+form_in [] word = None
+form_in (r ∷ others) word = if bytes_eq word r.word then Some r.form else form_in others word
+
+-- a text says a number
+abbrev pub SaysNumber : ℕ → List ℕ → Type 0
+SaysNumber n text = (text ≡ decimal n) × (n < 2 ^ 32)
+
+-- a text says a key, or the value of one
+abbrev pub SaysShort : List ℕ → List ℕ → Type 0
+SaysShort bytes text = IsHex text bytes × IsTrue (is_short bytes)
+
+-- the texts say the fields of the form, one each, and this is what they make
+abbrev pub Makes : Form → List (List ℕ) → Request → Type 0
+Makes (asks made) [] request = request ≡ made
+Makes (asks made) (text ∷ texts) request = ⊥
+Makes (number form) [] request = ⊥
+Makes (number form) (text ∷ texts) request = (n : ℕ) × SaysNumber n text × Makes (form n) texts request
+Makes (hex form) [] request = ⊥
+Makes (hex form) (text ∷ texts) request = (bytes : List ℕ) × IsHex text bytes × Makes (form bytes) texts request
+Makes (short form) [] request = ⊥
+Makes (short form) (text ∷ texts) request = (bytes : List ℕ) × SaysShort bytes text × Makes (form bytes) texts request
+
+-- the form makes this of the texts, if there is one
+abbrev pub MakesIf : Option Form → List (List ℕ) → Request → Type 0
+MakesIf None texts request = ⊥
+MakesIf (Some form) texts request = Makes form texts request
+
+-- a word that begins a comment
+abbrev pub IsComment : List ℕ → Type 0
+IsComment word = (comment : List ℕ) × (word ≡ codes "#" ++ comment)
+
+-- the fields ask this: none at all, and a comment, ask nothing
 abbrev pub AreOf : Request → List (List ℕ) → Type 0
-AreOf skip fields = IsSkipped fields
-AreOf request fields = SayAll (form_of request) fields
+AreOf request [] = request ≡ Skip
+AreOf request (word ∷ texts) = (IsComment word × (request ≡ Skip)) ⊎ MakesIf (form_in rows word) texts request
 
 -- a line has at most so many bytes
 abbrev pub IsShort : List ℕ → Type 0
@@ -223,56 +195,7 @@ pub record AsksFor (line : List ℕ) (request : Request) : Type 0 where
 abbrev pub IsBad : List ℕ → Type 0
 IsBad line = (request : Request) → AsksFor line request → ⊥
 
--- the fields were taken apart: they ask this. The bytes of a put are still in hexadecimal.
-abbrev pub IsAsked : List (List ℕ) → Line → Type 0
-IsAsked fields (Put object digits) = ((bytes : List ℕ) × IsHex digits.now bytes) × ((bytes : List ℕ) → IsHex digits.now bytes → AreOf (put object bytes) fields)
-IsAsked fields (Copy from to) = AreOf (copy from to) fields
-IsAsked fields (Append from to) = AreOf (append from to) fields
-IsAsked fields (Cut from to place) = AreOf (cut from to place) fields
-IsAsked fields (Sort from to width) = AreOf (sort from to width) fields
-IsAsked fields (Swap first second) = AreOf (swap first second) fields
-IsAsked fields (Exec app) = AreOf (exec app) fields
-IsAsked fields (AppRun app steps) = AreOf (arun app steps) fields
-IsAsked fields (AppRead app from) = AreOf (aread app from) fields
-IsAsked fields (AppWrite app to) = AreOf (awrite app to) fields
-IsAsked fields (TreeInsert low high key value) = AreOf (tinsert low high key value) fields
-IsAsked fields (TreeGet low high key) = AreOf (tget low high key) fields
-IsAsked fields (TreeDelete low high key) = AreOf (tdelete low high key) fields
-IsAsked fields (TreeRange low high from to) = AreOf (trange low high from to) fields
-IsAsked fields (Get object) = AreOf (get object) fields
-IsAsked fields Force = AreOf force fields
-IsAsked fields Install = AreOf install fields
-IsAsked fields Drain = AreOf drain fields
-IsAsked fields Checkpoint = AreOf checkpoint fields
-IsAsked fields Trim = AreOf trim fields
-IsAsked fields Begin = AreOf begin_group fields
-IsAsked fields End = AreOf end_group fields
-IsAsked fields Stat = AreOf stat fields
-IsAsked fields Skip = AreOf skip fields
-
--- a line that was taken apart: it asks this. The bytes of a put are still in hexadecimal.
-abbrev pub IsParsed : List ℕ → Line → Type 0
-IsParsed line (Put object digits) = ((bytes : List ℕ) × IsHex digits.now bytes) × ((bytes : List ℕ) → IsHex digits.now bytes → AsksFor line (put object bytes))
-IsParsed line (Copy from to) = AsksFor line (copy from to)
-IsParsed line (Append from to) = AsksFor line (append from to)
-IsParsed line (Cut from to place) = AsksFor line (cut from to place)
-IsParsed line (Sort from to width) = AsksFor line (sort from to width)
-IsParsed line (Swap first second) = AsksFor line (swap first second)
-IsParsed line (Exec app) = AsksFor line (exec app)
-IsParsed line (AppRun app steps) = AsksFor line (arun app steps)
-IsParsed line (AppRead app from) = AsksFor line (aread app from)
-IsParsed line (AppWrite app to) = AsksFor line (awrite app to)
-IsParsed line (TreeInsert low high key value) = AsksFor line (tinsert low high key value)
-IsParsed line (TreeGet low high key) = AsksFor line (tget low high key)
-IsParsed line (TreeDelete low high key) = AsksFor line (tdelete low high key)
-IsParsed line (TreeRange low high from to) = AsksFor line (trange low high from to)
-IsParsed line (Get object) = AsksFor line (get object)
-IsParsed line Force = AsksFor line force
-IsParsed line Install = AsksFor line install
-IsParsed line Drain = AsksFor line drain
-IsParsed line Checkpoint = AsksFor line checkpoint
-IsParsed line Trim = AsksFor line trim
-IsParsed line Begin = AsksFor line begin_group
-IsParsed line End = AsksFor line end_group
-IsParsed line Stat = AsksFor line stat
-IsParsed line Skip = AsksFor line skip
+-- what was found of the texts after a word: what the form makes of them, and nothing exactly where it makes nothing
+abbrev pub IsRead : Option Form → List (List ℕ) → Option Request → Type 0
+IsRead form texts None = (request : Request) → MakesIf form texts request → ⊥
+IsRead form texts (Some request) = MakesIf form texts request

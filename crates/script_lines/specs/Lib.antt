@@ -3,3 +3,5 @@ pub mod GrammarLaws
 pub mod Replies
 pub mod Reader
 pub mod Reading
+pub mod Draws
+pub mod DemoScript

@@ -18,7 +18,7 @@ IsNext Line stored old new = (line : List ℕ) × IsLine Line stored line × (li
 IsNext Long stored old new = (line : List ℕ) × IsLine Long stored line × (lines_of old ≡ line ∷ lines_of new)
 
 -- these many bytes were taken off the front
-pub record Takes (old new : List ℕ) (before after : ℕ) : Type 0 where
+pub record ReadsOn (old new : List ℕ) (before after : ℕ) : Type 0 where
   pub bytes : List ℕ
   pub front : old ≡ bytes ++ new
   pub count : after ≡ before + length bytes

@@ -3,9 +3,9 @@ use Rattle.std.specs.Prelude.{⊤, ℕ, ◌<◌, ◌^◌, ◌+◌, ◌/◌, ◌%
 use Rattle.std.specs.List.{flat_map}
 use Rattle.std.specs.Fmt.{decimal}
 use Rattle.oper_core.specs.declared.refusal.Refusal.{Refusal}
-use Rattle.oper_core.specs.declared.refusal.Refusal.TheVariants.{NoObject, Same, BadPlace, BadWidth, NotApp, NoInput, NotNode, NoKey, NodeFull, TooLarge}
+use Rattle.oper_core.specs.declared.refusal.Refusal.TheVariants.{NoObject, Same, BadPlace, BadWidth, NotApp, NotCode, Halted, NoInput, NotNode, NoKey, NodeFull, TooLarge}
 use Rattle.script_lines.specs.declared.answer.Answer.{Answer}
-use Rattle.script_lines.specs.declared.answer.Counts.{Counts}
+use Rattle.script_lines.specs.declared.answer.StatLine.{StatLine}
 use Rattle.script_lines.specs.declared.answer.Totals.{Totals}
 use Rattle.script_lines.specs.declared.answer.Answer.TheVariants.{Done, Value, Forced, Bad, Refused, Full, End, Object, Commands, Stat, Ran, Pairs, BadTree, TreeFull, InGroup, NoGroup, Summary}
 
@@ -29,7 +29,7 @@ pub data Reply : Type 0 where
   -- how many commands a dumped store was given
   command_count : ℕ → Reply
   -- the counts of the store
-  stat : Counts → Reply
+  stat : StatLine → Reply
   -- so many steps of an application were done
   ran : ℕ → Reply
   -- a first pair of a tree, and the others
@@ -92,6 +92,8 @@ name_of Same = codes "Same"
 name_of BadPlace = codes "BadPlace"
 name_of BadWidth = codes "BadWidth"
 name_of NotApp = codes "NotApp"
+name_of NotCode = codes "NotCode"
+name_of Halted = codes "Halted"
 name_of NoInput = codes "NoInput"
 name_of NotNode = codes "NotNode"
 name_of NoKey = codes "NoKey"
@@ -103,7 +105,7 @@ abbrev pub spaced : ℕ → List ℕ
 spaced n = 32 ∷ decimal n
 
 -- the numbers of a store's counts, in the order in which they are said
-abbrev pub numbers_of : Counts → List ℕ
+abbrev pub numbers_of : StatLine → List ℕ
 numbers_of c = c.nodes ∷ c.dirty ∷ c.uninstalled ∷ c.forced ∷ c.accepted ∷ c.used ∷ c.identities ∷ []
 
 -- a key and its value in hexadecimal

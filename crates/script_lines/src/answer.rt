@@ -1,16 +1,17 @@
 ghost use Rattle.std.specs.Prelude.{◌≡◌, ◌++◌, ◌∷◌, [], codes, OnOk, IfOk};
 ghost use Rattle.std.specs.Fmt.{decimal};
 ghost use Rattle.std.specs.List.{flat_map};
-ghost use Rattle.script_lines.specs.Replies.{reply_of, pairs_reply, summary, text_of, said_line, name_of, hex_text, spaced, numbers_of, pair_text, spaced_pair};
+ghost use Rattle.script_lines.specs.Replies.{reply_of, pairs_reply, summary, text_of, said_line, name_of, spaced, numbers_of, pair_text, spaced_pair};
 
-use crate::hex::push_hex;
+use crate::hex::{push_hex, push_value};
+use crate::number::{push_number, push_numbers};
 use btree_ops::Short;
 use oper_core::{Memory, Refusal};
 use std::alloc::Global;
 
 /// The counts of a store, in the order in which they are reported.
 #[derive(Clone, Copy, Debug, Drop, PartialEq, Eq)]
-pub struct Counts {
+pub struct StatLine {
     /// The nodes of the write graph.
     pub nodes: u64,
     /// The objects whose value is newer than what their slots hold.
@@ -68,7 +69,7 @@ pub enum Answer<'a> {
     /// So many commands were given to the dumped store: `commands n`.
     Commands(u64),
     /// The counts of the store: `stat` and seven numbers.
-    Stat(Counts),
+    Stat(StatLine),
     /// An application took so many steps: `ran k`.
     Ran(u64),
     /// The keys of a range and their values: `key:value` each, in lower-case hexadecimal, or `-` where there are none.
@@ -85,7 +86,7 @@ pub enum Answer<'a> {
     Summary(Totals),
 }
 
-/// The name of a refusal.
+/// The name of a refusal. Its `Display` prints the same, but what a derive of thiserror prints no clause says.
 fn refusal_name(refusal: Refusal) -> &'static [u8]
     ensures { result.now ≡ name_of refusal }
 {
@@ -95,33 +96,14 @@ fn refusal_name(refusal: Refusal) -> &'static [u8]
         Refusal::BadPlace => b"BadPlace",
         Refusal::BadWidth => b"BadWidth",
         Refusal::NotApp => b"NotApp",
+        Refusal::NotCode => b"NotCode",
+        Refusal::Halted => b"Halted",
         Refusal::NoInput => b"NoInput",
         Refusal::NotNode => b"NotNode",
         Refusal::NoKey => b"NoKey",
         Refusal::NodeFull => b"NodeFull",
         Refusal::TooLarge => b"TooLarge",
     }
-}
-
-/// Adds a number in digits.
-fn push_number(alloc: Global, text: &mut Vec<u8>, number: u64) -> Result<(), Memory>
-    ensures { OnOk result (text.new.items ≡ text.old.items ++ decimal number) }
-{
-    let digits = number.to_string(alloc)?;
-    text.extend_from_slice(digits.as_bytes())?;
-    Ok(())
-}
-
-/// Adds the bytes in hexadecimal, or `-` where there are none.
-fn push_value(text: &mut Vec<u8>, bytes: &[u8]) -> Result<(), Memory>
-    ensures { OnOk result (text.new.items ≡ text.old.items ++ hex_text bytes.now) }
-{
-    if bytes.is_empty() {
-        text.push(b'-')?;
-        return Ok(());
-    }
-    push_hex(text, bytes)?;
-    Ok(())
 }
 
 /// Adds a word, and a number in digits after a space.
@@ -133,22 +115,11 @@ fn push_counted(alloc: Global, text: &mut Vec<u8>, word: &[u8], number: u64) -> 
     push_number(alloc, text, number)
 }
 
-/// Adds each number in digits, after a space.
-fn push_numbers(alloc: Global, text: &mut Vec<u8>, numbers: &[u64]) -> Result<(), Memory>
-    ensures { OnOk result (text.new.items ≡ text.old.items ++ flat_map spaced numbers.now) }
-{
-    for number in numbers {
-        text.push(b' ')?;
-        push_number(alloc, text, *number)?;
-    }
-    Ok(())
-}
-
 /// Adds `stat` and the counts.
-fn push_counts(alloc: Global, text: &mut Vec<u8>, counts: &Counts) -> Result<(), Memory>
+fn push_counts(alloc: Global, text: &mut Vec<u8>, counts: &StatLine) -> Result<(), Memory>
     ensures { OnOk result (text.new.items ≡ text.old.items ++ codes "stat" ++ flat_map spaced (numbers_of counts.now)) }
 {
-    let Counts {
+    let StatLine {
         nodes,
         dirty,
         uninstalled,

@@ -1,11 +1,13 @@
 // The fields of a line, taken off one by one.
-ghost use Rattle.std.specs.Prelude.{position, not, ◌==◌, ◌≡◌, ◌≢◌, ◌∷◌, [], ◌<◌, ◌^◌, List, ℕ, IfSome, IfNone};
+ghost use Rattle.std.specs.Prelude.{position, not, ◌==◌, ◌≡◌, ◌≢◌, ◌∷◌, [], ◌<◌, ◌^◌, List, ℕ, Some, option_map, IfOk, IfSome, IfNone};
 ghost use Rattle.std.specs.Fmt.{decimal};
-ghost use Rattle.script_lines.specs.Grammar.{fields_of, IsHex, SayAll, number, short};
+ghost use Rattle.script_lines.specs.Grammar.{Request, IsRead, asks, fields_of, one, object_and_value, range_and_key, range_and_two, short, two, three};
 
-use crate::hex::{is_hex, short_of};
+use crate::hex::{hex_bytes, short_of};
 use crate::number::read_number;
 use btree_ops::Short;
+use oper_core::{ByteList, Memory};
+use std::alloc::Global;
 
 /// The place of the first byte that is no space.
 fn field_in(text: &[u8]) -> Option<usize>
@@ -34,8 +36,7 @@ pub fn next_field(text: &[u8]) -> Option<(&[u8], &[u8])>
 
 /// Tells by `Some` that a text has no field.
 pub fn no_field(text: &[u8]) -> Option<()>
-    ensures some { IfSome result (λ _. fields_of text.now ≡ []) }
-    ensures none { IfNone result (fields_of text.now ≢ []) }
+    ensures { (request : Request) → IsRead (Some (asks request)) (fields_of text.now) (option_map (λ _. request) result) }
 {
     match next_field(text) {
         Some(_) => None,
@@ -46,6 +47,7 @@ pub fn no_field(text: &[u8]) -> Option<()>
 /// The number that the first field is, and what follows it.
 fn next_number(text: &[u8]) -> Option<(u32, &[u8])>
     ensures some { IfSome result (λ found. fields_of text.now ≡ decimal found.0 ∷ fields_of found.1.now) }
+    ensures small { IfSome result (λ found. found.0 < 2 ^ 32) }
     ensures none { IfNone result ((n : ℕ) (others : List (List ℕ)) → n < 2 ^ 32 → fields_of text.now ≢ decimal n ∷ others) }
 {
     let (field, rest) = next_field(text)?;
@@ -55,8 +57,7 @@ fn next_number(text: &[u8]) -> Option<(u32, &[u8])>
 
 /// The number that is the only field.
 pub fn one_number(text: &[u8]) -> Option<u32>
-    ensures some { IfSome result (λ n. fields_of text.now ≡ decimal n ∷ []) }
-    ensures none { IfNone result ((n : ℕ) → n < 2 ^ 32 → fields_of text.now ≢ decimal n ∷ []) }
+    ensures { (make : ℕ → Request) → IsRead (Some (one make)) (fields_of text.now) (option_map make result) }
 {
     let (number, rest) = next_number(text)?;
     no_field(rest)?;
@@ -65,8 +66,7 @@ pub fn one_number(text: &[u8]) -> Option<u32>
 
 /// The two numbers that are all fields.
 pub fn two_numbers(text: &[u8]) -> Option<(u32, u32)>
-    ensures some { IfSome result (λ found. fields_of text.now ≡ decimal found.0 ∷ decimal found.1 ∷ []) }
-    ensures none { IfNone result ((m n : ℕ) → m < 2 ^ 32 → n < 2 ^ 32 → fields_of text.now ≢ decimal m ∷ decimal n ∷ []) }
+    ensures { (make : ℕ → ℕ → Request) → IsRead (Some (two make)) (fields_of text.now) (option_map (λ found. make found.0 found.1) result) }
 {
     let (first, rest) = next_number(text)?;
     let second = one_number(rest)?;
@@ -75,34 +75,35 @@ pub fn two_numbers(text: &[u8]) -> Option<(u32, u32)>
 
 /// The three numbers that are all fields.
 pub fn three_numbers(text: &[u8]) -> Option<(u32, u32, u32)>
-    ensures some { IfSome result (λ found. fields_of text.now ≡ decimal found.0 ∷ decimal found.1 ∷ decimal found.2 ∷ []) }
-    ensures none { IfNone result ((l m n : ℕ) → l < 2 ^ 32 → m < 2 ^ 32 → n < 2 ^ 32 →
-        fields_of text.now ≢ decimal l ∷ decimal m ∷ decimal n ∷ []) }
+    ensures { (make : ℕ → ℕ → ℕ → Request) → IsRead (Some (three make)) (fields_of text.now) (option_map (λ found. make found.0 found.1 found.2) result) }
 {
     let (first, rest) = next_number(text)?;
     let (second, third) = two_numbers(rest)?;
     Some((first, second, third))
 }
 
-/// The number and the hexadecimal digits that are all fields.
-pub fn object_and_hex(text: &[u8]) -> Option<(u32, &[u8])>
-    ensures some { IfSome result (λ found. (fields_of text.now ≡ decimal found.0 ∷ found.1.now ∷ []) × ((bytes : List ℕ) × IsHex found.1.now bytes)) }
-    ensures none { IfNone result ((n : ℕ) (hex bytes : List ℕ) → n < 2 ^ 32 → IsHex hex bytes → fields_of text.now ≢ decimal n ∷ hex ∷ []) }
+/// The object and the bytes of its value, in hexadecimal, that are all fields.
+pub fn object_and_value(alloc: Global, text: &[u8]) -> Result<Option<(u32, ByteList)>, Memory>
+    ensures { (make : ℕ → List ℕ → Request) → IfOk result (λ found. IsRead (Some (object_and_value make)) (fields_of text.now) (option_map (λ all. make all.0 all.1) found)) }
 {
-    let (object, rest) = next_number(text)?;
-    let (hex, rest) = next_field(rest)?;
-    no_field(rest)?;
-    if is_hex(hex) {
-        Some((object, hex))
-    } else {
-        None
+    let Some((object, rest)) = next_number(text) else {
+        return Ok(None);
+    };
+    let Some((hex, rest)) = next_field(rest) else {
+        return Ok(None);
+    };
+    if no_field(rest).is_none() {
+        return Ok(None);
     }
+    let Some(bytes) = hex_bytes(alloc, hex)? else {
+        return Ok(None);
+    };
+    Ok(Some((object, ByteList::new(bytes))))
 }
 
 /// The key or value that is the only field.
 fn one_short(text: &[u8]) -> Option<Short>
-    ensures some { IfSome result (λ key. SayAll (short key ∷ []) (fields_of text.now)) }
-    ensures none { IfNone result ((key : List ℕ) → SayAll (short key ∷ []) (fields_of text.now) → ⊥) }
+    ensures { (make : List ℕ → Request) → IsRead (Some (short (λ key. asks (make key)))) (fields_of text.now) (option_map make result) }
 {
     let (field, rest) = next_field(text)?;
     no_field(rest)?;
@@ -111,8 +112,7 @@ fn one_short(text: &[u8]) -> Option<Short>
 
 /// The two keys or values that are all fields.
 fn two_shorts(text: &[u8]) -> Option<(Short, Short)>
-    ensures some { IfSome result (λ found. SayAll (short found.0 ∷ short found.1 ∷ []) (fields_of text.now)) }
-    ensures none { IfNone result ((first second : List ℕ) → SayAll (short first ∷ short second ∷ []) (fields_of text.now) → ⊥) }
+    ensures { (make : List ℕ → List ℕ → Request) → IsRead (Some (short (λ key. short (λ other. asks (make key other))))) (fields_of text.now) (option_map (λ found. make found.0 found.1) result) }
 {
     let (field, rest) = next_field(text)?;
     let first = short_of(field)?;
@@ -121,9 +121,8 @@ fn two_shorts(text: &[u8]) -> Option<(Short, Short)>
 }
 
 /// The two numbers of a range of objects and the key that are all fields.
-pub fn range_and_one(text: &[u8]) -> Option<(u32, u32, Short)>
-    ensures some { IfSome result (λ found. SayAll (number found.0 ∷ number found.1 ∷ short found.2 ∷ []) (fields_of text.now)) }
-    ensures none { IfNone result ((low high : ℕ) (key : List ℕ) → SayAll (number low ∷ number high ∷ short key ∷ []) (fields_of text.now) → ⊥) }
+pub fn range_and_key(text: &[u8]) -> Option<(u32, u32, Short)>
+    ensures { (make : ℕ → ℕ → List ℕ → Request) → IsRead (Some (range_and_key make)) (fields_of text.now) (option_map (λ found. make found.0 found.1 found.2) result) }
 {
     let (low, rest) = next_number(text)?;
     let (high, rest) = next_number(rest)?;
@@ -133,9 +132,7 @@ pub fn range_and_one(text: &[u8]) -> Option<(u32, u32, Short)>
 
 /// The two numbers of a range of objects and the two keys or values that are all fields.
 pub fn range_and_two(text: &[u8]) -> Option<(u32, u32, Short, Short)>
-    ensures some { IfSome result (λ found. SayAll (number found.0 ∷ number found.1 ∷ short found.2 ∷ short found.3 ∷ []) (fields_of text.now)) }
-    ensures none { IfNone result ((low high : ℕ) (first second : List ℕ) →
-        SayAll (number low ∷ number high ∷ short first ∷ short second ∷ []) (fields_of text.now) → ⊥) }
+    ensures { (make : ℕ → ℕ → List ℕ → List ℕ → Request) → IsRead (Some (range_and_two make)) (fields_of text.now) (option_map (λ found. make found.0 found.1 found.2 found.3) result) }
 {
     let (low, rest) = next_number(text)?;
     let (high, rest) = next_number(rest)?;

@@ -1,7 +1,7 @@
-ghost use Rattle.std.specs.Prelude.{◌≡◌, ◌<◌, ◌++◌, List, ℕ, IsTrue, false, IfOk, OnOk, IfSome, IfNone};
+ghost use Rattle.std.specs.Prelude.{◌≡◌, ◌<◌, ◌++◌, List, ℕ, IfOk, OnOk, IfSome, IfNone};
 ghost use Rattle.std.specs.List.{flat_map};
-ghost use Rattle.script_lines.specs.Grammar.{IsHex, IsHexOf, Says, short, hex_digit};
-ghost use Rattle.script_lines.specs.Replies.{hex_glyph, hex_pair};
+ghost use Rattle.script_lines.specs.Grammar.{IsHex, IsHexOf, SaysShort, hex_digit, hex_byte};
+ghost use Rattle.script_lines.specs.Replies.{hex_glyph, hex_pair, hex_text};
 
 use arrayvec::ArrayVec;
 use btree_ops::Short;
@@ -21,75 +21,66 @@ fn digit_of(digit: u8) -> Option<u8>
     }
 }
 
-/// Whether a text is hexadecimal digits, two for each byte.
-fn is_hex_digits(text: &[u8]) -> bool
-    ensures yes { IsTrue result → (bytes : List ℕ) × IsHexOf text.now bytes }
-    ensures no { result ≡ false → (bytes : List ℕ) → IsHexOf text.now bytes → ⊥ }
+/// The byte that two hexadecimal digits stand for.
+fn byte_of(high: u8, low: u8) -> Option<u8>
+    ensures { result ≡ hex_byte (hex_digit high) (hex_digit low) }
 {
-    let mut rest = text;
-    while let [high, low, tail @ ..] = rest {
-        if digit_of(*high).is_none() {
-            return false;
-        }
-        if digit_of(*low).is_none() {
-            return false;
-        }
-        rest = tail;
-    }
-    rest.is_empty()
+    let high = digit_of(high)?;
+    let low = digit_of(low)?;
+    Some(16 * high + low)
 }
 
-/// Whether a text is `-`, or hexadecimal digits, two for each byte of some.
-pub fn is_hex(text: &[u8]) -> bool
-    ensures yes { IsTrue result → (bytes : List ℕ) × IsHex text.now bytes }
-    ensures no { result ≡ false → (bytes : List ℕ) → IsHex text.now bytes → ⊥ }
-{
-    if text.is_empty() {
-        return false;
-    }
-    if text == b"-".as_slice() {
-        return true;
-    }
-    is_hex_digits(text)
-}
-
-/// The bytes that the hexadecimal digits of a line stand for; none where they are `-`.
-pub fn hex_bytes(alloc: Global, hex: &[u8]) -> Result<Vec<u8>, Memory>
-    requires { (bytes : List ℕ) × IsHex hex.now bytes }
-    ensures { IfOk result (λ bytes. IsHex hex.now bytes.items) }
+/// The bytes that hexadecimal digits stand for, two for each byte. `None` exactly where they stand for none.
+fn digit_bytes(alloc: Global, digits: &[u8]) -> Result<Option<Vec<u8>>, Memory>
+    ensures some { IfOk result (λ found. IfSome found (λ bytes. IsHexOf digits.now bytes.items)) }
+    ensures none { IfOk result (λ found. IfNone found ((bytes : List ℕ) → IsHexOf digits.now bytes → ⊥)) }
 {
     let mut bytes = Vec::new(alloc);
-    if hex == b"-".as_slice() {
-        return Ok(bytes);
-    }
-    let mut rest = hex;
+    let mut rest = digits;
     while let [high, low, tail @ ..] = rest {
-        let high = digit_of(*high).unwrap_or(0);
-        let low = digit_of(*low).unwrap_or(0);
-        bytes.push(16 * high + low)?;
+        let Some(byte) = byte_of(*high, *low) else {
+            return Ok(None);
+        };
+        bytes.push(byte)?;
         rest = tail;
     }
-    Ok(bytes)
+    if !rest.is_empty() {
+        return Ok(None);
+    }
+    Ok(Some(bytes))
+}
+
+/// The bytes that the hexadecimal digits of a line stand for; none where they are `-`. `None` exactly where the text is
+/// no hexadecimal.
+pub fn hex_bytes(alloc: Global, hex: &[u8]) -> Result<Option<Vec<u8>>, Memory>
+    ensures some { IfOk result (λ found. IfSome found (λ bytes. IsHex hex.now bytes.items)) }
+    ensures none { IfOk result (λ found. IfNone found ((bytes : List ℕ) → IsHex hex.now bytes → ⊥)) }
+{
+    if hex.is_empty() {
+        return Ok(None);
+    }
+    if hex == b"-".as_slice() {
+        return Ok(Some(Vec::new(alloc)));
+    }
+    digit_bytes(alloc, hex)
 }
 
 /// The key or value, of 1 to 32 bytes, that hexadecimal digits stand for. `None` exactly where they stand for none.
 pub fn short_of(hex: &[u8]) -> Option<Short>
-    ensures some { IfSome result (λ bytes. Says (short bytes) hex.now) }
-    ensures none { IfNone result ((bytes : List ℕ) → Says (short bytes) hex.now → ⊥) }
+    ensures some { IfSome result (λ bytes. SaysShort bytes hex.now) }
+    ensures none { IfNone result ((bytes : List ℕ) → SaysShort bytes hex.now → ⊥) }
 {
     if hex.len() > 64 {
-        return None;
-    }
-    if !is_hex_digits(hex) {
         return None;
     }
     let mut bytes: ArrayVec<u8, 32> = ArrayVec::new();
     let mut rest = hex;
     while let [high, low, tail @ ..] = rest {
-        let high = digit_of(*high).unwrap_or(0);
-        let low = digit_of(*low).unwrap_or(0);
-        bytes.push(16 * high + low);
+        bytes.push(byte_of(*high, *low)?);
         rest = tail;
+    }
+    if !rest.is_empty() {
+        return None;
     }
     Short::new(bytes.as_slice())
 }
@@ -114,5 +105,17 @@ pub fn push_hex(text: &mut Vec<u8>, bytes: &[u8]) -> Result<(), Memory>
         text.push(hex_glyph_of(*byte / 16))?;
         text.push(hex_glyph_of(*byte % 16))?;
     }
+    Ok(())
+}
+
+/// Adds the bytes in hexadecimal, or `-` where there are none.
+pub fn push_value(text: &mut Vec<u8>, bytes: &[u8]) -> Result<(), Memory>
+    ensures { OnOk result (text.new.items ≡ text.old.items ++ hex_text bytes.now) }
+{
+    if bytes.is_empty() {
+        text.push(b'-')?;
+        return Ok(());
+    }
+    push_hex(text, bytes)?;
     Ok(())
 }

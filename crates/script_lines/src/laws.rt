@@ -1,4 +1,5 @@
-ghost use Rattle.std.specs.Prelude.{◌≡◌, ℕ, List};
+ghost use Rattle.std.specs.Prelude.{◌≡◌, ℕ, ◌+◌, ◌*◌, ◌≤◌, List, length};
+ghost use Rattle.script_lines.specs.DemoScript.{script_of};
 ghost use Rattle.script_lines.specs.Grammar.{AsksFor, Request};
 ghost use Rattle.script_lines.specs.Replies.{Reply, HasSmallNumbers, text_of};
 
@@ -10,4 +11,9 @@ pub fn a_line_asks_one_thing()
 /// A text is that of at most one reply, so what an answer says can be read back.
 pub fn a_text_says_one_thing()
     ensures { (a b : Reply) → HasSmallNumbers a → HasSmallNumbers b → text_of a ≡ text_of b → a ≡ b }
+{}
+
+/// A demo's script has eighteen lines more than steps, and with its newline none of them is longer than 40 bytes.
+pub fn scripts_are_short()
+    ensures { (seed steps : ℕ) → length (script_of seed steps) ≤ 40 * (steps + 18) }
 {}

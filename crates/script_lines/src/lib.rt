@@ -1,26 +1,31 @@
-//! The lines of a script and the answers to them, the lines of a dump, and a reader of lines.
+//! The lines of a script and the answers to them, the lines of a dump, a reader of lines, and the script of a demo.
 //!
-//! The one contract is the grammar of `specs/`, a relation between a line's bytes and what they ask: a line is parsed
-//! exactly where it asks something, which is then one thing; an answer is exactly the text of its reply, and no other
-//! reply has this text; the reader gives exactly the lines of its source, one after the other. The
-//! crate depends on oper_core, whose refusals an answer names, on btree_ops for the keys of a tree and their values,
-//! and on the source of disk_model.
+//! The one contract is the grammar of `specs/`, a relation between a line's bytes and what they ask, over one table of the
+//! words: a line is parsed exactly where it asks something, which is then one thing; an answer is exactly the text of its
+//! reply, and no other reply has this text; the reader gives exactly the lines of its source, one after the other; and a
+//! demo's script is exactly that of its seed. The crate depends on op_meaning, whose operations are what most lines ask,
+//! on oper_core, whose refusals an answer names, on btree_ops for the keys of a tree and their values, and on the source
+//! of disk_model.
 #![tactic(auto)]
 
 mod answer;
+mod demo;
+mod draws;
 mod fields;
 mod hex;
+mod kind;
 mod laws;
 mod line;
 mod next;
 mod number;
 mod read_error;
 mod reader;
+mod steps;
 
-pub use answer::{Answer, Counts, Totals, answer_line, answer_text};
-pub use hex::hex_bytes;
-pub use laws::{a_line_asks_one_thing, a_text_says_one_thing};
-pub use line::{Bad, Line, MAX_LINE, parse_line};
+pub use answer::{Answer, StatLine, Totals, answer_line, answer_text};
+pub use demo::demo_script;
+pub use laws::{a_line_asks_one_thing, a_text_says_one_thing, scripts_are_short};
+pub use line::{Line, LineErr, MAX_LINE, parse_line};
 pub use next::Next;
 pub use read_error::ReadError;
 pub use reader::LineReader;

@@ -1,69 +1,29 @@
-ghost use Rattle.std.specs.Prelude.{◌≡◌, ◌∷◌, IfOk, OnErr, IfSome, IfNone};
-ghost use Rattle.script_lines.specs.Grammar.{IsParsed, IsAsked, IsBad, Request, IsChange, IsOfApp, IsOfKey, IsOfPair, IsOfStore, AreOf, fields_of, without_return};
+ghost use Rattle.std.specs.Prelude.{◌≡◌, IfOk, IsErrOf};
+ghost use Rattle.script_lines.specs.Grammar.{AsksFor, IsBad, IsRead, form_in, rows, made_rows, store_rows, fields_of, without_return};
 
 use crate::fields::{
-    next_field, no_field, object_and_hex, one_number, range_and_one, range_and_two, three_numbers,
-    two_numbers,
+    next_field, no_field, object_and_value, one_number, range_and_key, range_and_two,
+    three_numbers, two_numbers,
 };
 use btree_ops::Short;
+use op_meaning::PlainOp;
+use oper_core::Memory;
+use std::alloc::Global;
 use thiserror::Error;
 
 /// The most bytes that a line may have, its newline not counted.
 pub const MAX_LINE: usize = 40000;
 
 /// What a line asks.
-#[derive(Clone, Copy, PartialEq, Eq)]
-pub enum Line<'a> {
-    /// `put X HEX`: the object gets these bytes, still in hexadecimal.
-    Put {
-        object: u32,
-        hex: &'a [u8],
-    },
-    /// `copy X Y`: the value of `from` goes to `to`.
-    Copy {
-        from: u32,
-        to: u32,
-    },
-    /// `append X Y`: the value of `from` is added at the end of that of `to`.
-    Append {
-        from: u32,
-        to: u32,
-    },
-    /// `cut X Y K`: `from` keeps its first `place` bytes, and `to` gets the others.
-    Cut {
-        from: u32,
-        to: u32,
-        place: u32,
-    },
-    /// `sort X Y W`: `to` gets the records of `from`, each of `width` bytes, in order.
-    Sort {
-        from: u32,
-        to: u32,
-        width: u32,
-    },
-    /// `swap X Y`: the two values are exchanged.
-    Swap {
-        first: u32,
-        second: u32,
-    },
-    /// `exec A`: the application takes one step.
-    Exec {
-        app: u32,
-    },
+#[derive(Drop)]
+pub enum Line {
+    /// `put X HEX`, `copy X Y`, `append X Y`, `cut X Y K`, `sort X Y W`, `swap X Y`, `exec A`, `aread A X`, `awrite A X`:
+    /// one command, which is this operation.
+    Run(PlainOp),
     /// `arun A N`: the application takes so many steps, or as many as its input has bytes.
     AppRun {
         app: u32,
         steps: u32,
-    },
-    /// `aread A X`: the value of `from` is added at the end of the application's input.
-    AppRead {
-        app: u32,
-        from: u32,
-    },
-    /// `awrite A X`: `to` gets the application's output.
-    AppWrite {
-        app: u32,
-        to: u32,
     },
     /// `tinsert LO HI KEY VAL`: the key gets this value, in the tree of the objects from `low` to `high`.
     TreeInsert {
@@ -115,10 +75,27 @@ pub enum Line<'a> {
     Skip,
 }
 
-/// The line is outside the grammar.
+/// Why a line asks nothing.
 #[derive(Clone, Copy, Debug, PartialEq, Eq, Error)]
-#[error("bad")]
-pub struct Bad;
+pub enum LineErr {
+    /// It is outside the grammar.
+    #[error("bad")]
+    Bad,
+    /// Out of memory.
+    #[error("out of memory")]
+    Memory,
+}
+
+impl From<Memory> for LineErr {
+    ghost use Rattle.std.specs.Prelude.{◌≡◌};
+    ghost use Rattle.script_lines.specs.declared.line.LineErr.TheVariants.{Memory as OutOfMemory};
+
+    ghost from_gives = { λ _ e. e ≡ OutOfMemory };
+
+    fn from(_: Memory) -> Self {
+        LineErr::Memory
+    }
+}
 
 /// A line without the byte 13 that may stand at its end.
 fn without_return(line: &[u8]) -> &[u8]
@@ -130,88 +107,9 @@ fn without_return(line: &[u8]) -> &[u8]
     }
 }
 
-/// What a line asks that makes new values from old ones, its first field being this word, the others in the rest.
-fn change_line<'a>(word: &[u8], rest: &'a [u8]) -> Option<Line<'a>>
-    ensures some { IfSome result (IsAsked (word.now ∷ fields_of rest.now)) }
-    ensures none { IfNone result ((request : Request) → IsChange request → AreOf request (word.now ∷ fields_of rest.now) → ⊥) }
-{
-    if word == b"put".as_slice() {
-        object_and_hex(rest).map(|(object, hex)| Line::Put { object, hex })
-    } else if word == b"copy".as_slice() {
-        two_numbers(rest).map(|(from, to)| Line::Copy { from, to })
-    } else if word == b"append".as_slice() {
-        two_numbers(rest).map(|(from, to)| Line::Append { from, to })
-    } else if word == b"cut".as_slice() {
-        three_numbers(rest).map(|(from, to, place)| Line::Cut { from, to, place })
-    } else if word == b"sort".as_slice() {
-        three_numbers(rest).map(|(from, to, width)| Line::Sort { from, to, width })
-    } else if word == b"swap".as_slice() {
-        two_numbers(rest).map(|(first, second)| Line::Swap { first, second })
-    } else {
-        None
-    }
-}
-
-/// What a line asks of an application.
-fn app_line<'a>(word: &[u8], rest: &'a [u8]) -> Option<Line<'a>>
-    ensures some { IfSome result (IsAsked (word.now ∷ fields_of rest.now)) }
-    ensures none { IfNone result ((request : Request) → IsOfApp request → AreOf request (word.now ∷ fields_of rest.now) → ⊥) }
-{
-    if word == b"exec".as_slice() {
-        one_number(rest).map(|app| Line::Exec { app })
-    } else if word == b"arun".as_slice() {
-        two_numbers(rest).map(|(app, steps)| Line::AppRun { app, steps })
-    } else if word == b"aread".as_slice() {
-        two_numbers(rest).map(|(app, from)| Line::AppRead { app, from })
-    } else if word == b"awrite".as_slice() {
-        two_numbers(rest).map(|(app, to)| Line::AppWrite { app, to })
-    } else {
-        None
-    }
-}
-
-/// What a line asks of a tree that names one key.
-fn key_line<'a>(word: &[u8], rest: &'a [u8]) -> Option<Line<'a>>
-    ensures some { IfSome result (IsAsked (word.now ∷ fields_of rest.now)) }
-    ensures none { IfNone result ((request : Request) → IsOfKey request → AreOf request (word.now ∷ fields_of rest.now) → ⊥) }
-{
-    if word == b"tget".as_slice() {
-        range_and_one(rest).map(|(low, high, key)| Line::TreeGet { low, high, key })
-    } else if word == b"tdelete".as_slice() {
-        range_and_one(rest).map(|(low, high, key)| Line::TreeDelete { low, high, key })
-    } else {
-        None
-    }
-}
-
-/// What a line asks of a tree that names a key and its value, or two keys.
-fn pair_line<'a>(word: &[u8], rest: &'a [u8]) -> Option<Line<'a>>
-    ensures some { IfSome result (IsAsked (word.now ∷ fields_of rest.now)) }
-    ensures none { IfNone result ((request : Request) → IsOfPair request → AreOf request (word.now ∷ fields_of rest.now) → ⊥) }
-{
-    if word == b"tinsert".as_slice() {
-        range_and_two(rest).map(|(low, high, key, value)| Line::TreeInsert {
-            low,
-            high,
-            key,
-            value,
-        })
-    } else if word == b"trange".as_slice() {
-        range_and_two(rest).map(|(low, high, from, to)| Line::TreeRange {
-            low,
-            high,
-            from,
-            to,
-        })
-    } else {
-        None
-    }
-}
-
-/// What a line asks of the store.
-fn store_line<'a>(word: &[u8], rest: &'a [u8]) -> Option<Line<'a>>
-    ensures some { IfSome result (IsAsked (word.now ∷ fields_of rest.now)) }
-    ensures none { IfNone result ((request : Request) → IsOfStore request → AreOf request (word.now ∷ fields_of rest.now) → ⊥) }
+/// What a line asks of the store: its first field is this word, and the others are in the rest.
+fn store_line(word: &[u8], rest: &[u8]) -> Option<Line>
+    ensures { IsRead (form_in store_rows word.now) (fields_of rest.now) result }
 {
     if word == b"get".as_slice() {
         one_number(rest).map(|object| Line::Get { object })
@@ -236,43 +134,83 @@ fn store_line<'a>(word: &[u8], rest: &'a [u8]) -> Option<Line<'a>>
     }
 }
 
-/// What a line asks whose first field is this word, the others being in the rest.
-#[tactic(auto, using(crate::proofs::FormLemmas::no_kind))]
-fn line_of<'a>(word: &[u8], rest: &'a [u8]) -> Option<Line<'a>>
-    ensures some { IfSome result (IsAsked (word.now ∷ fields_of rest.now)) }
-    ensures none { IfNone result ((request : Request) → AreOf request (word.now ∷ fields_of rest.now) → ⊥) }
+/// The same of a line that asks a tree, or for as many steps of an application as it has input, too.
+fn made_line(word: &[u8], rest: &[u8]) -> Option<Line>
+    ensures { IsRead (form_in made_rows word.now) (fields_of rest.now) result }
 {
-    if word.starts_with(b"#") {
-        return Some(Line::Skip);
+    if word == b"arun".as_slice() {
+        two_numbers(rest).map(|(app, steps)| Line::AppRun { app, steps })
+    } else if word == b"tinsert".as_slice() {
+        range_and_two(rest).map(|(low, high, key, value)| Line::TreeInsert {
+            low,
+            high,
+            key,
+            value,
+        })
+    } else if word == b"tget".as_slice() {
+        range_and_key(rest).map(|(low, high, key)| Line::TreeGet { low, high, key })
+    } else if word == b"tdelete".as_slice() {
+        range_and_key(rest).map(|(low, high, key)| Line::TreeDelete { low, high, key })
+    } else if word == b"trange".as_slice() {
+        range_and_two(rest).map(|(low, high, from, to)| Line::TreeRange {
+            low,
+            high,
+            from,
+            to,
+        })
+    } else {
+        store_line(word, rest)
     }
-    if let Some(line) = change_line(word, rest) {
-        return Some(line);
-    }
-    if let Some(line) = app_line(word, rest) {
-        return Some(line);
-    }
-    if let Some(line) = key_line(word, rest) {
-        return Some(line);
-    }
-    if let Some(line) = pair_line(word, rest) {
-        return Some(line);
-    }
-    store_line(word, rest)
 }
 
-/// Takes a line apart, its newline not included. [`Bad`] exactly where it is outside the grammar.
-pub fn parse_line(line: &[u8]) -> Result<Line<'_>, Bad>
-    ensures ok { IfOk result (λ asked. IsParsed line.now asked) }
-    ensures bad { OnErr result (IsBad line.now) }
+/// The same of any line. Out of memory is the only error.
+fn line_of(alloc: Global, word: &[u8], rest: &[u8]) -> Result<Option<Line>, Memory>
+    ensures { IfOk result (IsRead (form_in rows word.now) (fields_of rest.now)) }
+{
+    if word == b"put".as_slice() {
+        let put = object_and_value(alloc, rest)?;
+        Ok(put.map(|(object, value)| Line::Run(PlainOp::Put { object, value })))
+    } else if word == b"copy".as_slice() {
+        Ok(two_numbers(rest).map(|(from, to)| Line::Run(PlainOp::Copy { from, to })))
+    } else if word == b"append".as_slice() {
+        Ok(two_numbers(rest).map(|(from, to)| Line::Run(PlainOp::Append { from, to })))
+    } else if word == b"cut".as_slice() {
+        Ok(three_numbers(rest).map(|(from, to, place)| Line::Run(PlainOp::Cut { from, to, place })))
+    } else if word == b"sort".as_slice() {
+        Ok(three_numbers(rest).map(|(from, to, width)| Line::Run(PlainOp::Sort {
+            from,
+            to,
+            width,
+        })))
+    } else if word == b"swap".as_slice() {
+        Ok(two_numbers(rest).map(|(first, second)| Line::Run(PlainOp::Swap { first, second })))
+    } else if word == b"exec".as_slice() {
+        Ok(one_number(rest).map(|app| Line::Run(PlainOp::Exec { app })))
+    } else if word == b"aread".as_slice() {
+        Ok(two_numbers(rest).map(|(app, from)| Line::Run(PlainOp::AppRead { app, from })))
+    } else if word == b"awrite".as_slice() {
+        Ok(two_numbers(rest).map(|(app, to)| Line::Run(PlainOp::AppWrite { app, to })))
+    } else {
+        Ok(made_line(word, rest))
+    }
+}
+
+/// Takes a line apart, its newline not included. [`LineErr::Bad`] exactly where it is outside the grammar.
+pub fn parse_line(alloc: Global, line: &[u8]) -> Result<Line, LineErr>
+    ensures ok { IfOk result (AsksFor line.now) }
+    ensures bad { IsErrOf result LineErr.Bad → IsBad line.now }
 {
     if line.len() > MAX_LINE {
-        return Err(Bad);
+        return Err(LineErr::Bad);
     }
-    match next_field(without_return(line)) {
-        Some((word, rest)) => match line_of(word, rest) {
-            Some(line) => Ok(line),
-            None => Err(Bad),
-        },
-        None => Ok(Line::Skip),
+    let Some((word, rest)) = next_field(without_return(line)) else {
+        return Ok(Line::Skip);
+    };
+    if word.starts_with(b"#") {
+        return Ok(Line::Skip);
+    }
+    match line_of(alloc, word, rest)? {
+        Some(line) => Ok(line),
+        None => Err(LineErr::Bad),
     }
 }

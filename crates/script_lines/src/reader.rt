@@ -1,6 +1,6 @@
 ghost use Rattle.std.specs.Prelude.{◌≡◌, ◌≢◌, ◌≤◌, ◌<◌, ◌+◌, ◌^◌, ◌++◌, ◌==◌, [], length, take, min, nat_le, position, true, false, if◌then◌else◌, IfOk, IsErr, OnOk, OnErr, IsErrOf, Ok, Err};
 ghost use Rattle.disk_model.specs.Disk.{Rises};
-ghost use Rattle.script_lines.specs.Reading.{IsNext, Takes, TakesRun, still_to_give};
+ghost use Rattle.script_lines.specs.Reading.{IsNext, ReadsOn, TakesRun, still_to_give};
 
 use crate::line::MAX_LINE;
 use crate::next::Next;
@@ -106,7 +106,7 @@ impl LineReader {
         ensures before { result ≡ Ok false → self.new.taken < 2 ^ 40 }
         ensures line { self.new.line ≡ self.old.line }
         ensures measure { still_to_give self.new ≡ still_to_give self.old }
-        ensures takes { S.tells input.old → Takes (S.left input.old) (S.left input.new) self.old.taken self.new.taken }
+        ensures takes { S.tells input.old → ReadsOn (S.left input.old) (S.left input.new) self.old.taken self.new.taken }
         ensures later { S.faults input.old ≤ S.faults input.new }
         ensures fault { IsErrOf result ReadError.ReadFault → Rises (S.faults input.old) (S.faults input.new) }
         ensures long { IsErrOf result ReadError.TooLong → self.new.taken ≡ 2 ^ 40 }
@@ -166,7 +166,7 @@ impl LineReader {
         ensures next { S.tells input.old → IfOk result (λ next. IsNext next self.new.line
             (self.old.ahead ++ S.left input.old) (self.new.ahead ++ S.left input.new)) }
         ensures before { result ≡ Ok Next.End → self.new.taken < 2 ^ 40 }
-        ensures takes { S.tells input.old → Takes (S.left input.old) (S.left input.new) self.old.taken self.new.taken }
+        ensures takes { S.tells input.old → ReadsOn (S.left input.old) (S.left input.new) self.old.taken self.new.taken }
         ensures less { IfOk result (λ next. next ≢ Next.End → still_to_give self.new < still_to_give self.old) }
         ensures later { S.faults input.old ≤ S.faults input.new }
         ensures fault { IsErrOf result ReadError.ReadFault → Rises (S.faults input.old) (S.faults input.new) }

@@ -2,7 +2,7 @@ use Rattle.std.proofs.Common.{◌≡◌, ◌∙◌, ⊎_elim, List, Option, true
 use Rattle.std.proofs.lemmas.Bool.{false≢true}
 use Rattle.clap.specs.Words.{App, IsAmong, Row, Text, fault_of, is_simple, is_simple_and_free, kind_of, subcommand_of}
 use Rattle.command_words.specs.Commands.{redo}
-use Rattle.command_words.specs.Words.{IsAsked}
+use Rattle.command_words.specs.Words.{NamesForm}
 use Rattle.command_words.proofs.words.read_words.Goals as goal
 
 simple : is_simple redo ≡ true
@@ -18,7 +18,7 @@ returns-in-Some-clause-ok c =
     let named = (c.in-Ok.ensures.matches (ap is_simple is ∙ simple)).1 ∙ ap (λ (a : App). subcommand_of a words) is in
     record {
       faultless = ap (λ (a : App). fault_of a words) (sym is) ∙ c.in-Ok.ensures.kinds (ap is_simple_and_free is ∙ free);
-      named = subst (λ (n : Option (Text × List Row)). IsAsked n c.in-Some.asked) named c.in-Some.ensures.some;
+      named = subst (λ (n : Option (Text × List Row)). NamesForm n c.in-Some.asked) named c.in-Some.ensures.some;
     }
 
 pub returns-in-Ok-clause-refused : goal.returns-in-Ok-clause-refused
@@ -26,7 +26,7 @@ returns-in-Ok-clause-refused c = λ refusal asked asks.
     let words = map string_bytes c.args.words.now in
     let is = c.in_ok-redo.ensures in
     let named = (c.in-Ok.ensures.matches (ap is_simple is ∙ simple)).1 ∙ ap (λ (a : App). subcommand_of a words) is in
-    c.in-None.ensures.none asked (subst (λ (n : Option (Text × List Row)). IsAsked n asked) (sym named) asks.named)
+    c.in-None.ensures.none asked (subst (λ (n : Option (Text × List Row)). NamesForm n asked) (sym named) asks.named)
 
 pub returns-clause-refused : goal.returns-clause-refused
 returns-clause-refused c = λ refusal asked asks.

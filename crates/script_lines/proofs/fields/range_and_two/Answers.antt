@@ -1,14 +1,22 @@
-use Rattle.std.proofs.Common.{[], ◌∷◌}
-use Rattle.script_lines.specs.Grammar.{number, short}
-use Rattle.script_lines.proofs.FormLemmas.{say_rest, say_number}
+use Rattle.std.proofs.Common.{None, Some}
+use Rattle.script_lines.specs.Grammar.{asks, number, short}
+use Rattle.script_lines.proofs.ReadLemmas.{no_number, number_read}
 use Rattle.script_lines.proofs.fields.range_and_two.Goals as goal
 
-pub returns-in_err-high-clause-none : goal.returns-in_err-high-clause-none
-returns-in_err-high-clause-none c = rw c.from_residual-in_err-high.ensures (λ low high first second say.
-    let d = say_number _ high (short first ∷ short second ∷ []) (say_rest _ _ _ (number low) (number high ∷ short first ∷ short second ∷ []) c.in_ok-low.ensures.some say) in
-    c.in_err-high.ensures.none high d.0 d.2 d.1)
+pub returns-in_err-high : goal.returns-in_err-high
+returns-in_err-high c = rw c.from_residual-in_err-high.ensures (λ make.
+    number_read (λ low. number (λ high. short (λ key. short (λ other. asks (make low high key other))))) _ _ c.in_ok-low.low None c.in_ok-low.ensures.some c.in_ok-low.ensures.small
+    (no_number (λ high. short (λ key. short (λ other. asks (make c.in_ok-low.low high key other)))) _ c.in_err-high.ensures.none))
 
-pub returns-in_err-first-clause-none : goal.returns-in_err-first-clause-none
-returns-in_err-first-clause-none c = rw c.from_residual-in_err-first.ensures (λ low high first second say.
-    c.in_err-first.ensures.none first second (say_rest _ _ _ (number high) (short first ∷ short second ∷ []) c.in_ok-high.ensures.some
-    (say_rest _ _ _ (number low) (number high ∷ short first ∷ short second ∷ []) c.in_ok-low.ensures.some say)))
+pub returns-in_err-first : goal.returns-in_err-first
+returns-in_err-first c = rw c.from_residual-in_err-first.ensures (λ make.
+    number_read (λ low. number (λ high. short (λ key. short (λ other. asks (make low high key other))))) _ _ c.in_ok-low.low None c.in_ok-low.ensures.some c.in_ok-low.ensures.small
+    (number_read (λ high. short (λ key. short (λ other. asks (make c.in_ok-low.low high key other)))) _ _ c.in_ok-high.high None c.in_ok-high.ensures.some c.in_ok-high.ensures.small
+    (c.in_err-first.ensures (make c.in_ok-low.low c.in_ok-high.high))))
+
+pub returns : goal.returns
+returns c = λ make.
+    let all = make c.in_ok-low.low c.in_ok-high.high c.in_ok-first.first c.in_ok-first.second in
+    number_read (λ low. number (λ high. short (λ key. short (λ other. asks (make low high key other))))) _ _ c.in_ok-low.low (Some all) c.in_ok-low.ensures.some c.in_ok-low.ensures.small
+    (number_read (λ high. short (λ key. short (λ other. asks (make c.in_ok-low.low high key other)))) _ _ c.in_ok-high.high (Some all) c.in_ok-high.ensures.some c.in_ok-high.ensures.small
+    (c.in_ok-first.ensures (make c.in_ok-low.low c.in_ok-high.high)))

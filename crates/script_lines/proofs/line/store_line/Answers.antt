@@ -1,48 +1,32 @@
-use Rattle.std.proofs.Common.{◌≡◌, codes, ap, arith, rules}
-use Rattle.script_lines.proofs.FormLemmas.{no_get, no_alone, kind_found, tag_of}
+use Rattle.std.proofs.Common.{codes, refl, rules}
+use Rattle.script_lines.specs.Grammar.{store_rows}
+use Rattle.script_lines.specs.declared.line.Line.TheVariants.{Begin, Checkpoint, Drain, End, Force, Get, Install, Stat, Trim}
+use Rattle.script_lines.proofs.ReadLemmas.{by_row}
 use Rattle.script_lines.proofs.line.store_line.Goals as goal
 
-pub returns-then-eq-clause-none : goal.returns-then-eq-clause-none
-returns-then-eq-clause-none c =
-    let is : c.args.word.now ≡ codes "get" = search rules in
-    kind_found _ _ _ _ c.map.ensures.cases c.one_number.ensures.none (no_get _ _ is)
+pub returns-then-eq : goal.returns-then-eq
+returns-then-eq c = by_row store_rows c.args.word.now (codes "get") _ c.map.result (c.one_number.ensures (λ x. Get x)) (search rules) refl (search rules)
 
-pub returns-then-eq-2-clause-none : goal.returns-then-eq-2-clause-none
-returns-then-eq-2-clause-none c =
-    let is : c.args.word.now ≡ codes "force" = search rules in
-    kind_found _ _ _ _ c.map-then-eq-2.ensures.cases c.no_field.ensures.none (no_alone _ _ (omega (arith, ap tag_of is)) (omega (arith, ap tag_of is)))
+pub returns-then-eq-2 : goal.returns-then-eq-2
+returns-then-eq-2 c = by_row store_rows c.args.word.now (codes "force") _ c.map-then-eq-2.result (c.no_field.ensures Force) (search rules) refl (search rules)
 
-pub returns-then-eq-3-clause-none : goal.returns-then-eq-3-clause-none
-returns-then-eq-3-clause-none c =
-    let is : c.args.word.now ≡ codes "install" = search rules in
-    kind_found _ _ _ _ c.map-then-eq-3.ensures.cases c.no_field-then-eq-3.ensures.none (no_alone _ _ (omega (arith, ap tag_of is)) (omega (arith, ap tag_of is)))
+pub returns-then-eq-3 : goal.returns-then-eq-3
+returns-then-eq-3 c = by_row store_rows c.args.word.now (codes "install") _ c.map-then-eq-3.result (c.no_field-then-eq-3.ensures Install) (search rules) refl (search rules)
 
-pub returns-then-eq-4-clause-none : goal.returns-then-eq-4-clause-none
-returns-then-eq-4-clause-none c =
-    let is : c.args.word.now ≡ codes "drain" = search rules in
-    kind_found _ _ _ _ c.map-then-eq-4.ensures.cases c.no_field-then-eq-4.ensures.none (no_alone _ _ (omega (arith, ap tag_of is)) (omega (arith, ap tag_of is)))
+pub returns-then-eq-4 : goal.returns-then-eq-4
+returns-then-eq-4 c = by_row store_rows c.args.word.now (codes "drain") _ c.map-then-eq-4.result (c.no_field-then-eq-4.ensures Drain) (search rules) refl (search rules)
 
-pub returns-then-eq-5-clause-none : goal.returns-then-eq-5-clause-none
-returns-then-eq-5-clause-none c =
-    let is : c.args.word.now ≡ codes "checkpoint" = search rules in
-    kind_found _ _ _ _ c.map-then-eq-5.ensures.cases c.no_field-then-eq-5.ensures.none (no_alone _ _ (omega (arith, ap tag_of is)) (omega (arith, ap tag_of is)))
+pub returns-then-eq-5 : goal.returns-then-eq-5
+returns-then-eq-5 c = by_row store_rows c.args.word.now (codes "checkpoint") _ c.map-then-eq-5.result (c.no_field-then-eq-5.ensures Checkpoint) (search rules) refl (search rules)
 
-pub returns-then-eq-6-clause-none : goal.returns-then-eq-6-clause-none
-returns-then-eq-6-clause-none c =
-    let is : c.args.word.now ≡ codes "trim" = search rules in
-    kind_found _ _ _ _ c.map-then-eq-6.ensures.cases c.no_field-then-eq-6.ensures.none (no_alone _ _ (omega (arith, ap tag_of is)) (omega (arith, ap tag_of is)))
+pub returns-then-eq-6 : goal.returns-then-eq-6
+returns-then-eq-6 c = by_row store_rows c.args.word.now (codes "trim") _ c.map-then-eq-6.result (c.no_field-then-eq-6.ensures Trim) (search rules) refl (search rules)
 
-pub returns-then-eq-7-clause-none : goal.returns-then-eq-7-clause-none
-returns-then-eq-7-clause-none c =
-    let is : c.args.word.now ≡ codes "begin" = search rules in
-    kind_found _ _ _ _ c.map-then-eq-7.ensures.cases c.no_field-then-eq-7.ensures.none (no_alone _ _ (omega (arith, ap tag_of is)) (omega (arith, ap tag_of is)))
+pub returns-then-eq-7 : goal.returns-then-eq-7
+returns-then-eq-7 c = by_row store_rows c.args.word.now (codes "begin") _ c.map-then-eq-7.result (c.no_field-then-eq-7.ensures Begin) (search rules) refl (search rules)
 
-pub returns-then-eq-8-clause-none : goal.returns-then-eq-8-clause-none
-returns-then-eq-8-clause-none c =
-    let is : c.args.word.now ≡ codes "end" = search rules in
-    kind_found _ _ _ _ c.map-then-eq-8.ensures.cases c.no_field-then-eq-8.ensures.none (no_alone _ _ (omega (arith, ap tag_of is)) (omega (arith, ap tag_of is)))
+pub returns-then-eq-8 : goal.returns-then-eq-8
+returns-then-eq-8 c = by_row store_rows c.args.word.now (codes "end") _ c.map-then-eq-8.result (c.no_field-then-eq-8.ensures End) (search rules) refl (search rules)
 
-pub returns-then-eq-9-clause-none : goal.returns-then-eq-9-clause-none
-returns-then-eq-9-clause-none c =
-    let is : c.args.word.now ≡ codes "stat" = search rules in
-    kind_found _ _ _ _ c.map-then-eq-9.ensures.cases c.no_field-then-eq-9.ensures.none (no_alone _ _ (omega (arith, ap tag_of is)) (omega (arith, ap tag_of is)))
+pub returns-then-eq-9 : goal.returns-then-eq-9
+returns-then-eq-9 c = by_row store_rows c.args.word.now (codes "stat") _ c.map-then-eq-9.result (c.no_field-then-eq-9.ensures Stat) (search rules) refl (search rules)

@@ -1,6 +1,6 @@
 use Rattle.std.proofs.Common.{◌≡◌, ◌<◌, ℕ, length, sym, ap, subst, arith}
 use Rattle.std.proofs.lemmas.Bool.Decides.{nat_tests}
-use Rattle.script_lines.specs.Reading.{Takes}
+use Rattle.script_lines.specs.Reading.{ReadsOn}
 use Rattle.script_lines.proofs.LineLemmas.{takes_on, line_goes_on, line_is_taken, line_ends_input, input_ends, run_less}
 use Rattle.script_lines.proofs.reader.LineReader.next.Goals as goal
 
@@ -16,12 +16,12 @@ returns-else-is_empty-clause-takes g c = λ told. takes_on (c.loop-self.invarian
 pub returns-in_err-take_run-clause-takes : goal.returns-in_err-take_run-clause-takes
 returns-in_err-take_run-clause-takes g c = λ told.
     let t = takes_on (c.loop-self.invariant.takes told) (c.fill.ensures.takes (c.loop-self.invariant.told told)) in
-    subst (λ (n : ℕ). Takes (g.S.Source.left c.args.input.now) (g.S.Source.left c.fill.new.input) c.args.self.now.taken n) (sym c.take_run.ensures.taken) t
+    subst (λ (n : ℕ). ReadsOn (g.S.Source.left c.args.input.now) (g.S.Source.left c.fill.new.input) c.args.self.now.taken n) (sym c.take_run.ensures.taken) t
 
 pub returns-then-branch-clause-takes : goal.returns-then-branch-clause-takes
 returns-then-branch-clause-takes g c = λ told.
     let t = takes_on (c.loop-self.invariant.takes told) (c.fill.ensures.takes (c.loop-self.invariant.told told)) in
-    subst (λ (n : ℕ). Takes (g.S.Source.left c.args.input.now) (g.S.Source.left c.fill.new.input) c.args.self.now.taken n) (sym c.take_run.ensures.taken) t
+    subst (λ (n : ℕ). ReadsOn (g.S.Source.left c.args.input.now) (g.S.Source.left c.fill.new.input) c.args.self.now.taken n) (sym c.take_run.ensures.taken) t
 
 pub returns-then-is_empty-clause-next : goal.returns-then-is_empty-clause-next
 returns-then-is_empty-clause-next g c = λ told.
@@ -60,7 +60,7 @@ loop-self-preserved g c = record {
       line_goes_on _ _ _ (c.loop-self.invariant.taken told) c.fill.ensures.line (c.fill.ensures.same told_now) c.in_ok-take_run.ensures.run c.if-branch.false;
   takes = λ told.
       let t = takes_on (c.loop-self.invariant.takes told) (c.fill.ensures.takes (c.loop-self.invariant.told told)) in
-      subst (λ (n : ℕ). Takes (g.S.Source.left c.args.input.now) (g.S.Source.left c.fill.new.input) c.args.self.now.taken n) (sym c.take_run.ensures.taken) t;
+      subst (λ (n : ℕ). ReadsOn (g.S.Source.left c.args.input.now) (g.S.Source.left c.fill.new.input) c.args.self.now.taken n) (sym c.take_run.ensures.taken) t;
   less = omega (arith, c.loop-self.invariant.less, c.fill.ensures.measure, ap length c.fill.ensures.line, run_less c.in_ok-take_run.ensures.run c.take_run.ensures.taken);
   later = omega (arith, c.loop-self.invariant.later, c.fill.ensures.later);
 }

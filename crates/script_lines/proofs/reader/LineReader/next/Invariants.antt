@@ -1,5 +1,5 @@
 use Rattle.std.proofs.Common.{◌≤◌, ◌+◌, ◌++◌, length}
-use Rattle.script_lines.specs.Reading.{Takes, still_to_give}
+use Rattle.script_lines.specs.Reading.{ReadsOn, still_to_give}
 use Rattle.script_lines.proofs.LineLemmas.{Taken}
 use Rattle.script_lines.proofs.reader.LineReader.next.Given as goal
 
@@ -7,7 +7,7 @@ abbrev pub invariant-loop-self : goal.invariant-loop-self
 invariant-loop-self g l = record {
   told : g.S.Source.tells l.fn.input → g.S.Source.tells l.input;
   taken : g.S.Source.tells l.fn.input → Taken (l.fn.self.ahead ++ g.S.Source.left l.fn.input) (l.self.ahead ++ g.S.Source.left l.input) l.self.line;
-  takes : g.S.Source.tells l.fn.input → Takes (g.S.Source.left l.fn.input) (g.S.Source.left l.input) l.fn.self.taken l.self.taken;
+  takes : g.S.Source.tells l.fn.input → ReadsOn (g.S.Source.left l.fn.input) (g.S.Source.left l.input) l.fn.self.taken l.self.taken;
   less : still_to_give l.self + length l.self.line ≤ still_to_give l.fn.self;
   later : g.S.Source.faults l.fn.input ≤ g.S.Source.faults l.input;
 }

@@ -1,0 +1,12 @@
+use Rattle.std.proofs.Common.{None, Some}
+use Rattle.script_lines.specs.Grammar.{two}
+use Rattle.script_lines.proofs.ReadLemmas.{number_read}
+use Rattle.script_lines.proofs.fields.three_numbers.Goals as goal
+
+pub returns-in_err-second : goal.returns-in_err-second
+returns-in_err-second c = rw c.from_residual-in_err-second.ensures
+    (λ make. number_read (λ x. two (make x)) _ _ c.in_ok-first.first None c.in_ok-first.ensures.some c.in_ok-first.ensures.small (c.in_err-second.ensures (make c.in_ok-first.first)))
+
+pub returns : goal.returns
+returns c = λ make. number_read (λ x. two (make x)) _ _ c.in_ok-first.first (Some (make c.in_ok-first.first c.in_ok-second.second c.in_ok-second.third)) c.in_ok-first.ensures.some c.in_ok-first.ensures.small
+    (c.in_ok-second.ensures (make c.in_ok-first.first))
