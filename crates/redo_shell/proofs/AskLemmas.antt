@@ -19,7 +19,8 @@ use Rattle.std.specs.FinMap.Entries.{find}
 use Rattle.btree_ops.specs.Entries.{byte_order}
 use Rattle.logical_btree.specs.Walk.{Pair, Way, scan, walk}
 use Rattle.logical_btree.specs.declared.refusal.TreeRefusal.TheVariants.{NoObject}
-use Rattle.script_lines.specs.Grammar.{Request, tget, trange, AsksFor}
+use Rattle.script_lines.specs.Grammar.{Request, AsksFor}
+use Rattle.script_lines.specs.declared.line.Line.TheVariants.{TreeGet as tget, TreeRange as trange}
 use Rattle.script_lines.specs.Replies.{Reply, value, pairs, forced, refused, bad_tree, pairs_reply}
 use Rattle.store_engine.specs.Engine.{EngineView, forced_in, used_in}
 use Rattle.store_engine.specs.Engine as of_engine
@@ -27,7 +28,7 @@ use Rattle.redo_shell.specs.Found.{IsAsked, reply_in}
 use Rattle.redo_shell.specs.Groups.{Regroups, open_in, waiting}
 use Rattle.redo_shell.specs.Made.{AsksTree, found_reply, range_reply, tree_answer}
 use Rattle.redo_shell.specs.Replies.{IsTrueIn, Replies}
-use Rattle.redo_shell.specs.Run.{IsFound, Working}
+use Rattle.redo_shell.specs.Run.{IsAnswerFound, Working}
 use Rattle.redo_shell.specs.Stages.{GoesBy, IsQuestion, Stage, stage_of}
 use Rattle.redo_shell.specs.Store.{Between, Command, Holds, Kept, Says, meaning_in, state_of}
 use Rattle.redo_shell.specs.declared.asking.Found.{Found}
@@ -145,7 +146,7 @@ module _ {p : Params} {old now : Disk} {before after : EngineView} {commands : L
       )
 
   -- what was found is answered
-  pub asked_found : (found : Found) → result ≡ Ok found → (of_engine.Holds all_meaning p now after commands → Says p now after commands) → IsFound p old now before after holds.world commands line (reply_in found)
+  pub asked_found : (found : Found) → result ≡ Ok found → (of_engine.Holds all_meaning p now after commands → Says p now after commands) → IsAnswerFound p old now before after holds.world commands line (reply_in found)
   asked_found found is says =
       let fine = subst IsOk (sym is) tt in
       let early = not_early u.error result u.ended fine in
@@ -158,12 +159,12 @@ module _ {p : Params} {old now : Disk} {before after : EngineView} {commands : L
       (λ f. told_tied p commands line reply told f (waiting (open_in holds.world) (commands ++ []))) (λ group. told_regroups p commands line group reply told) (told_other reply told) (told_goes p commands line reply told a) holds.commands_are
       (u.calls.call.quiet holds.shows.shows.told) kept.0 kept.1
 
-  pub asked_moments : old.tells_moments → LeavesOnly old now (Working p old before commands line)
-  asked_moments told =
+  pub asked_images : old.tells_moments → LeavesOnly old now (Working p old before commands line)
+  asked_images told =
       let a = u.adds p commands holds in
       weaker old now (Between p old before.group (forced_in before) (length commands) (commands ++ take a.done [])) (Working p old before commands line) (a.images told)
       (λ f s b. record { added = take a.done []; front = inl (take-nil a.done); between = b })
 
   -- no step is taken
   pub asked_works : Works p old now (stage_of before holds.world) line
-  asked_works = works_by p old now (stage_of before holds.world) line (course [] (used_in before) Through) (inr (inr refl)) (u.adds p commands holds).takes
+  asked_works = works_by p old now (stage_of before holds.world) line (course [] (used_in before) Through) (inr (inr refl)) (u.adds p commands holds).steps

@@ -3,7 +3,7 @@ use Rattle.std.proofs.Common.{◌≡◌, ◌≢◌, ◌^◌, List, ℕ, inl, ref
 use Rattle.disk_model.specs.Disk.{Disk, IsDisk, Rises}
 use Rattle.formats.specs.declared.params.Params.{Params}
 use Rattle.script_lines.specs.Grammar.{lines_of}
-use Rattle.script_lines.specs.Reading.{Takes}
+use Rattle.script_lines.specs.Reading.{ReadsOn}
 use Rattle.command_words.specs.Words.{Asks}
 use Rattle.command_words.specs.declared.asked.Asked.{Asked}
 use Rattle.command_words.specs.declared.asked.Asked.TheVariants.{Init, Run, Dump, Demo}
@@ -18,6 +18,7 @@ use Rattle.redo_shell.specs.declared.status.Status.{Status}
 use Rattle.redo_shell.specs.declared.status.Status.TheVariants.{Done, DoneWithRefusals, Usage, NotAStore, AlreadyStore, Damaged, DiskFault, ReadFault, SayFault, Memory, TooLong}
 use Rattle.restart.specs.Starts.{at_start}
 use Rattle.redo_shell.proofs.KeepLemmas.{keeps_once}
+use Rattle.redo_shell.proofs.DamageLemmas.{HasOneDamage}
 use Rattle.redo_shell.proofs.ExactLemmas.{calm_run, calm_told, calm_dump, opens_exactly, runs_exactly, makes_exactly}
 use Rattle.redo_shell.proofs.RestartLemmas.{image_begins}
 
@@ -65,7 +66,7 @@ calm_demo ReadFault calm memory of faults = absurd of
 calm_demo TooLong calm memory of faults = absurd of
 
 module _ {words : List (List ℕ)} {told : Type 0} {left rest : List ℕ} {before now : ℕ} {old new : Disk} {status : Status} (asked : Asked) (call : IsCallFor asked told left rest old new status)
-    (faults : CountsFaults old new status) (read_fault : status ≡ ReadFault → Rises before now) (too_long : told → status ≡ TooLong → Takes left rest 0 (2 ^ 40)) where
+    (faults : CountsFaults old new status) (read_fault : status ≡ ReadFault → Rises before now) (too_long : told → status ≡ TooLong → ReadsOn left rest 0 (2 ^ 40)) where
   -- each status of trouble comes only with its cause
   pub call_caused : ComesByCause words told left rest before now old new status
   call_caused = record {
@@ -80,19 +81,19 @@ module _ {words : List (List ℕ)} {told : Type 0} {left rest : List ℕ} {befor
   }
 
   -- and where no count of faults rises, exactly there
-  pub call_exactly : Asks words asked → ((other : Asked) → Asks words other → asked ≡ other) → ((p : Params) (commands : List Command) → Opens p old commands → IsWellFormed old.reads) → IsFaultless old new before now
+  pub call_exactly : Asks words asked → ((other : Asked) → Asks words other → asked ≡ other) → HasOneDamage old.reads → ((p : Params) (commands : List Command) → Opens p old commands → IsWellFormed old.reads) → IsFaultless old new before now
       → ComesExactly words told left old new status
-  call_exactly asks one format faultless = record {
+  call_exactly asks one damage format faultless = record {
     usage = λ memory. (λ is. absurd (not_usage told left rest old new status asked call is), λ none. absurd (none asked asks));
     run = λ is files.
         let it = call_for told left rest old new status (one Run is) call in
-        inl (opens_exactly status (calm_run status faultless it.ends faults read_fault) (it.judged files));
+        inl (opens_exactly status (calm_run status faultless it.ends faults read_fault) damage (it.judged files));
     runs = λ is memory.
         let it = call_for told left rest old new status (one Run is) call in
         runs_exactly status (calm_run status faultless it.ends faults read_fault) memory it too_long format;
     dump = λ is files.
         let it = call_for told left rest old new status (one Dump is) call in
-        inl (opens_exactly status (calm_told status faultless it.ends faults) (it.judged files));
+        inl (opens_exactly status (calm_told status faultless it.ends faults) damage (it.judged files));
     dumps = λ is memory p commands opens.
         let it = call_for told left rest old new status (one Dump is) call in
         calm_dump status faultless memory it.ends faults ((it.judged opens.told).store (format p commands opens));
@@ -105,16 +106,16 @@ pub call_goes_on : {T : Type 0} (disk : T → Disk) {words : List (List ℕ)} {t
     → ((other : Asked) → Asks words other → IsCallFor other told left rest (disk old) (disk new) status) → GoesOn disk words told (lines_of left) old new
 call_goes_on disk {words} {told} {left} old new lawful call = record {
   run = λ first next inits runs bytes asks told begins before follows.
-      run old new next (record { script = lines_of left; bytes = bytes }) before begins (λ p commands opens. ((call Run asks).script p commands opens told).moments) follows;
+      run old new next (record { script = lines_of left; bytes = bytes }) before begins (λ p commands opens. ((call Run asks).script p commands opens told).images) follows;
   run_untold = λ asks.
       let (script, each) = (call Run asks).untold in (
         script,
-        λ first next inits runs bytes begins before follows. run old new next (record { script = script; bytes = bytes }) before begins (λ p commands opens. (each p commands opens).moments) follows,
+        λ first next inits runs bytes begins before follows. run old new next (record { script = script; bytes = bytes }) before begins (λ p commands opens. (each p commands opens).images) follows,
       );
-  init = λ p first next inits runs said asks none before follows. init old new next p said before none (λ telling. (call (Init p) asks).moments telling none) follows;
+  init = λ p first next inits runs said asks none before follows. init old new next p said before none (λ telling. (call (Init p) asks).images telling none) follows;
   dump = λ first next inits runs said asks before follows.
       dump old new next said before (λ none telling. ((call Dump asks).judged (lawful.telling telling)).keeps (λ image. none (image_begins image)))
-      (λ p commands opens. ((call Dump asks).table p commands opens).moments) follows;
+      (λ p commands opens. ((call Dump asks).table p commands opens).images) follows;
 }
 
 -- where there was no memory to read the words, it goes on them too

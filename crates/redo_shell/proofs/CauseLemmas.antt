@@ -17,8 +17,9 @@ use Rattle.store_engine.specs.Lists.{commands_course}
 use Rattle.running_store.specs.Commands.{command_length}
 use Rattle.execution.specs.Courses.{append_course, needed}
 use Rattle.store_engine.specs.Engine.{needed_in}
-use Rattle.script_lines.specs.declared.answer.Counts.{Counts}
-use Rattle.script_lines.specs.Grammar.{Request, put, copy, append, cut, sort, swap, exec, aread, awrite, arun, tinsert, tget, tdelete, trange, get, force, install, drain, checkpoint, trim, begin_group, end_group, stat as asks_stat, skip, AsksFor, IsBad}
+use Rattle.script_lines.specs.declared.answer.StatLine.{StatLine}
+use Rattle.script_lines.specs.Grammar.{Request, AsksFor, IsBad}
+use Rattle.script_lines.specs.declared.line.Line.TheVariants.{Run as run, AppRun as arun, TreeInsert as tinsert, TreeGet as tget, TreeDelete as tdelete, TreeRange as trange, Get as get, Force as force, Install as install, Drain as drain, Checkpoint as checkpoint, Trim as trim, Begin as begin_group, End as end_group, Stat as asks_stat, Skip as skip}
 use Rattle.script_lines.specs.Replies.{Reply, ok, ran, value, pairs, forced, bad, refused, bad_tree, tree_full, in_group, no_group, full, end, object_value, command_count, stat, summary, silence}
 use Rattle.redo_shell.specs.Groups.{open_in, size_of}
 use Rattle.redo_shell.specs.Made.{Made, AsksMade, AsksBehind, AsksTree, made, made_by, one_made, one_unless, tree_answer}
@@ -82,15 +83,7 @@ abbrev Allows : Reply → ℕ → Type 0
 Allows reply n = (first_of reply ≤ n) × (n ≤ last_of reply)
 
 made_class : (p : Params) (commands : List Command) (it : Made) (request : Request) → made_by p commands request ≡ Some it → class request ≡ 2
-made_class p commands it (put x bytes) is = refl
-made_class p commands it (copy x y) is = refl
-made_class p commands it (append x y) is = refl
-made_class p commands it (cut x y place) is = refl
-made_class p commands it (sort x y width) is = refl
-made_class p commands it (swap x y) is = refl
-made_class p commands it (exec app) is = refl
-made_class p commands it (aread app x) is = refl
-made_class p commands it (awrite app x) is = refl
+made_class p commands it (run op) is = refl
 made_class p commands it (arun app n) is = refl
 made_class p commands it (tinsert lo hi key bytes) is = refl
 made_class p commands it (tdelete lo hi key) is = refl
@@ -383,7 +376,7 @@ module _ (p : Params) (group : Option ℕ) (commands : List Command) (line : Lis
     silence_exactly reply added is asks = absurd (let a = fits skip asks reply added is (λ e. cc) in omega (arith, a.0, a.1))
 
     -- the counts are told exactly of a line that asks for them
-    pub stat_exactly : (reply : Reply) (added : List Command) → Replies p group commands line reply added → AsksFor line asks_stat → (counts : Counts) × (reply ≡ stat counts)
+    pub stat_exactly : (reply : Reply) (added : List Command) → Replies p group commands line reply added → AsksFor line asks_stat → (counts : StatLine) × (reply ≡ stat counts)
     stat_exactly (stat counts) added is asks = (counts, refl)
     stat_exactly bad added is asks = absurd (is.0 asks_stat asks)
     stat_exactly reply added is asks = absurd (let a = fits asks_stat asks reply added is (λ e. cc) in omega (arith, a.0, a.1))

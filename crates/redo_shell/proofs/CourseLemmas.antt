@@ -16,9 +16,11 @@ use Rattle.running_store.specs.Running.{AreUpkeep}
 use Rattle.running_store.specs.Rewrites.{check_length, new_base, rewrite_course, trimmed, trimmed_file}
 use Rattle.running_store.specs.Commands.{command_length}
 use Rattle.cache_manager.specs.Upkeep.{upkeep_append, upkeep_either, upkeep_then, upkeep_force, upkeep_room, upkeep_install, upkeep_drain}
-use Rattle.checkpointing.specs.Courses.{check_course, check_steps, checkpoint_course, logged_course, last_epoch, trim_course}
+use Rattle.formats.specs.Limits.{numbers_end}
+use Rattle.checkpointing.specs.Courses.{check_course, check_steps, checkpoint_course, logged_course, trim_course}
 use Rattle.execution.specs.Courses.{append_course, needed, unplaced_steps}
-use Rattle.script_lines.specs.Grammar.{Request, install, drain, checkpoint, trim}
+use Rattle.script_lines.specs.Grammar.{Request}
+use Rattle.script_lines.specs.declared.line.Line.TheVariants.{Install as install, Drain as drain, Checkpoint as checkpoint, Trim as trim}
 use Rattle.store_engine.specs.Calls.{begin_course}
 use Rattle.redo_shell.specs.Store.{Command}
 use Rattle.redo_shell.specs.Replies.{IsOver, IsUpkeep}
@@ -86,7 +88,7 @@ module _ (m : Meaning Command) where
 
   stop_trim : (epoch : ℕ) (w : World Command) (used : ℕ) → MayStop trim (trim_course m epoch w used).stop
   stop_trim epoch w used =
-      cond_both (nat_le last_epoch epoch) _ _ (λ (c : Course Command). MayStop trim c.stop) (λ worn. tt)
+      cond_both (nat_le numbers_end epoch) _ _ (λ (c : Course Command). MayStop trim c.stop) (λ worn. tt)
       (λ left. stop_then trim w (force_course m w used) (rewrite_course m) tt
       (λ v used. cond_both (nat_lt (2 ^ 48) (trimmed_file m v)) _ _ (λ (c : Course Command). MayStop trim c.stop)
       (λ over. let high : 2 ^ 48 < trimmed_file m v = grind (arith, nat_tests, over) in (refl, λ more. high)) (λ fits. tt)))
@@ -115,7 +117,7 @@ module _ (m : Meaning Command) where
 
   upkeep_trim : (epoch : ℕ) (w : World Command) (used : ℕ) → AreUpkeep (trim_course m epoch w used).steps
   upkeep_trim epoch w used =
-      cond_both (nat_le last_epoch epoch) _ _ (λ (c : Course Command). AreUpkeep c.steps) (λ worn. tt)
+      cond_both (nat_le numbers_end epoch) _ _ (λ (c : Course Command). AreUpkeep c.steps) (λ worn. tt)
       (λ left. upkeep_then m w (force_course m w used) (rewrite_course m) (upkeep_force m w)
       (λ v used. upkeep_either m (nat_lt (2 ^ 48) (trimmed_file m v)) (course [] used (Full used (trimmed_file m v) (2 ^ 48))) (course (Header_gate (new_base m v) ∷ []) (trimmed m v) Through) tt (tt, tt)))
 
@@ -184,6 +186,6 @@ module _ (m : Meaning Command) where
 
   pub logged_trim : (epoch : ℕ) (w : World Command) (used : ℕ) → logged_in (trim_course m epoch w used).steps ≡ []
   logged_trim epoch w used =
-      cond_both (nat_le last_epoch epoch) _ _ (λ (c : Course Command). logged_in c.steps ≡ []) (λ worn. refl)
+      cond_both (nat_le numbers_end epoch) _ _ (λ (c : Course Command). logged_in c.steps ≡ []) (λ worn. refl)
       (λ left. logged_then w (force_course m w used) (rewrite_course m) (logged_force w)
       (λ v used. logged_either (nat_lt (2 ^ 48) (trimmed_file m v)) (course [] used (Full used (trimmed_file m v) (2 ^ 48))) (course (Header_gate (new_base m v) ∷ []) (trimmed m v) Through) refl refl))

@@ -11,6 +11,7 @@ use Rattle.disk_model.specs.declared.machine.FileNo.{FileNo}
 use Rattle.oper_core.specs.Meaning.{Meaning, refusal_of, state_after}
 use Rattle.oper_core.specs.State.{State}
 use Rattle.oper_core.specs.declared.refusal.Refusal.{Refusal}
+use Rattle.formats.specs.Limits.{log_limit}
 use Rattle.formats.specs.Image.{EndsAt, NextIs}
 use Rattle.formats.specs.declared.params.Params.{Params}
 use Rattle.log_records.specs.RecordLog.{RecordLogView}
@@ -28,7 +29,6 @@ use Rattle.running_store.specs.Courses.{Course, Stop, course, grown, waits, forc
 use Rattle.cache_manager.specs.InstallCourses.{logged_in}
 use Rattle.running_store.specs.Courses.Stop.{Through, Full, At_end, Worn}
 use Rattle.running_store.specs.Kept.{StopsAt}
-use Rattle.running_store.specs.Logged.{log_limit}
 use Rattle.running_store.specs.Running.{AreUpkeep, run_upkept}
 use Rattle.running_store.specs.Taking.{Ending}
 use Rattle.running_store.specs.Taking.Ending.{Done, Stopped, Short, Failed}
@@ -41,7 +41,8 @@ use Rattle.execution.specs.Stops.{StopsCommand, StopsWithin}
 use Rattle.execution.specs.declared.exec_err.ExecErr.{ExecErr}
 use Rattle.execution.specs.declared.exec_err.ExecErr.TheVariants.{Refused, LogFull, LsnEnd, DiskFault, Damaged}
 use Rattle.execution.specs.Failures.{IsExecFailure}
-use Rattle.script_lines.specs.Grammar.{Request, AsksFor, begin_group, end_group, force, trim}
+use Rattle.script_lines.specs.Grammar.{Request, AsksFor}
+use Rattle.script_lines.specs.declared.line.Line.TheVariants.{Begin as begin_group, End as end_group, Force as force, Trim as trim}
 use Rattle.script_lines.specs.Replies.{Reply, ok, ran, value, pairs, forced, bad, refused, bad_tree, tree_full, in_group, no_group, full, end, object_value, command_count, stat, summary, silence, reply_of}
 use Rattle.script_lines.specs.declared.answer.Answer.{Answer}
 use Rattle.store_engine.specs.Calls.{IsForcing}
@@ -49,13 +50,13 @@ use Rattle.store_engine.specs.Engine.{EngineView, FollowsIn, InEachImage, IsAfte
 use Rattle.store_engine.specs.FailureLaws.{still_none_damaged}
 use Rattle.store_engine.specs.Grouping.{ungrouped}
 use Rattle.store_engine.specs.Engine as of_engine
-use Rattle.redo_shell.specs.Store.{IsAttached, IsCall}
+use Rattle.redo_shell.specs.Store.{IsAttached, IsEngineCall}
 use Rattle.redo_shell.specs.Groups.{Regroups, begun_after, group_after, open_in, size_of, waiting}
 use Rattle.redo_shell.specs.Found.{EndsAtLast, IsStopped, IsOfEngine, IsBarredIn, IsDone, IsAnswerOf, MayStop, IsUpkept}
 use Rattle.redo_shell.specs.Replies.{AsksCommand, Replies, IsBarred, IsGranted, IsUpkeep, IsLast, IsTrueIn}
 use Rattle.redo_shell.specs.Made.{Made, made, AsksMade, AsksBehind}
-use Rattle.redo_shell.specs.Run.{IsFound}
-use Rattle.redo_shell.specs.Courses.{IsDue}
+use Rattle.redo_shell.specs.Run.{IsAnswerFound}
+use Rattle.redo_shell.specs.Courses.{IsCourseDue}
 use Rattle.redo_shell.specs.Stages.{Stage, Ends, GoesBy, stage_of, stage_after, upkeep_course}
 use Rattle.redo_shell.specs.Store.{Command, meaning_in, record_length, refusal_after, HasCause, Stands, ShowsIn, Says, Holds, Between}
 use Rattle.redo_shell.specs.declared.stop.Stop.{Stop as Early}
@@ -182,7 +183,7 @@ done_holds d = record { world = d.world; shows = d.shows; commands_are = d.comma
 
 -- the answer is found
 abbrev pub found_of : {p : Params} {old now : Disk} {before after : EngineView} {commands : List Command} {line : List ℕ} {reply : Reply} → (holds : Holds p old before commands)
-    → (d : IsDone p old now before after holds.world commands line reply) → Says p now after (commands ++ d.added) → SaysAlone now after → SaysWithin now after → IsFound p old now before after holds.world commands line reply
+    → (d : IsDone p old now before after holds.world commands line reply) → Says p now after (commands ++ d.added) → SaysAlone now after → SaysWithin now after → IsAnswerFound p old now before after holds.world commands line reply
 found_of {p} {old} {now} {before} {after} {commands} {line} {reply} holds d says alone within = record {
   added = d.added;
   replies = d.replies;
@@ -209,9 +210,9 @@ IsLiveMap m = (w : World Command) (x : ℕ) → IsSound m w → IsLive w → (w.
 
 -- What a call on an engine says of a command.
 pub record IsExec (p : Params) (old now : Disk) (before after : EngineView) (w : World Command) (commands : List Command) (op : Command) (result : Result ℕ ExecErr) : Type 0 where
-  pub call : IsCall (params_of before).limit old now before after 0 (ending_of_exec result)
+  pub call : IsEngineCall (params_of before).limit old now before after 0 (ending_of_exec result)
   pub follows : FollowsIn all_meaning p now after w (exec_course (meaning_in p) (is_some w.group) (params_of before).limit op w (used_in before)) (ending_of_exec result)
-  pub answers : of_world.HasCause (is_some w.group) (meaning_in p) p.limit w (used_in before) op result
+  pub answers : of_world.HasCauseIn (is_some w.group) (meaning_in p) p.limit w (used_in before) op result
   pub exactly : HasCause (group_size before) p commands op result
   pub risen : IsErrOf result DiskFault ⊎ HasRisen before after commands
 
@@ -297,7 +298,7 @@ last_epoch_is true most log epoch stops = absurd stops
 last_epoch_is false most log epoch stops = stops.1
 
 -- the engine is left so
-pub left_stopped : {old now : Disk} {before after : EngineView} {most n : ℕ} (stop : Stop) → IsCall most old now before after n (Stopped stop) → IsStopped after stop
+pub left_stopped : {old now : Disk} {before after : EngineView} {most n : ℕ} (stop : Stop) → IsEngineCall most old now before after n (Stopped stop) → IsStopped after stop
 left_stopped {before = before} {after = after} {most = most} stop call =
     (most, subst (λ (o : Option ℕ). StopsCommand (is_some o) most after.parts.log stop) (sym call.group) (call.stopped stop refl))
 
@@ -337,7 +338,7 @@ module _ (p : Params) (old now : Disk) (before after : EngineView) (commands : L
   last_one none = record { it = made (op ∷ []) ok; asks = asked none; rest = []; next = refl }
 
   -- the same group is open
-  still_open : {most n : ℕ} {ending : Ending} → IsCall most old now before after n ending → IsAfterIn all_meaning p now after w its → open_in (run m w its.steps) ≡ open_in w
+  still_open : {most n : ℕ} {ending : Ending} → IsEngineCall most old now before after n ending → IsAfterIn all_meaning p now after w its → open_in (run m w its.steps) ≡ open_in w
   still_open call there = same_open w (run m w its.steps) holds.shows.sound (there.shows.group ∙ call.group ∙ sym holds.shows.group) (grows m op w p.limit (used_in before))
 
   pub exec_done : (n : ℕ) → IsExec p old now before after w commands op (Ok n) → IsDone p old now before after w commands line ok
@@ -446,7 +447,7 @@ module _ (p : Params) (old now : Disk) (before after : EngineView) (commands : L
           ap (λ (s : State). refusal_of m s op) (fun_ext (λ (x : ℕ). map w x holds.shows.sound holds.shows.shows.running.live))
           ∙ ap (λ (l : List Command). refusal_after p l op) holds.commands_are
 
-      by_course : (c : Course Command) → IsDue p (stage_of before w) (line ∷ []) c → exec_course m (is_some w.group) (params_of before).limit op w (used_in before) ≡ c → Works p old now (stage_of before w) line
+      by_course : (c : Course Command) → IsCourseDue p (stage_of before w) (line ∷ []) c → exec_course m (is_some w.group) (params_of before).limit op w (used_in before) ≡ c → Works p old now (stage_of before w) line
       by_course c due is = works_by p old now (stage_of before w) line c due (λ told. subst (λ (d : Course Command). TakesSome m p old now w d.steps) is (takes told))
 
       by_refusal : (o : Option Refusal) → refusal_in m w op ≡ o → Works p old now (stage_of before w) line
@@ -584,7 +585,7 @@ module _ (p : Params) (old now : Disk) (before after : EngineView) (commands : L
   rose ending working keeps = ⊎_elim (λ failed. absurd (working failed)) (λ (k : of_engine.Kept all_meaning p before now after commands). risen holds k) (keeps.holds p commands (in_engine holds))
 
   -- a reply to it that adds nothing
-  replies_so : (reply : Reply) (ending : Ending) → (IsFailed ending → ⊥) → IsCall log_limit old now before after u.logged ending → KeepsCommands all_meaning old now before after ending → IsAfterIn all_meaning p now after start way
+  replies_so : (reply : Reply) (ending : Ending) → (IsFailed ending → ⊥) → IsEngineCall log_limit old now before after u.logged ending → KeepsCommands all_meaning old now before after ending → IsAfterIn all_meaning p now after start way
       → Replies p (open_in start) commands line reply [] → Regroups line reply commands (open_in start) (open_in (run mean start way.steps)) → GoesBy p (stage_of before start) line reply (stage_of after (run mean start way.steps)) → IsOfEngine after line reply
       → IsDone p old now before after start commands line reply
   replies_so reply ending working call keeps there replies regroups goes is_of = record {
@@ -612,7 +613,7 @@ module _ (p : Params) (old now : Disk) (before after : EngineView) (commands : L
   none_still : IsAfterIn all_meaning p now after start way → open_in (run mean start way.steps) ≡ open_in start
   none_still there = none_after there ∙ sym none_before
 
-  by_ending : (ending : Ending) (r : Result Answer Early) → IsAnswerOf ending r → IsCall log_limit old now before after u.logged ending → FollowsIn all_meaning p now after start way ending → KeepsCommands all_meaning old now before after ending → Answered r
+  by_ending : (ending : Ending) (r : Result Answer Early) → IsAnswerOf ending r → IsEngineCall log_limit old now before after u.logged ending → FollowsIn all_meaning p now after start way ending → KeepsCommands all_meaning old now before after ending → Answered r
   by_ending Done r is call there keeps =
       subst (λ (x : Result Answer Early). Answered x) (sym is)
       (replies_so ok Done (λ f. f) call keeps there.1 (inr (request, granted, asks, refl)) (request, asks, none_still there.1 ∙ sym (upkeep_alike request (open_in start) commands of_kind)) (ends_as Through there.0 there.1) tt)
@@ -639,13 +640,13 @@ module _ (p : Params) (old now : Disk) (before after : EngineView) (commands : L
   upkeep_done = by_ending u.ending result u.answered u.call (u.takes.follows p holds.world holds.shows) u.commands
 
   pub upkeep_works : Works p old now (stage_of before start) line
-  upkeep_works = works_by p old now (stage_of before start) line way (inl (inr (inl (request, u.epoch, granted, asks, refl)))) (λ told. u.takes.moments told p start holds.shows)
+  upkeep_works = works_by p old now (stage_of before start) line way (inl (inr (inl (request, u.epoch, granted, asks, refl)))) (λ told. u.takes.steps told p start holds.shows)
 
 -- what holds of a call that did not fail with the disk
-pub still_attached : {old new : Disk} {before after : EngineView} {most n : ℕ} {ending : Ending} → IsCall most old new before after n ending → (IsFailed ending → ⊥) → IsAttached old before → IsAttached new after
+pub still_attached : {old new : Disk} {before after : EngineView} {most n : ℕ} {ending : Ending} → IsEngineCall most old new before after n ending → (IsFailed ending → ⊥) → IsAttached old before → IsAttached new after
 still_attached call working attached = ⊎_elim (λ failed. absurd (working failed)) (λ keeps. keeps attached) call.attached
 
-pub still_whole : {old new : Disk} {before after : EngineView} {most n : ℕ} {ending : Ending} → IsCall most old new before after n ending → (IsFailed ending → ⊥) → after.broken ≡ false
+pub still_whole : {old new : Disk} {before after : EngineView} {most n : ℕ} {ending : Ending} → IsEngineCall most old new before after n ending → (IsFailed ending → ⊥) → after.broken ≡ false
 still_whole {after = after} call working = false_from_ne_true after.broken (λ e. working (call.broken.0 e))
 
 -- an error of a command that is no fault
@@ -656,7 +657,7 @@ pub fails_so : {e : ExecErr} → e ≡ DiskFault → IsFailed (ending_of_exec {T
 fails_so is = subst (λ (x : ExecErr). IsFailed (ending_of_exec {T = ℕ} (Err x))) (sym is) tt
 
 -- no slot of an engine with its files is damaged
-pub exec_undamaged : {old new : Disk} (before after : EngineView) {most n : ℕ} (op : Command) {e : ExecErr} (file : FileNo) (place : ℕ) → IsDisk new → IsCall most old new before after n (ending_of_exec {T = ℕ} (Err e))
+pub exec_undamaged : {old new : Disk} (before after : EngineView) {most n : ℕ} (op : Command) {e : ExecErr} (file : FileNo) (place : ℕ) → IsDisk new → IsEngineCall most old new before after n (ending_of_exec {T = ℕ} (Err e))
     → IsOutcome all_meaning old new before after.parts op (Err e) → e ≡ Damaged file place → old.tells_files → IsAttached old before → ⊥
 exec_undamaged {old} {new} before after op file place disk call outcome is told attached =
     let here = subst (λ (x : ExecErr). IsExecFailure all_meaning (is_some before.group) old new before.parts op x) is outcome.1 in

@@ -139,10 +139,10 @@ module _ (p : Params) (old mid new : Disk) (commands : List Command) (engine : E
   pub dump_shows : mid.tells_files → FilesShow (meaning_in p) p new.reads first.world
   dump_shows told = subst (λ (f : Files). FilesShow (meaning_in p) p f first.world) (sym (keeps.reads told)) opened_shows
 
-  pub dump_courses : IsSettled mid → (old.tells_moments → mid.tells_moments) → old.tells_moments → LeavesOnly old new (OrAtStart old (TableMoment p commands old first is))
-  dump_courses settled telling told =
+  pub dump_steps : IsSettled mid → (old.tells_moments → mid.tells_moments) → old.tells_moments → LeavesOnly old new (OrAtStart old (TableMoment p commands old first is))
+  dump_steps settled telling told =
       runs_on old mid new (OrAtStart old (TableMoment p commands old first is))
-      (or_weaker old mid (OpeningMoment p commands old first is) (TableMoment p commands old first is) (files.courses told first is) (λ f s here. inl here))
+      (or_weaker old mid (OpeningMoment p commands old first is) (TableMoment p commands old first is) (files.steps told first is) (λ f s here. inl here))
       (weaker mid new (λ f s. mid.left_since mid.clock f mid.said) (OrAtStart old (TableMoment p commands old first is)) (keeps.images (telling told))
       (λ f s left. inr (inr (subst (λ (x : Files). FilesShow (meaning_in p) p x first.world) (fun_ext (λ (n : FileNo). sym (settled n (telling told) f mid.said left))) opened_shows))))
 
@@ -156,32 +156,32 @@ pub dump_on : (p : Params) (old mid new : Disk) (commands : List Command) (statu
     → (count : ℕ) × (new.said ≡ mid.said ++ take count (dump_of p commands)) → (status ≡ Done → new.said ≡ mid.said ++ dump_of p commands) → (status ≢ NotAStore) × (status ≢ Damaged) → IsSettled new
     → InEachImage new (λ files. Stands p files commands) → IsDumpOn p commands old new status
 dump_on p old mid new commands status goes lawful opens opening telling quiet dumping said all store settled stands =
-    let moments : old.tells_moments → LeavesOnly old new (OrAtStart old (DumpMoment p commands old.said)) = dump_from p old mid new commands opening telling quiet dumping in
+    let images : old.tells_moments → LeavesOnly old new (OrAtStart old (DumpMoment p commands old.said)) = dump_from p old mid new commands opening telling quiet dumping in
     record {
-      moments = moments;
-      from_settled = λ told settled_old. from_settled old new (DumpMoment p commands old.said) lawful told settled_old (start_dump p old commands opens.stands) (moments told);
+      images = images;
+      from_settled = λ told settled_old. from_settled old new (DumpMoment p commands old.said) lawful told settled_old (start_dump p old commands opens.stands) (images told);
       said = (said.0, said.1 ∙ ap (λ (l : List ℕ). l ++ take said.0 (dump_of p commands)) quiet);
       all = λ done. all done ∙ ap (λ (l : List ℕ). l ++ dump_of p commands) quiet;
       store = store;
       settled = λ disk memory. settled;
       stands = λ disk memory. stands;
-      courses = λ told first is. (goes first is).0 told;
+      steps = λ told first is. (goes first is).0 told;
       shows = λ first is done. (goes first is).1 done;
     }
 
 pub dump_unopened : (p : Params) (old mid : Disk) (commands : List Command) (status : Status) → IsDisk old → Opens p old commands → OpensFiles p commands old mid → mid.said ≡ old.said → IsOfUnopened status
     → (status ≢ NotAStore) × (status ≢ Damaged) → status ≢ SayFault → IsDumpOn p commands old mid status
 dump_unopened p old mid commands status lawful opens files quiet of store output =
-    let moments : old.tells_moments → LeavesOnly old mid (OrAtStart old (DumpMoment p commands old.said)) = dump_opening p old mid commands files.images in
+    let images : old.tells_moments → LeavesOnly old mid (OrAtStart old (DumpMoment p commands old.said)) = dump_opening p old mid commands files.images in
     record {
-      moments = moments;
-      from_settled = λ told settled. from_settled old mid (DumpMoment p commands old.said) lawful told settled (start_dump p old commands opens.stands) (moments told);
+      images = images;
+      from_settled = λ told settled. from_settled old mid (DumpMoment p commands old.said) lawful told settled (start_dump p old commands opens.stands) (images told);
       said = dump_quiet p old mid commands quiet;
       all = λ done. absurd (subst (λ (s : Status). IsOfUnopened s) done of);
       store = store;
       settled = λ disk memory. absurd (opening_failed status of store output disk memory);
       stands = λ disk memory. absurd (opening_failed status of store output disk memory);
-      courses = λ told first is. or_weaker old mid (OpeningMoment p commands old first is) (TableMoment p commands old first is) (files.courses told first is) (λ f s here. inl here);
+      steps = λ told first is. or_weaker old mid (OpeningMoment p commands old first is) (TableMoment p commands old first is) (files.steps told first is) (λ f s here. inl here);
       shows = λ first is done. absurd (subst (λ (s : Status). IsOfUnopened s) done of);
     }
 

@@ -5,14 +5,14 @@ use Rattle.disk_model.specs.Disk.{Disk, Rises}
 use Rattle.formats.specs.declared.params.Params.{Params}
 use Rattle.op_codec.specs.AllOps.{all_meaning}
 use Rattle.restart.specs.WellFormed.{opens_gate}
-use Rattle.script_lines.specs.Reading.{Takes}
+use Rattle.script_lines.specs.Reading.{ReadsOn}
 use Rattle.redo_shell.specs.Calls.{IsRunCall, IsMaking}
 use Rattle.redo_shell.specs.Causes.{CountsFaults, JudgesFiles}
 use Rattle.redo_shell.specs.Store.{Command, IsWellFormed, Opens}
 use Rattle.redo_shell.specs.declared.status.Status.{Status}
 use Rattle.redo_shell.specs.declared.status.Status.TheVariants.{Done, DoneWithRefusals, Usage, NotAStore, AlreadyStore, Damaged, DiskFault, ReadFault, SayFault, Memory, TooLong}
 use Rattle.redo_shell.specs.Exactly.{IsFaultless, OpensExactly, MakesExactly, RunsExactly}
-use Rattle.redo_shell.proofs.DamageLemmas.{first_said}
+use Rattle.redo_shell.proofs.DamageLemmas.{HasOneDamage, first_said}
 use Rattle.redo_shell.proofs.ScriptLemmas.{enough_taken, not_so_few}
 use Rattle.redo_shell.specs.Status.{IsOfRun, IsOfInit, IsOfDump, IsOfStore, IsOfUnopened}
 
@@ -152,16 +152,16 @@ pub not_made : (status : Status) → (status ≡ AlreadyStore) ⊎ (status ≡ S
 not_made status ends done = ⊎_elim (λ (is : status ≡ AlreadyStore). cc (is, done)) (λ (is : status ≡ SayFault). cc (is, done)) ends
 
 -- what a call that opens the store says of the files, both ways
-pub opens_exactly : {old new : Disk} (status : Status) → IsCalm status → JudgesFiles old new status → OpensExactly old new status
-opens_exactly {old} {new} status calm judged =
+pub opens_exactly : {old new : Disk} (status : Status) → IsCalm status → HasOneDamage old.reads → JudgesFiles old new status → OpensExactly old new status
+opens_exactly {old} {new} status calm one judged =
     let broken = λ (memory : status ≢ Memory). damaged_exactly status calm memory (λ is. (judged.no_store is).0) (λ is. (judged.damaged is).2.gate) judged.opened (λ image. (judged.store image).1) in
     record {
       no_store = no_store_exactly status calm (λ is. (judged.no_store is).0) (λ is. (judged.damaged is).2.gate) judged.memory judged.opened (opens_gate all_meaning);
       damaged = broken;
-      said = λ memory. first_said old new status (broken memory) judged.damaged;
+      said = λ memory. first_said old new status one (broken memory) judged.damaged;
     }
 
-pub runs_exactly : {told : Type 0} {left rest : List ℕ} {old new : Disk} (status : Status) → IsCalm status → status ≢ Memory → IsRunCall told left rest old new status → (told → status ≡ TooLong → Takes left rest 0 (2 ^ 40))
+pub runs_exactly : {told : Type 0} {left rest : List ℕ} {old new : Disk} (status : Status) → IsCalm status → status ≢ Memory → IsRunCall told left rest old new status → (told → status ≡ TooLong → ReadsOn left rest 0 (2 ^ 40))
     → ((p : Params) (commands : List Command) → Opens p old commands → IsWellFormed old.reads) → RunsExactly told left old status
 runs_exactly status calm memory call taken image = record {
   succeeds = λ p commands opens told few. ⊎_elim (λ e. absurd (not_so_few few (enough_taken (taken told e)))) (λ e. e) (whole_run status calm memory ((call.judged opens.told).store (image p commands opens)));

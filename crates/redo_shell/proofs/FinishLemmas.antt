@@ -98,8 +98,8 @@ closed_holds {p} holds shows = record {
 
 -- the force after it
 module _ {p : Params} {d new : Disk} {before after : EngineView} {answer : Result ℕ Failure} (it : IsForcing all_meaning d new (closed_engine before) after answer) where
-  pub finish_moments : {commands : List Command} (holds : Holds p d before commands) → Closes p d before holds.world → d.tells_moments → LeavesOnly d new (Between p d None (forced_in before) (length commands) commands)
-  finish_moments {commands} holds closes told =
+  pub finish_images : {commands : List Command} (holds : Holds p d before commands) → Closes p d before holds.world → d.tells_moments → LeavesOnly d new (Between p d None (forced_in before) (length commands) commands)
+  finish_images {commands} holds closes told =
       subst (λ (n : ℕ). LeavesOnly d new (Between p d None (forced_in before) n commands)) holds.says.accepted (it.commands.images told p commands (closed_holds holds (closed_shown holds.shows closes)))
 
   pub finish_steps : (w : World Command) → ShowsIn p d before w → Closes p d before w → d.tells_moments → TakesSome (meaning_in p) p d new w (finish_course (meaning_in p) w (used_in before)).steps
@@ -108,7 +108,7 @@ module _ {p : Params} {d new : Disk} {before after : EngineView} {answer : Resul
       let first = closing_steps w.group in
       let force = force_steps m w in
       silent_weaker d new (ShowsSome m p (closed_world m w) force) (ShowsSome m p w (first ++ force)) (λ files is. after_behind m (FilesShow m p files) w first force is)
-      (subst (λ (l : List (Step Command)). TakesSome m p d new (closed_world m w) l) (same_force m w) (it.takes.moments told p (closed_world m w) (closed_shown shows closes)))
+      (subst (λ (l : List (Step Command)). TakesSome m p d new (closed_world m w) l) (same_force m w) (it.takes.steps told p (closed_world m w) (closed_shown shows closes)))
 
   pub finish_follows : (n : ℕ) → answer ≡ Ok n → (w : World Command) → ShowsIn p d before w → Closes p d before w → IsAfterIn all_meaning p new after w (finish_course (meaning_in p) w (used_in before))
   finish_follows n done w shows closes =

@@ -5,7 +5,8 @@ use Rattle.std.specs.List.{AllByRecursion}
 use Rattle.disk_model.specs.Disk.{Disk}
 use Rattle.formats.specs.declared.params.Params.{Params}
 use Rattle.explain_core.specs.World.{World}
-use Rattle.script_lines.specs.Grammar.{Request, begin_group, end_group, AsksFor}
+use Rattle.script_lines.specs.Grammar.{Request, AsksFor}
+use Rattle.script_lines.specs.declared.line.Line.TheVariants.{Begin as begin_group, End as end_group}
 use Rattle.script_lines.specs.Replies.{Reply, ok}
 use Rattle.store_engine.specs.Engine.{EngineView}
 use Rattle.redo_shell.specs.Store.{Command, ShowsIn}

@@ -21,7 +21,8 @@ use Rattle.standing.specs.Standing.{FilesShow}
 use Rattle.running_store.specs.Courses.{force_steps}
 use Rattle.running_store.specs.Running.{run_upkept}
 use Rattle.cache_manager.specs.Upkeep.{upkeep_force}
-use Rattle.script_lines.specs.Grammar.{AsksFor, begin_group, end_group}
+use Rattle.script_lines.specs.Grammar.{AsksFor}
+use Rattle.script_lines.specs.declared.line.Line.TheVariants.{Begin as begin_group, End as end_group}
 use Rattle.script_lines.specs.Replies.{no_group, ok, reply_of}
 use Rattle.script_lines.specs.declared.answer.Answer.{Answer}
 use Rattle.script_lines.specs.declared.answer.Answer.TheVariants as answers
@@ -174,7 +175,7 @@ module _ {M : Type 0} (disk : M → Disk) {old now : M} {before after : EngineVi
 
   module _ {p : Params} {w : World Command} (shows : ShowsIn p (disk old) before w) where
     pub begin_steps : IsGranted (open_in w) begin_group → (disk old).tells_moments → TakesSome (meaning_in p) p (disk old) (disk now) w (upkeep_course 0 begin_group (meaning_in p) w (used_in before)).steps
-    begin_steps granted told = (alone (none_in shows granted)).2.takes.moments told p w shows
+    begin_steps granted told = (alone (none_in shows granted)).2.takes.steps told p w shows
 
     pub begin_still : (IsGranted (open_in w) begin_group → ⊥) → now ≡ old
     begin_still barred = by_group before.group (λ some. (inside some).machine) (λ none. absurd (barred (none_open shows none)))

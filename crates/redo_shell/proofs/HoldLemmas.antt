@@ -10,7 +10,7 @@ use Rattle.op_codec.specs.AllOps.{all_meaning}
 use Rattle.explain_core.specs.World.{World}
 use Rattle.running_store.specs.KeptLaws.{shown_attached, stays_log}
 use Rattle.running_store.specs.Laid.{IsLaidOn, values_in}
-use Rattle.running_store.specs.Parts.{ShowsStore}
+use Rattle.running_store.specs.Parts.{ShowsVolatile}
 use Rattle.store_engine.specs.Engine.{EngineView, InEachImage, forced_in, used_in}
 use Rattle.store_engine.specs.Engine as of_engine
 use Rattle.store_engine.specs.Grouping.{ungrouped}
@@ -54,7 +54,7 @@ pub attached_said : {says : List ℕ → List ℕ → Type 0} (old new : Disk) (
 attached_said old new engine runs attached told_new =
     let told = runs.time.files_told.1 told_new in
     let is = attached told in
-    (subst (λ (f : Files). IsLaidOn engine.parts.store.objects (f Objects)) (sym (runs.reads told)) is.0, stays_log (all_meaning engine.parts.log.bounds) old new engine.parts.log told runs is.1)
+    (subst (λ (f : Files). IsLaidOn engine.parts.volatile.objects (f Objects)) (sym (runs.reads told)) is.0, stays_log (all_meaning engine.parts.log.bounds) old new engine.parts.log told runs is.1)
 
 -- a settled machine stays so
 pub still_settled : {d new : Disk} {says : List ℕ → List ℕ → Type 0} → Runs Same says d new → d.tells_files → IsSettled d → IsSettled new
@@ -76,7 +76,7 @@ shows_stays {p} {d} {new} {engine} {w} run shows =
         told = run.time.files_told.0 here.told;
         running = here.running;
         bounds = here.bounds;
-        store = subst (λ (f : Files). ShowsStore (meaning_in p) p (f Objects) engine.parts.store (ungrouped w)) (sym (run.reads here.told)) here.store;
+        store = subst (λ (f : Files). ShowsVolatile (meaning_in p) p (f Objects) engine.parts.volatile (ungrouped w)) (sym (run.reads here.told)) here.store;
         log = record {
           stable = log.stable;
           pending = log.pending;
@@ -98,7 +98,7 @@ says_stays {p} {d} {new} {engine} {commands} run told here = record {
   accepted = here.accepted;
   forced = here.forced;
   images = each_stays {P = λ (f : Files). Stands p f (take (forced_in engine) commands)} run told here.images;
-  map_is = λ x below. subst (λ (f : Files). values_in engine.parts.store.objects (f Objects) x ≡ state_of p commands x) (sym (run.reads told)) (here.map_is x below);
+  map_is = λ x below. subst (λ (f : Files). values_in engine.parts.volatile.objects (f Objects) x ≡ state_of p commands x) (sym (run.reads told)) (here.map_is x below);
   none_waits = λ none. let all = here.none_waits none in (all.0, each_stays {P = λ (f : Files). EndsAt f (used_in engine)} run told all.1);
   group_waits = here.group_waits;
 }

@@ -1,10 +1,11 @@
--- What a line asks, from the line as it was taken apart.
-use Rattle.std.proofs.Common.{◌≡◌, ◌<◌, List, ℕ, length, sym, subst, arith, Bor}
+-- What a line asks for, and what a reader has found.
+use Rattle.std.proofs.Common.{◌≡◌, ◌<◌, List, ℕ, length, sym, subst, arith}
 use Rattle.std.specs.Prelude.{replicate}
 use Rattle.std.proofs.lemmas.List.{length-replicate}
-use Rattle.script_lines.specs.Grammar.{IsParsed, put, AsksFor, IsHex, IsBad}
+use Rattle.script_lines.specs.Grammar.{AsksFor, IsBad, Request}
 use Rattle.script_lines.specs.GrammarLaws.{long_is_bad}
-use Rattle.redo_shell.specs.Replies.{IsUpkeep}
+use Rattle.redo_shell.specs.Replies.{AsksCommand, IsUpkeep}
+use Rattle.redo_shell.specs.Store.{Command}
 use Rattle.redo_shell.specs.Work.{AsksWork, request_for}
 use Rattle.redo_shell.specs.declared.work.Upkeep.{Upkeep}
 use Rattle.redo_shell.specs.declared.work.Upkeep.TheVariants.{Install, Drain, Checkpoint, Trim}
@@ -12,18 +13,14 @@ use Rattle.redo_shell.specs.declared.work.Work.{Work}
 use Rattle.script_lines.specs.Reading.{IsLine}
 use Rattle.script_lines.specs.declared.next.Next.{Next}
 use Rattle.script_lines.specs.declared.next.Next.TheVariants.{Line as Short, Long}
-use Rattle.script_lines.specs.declared.line.Line.{Line}
-use Rattle.script_lines.specs.declared.line.Line.TheVariants.{Put}
 
--- a line of this form asks this
-pub as_form : (line : List ℕ) {asked : Line} (form : Line) → IsParsed line asked → asked ≡ form → IsParsed line form
-as_form line form parsed is = subst (λ (a : Line). IsParsed line a) is parsed
+-- a line asks for this
+pub as_request : (line : List ℕ) {request known : Request} → request ≡ known → AsksFor line request → AsksFor line known
+as_request line is asks = subst (λ (r : Request). AsksFor line r) is asks
 
-pub put_parsed : (line : List ℕ) {asked : Line} (object given : ℕ) (hex : Bor (List ℕ)) (bytes value : List ℕ) → IsParsed line asked → asked ≡ Put object hex → IsHex hex.now bytes
-    → given ≡ object → value ≡ bytes → AsksFor line (put given value)
-put_parsed line object given hex bytes value parsed is digits same_object same_value =
-    let asks = (as_form line (Put object hex) parsed is).1 bytes digits in
-    subst (λ (x : ℕ). AsksFor line (put x value)) (sym same_object) (subst (λ (v : List ℕ). AsksFor line (put object v)) (sym same_value) asks)
+-- and for this command
+pub as_command : (line : List ℕ) {op known : Command} → op ≡ known → AsksCommand line known → AsksCommand line op
+as_command line same asks = subst (λ (c : Command). AsksCommand line c) (sym same) asks
 
 -- a line asks for this work
 pub as_work : (line : List ℕ) {work : Work} (known : Work) → AsksWork line work → work ≡ known → AsksWork line known

@@ -22,7 +22,7 @@ use Rattle.logical_btree.specs.Plan.{Plan, Next, splits, puts, refuses, delete_o
 use Rattle.logical_btree.specs.declared.refusal.TreeRefusal.{TreeRefusal}
 use Rattle.logical_btree.specs.declared.refusal.TreeRefusal.TheVariants.{NoObject, BadTree, TreeFull, NoKey}
 use Rattle.op_codec.specs.AllOps.{all_meaning}
-use Rattle.op_codec.specs.declared.all_ops.AllOps.TheVariants.{Node}
+use Rattle.op_codec.specs.AllOps.{node}
 use Rattle.explain_core.specs.History.{Member, commands_of}
 use Rattle.explain_core.specs.History.Member.{Command as Logged, Identity}
 use Rattle.explain_core.specs.RunLaws.{run-append}
@@ -39,12 +39,13 @@ use Rattle.running_store.specs.Commands.{command_length}
 use Rattle.execution.specs.Courses.{append_course}
 use Rattle.execution.specs.declared.exec_err.ExecErr.{ExecErr}
 use Rattle.execution.specs.declared.exec_err.ExecErr.TheVariants as exec_errors
-use Rattle.script_lines.specs.Grammar.{Request, put, copy, append, cut, sort, swap, exec, aread, awrite, arun, tinsert, tdelete, begin_group, end_group, AsksFor}
+use Rattle.script_lines.specs.Grammar.{Request, AsksFor}
+use Rattle.script_lines.specs.declared.line.Line.TheVariants.{Run, AppRun as arun, TreeInsert as tinsert, TreeDelete as tdelete, Begin as begin_group, End as end_group}
 use Rattle.script_lines.specs.Replies.{Reply, ok, ran, refused, bad_tree, tree_full, full, end, reply_of}
 use Rattle.script_lines.specs.declared.answer.Answer.{Answer}
 use Rattle.script_lines.specs.declared.answer.Answer.TheVariants as answers
 use Rattle.store_engine.specs.Engine.{EngineView, forced_in, group_size, needed_in, params_of, used_in}
-use Rattle.redo_shell.specs.Store.{IsAttached, IsCall}
+use Rattle.redo_shell.specs.Store.{IsAttached, IsEngineCall}
 use Rattle.redo_shell.specs.Found.{IsAnswerTo, IsEndedBy, IsDone, IsMade, IsOfEngine}
 use Rattle.redo_shell.specs.Groups.{Regroups, group_after, open_in, size_of}
 use Rattle.redo_shell.specs.Made.{AsksMade, AsksBehind, Made, end_reply, made, made_by, one_unless, plan_made, plan_reply, run_reply}
@@ -100,15 +101,7 @@ made_end p commands it request is = of_request request it is
     given mine it same here = subst (λ (m : Made). IsEnd m.reply) (let e : mine ≡ it = cc same in e) here
 
     of_request : (request : Request) (it : Made) → made_by p commands request ≡ Some it → IsEnd it.reply
-    of_request (put x bytes) it same = given _ it same (end_one _ _)
-    of_request (copy x y) it same = given _ it same (end_one _ _)
-    of_request (append x y) it same = given _ it same (end_one _ _)
-    of_request (cut x y place) it same = given _ it same (end_one _ _)
-    of_request (sort x y width) it same = given _ it same (end_one _ _)
-    of_request (swap x y) it same = given _ it same (end_one _ _)
-    of_request (exec app) it same = given _ it same (end_one _ _)
-    of_request (aread app x) it same = given _ it same (end_one _ _)
-    of_request (awrite app x) it same = given _ it same (end_one _ _)
+    of_request (Run op) it same = given _ it same (end_one _ _)
     of_request (arun app n) it same = given _ it same (end_run n (steps_accepted p commands app n) (refusal_after p commands (step_of app)))
     of_request (tinsert lo hi key value) it same = let s = state_of p commands in let plan = insert_plan (bounds_of p) lo hi s key value in given _ it same (end_plan p.cap plan.commands (end_reply plan.refusal) (end_end plan.refusal))
     of_request (tdelete lo hi key) it same = let s = state_of p commands in let plan = delete_plan (bounds_of p) lo hi s key in given _ it same (end_plan p.cap plan.commands (end_reply plan.refusal) (end_end plan.refusal))
@@ -145,7 +138,7 @@ some_plan p plan planned = of_commands plan.commands plan.refusal planned
     of_commands : (ops : List NodeOp) (refusal : Option TreeRefusal) → (refusal ≡ None → ops ≡ [] → ⊥) → HasSome (made (made_of p.cap ops) (plan_reply p.cap ops (end_reply refusal)))
     of_commands [] refusal here = λ is none. here (some_end refusal is) refl
     of_commands (op ∷ ops) refusal here = λ is none.
-        cond_both (nat_le 1024 p.cap) (map (λ n. Node n) (op ∷ ops)) [] (λ (l : List Command). l ≡ [] → (if nat_le 1024 p.cap then end_reply refusal else refused refusals.TooLarge) ≡ ok → ⊥)
+        cond_both (nat_le 1024 p.cap) (map (λ n. node n) (op ∷ ops)) [] (λ (l : List Command). l ≡ [] → (if nat_le 1024 p.cap then end_reply refusal else refused refusals.TooLarge) ≡ ok → ⊥)
         (λ wide empty answer. cc empty)
         (λ small empty answer. let so : refused refusals.TooLarge ≡ ok = sym (ap (λ (b : Bool). if b then end_reply refusal else refused refusals.TooLarge) small) ∙ answer in cc so)
         none is
@@ -214,15 +207,7 @@ made_some : (p : Params) (commands : List Command) (it : Made) (request : Reques
 made_some p commands it request is = of_request request it is
   where
     of_request : (request : Request) (it : Made) → made_by p commands request ≡ Some it → HasSome it
-    of_request (put x bytes) it same = some_given _ it same (some_one _ _)
-    of_request (copy x y) it same = some_given _ it same (some_one _ _)
-    of_request (append x y) it same = some_given _ it same (some_one _ _)
-    of_request (cut x y place) it same = some_given _ it same (some_one _ _)
-    of_request (sort x y width) it same = some_given _ it same (some_one _ _)
-    of_request (swap x y) it same = some_given _ it same (some_one _ _)
-    of_request (exec app) it same = some_given _ it same (some_one _ _)
-    of_request (aread app x) it same = some_given _ it same (some_one _ _)
-    of_request (awrite app x) it same = some_given _ it same (some_one _ _)
+    of_request (Run op) it same = some_given _ it same (some_one _ _)
     of_request (arun app n) it same = some_given _ it same (λ e none. some_run n (steps_accepted p commands app n) (refusal_after p commands (step_of app)) e)
     of_request (tinsert lo hi key value) it same =
         let b = bounds_of p in
@@ -300,7 +285,7 @@ module _ (p : Params) (old now : Disk) (before after : EngineView) (commands : L
 
   -- all of them are done
   all_done : (reply : Reply) → it.reply ≡ reply → Replies p (open_in w) commands line reply it.ops → ((world : World Command) → Ends p (stage_of before w) line Through (stage_of after world) → GoesBy p (stage_of before w) line reply (stage_of after world))
-      → IsOfEngine after line reply → IsCall p.limit old now before after 0 Done → Adds Done → IsDone p old now before after w commands line reply
+      → IsOfEngine after line reply → IsEngineCall p.limit old now before after 0 Done → Adds Done → IsDone p old now before after w commands line reply
   all_done reply is replies goes is_of call a =
       let here = reached Done (λ f. f) a in
       let whole : take a.done it.ops ≡ it.ops = take_all a.done it.ops (omega (arith, a.all refl)) in
@@ -329,7 +314,7 @@ module _ (p : Params) (old now : Disk) (before after : EngineView) (commands : L
       let low = few_commands m p.limit it.ops w here.world (used_in before) (made_some p commands it asks.request asks.makes is) here.ends.0 here.ends.1.world_is in
       omega (arith, low, ap length here.commands_are, ap (λ (l : List Command). length (commands ++ l)) whole)
 
-  pub made_done : (reply : Reply) → it.reply ≡ reply → IsEnd reply → IsCall p.limit old now before after 0 Done → Adds Done → IsDone p old now before after w commands line reply
+  pub made_done : (reply : Reply) → it.reply ≡ reply → IsEnd reply → IsEngineCall p.limit old now before after 0 Done → Adds Done → IsDone p old now before after w commands line reply
   made_done ok is fin call a = all_done ok is (inl (asks_so ok is, few is a)) (λ world goes. goes) tt call a
   made_done (ran k) is fin call a = all_done (ran k) is (asks_so (ran k) is) (λ world goes. goes) tt call a
   made_done (refused why) is fin call a = all_done (refused why) is (inl (asks_so (refused why) is)) (λ world goes. goes) tt call a
@@ -343,7 +328,7 @@ module _ (p : Params) (old now : Disk) (before after : EngineView) (commands : L
 
   stopped_so : (stop : Stop) (reply : Reply) (a : Adds (Stopped stop)) → Replies p (open_in w) commands line reply (take a.done it.ops)
       → ((world : World Command) → Ends p (stage_of before w) line stop (stage_of after world) → GoesBy p (stage_of before w) line reply (stage_of after world))
-      → IsOfEngine after line reply → IsCall p.limit old now before after 0 (Stopped stop) → IsDone p old now before after w commands line reply
+      → IsOfEngine after line reply → IsEngineCall p.limit old now before after 0 (Stopped stop) → IsDone p old now before after w commands line reply
   stopped_so stop reply a replies goes is_of call =
       let here = reached (Stopped stop) (λ f. f) a in
       record {
@@ -366,14 +351,14 @@ module _ (p : Params) (old now : Disk) (before after : EngineView) (commands : L
       let here = reached (Stopped stop) (λ f. f) a in
       sym a.size ∙ open_size here.shows here.commands_are ∙ ap (λ (group : Option ℕ). size_of group (commands ++ take a.done it.ops)) (same_group (Stopped stop) (λ f. f) a)
 
-  pub made_full : (used need limit : ℕ) → IsCall p.limit old now before after 0 (Stopped (Full used need limit)) → Adds (Stopped (Full used need limit)) → IsDone p old now before after w commands line (full used need limit)
+  pub made_full : (used need limit : ℕ) → IsEngineCall p.limit old now before after 0 (Stopped (Full used need limit)) → Adds (Stopped (Full used need limit)) → IsDone p old now before after w commands line (full used need limit)
   made_full used need limit call a =
       let stop = Full used need limit in
       let at = a.stopped stop refl in
       let need_is = at.need.0 ∙ ap (λ (size : Option ℕ). needed_in size (record_length p at.op)) (size_so stop a) in
       stopped_so stop (full used need limit) a (inl (at.op, stopped_at stop a at, need_is, at.need.1, over_limit (is_some before.group) p.limit after.parts.log used need limit (call.stopped stop refl))) (λ world goes. goes) (left_stopped stop call) call
 
-  pub made_end_at : (number : ℕ) → IsCall p.limit old now before after 0 (Stopped (At_end number)) → Adds (Stopped (At_end number)) → IsDone p old now before after w commands line (end number)
+  pub made_end_at : (number : ℕ) → IsEngineCall p.limit old now before after 0 (Stopped (At_end number)) → Adds (Stopped (At_end number)) → IsDone p old now before after w commands line (end number)
   made_end_at number call a =
       let stop = At_end number in
       let at = a.stopped stop refl in
@@ -384,7 +369,7 @@ module _ (p : Params) (old now : Disk) (before after : EngineView) (commands : L
   abbrev Answered : Result Answer Early → Type 0
   Answered r = IfOk r (λ answer. IsDone p old now before after w commands line (reply_of answer))
 
-  pub made_answered : (error : Option ExecErr) (result : Result Answer Early) → IsAnswerTo it.reply error result → IsCall p.limit old now before after 0 (ending_of error) → Adds (ending_of error) → Answered result
+  pub made_answered : (error : Option ExecErr) (result : Result Answer Early) → IsAnswerTo it.reply error result → IsEngineCall p.limit old now before after 0 (ending_of error) → Adds (ending_of error) → Answered result
   made_answered None result is call a =
       let (answer, so, same) = is in
       subst (λ (r : Result Answer Early). Answered r) (sym so) (made_done (reply_of answer) same (subst IsEnd same (made_end p commands it asks.request asks.makes)) call a)
@@ -396,16 +381,16 @@ module _ (p : Params) (old now : Disk) (before after : EngineView) (commands : L
   made_answered (Some exec_errors.Memory) result is call a = subst (λ (r : Result Answer Early). Answered r) (sym is) tt
 
   -- a moment of the call
-  pub made_moments : (ending : Ending) → Adds ending → old.tells_moments → LeavesOnly old now (Working p old before commands line)
-  made_moments ending a told = weaker old now (Between p old before.group (forced_in before) (length commands) (commands ++ take a.done it.ops)) (Working p old before commands line) (a.images told)
+  pub made_images : (ending : Ending) → Adds ending → old.tells_moments → LeavesOnly old now (Working p old before commands line)
+  made_images ending a told = weaker old now (Between p old before.group (forced_in before) (length commands) (commands ++ take a.done it.ops)) (Working p old before commands line) (a.images told)
       (λ f s b. record { added = take a.done it.ops; front = inr (record { it = it; asks = asks; count = a.done; first = refl }); between = b })
 
   pub made_works : (ending : Ending) → Adds ending → Works p old now (stage_of before w) line
-  made_works ending a = works_by p old now (stage_of before w) line way (inl (inl (it, asks_in holds asks, refl))) a.takes
+  made_works ending a = works_by p old now (stage_of before w) line way (inl (inl (it, asks_in holds asks, refl))) a.steps
 
 -- the log of an engine that stands for commands may have as many bytes as the store says
-abbrev limit_is : {p : Params} {old now : Disk} {before after : EngineView} {commands : List Command} {ending : Ending} → Holds p old before commands → IsCall (params_of before).limit old now before after 0 ending → IsCall p.limit old now before after 0 ending
-limit_is {old = old} {now = now} {before = before} {after = after} {ending = ending} holds call = subst (λ (q : Params). IsCall q.limit old now before after 0 ending) holds.shows.shows.store.params call
+abbrev limit_is : {p : Params} {old now : Disk} {before after : EngineView} {commands : List Command} {ending : Ending} → Holds p old before commands → IsEngineCall (params_of before).limit old now before after 0 ending → IsEngineCall p.limit old now before after 0 ending
+limit_is {old = old} {now = now} {before = before} {after = after} {ending = ending} holds call = subst (λ (q : Params). IsEngineCall q.limit old now before after 0 ending) holds.shows.shows.store.params call
 
 -- What a call for commands says of a line that asks for them.
 module _ {p : Params} {old now : Disk} {before after : EngineView} {commands : List Command} {line : List ℕ} {request : Request} {result : Result Answer Early} (none : AreNoIdentities)
@@ -415,10 +400,10 @@ module _ {p : Params} {old now : Disk} {before after : EngineView} {commands : L
       let (it, makes, adds, answers) = u.adds p commands holds in
       made_answered p old now before after commands line it holds (record { request = request; asks = asks; makes = makes }) none u.error result answers (limit_is holds u.calls.call) adds
 
-  pub list_moments : old.tells_moments → LeavesOnly old now (Working p old before commands line)
-  list_moments =
+  pub list_images : old.tells_moments → LeavesOnly old now (Working p old before commands line)
+  list_images =
       let (it, makes, adds, answers) = u.adds p commands holds in
-      made_moments p old now before after commands line it holds (record { request = request; asks = asks; makes = makes }) none (ending_of u.error) adds
+      made_images p old now before after commands line it holds (record { request = request; asks = asks; makes = makes }) none (ending_of u.error) adds
 
   pub list_works : Works p old now (stage_of before holds.world) line
   list_works =

@@ -10,8 +10,9 @@ use Rattle.running_store.specs.Courses.{Course, Stop, course, behind}
 use Rattle.running_store.specs.Courses.Stop.{Through, Full, At_end, Worn}
 use Rattle.execution.specs.Courses.{append_course}
 use Rattle.store_engine.specs.Lists.{commands_course}
-use Rattle.op_codec.specs.declared.all_ops.AllOps.TheVariants.{Put, Copy, Append, Cut, Sort, Swap, Exec, AppRead, AppWrite}
-use Rattle.script_lines.specs.Grammar.{Request, put, copy, append, cut, sort, swap, exec, aread, awrite, trim, begin_group, end_group}
+use Rattle.op_codec.specs.declared.sum.Sum.TheVariants.{First, Second}
+use Rattle.script_lines.specs.Grammar.{Request}
+use Rattle.script_lines.specs.declared.line.Line.TheVariants.{Run as run, Trim as trim, Begin as begin_group, End as end_group}
 use Rattle.store_engine.specs.Engine.{EngineView}
 use Rattle.redo_shell.specs.Found.{EndsAtLast, IsStopped, MayStop}
 use Rattle.redo_shell.specs.Groups.{group_after}
@@ -21,16 +22,8 @@ use Rattle.redo_shell.specs.Store.{Command, refusal_after}
 
 -- a line that asks for a command makes it, unless it is refused
 pub command_made : (p : Params) (commands : List Command) (line : List ℕ) (op : Command) → AsksCommand line op → AsksMade p commands line (one_made p commands op)
-command_made p commands line (Put op) asks = record { request = put op.object op.value; asks = asks; makes = refl }
-command_made p commands line (Copy op) asks = record { request = copy op.from op.to; asks = asks; makes = refl }
-command_made p commands line (Append op) asks = record { request = append op.from op.to; asks = asks; makes = refl }
-command_made p commands line (Cut op) asks = record { request = cut op.from op.to op.place; asks = asks; makes = refl }
-command_made p commands line (Sort op) asks = record { request = sort op.from op.to op.width; asks = asks; makes = refl }
-command_made p commands line (Swap op) asks = record { request = swap op.first op.second; asks = asks; makes = refl }
-command_made p commands line (Exec op) asks = record { request = exec op.app; asks = asks; makes = refl }
-command_made p commands line (AppRead op) asks = record { request = aread op.app op.from; asks = asks; makes = refl }
-command_made p commands line (AppWrite op) asks = record { request = awrite op.app op.to; asks = asks; makes = refl }
-command_made p commands line op asks = absurd asks
+command_made p commands line (First op) asks = record { request = run op; asks = asks; makes = refl }
+command_made p commands line (Second op) asks = absurd asks
 
 pub made_unless : (p : Params) (commands : List Command) (line : List ℕ) (op : Command) (refusal : Option Refusal) → refusal_after p commands op ≡ refusal → AsksCommand line op → AsksMade p commands line (one_unless op refusal)
 made_unless p commands line op refusal is asks = subst (λ (r : Option Refusal). AsksMade p commands line (one_unless op r)) is (command_made p commands line op asks)

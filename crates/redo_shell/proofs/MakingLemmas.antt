@@ -16,7 +16,7 @@ use Rattle.logical_btree.specs.Plan.{Plan, is_there}
 use Rattle.logical_btree.specs.Walk.{Range}
 use Rattle.logical_btree.specs.declared.refusal.TreeRefusal.{TreeRefusal}
 use Rattle.logical_btree.specs.declared.refusal.TreeRefusal.TheVariants.{NoObject, BadTree, TreeFull, NoKey}
-use Rattle.op_codec.specs.declared.all_ops.AllOps.TheVariants.{Node}
+use Rattle.op_codec.specs.AllOps.{node}
 use Rattle.script_lines.specs.Replies.{Reply, ok, ran, refused, bad_tree, tree_full}
 use Rattle.script_lines.specs.declared.answer.Answer.{Answer}
 use Rattle.script_lines.specs.declared.answer.Answer.TheVariants as answers
@@ -163,7 +163,7 @@ pub nowhere : {X : Type 0} (b : Bounds) (low high : ℕ) (there none : X) → na
 nowhere b low high there none is = ap (λ (t : Bool). if t && nat_lt high b.objects then there else none) is
 
 no_ops : (cap : ℕ) → made_of cap [] ≡ []
-no_ops cap = cond_both (nat_le 1024 cap) (map (λ n. Node n) []) [] (λ (l : List Command). l ≡ []) (λ wide. refl) (λ small. refl)
+no_ops cap = cond_both (nat_le 1024 cap) (map (λ n. node n) []) [] (λ (l : List Command). l ≡ []) (λ wide. refl) (λ small. refl)
 
 pub none_made : (p : Params) (plan : Plan) → plan ≡ record { commands = []; refusal = Some NoObject } → ((plan_made p plan).ops ≡ []) × ((plan_made p plan).reply ≡ refused refusals.NoObject)
 none_made p plan is = (ap (λ (q : Plan). (plan_made p q).ops) is ∙ no_ops p.cap, ap (λ (q : Plan). (plan_made p q).reply) is)

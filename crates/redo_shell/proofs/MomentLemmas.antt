@@ -16,8 +16,8 @@ use Rattle.running_store.specs.Forced.{files_shown}
 use Rattle.script_lines.specs.Replies.{Reply, said_line}
 use Rattle.store_engine.specs.Engine.{EngineView}
 use Rattle.store_engine.specs.Grouping.{ungrouped}
-use Rattle.redo_shell.specs.Courses.{IsDue, IsWorkedOn}
-use Rattle.redo_shell.specs.Run.{IsFound, LineStage}
+use Rattle.redo_shell.specs.Courses.{IsCourseDue, IsWorkedOn}
+use Rattle.redo_shell.specs.Run.{IsAnswerFound, LineStage}
 use Rattle.redo_shell.specs.Stages.{Stage, finish_course, stage_of}
 use Rattle.redo_shell.specs.Store.{Command, Holds, ShowsIn, meaning_in}
 
@@ -44,7 +44,7 @@ abbrev pub Works : Params → Disk → Disk → Stage → List ℕ → Type 0
 Works p old mid s line = old.tells_moments → LeavesOnly old mid (IsSilent (IsWorkedOn p s (line ∷ [])) old.said)
 
 -- a call that takes some first steps of what is due
-pub works_by : (p : Params) (old mid : Disk) (s : Stage) (line : List ℕ) (c : Course Command) → IsDue p s (line ∷ []) c → (old.tells_moments → TakesSome (meaning_in p) p old mid s.world c.steps) → Works p old mid s line
+pub works_by : (p : Params) (old mid : Disk) (s : Stage) (line : List ℕ) (c : Course Command) → IsCourseDue p s (line ∷ []) c → (old.tells_moments → TakesSome (meaning_in p) p old mid s.world c.steps) → Works p old mid s line
 works_by p old mid s line c due takes told =
     silent_weaker old mid (ShowsSome (meaning_in p) p s.world c.steps) (IsWorkedOn p s (line ∷ [])) (λ files shows. record { its = c; due = due; shows = shows }) (takes told)
 
@@ -69,9 +69,9 @@ pub works_line : {p : Params} {old mid : Disk} {s : Stage} {line : List ℕ} →
 works_line {p} {old} {mid} {s} {line} works told = weaker old mid (IsSilent (IsWorkedOn p s (line ∷ [])) old.said) (LineStage p s old.said line) (works told) (λ files said is. inl is)
 
 -- then an answer to it is said
-pub found_courses : {p : Params} {old mid new : Disk} {before after : EngineView} {w : World Command} {commands : List Command} {line : List ℕ} {reply : Reply} → Works p old mid (stage_of before w) line → Passes old mid
-    → IsFound p old mid before after w commands line reply → Runs Same (SaysFront (said_line reply)) mid new → old.tells_moments → LeavesOnly old new (LineStage p (stage_of before w) old.said line)
-found_courses {p} {old} {mid} {new} {before} {after} {w} {commands} {line} {reply} works time found say told =
+pub found_steps : {p : Params} {old mid new : Disk} {before after : EngineView} {w : World Command} {commands : List Command} {line : List ℕ} {reply : Reply} → Works p old mid (stage_of before w) line → Passes old mid
+    → IsAnswerFound p old mid before after w commands line reply → Runs Same (SaysFront (said_line reply)) mid new → old.tells_moments → LeavesOnly old new (LineStage p (stage_of before w) old.said line)
+found_steps {p} {old} {mid} {new} {before} {after} {w} {commands} {line} {reply} works time found say told =
     runs_on old mid new (LineStage p (stage_of before w) old.said line) (works_line works told) (first_call mid new (LineStage p (stage_of before w) old.said line) told_now say.time during)
   where
     told_now : mid.tells_moments

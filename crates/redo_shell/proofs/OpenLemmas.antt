@@ -40,9 +40,9 @@ opening_so_far : AreFew → {p : Params} {start mid : Disk} {commands : List Com
 opening_so_far few {p} {start} {mid} {commands} script opening told =
     or_weaker start mid (Between p start None (length commands) (length commands) commands) (MomentSoFar p commands script start.said) (opening told) (λ f s b. first_moment few script f s b)
 
-pub opening_moments : AreFew → {p : Params} {start mid : Disk} {commands : List Command} (script : List (List ℕ)) → OpensSo p start mid commands → start.tells_moments
+pub opening_images : AreFew → {p : Params} {start mid : Disk} {commands : List Command} (script : List (List ℕ)) → OpensSo p start mid commands → start.tells_moments
     → LeavesOnly start mid (OrAtStart start (Moment p commands script start.said))
-opening_moments few {p} {start} {mid} {commands} script opening told =
+opening_images few {p} {start} {mid} {commands} script opening told =
     or_weaker start mid (MomentSoFar p commands script start.said) (Moment p commands script start.said) (opening_so_far few script opening told) (λ f s m. m.is)
 
 -- what is said while the store is opened
@@ -77,13 +77,13 @@ says_nothing {p} {first} {commands} script {old} {new} time quiet =
     }
 
 -- then the script is answered
-pub run_moments : AreFew → {p : Params} {first : Stage} {start mid new : Disk} {commands : List Command} (script : List (List ℕ)) {status : Status} → OpensSo p start mid commands → Passes start mid → mid.said ≡ start.said
+pub run_images : AreFew → {p : Params} {first : Stage} {start mid new : Disk} {commands : List Command} (script : List (List ℕ)) {status : Status} → OpensSo p start mid commands → Passes start mid → mid.said ≡ start.said
     → IsRun p first mid new commands script status
     → start.tells_moments → LeavesOnly start new (OrAtStart start (Moment p commands script start.said))
-run_moments few {p} {first} {start} {mid} {new} {commands} script opening time quiet run told =
-    runs_on start mid new (OrAtStart start (Moment p commands script start.said)) (opening_moments few script opening told)
+run_images few {p} {first} {start} {mid} {new} {commands} script opening time quiet run told =
+    runs_on start mid new (OrAtStart start (Moment p commands script start.said)) (opening_images few script opening told)
     (weaker mid new (Moment p commands script start.said) (OrAtStart start (Moment p commands script start.said))
-    (subst (λ (s : List ℕ). LeavesOnly mid new (Moment p commands script s)) quiet (run.moments (time.moments_told.0 told))) (λ f s m. inr m))
+    (subst (λ (s : List ℕ). LeavesOnly mid new (Moment p commands script s)) quiet (run.images (time.moments_told.0 told))) (λ f s m. inr m))
 
 -- where it was cut short nothing of an open group is stable
 run_unclosed : AreFew → {p : Params} {start mid new : Disk} {commands : List Command} (script : List (List ℕ)) → OpensSo p start mid commands → mid.said ≡ start.said → LeavesOnly mid new (MomentSoFar p commands script mid.said)
@@ -169,13 +169,13 @@ ends_behind At old mid new lawful time quiet told leaves =
     (image new.reads new.said (lawful.as_read (time.moments_told.0 told)), λ told_new. image)
 
 -- what is done at each moment, after the opening by the courses of the lines
-run_courses : {p : Params} {first : Stage} {old mid new : Disk} {commands : List Command} (script : List (List ℕ)) {status : Status} → OpensFiles p commands old mid → Passes old mid → IsRun p first mid new commands script status
+run_steps : {p : Params} {first : Stage} {old mid new : Disk} {commands : List Command} (script : List (List ℕ)) {status : Status} → OpensFiles p commands old mid → Passes old mid → IsRun p first mid new commands script status
     → old.tells_moments → (is : IsFirst p commands old first) → LeavesOnly old new (OrAtStart old (RunMoment p commands old first is script))
-run_courses {p} {first} {old} {mid} {new} {commands} script files before run told is =
+run_steps {p} {first} {old} {mid} {new} {commands} script files before run told is =
     runs_on old mid new (OrAtStart old (RunMoment p commands old first is script))
-    (or_weaker old mid (OpeningMoment p commands old first is) (RunMoment p commands old first is script) (files.courses told first is) (λ f s here. inl here))
+    (or_weaker old mid (OpeningMoment p commands old first is) (RunMoment p commands old first is script) (files.steps told first is) (λ f s here. inl here))
     (weaker mid new (StageMoment p first script old.said) (OrAtStart old (RunMoment p commands old first is script))
-    (subst (λ (s : List ℕ). LeavesOnly mid new (StageMoment p first script s)) files.quiet (run.courses (before.moments_told.0 told))) (λ f s m. inr (inr m)))
+    (subst (λ (s : List ℕ). LeavesOnly mid new (StageMoment p first script s)) files.quiet (run.steps (before.moments_told.0 told))) (λ f s m. inr (inr m)))
 
 -- what a run on an open store says, from this stage
 abbrev pub RunsFrom : Params → List Command → List (List ℕ) → Disk → Disk → Status → Stage → Type 0
@@ -193,19 +193,19 @@ pub run_on : AreFew → {p : Params} (old mid new : Disk) {commands : List Comma
     → ((first : Stage) → IsFirst p commands old first → RunsFrom p commands script mid new status first) → (status ≢ NotAStore) × (status ≢ Damaged) → IsRunOn p commands script old new status
 run_on few {p} old mid new {commands} script status lawful ends opens files before time runs store =
     let begun : IsRun p files.first.0 mid new commands script status = (runs files.first.0 files.first.1).0 in
-    let moments : old.tells_moments → LeavesOnly old new (OrAtStart old (Moment p commands script old.said)) = run_moments few script files.images before files.quiet begun in
+    let images : old.tells_moments → LeavesOnly old new (OrAtStart old (Moment p commands script old.said)) = run_images few script files.images before files.quiet begun in
     let unclosed : old.tells_moments → IsCut status → LeavesOnly old new (OrAtStart old (MomentSoFar p commands script old.said))
     = λ told cut. run_unclosed few script files.images files.quiet (begun.unclosed cut (before.moments_told.0 told)) told in
     record {
-      moments = moments;
-      from_settled = λ told settled. from_settled old new (Moment p commands script old.said) lawful told settled (start_moment few old script opens.stands) (moments told);
-      opened = λ told disk memory. ends_behind (Moment p commands script) old mid new ends time files.quiet (before.moments_told.0 told) (begun.moments (before.moments_told.0 told));
+      images = images;
+      from_settled = λ told settled. from_settled old new (Moment p commands script old.said) lawful told settled (start_moment few old script opens.stands) (images told);
+      opened = λ told disk memory. ends_behind (Moment p commands script) old mid new ends time files.quiet (before.moments_told.0 told) (begun.images (before.moments_told.0 told));
       unclosed = unclosed;
       unclosed_from_settled = λ told settled cut. from_settled old new (MomentSoFar p commands script old.said) lawful told settled (start_so_far few old script opens.stands) (unclosed told cut);
       unclosed_now = λ told cut memory. ends_behind (MomentSoFar p commands script) old mid new ends time files.quiet (before.moments_told.0 told) (begun.unclosed cut (before.moments_told.0 told));
       first = files.first;
       answers = λ first is. run_says lawful files.images before files.quiet (runs first is).0;
-      courses = λ told first is. run_courses script files before (runs first is).0 told is;
+      steps = λ told first is. run_steps script files before (runs first is).0 told is;
       complete = λ first is done. complete_from files.quiet ((runs first is).1 done);
       store = store;
     }
@@ -229,18 +229,18 @@ not_done status of done = ⊎_elim
 pub run_unopened : AreFew → {p : Params} (old mid : Disk) {commands : List Command} (script : List (List ℕ)) (status : Status) → IsDisk old → Opens p old commands → OpensFiles p commands old mid → Passes old mid
     → IsWellFormed old.reads → IsUnopened old mid status → IsRunOn p commands script old mid status
 run_unopened few {p} old mid {commands} script status lawful opens files before image unopened =
-    let moments : old.tells_moments → LeavesOnly old mid (OrAtStart old (Moment p commands script old.said)) = opening_moments few script files.images in
+    let images : old.tells_moments → LeavesOnly old mid (OrAtStart old (Moment p commands script old.said)) = opening_images few script files.images in
     let store : (status ≢ NotAStore) × (status ≢ Damaged) = (unopened.judged opens.told).store image in
     record {
-      moments = moments;
-      from_settled = λ told settled. from_settled old mid (Moment p commands script old.said) lawful told settled (start_moment few old script opens.stands) (moments told);
+      images = images;
+      from_settled = λ told settled. from_settled old mid (Moment p commands script old.said) lawful told settled (start_moment few old script opens.stands) (images told);
       opened = λ told disk memory. absurd (opening_failed status unopened.ends store (unopened.quiet opens.told image) disk memory);
       unclosed = λ told cut. opening_so_far few script files.images told;
       unclosed_from_settled = λ told settled cut. from_settled old mid (MomentSoFar p commands script old.said) lawful told settled (start_so_far few old script opens.stands) (opening_so_far few script files.images told);
       unclosed_now = λ told cut memory. absurd (opening_failed status unopened.ends store (unopened.quiet opens.told image) (λ is. subst IsCut is cut) memory);
       first = files.first;
       answers = λ first is. says_nothing script before files.quiet;
-      courses = λ told first is. or_weaker old mid (OpeningMoment p commands old first is) (RunMoment p commands old first is script) (files.courses told first is) (λ f s here. inl here);
+      steps = λ told first is. or_weaker old mid (OpeningMoment p commands old first is) (RunMoment p commands old first is script) (files.steps told first is) (λ f s here. inl here);
       complete = λ first is done. absurd (not_done status unopened.ends done);
       store = store;
     }

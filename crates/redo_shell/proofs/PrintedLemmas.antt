@@ -6,7 +6,7 @@ use Rattle.std.specs.List.{flat_map}
 use Rattle.std.specs.Fmt.{decimal, digits, digits_onto, digit_glyph}
 use borrow.Author.Tests.{ne_eqb}
 use Rattle.oper_core.specs.declared.refusal.Refusal.{Refusal}
-use Rattle.oper_core.specs.declared.refusal.Refusal.TheVariants.{NoObject, Same, BadPlace, BadWidth, NotApp, NoInput, NotNode, NoKey, NodeFull, TooLarge}
+use Rattle.oper_core.specs.declared.refusal.Refusal.TheVariants.{NoObject, Same, BadPlace, BadWidth, NotApp, NotCode, Halted, NoInput, NotNode, NoKey, NodeFull, TooLarge}
 use Rattle.formats.specs.declared.params.Params.{Params}
 use Rattle.script_lines.specs.Reading.{IsPlain}
 use Rattle.script_lines.specs.Replies.{Pair, Reply, ok, ran, value, pairs, forced, bad, refused, bad_tree, tree_full, in_group, no_group, full, end, object_value, command_count, stat, summary, silence, pair_text, spaced_pair, spaced, numbers_of, hex_glyph, hex_pair, hex_text, name_of, text_of, said_line}
@@ -79,6 +79,8 @@ plain_name Same = plain_when (name_of Same) refl
 plain_name BadPlace = plain_when (name_of BadPlace) refl
 plain_name BadWidth = plain_when (name_of BadWidth) refl
 plain_name NotApp = plain_when (name_of NotApp) refl
+plain_name NotCode = plain_when (name_of NotCode) refl
+plain_name Halted = plain_when (name_of Halted) refl
 plain_name NoInput = plain_when (name_of NoInput) refl
 plain_name NotNode = plain_when (name_of NotNode) refl
 plain_name NoKey = plain_when (name_of NoKey) refl

@@ -14,12 +14,12 @@ use Rattle.explain_core.specs.StableLaws.{commands_of-append}
 use Rattle.explain_core.specs.World.{World, run}
 use Rattle.running_store.specs.Parts.{Shows}
 use Rattle.running_store.specs.Taking.{IsAfter}
-use Rattle.restart.specs.Causes.{IsNoDamage}
+use Rattle.stable_objects.specs.Reading.{IsNoDamage}
 use Rattle.restart.specs.Courses.{restart_course}
 use Rattle.restart.specs.Opening.{OpensOn}
 use Rattle.restart.specs.Reopened.{IsReopened}
-use Rattle.restart.specs.declared.restart_err.RestartErr.{RestartErr}
-use Rattle.restart.specs.declared.restart_err.RestartErr.TheVariants.{NotAStore, Damaged}
+use Rattle.stable_objects.specs.declared.open_err.OpenErr.{OpenErr}
+use Rattle.stable_objects.specs.declared.open_err.OpenErr.TheVariants.{NotAStore, Damaged}
 use Rattle.standing.specs.Standing.{IsFound}
 use Rattle.store_engine.specs.Engine.{EngineView}
 use Rattle.store_engine.specs.Engine as of_engine
@@ -89,11 +89,11 @@ shows_first {p} {old} {new} {engine} {commands} first is unbroken alone none aft
 pub stays_unless : {P : Type 0} {old new : Disk} → P ⊎ Stays old new → (P → ⊥) → Stays old new
 stays_unless kept none = ⊎_elim (λ is. absurd (none is)) (λ stays. stays) kept
 
-pub no_damage : (cause : RestartErr) → IsNoDamage cause → cause ≢ NotAStore
-no_damage cause none is = subst (λ (e : RestartErr). IsNoDamage e) is none
+pub no_damage : (cause : OpenErr) → IsNoDamage cause → cause ≢ NotAStore
+no_damage cause none is = subst (λ (e : OpenErr). IsNoDamage e) is none
 
-pub not_damaged : (cause : RestartErr) {file : FileNo} {place : ℕ} → cause ≡ Damaged file place → IsNoDamage cause → ⊥
-not_damaged cause is none = subst (λ (e : RestartErr). IsNoDamage e) is none
+pub not_damaged : (cause : OpenErr) {file : FileNo} {place : ℕ} → cause ≡ Damaged file place → IsNoDamage cause → ⊥
+not_damaged cause is none = subst (λ (e : OpenErr). IsNoDamage e) is none
 
 -- files that meet their format begin a store
 pub image_begins : {files : Files} → IsWellFormed files → BeginsStore (files Objects)

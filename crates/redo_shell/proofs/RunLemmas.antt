@@ -18,7 +18,8 @@ use Rattle.running_store.specs.Courses.Stop.{Through}
 use Rattle.running_store.specs.Forced.{files_shown}
 use Rattle.oper_core.specs.declared.refusal.Refusal.TheVariants.{NoObject}
 use Rattle.oper_core.specs.Meaning.{Meaning}
-use Rattle.script_lines.specs.Grammar.{Request, AsksFor, get, skip}
+use Rattle.script_lines.specs.Grammar.{Request, AsksFor}
+use Rattle.script_lines.specs.declared.line.Line.TheVariants.{Get as get, Skip as skip}
 use Rattle.script_lines.specs.Replies.{Reply, value, forced, refused, silence, said_line}
 use Rattle.op_codec.specs.AllOps.{all_meaning}
 use Rattle.store_engine.specs.Engine.{EngineView, IsAfterIn, accepted_in, forced_in, used_in}
@@ -34,10 +35,10 @@ use Rattle.redo_shell.specs.Status.{IsCut, status_after}
 use Rattle.redo_shell.specs.declared.status.Status.{Status}
 use Rattle.redo_shell.specs.declared.status.Status.TheVariants.{DoneWithRefusals}
 use Rattle.redo_shell.specs.declared.stop.Stop.{Stop}
-use Rattle.redo_shell.specs.Run.{IsTrueSaying, IsTrueSoFar, IsAnswered, IsPartly, Working, During, LineMoment, LineStage, StageSoFar, MomentSoFar, Going, IsComplete, IsFound, Answering, IsRun}
+use Rattle.redo_shell.specs.Run.{IsTrueSaying, IsTrueSoFar, IsAnswered, IsPartly, Working, During, LineMoment, LineStage, StageSoFar, MomentSoFar, Going, IsComplete, IsAnswerFound, Answering, IsRun}
 use Rattle.redo_shell.proofs.GroupLemmas.{AsksOnce, after_whole, none_open, whole_ended, whole_late}
 use Rattle.redo_shell.proofs.HoldLemmas.{holds_as, holds_stays, holds_between, told_by}
-use Rattle.redo_shell.proofs.MomentLemmas.{Works, found_courses, images_show, worked_none, works_at_once, works_line}
+use Rattle.redo_shell.proofs.MomentLemmas.{Works, found_steps, images_show, worked_none, works_at_once, works_line}
 use Rattle.redo_shell.proofs.TrueLemmas.{truly_on, truly_quiet, line_behind, found_truly}
 use Rattle.redo_shell.proofs.PrintedLemmas.{printed_acked}
 use Rattle.redo_shell.proofs.StoryLemmas.{AreEven, after_commands, after_within, answers_even, ended_whole, next_in, goes_by_more, told_goes, told_truly, said_longer, Story, Told, story_start, story_more, story_end, said_more, spoken_more, told_whole, told_silent, told_partly}
@@ -177,8 +178,8 @@ courses_more : {p : Params} {first : Stage} {start now new : Disk} {engine after
     (g : Going p first start now engine commands script (line ∷ todo) refusing) → Passes start now → Answering p now new engine after g.holds.world g.account.commands line result
     → start.tells_moments → LeavesOnly start new (StageSoFar p first script start.said)
 courses_more {p} {first} {start} {now} {new} {engine} {after} {commands} {script} {todo} {refusing} {result} line g time a told =
-    runs_on start now new (StageSoFar p first script start.said) (g.courses told)
-    (weaker now new (LineStage p (stage_of engine g.holds.world) now.said line) (StageSoFar p first script start.said) (a.courses (time.moments_told.0 told)) (stage_line line g))
+    runs_on start now new (StageSoFar p first script start.said) (g.steps told)
+    (weaker now new (LineStage p (stage_of engine g.holds.world) now.said line) (StageSoFar p first script start.said) (a.steps (time.moments_told.0 told)) (stage_line line g))
 
 -- so far is a moment
 told_so_far : {p : Params} {first : Stage} {start now : Disk} {script : List (List ℕ)} → LeavesOnly start now (StageSoFar p first script start.said) → LeavesOnly start now (StageMoment p first script start.said)
@@ -246,8 +247,8 @@ moments_more : AreFew → {p : Params} {first : Stage} {start now new : Disk} {e
     (g : Going p first start now engine commands script (line ∷ todo) refusing) → Passes start now → Answering p now new engine after g.holds.world g.account.commands line result
     → start.tells_moments → LeavesOnly start new (MomentSoFar p commands script start.said)
 moments_more few {p} {first} {start} {now} {new} {engine} {after} {commands} {script} {todo} {refusing} {result} line g time a told =
-    runs_on start now new (MomentSoFar p commands script start.said) (g.moments told)
-    (weaker now new (LineMoment p now engine (open_in g.holds.world) g.account.commands line) (MomentSoFar p commands script start.said) (a.moments (time.moments_told.0 told)) (line_moment few line g))
+    runs_on start now new (MomentSoFar p commands script start.said) (g.images told)
+    (weaker now new (LineMoment p now engine (open_in g.holds.world) g.account.commands line) (MomentSoFar p commands script start.said) (a.images (time.moments_told.0 told)) (line_moment few line g))
 
 -- a moment so far is a moment
 moments_so_far : {p : Params} {start now : Disk} {commands : List Command} {script : List (List ℕ)} → LeavesOnly start now (MomentSoFar p commands script start.said) → LeavesOnly start now (Moment p commands script start.said)
@@ -308,11 +309,11 @@ goes_on few once {p} {first} {start} {now} {new} {engine} {after} {commands} {sc
       all_before = omega (arith, g.all_before, whole.kept.rising);
       acked = acked_more g.replies reply (forced_in engine) (forced_in after) g.acked whole.kept.rising whole.acked;
       kind = kind_more refusing kind g.replies reply g.kind whole.kind;
-      moments = moments_more few line g time a;
+      images = moments_more few line g time a;
       truly = λ told. subst (λ (l : List ℕ). LeavesOnly start new (IsTrueSoFar p start.said story.lines (g.replies ++ reply ∷ []) (g.waits ++ ops ∷ []) l)) (sym whole.said)
           (truly_on ops line reply (even_of g) (g.truly told) g.said_is (truly_in g now new line reply added (whole.truly (time.moments_told.0 told))));
       goes = goes_by_more p first (stage_of engine g.holds.world) (stage_of after whole.kept.holds.world) g.lines g.replies line reply g.goes whole.leads;
-      courses = courses_more line g time a;
+      steps = courses_more line g time a;
     }
 
 -- the start of a run, of which nothing is said yet
@@ -340,12 +341,12 @@ opened few {p} {start} {engine} {commands} script lawful holds all alone = recor
   all_before = omega (arith, all);
   acked = λ n has. absurd (omega (arith, has.1));
   kind = refl;
-  moments = λ told. weaker start start (Between p start engine.group (forced_in engine) (length commands) commands) (MomentSoFar p commands script start.said) (holds_between lawful holds told)
+  images = λ told. weaker start start (Between p start engine.group (forced_in engine) (length commands) commands) (MomentSoFar p commands script start.said) (holds_between lawful holds told)
       (λ f s b. first_moment few script f s (subst (λ (n : ℕ). Between p start engine.group n (length commands) commands f s) all b));
   truly = λ told. weaker start start (Between p start engine.group (forced_in engine) (length commands) commands) (IsTrueSoFar p start.said [] [] [] start.said) (holds_between lawful holds told)
       (λ f s b. record { true_within = tt; no_longer = omega (arith, ap length b.quiet) });
   goes = refl;
-  courses = λ told. started start (StageSoFar p (stage_of engine holds.world) script start.said) (stage_start script lawful holds told);
+  steps = λ told. started start (StageSoFar p (stage_of engine holds.world) script start.said) (stage_start script lawful holds told);
 }
 
 -- what a run says that ends between two lines
@@ -363,9 +364,9 @@ pub ends_here : {p : Params} {first : Stage} {start now : Disk} {engine : Engine
     → Going p first start now engine commands script todo refusing → IsRun p first start now commands script status
 ends_here {p} {first} {start} {now} {engine} g = record {
   says = says_so_far g refl (λ told. weaker start now (IsTrueSoFar p start.said g.lines g.replies g.waits now.said) (TrueWithin p start.said g.lines g.replies g.waits) (g.truly told) (λ files said t. t.true_within));
-  moments = λ told. moments_so_far (g.moments told);
-  courses = λ told. told_so_far (g.courses told);
-  unclosed = λ cut told. g.moments told;
+  images = λ told. moments_so_far (g.images told);
+  steps = λ told. told_so_far (g.steps told);
+  unclosed = λ cut told. g.images told;
 }
 
 -- a run that ends while a line is answered
@@ -373,11 +374,11 @@ pub ends_in_line : AreFew → {p : Params} {first : Stage} {start now new : Disk
     (g : Going p first start now engine commands script (line ∷ todo) refusing) → Passes start now → result ≡ Err stop → Answering p now new engine after g.holds.world g.account.commands line result → IsRun p first start new commands script status
 ends_in_line few {p} {first} {start} {now} {new} {engine} {after} {commands} {script} {todo} {refusing} {result} {stop} line g time is a = record {
   says = ⊎_elim
-      (λ (quiet : new.said ≡ now.said). says_so_far g quiet (λ told. truly_quiet (even_of g) (g.truly told) g.said_is (a.moments (time.moments_told.0 told)) line_behind))
+      (λ (quiet : new.said ≡ now.said). says_so_far g quiet (λ told. truly_quiet (even_of g) (g.truly told) g.said_is (a.images (time.moments_told.0 told)) line_behind))
       begun
       (subst (λ (r : Result Bool Stop). OnErr r ((new.said ≡ now.said) ⊎ IsPartly p now new (stage_of engine g.holds.world) g.account.commands line)) is a.partly);
-  moments = λ told. moments_so_far (moments_more few line g time a told);
-  courses = λ told. told_so_far (courses_more line g time a told);
+  images = λ told. moments_so_far (moments_more few line g time a told);
+  steps = λ told. told_so_far (courses_more line g time a told);
   unclosed = λ cut told. moments_more few line g time a told;
 }
   where
@@ -405,11 +406,11 @@ pub ends_in_finish : AreFew → {p : Params} {first : Stage} {start now new : Di
     → (g : Going p first start now engine commands script [] refusing) → Passes start now → new.said ≡ now.said
     → (now.tells_moments → LeavesOnly now new (Between p now None (forced_in engine) (length g.account.commands) g.account.commands))
     → (now.tells_moments → TakesSome (meaning_in p) p now new g.holds.world (finish_course (meaning_in p) g.holds.world (used_in engine)).steps) → IsRun p first start new commands script status
-ends_in_finish few {p} {first} {start} {now} {new} {engine} {commands} {script} uncut g time quiet moments takes = record {
-  says = says_so_far g quiet (λ told. truly_quiet (even_of g) (g.truly told) g.said_is (moments (time.moments_told.0 told)) (λ files said b. omega (arith, ap length b.quiet)));
-  moments = λ told. runs_on start now new (Moment p commands script start.said) (moments_so_far (g.moments told))
-      (weaker now new (Between p now None (forced_in engine) (length g.account.commands) g.account.commands) (Moment p commands script start.said) (moments (time.moments_told.0 told)) (finish_moment few g));
-  courses = λ told. runs_on start now new (StageMoment p first script start.said) (told_so_far (g.courses told))
+ends_in_finish few {p} {first} {start} {now} {new} {engine} {commands} {script} uncut g time quiet images takes = record {
+  says = says_so_far g quiet (λ told. truly_quiet (even_of g) (g.truly told) g.said_is (images (time.moments_told.0 told)) (λ files said b. omega (arith, ap length b.quiet)));
+  images = λ told. runs_on start now new (Moment p commands script start.said) (moments_so_far (g.images told))
+      (weaker now new (Between p now None (forced_in engine) (length g.account.commands) g.account.commands) (Moment p commands script start.said) (images (time.moments_told.0 told)) (finish_moment few g));
+  steps = λ told. runs_on start now new (StageMoment p first script start.said) (told_so_far (g.steps told))
       (weaker now new (IsQuiet (ShowsSome (meaning_in p) p g.holds.world (finish_course (meaning_in p) g.holds.world (used_in engine)).steps) now.said) (StageMoment p first script start.said) (takes (time.moments_told.0 told)) (stage_finish g));
   unclosed = λ cut told. absurd (uncut cut);
 }
@@ -461,16 +462,16 @@ works_quietly {p} {old} {before} {commands} {line} {f} {s} b = record {
 
 pub works_none : {p : Params} {old mid : Disk} {before : EngineView} {commands : List Command} {line : List ℕ} → (old.tells_moments → LeavesOnly old mid (Between p old before.group (forced_in before) (length commands) commands))
     → old.tells_moments → LeavesOnly old mid (Working p old before commands line)
-works_none {p} {old} {mid} {before} {commands} {line} moments told =
-    weaker old mid (Between p old before.group (forced_in before) (length commands) commands) (Working p old before commands line) (moments told) (λ f s b. works_quietly b)
+works_none {p} {old} {mid} {before} {commands} {line} images told =
+    weaker old mid (Between p old before.group (forced_in before) (length commands) commands) (Working p old before commands line) (images told) (λ f s b. works_quietly b)
 
 -- the moments while the answer is found and said
-found_moments : {p : Params} {old mid new : Disk} {before after : EngineView} {w : World Command} {commands : List Command} {line : List ℕ} {reply : Reply} → accepted_in before ≡ length commands
-    → (old.tells_moments → LeavesOnly old mid (Working p old before commands line)) → Passes old mid → IsFound p old mid before after w commands line reply
+found_images : {p : Params} {old mid new : Disk} {before after : EngineView} {w : World Command} {commands : List Command} {line : List ℕ} {reply : Reply} → accepted_in before ≡ length commands
+    → (old.tells_moments → LeavesOnly old mid (Working p old before commands line)) → Passes old mid → IsAnswerFound p old mid before after w commands line reply
     → Runs Same (SaysFront (said_line reply)) mid new → old.tells_moments → LeavesOnly old new (LineMoment p old before (open_in w) commands line)
-found_moments {p} {old} {mid} {new} {before} {after} {w} {commands} {line} {reply} was moments time found say told =
+found_images {p} {old} {mid} {new} {before} {after} {w} {commands} {line} {reply} was images time found say told =
     runs_on old mid new (LineMoment p old before (open_in w) commands line)
-    (weaker old mid (Working p old before commands line) (LineMoment p old before (open_in w) commands line) (moments told) (λ f s b. inl b))
+    (weaker old mid (Working p old before commands line) (LineMoment p old before (open_in w) commands line) (images told) (λ f s b. inl b))
     (first_call mid new (LineMoment p old before (open_in w) commands line) told_now say.time during)
   where
     told_now : mid.tells_moments
@@ -496,10 +497,10 @@ found_moments {p} {old} {mid} {new} {before} {after} {w} {commands} {line} {repl
 
 -- the answer that was found has been said, or a beginning of it
 pub found_said : {p : Params} {old mid new : Disk} {before after : EngineView} {w : World Command} {commands : List Command} {line : List ℕ} {reply : Reply} (result : Result Bool Stop) → accepted_in before ≡ length commands
-    → (old.tells_moments → LeavesOnly old mid (Working p old before commands line)) → Works p old mid (stage_of before w) line → Passes old mid → IsFound p old mid before after w commands line reply
+    → (old.tells_moments → LeavesOnly old mid (Working p old before commands line)) → Works p old mid (stage_of before w) line → Passes old mid → IsAnswerFound p old mid before after w commands line reply
     → Runs Same (SaysFront (said_line reply)) mid new → (mid.tells_files → OnOk result (new.said ≡ mid.said ++ said_line reply)) → IfOk result (λ kind. kind ≡ is_refusing reply)
     → Answering p old new before after w commands line result
-found_said {reply = reply} (Ok kind) was moments works time found say all is = record {
+found_said {reply = reply} (Ok kind) was images works time found say all is = record {
   whole = record {
     reply = reply;
     added = found.added;
@@ -509,14 +510,14 @@ found_said {reply = reply} (Ok kind) was moments works time found say all is = r
     regroups = found.regroups;
     acked = found.acked;
     kind = is;
-    truly = found_truly moments time found say;
+    truly = found_truly images time found say;
     leads = found.leads;
   };
   partly = tt;
-  moments = found_moments was moments time found say;
-  courses = found_courses works time found say;
+  images = found_images was images time found say;
+  steps = found_steps works time found say;
 }
-found_said {after = after} {reply = reply} (Err stop) was moments works time found say all is = record {
+found_said {after = after} {reply = reply} (Err stop) was images works time found say all is = record {
   whole = tt;
   partly = let front = say.said (told_by found.kept.holds) in
       inr (record {
@@ -525,23 +526,23 @@ found_said {after = after} {reply = reply} (Err stop) was moments works time fou
         replies = found.replies;
         count = front.0;
         said_is = front.2 ∙ ap (λ (l : List ℕ). l ++ take front.0 (said_line reply)) found.quiet;
-        truly = found_truly moments time found say;
+        truly = found_truly images time found say;
         after = stage_of after found.kept.holds.world;
         leads = found.leads;
       });
-  moments = found_moments was moments time found say;
-  courses = found_courses works time found say;
+  images = found_images was images time found say;
+  steps = found_steps works time found say;
 }
 
 -- nothing was said of the answer
 pub stops_before : {p : Params} {old new : Disk} {before after : EngineView} {w : World Command} {commands : List Command} {line : List ℕ} (result : Result Bool Stop) → IsErr result
     → (old.tells_moments → LeavesOnly old new (Working p old before commands line)) → Works p old new (stage_of before w) line → new.said ≡ old.said → Answering p old new before after w commands line result
-stops_before (Ok kind) is moments works quiet = absurd (cc is)
-stops_before {p} {old} {new} {before} {after} {w} {commands} {line} (Err stop) is moments works quiet = record {
+stops_before (Ok kind) is images works quiet = absurd (cc is)
+stops_before {p} {old} {new} {before} {after} {w} {commands} {line} (Err stop) is images works quiet = record {
   whole = tt;
   partly = inl quiet;
-  moments = λ told. weaker old new (Working p old before commands line) (LineMoment p old before (open_in w) commands line) (moments told) (λ f s b. inl b);
-  courses = works_line works;
+  images = λ told. weaker old new (Working p old before commands line) (LineMoment p old before (open_in w) commands line) (images told) (λ f s b. inl b);
+  steps = works_line works;
 }
 
 abbrev pub kept_nil : {p : Params} {d : Disk} {before engine : EngineView} {commands : List Command} → Kept p before d engine commands → Kept p before d engine (commands ++ [])
@@ -565,7 +566,7 @@ leads_on {p} {old} {new} {line} commands added reply was now replies goes = reco
 pub found_read : {p : Params} {old mid : Disk} {before after : EngineView} {w : World Command} {commands : List Command} {line : List ℕ} (reply : Reply) → Replies p (open_in w) commands line reply []
     → ((f : Files) → IsTrueIn p f (waiting (open_in w) (commands ++ [])) line reply) → ((group : Option ℕ) → Regroups line reply commands group group)
     → ((n : ℕ) → reply ≢ forced n) → ((s : Stage) → GoesBy p s line reply s) → commands_of w.history ≡ commands → mid.said ≡ old.said → (kept : Kept p before mid after commands) → stage_of after kept.holds.world ≡ stage_of before w
-    → IsFound p old mid before after w commands line reply
+    → IsAnswerFound p old mid before after w commands line reply
 found_read {p} {old} {mid} {before} {after} {w} {commands} {line} reply replies tied regroups other goes was quiet kept same = record {
   added = [];
   replies = replies;
@@ -580,7 +581,7 @@ found_read {p} {old} {mid} {before} {after} {w} {commands} {line} reply replies 
 -- what is answered without a call
 pub found_at_once : {p : Params} {d : Disk} {engine : EngineView} {commands : List Command} {line : List ℕ} (reply : Reply) → (holds : Holds p d engine commands)
     → Replies p (open_in holds.world) commands line reply [] → ((f : Files) → IsTrueIn p f (waiting (open_in holds.world) (commands ++ [])) line reply) → ((group : Option ℕ) → Regroups line reply commands group group)
-    → ((n : ℕ) → reply ≢ forced n) → ((s : Stage) → GoesBy p s line reply s) → IsFound p d d engine engine holds.world commands line reply
+    → ((n : ℕ) → reply ≢ forced n) → ((s : Stage) → GoesBy p s line reply s) → IsAnswerFound p d d engine engine holds.world commands line reply
 found_at_once reply holds replies tied regroups other goes = found_read reply replies tied regroups other goes holds.commands_are refl (kept_still holds) refl
 
 pub run_nothing : (m : Meaning Command) (w : World Command) → run m w [] ≡ w
@@ -601,18 +602,18 @@ asks_values p s line request question asks = (
 
 -- the value that was fetched
 pub found_value : {p : Params} {old mid : Disk} {before after : EngineView} {w : World Command} {commands : List Command} {line : List ℕ} (object : ℕ) (bytes : List ℕ) → AsksFor line (get object) → object < p.objects
-    → bytes ≡ state_of p commands object → commands_of w.history ≡ commands → mid.said ≡ old.said → (kept : Kept p before mid after commands) → stage_of after kept.holds.world ≡ stage_of before w → IsFound p old mid before after w commands line (value bytes)
+    → bytes ≡ state_of p commands object → commands_of w.history ≡ commands → mid.said ≡ old.said → (kept : Kept p before mid after commands) → stage_of after kept.holds.world ≡ stage_of before w → IsAnswerFound p old mid before after w commands line (value bytes)
 found_value object bytes asks there is was quiet kept same = found_read (value bytes) (inl (object, asks, there, is), refl) (λ f. tt) (λ group. refl) (λ n e. cc) (λ s. refl) was quiet kept same
 
 -- or there is no such object
 pub found_none : {p : Params} {old mid : Disk} {before after : EngineView} {w : World Command} {commands : List Command} {line : List ℕ} (object : ℕ) → AsksFor line (get object) → p.objects ≤ object
-    → commands_of w.history ≡ commands → mid.said ≡ old.said → (kept : Kept p before mid after commands) → stage_of after kept.holds.world ≡ stage_of before w → IsFound p old mid before after w commands line (refused NoObject)
+    → commands_of w.history ≡ commands → mid.said ≡ old.said → (kept : Kept p before mid after commands) → stage_of after kept.holds.world ≡ stage_of before w → IsAnswerFound p old mid before after w commands line (refused NoObject)
 found_none {p} {line = line} object asks past was quiet kept same =
     found_read (refused NoObject) (inr (inl (object, asks, past, refl), refl)) (λ f. tt) (λ group. refl) (λ n e. cc) (λ s. asks_values p s line (get object) tt asks) was quiet kept same
 
 -- it is said where it is found
 pub said_at_once : {p : Params} {d new : Disk} {engine : EngineView} {commands : List Command} {line : List ℕ} {reply : Reply} (result : Result Bool Stop)
-    → IsDisk d → (holds : Holds p d engine commands) → IsFound p d d engine engine holds.world commands line reply
+    → IsDisk d → (holds : Holds p d engine commands) → IsAnswerFound p d d engine engine holds.world commands line reply
     → Runs Same (SaysFront (said_line reply)) d new → (d.tells_files → OnOk result (new.said ≡ d.said ++ said_line reply)) → IfOk result (λ kind. kind ≡ is_refusing reply)
     → Answering p d new engine engine holds.world commands line result
 said_at_once {d = d} {line = line} result lawful holds found say all is = found_said result holds.says.accepted (works_none (holds_between lawful holds)) (works_at_once line lawful holds) (passes_none d) found say all is
@@ -639,8 +640,8 @@ skipped {p} {d} {engine} {commands} {line} lawful holds asks = record {
         });
   };
   partly = tt;
-  moments = λ told. weaker d d (Between p d engine.group (forced_in engine) (length commands) commands) (LineMoment p d engine (open_in holds.world) commands line) (holds_between lawful holds told) (λ f s b. inl (works_quietly b));
-  courses = works_line (works_at_once line lawful holds);
+  images = λ told. weaker d d (Between p d engine.group (forced_in engine) (length commands) commands) (LineMoment p d engine (open_in holds.world) commands line) (holds_between lawful holds told) (λ f s b. inl (works_quietly b));
+  steps = works_line (works_at_once line lawful holds);
 }
 
 -- a moment of a run that has one line more to answer, at which no group counts as closed yet
@@ -678,8 +679,8 @@ with_next {p} {first} {start} {now} {engine} {commands} {script} line g = record
   all_before = g.all_before;
   acked = g.acked;
   kind = g.kind;
-  moments = λ told. weaker start now (MomentSoFar p commands script start.said) (MomentSoFar p commands (script ++ line ∷ []) start.said) (g.moments told) (moment_longer (line ∷ []));
+  images = λ told. weaker start now (MomentSoFar p commands script start.said) (MomentSoFar p commands (script ++ line ∷ []) start.said) (g.images told) (moment_longer (line ∷ []));
   truly = g.truly;
   goes = g.goes;
-  courses = λ told. weaker start now (StageSoFar p first script start.said) (StageSoFar p first (script ++ line ∷ []) start.said) (g.courses told) (stage_longer line);
+  steps = λ told. weaker start now (StageSoFar p first script start.said) (StageSoFar p first (script ++ line ∷ []) start.said) (g.steps told) (stage_longer line);
 }

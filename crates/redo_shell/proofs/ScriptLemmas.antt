@@ -4,19 +4,19 @@ use Rattle.std.specs.Result.{IsErrAnd, IsErrOf}
 use Rattle.disk_model.specs.Disk.{Disk, Passes, Rises}
 use Rattle.disk_model.specs.declared.machine.FileNo.{FileNo}
 use Rattle.script_lines.specs.Grammar.{lines_of, before_first}
-use Rattle.script_lines.specs.Reading.{Takes, IsNext, IsLine}
+use Rattle.script_lines.specs.Reading.{ReadsOn, IsNext, IsLine}
 use Rattle.script_lines.specs.declared.next.Next.{Next}
 use Rattle.script_lines.specs.declared.next.Next.TheVariants.{Line, Long, End}
 use Rattle.script_lines.specs.declared.read_error.ReadError.{ReadError}
 use Rattle.script_lines.specs.declared.read_error.ReadError.TheVariants.{ReadFault as ReadFailed, TooLong as ReadTooMuch, Memory as NoMemoryToRead}
 use Rattle.redo_shell.specs.declared.stop.Stop.{Stop}
 use Rattle.redo_shell.specs.declared.stop.Stop.TheVariants.{DiskFault, Damaged, ReadFault, SayFault, Memory, TooLong}
-use Rattle.redo_shell.specs.Status.{IsCut, status_after, status_of, stop_of_read}
-use Rattle.redo_shell.specs.Run.{IsCaused, IsStopped, IsUndamaged}
+use Rattle.redo_shell.specs.Status.{IsCut, status_after, status_of, stop_of_input}
+use Rattle.redo_shell.specs.Run.{IsCaused, StopsWith, IsUndamaged}
 use Rattle.redo_shell.proofs.HoldLemmas.{rises_within}
 
 -- two takings in a row are one
-pub takes_on : {a b c : List ℕ} {x y z : ℕ} → Takes a b x y → Takes b c y z → Takes a c x z
+pub takes_on : {a b c : List ℕ} {x y z : ℕ} → ReadsOn a b x y → ReadsOn b c y z → ReadsOn a c x z
 takes_on {a} {b} {c} first second = record {
   bytes = first.bytes ++ second.bytes;
   front = first.front ∙ ap (λ (l : List ℕ). first.bytes ++ l) second.front ∙ sym (append_assoc first.bytes second.bytes c);
@@ -36,13 +36,13 @@ ended Long stored old new is end = cc
 ended End stored old new is end = is.0
 
 -- the source gave too much
-pub too_much : (result : Result Bool Stop) (error : ReadError) → IsErrAnd result (λ stop. stop ≡ stop_of_read error) → IsErrOf result TooLong → error ≡ ReadTooMuch
+pub too_much : (result : Result Bool Stop) (error : ReadError) → IsErrAnd result (λ stop. stop ≡ stop_of_input error) → IsErrOf result TooLong → error ≡ ReadTooMuch
 too_much (Ok refusing) error is long = cc
 too_much (Err stop) ReadFailed is long = cc
 too_much (Err stop) ReadTooMuch is long = refl
 too_much (Err stop) NoMemoryToRead is long = cc
 
-stopped_line : (stop : Stop) (old mid new : Disk) (before now : ℕ) → Passes old mid → IsCaused stop mid new → IsStopped stop old new before now
+stopped_line : (stop : Stop) (old mid new : Disk) (before now : ℕ) → Passes old mid → IsCaused stop mid new → StopsWith stop old new before now
 stopped_line DiskFault old mid new before now time cause = rises_within old.disk_faults mid.disk_faults new.disk_faults new.disk_faults time.disk_faults (omega arith) cause
 stopped_line (Damaged file place) old mid new before now time cause = tt
 stopped_line ReadFault old mid new before now time cause = absurd cause
@@ -52,11 +52,11 @@ stopped_line TooLong old mid new before now time cause = absurd cause
 
 -- a line could not be answered
 pub line_stops : (result answered : Result Bool Stop) (why : Stop) (old mid new : Disk) (before now : ℕ) → IsErrAnd result (λ stop. stop ≡ why) → answered ≡ Err why → Passes old mid
-    → IfErr answered (λ stop. IsCaused stop mid new) → IfErr result (λ stop. IsStopped stop old new before now)
+    → IfErr answered (λ stop. IsCaused stop mid new) → IfErr result (λ stop. StopsWith stop old new before now)
 line_stops (Ok refusing) answered why old mid new before now is was time cause = tt
 line_stops (Err stop) answered why old mid new before now is was time cause =
     let here = subst (λ (r : Result Bool Stop). IfErr r (λ s. IsCaused s mid new)) was cause in
-    subst (λ (s : Stop). IsStopped s old new before now) (sym is) (stopped_line why old mid new before now time here)
+    subst (λ (s : Stop). StopsWith s old new before now) (sym is) (stopped_line why old mid new before now time here)
 
 -- a whole run was not cut short
 pub whole_uncut : (refusing : Bool) → IsCut (status_after (Ok refusing)) → ⊥
@@ -65,10 +65,10 @@ whole_uncut false cut = cut
 
 -- or the last force failed
 pub finish_stops : (result : Result Bool Stop) (why : Stop) (old mid new : Disk) (before now : ℕ) → IsErrAnd result (λ stop. stop ≡ why) → why ≡ DiskFault → Passes old mid → Rises mid.disk_faults new.disk_faults
-    → IfErr result (λ stop. IsStopped stop old new before now)
+    → IfErr result (λ stop. StopsWith stop old new before now)
 finish_stops (Ok refusing) why old mid new before now is same time fault = tt
 finish_stops (Err stop) why old mid new before now is same time fault =
-    subst (λ (s : Stop). IsStopped s old new before now) (sym (is ∙ same)) (rises_within old.disk_faults mid.disk_faults new.disk_faults new.disk_faults time.disk_faults (omega arith) fault)
+    subst (λ (s : Stop). StopsWith s old new before now) (sym (is ∙ same)) (rises_within old.disk_faults mid.disk_faults new.disk_faults new.disk_faults time.disk_faults (omega arith) fault)
 
 -- and the run was not cut short
 pub finish_uncut : (result : Result Bool Stop) (why : Stop) → IsErrAnd result (λ stop. stop ≡ why) → why ≡ DiskFault → IsCut (status_after result) → ⊥
@@ -110,7 +110,7 @@ nothing_behind [] back none = none
 nothing_behind (byte ∷ front) back none = cc
 
 -- at the end of the input all of it was taken
-pub input_end : (next : Next) (stored old ahead start left : List ℕ) (taken : ℕ) → IsNext next stored old (ahead ++ left) → next ≡ End → Takes start left 0 taken → taken < 2 ^ 40
+pub input_end : (next : Next) (stored old ahead start left : List ℕ) (taken : ℕ) → IsNext next stored old (ahead ++ left) → next ≡ End → ReadsOn start left 0 taken → taken < 2 ^ 40
     → (left ≡ []) × (length start < 2 ^ 40)
 input_end Line stored old ahead start left taken is end takes few = cc
 input_end Long stored old ahead start left taken is end takes few = cc
@@ -119,7 +119,7 @@ input_end End stored old ahead start left taken is end takes few =
     (none, omega (arith, few, takes.count, ap (λ (l : List ℕ). length l) takes.front, length-append takes.bytes left, ap (λ (l : List ℕ). length l) none))
 
 -- where so many bytes were taken off, there were so many
-pub enough_taken : {old new : List ℕ} {n : ℕ} → Takes old new 0 n → n ≤ length old
+pub enough_taken : {old new : List ℕ} {n : ℕ} → ReadsOn old new 0 n → n ≤ length old
 enough_taken {old} {new} {n} takes = omega (arith, takes.count, ap (λ (l : List ℕ). length l) takes.front, length-append takes.bytes new)
 
 pub not_so_few : {n most : ℕ} → n < most → most ≤ n → ⊥

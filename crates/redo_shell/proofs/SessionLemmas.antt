@@ -11,7 +11,7 @@ use Rattle.script_lines.specs.Replies.{Reply}
 use Rattle.redo_shell.specs.Store.{Command, Stands, IsNew}
 use Rattle.redo_shell.specs.Groups.{account_of}
 use Rattle.redo_shell.specs.Answers.{Said, Begun, Moment}
-use Rattle.redo_shell.specs.Sessions.{Ran, Adds, Survives, Follows, Sessions, AllSilent, IsAsked, IsThere, Arises, none, more, start, run, init, dump, other}
+use Rattle.redo_shell.specs.Sessions.{Ran, Adds, Survives, Follows, Sessions, AllSilent, WereAskedFor, IsThere, Arises, none, more, start, run, init, dump, other}
 use Rattle.redo_shell.proofs.PrintedLemmas.{nothing_printed}
 use Rattle.redo_shell.proofs.StoryLemmas.{answers_grow, ended_whole, story_start, told_whole}
 
@@ -101,7 +101,7 @@ module _ {T : Type 0} (disk : T → Disk) (lawful : (m : T) → IsDisk (disk m))
   survive (run old new next ran before begins leaves follows) =
       let (told_old, each_old) = survive before in
       let read = each_old (disk old).reads (disk old).said ((lawful old).as_read told_old) in
-      let moments = leaves p read.now (record { told = (lawful old).telling told_old; stands = read.stands }) told_old in
+      let images = leaves p read.now (record { told = (lawful old).telling told_old; stands = read.stands }) told_old in
       let told_next = follows.told told_old in (
         told_next,
         λ files said left. ⊎_elim
@@ -110,7 +110,7 @@ module _ {T : Type 0} (disk : T → Disk) (lawful : (m : T) → IsDisk (disk m))
             let silent = append_cancel_left (disk old).said ran.bytes [] ((lawful old).said_now told_old files _ was ∙ sym (append-nil (disk old).said)) in
             survives_run ran image.now image (adds_none p image.now ran silent) image.stands)
             (λ m. survives_run ran (take m.kept (m.story.account.commands ++ m.story.added)) read (adds_moment p read.now ran (disk old).said files m) m.stands)
-            (moments.each files _ (follows.within told_next files said left)),
+            (images.each files _ (follows.within told_next files said left)),
       )
   survive (init old new next q bytes before no_store leaves follows) =
       let (told_old, each_old) = survive before in
@@ -119,10 +119,10 @@ module _ {T : Type 0} (disk : T → Disk) (lawful : (m : T) → IsDisk (disk m))
   survive (dump old new next bytes before keeps leaves follows) =
       let (told_old, each_old) = survive before in
       let read = each_old (disk old).reads (disk old).said ((lawful old).as_read told_old) in
-      let moments = leaves p read.now (record { told = (lawful old).telling told_old; stands = read.stands }) told_old in
+      let images = leaves p read.now (record { told = (lawful old).telling told_old; stands = read.stands }) told_old in
       let told_next = follows.told told_old in (
         told_next,
-        λ files said left. ⊎_elim (λ was. each_old files bytes was) (λ m. survives_as read m.stands) (moments.each files bytes (follows.within told_next files said left)),
+        λ files said left. ⊎_elim (λ was. each_old files bytes was) (λ m. survives_as read m.stands) (images.each files bytes (follows.within told_next files said left)),
       )
   survive (other old new next bytes before kept follows) =
       let (told_old, each_old) = survive before in
@@ -134,9 +134,9 @@ module _ {T : Type 0} (disk : T → Disk) (lawful : (m : T) → IsDisk (disk m))
 -- one `init` more has asked
 arises_more : (first : Disk) (inits : List Params) (runs : List Ran) (files : Files) (p : Params) → Arises first inits runs files → Arises first (p ∷ inits) runs files
 arises_more first inits runs files p here = ⊎_elim (λ none. inl none)
-    (λ (is : (q : Params) × (IsAsked inits q ⊎ IsThere first q) × Survives q [] runs files).
+    (λ (is : (q : Params) × (WereAskedFor inits q ⊎ IsThere first q) × Survives q [] runs files).
     let (q, from, survives) = is in
-    inr (q, ⊎_elim (λ (asked : IsAsked inits q). inl (inr asked)) (λ (there : IsThere first q). inr there) from, survives))
+    inr (q, ⊎_elim (λ (asked : WereAskedFor inits q). inl (inr asked)) (λ (there : IsThere first q). inr there) from, survives))
     here
 
 module _ {T : Type 0} (disk : T → Disk) (lawful : (m : T) → IsDisk (disk m)) (first : T) (told : (disk first).tells_moments)
@@ -155,19 +155,19 @@ module _ {T : Type 0} (disk : T → Disk) (lawful : (m : T) → IsDisk (disk m))
         told_next,
         λ files said left. ⊎_elim
             (λ no_store. absurd (no_store.0 begins))
-            (λ (is_read : (p : Params) × (IsAsked inits p ⊎ IsThere (disk first) p) × Survives p [] runs (disk old).reads).
+            (λ (is_read : (p : Params) × (WereAskedFor inits p ⊎ IsThere (disk first) p) × Survives p [] runs (disk old).reads).
             let (p, from, read) = is_read in
-            let moments = leaves p read.now (record { told = (lawful old).telling told_old; stands = read.stands }) told_old in
+            let images = leaves p read.now (record { told = (lawful old).telling told_old; stands = read.stands }) told_old in
             ⊎_elim
             (λ was.
             let silent = append_cancel_left (disk old).said ran.bytes [] ((lawful old).said_now told_old files _ was ∙ sym (append-nil (disk old).said)) in
             ⊎_elim (λ no_store. inl (no_store.0, (silent, no_store.1)))
-            (λ (is : (q : Params) × (IsAsked inits q ⊎ IsThere (disk first) q) × Survives q [] runs files).
+            (λ (is : (q : Params) × (WereAskedFor inits q ⊎ IsThere (disk first) q) × Survives q [] runs files).
             let (q, from_q, image) = is in
             inr (q, from_q, survives_run ran image.now image (adds_none q image.now ran silent) image.stands))
             (each_old files _ was))
             (λ m. inr (p, from, survives_run ran (take m.kept (m.story.account.commands ++ m.story.added)) read (adds_moment p read.now ran (disk old).said files m) m.stands))
-            (moments.each files _ (follows.within told_next files said left)))
+            (images.each files _ (follows.within told_next files said left)))
             read_or,
       )
   arise (init {inits} {runs} old new next p bytes before no_store leaves follows) =
@@ -180,7 +180,7 @@ module _ {T : Type 0} (disk : T → Disk) (lawful : (m : T) → IsDisk (disk m))
             (λ was. arises_more (disk first) inits runs files p (each_old files _ was))
             (λ is. ⊎_elim (λ still. inl (still, none_read.1)) (λ stands. inr (p, inl (inl refl), (survives_silent p files runs none_read.1 stands).0)) is.0)
             ((leaves told_old).each files _ (follows.within told_next files said left)))
-            (λ (is_read : (q : Params) × (IsAsked inits q ⊎ IsThere (disk first) q) × Survives q [] runs (disk old).reads). absurd (no_store (stands_begins all_meaning is_read.2.stands)))
+            (λ (is_read : (q : Params) × (WereAskedFor inits q ⊎ IsThere (disk first) q) × Survives q [] runs (disk old).reads). absurd (no_store (stands_begins all_meaning is_read.2.stands)))
             read_or,
       )
   arise (dump {inits} {runs} old new next bytes before keeps leaves follows) =
@@ -190,10 +190,10 @@ module _ {T : Type 0} (disk : T → Disk) (lawful : (m : T) → IsDisk (disk m))
         told_next,
         λ files said left. ⊎_elim
             (λ no_store. each_old files (disk old).said (((keeps no_store.0 told_old).images told_old).each files bytes (follows.within told_next files said left)))
-            (λ (is_read : (p : Params) × (IsAsked inits p ⊎ IsThere (disk first) p) × Survives p [] runs (disk old).reads).
+            (λ (is_read : (p : Params) × (WereAskedFor inits p ⊎ IsThere (disk first) p) × Survives p [] runs (disk old).reads).
             let (p, from, read) = is_read in
-            let moments = leaves p read.now (record { told = (lawful old).telling told_old; stands = read.stands }) told_old in
-            ⊎_elim (λ was. each_old files bytes was) (λ m. inr (p, from, survives_as read m.stands)) (moments.each files bytes (follows.within told_next files said left)))
+            let images = leaves p read.now (record { told = (lawful old).telling told_old; stands = read.stands }) told_old in
+            ⊎_elim (λ was. each_old files bytes was) (λ m. inr (p, from, survives_as read m.stands)) (images.each files bytes (follows.within told_next files said left)))
             read_or,
       )
   arise (other old new next bytes before kept follows) =

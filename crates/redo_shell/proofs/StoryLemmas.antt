@@ -7,7 +7,8 @@ use Rattle.std.proofs.lemmas.List.Concat.{flat_map-append}
 use Rattle.std.specs.List.{AllByRecursion, flat_map}
 use Rattle.disk_model.specs.Disk.{Disk, LeavesOnly}
 use Rattle.formats.specs.declared.params.Params.{Params}
-use Rattle.script_lines.specs.Grammar.{Request, install, drain, checkpoint, trim, begin_group, end_group, AsksFor}
+use Rattle.script_lines.specs.Grammar.{Request, AsksFor}
+use Rattle.script_lines.specs.declared.line.Line.TheVariants.{Install as install, Drain as drain, Checkpoint as checkpoint, Trim as trim, Begin as begin_group, End as end_group}
 use Rattle.script_lines.specs.Replies.{Reply, ok, ran, pairs, bad_tree, tree_full, in_group, no_group, value, forced, bad, refused, full, end, object_value, command_count, stat, summary, silence, text_of, said_line}
 use Rattle.redo_shell.specs.Store.{Command}
 use Rattle.redo_shell.specs.Groups.{Account, AreWhole, IsAfter, IsWhole, Regroups, Span, account_before, account_of, closed_after, closed_with, group_after, waiting}

@@ -11,7 +11,8 @@ use Rattle.disk_model.specs.Moments.{first_call, runs_on, weaker}
 use Rattle.formats.specs.Image.{NextIs}
 use Rattle.formats.specs.declared.params.Params.{Params}
 use Rattle.op_codec.specs.AllOps.{all_meaning}
-use Rattle.script_lines.specs.Grammar.{Request, trim, AsksFor}
+use Rattle.script_lines.specs.Grammar.{Request, AsksFor}
+use Rattle.script_lines.specs.declared.line.Line.TheVariants.{Trim as trim}
 use Rattle.script_lines.specs.Replies.{Reply, ok, ran, pairs, bad_tree, tree_full, in_group, no_group, value, forced, bad, refused, full, end, object_value, command_count, stat, summary, silence, text_of, said_line}
 use Rattle.explain_core.specs.History.{Member, commands_of}
 use Rattle.explain_core.specs.Sound.{IsGroup, IsSound}
@@ -27,7 +28,7 @@ use Rattle.redo_shell.specs.Groups.{Regroups, begun_after, open_in, waiting}
 use Rattle.redo_shell.specs.Replies.{IsLast, IsTrueIn}
 use Rattle.redo_shell.specs.Answers.{EndsInside, TrueWithin}
 use Rattle.redo_shell.specs.Found.{EndsAtLast, IsDone, IsOfEngine, IsStopped}
-use Rattle.redo_shell.specs.Run.{IsTrueSaying, IsTrueSoFar, IsFound, Working, During, LineMoment}
+use Rattle.redo_shell.specs.Run.{IsTrueSaying, IsTrueSoFar, IsAnswerFound, Working, During, LineMoment}
 use Rattle.redo_shell.proofs.StoryLemmas.{AreEven}
 
 newline_behind : (text : List ℕ) (count : ℕ) → count ≤ length text → count < length (text ++ 10 ∷ [])
@@ -139,11 +140,11 @@ line_behind {p} {d} {before} {group} {commands} {line} files said m = ⊎_elim
 
 -- the moments while an answer is found and said
 pub found_truly : {p : Params} {old mid new : Disk} {before after : EngineView} {w : World Command} {commands : List Command} {line : List ℕ} {reply : Reply}
-    → (old.tells_moments → LeavesOnly old mid (Working p old before commands line)) → Passes old mid → (found : IsFound p old mid before after w commands line reply)
+    → (old.tells_moments → LeavesOnly old mid (Working p old before commands line)) → Passes old mid → (found : IsAnswerFound p old mid before after w commands line reply)
     → Runs Same (SaysFront (said_line reply)) mid new → old.tells_moments → LeavesOnly old new (IsTrueSaying p old.said (waiting (open_in w) (commands ++ found.added)) line reply)
-found_truly {p} {old} {mid} {new} {before} {after} {w} {commands} {line} {reply} moments time found say told =
+found_truly {p} {old} {mid} {new} {before} {after} {w} {commands} {line} {reply} images time found say told =
     runs_on old mid new (IsTrueSaying p old.said (waiting (open_in w) (commands ++ found.added)) line reply)
-    (weaker old mid (Working p old before commands line) (IsTrueSaying p old.said (waiting (open_in w) (commands ++ found.added)) line reply) (moments told) (λ files said b. record {
+    (weaker old mid (Working p old before commands line) (IsTrueSaying p old.said (waiting (open_in w) (commands ++ found.added)) line reply) (images told) (λ files said b. record {
       true_in = λ e. absurd (omega (arith, ends_behind e, ap length b.between.quiet));
       no_shorter = omega (arith, ap length b.between.quiet);
       no_longer = omega (arith, ap length b.between.quiet, length-append old.said (said_line reply));

@@ -10,20 +10,22 @@ use Rattle.disk_model.specs.declared.machine.Failed.{Failed as Failure}
 use Rattle.disk_model.specs.declared.machine.FileNo.{FileNo}
 use Rattle.formats.specs.declared.params.Params.{Params}
 use Rattle.op_codec.specs.AllOps.{all_meaning}
+use Rattle.log_records.specs.declared.rewrite_err.RewriteErr.{RewriteErr}
+use Rattle.log_records.specs.declared.rewrite_err.RewriteErr.TheVariants as of_rewrite
 use Rattle.running_store.specs.Calls.{IsFailed}
 use Rattle.running_store.specs.Courses.Stop.{Through, Full, At_end, Worn}
+use Rattle.running_store.specs.Rewrites.{ending_of_rewrite}
 use Rattle.cache_manager.specs.Endings.{ending_of}
 use Rattle.running_store.specs.Taking.{Ending}
 use Rattle.running_store.specs.Taking.Ending.{Done, Stopped, Short, Failed}
 use Rattle.cache_manager.specs.declared.install.Install.{Install}
 use Rattle.cache_manager.specs.declared.install_err.InstallErr.{InstallErr}
 use Rattle.cache_manager.specs.declared.install_err.InstallErr.TheVariants as of_install
-use Rattle.checkpointing.specs.Left as of_trim
+use Rattle.checkpointing.specs.Left.{ending_of_check}
 use Rattle.checkpointing.specs.declared.check_err.CheckErr.{CheckErr}
 use Rattle.checkpointing.specs.declared.check_err.CheckErr.TheVariants as of_checking
-use Rattle.checkpointing.specs.declared.trim_err.TrimErr.{TrimErr}
-use Rattle.checkpointing.specs.declared.trim_err.TrimErr.TheVariants as of_trimming
-use Rattle.script_lines.specs.Grammar.{AsksFor, Request, install, drain, checkpoint, trim}
+use Rattle.script_lines.specs.Grammar.{AsksFor, Request}
+use Rattle.script_lines.specs.declared.line.Line.TheVariants.{Install as install, Drain as drain, Checkpoint as checkpoint, Trim as trim}
 use Rattle.script_lines.specs.Replies.{reply_of}
 use Rattle.script_lines.specs.declared.answer.Answer.{Answer}
 use Rattle.store_engine.specs.Calls.{IsChecking, IsDraining, IsForcing, IsInstalling, IsRefused, IsTrimming, work_of_check, work_of_force, work_of_install, work_of_trim}
@@ -112,7 +114,7 @@ install_whole (Err (of_install.LsnEnd number)) file place is = cc is
 install_whole (Err of_install.DiskFault) file place is = cc is
 install_whole (Err of_install.Memory) file place is = cc is
 
-check_ends : {T : Type 0} (answer : Result T CheckErr) → IsAnswerOf (of_trim.ending_of_check answer) (answer_of_work (work_of_check answer))
+check_ends : {T : Type 0} (answer : Result T CheckErr) → IsAnswerOf (ending_of_check answer) (answer_of_work (work_of_check answer))
 check_ends (Ok value) = refl
 check_ends (Err (of_checking.LogFull used need limit)) = refl
 check_ends (Err of_checking.DiskFault) = refl
@@ -124,21 +126,21 @@ check_whole (Err (of_checking.LogFull used need limit)) file place is = cc is
 check_whole (Err of_checking.DiskFault) file place is = cc is
 check_whole (Err of_checking.Memory) file place is = cc is
 
-trim_ends : {T : Type 0} (answer : Result T TrimErr) → IsAnswerOf (of_trim.ending_of answer) (answer_of_work (work_of_trim answer))
+trim_ends : {T : Type 0} (answer : Result T RewriteErr) → IsAnswerOf (ending_of_rewrite answer) (answer_of_work (work_of_trim answer))
 trim_ends (Ok value) = refl
-trim_ends (Err (of_trimming.Exhausted epoch)) = refl
-trim_ends (Err of_trimming.DiskFault) = refl
-trim_ends (Err (of_trimming.Damaged file place)) = (Damaged file place, tt, refl)
-trim_ends (Err (of_trimming.LogFull used need limit)) = refl
-trim_ends (Err of_trimming.Memory) = (Memory, tt, refl)
+trim_ends (Err (of_rewrite.Exhausted epoch)) = refl
+trim_ends (Err of_rewrite.DiskFault) = refl
+trim_ends (Err (of_rewrite.Damaged file place)) = (Damaged file place, tt, refl)
+trim_ends (Err (of_rewrite.LogFull used need limit)) = refl
+trim_ends (Err of_rewrite.Memory) = (Memory, tt, refl)
 
-trim_whole : {T : Type 0} (answer : Result T TrimErr) (file : FileNo) (place : ℕ) → answer_of_work (work_of_trim answer) ≡ Err (Damaged file place) → answer ≡ Err (of_trimming.Damaged file place)
+trim_whole : {T : Type 0} (answer : Result T RewriteErr) (file : FileNo) (place : ℕ) → answer_of_work (work_of_trim answer) ≡ Err (Damaged file place) → answer ≡ Err (of_rewrite.Damaged file place)
 trim_whole (Ok value) file place is = cc is
-trim_whole (Err (of_trimming.Exhausted epoch)) file place is = cc is
-trim_whole (Err of_trimming.DiskFault) file place is = cc is
-trim_whole (Err (of_trimming.Damaged other there)) file place is = cc is
-trim_whole (Err (of_trimming.LogFull used need limit)) file place is = cc is
-trim_whole (Err of_trimming.Memory) file place is = cc is
+trim_whole (Err (of_rewrite.Exhausted epoch)) file place is = cc is
+trim_whole (Err of_rewrite.DiskFault) file place is = cc is
+trim_whole (Err (of_rewrite.Damaged other there)) file place is = cc is
+trim_whole (Err (of_rewrite.LogFull used need limit)) file place is = cc is
+trim_whole (Err of_rewrite.Memory) file place is = cc is
 
 module _ {old new : Disk} {before after : EngineView} {result : Result Answer Stop} where
   pub installed_upkept : (call : Result Install WorkErr) → (answer : Result Install InstallErr) × (call ≡ work_of_install answer) × IsInstalling all_meaning old new before after answer → result ≡ answer_of_work call
@@ -180,16 +182,16 @@ module _ {old new : Disk} {before after : EngineView} {result : Result Answer St
       record {
         epoch = 0;
         logged = 0;
-        ending = of_trim.ending_of_check alone.0;
+        ending = ending_of_check alone.0;
         call = alone.2.call;
         takes = alone.2.takes;
         commands = alone.2.commands;
         counted = inr (refl, λ m w used. logged_checkpoint m w used);
-        answered = subst (λ (r : Result Answer Stop). IsAnswerOf (of_trim.ending_of_check alone.0) r) (sym same) (check_ends alone.0);
+        answered = subst (λ (r : Result Answer Stop). IsAnswerOf (ending_of_check alone.0) r) (sym same) (check_ends alone.0);
         undamaged = λ told attached file place damaged. check_whole alone.0 file place (sym same ∙ damaged);
       }
 
-  pub trimmed_upkept : {T : Type 0} (call : Result T WorkErr) → (answer : Result T TrimErr) × (call ≡ work_of_trim answer) × IsTrimming all_meaning old new before after answer → result ≡ answer_of_work call
+  pub trimmed_upkept : {T : Type 0} (call : Result T WorkErr) → (answer : Result T RewriteErr) × (call ≡ work_of_trim answer) × IsTrimming all_meaning old new before after answer → result ≡ answer_of_work call
       → IsUpkept old new before after trim result
   trimmed_upkept call alone is =
       let same = is ∙ ap (λ r. answer_of_work r) alone.1 in
@@ -197,12 +199,12 @@ module _ {old new : Disk} {before after : EngineView} {result : Result Answer St
       record {
         epoch = epoch;
         logged = 0;
-        ending = of_trim.ending_of alone.0;
+        ending = ending_of_rewrite alone.0;
         call = alone.2.call;
         takes = alone.2.takes;
         commands = alone.2.commands;
         counted = inr (refl, λ m w used. logged_trim m epoch w used);
-        answered = subst (λ (r : Result Answer Stop). IsAnswerOf (of_trim.ending_of alone.0) r) (sym same) (trim_ends alone.0);
+        answered = subst (λ (r : Result Answer Stop). IsAnswerOf (ending_of_rewrite alone.0) r) (sym same) (trim_ends alone.0);
         undamaged = λ told attached file place damaged. alone.2.undamaged told attached file place (trim_whole alone.0 file place (sym same ∙ damaged));
       }
 

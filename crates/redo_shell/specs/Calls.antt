@@ -31,7 +31,7 @@ pub record IsRunOn (p : Params) (commands : List Command) (script : List (List �
   -- what a crash at any moment leaves is what a crash at the start could leave, with nothing said since, or it stands for
   -- these commands and a beginning of those that the script has added, which splits no group and is no shorter than any number
   -- that was printed to be forced, and what was said is the answers to the script's lines
-  pub moments : old.tells_moments → LeavesOnly old new (OrAtStart old (Moment p commands script old.said))
+  pub images : old.tells_moments → LeavesOnly old new (OrAtStart old (Moment p commands script old.said))
   -- from a settled start what a crash at the start could leave is what reads give
   pub from_settled : old.tells_moments → IsSettled old → LeavesOnly old new (Moment p commands script old.said)
   -- but where the disk or memory may have failed the opening, the syncs at its start are done: what a crash then leaves
@@ -49,7 +49,7 @@ pub record IsRunOn (p : Params) (commands : List Command) (script : List (List �
   -- from each of them, what a crash at any moment leaves is what one at the start could leave, or it is made by the courses
   -- of the restart and of the lines: at each moment some first steps of the course that is due then are done, and all of it
   -- before anything is said of the answer
-  pub courses : old.tells_moments → (first : Stage) → (is : IsFirst p commands old first) → LeavesOnly old new (OrAtStart old (RunMoment p commands old first is script))
+  pub steps : old.tells_moments → (first : Stage) → (is : IsFirst p commands old first) → LeavesOnly old new (OrAtStart old (RunMoment p commands old first is script))
   -- with status 0 or 1 the whole script is answered, and the files stand for all of it
   pub complete : (first : Stage) → IsFirst p commands old first → (status ≡ Done) ⊎ (status ≡ DoneWithRefusals) → IsComplete p first old new commands script status
   -- such files are never taken for no store or for damaged
@@ -69,7 +69,7 @@ pub record IsRunCall (told : Type 0) (left rest : List ℕ) (old new : Disk) (st
 -- A dump of files that stand for commands as they are read.
 pub record IsDumpOn (p : Params) (commands : List Command) (old new : Disk) (status : Status) : Type 0 where
   -- what a crash at any moment leaves is what one at the start could leave, or it stands for these commands
-  pub moments : old.tells_moments → LeavesOnly old new (OrAtStart old (DumpMoment p commands old.said))
+  pub images : old.tells_moments → LeavesOnly old new (OrAtStart old (DumpMoment p commands old.said))
   pub from_settled : old.tells_moments → IsSettled old → LeavesOnly old new (DumpMoment p commands old.said)
   -- a beginning of their table was said: all of it with status 0
   pub said : (count : ℕ) × (new.said ≡ old.said ++ take count (dump_of p commands))
@@ -81,7 +81,7 @@ pub record IsDumpOn (p : Params) (commands : List Command) (old new : Disk) (sta
   pub stands : status ≢ DiskFault → status ≢ Memory → InEachImage new (λ files. Stands p files commands)
   -- the restart takes its course, and nothing else is done: a crash at any moment leaves what one at the start could leave,
   -- or the world after some first steps of it, and with status 0 the files show the world after all of it
-  pub courses : old.tells_moments → (first : Stage) → (is : IsFirst p commands old first) → LeavesOnly old new (OrAtStart old (TableMoment p commands old first is))
+  pub steps : old.tells_moments → (first : Stage) → (is : IsFirst p commands old first) → LeavesOnly old new (OrAtStart old (TableMoment p commands old first is))
   pub shows : (first : Stage) → IsFirst p commands old first → status ≡ Done → FilesShow (meaning_in p) p new.reads first.world
 
 -- A dump of any files.
@@ -98,7 +98,7 @@ pub record IsMaking (p : Params) (old new : Disk) (status : Status) : Type 0 whe
   pub done : old.tells_files → status ≡ Done → InEachImage new (IsNewStore p)
   pub quiet : old.tells_files → status ≡ Done → new.said ≡ old.said
   -- at each moment there is what a crash at the start could leave, no store, or one without commands; nothing is said
-  pub moments : old.tells_moments → (BeginsStore (old.reads Objects) → ⊥) → LeavesOnly old new (OrAtStart old (λ files said. IsNew p files × (said ≡ old.said)))
+  pub images : old.tells_moments → (BeginsStore (old.reads Objects) → ⊥) → LeavesOnly old new (OrAtStart old (λ files said. IsNew p files × (said ≡ old.said)))
   pub from_settled : old.tells_moments → IsSettled old → (BeginsStore (old.reads Objects) → ⊥) → LeavesOnly old new (λ files said. IsNew p files × (said ≡ old.said))
   -- but where the disk fails, the machine is settled then
   pub settled : old.tells_files → status ≢ DiskFault → IsSettled new

@@ -7,7 +7,7 @@ use Rattle.formats.specs.Bytes.{IsOpenAt, IsClosedAt}
 use Rattle.formats.specs.FirstFault.{IsDamaged}
 use Rattle.formats.specs.Image.{BeginsStore}
 use Rattle.op_codec.specs.AllOps.{all_meaning}
-use Rattle.script_lines.specs.Reading.{Takes}
+use Rattle.script_lines.specs.Reading.{ReadsOn}
 use Rattle.command_words.specs.Words.{Asks}
 use Rattle.command_words.specs.declared.asked.Asked.{Asked}
 use Rattle.store_engine.specs.Engine.{InEachImage}
@@ -81,4 +81,4 @@ pub record ComesByCause (words : List (List ℕ)) (told : Type 0) (left rest : L
   pub faults : CountsFaults old new status
   pub read_fault : status ≡ ReadFault → Rises reads_before reads_now
   -- so many bytes were taken, and the end was not yet read
-  pub too_long : told → status ≡ TooLong → Takes left rest 0 (2 ^ 40)
+  pub too_long : told → status ≡ TooLong → ReadsOn left rest 0 (2 ^ 40)

@@ -9,7 +9,8 @@ use Rattle.standing.specs.Standing.{FilesShow}
 use Rattle.running_store.specs.Courses.{Course, course, force_course}
 use Rattle.running_store.specs.Courses.Stop.{Through}
 use Rattle.restart.specs.Courses.{restart_course}
-use Rattle.script_lines.specs.Grammar.{force, AsksFor}
+use Rattle.script_lines.specs.Grammar.{AsksFor}
+use Rattle.script_lines.specs.declared.line.Line.TheVariants.{Force as force}
 use Rattle.script_lines.specs.Replies.{Reply, said_line}
 use Rattle.redo_shell.specs.Store.{Command, meaning_in}
 use Rattle.redo_shell.specs.Stages.{Stage, HasCourse, Leads, AllGoBy, IsFirst, finish_course, redo_dirty}
@@ -17,14 +18,14 @@ use Rattle.redo_shell.specs.Stages.{Stage, HasCourse, Leads, AllGoBy, IsFirst, f
 -- What may be done for the next of these lines before anything is said of it: the course that the line has the engine take,
 -- a force for `force` where no group is open, and after the last line the end of an open group and a force; nothing may be
 -- done for any line.
-abbrev pub IsDue : Params → Stage → List (List ℕ) → Course Command → Type 0
-IsDue p s [] c = c ≡ finish_course (meaning_in p) s.world s.used
-IsDue p s (line ∷ lines) c = HasCourse p s line c ⊎ ((AsksFor line force × (s.world.group ≡ None) × (c ≡ force_course (meaning_in p) s.world s.used)) ⊎ (c ≡ course [] s.used Through))
+abbrev pub IsCourseDue : Params → Stage → List (List ℕ) → Course Command → Type 0
+IsCourseDue p s [] c = c ≡ finish_course (meaning_in p) s.world s.used
+IsCourseDue p s (line ∷ lines) c = HasCourse p s line c ⊎ ((AsksFor line force × (s.world.group ≡ None) × (c ≡ force_course (meaning_in p) s.world s.used)) ⊎ (c ≡ course [] s.used Through))
 
 -- the image shows the world after some first steps of what is due, none or all among them
 pub record IsWorkedOn (p : Params) (s : Stage) (todo : List (List ℕ)) (files : Files) : Type 0 where
   pub its : Course Command
-  pub due : IsDue p s todo its
+  pub due : IsCourseDue p s todo its
   pub shows : ShowsSome (meaning_in p) p s.world its.steps files
 
 -- an answer to the line is being said, and the image shows the world that it leads to

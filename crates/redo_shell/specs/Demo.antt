@@ -8,7 +8,7 @@ use Rattle.formats.specs.declared.params.Params.{Params}
 use Rattle.script_lines.specs.Grammar.{lines_of}
 use Rattle.script_lines.specs.Replies.{Reply, summary, said_line}
 use Rattle.script_lines.specs.declared.answer.Totals.{Totals}
-use Rattle.demo_script.specs.Script.{script_of}
+use Rattle.script_lines.specs.DemoScript.{script_of}
 use Rattle.redo_shell.specs.Store.{Command, IsNewStore}
 use Rattle.redo_shell.specs.Replies.{is_refusing}
 use Rattle.redo_shell.specs.Answers.{Answers}

@@ -4,20 +4,21 @@ use Rattle.std.specs.Option.{is_some}
 use Rattle.disk_model.specs.Disk.{Disk}
 use Rattle.disk_model.specs.declared.machine.FileNo.{FileNo}
 use Rattle.oper_core.specs.Meaning.{Meaning}
+use Rattle.formats.specs.Limits.{log_limit}
 use Rattle.formats.specs.declared.params.Params.{Params}
 use Rattle.explain_core.specs.History.{commands_of}
 use Rattle.explain_core.specs.World.{World}
 use Rattle.running_store.specs.Courses.{Stop as CourseStop}
 use Rattle.cache_manager.specs.InstallCourses.{logged_in}
 use Rattle.running_store.specs.Courses.Stop.{Through, Full, At_end, Worn}
-use Rattle.running_store.specs.Logged.{log_limit}
 use Rattle.running_store.specs.Taking.{Ending}
 use Rattle.running_store.specs.Taking.Ending.{Done, Stopped, Short, Failed}
 use Rattle.oper_core.specs.declared.refusal.Refusal.TheVariants as refusals
 use Rattle.tree_client.specs.declared.tree_err.TreeErr.{TreeErr}
 use Rattle.tree_client.specs.declared.tree_err.TreeErr.TheVariants as tree_errors
 use Rattle.op_codec.specs.AllOps.{all_meaning}
-use Rattle.script_lines.specs.Grammar.{Request, trim, AsksFor}
+use Rattle.script_lines.specs.Grammar.{Request, AsksFor}
+use Rattle.script_lines.specs.declared.line.Line.TheVariants.{Trim as trim}
 use Rattle.store_engine.specs.Lists.{AddsFront, AreCalls, ending_of as ending_of_calls}
 use Rattle.execution.specs.Stops.{StopsCommand}
 use Rattle.execution.specs.declared.exec_err.ExecErr.{ExecErr}
@@ -28,7 +29,7 @@ use Rattle.script_lines.specs.declared.answer.Answer.TheVariants as answers
 use Rattle.store_engine.specs.Engine.{EngineView, KeepsCommands, TakesIn, forced_in, logged_since}
 use Rattle.store_engine.specs.declared.work_err.WorkErr.{WorkErr}
 use Rattle.store_engine.specs.declared.work_err.WorkErr.TheVariants as work_errors
-use Rattle.redo_shell.specs.Store.{IsAttached, IsCall}
+use Rattle.redo_shell.specs.Store.{IsAttached, IsEngineCall}
 use Rattle.redo_shell.specs.Groups.{Regroups, open_in}
 use Rattle.redo_shell.specs.Made.{Made, made_by, tree_answer}
 use Rattle.redo_shell.specs.Store.{Command, Holds, ShowsIn, state_of}
@@ -115,7 +116,7 @@ pub record IsUpkept (old now : Disk) (before after : EngineView) (request : Requ
   pub epoch : ℕ
   pub logged : ℕ
   pub ending : Ending
-  pub call : IsCall log_limit old now before after logged ending
+  pub call : IsEngineCall log_limit old now before after logged ending
   pub takes : TakesIn all_meaning old now before after (upkeep_course epoch request) ending
   pub commands : KeepsCommands all_meaning old now before after ending
   pub counted : (logged ≡ logged_since before after)

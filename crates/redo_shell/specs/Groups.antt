@@ -3,7 +3,8 @@ use Rattle.std.specs.Prelude.{◌≡◌, ◌≤◌, ◌⊎◌, ◌-◌, ◌++◌
 use Rattle.std.specs.List.{AllByRecursion}
 use Rattle.explain_core.specs.History.{commands_of}
 use Rattle.explain_core.specs.World.{World}
-use Rattle.script_lines.specs.Grammar.{Request, begin_group, end_group, AsksFor}
+use Rattle.script_lines.specs.Grammar.{Request, AsksFor}
+use Rattle.script_lines.specs.declared.line.Line.TheVariants.{Begin as begin_group, End as end_group}
 use Rattle.script_lines.specs.Replies.{Reply, ok}
 use Rattle.redo_shell.specs.Store.{Command}
 

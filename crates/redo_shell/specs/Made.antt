@@ -7,13 +7,14 @@ use Rattle.formats.specs.Objects.{bounds_of}
 use Rattle.formats.specs.declared.params.Params.{Params}
 use Rattle.app_steps.specs.Steps.{step_of, steps, steps_accepted}
 use Rattle.btree_ops.specs.declared.node_op.NodeOp.{NodeOp}
-use Rattle.op_codec.specs.declared.all_ops.AllOps.TheVariants.{Put, Copy, Append, Cut, Sort, Swap, Exec, AppRead, AppWrite}
+use Rattle.op_codec.specs.declared.sum.Sum.TheVariants.{First}
 use Rattle.logical_btree.specs.Walk.{Pair}
 use Rattle.logical_btree.specs.Plan.{Plan, insert_plan, delete_plan, get_answer, range_answer}
 use Rattle.tree_client.specs.Answers.{made_of}
 use Rattle.logical_btree.specs.declared.refusal.TreeRefusal.{TreeRefusal}
 use Rattle.logical_btree.specs.declared.refusal.TreeRefusal.TheVariants.{NoObject, BadTree, TreeFull, NoKey}
-use Rattle.script_lines.specs.Grammar.{Request, put, copy, append, cut, sort, swap, exec, aread, awrite, arun, tinsert, tdelete, tget, trange, AsksFor}
+use Rattle.script_lines.specs.Grammar.{Request, AsksFor}
+use Rattle.script_lines.specs.declared.line.Line.TheVariants.{Run as run, AppRun as arun, TreeInsert as tinsert, TreeDelete as tdelete, TreeGet as tget, TreeRange as trange}
 use Rattle.script_lines.specs.Replies.{Reply, ok, value, ran, pairs_reply, refused, bad_tree, tree_full}
 use Rattle.redo_shell.specs.Store.{Command, refusal_after, state_of}
 
@@ -66,15 +67,7 @@ plan_made p plan = made (made_of p.cap plan.commands) (plan_reply p.cap plan.com
 
 -- what a request for commands makes after these
 abbrev pub made_by : Params → List Command → Request → Option Made
-made_by p commands (put x bytes) = Some (one_made p commands (Put (record { object = x; value = bytes })))
-made_by p commands (copy x y) = Some (one_made p commands (Copy (record { from = x; to = y })))
-made_by p commands (append x y) = Some (one_made p commands (Append (record { from = x; to = y })))
-made_by p commands (cut x y place) = Some (one_made p commands (Cut (record { from = x; to = y; place = place })))
-made_by p commands (sort x y width) = Some (one_made p commands (Sort (record { from = x; to = y; width = width })))
-made_by p commands (swap x y) = Some (one_made p commands (Swap (record { first = x; second = y })))
-made_by p commands (exec app) = Some (one_made p commands (Exec (record { app = app })))
-made_by p commands (aread app x) = Some (one_made p commands (AppRead (record { app = app; from = x })))
-made_by p commands (awrite app x) = Some (one_made p commands (AppWrite (record { app = app; to = x })))
+made_by p commands (run op) = Some (one_made p commands (First op))
 made_by p commands (arun app n) = Some (run_made p commands app n)
 made_by p commands (tinsert lo hi key bytes) = Some (plan_made p (insert_plan (bounds_of p) lo hi (state_of p commands) key bytes))
 made_by p commands (tdelete lo hi key) = Some (plan_made p (delete_plan (bounds_of p) lo hi (state_of p commands) key))

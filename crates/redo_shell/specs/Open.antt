@@ -18,7 +18,7 @@ pub record OpensFiles (p : Params) (commands : List Command) (old new : Disk) : 
   pub quiet : new.said ≡ old.said
   pub images : old.tells_moments → LeavesOnly old new (OrAtStart old (Between p old None (length commands) (length commands) commands))
   pub first : (first : Stage) × IsFirst p commands old first
-  pub courses : old.tells_moments → (first : Stage) → (is : IsFirst p commands old first) → LeavesOnly old new (OrAtStart old (OpeningMoment p commands old first is))
+  pub steps : old.tells_moments → (first : Stage) → (is : IsFirst p commands old first) → LeavesOnly old new (OrAtStart old (OpeningMoment p commands old first is))
 
 -- An engine on files that stand for commands, all of them forced, with no group open. Each stage that a restart may make of the files is the
 -- engine's, by a world that it shows.

@@ -7,8 +7,9 @@ use Rattle.formats.specs.Image.{EndsAt, NextIs}
 use Rattle.store_engine.specs.Engine.{EpochIs, group_bytes, needed_in}
 use Rattle.formats.specs.declared.params.Params.{Params}
 use Rattle.op_codec.specs.AllOps.{all_meaning}
-use Rattle.op_codec.specs.declared.all_ops.AllOps.TheVariants.{Put, Copy, Append, Cut, Sort, Swap, Exec, AppRead, AppWrite}
-use Rattle.script_lines.specs.Grammar.{put, copy, append, cut, sort, swap, exec, aread, awrite, get, force, install, drain, checkpoint, trim, begin_group, end_group, stat as asks_stat, skip, Request, AsksFor, IsBad}
+use Rattle.op_codec.specs.declared.sum.Sum.TheVariants.{First, Second}
+use Rattle.script_lines.specs.Grammar.{Request, AsksFor, IsBad}
+use Rattle.script_lines.specs.declared.line.Line.TheVariants.{Run as run, Get as get, Force as force, Install as install, Drain as drain, Checkpoint as checkpoint, Trim as trim, Begin as begin_group, End as end_group, Stat as asks_stat, Skip as skip}
 use Rattle.script_lines.specs.Replies.{Reply, ok, ran, value, pairs, forced, bad, refused, bad_tree, tree_full, in_group, no_group, full, end, object_value, command_count, stat, summary, silence}
 use Rattle.redo_shell.specs.Store.{Command, meaning_in, state_of, record_length, Stands}
 use Rattle.redo_shell.specs.Groups.{size_of}
@@ -16,16 +17,8 @@ use Rattle.redo_shell.specs.Made.{made, AsksMade, AsksBehind, AsksTree}
 
 -- The line asks for this one command. No line asks for one on a node.
 abbrev pub AsksCommand : List ℕ → Command → Type 0
-AsksCommand line (Put op) = AsksFor line (put op.object op.value)
-AsksCommand line (Copy op) = AsksFor line (copy op.from op.to)
-AsksCommand line (Append op) = AsksFor line (append op.from op.to)
-AsksCommand line (Cut op) = AsksFor line (cut op.from op.to op.place)
-AsksCommand line (Sort op) = AsksFor line (sort op.from op.to op.width)
-AsksCommand line (Swap op) = AsksFor line (swap op.first op.second)
-AsksCommand line (Exec op) = AsksFor line (exec op.app)
-AsksCommand line (AppRead op) = AsksFor line (aread op.app op.from)
-AsksCommand line (AppWrite op) = AsksFor line (awrite op.app op.to)
-AsksCommand line op = ⊥
+AsksCommand line (First op) = AsksFor line (run op)
+AsksCommand line (Second op) = ⊥
 
 -- a request that adds no command, and changes the files or the log
 abbrev pub IsUpkeep : Request → Type 0

@@ -116,10 +116,10 @@ pub record Going (p : Params) (first : Stage) (start now : Disk) (engine : Engin
   pub all_before : length commands ≤ forced_in engine
   pub acked : (n : ℕ) → Contains replies (forced n) → n ≤ forced_in engine
   pub kind : refusing ≡ list_any is_refusing replies
-  pub moments : start.tells_moments → LeavesOnly start now (MomentSoFar p commands script start.said)
+  pub images : start.tells_moments → LeavesOnly start now (MomentSoFar p commands script start.said)
   pub truly : start.tells_moments → LeavesOnly start now (IsTrueSoFar p start.said lines replies waits now.said)
   pub goes : AllGoBy p first lines replies (stage_of engine holds.world)
-  pub courses : start.tells_moments → LeavesOnly start now (StageSoFar p first script start.said)
+  pub steps : start.tells_moments → LeavesOnly start now (StageSoFar p first script start.said)
 
 -- A whole run: each line is answered, the files stand for all that was added, and the status reports refusals. The
 -- stages go from the first on, with each answer; an open group is closed, and the files show the world of the last after a
@@ -139,7 +139,7 @@ pub record IsComplete (p : Params) (first : Stage) (start now : Disk) (commands 
   pub ends_last : EndsAt now.reads last.used
 
 -- the answer to a line is found and not said yet: what it adds is done, and it is true in each image
-pub record IsFound (p : Params) (old now : Disk) (before after : EngineView) (w : World Command) (commands : List Command) (line : List ℕ) (reply : Reply) : Type 0 where
+pub record IsAnswerFound (p : Params) (old now : Disk) (before after : EngineView) (w : World Command) (commands : List Command) (line : List ℕ) (reply : Reply) : Type 0 where
   pub added : List Command
   pub replies : Replies p (open_in w) commands line reply added
   pub quiet : now.said ≡ old.said
@@ -164,25 +164,25 @@ IsCaused Memory old new = ⊤
 IsCaused TooLong old new = ⊥
 
 -- what ends a run early has its cause
-abbrev pub IsStopped : Stop → Disk → Disk → ℕ → ℕ → Type 0
-IsStopped DiskFault old new reads_before reads_now = Rises old.disk_faults new.disk_faults
-IsStopped (Damaged file place) old new reads_before reads_now = ⊤
-IsStopped ReadFault old new reads_before reads_now = Rises reads_before reads_now
-IsStopped SayFault old new reads_before reads_now = Rises old.say_faults new.say_faults
-IsStopped Memory old new reads_before reads_now = ⊤
-IsStopped TooLong old new reads_before reads_now = ⊤
+abbrev pub StopsWith : Stop → Disk → Disk → ℕ → ℕ → Type 0
+StopsWith DiskFault old new reads_before reads_now = Rises old.disk_faults new.disk_faults
+StopsWith (Damaged file place) old new reads_before reads_now = ⊤
+StopsWith ReadFault old new reads_before reads_now = Rises reads_before reads_now
+StopsWith SayFault old new reads_before reads_now = Rises old.say_faults new.say_faults
+StopsWith Memory old new reads_before reads_now = ⊤
+StopsWith TooLong old new reads_before reads_now = ⊤
 
 -- a line was answered, or a beginning of its answer was said, or nothing
 pub record Answering (p : Params) (old new : Disk) (before after : EngineView) (w : World Command) (commands : List Command) (line : List ℕ) (result : Result Bool Stop) : Type 0 where
   pub whole : IfOk result (IsAnswered p old new before after w commands line)
   pub partly : OnErr result ((new.said ≡ old.said) ⊎ IsPartly p old new (stage_of before w) commands line)
-  pub moments : old.tells_moments → LeavesOnly old new (LineMoment p old before (open_in w) commands line)
-  pub courses : old.tells_moments → LeavesOnly old new (LineStage p (stage_of before w) old.said line)
+  pub images : old.tells_moments → LeavesOnly old new (LineMoment p old before (open_in w) commands line)
+  pub steps : old.tells_moments → LeavesOnly old new (LineStage p (stage_of before w) old.said line)
 
 -- a script was answered, or a beginning of it, and the run ended with this status
 pub record IsRun (p : Params) (first : Stage) (start now : Disk) (commands : List Command) (script : List (List ℕ)) (status : Status) : Type 0 where
   pub says : SaysTruly p first commands script start now
-  pub moments : start.tells_moments → LeavesOnly start now (Moment p commands script start.said)
-  pub courses : start.tells_moments → LeavesOnly start now (StageMoment p first script start.said)
+  pub images : start.tells_moments → LeavesOnly start now (Moment p commands script start.said)
+  pub steps : start.tells_moments → LeavesOnly start now (StageMoment p first script start.said)
   -- where it was cut short an open group was neither closed nor forced
   pub unclosed : IsCut status → start.tells_moments → LeavesOnly start now (MomentSoFar p commands script start.said)

@@ -59,15 +59,15 @@ pub record Follows (old new next : Disk) (said : List ℕ) : Type 0 where
 -- of the stores that were made, and the runs, the latest first.
 pub data Sessions {T : Type 0} (disk : T → Disk) (first : T) : List Params → List Ran → T → Type 0 where
   start : Sessions disk first [] [] first
-  -- a run on a store, by `moments`, or of a source that reports nothing by `run`, its `untold`
+  -- a run on a store, by `images`, or of a source that reports nothing by `run`, its `untold`
   run : {inits : List Params} {runs : List Ran} → (old new next : T) (ran : Ran) → Sessions disk first inits runs old → BeginsStore ((disk old).reads Objects)
       → ((p : Params) (commands : List Command) → Opens p (disk old) commands → (disk old).tells_moments → LeavesOnly (disk old) (disk new) (OrAtStart (disk old) (Moment p commands ran.script (disk old).said)))
       → Follows (disk old) (disk new) (disk next) ((disk old).said ++ ran.bytes) → Sessions disk first inits (ran ∷ runs) next
-  -- the making of a store with these numbers where there is none, by `init`, its part `moments`
+  -- the making of a store with these numbers where there is none, by `init`, its part `images`
   init : {inits : List Params} {runs : List Ran} → (old new next : T) (p : Params) (said : List ℕ) → Sessions disk first inits runs old → (BeginsStore ((disk old).reads Objects) → ⊥)
       → ((disk old).tells_moments → LeavesOnly (disk old) (disk new) (OrAtStart (disk old) (λ files bytes. IsNew p files × (bytes ≡ (disk old).said))))
       → Follows (disk old) (disk new) (disk next) said → Sessions disk first (p ∷ inits) runs next
-  -- a dump, by `dump`: of a store by `moments` of its `table`, where there is none by `keeps` of its `judged`
+  -- a dump, by `dump`: of a store by `images` of its `table`, where there is none by `keeps` of its `judged`
   dump : {inits : List Params} {runs : List Ran} → (old new next : T) (said : List ℕ) → Sessions disk first inits runs old → ((BeginsStore ((disk old).reads Objects) → ⊥) → (disk old).tells_moments → KeepsFiles (disk old) (disk new))
       → ((p : Params) (commands : List Command) → Opens p (disk old) commands → (disk old).tells_moments → LeavesOnly (disk old) (disk new) (OrAtStart (disk old) (DumpMoment p commands (disk old).said)))
       → Follows (disk old) (disk new) (disk next) said → Sessions disk first inits runs next
@@ -81,9 +81,9 @@ AllSilent [] = ⊤
 AllSilent (ran ∷ runs) = (ran.bytes ≡ []) × AllSilent runs
 
 -- an `init` has asked for a store with these numbers
-abbrev pub IsAsked : List Params → Params → Type 0
-IsAsked [] p = ⊥
-IsAsked (q ∷ inits) p = (p ≡ q) ⊎ IsAsked inits p
+abbrev pub WereAskedFor : List Params → Params → Type 0
+WereAskedFor [] p = ⊥
+WereAskedFor (q ∷ inits) p = (p ≡ q) ⊎ WereAskedFor inits p
 
 -- a crash at the start could leave a store with these numbers that has no commands
 abbrev pub IsThere : Disk → Params → Type 0
@@ -92,4 +92,4 @@ IsThere first p = (files : Files) × (said : List ℕ) × first.left_since first
 -- No store is there, and no run has said anything; or a store, with what the runs have made of one without commands, and
 -- its numbers are those that an `init` has asked for, or of a store that was there at the start.
 abbrev pub Arises : Disk → List Params → List Ran → Files → Type 0
-Arises first inits runs files = ((BeginsStore (files Objects) → ⊥) × AllSilent runs) ⊎ ((p : Params) × (IsAsked inits p ⊎ IsThere first p) × Survives p [] runs files)
+Arises first inits runs files = ((BeginsStore (files Objects) → ⊥) × AllSilent runs) ⊎ ((p : Params) × (WereAskedFor inits p ⊎ IsThere first p) × Survives p [] runs files)

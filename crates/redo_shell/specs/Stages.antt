@@ -11,9 +11,10 @@ use Rattle.running_store.specs.Courses.{Course, Stop, course, force_course, forc
 use Rattle.cache_manager.specs.InstallCourses.{logged_in, install_course, drain_course}
 use Rattle.running_store.specs.Courses.Stop.{Through, Full, At_end, Worn}
 use Rattle.op_codec.specs.AllOps.{all_meaning}
-use Rattle.script_lines.specs.Grammar.{Request, get, tget, trange, install, drain, checkpoint, trim, begin_group, end_group, AsksFor}
+use Rattle.script_lines.specs.Grammar.{Request, AsksFor}
+use Rattle.script_lines.specs.declared.line.Line.TheVariants.{Get as get, TreeGet as tget, TreeRange as trange, Install as install, Drain as drain, Checkpoint as checkpoint, Trim as trim, Begin as begin_group, End as end_group}
 use Rattle.script_lines.specs.Replies.{Reply, ok, ran, forced, refused, bad_tree, tree_full, full, end, stat}
-use Rattle.script_lines.specs.declared.answer.Counts.{Counts}
+use Rattle.script_lines.specs.declared.answer.StatLine.{StatLine}
 use Rattle.checkpointing.specs.Courses.{checkpoint_course, trim_course}
 use Rattle.restart.specs.Courses.{restart_course}
 use Rattle.restart.specs.Opening.{OpensOn}
@@ -78,7 +79,7 @@ abbrev pub Ends : Params → Stage → List ℕ → Stop → Stage → Type 0
 Ends p old line stop new = (c : Course Command) × HasCourse p old line c × (c.stop ≡ stop) × (new ≡ stage_after p old c)
 
 -- the counts that are told of a stage: of its graph, its cache and its log, and of the commands that are forced and accepted
-pub record IsCounted (p : Params) (s : Stage) (counts : Counts) : Type 0 where
+pub record IsCounted (p : Params) (s : Stage) (counts : StatLine) : Type 0 where
   pub nodes : counts.nodes ≡ count_below (end_of s.world) (is_name all_meaning p s.world)
   pub dirty : counts.dirty ≡ dirty_in (meaning_in p) s.world
   pub uninstalled : counts.uninstalled ≡ count_below (end_of s.world) s.world.graph

@@ -1,5 +1,7 @@
 -- How a run ends, and the status that reports it.
 use Rattle.std.specs.Prelude.{⊤, ℕ, Bool, true, false, Result, Ok, Err}
+use Rattle.formats.specs.declared.read_err.ReadErr.{ReadErr}
+use Rattle.formats.specs.declared.read_err.ReadErr.TheVariants as of_files
 use Rattle.script_lines.specs.declared.read_error.ReadError.{ReadError}
 use Rattle.script_lines.specs.declared.read_error.ReadError.TheVariants.{ReadFault as ReadFailed, TooLong as ReadTooMuch, Memory as NoMemoryToRead}
 use Rattle.redo_shell.specs.declared.stop.Stop.{Stop}
@@ -22,10 +24,16 @@ number_of OutOfMemory = 8
 number_of InputTooLong = 9
 
 -- why a run ends where no line could be read
-abbrev pub stop_of_read : ReadError → Stop
-stop_of_read ReadFailed = ReadFault
-stop_of_read ReadTooMuch = TooLong
-stop_of_read NoMemoryToRead = Memory
+abbrev pub stop_of_input : ReadError → Stop
+stop_of_input ReadFailed = ReadFault
+stop_of_input ReadTooMuch = TooLong
+stop_of_input NoMemoryToRead = Memory
+
+-- where a slot could not be read
+abbrev pub stop_from_read : ReadErr → Stop
+stop_from_read of_files.DiskFault = DiskFault
+stop_from_read (of_files.Damaged file place) = SlotDamaged file place
+stop_from_read of_files.Memory = Memory
 
 -- the status of a run that ends before its script does
 abbrev pub status_of : Stop → Status

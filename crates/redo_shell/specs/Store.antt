@@ -5,7 +5,7 @@ use Rattle.oper_core.specs.Meaning.{Meaning}
 use Rattle.oper_core.specs.declared.refusal.Refusal.{Refusal}
 use Rattle.disk_model.specs.Disk.{Files, Disk}
 use Rattle.formats.specs.declared.params.Params.{Params}
-use Rattle.op_codec.specs.declared.all_ops.AllOps.{AllOps}
+use Rattle.op_codec.specs.AllOps.{AllOps}
 use Rattle.op_codec.specs.AllOps.{all_meaning}
 use Rattle.explain_core.specs.History.{commands_of}
 use Rattle.explain_core.specs.World.{World}
@@ -64,8 +64,8 @@ abbrev pub IsAttached : Disk → EngineView → Type 0
 IsAttached d engine = of_engine.IsAttached all_meaning d engine
 
 -- what holds on every machine of a call whose log may have so many bytes
-abbrev pub IsCall : ℕ → Disk → Disk → EngineView → EngineView → ℕ → Ending → Type 0
-IsCall most old new before after logged ending = of_engine.IsCall all_meaning most old new before after logged ending
+abbrev pub IsEngineCall : ℕ → Disk → Disk → EngineView → EngineView → ℕ → Ending → Type 0
+IsEngineCall most old new before after logged ending = of_engine.IsEngineCall all_meaning most old new before after logged ending
 
 -- each image stands for the commands that are forced, and the map has the values after all
 abbrev pub Says : Params → Disk → EngineView → List Command → Type 0

@@ -1,6 +1,7 @@
 -- What a line has the program do.
 use Rattle.std.specs.Prelude.{ℕ, List}
-use Rattle.script_lines.specs.Grammar.{Request, arun, tinsert, tget, tdelete, trange, get, force, install, drain, checkpoint, trim, begin_group, end_group, stat, skip, AsksFor, IsBad}
+use Rattle.script_lines.specs.Grammar.{Request, AsksFor, IsBad}
+use Rattle.script_lines.specs.declared.line.Line.TheVariants.{AppRun as arun, TreeInsert as tinsert, TreeGet as tget, TreeDelete as tdelete, TreeRange as trange, Get as get, Force as force, Install as install, Drain as drain, Checkpoint as checkpoint, Trim as trim, Begin as begin_group, End as end_group, Stat as stat, Skip as skip}
 use Rattle.redo_shell.specs.Replies.{AsksCommand}
 use Rattle.redo_shell.specs.declared.work.Upkeep.{Upkeep}
 use Rattle.redo_shell.specs.declared.work.Upkeep.TheVariants.{Install, Drain, Checkpoint, Trim}

@@ -3,7 +3,8 @@ ghost use Rattle.std.specs.Prelude.{◌≡◌, false, List, ℕ, length, IsTrue,
 ghost use Rattle.std.specs.Option.{is_some};
 ghost use Rattle.disk_model.specs.Disk.{Passes, LeavesOnly};
 ghost use Rattle.formats.specs.declared.params.Params.{Params};
-ghost use Rattle.script_lines.specs.Grammar.{AsksFor, force};
+ghost use Rattle.script_lines.specs.Grammar.{AsksFor};
+ghost use Rattle.script_lines.specs.declared.line.Line.TheVariants.{Force as force};
 ghost use Rattle.script_lines.specs.Replies.{reply_of};
 ghost use Rattle.explain_core.specs.World.{World};
 ghost use Rattle.standing.specs.Moments.{TakesSome};
@@ -34,7 +35,7 @@ pub fn command_answer<M: Machine>(
     ensures quiet { (M.disk machine.old).tells_files → (M.disk machine.new).said ≡ (M.disk machine.old).said }
     ensures done { (p : Params) (commands : List Command) (line : List ℕ) → (holds : Holds p (M.disk machine.old) engine.old commands) → AsksCommand line op →
         IfOk result (λ answer. IsDone p (M.disk machine.old) (M.disk machine.new) engine.old engine.new holds.world commands line (reply_of answer)) }
-    ensures moments { (p : Params) (commands : List Command) → Holds p (M.disk machine.old) engine.old commands → (M.disk machine.old).tells_moments →
+    ensures images { (p : Params) (commands : List Command) → Holds p (M.disk machine.old) engine.old commands → (M.disk machine.old).tells_moments →
         LeavesOnly (M.disk machine.old) (M.disk machine.new) (Between p (M.disk machine.old) engine.old.group (forced_in engine.old) (length commands) commands) }
     ensures steps { (M.disk machine.old).tells_moments → (p : Params) (w : World Command) → ShowsIn p (M.disk machine.old) engine.old w →
         TakesSome (meaning_in p) p (M.disk machine.old) (M.disk machine.new) w (exec_course (meaning_in p) (is_some w.group) (params_of engine.old).limit op w (used_in engine.old)).steps }
@@ -64,7 +65,7 @@ pub fn force_answer<M: Machine>(
     ensures quiet { (M.disk machine.old).tells_files → (M.disk machine.new).said ≡ (M.disk machine.old).said }
     ensures done { (p : Params) (commands : List Command) (line : List ℕ) → (holds : Holds p (M.disk machine.old) engine.old commands) → AsksFor line force →
         IfOk result (λ answer. IsDone p (M.disk machine.old) (M.disk machine.new) engine.old engine.new holds.world commands line (reply_of answer)) }
-    ensures moments { (p : Params) (commands : List Command) → Holds p (M.disk machine.old) engine.old commands → (M.disk machine.old).tells_moments →
+    ensures images { (p : Params) (commands : List Command) → Holds p (M.disk machine.old) engine.old commands → (M.disk machine.old).tells_moments →
         LeavesOnly (M.disk machine.old) (M.disk machine.new) (Between p (M.disk machine.old) engine.old.group (forced_in engine.old) (length commands) commands) }
     ensures steps { (M.disk machine.old).tells_moments → (p : Params) (w : World Command) → ShowsIn p (M.disk machine.old) engine.old w → w.group ≡ None →
         TakesSome (meaning_in p) p (M.disk machine.old) (M.disk machine.new) w (force_course (meaning_in p) w (used_in engine.old)).steps }

@@ -2,7 +2,8 @@
 ghost use Rattle.std.specs.Prelude.{◌≡◌, false, List, ℕ, OnOk, IfErr};
 ghost use Rattle.disk_model.specs.Disk.{Passes};
 ghost use Rattle.formats.specs.declared.params.Params.{Params};
-ghost use Rattle.script_lines.specs.Grammar.{AsksFor, tget, trange};
+ghost use Rattle.script_lines.specs.Grammar.{AsksFor};
+ghost use Rattle.script_lines.specs.declared.line.Line.TheVariants.{TreeGet as tget, TreeRange as trange};
 ghost use Rattle.script_lines.specs.Replies.{reply_of};
 ghost use Rattle.redo_shell.specs.Found.{IsAsked, answer_of_tree_error, refused_as, reply_in};
 ghost use Rattle.redo_shell.specs.Store.{Command, Holds, IsAttached};

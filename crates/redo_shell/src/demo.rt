@@ -14,11 +14,10 @@ use crate::run::run;
 use crate::say::end_with;
 use crate::status::Status;
 use crate::tally::{checksum, line_count, refusal_count};
-use demo_script::generate;
 use disk_model::{GrowMem, Machine, MemSource};
 use formats::Params;
 use oper_core::Memory;
-use script_lines::{Answer, Totals, answer_line};
+use script_lines::{Answer, Totals, answer_line, demo_script};
 use std::alloc::Global;
 
 /// The numbers of the store that a generated script is run on.
@@ -73,7 +72,7 @@ fn play(alloc: Global, script: Vec<u8>) -> Result<(GrowMem, u64), Memory>
 fn totals(alloc: Global, seed: u64, steps: u32) -> Result<Totals, Memory>
     ensures { IfOk result (AreTotals seed steps) }
 {
-    let script = generate(alloc, seed, steps)?;
+    let script = demo_script(alloc, seed, steps)?;
     let (machine, accepted) = play(alloc, script)?;
     let said = machine.said();
     Ok(Totals {

@@ -98,7 +98,7 @@ fn table<M: Machine>(
 fn dump_open<M: Machine>(alloc: Global, engine: &mut Engine<AllOps>, machine: &mut M) -> Status
     requires { engine.old.broken ≡ false }
     ensures time { Passes (M.disk machine.old) (M.disk machine.new) }
-    ensures moments { (p : Params) (commands : List Command) → Holds p (M.disk machine.old) engine.old commands → forced_in engine.old ≡ length commands → (M.disk machine.old).tells_moments →
+    ensures images { (p : Params) (commands : List Command) → Holds p (M.disk machine.old) engine.old commands → forced_in engine.old ≡ length commands → (M.disk machine.old).tells_moments →
         LeavesOnly (M.disk machine.old) (M.disk machine.new) (DumpMoment p commands (M.disk machine.old).said) }
     ensures said { (p : Params) (commands : List Command) → Holds p (M.disk machine.old) engine.old commands →
         (count : ℕ) × ((M.disk machine.new).said ≡ (M.disk machine.old).said ++ take count (dump_of p commands)) }

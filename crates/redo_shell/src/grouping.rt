@@ -2,7 +2,8 @@
 ghost use Rattle.std.specs.Prelude.{◌≡◌, false, List, ℕ, length, OnOk, IfOk, IfErr};
 ghost use Rattle.disk_model.specs.Disk.{Passes, LeavesOnly};
 ghost use Rattle.formats.specs.declared.params.Params.{Params};
-ghost use Rattle.script_lines.specs.Grammar.{AsksFor, begin_group, end_group};
+ghost use Rattle.script_lines.specs.Grammar.{AsksFor};
+ghost use Rattle.script_lines.specs.declared.line.Line.TheVariants.{Begin as begin_group, End as end_group};
 ghost use Rattle.script_lines.specs.Replies.{reply_of};
 ghost use Rattle.explain_core.specs.World.{World};
 ghost use Rattle.standing.specs.Moments.{TakesSome};
@@ -33,7 +34,7 @@ fn begin_answer<M: Machine>(
     ensures quiet { (M.disk machine.old).tells_files → (M.disk machine.new).said ≡ (M.disk machine.old).said }
     ensures done { (p : Params) (commands : List Command) (line : List ℕ) → (holds : Holds p (M.disk machine.old) engine.old commands) → AsksFor line begin_group →
         IfOk result (λ answer. IsDone p (M.disk machine.old) (M.disk machine.new) engine.old engine.new holds.world commands line (reply_of answer)) }
-    ensures moments { (p : Params) (commands : List Command) → Holds p (M.disk machine.old) engine.old commands → (M.disk machine.old).tells_moments →
+    ensures images { (p : Params) (commands : List Command) → Holds p (M.disk machine.old) engine.old commands → (M.disk machine.old).tells_moments →
         LeavesOnly (M.disk machine.old) (M.disk machine.new) (Between p (M.disk machine.old) engine.old.group (forced_in engine.old) (length commands) commands) }
     ensures steps { (M.disk machine.old).tells_moments → (p : Params) (w : World Command) → ShowsIn p (M.disk machine.old) engine.old w →
         IsGranted (open_in w) begin_group →
@@ -57,7 +58,7 @@ fn end_answer<M: Machine>(
     ensures quiet { (M.disk machine.old).tells_files → (M.disk machine.new).said ≡ (M.disk machine.old).said }
     ensures done { (p : Params) (commands : List Command) (line : List ℕ) → (holds : Holds p (M.disk machine.old) engine.old commands) → AsksFor line end_group →
         IfOk result (λ answer. IsDone p (M.disk machine.old) (M.disk machine.new) engine.old engine.new holds.world commands line (reply_of answer)) }
-    ensures moments { (p : Params) (commands : List Command) → Holds p (M.disk machine.old) engine.old commands → (M.disk machine.old).tells_moments →
+    ensures images { (p : Params) (commands : List Command) → Holds p (M.disk machine.old) engine.old commands → (M.disk machine.old).tells_moments →
         LeavesOnly (M.disk machine.old) (M.disk machine.new) (Between p (M.disk machine.old) engine.old.group (forced_in engine.old) (length commands) commands) }
     ensures steps { (M.disk machine.old).tells_moments → (p : Params) (w : World Command) → ShowsIn p (M.disk machine.old) engine.old w →
         IsGranted (open_in w) end_group →
@@ -86,7 +87,7 @@ pub fn group_answer<M: Machine>(
     ensures quiet { (M.disk machine.old).tells_files → (M.disk machine.new).said ≡ (M.disk machine.old).said }
     ensures done { (p : Params) (commands : List Command) (line : List ℕ) → (holds : Holds p (M.disk machine.old) engine.old commands) → AsksFor line (group_request grouping) →
         IfOk result (λ answer. IsDone p (M.disk machine.old) (M.disk machine.new) engine.old engine.new holds.world commands line (reply_of answer)) }
-    ensures moments { (p : Params) (commands : List Command) → Holds p (M.disk machine.old) engine.old commands → (M.disk machine.old).tells_moments →
+    ensures images { (p : Params) (commands : List Command) → Holds p (M.disk machine.old) engine.old commands → (M.disk machine.old).tells_moments →
         LeavesOnly (M.disk machine.old) (M.disk machine.new) (Between p (M.disk machine.old) engine.old.group (forced_in engine.old) (length commands) commands) }
     ensures steps { (M.disk machine.old).tells_moments → (p : Params) (w : World Command) → ShowsIn p (M.disk machine.old) engine.old w →
         IsGranted (open_in w) (group_request grouping) →

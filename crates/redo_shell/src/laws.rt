@@ -5,9 +5,10 @@ ghost use Rattle.std.specs.List.{flat_map};
 ghost use Rattle.formats.specs.declared.params.Params.{Params};
 ghost use Rattle.oper_core.specs.declared.refusal.Refusal.{Refusal as Why};
 ghost use Rattle.oper_core.specs.declared.refusal.Refusal.TheVariants.{NoObject};
-ghost use Rattle.script_lines.specs.Grammar.{AsksFor, IsBad, Request, end_group, get, force, stat as asks_stat, skip};
+ghost use Rattle.script_lines.specs.Grammar.{AsksFor, IsBad, Request};
+ghost use Rattle.script_lines.specs.declared.line.Line.TheVariants.{End as end_group, Get as get, Force as force, Stat as asks_stat, Skip as skip};
 ghost use Rattle.script_lines.specs.Replies.{Reply, bad, value, refused, forced, in_group, no_group, stat, silence, text_of, said_line, HasSmallNumbers};
-ghost use Rattle.script_lines.specs.declared.answer.Counts.{Counts};
+ghost use Rattle.script_lines.specs.declared.answer.StatLine.{StatLine};
 ghost use Rattle.disk_model.specs.Disk.{Passes, IsSettled};
 ghost use Rattle.disk_model.specs.Fuse.{disk_through};
 ghost use Rattle.disk_model.specs.declared.fuse.Fuse.{Fuse};
@@ -46,7 +47,7 @@ pub fn a_line_gets_the_answer_of_its_cause()
     ensures no_group { (p : Params) (group : Option ℕ) (commands : List Command) (line : List ℕ) (reply : Reply) (added : List Command) → Replies p group commands line reply added →
         (reply ≡ no_group) ↔ (AsksFor line end_group × (group ≡ None)) }
     ensures counts { (p : Params) (group : Option ℕ) (commands : List Command) (line : List ℕ) (reply : Reply) (added : List Command) → Replies p group commands line reply added →
-        AsksFor line asks_stat → (counts : Counts) × (reply ≡ stat counts) }
+        AsksFor line asks_stat → (counts : StatLine) × (reply ≡ stat counts) }
     ensures silence { (p : Params) (group : Option ℕ) (commands : List Command) (line : List ℕ) (reply : Reply) (added : List Command) → Replies p group commands line reply added →
         AsksFor line skip → reply ≡ silence }
 {

@@ -2,7 +2,8 @@
 ghost use Rattle.std.specs.Prelude.{◌≡◌, ◌≢◌, false, List, ℕ, OnOk, IfErr};
 ghost use Rattle.disk_model.specs.Disk.{Passes};
 ghost use Rattle.formats.specs.declared.params.Params.{Params};
-ghost use Rattle.script_lines.specs.Grammar.{AsksFor, force, get, stat};
+ghost use Rattle.script_lines.specs.Grammar.{AsksFor};
+ghost use Rattle.script_lines.specs.declared.line.Line.TheVariants.{Force as force, Get as get, Stat as stat};
 ghost use Rattle.script_lines.specs.Reading.{IsLine};
 ghost use Rattle.redo_shell.specs.Store.{IsAttached};
 ghost use Rattle.redo_shell.specs.Store.{Command, Holds};
@@ -185,7 +186,7 @@ fn say_value<M: Machine>(
 
 /// Answers a line. It reports whether the answer is a refusal. Fails where the disk or the output does, and by lack of
 /// memory.
-fn answer_line<M: Machine>(
+fn answer_request<M: Machine>(
     alloc: Global,
     engine: &mut Engine<AllOps>,
     machine: &mut M,
@@ -236,7 +237,7 @@ pub fn answer_next<M: Machine>(
     ensures unbroken { OnOk result (engine.new.broken ≡ false) }
 {
     match next {
-        Next::Line => answer_line(alloc, engine, machine, bytes),
+        Next::Line => answer_request(alloc, engine, machine, bytes),
         Next::Long => say_answer(alloc, machine, &Answer::Bad),
         Next::End => Ok(false),
     }

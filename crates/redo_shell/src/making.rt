@@ -2,7 +2,7 @@
 ghost use Rattle.std.specs.Prelude.{◌≡◌, false};
 ghost use Rattle.redo_shell.specs.Found.{IsMade, answer_of_error, answer_of_tree_error};
 ghost use Rattle.redo_shell.specs.Work.{made_request};
-ghost use Rattle.script_lines.specs.Grammar.{arun, tdelete, tinsert};
+ghost use Rattle.script_lines.specs.declared.line.Line.TheVariants.{AppRun as arun, TreeDelete as tdelete, TreeInsert as tinsert};
 
 use crate::stop::Stop;
 use crate::work::Making;

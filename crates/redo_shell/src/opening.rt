@@ -3,7 +3,7 @@ ghost use Rattle.std.specs.Prelude.{◌≡◌, ◌≢◌, ◌⊎◌, ◌++◌, f
 ghost use Rattle.disk_model.specs.Disk.{Rises, Passes, IsSettled};
 ghost use Rattle.disk_model.specs.declared.machine.FileNo.{FileNo};
 ghost use Rattle.formats.specs.declared.params.Params.{Params};
-ghost use Rattle.restart.specs.Causes.{IsNoDamage};
+ghost use Rattle.stable_objects.specs.Reading.{IsNoDamage};
 ghost use Rattle.redo_shell.specs.Store.{IsAttached};
 ghost use Rattle.redo_shell.specs.Open.{OpensFiles, IsOpen, IsUnopened};
 ghost use Rattle.redo_shell.specs.Store.{Command, IsWellFormed, Opens};
@@ -19,7 +19,7 @@ use op_codec::AllOps;
 use restart::a_restart_may_be_made;
 use std::alloc::Global;
 use store_engine::{
-    Engine, RestartErr, Tuning, engine_stands, opens_on_a_world, standing_files_meet_their_format,
+    Engine, OpenErr, Tuning, engine_stands, opens_on_a_world, standing_files_meet_their_format,
 };
 
 // How much of a store the program keeps in memory. A redo installs while more objects than `redo_dirty` are dirty, and each
@@ -32,26 +32,26 @@ const TUNING: Tuning = Tuning {
 
 /// Says why a store was not opened, where there is a line for that, and ends with the status that reports it. Without memory
 /// for the line it ends with `Memory`, and where the output fails with `SayFault`.
-fn end_unopened<M: Machine>(alloc: Global, machine: &mut M, cause: RestartErr) -> Status
+fn end_unopened<M: Machine>(alloc: Global, machine: &mut M, cause: OpenErr) -> Status
     ensures time { Passes (M.disk machine.old) (M.disk machine.new) }
     ensures keeps { KeepsFiles (M.disk machine.old) (M.disk machine.new) }
     ensures no_store { (M.disk machine.old).tells_files → result ≡ Status.NotAStore →
-        (cause ≡ RestartErr.NotAStore) × ((M.disk machine.new).said ≡ (M.disk machine.old).said ++ not_a_store) }
-    ensures damaged { (M.disk machine.old).tells_files → result ≡ Status.Damaged → (file : FileNo) × (place : ℕ) × (cause ≡ RestartErr.Damaged file place)
+        (cause ≡ OpenErr.NotAStore) × ((M.disk machine.new).said ≡ (M.disk machine.old).said ++ not_a_store) }
+    ensures damaged { (M.disk machine.old).tells_files → result ≡ Status.Damaged → (file : FileNo) × (place : ℕ) × (cause ≡ OpenErr.Damaged file place)
         × ((M.disk machine.new).said ≡ (M.disk machine.old).said ++ damaged file place) }
     // A fault of the disk and out of memory are reported by the status alone.
-    ensures quiet { cause ≢ RestartErr.NotAStore → IsNoDamage cause → (machine.new ≡ machine.old) × (result ≢ Status.NotAStore) × (result ≢ Status.Damaged) × (result ≢ Status.SayFault) }
+    ensures quiet { cause ≢ OpenErr.NotAStore → IsNoDamage cause → (machine.new ≡ machine.old) × (result ≢ Status.NotAStore) × (result ≢ Status.Damaged) × (result ≢ Status.SayFault) }
     ensures silent { (result ≡ Status.DiskFault) ⊎ (result ≡ Status.Memory) → machine.new ≡ machine.old }
     ensures status { IsOfUnopened result }
-    ensures disk_fault { result ≡ Status.DiskFault → cause ≡ RestartErr.DiskFault }
+    ensures disk_fault { result ≡ Status.DiskFault → cause ≡ OpenErr.DiskFault }
     ensures say_fault { result ≡ Status.SayFault → Rises (M.disk machine.old).say_faults (M.disk machine.new).say_faults }
-    ensures memory { result ≡ Status.Memory → (cause ≡ RestartErr.Memory) ⊎ ((file : FileNo) × (place : ℕ) × (cause ≡ RestartErr.Damaged file place)) }
+    ensures memory { result ≡ Status.Memory → (cause ≡ OpenErr.Memory) ⊎ ((file : FileNo) × (place : ℕ) × (cause ≡ OpenErr.Damaged file place)) }
 {
     match cause {
-        RestartErr::NotAStore => end_with(machine, b"not a store\n", Status::NotAStore),
-        RestartErr::Damaged { file, place } => end_damaged(alloc, machine, file, place),
-        RestartErr::DiskFault => Status::DiskFault,
-        RestartErr::Memory => Status::Memory,
+        OpenErr::NotAStore => end_with(machine, b"not a store\n", Status::NotAStore),
+        OpenErr::Damaged { file, place } => end_damaged(alloc, machine, file, place),
+        OpenErr::DiskFault => Status::DiskFault,
+        OpenErr::Memory => Status::Memory,
     }
 }
 

@@ -4,7 +4,7 @@ ghost use Rattle.disk_model.specs.Disk.{LeavesOnly, Passes, Rises};
 ghost use Rattle.formats.specs.declared.params.Params.{Params};
 ghost use Rattle.restart.specs.Starts.{OrAtStart};
 ghost use Rattle.script_lines.specs.Grammar.{lines_of};
-ghost use Rattle.script_lines.specs.Reading.{Takes};
+ghost use Rattle.script_lines.specs.Reading.{ReadsOn};
 ghost use Rattle.command_words.specs.Words.{Asks, IsAllowed};
 ghost use Rattle.command_words.specs.declared.asked.Asked.TheVariants.{Init, Run, Dump, Demo};
 ghost use Rattle.redo_shell.specs.Answers.{Moment};
@@ -24,7 +24,7 @@ use command_words::{Asked, Unread, read_words, words_ask_one_thing};
 use disk_model::{Machine, Source};
 use op_codec::AllOps;
 use std::alloc::Global;
-use store_engine::standing_files_meet_their_format;
+use store_engine::{one_damage, standing_files_meet_their_format};
 
 /// What is printed where the words ask nothing.
 const USAGE: &[u8] = b"usage: redo init N CAP LIMIT | run | dump | demo --seed S --steps T\n";
@@ -41,7 +41,7 @@ fn serve<M: Machine, S: Source>(
     ensures call { IsCallFor asked (S.tells input.old) (S.left input.old) (S.left input.new) (M.disk machine.old) (M.disk machine.new) result }
     ensures faults { CountsFaults (M.disk machine.old) (M.disk machine.new) result }
     ensures read_fault { result ≡ Status.ReadFault → Rises (S.faults input.old) (S.faults input.new) }
-    ensures too_long { S.tells input.old → result ≡ Status.TooLong → Takes (S.left input.old) (S.left input.new) 0 (2 ^ 40) }
+    ensures too_long { S.tells input.old → result ≡ Status.TooLong → ReadsOn (S.left input.old) (S.left input.new) 0 (2 ^ 40) }
 {
     match asked {
         Asked::Run => run(alloc, machine, input),
@@ -63,7 +63,7 @@ pub fn top<M: Machine, S: Source>(
     // A run on files that stand for commands, as they are read: what a crash at any moment of it leaves a crash at the start
     // could leave, or it stands for these commands and a beginning of those that the script has added, which splits no group
     // and is no shorter than any number that was printed to be forced.
-    ensures moments { (p : Params) (commands : List Command) → Asks (map string_bytes words.now) Run → Opens p (M.disk machine.old) commands → S.tells input.old → (M.disk machine.old).tells_moments →
+    ensures images { (p : Params) (commands : List Command) → Asks (map string_bytes words.now) Run → Opens p (M.disk machine.old) commands → S.tells input.old → (M.disk machine.old).tells_moments →
         LeavesOnly (M.disk machine.old) (M.disk machine.new) (OrAtStart (M.disk machine.old) (Moment p commands (lines_of (S.left input.old)) (M.disk machine.old).said)) }
     ensures run { Asks (map string_bytes words.now) Run →
         OrUnread (IsRunCall (S.tells input.old) (S.left input.old) (S.left input.new) (M.disk machine.old) (M.disk machine.new) result) (M.disk machine.old) (M.disk machine.new) result }
@@ -81,6 +81,7 @@ pub fn top<M: Machine, S: Source>(
     ensures session { GoesOn M.disk (map string_bytes words.now) (S.tells input.old) (lines_of (S.left input.old)) machine.old machine.new }
 {
     standing_files_meet_their_format::<AllOps>();
+    one_damage::<AllOps>();
     words_ask_one_thing();
     match read_words(alloc, words) {
         Ok(asked) => serve(alloc, asked, machine, input),

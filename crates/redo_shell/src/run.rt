@@ -3,7 +3,7 @@ ghost use Rattle.std.specs.Prelude.{◌≡◌, ◌≢◌, ◌^◌, ◌⊎◌, �
 ghost use Rattle.disk_model.specs.Disk.{Rises, Passes};
 ghost use Rattle.formats.specs.declared.params.Params.{Params};
 ghost use Rattle.script_lines.specs.Grammar.{lines_of};
-ghost use Rattle.script_lines.specs.Reading.{Takes};
+ghost use Rattle.script_lines.specs.Reading.{ReadsOn};
 ghost use Rattle.store_engine.specs.Engine.{forced_in};
 ghost use Rattle.redo_shell.specs.Store.{IsAttached};
 ghost use Rattle.redo_shell.specs.Stages.{stage_of};
@@ -49,7 +49,7 @@ fn run_open<M: Machine, S: Source>(
     ensures disk_fault { result ≡ Status.DiskFault → Rises (M.disk machine.old).disk_faults (M.disk machine.new).disk_faults }
     ensures read_fault { result ≡ Status.ReadFault → Rises (S.faults input.old) (S.faults input.new) }
     ensures say_fault { result ≡ Status.SayFault → Rises (M.disk machine.old).say_faults (M.disk machine.new).say_faults }
-    ensures too_long { S.tells input.old → result ≡ Status.TooLong → Takes (S.left input.old) (S.left input.new) 0 (2 ^ 40) }
+    ensures too_long { S.tells input.old → result ≡ Status.TooLong → ReadsOn (S.left input.old) (S.left input.new) 0 (2 ^ 40) }
 {
     let outcome = answer_script(alloc, engine, machine, input);
     match outcome {
@@ -65,7 +65,7 @@ pub fn run<M: Machine, S: Source>(alloc: Global, machine: &mut M, input: &mut S)
     ensures call { IsRunCall (S.tells input.old) (S.left input.old) (S.left input.new) (M.disk machine.old) (M.disk machine.new) result }
     ensures faults { CountsFaults (M.disk machine.old) (M.disk machine.new) result }
     ensures read_fault { result ≡ Status.ReadFault → Rises (S.faults input.old) (S.faults input.new) }
-    ensures too_long { S.tells input.old → result ≡ Status.TooLong → Takes (S.left input.old) (S.left input.new) 0 (2 ^ 40) }
+    ensures too_long { S.tells input.old → result ≡ Status.TooLong → ReadsOn (S.left input.old) (S.left input.new) 0 (2 ^ 40) }
 {
     standing_files_meet_their_format::<AllOps>();
     match open_store(alloc, machine) {

@@ -3,7 +3,7 @@ ghost use Rattle.std.specs.Prelude.{◌≡◌, ◌<◌, ◌^◌, [], false, List
 ghost use Rattle.disk_model.specs.Disk.{LeavesOnly, Passes, Rises};
 ghost use Rattle.formats.specs.declared.params.Params.{Params};
 ghost use Rattle.script_lines.specs.Grammar.{lines_of};
-ghost use Rattle.script_lines.specs.Reading.{Takes};
+ghost use Rattle.script_lines.specs.Reading.{ReadsOn};
 ghost use Rattle.op_codec.specs.AllOps.{all_meaning};
 ghost use Rattle.explain_core.specs.World.{World};
 ghost use Rattle.standing.specs.Moments.{TakesSome};
@@ -12,7 +12,7 @@ ghost use Rattle.redo_shell.specs.Store.{IsAttached};
 ghost use Rattle.redo_shell.specs.Stages.{finish_course, stage_of};
 ghost use Rattle.redo_shell.specs.Store.{Between, Command, Holds, ShowsIn, meaning_in};
 ghost use Rattle.redo_shell.specs.Status.{status_after};
-ghost use Rattle.redo_shell.specs.Run.{IsRun, IsComplete, IsStopped, IsUndamaged};
+ghost use Rattle.redo_shell.specs.Run.{IsRun, IsComplete, StopsWith, IsUndamaged};
 
 use crate::line::answer_next;
 use crate::stop::Stop;
@@ -23,7 +23,7 @@ use std::alloc::Global;
 use store_engine::{Engine, engine_stands, group_is_closed, standing_files_meet_their_format};
 
 /// Closes the group that is open, if there is one, and forces the log. Fails where the disk does.
-fn finish<M: Machine>(engine: &mut Engine<AllOps>, machine: &mut M) -> Result<(), Stop>
+fn close_script<M: Machine>(engine: &mut Engine<AllOps>, machine: &mut M) -> Result<(), Stop>
     requires { engine.old.broken ≡ false }
     ensures time { Passes (M.disk machine.old) (M.disk machine.new) }
     ensures quiet { (M.disk machine.old).tells_files → (M.disk machine.new).said ≡ (M.disk machine.old).said }
@@ -32,7 +32,7 @@ fn finish<M: Machine>(engine: &mut Engine<AllOps>, machine: &mut M) -> Result<()
         OnOk result (Holds p (M.disk machine.new) engine.new commands × (forced_in engine.new ≡ length commands) × (engine.new.parts.log.log.pending ≡ [])) }
     ensures follows { (p : Params) (w : World Command) → ShowsIn p (M.disk machine.old) engine.old w →
         OnOk result (IsAfterIn all_meaning p (M.disk machine.new) engine.new w (finish_course (meaning_in p) w (used_in engine.old))) }
-    ensures moments { (p : Params) (commands : List Command) → Holds p (M.disk machine.old) engine.old commands → (M.disk machine.old).tells_moments →
+    ensures images { (p : Params) (commands : List Command) → Holds p (M.disk machine.old) engine.old commands → (M.disk machine.old).tells_moments →
         LeavesOnly (M.disk machine.old) (M.disk machine.new) (Between p (M.disk machine.old) None (forced_in engine.old) (length commands) commands) }
     ensures steps { (M.disk machine.old).tells_moments → (p : Params) (w : World Command) → ShowsIn p (M.disk machine.old) engine.old w →
         TakesSome (meaning_in p) p (M.disk machine.old) (M.disk machine.new) w (finish_course (meaning_in p) w (used_in engine.old)).steps }
@@ -67,9 +67,9 @@ pub fn answer_script<M: Machine, S: Source>(
         IsRun p (stage_of engine.old holds.world) (M.disk machine.old) (M.disk machine.new) commands script (status_after result)
         × IfOk result (λ refusing. IsComplete p (stage_of engine.old holds.world) (M.disk machine.old) (M.disk machine.new) commands script (status_after (Ok refusing)))) }
     ensures input { S.tells input.old → IfOk result (λ _. (S.left input.new ≡ []) × (length (S.left input.old) < 2 ^ 40)) }
-    ensures cause { IfErr result (λ stop. IsStopped stop (M.disk machine.old) (M.disk machine.new) (S.faults input.old) (S.faults input.new)) }
+    ensures cause { IfErr result (λ stop. StopsWith stop (M.disk machine.old) (M.disk machine.new) (S.faults input.old) (S.faults input.new)) }
     ensures undamaged { (M.disk machine.old).tells_files → IsAttached (M.disk machine.old) engine.old → IfErr result IsUndamaged }
-    ensures too_long { S.tells input.old → IsErrOf result Stop.TooLong → Takes (S.left input.old) (S.left input.new) 0 (2 ^ 40) }
+    ensures too_long { S.tells input.old → IsErrOf result Stop.TooLong → ReadsOn (S.left input.old) (S.left input.new) 0 (2 ^ 40) }
 {
     standing_files_meet_their_format::<AllOps>();
     a_line_asks_one_thing();
@@ -81,6 +81,6 @@ pub fn answer_script<M: Machine, S: Source>(
             next => refusing |= answer_next(alloc, engine, machine, next, lines.line())?,
         }
     }
-    finish(engine, machine)?;
+    close_script(engine, machine)?;
     Ok(refusing)
 }

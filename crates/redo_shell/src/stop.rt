@@ -1,9 +1,10 @@
 ghost use Rattle.std.specs.Prelude.{◌≡◌};
-ghost use Rattle.redo_shell.specs.Status.{status_of, stop_of_read};
+ghost use Rattle.redo_shell.specs.Status.{status_of, stop_from_read, stop_of_input};
 ghost use Rattle.redo_shell.specs.declared.stop.Stop.TheVariants.{Memory as OutOfMemory};
 
 use crate::status::Status;
 use disk_model::FileNo;
+use formats::ReadErr;
 use oper_core::Memory;
 use script_lines::ReadError;
 use thiserror::Error;
@@ -55,8 +56,20 @@ impl From<Memory> for Stop {
     }
 }
 
+impl From<ReadErr> for Stop {
+    ghost from_gives = { λ cause stop. stop ≡ stop_from_read cause };
+
+    fn from(cause: ReadErr) -> Self {
+        match cause {
+            ReadErr::DiskFault => Stop::DiskFault,
+            ReadErr::Damaged { file, place } => Stop::Damaged { file, place },
+            ReadErr::Memory => Stop::Memory,
+        }
+    }
+}
+
 impl From<ReadError> for Stop {
-    ghost from_gives = { λ error stop. stop ≡ stop_of_read error };
+    ghost from_gives = { λ error stop. stop ≡ stop_of_input error };
 
     fn from(error: ReadError) -> Self {
         match error {

@@ -3,7 +3,8 @@ ghost use Rattle.std.specs.Prelude.{◌≡◌, false, IsTrue, List, ℕ, None};
 ghost use Rattle.std.specs.Option.{is_some};
 ghost use Rattle.disk_model.specs.Disk.{Passes};
 ghost use Rattle.formats.specs.declared.params.Params.{Params};
-ghost use Rattle.script_lines.specs.Grammar.{AsksFor, install, drain, checkpoint, trim, stat};
+ghost use Rattle.script_lines.specs.Grammar.{AsksFor};
+ghost use Rattle.script_lines.specs.declared.line.Line.TheVariants.{Install as install, Drain as drain, Checkpoint as checkpoint, Trim as trim, Stat as stat};
 ghost use Rattle.script_lines.specs.Replies.{reply_of};
 ghost use Rattle.redo_shell.specs.Store.{Command, Holds};
 ghost use Rattle.redo_shell.specs.Found.{IsBarredIn, IsDone, IsUpkept, answer_of_work, answer_of_work_error};
@@ -13,7 +14,7 @@ use crate::stop::Stop;
 use crate::work::Upkeep;
 use disk_model::Machine;
 use op_codec::AllOps;
-use script_lines::{Answer, Counts};
+use script_lines::{Answer, StatLine};
 use store_engine::{Engine, WorkErr};
 
 /// What is answered where a force, an install, a drain, a check or a trim is not done, or no group may begin.
@@ -117,7 +118,7 @@ pub fn counts_answer<M: Machine>(engine: &Engine<AllOps>, machine: &M) -> Answer
     standing::files_stand_for_one_state::<AllOps>();
     let _ = machine;
     let stat = engine.stat();
-    Answer::Stat(Counts {
+    Answer::Stat(StatLine {
         nodes: stat.nodes,
         dirty: stat.dirty,
         uninstalled: stat.uninstalled,

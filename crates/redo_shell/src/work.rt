@@ -1,11 +1,11 @@
-ghost use Rattle.std.specs.Prelude.{IfOk};
+ghost use Rattle.std.specs.Prelude.{IfOk, List, ℕ};
+ghost use Rattle.script_lines.specs.Grammar.{AsksFor};
 ghost use Rattle.redo_shell.specs.Work.{AsksWork};
 
 use btree_ops::Short;
-use op_codec::AllOps;
-use op_meaning::{AppRead, AppWrite, Append, Copy, Cut, Exec, Put, Sort, Swap};
-use oper_core::{ByteList, Memory};
-use script_lines::{Line, hex_bytes, parse_line};
+use op_codec::{AllOps, plain_op};
+use oper_core::Memory;
+use script_lines::{Line, LineErr, parse_line};
 use std::alloc::Global;
 
 /// What changes no value and adds no command.
@@ -97,67 +97,62 @@ pub enum Work {
 }
 
 impl Work {
-    /// What a line asks for, a put with its bytes. Fails where memory for these runs out.
+    /// What a line asks for. Fails where memory for the bytes of a put runs out.
     pub fn of_line(alloc: Global, line: &[u8]) -> Result<Self, Memory>
         ensures { IfOk result (AsksWork line.now) }
     {
-        let Ok(asked) = parse_line(line) else {
-            return Ok(Work::Bad);
-        };
-        match asked {
-            Line::Put { object, hex } => {
-                let value = ByteList::new(hex_bytes(alloc, hex)?);
-                Ok(Work::Run(AllOps::Put(Put::new(object, value))))
-            }
-            Line::Copy { from, to } => Ok(Work::Run(AllOps::Copy(Copy { from, to }))),
-            Line::Append { from, to } => Ok(Work::Run(AllOps::Append(Append { from, to }))),
-            Line::Cut { from, to, place } => Ok(Work::Run(AllOps::Cut(Cut { from, to, place }))),
-            Line::Sort { from, to, width } => Ok(Work::Run(AllOps::Sort(Sort { from, to, width }))),
-            Line::Swap { first, second } => Ok(Work::Run(AllOps::Swap(Swap { first, second }))),
-            Line::Exec { app } => Ok(Work::Run(AllOps::Exec(Exec { app }))),
-            Line::AppRun { app, steps } => Ok(Work::Make(Making::Steps { app, most: steps })),
-            Line::AppRead { app, from } => Ok(Work::Run(AllOps::AppRead(AppRead { app, from }))),
-            Line::AppWrite { app, to } => Ok(Work::Run(AllOps::AppWrite(AppWrite { app, to }))),
+        match parse_line(alloc, line) {
+            Ok(line) => Ok(Work::of(line)),
+            Err(LineErr::Bad) => Ok(Work::Bad),
+            Err(LineErr::Memory) => Err(Memory),
+        }
+    }
+
+    /// The same of a line that was taken apart.
+    fn of(line: Line) -> Self
+        ensures { (bytes : List ℕ) → AsksFor bytes line → AsksWork bytes result }
+    {
+        match line {
+            Line::Run(op) => Work::Run(plain_op(op)),
+            Line::AppRun { app, steps } => Work::Make(Making::Steps { app, most: steps }),
             Line::TreeInsert {
                 low,
                 high,
                 key,
                 value,
             } => {
-                Ok(Work::Make(Making::Insert {
+                Work::Make(Making::Insert {
                     low,
                     high,
                     key,
                     value,
-                }))
+                })
             }
-            Line::TreeDelete { low, high, key } => {
-                Ok(Work::Make(Making::Delete { low, high, key }))
-            }
-            Line::TreeGet { low, high, key } => Ok(Work::Ask(Question::Find { low, high, key })),
+            Line::TreeDelete { low, high, key } => { Work::Make(Making::Delete { low, high, key }) }
+            Line::TreeGet { low, high, key } => Work::Ask(Question::Find { low, high, key }),
             Line::TreeRange {
                 low,
                 high,
                 from,
                 to,
             } => {
-                Ok(Work::Ask(Question::Range {
+                Work::Ask(Question::Range {
                     low,
                     high,
                     from,
                     to,
-                }))
+                })
             }
-            Line::Get { object } => Ok(Work::Tell { object }),
-            Line::Force => Ok(Work::Force),
-            Line::Install => Ok(Work::Keep(Upkeep::Install)),
-            Line::Drain => Ok(Work::Keep(Upkeep::Drain)),
-            Line::Checkpoint => Ok(Work::Keep(Upkeep::Checkpoint)),
-            Line::Trim => Ok(Work::Keep(Upkeep::Trim)),
-            Line::Begin => Ok(Work::Group(Grouping::Begin)),
-            Line::End => Ok(Work::Group(Grouping::End)),
-            Line::Stat => Ok(Work::Count),
-            Line::Skip => Ok(Work::Nothing),
+            Line::Get { object } => Work::Tell { object },
+            Line::Force => Work::Force,
+            Line::Install => Work::Keep(Upkeep::Install),
+            Line::Drain => Work::Keep(Upkeep::Drain),
+            Line::Checkpoint => Work::Keep(Upkeep::Checkpoint),
+            Line::Trim => Work::Keep(Upkeep::Trim),
+            Line::Begin => Work::Group(Grouping::Begin),
+            Line::End => Work::Group(Grouping::End),
+            Line::Stat => Work::Count,
+            Line::Skip => Work::Nothing,
         }
     }
 }

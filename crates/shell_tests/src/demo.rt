@@ -1,6 +1,6 @@
 // The scripts of the demo.
-use demo_script::generate;
 use oper_core::Memory;
+use script_lines::demo_script;
 use std::alloc::Global;
 use std::test::Fail;
 
@@ -26,7 +26,7 @@ fn scripts_are_those_of_another_generator(rt: HostRuntime) -> Result<(), Fail> {
 /// Whether the script of the row is as long as it says, and has its sum.
 fn is_told(alloc: Global, row: &Row) -> Result<bool, Memory> {
     let (seed, steps, length, sum) = *row;
-    let script = generate(alloc, seed, steps)?;
+    let script = demo_script(alloc, seed, steps)?;
     Ok((script.len(), sum_of(script.as_slice())) == (length, sum))
 }
 

@@ -4,15 +4,16 @@ ghost use Rattle.std.specs.Prelude.{⊤, []};
 use command_words::{Asked, read_words};
 use disk_model::{Failed, Source};
 use formats::Params;
+use op_meaning::PlainOp;
 use oper_core::Refusal;
 use script_lines::{
-    Answer, Bad, Counts, Line, LineReader, Next, ReadError, answer_line, answer_text, hex_bytes,
+    Answer, Line, LineErr, LineReader, Next, ReadError, StatLine, answer_line, answer_text,
     parse_line,
 };
 use std::alloc::Global;
 
 // A line of each form, and which one it is, counted from 1. That it asks what it says is a clause.
-const FORMS: [(&[u8], u8); 23] = [
+const FORMS: [(&[u8], u32); 23] = [
     (b"put 4294967295 00FfA9", 1),
     (b"copy 0 1", 2),
     (b"append 7 12", 3),
@@ -135,83 +136,105 @@ const BAD: [&[u8]; 67] = [
     b"\r ",
 ];
 
-// Which form a line has, or 0.
-fn form_of(line: &[u8]) -> u8 {
-    match parse_line(line) {
-        Ok(Line::Put { .. }) => 1,
-        Ok(Line::Copy { .. }) => 2,
-        Ok(Line::Append { .. }) => 3,
-        Ok(Line::Cut { .. }) => 4,
-        Ok(Line::Sort { .. }) => 5,
-        Ok(Line::Swap { .. }) => 6,
-        Ok(Line::Exec { .. }) => 7,
-        Ok(Line::AppRead { .. }) => 8,
-        Ok(Line::AppWrite { .. }) => 9,
-        Ok(Line::AppRun { .. }) => 10,
-        Ok(Line::TreeInsert { .. }) => 11,
-        Ok(Line::TreeGet { .. }) => 12,
-        Ok(Line::TreeDelete { .. }) => 13,
-        Ok(Line::TreeRange { .. }) => 14,
-        Ok(Line::Get { .. }) => 15,
-        Ok(Line::Force) => 16,
-        Ok(Line::Install) => 17,
-        Ok(Line::Drain) => 18,
-        Ok(Line::Checkpoint) => 19,
-        Ok(Line::Trim) => 20,
-        Ok(Line::Stat) => 21,
-        Ok(Line::Begin) => 22,
-        Ok(Line::End) => 23,
-        Ok(Line::Skip) | Err(Bad) => 0,
+// The form of a command's line, and its numbers, with the length of a put's value.
+fn op_told(op: &PlainOp) -> [u32; 4] {
+    match op {
+        PlainOp::Put { object, value } => {
+            let length = u32::try_from(value.as_slice().len()).unwrap_or(u32::MAX);
+            [1, *object, length, 0]
+        }
+        PlainOp::Copy { from, to } => [2, *from, *to, 0],
+        PlainOp::Append { from, to } => [3, *from, *to, 0],
+        PlainOp::Cut { from, to, place } => [4, *from, *to, *place],
+        PlainOp::Sort { from, to, width } => [5, *from, *to, *width],
+        PlainOp::Swap { first, second } => [6, *first, *second, 0],
+        PlainOp::Exec { app } => [7, *app, 0, 0],
+        PlainOp::AppRead { app, from } => [8, *app, *from, 0],
+        PlainOp::AppWrite { app, to } => [9, *app, *to, 0],
     }
 }
 
-fn is_spaced(line: &[u8], plain: &[u8]) -> bool {
-    parse_line(plain).is_ok() && parse_line(line) == parse_line(plain)
+// The form of a line, and the numbers of a command or a `get`. A line that is skipped has none of these forms.
+fn line_told(line: &Line) -> [u32; 4] {
+    match line {
+        Line::Run(op) => op_told(op),
+        Line::AppRun { .. } => [10, 0, 0, 0],
+        Line::TreeInsert { .. } => [11, 0, 0, 0],
+        Line::TreeGet { .. } => [12, 0, 0, 0],
+        Line::TreeDelete { .. } => [13, 0, 0, 0],
+        Line::TreeRange { .. } => [14, 0, 0, 0],
+        Line::Get { object } => [15, *object, 0, 0],
+        Line::Force => [16, 0, 0, 0],
+        Line::Install => [17, 0, 0, 0],
+        Line::Drain => [18, 0, 0, 0],
+        Line::Checkpoint => [19, 0, 0, 0],
+        Line::Trim => [20, 0, 0, 0],
+        Line::Stat => [21, 0, 0, 0],
+        Line::Begin => [22, 0, 0, 0],
+        Line::End => [23, 0, 0, 0],
+        Line::Skip => [0; 4],
+    }
 }
 
-fn is_skipped(line: &[u8]) -> bool {
-    matches!(parse_line(line), Ok(Line::Skip))
+fn told(alloc: Global, line: &[u8]) -> [u32; 4] {
+    match parse_line(alloc, line) {
+        Ok(line) => line_told(&line),
+        Err(_) => [0; 4],
+    }
 }
 
-fn is_bad(line: &[u8]) -> bool {
-    matches!(parse_line(line), Err(Bad))
+fn has_form(alloc: Global, line: &[u8], form: u32) -> bool {
+    told(alloc, line)[0] == form
 }
 
-fn good_lines_are_parsed() -> bool {
+fn is_spaced(alloc: Global, line: &[u8], plain: &[u8]) -> bool {
+    let plain = told(alloc, plain);
+    plain[0] != 0 && told(alloc, line) == plain
+}
+
+fn is_skipped(alloc: Global, line: &[u8]) -> bool {
+    matches!(parse_line(alloc, line), Ok(Line::Skip))
+}
+
+fn is_bad(alloc: Global, line: &[u8]) -> bool {
+    matches!(parse_line(alloc, line), Err(LineErr::Bad))
+}
+
+fn good_lines_are_parsed(alloc: Global) -> bool {
     let mut good = true;
     for (line, form) in FORMS {
-        good = good && form_of(line) == form;
+        good = good && has_form(alloc, line, form);
     }
     for (line, plain) in SPACED {
-        good = good && is_spaced(line, plain);
+        good = good && is_spaced(alloc, line, plain);
     }
     good
 }
 
-fn other_lines_are_parsed() -> bool {
+fn other_lines_are_parsed(alloc: Global) -> bool {
     let mut good = true;
     for line in SKIPPED {
-        good = good && is_skipped(line);
+        good = good && is_skipped(alloc, line);
     }
     for line in BAD {
-        good = good && is_bad(line);
+        good = good && is_bad(alloc, line);
     }
     good
 }
 
 #[test]
 fn lines_are_parsed(rt: HostRuntime) {
-    assert!(rt; good_lines_are_parsed() && other_lines_are_parsed());
+    assert!(rt; good_lines_are_parsed(rt.alloc()) && other_lines_are_parsed(rt.alloc()));
 }
 
 fn longest_is_taken(alloc: Global) -> Option<bool> {
     let mut line = vec![in alloc; b' '; 40000].ok()?;
-    let blank = is_skipped(line.as_slice());
+    let blank = is_skipped(alloc, line.as_slice());
     line[0] = b'#';
     line[39999] = b'\r';
-    let comment = is_skipped(line.as_slice());
+    let comment = is_skipped(alloc, line.as_slice());
     line.push(b' ').ok()?;
-    Some(blank && comment && is_bad(line.as_slice()))
+    Some(blank && comment && is_bad(alloc, line.as_slice()))
 }
 
 #[test]
@@ -227,11 +250,8 @@ const HEX: [(&[u8], &[u8]); 3] = [
 ];
 
 fn puts(alloc: Global, line: &[u8], want: &[u8]) -> bool {
-    match parse_line(line) {
-        Ok(Line::Put { hex, .. }) => match hex_bytes(alloc, hex) {
-            Ok(bytes) => bytes.as_slice() == want,
-            Err(_) => false,
-        },
+    match parse_line(alloc, line) {
+        Ok(Line::Run(PlainOp::Put { value, .. })) => value.as_slice() == want,
         _ => false,
     }
 }
@@ -307,7 +327,7 @@ const TEXTS: [(Answer<'static>, &[u8]); 23] = [
     ),
     (Answer::Commands(1), b"commands 1"),
     (
-        Answer::Stat(Counts {
+        Answer::Stat(StatLine {
             nodes: 3,
             dirty: 2,
             uninstalled: 10,

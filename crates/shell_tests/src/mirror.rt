@@ -10,7 +10,7 @@ use disk_model::FileNo::{LogA, LogB, Objects};
 use disk_model::{Crash, FileNo, GrowMem, Machine, MemMachine, Mirrored};
 use op_codec::AllOps;
 use redo_shell::Status;
-use restart::{RestartErr, Tuning, restart};
+use restart::{OpenErr, Tuning, restart};
 use std::alloc::{AllocError, Global};
 use std::test::Fail;
 
@@ -77,7 +77,7 @@ fn damage_of_copy<M: Machine>(alloc: Global, machine: &mut Mirrored<M>) -> Optio
             drop(restarted);
             None
         }
-        Err(RestartErr::Damaged { file, place }) => machine.is_same().then_some((file, place)),
+        Err(OpenErr::Damaged { file, place }) => machine.is_same().then_some((file, place)),
         Err(_) => None,
     }
 }

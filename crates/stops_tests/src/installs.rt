@@ -2,11 +2,11 @@
 use cache_manager::{InstallErr, install_one};
 use disk_model::Machine;
 use execution::execute;
-use op_codec::AllOps;
-use op_meaning::{Put, Swap};
+use op_codec::{AllOps, plain_op};
+use op_meaning::PlainOp;
 use oper_core::{ByteList, Memory};
 use redo_shell::Status;
-use restart::{RestartErr, Tuning, restart};
+use restart::{OpenErr, Tuning, restart};
 use running_store::Store;
 use std::alloc::Global;
 
@@ -15,7 +15,7 @@ fn opened<M: Machine>(
     alloc: Global,
     machine: &mut M,
     dirty: usize,
-) -> Result<Store<AllOps>, RestartErr> {
+) -> Result<Store<AllOps>, OpenErr> {
     let tuning = Tuning {
         clean: 2,
         redo_dirty: dirty,
@@ -33,7 +33,7 @@ fn does<M: Machine>(it: &mut Store<AllOps>, machine: &mut M, op: AllOps) -> bool
 
 fn put(alloc: Global, object: u32, value: &[u8]) -> Result<AllOps, Memory> {
     let value = ByteList::new(value.to_vec(alloc)?);
-    Ok(AllOps::Put(Put { object, value }))
+    Ok(plain_op(PlainOp::Put { object, value }))
 }
 
 // Whether `put 0 aacc`, `put 1 bb` and `swap 0 1` are done.
@@ -44,7 +44,7 @@ fn swaps<M: Machine>(
 ) -> Result<bool, Memory> {
     let long = put(alloc, 0, b"\xaa\xcc")?;
     let short = put(alloc, 1, b"\xbb")?;
-    let swap = AllOps::Swap(Swap {
+    let swap = plain_op(PlainOp::Swap {
         first: 0,
         second: 1,
     });
@@ -111,12 +111,12 @@ fn swap_if_asked<M: Machine>(
 }
 
 // The status of the program where a restart answers so.
-pub fn status_of(cause: RestartErr) -> Status {
+pub fn status_of(cause: OpenErr) -> Status {
     match cause {
-        RestartErr::DiskFault => Status::DiskFault,
-        RestartErr::NotAStore => Status::NotAStore,
-        RestartErr::Damaged { .. } => Status::Damaged,
-        RestartErr::Memory => Status::Memory,
+        OpenErr::DiskFault => Status::DiskFault,
+        OpenErr::NotAStore => Status::NotAStore,
+        OpenErr::Damaged { .. } => Status::Damaged,
+        OpenErr::Memory => Status::Memory,
     }
 }
 

@@ -3,7 +3,7 @@ use crate::installs::{say, status_of};
 use crate::running::{Room, crashed, run};
 use btree_ops::{NodeOp, Short};
 use disk_model::{Crash, Machine, MemMachine};
-use op_codec::AllOps;
+use op_codec::{AllOps, node_op};
 use redo_shell::Status;
 use std::alloc::{AllocError, Global};
 use std::test::Fail;
@@ -19,7 +19,7 @@ fn does<M: Machine>(engine: &mut Engine<AllOps>, machine: &mut M, op: NodeOp) ->
     if engine.is_broken() {
         return false;
     }
-    engine.exec(machine, AllOps::Node(op)).is_ok()
+    engine.exec(machine, node_op(op)).is_ok()
 }
 
 // A put of a pair of one byte each.

@@ -10,8 +10,8 @@ returns-in-Ok-clause-done g c = λ p commands line holds asks.
     let e : IsExec p (g.M.Machine.disk c.args.machine.now) (g.M.Machine.disk c.exec.new.machine) c.args.engine.now c.exec.new.self holds.world commands c.args.op (Ok c.in-Ok.field-0) = record {
       call = c.in-Ok.ensures.run.call;
       follows = c.in-Ok.ensures.run.takes.follows p holds.world holds.shows;
-      answers = c.in-Ok.ensures.run.answers p holds.world holds.shows;
-      exactly = c.in-Ok.ensures.run.exactly p commands (in_engine holds);
+      answers = c.in-Ok.ensures.run.in_world p holds.world holds.shows;
+      exactly = c.in-Ok.ensures.run.on_map p commands (in_engine holds);
       risen = inr (risen holds (c.in-Ok.ensures.run.ok p commands (in_engine holds)));
     } in
     exec_done p _ _ _ _ commands line c.args.op holds asks c.in-Ok.field-0 e
@@ -21,8 +21,8 @@ returns-in-Err-Refused-clause-done g c = λ p commands line holds asks.
     let e : IsExec p (g.M.Machine.disk c.args.machine.now) (g.M.Machine.disk c.exec.new.machine) c.args.engine.now c.exec.new.self holds.world commands c.args.op (Err c.in-Err-Refused.field-0) = record {
       call = c.in-Err-Refused.ensures.run.call;
       follows = c.in-Err-Refused.ensures.run.takes.follows p holds.world holds.shows;
-      answers = c.in-Err-Refused.ensures.run.answers p holds.world holds.shows;
-      exactly = c.in-Err-Refused.ensures.run.exactly p commands (in_engine holds);
+      answers = c.in-Err-Refused.ensures.run.in_world p holds.world holds.shows;
+      exactly = c.in-Err-Refused.ensures.run.on_map p commands (in_engine holds);
       risen = ⊎_elim (λ fault. inl fault) (λ kept. inr (risen holds kept)) (c.in-Err-Refused.ensures.run.err p commands (in_engine holds));
     } in
     exec_refused p _ _ _ _ commands line c.args.op holds asks c.in-Err-Refused.refusal (subst (λ (x : ExecErr). IsExec p (g.M.Machine.disk c.args.machine.now) (g.M.Machine.disk c.exec.new.machine) c.args.engine.now c.exec.new.self holds.world commands c.args.op (Err x)) c.in-Err-Refused.field-0-is e)
@@ -32,8 +32,8 @@ returns-in-Err-LogFull-clause-done g c = λ p commands line holds asks.
     let e : IsExec p (g.M.Machine.disk c.args.machine.now) (g.M.Machine.disk c.exec.new.machine) c.args.engine.now c.exec.new.self holds.world commands c.args.op (Err c.in-Err-LogFull.field-0) = record {
       call = c.in-Err-LogFull.ensures.run.call;
       follows = c.in-Err-LogFull.ensures.run.takes.follows p holds.world holds.shows;
-      answers = c.in-Err-LogFull.ensures.run.answers p holds.world holds.shows;
-      exactly = c.in-Err-LogFull.ensures.run.exactly p commands (in_engine holds);
+      answers = c.in-Err-LogFull.ensures.run.in_world p holds.world holds.shows;
+      exactly = c.in-Err-LogFull.ensures.run.on_map p commands (in_engine holds);
       risen = ⊎_elim (λ fault. inl fault) (λ kept. inr (risen holds kept)) (c.in-Err-LogFull.ensures.run.err p commands (in_engine holds));
     } in
     exec_full p _ _ _ _ commands line c.args.op holds asks c.in-Err-LogFull.used c.in-Err-LogFull.need c.in-Err-LogFull.limit (subst (λ (x : ExecErr). IsExec p (g.M.Machine.disk c.args.machine.now) (g.M.Machine.disk c.exec.new.machine) c.args.engine.now c.exec.new.self holds.world commands c.args.op (Err x)) c.in-Err-LogFull.field-0-is e)
@@ -43,32 +43,32 @@ returns-in-Err-LsnEnd-clause-done g c = λ p commands line holds asks.
     let e : IsExec p (g.M.Machine.disk c.args.machine.now) (g.M.Machine.disk c.exec.new.machine) c.args.engine.now c.exec.new.self holds.world commands c.args.op (Err c.in-Err-LsnEnd.field-0) = record {
       call = c.in-Err-LsnEnd.ensures.run.call;
       follows = c.in-Err-LsnEnd.ensures.run.takes.follows p holds.world holds.shows;
-      answers = c.in-Err-LsnEnd.ensures.run.answers p holds.world holds.shows;
-      exactly = c.in-Err-LsnEnd.ensures.run.exactly p commands (in_engine holds);
+      answers = c.in-Err-LsnEnd.ensures.run.in_world p holds.world holds.shows;
+      exactly = c.in-Err-LsnEnd.ensures.run.on_map p commands (in_engine holds);
       risen = ⊎_elim (λ fault. inl fault) (λ kept. inr (risen holds kept)) (c.in-Err-LsnEnd.ensures.run.err p commands (in_engine holds));
     } in
     exec_end p _ _ _ _ commands line c.args.op holds asks c.in-Err-LsnEnd.number (subst (λ (x : ExecErr). IsExec p (g.M.Machine.disk c.args.machine.now) (g.M.Machine.disk c.exec.new.machine) c.args.engine.now c.exec.new.self holds.world commands c.args.op (Err x)) c.in-Err-LsnEnd.field-0-is e)
 
-pub returns-in-Ok-clause-moments : goal.returns-in-Ok-clause-moments
-returns-in-Ok-clause-moments g c = λ p commands holds told. images_of holds (c.exec.ensures.run.images told p commands (in_engine holds))
+pub returns-in-Ok-clause-images : goal.returns-in-Ok-clause-images
+returns-in-Ok-clause-images g c = λ p commands holds told. images_of holds (c.exec.ensures.run.images told p commands (in_engine holds))
 
-pub returns-in-Err-Refused-clause-moments : goal.returns-in-Err-Refused-clause-moments
-returns-in-Err-Refused-clause-moments g c = λ p commands holds told. images_of holds (c.exec.ensures.run.images told p commands (in_engine holds))
+pub returns-in-Err-Refused-clause-images : goal.returns-in-Err-Refused-clause-images
+returns-in-Err-Refused-clause-images g c = λ p commands holds told. images_of holds (c.exec.ensures.run.images told p commands (in_engine holds))
 
-pub returns-in-Err-LogFull-clause-moments : goal.returns-in-Err-LogFull-clause-moments
-returns-in-Err-LogFull-clause-moments g c = λ p commands holds told. images_of holds (c.exec.ensures.run.images told p commands (in_engine holds))
+pub returns-in-Err-LogFull-clause-images : goal.returns-in-Err-LogFull-clause-images
+returns-in-Err-LogFull-clause-images g c = λ p commands holds told. images_of holds (c.exec.ensures.run.images told p commands (in_engine holds))
 
-pub returns-in-Err-LsnEnd-clause-moments : goal.returns-in-Err-LsnEnd-clause-moments
-returns-in-Err-LsnEnd-clause-moments g c = λ p commands holds told. images_of holds (c.exec.ensures.run.images told p commands (in_engine holds))
+pub returns-in-Err-LsnEnd-clause-images : goal.returns-in-Err-LsnEnd-clause-images
+returns-in-Err-LsnEnd-clause-images g c = λ p commands holds told. images_of holds (c.exec.ensures.run.images told p commands (in_engine holds))
 
-pub returns-in-Err-Damaged-clause-moments : goal.returns-in-Err-Damaged-clause-moments
-returns-in-Err-Damaged-clause-moments g c = λ p commands holds told. images_of holds (c.exec.ensures.run.images told p commands (in_engine holds))
+pub returns-in-Err-Damaged-clause-images : goal.returns-in-Err-Damaged-clause-images
+returns-in-Err-Damaged-clause-images g c = λ p commands holds told. images_of holds (c.exec.ensures.run.images told p commands (in_engine holds))
 
-pub returns-in-Err-DiskFault-clause-moments : goal.returns-in-Err-DiskFault-clause-moments
-returns-in-Err-DiskFault-clause-moments g c = λ p commands holds told. images_of holds (c.exec.ensures.run.images told p commands (in_engine holds))
+pub returns-in-Err-DiskFault-clause-images : goal.returns-in-Err-DiskFault-clause-images
+returns-in-Err-DiskFault-clause-images g c = λ p commands holds told. images_of holds (c.exec.ensures.run.images told p commands (in_engine holds))
 
-pub returns-in-Err-Memory-clause-moments : goal.returns-in-Err-Memory-clause-moments
-returns-in-Err-Memory-clause-moments g c = λ p commands holds told. images_of holds (c.exec.ensures.run.images told p commands (in_engine holds))
+pub returns-in-Err-Memory-clause-images : goal.returns-in-Err-Memory-clause-images
+returns-in-Err-Memory-clause-images g c = λ p commands holds told. images_of holds (c.exec.ensures.run.images told p commands (in_engine holds))
 
 pub returns-in-Ok-clause-attached : goal.returns-in-Ok-clause-attached
 returns-in-Ok-clause-attached g c = λ attached. still_attached c.in-Ok.ensures.run.call (λ f. f) attached
@@ -101,22 +101,22 @@ pub returns-in-Err-DiskFault-clause-cause : goal.returns-in-Err-DiskFault-clause
 returns-in-Err-DiskFault-clause-cause g c = c.in-Err-DiskFault.ensures.run.call.fault (fails_so c.in-Err-DiskFault.field-0-is)
 
 pub returns-in-Ok-clause-steps : goal.returns-in-Ok-clause-steps
-returns-in-Ok-clause-steps g c = λ told p w shows. c.exec.ensures.run.takes.moments told p w shows
+returns-in-Ok-clause-steps g c = λ told p w shows. c.exec.ensures.run.takes.steps told p w shows
 
 pub returns-in-Err-Refused-clause-steps : goal.returns-in-Err-Refused-clause-steps
-returns-in-Err-Refused-clause-steps g c = λ told p w shows. c.exec.ensures.run.takes.moments told p w shows
+returns-in-Err-Refused-clause-steps g c = λ told p w shows. c.exec.ensures.run.takes.steps told p w shows
 
 pub returns-in-Err-LogFull-clause-steps : goal.returns-in-Err-LogFull-clause-steps
-returns-in-Err-LogFull-clause-steps g c = λ told p w shows. c.exec.ensures.run.takes.moments told p w shows
+returns-in-Err-LogFull-clause-steps g c = λ told p w shows. c.exec.ensures.run.takes.steps told p w shows
 
 pub returns-in-Err-LsnEnd-clause-steps : goal.returns-in-Err-LsnEnd-clause-steps
-returns-in-Err-LsnEnd-clause-steps g c = λ told p w shows. c.exec.ensures.run.takes.moments told p w shows
+returns-in-Err-LsnEnd-clause-steps g c = λ told p w shows. c.exec.ensures.run.takes.steps told p w shows
 
 pub returns-in-Err-Damaged-clause-steps : goal.returns-in-Err-Damaged-clause-steps
-returns-in-Err-Damaged-clause-steps g c = λ told p w shows. c.exec.ensures.run.takes.moments told p w shows
+returns-in-Err-Damaged-clause-steps g c = λ told p w shows. c.exec.ensures.run.takes.steps told p w shows
 
 pub returns-in-Err-DiskFault-clause-steps : goal.returns-in-Err-DiskFault-clause-steps
-returns-in-Err-DiskFault-clause-steps g c = λ told p w shows. c.exec.ensures.run.takes.moments told p w shows
+returns-in-Err-DiskFault-clause-steps g c = λ told p w shows. c.exec.ensures.run.takes.steps told p w shows
 
 pub returns-in-Err-Memory-clause-steps : goal.returns-in-Err-Memory-clause-steps
-returns-in-Err-Memory-clause-steps g c = λ told p w shows. c.exec.ensures.run.takes.moments told p w shows
+returns-in-Err-Memory-clause-steps g c = λ told p w shows. c.exec.ensures.run.takes.steps told p w shows

@@ -1,5 +1,5 @@
 use Rattle.std.proofs.Common.{ap, sym, subst, Err, Result, IfOk, OnOk, ◌∙◌}
-use Rattle.script_lines.specs.Grammar.{force}
+use Rattle.script_lines.specs.declared.line.Line.TheVariants.{Force as force}
 use Rattle.script_lines.specs.Replies.{reply_of}
 use Rattle.script_lines.specs.declared.answer.Answer.{Answer}
 use Rattle.redo_shell.specs.Found.{IsDone}
@@ -28,18 +28,18 @@ returns-in-Err-clause-attached g c = λ attached.
     by_group c.args.engine.now.group (λ some. always c.refused.result (barred_attached g.M.Machine.disk c.args.machine.now c.force.new.machine c.args.engine.now c.force.new.self (Err c.in-Err.error) c.in-Err.ensures.in_group some attached))
     (λ none. subst (λ (r : Result Answer Stop). OnOk r (IsAttached (g.M.Machine.disk c.force.new.machine) c.force.new.self)) (sym (unforced_alone c.in-Err.error c.refused.result (c.in-Err.ensures.alone none) c.refused.ensures)) tt)
 
-pub returns-in-Ok-clause-moments : goal.returns-in-Ok-clause-moments
-returns-in-Ok-clause-moments g c = λ p commands holds told.
+pub returns-in-Ok-clause-images : goal.returns-in-Ok-clause-images
+returns-in-Ok-clause-images g c = λ p commands holds told.
     by_group c.args.engine.now.group (λ some. still_images (g.met.M.Machine.lawful c.args.machine.now) holds (ap g.M.Machine.disk (barred_still c.args.engine.now c.force.new.self c.force.result c.force.ensures.in_group some)) told)
     (λ none. images_of holds ((c.force.ensures.alone none).2.commands.images told p commands (in_engine holds)))
 
 pub returns-in-Ok-clause-steps : goal.returns-in-Ok-clause-steps
-returns-in-Ok-clause-steps g c = λ told p w shows none. (c.force.ensures.alone (sym shows.group ∙ none)).2.takes.moments told p w shows
+returns-in-Ok-clause-steps g c = λ told p w shows none. (c.force.ensures.alone (sym shows.group ∙ none)).2.takes.steps told p w shows
 
-pub returns-in-Err-clause-moments : goal.returns-in-Err-clause-moments
-returns-in-Err-clause-moments g c = λ p commands holds told.
+pub returns-in-Err-clause-images : goal.returns-in-Err-clause-images
+returns-in-Err-clause-images g c = λ p commands holds told.
     by_group c.args.engine.now.group (λ some. still_images (g.met.M.Machine.lawful c.args.machine.now) holds (ap g.M.Machine.disk (barred_still c.args.engine.now c.force.new.self c.force.result c.force.ensures.in_group some)) told)
     (λ none. images_of holds ((c.force.ensures.alone none).2.commands.images told p commands (in_engine holds)))
 
 pub returns-in-Err-clause-steps : goal.returns-in-Err-clause-steps
-returns-in-Err-clause-steps g c = λ told p w shows none. (c.force.ensures.alone (sym shows.group ∙ none)).2.takes.moments told p w shows
+returns-in-Err-clause-steps g c = λ told p w shows none. (c.force.ensures.alone (sym shows.group ∙ none)).2.takes.steps told p w shows

@@ -1,7 +1,7 @@
 use Rattle.std.proofs.Common.{◌∙◌, refl, ap, List, ℕ, Option, Some, Ok}
 use Rattle.formats.specs.Objects.{bounds_of}
 use Rattle.logical_btree.specs.Plan.{get_answer}
-use Rattle.script_lines.specs.Grammar.{tget}
+use Rattle.script_lines.specs.declared.line.Line.TheVariants.{TreeGet as tget}
 use Rattle.redo_shell.specs.Made.{found_reply}
 use Rattle.redo_shell.specs.Store.{state_of}
 use Rattle.redo_shell.specs.declared.asking.Found.TheVariants.{Value, Absent}

@@ -1,7 +1,7 @@
 use Rattle.std.proofs.Common.{refl, ap, sym, Some}
 use Rattle.formats.specs.Objects.{bounds_of}
 use Rattle.logical_btree.specs.Plan.{range_answer}
-use Rattle.script_lines.specs.Grammar.{trange}
+use Rattle.script_lines.specs.declared.line.Line.TheVariants.{TreeRange as trange}
 use Rattle.redo_shell.specs.Made.{range_reply}
 use Rattle.redo_shell.specs.Store.{state_of}
 use Rattle.redo_shell.specs.declared.asking.Found.TheVariants.{Pairs}

@@ -1,22 +1,22 @@
 use Rattle.std.proofs.Common.{Ok, refl, subst, sym}
-use Rattle.redo_shell.proofs.AskLemmas.{asked_found, asked_moments, asked_works}
+use Rattle.redo_shell.proofs.AskLemmas.{asked_found, asked_images, asked_works}
 use Rattle.redo_shell.proofs.HoldLemmas.{attached_said, always}
 use Rattle.redo_shell.proofs.ListLemmas.{calls_attached, calls_cause, calls_unbroken, calls_undamaged}
 use Rattle.redo_shell.proofs.RunLemmas.{found_said, stops_before}
 use Rattle.redo_shell.proofs.UpkeepLemmas.{passed_cause, passed_whole}
-use Rattle.redo_shell.specs.Run.{IsFound}
+use Rattle.redo_shell.specs.Run.{IsAnswerFound}
 use Rattle.script_lines.specs.Replies.{Reply}
 use Rattle.redo_shell.proofs.asking.say_found.Goals as goal
 
 pub returns-in_err-found-clause-answers : goal.returns-in_err-found-clause-answers
 returns-in_err-found-clause-answers g c = λ p commands line holds asks.
-    stops_before c.from_residual.result c.from_residual.ensures.0 (asked_moments holds asks c.found_in.ensures) (asked_works holds asks c.found_in.ensures) (c.found_in.ensures.calls.call.quiet holds.shows.shows.told)
+    stops_before c.from_residual.result c.from_residual.ensures.0 (asked_images holds asks c.found_in.ensures) (asked_works holds asks c.found_in.ensures) (c.found_in.ensures.calls.call.quiet holds.shows.shows.told)
 
 pub returns-clause-answers : goal.returns-clause-answers
 returns-clause-answers g c = λ p commands line holds asks.
     let found = asked_found holds asks c.in_ok-found.ensures c.in_ok-found.found refl (c.engine_stands.ensures p commands) in
-    let said = subst (λ (r : Reply). IsFound p (g.M.Machine.disk c.args.machine.now) (g.M.Machine.disk c.found_in.new.machine) c.args.engine.now c.found_in.new.engine holds.world commands line r) (sym c.answer.ensures) found in
-    found_said c.say_answer.result holds.says.accepted (asked_moments holds asks c.found_in.ensures) (asked_works holds asks c.found_in.ensures) c.found_in.ensures.calls.call.time said c.say_answer.ensures.runs c.say_answer.ensures.all c.say_answer.ensures.kind
+    let said = subst (λ (r : Reply). IsAnswerFound p (g.M.Machine.disk c.args.machine.now) (g.M.Machine.disk c.found_in.new.machine) c.args.engine.now c.found_in.new.engine holds.world commands line r) (sym c.answer.ensures) found in
+    found_said c.say_answer.result holds.says.accepted (asked_images holds asks c.found_in.ensures) (asked_works holds asks c.found_in.ensures) c.found_in.ensures.calls.call.time said c.say_answer.ensures.runs c.say_answer.ensures.all c.say_answer.ensures.kind
 
 pub returns-clause-attached : goal.returns-clause-attached
 returns-clause-attached g c = λ attached. always c.say_answer.result

@@ -1,7 +1,7 @@
 use Rattle.std.proofs.Common.{◌∙◌, ◌%◌, ◌^◌, List, [], ℕ, length, ap, refl, subst}
 use Rattle.std.specs.Prelude.{count_by}
 use Rattle.disk_model.specs.Growing.{disk_of}
-use Rattle.demo_script.specs.Script.{script_of}
+use Rattle.script_lines.specs.DemoScript.{script_of}
 use Rattle.script_lines.specs.Grammar.{lines_of}
 use Rattle.redo_shell.specs.Demo.{demo_params, IsPlayed, is_newline, refusal_count, weighed}
 use Rattle.redo_shell.specs.Groups.{account_of}

@@ -1,7 +1,7 @@
 use Rattle.std.proofs.Common.{arith, subst}
 use Rattle.disk_model.specs.Moments.{passes_twice}
 use Rattle.redo_shell.specs.Status.{IsOfUnopened}
-use Rattle.redo_shell.proofs.DumpLemmas.{dump_courses, dump_on, dump_shows, dump_stands, dump_unopened}
+use Rattle.redo_shell.proofs.DumpLemmas.{dump_steps, dump_on, dump_shows, dump_stands, dump_unopened}
 use Rattle.redo_shell.proofs.ExactLemmas.{unopened_dump}
 use Rattle.redo_shell.proofs.HoldLemmas.{rises_within}
 use Rattle.redo_shell.proofs.KeepLemmas.{keeps_settled}
@@ -26,9 +26,9 @@ returns-in-Ok-clause-call g c =
           let files = c.open_store.ensures.opens p commands opens in
           let holds = (opened.shows files.first.0 files.first.1).0 in
           dump_on p old mid new commands c.dump_open-status.result
-          (λ first is. (dump_courses p old mid new commands _ opened files c.dump_open-status.ensures.keeps first is c.in-Ok.ensures.settled (λ telling. c.open_store.ensures.time.moments_told.0 telling), λ done. dump_shows p old mid new commands _ opened files c.dump_open-status.ensures.keeps first is (c.open_store.ensures.time.files_told.0 opens.told)))
+          (λ first is. (dump_steps p old mid new commands _ opened files c.dump_open-status.ensures.keeps first is c.in-Ok.ensures.settled (λ telling. c.open_store.ensures.time.moments_told.0 telling), λ done. dump_shows p old mid new commands _ opened files c.dump_open-status.ensures.keeps first is (c.open_store.ensures.time.files_told.0 opens.told)))
           (g.met.M.Machine.lawful c.args.machine.now) opens files.images (λ telling. c.open_store.ensures.time.moments_told.0 telling) files.quiet
-          (c.dump_open-status.ensures.moments p commands holds opened.all) (c.dump_open-status.ensures.said p commands holds) (c.dump_open-status.ensures.all p commands holds)
+          (c.dump_open-status.ensures.images p commands holds opened.all) (c.dump_open-status.ensures.said p commands holds) (c.dump_open-status.ensures.all p commands holds)
           (c.dump_open-status.ensures.store (c.open_store.ensures.time.files_told.0 opens.told) attached) settled
           (dump_stands p mid new _ commands holds opened.all c.dump_open-status.ensures.keeps settled);
       settled = λ done. settled;

@@ -5,8 +5,8 @@ use Rattle.redo_shell.proofs.DumpLemmas.{dump_reads, dump_says, dump_begun, dump
 use Rattle.redo_shell.proofs.KeepLemmas.{keeps_once, keeps_behind}
 use Rattle.redo_shell.proofs.dump.dump_open.Goals as goal
 
-pub returns-in-Ok-clause-moments : goal.returns-in-Ok-clause-moments
-returns-in-Ok-clause-moments g c = λ p commands holds all telling.
+pub returns-in-Ok-clause-images : goal.returns-in-Ok-clause-images
+returns-in-Ok-clause-images g c = λ p commands holds all telling.
     dump_says p (g.M.Machine.disk c.args.machine.now) (g.M.Machine.disk c.table.new.machine) (g.M.Machine.disk c.end_with.new.machine) c.args.engine.now commands c.as_slice.result.now
     c.table.ensures.kept holds all (c.as_slice.ensures.value ∙ c.in-Ok.ensures.rows p commands holds) c.end_with.ensures.runs telling
 
@@ -26,8 +26,8 @@ returns-in-Ok-clause-keeps g c = keeps_behind (g.M.Machine.disk c.args.machine.n
 pub returns-in-Err-Damaged-clause-keeps : goal.returns-in-Err-Damaged-clause-keeps
 returns-in-Err-Damaged-clause-keeps g c = keeps_behind (g.M.Machine.disk c.args.machine.now) (g.M.Machine.disk c.table.new.machine) (g.M.Machine.disk c.end_damaged.new.machine) c.table.ensures.kept c.end_damaged.ensures.keeps
 
-pub returns-in-Err-clause-moments : goal.returns-in-Err-clause-moments
-returns-in-Err-clause-moments g c = λ p commands holds all telling. dump_reads p (g.M.Machine.disk c.args.machine.now) (g.M.Machine.disk c.table.new.machine) c.args.engine.now commands c.table.ensures.kept holds all telling
+pub returns-in-Err-clause-images : goal.returns-in-Err-clause-images
+returns-in-Err-clause-images g c = λ p commands holds all telling. dump_reads p (g.M.Machine.disk c.args.machine.now) (g.M.Machine.disk c.table.new.machine) c.args.engine.now commands c.table.ensures.kept holds all telling
 
 pub returns-in-Err-clause-said : goal.returns-in-Err-clause-said
 returns-in-Err-clause-said g c = λ p commands holds. dump_quiet p (g.M.Machine.disk c.args.machine.now) (g.M.Machine.disk c.table.new.machine) commands (c.table.ensures.kept.said holds.shows.shows.told)
@@ -35,8 +35,8 @@ returns-in-Err-clause-said g c = λ p commands holds. dump_quiet p (g.M.Machine.
 pub returns-in-Err-clause-keeps : goal.returns-in-Err-clause-keeps
 returns-in-Err-clause-keeps g c = keeps_once (g.M.Machine.disk c.args.machine.now) (g.M.Machine.disk c.table.new.machine) c.table.ensures.kept
 
-pub returns-in-Err-Damaged-clause-moments : goal.returns-in-Err-Damaged-clause-moments
-returns-in-Err-Damaged-clause-moments g c = λ p commands holds all telling.
+pub returns-in-Err-Damaged-clause-images : goal.returns-in-Err-Damaged-clause-images
+returns-in-Err-Damaged-clause-images g c = λ p commands holds all telling.
     absurd (subst IsUndamaged c.in-Err-Damaged.field-0-is (c.in-Err-Damaged.ensures.undamaged (told_by holds) (attached_of holds)))
 
 pub returns-in-Err-Damaged-clause-said : goal.returns-in-Err-Damaged-clause-said

@@ -1,40 +1,29 @@
-use Rattle.std.proofs.Common.{◌<◌, ⊎_elim, subst}
-use Rattle.formats.specs.declared.params.Params.{Params}
-use Rattle.redo_shell.proofs.FetchLemmas.{fetch_undamaged, fetched_kept, not_a_fault}
+use Rattle.std.proofs.Common.{⊎_elim}
+use Rattle.redo_shell.proofs.FetchLemmas.{fetch_cause, fetch_undamaged, fetched_kept, is_none, is_one, not_a_fault}
 use Rattle.redo_shell.proofs.HoldLemmas.{in_engine}
 use Rattle.redo_shell.proofs.fetching.fetched.Goals as goal
 
-pub returns-in-Ok-clause-holds : goal.returns-in-Ok-clause-holds
-returns-in-Ok-clause-holds g c = λ p commands holds.
-    fetched_kept holds (⊎_elim (λ fault. cc fault) (λ shows. shows) (c.in-Ok.ensures.fetched.shows p holds.world holds.shows)) c.in-Ok.ensures.fetched.call.log c.in-Ok.ensures.fetched.call.identities (c.engine_stands.ensures p commands)
+pub returns-clause-kept : goal.returns-clause-kept
+returns-clause-kept g c = c.fetch.ensures.fetched.call.kept
 
-pub returns-in-Ok-clause-value : goal.returns-in-Ok-clause-value
-returns-in-Ok-clause-value g c = λ p commands holds there.
-    let shows = ⊎_elim (λ fault. cc fault) (λ shows. shows) (c.in-Ok.ensures.fetched.shows p holds.world holds.shows) in
-    (subst (λ (q : Params). c.args.object < q.objects) shows.shows.store.params c.in-Ok.ensures.cached.0, c.in-Ok.ensures.value p commands (in_engine holds))
+pub returns-clause-holds : goal.returns-clause-holds
+returns-clause-holds g c = λ p commands holds.
+    fetched_kept holds (⊎_elim (λ fault. cc fault) (λ shows. shows) (c.in_ok-there.ensures.fetched.shows p holds.world holds.shows)) c.in_ok-there.ensures.fetched.call.log c.in_ok-there.ensures.fetched.call.identities (c.engine_stands.ensures p commands)
 
-pub returns-in-Err-Refused-clause-holds : goal.returns-in-Err-Refused-clause-holds
-returns-in-Err-Refused-clause-holds g c = λ p commands holds.
-    fetched_kept holds (⊎_elim (λ fault. cc (c.in-Err-Refused.field-0-is, fault)) (λ shows. shows) (c.in-Err-Refused.ensures.fetched.shows p holds.world holds.shows)) c.in-Err-Refused.ensures.fetched.call.log
-    c.in-Err-Refused.ensures.fetched.call.identities (c.engine_stands-in-Err-Refused.ensures p commands)
+pub returns-clause-value : goal.returns-clause-value
+returns-clause-value g c = λ p commands holds there. (is_one p holds.shows.shows.store.params c.in_ok-there.ensures.there there, c.in_ok-there.ensures.value p commands (in_engine holds) there)
 
-pub returns-in-Ok-clause-unbroken : goal.returns-in-Ok-clause-unbroken
-returns-in-Ok-clause-unbroken g c = not_a_fault c.fetch.new.self.broken (λ e. cc (c.in-Ok.ensures.fetched.call.broken.0 e))
+pub returns-clause-none : goal.returns-clause-none
+returns-clause-none g c = λ p commands holds none. is_none p holds.shows.shows.store.params c.in_ok-there.ensures.there none
 
-pub returns-in-Err-Refused-clause-unbroken : goal.returns-in-Err-Refused-clause-unbroken
-returns-in-Err-Refused-clause-unbroken g c = not_a_fault c.fetch.new.self.broken (λ e. cc (c.in-Err-Refused.field-0-is, c.in-Err-Refused.ensures.fetched.call.broken.0 e))
+pub returns-clause-attached : goal.returns-clause-attached
+returns-clause-attached g c = c.fetch.ensures.fetched.call.attached
 
-pub returns-in-Ok-clause-kept : goal.returns-in-Ok-clause-kept
-returns-in-Ok-clause-kept g c = c.fetch.ensures.fetched.call.kept
+pub returns-clause-unbroken : goal.returns-clause-unbroken
+returns-clause-unbroken g c = not_a_fault c.fetch.new.self.broken (λ e. cc (c.in_ok-there.ensures.fetched.call.broken.0 e))
 
-pub returns-in-Err-Refused-clause-kept : goal.returns-in-Err-Refused-clause-kept
-returns-in-Err-Refused-clause-kept g c = c.fetch.ensures.fetched.call.kept
+pub returns-in_err-there-clause-cause : goal.returns-in_err-there-clause-cause
+returns-in_err-there-clause-cause g c = fetch_cause (g.M.Machine.disk c.args.machine.now) (g.M.Machine.disk c.fetch.new.machine) c.args.engine.now c.args.object c.from_residual.result c.in_err-there.field-0.0 c.from_residual.ensures.1 c.in_err-there.ensures.fetched.cause
 
-pub returns-in-Ok-clause-attached : goal.returns-in-Ok-clause-attached
-returns-in-Ok-clause-attached g c = c.fetch.ensures.fetched.call.attached
-
-pub returns-in-Err-Refused-clause-attached : goal.returns-in-Err-Refused-clause-attached
-returns-in-Err-Refused-clause-attached g c = c.fetch.ensures.fetched.call.attached
-
-pub returns-in-Err-Damaged-clause-undamaged : goal.returns-in-Err-Damaged-clause-undamaged
-returns-in-Err-Damaged-clause-undamaged g c = fetch_undamaged c.args.engine.now c.args.object c.in-Err-Damaged.file c.in-Err-Damaged.place c.fetch.ensures.fetched.call.kept c.in-Err-Damaged.ensures.fetched.cause c.in-Err-Damaged.field-0-is
+pub returns-in_err-there-clause-undamaged : goal.returns-in_err-there-clause-undamaged
+returns-in_err-there-clause-undamaged g c = fetch_undamaged (g.M.Machine.disk c.args.machine.now) (g.M.Machine.disk c.fetch.new.machine) c.args.engine.now c.args.object c.from_residual.result c.in_err-there.field-0.0 c.from_residual.ensures.1 c.fetch.ensures.fetched.call.kept c.in_err-there.ensures.fetched.cause

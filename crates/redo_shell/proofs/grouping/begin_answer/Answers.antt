@@ -11,8 +11,8 @@ returns-clause-quiet g c = λ told. begin_quiet g.M.Machine.disk (λ inside. bar
 pub returns-clause-done : goal.returns-clause-done
 returns-clause-done g c = λ p commands line holds asks. begin_done g.M.Machine.disk (λ inside. barred_in c.begin.result c.worked.result c.begin.ensures.in_group c.worked.ensures inside) (λ none. begun_alone c.begin.result c.worked.result (c.begin.ensures.alone none) c.worked.ensures) holds line asks
 
-pub returns-clause-moments : goal.returns-clause-moments
-returns-clause-moments g c = λ p commands holds told. begin_images g.M.Machine.disk (λ inside. barred_in c.begin.result c.worked.result c.begin.ensures.in_group c.worked.ensures inside) (λ none. begun_alone c.begin.result c.worked.result (c.begin.ensures.alone none) c.worked.ensures) holds (g.met.M.Machine.lawful c.args.machine.now) told
+pub returns-clause-images : goal.returns-clause-images
+returns-clause-images g c = λ p commands holds told. begin_images g.M.Machine.disk (λ inside. barred_in c.begin.result c.worked.result c.begin.ensures.in_group c.worked.ensures inside) (λ none. begun_alone c.begin.result c.worked.result (c.begin.ensures.alone none) c.worked.ensures) holds (g.met.M.Machine.lawful c.args.machine.now) told
 
 pub returns-clause-steps : goal.returns-clause-steps
 returns-clause-steps g c = λ told p w shows granted. begin_steps g.M.Machine.disk (λ inside. barred_in c.begin.result c.worked.result c.begin.ensures.in_group c.worked.ensures inside) (λ none. begun_alone c.begin.result c.worked.result (c.begin.ensures.alone none) c.worked.ensures) shows granted told

@@ -1,5 +1,5 @@
 use Rattle.std.proofs.Common.{◌∙◌, ap, sym, subst}
-use Rattle.script_lines.specs.Grammar.{end_group}
+use Rattle.script_lines.specs.declared.line.Line.TheVariants.{End as end_group}
 use Rattle.disk_model.specs.Moments.{passes_none}
 use Rattle.store_engine.specs.Engine.{EngineView, used_in}
 use Rattle.redo_shell.specs.Stages.{upkeep_course}
@@ -14,8 +14,8 @@ returns-in-Ok-clause-time g c = passes_none (g.M.Machine.disk c.args.machine.now
 pub returns-in-Ok-clause-done : goal.returns-in-Ok-clause-done
 returns-in-Ok-clause-done g c = λ p commands line holds asks. end_done holds asks c.end.new.self c.group_is_closed.ensures (was_open c.args.engine.now c.end.new.self c.in-Ok.field-0 c.in-Ok.ensures.none) (closed_now c.args.engine.now c.end.new.self c.end.result c.end.ensures.some (was_open c.args.engine.now c.end.new.self c.in-Ok.field-0 c.in-Ok.ensures.none))
 
-pub returns-in-Ok-clause-moments : goal.returns-in-Ok-clause-moments
-returns-in-Ok-clause-moments g c = λ p commands holds told. holds_between (g.met.M.Machine.lawful c.args.machine.now) holds told
+pub returns-in-Ok-clause-images : goal.returns-in-Ok-clause-images
+returns-in-Ok-clause-images g c = λ p commands holds told. holds_between (g.met.M.Machine.lawful c.args.machine.now) holds told
 
 pub returns-in-Ok-clause-steps : goal.returns-in-Ok-clause-steps
 returns-in-Ok-clause-steps g c = λ told p w shows granted. takes_none (upkeep_course 0 end_group (meaning_in p) w (used_in c.args.engine.now)).steps (g.met.M.Machine.lawful c.args.machine.now) shows told
@@ -32,8 +32,8 @@ returns-in-Err-clause-time g c = passes_none (g.M.Machine.disk c.args.machine.no
 pub returns-in-Err-clause-done : goal.returns-in-Err-clause-done
 returns-in-Err-clause-done g c = λ p commands line holds asks. end_refused holds asks c.end.new.self (was_closed c.args.engine.now c.end.new.self c.in-Err.field-0 c.in-Err.ensures.some) (c.in-Err.ensures.none (was_closed c.args.engine.now c.end.new.self c.in-Err.field-0 c.in-Err.ensures.some)).1
 
-pub returns-in-Err-clause-moments : goal.returns-in-Err-clause-moments
-returns-in-Err-clause-moments g c = λ p commands holds told. holds_between (g.met.M.Machine.lawful c.args.machine.now) holds told
+pub returns-in-Err-clause-images : goal.returns-in-Err-clause-images
+returns-in-Err-clause-images g c = λ p commands holds told. holds_between (g.met.M.Machine.lawful c.args.machine.now) holds told
 
 pub returns-in-Err-clause-steps : goal.returns-in-Err-clause-steps
 returns-in-Err-clause-steps g c = λ told p w shows granted. takes_none (upkeep_course 0 end_group (meaning_in p) w (used_in c.args.engine.now)).steps (g.met.M.Machine.lawful c.args.machine.now) shows told

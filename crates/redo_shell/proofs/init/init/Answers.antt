@@ -18,9 +18,9 @@ returns-in-Ok-clause-making g c =
       ends = tt;
       done = λ told is. c.in-Ok.ensures.ok told;
       quiet = λ told is. c.init.ensures.quiet told;
-      moments = c.init.ensures.moments;
+      images = c.init.ensures.images;
       from_settled = λ telling settled none.
-          from_settled old new (λ files said. IsNew c.args.params files × (said ≡ old.said)) (g.met.M.Machine.lawful c.args.machine.now) telling settled (inl none, refl) (c.init.ensures.moments telling none);
+          from_settled old new (λ files said. IsNew c.args.params files × (said ≡ old.said)) (g.met.M.Machine.lawful c.args.machine.now) telling settled (inl none, refl) (c.init.ensures.images telling none);
       settled = λ told fault. c.in-Ok.ensures.settled;
       keeps = λ told begins. absurd (c.in-Ok.ensures.fresh told begins);
       fresh = λ told is. c.in-Ok.ensures.fresh told;
@@ -35,9 +35,9 @@ returns-in-Err-DiskFault-clause-making g c =
       ends = tt;
       done = λ told is. cc is;
       quiet = λ told is. cc is;
-      moments = c.init.ensures.moments;
+      images = c.init.ensures.images;
       from_settled = λ telling settled none.
-          from_settled old new (λ files said. IsNew c.args.params files × (said ≡ old.said)) (g.met.M.Machine.lawful c.args.machine.now) telling settled (inl none, refl) (c.init.ensures.moments telling none);
+          from_settled old new (λ files said. IsNew c.args.params files × (said ≡ old.said)) (g.met.M.Machine.lawful c.args.machine.now) telling settled (inl none, refl) (c.init.ensures.images telling none);
       settled = λ told fault. absurd (fault refl);
       keeps = λ told begins. keeps_once old new (c.init.ensures.kept told begins);
       fresh = λ told is. cc is;
@@ -55,7 +55,7 @@ returns-in-Err-AlreadyStore-clause-making g c =
       ends = in_made c.end_with.result c.end_with.ensures.status;
       done = λ told is. absurd (not_made c.end_with.result c.end_with.ensures.status is);
       quiet = λ told is. absurd (not_made c.end_with.result c.end_with.ensures.status is);
-      moments = λ telling none. absurd (none (begins ((g.met.M.Machine.lawful c.args.machine.now).telling telling)));
+      images = λ telling none. absurd (none (begins ((g.met.M.Machine.lawful c.args.machine.now).telling telling)));
       from_settled = λ telling settled none. absurd (none (begins ((g.met.M.Machine.lawful c.args.machine.now).telling telling)));
       settled = λ told fault. settled told;
       keeps = λ told there. keeps_behind old mid new (c.init.ensures.kept told there) (keeps_once mid new c.end_with.ensures.runs);

@@ -8,8 +8,8 @@ use Rattle.redo_shell.proofs.line.answer_next.Goals as goal
 
 pub returns-in-Line-clause-answers : goal.returns-in-Line-clause-answers
 returns-in-Line-clause-answers g c = λ p commands line is holds.
-    subst (λ (l : List ℕ). Answering p (g.M.Machine.disk c.args.machine.now) (g.M.Machine.disk c.answer_line.new.machine) c.args.engine.now c.answer_line.new.engine holds.world commands l c.answer_line.result)
-    (sym (found_line c.args.next c.args.bytes.now line c.in-Line.is is)) (c.answer_line.ensures.answers p commands holds)
+    subst (λ (l : List ℕ). Answering p (g.M.Machine.disk c.args.machine.now) (g.M.Machine.disk c.answer_request.new.machine) c.args.engine.now c.answer_request.new.engine holds.world commands l c.answer_request.result)
+    (sym (found_line c.args.next c.args.bytes.now line c.in-Line.is is)) (c.answer_request.ensures.answers p commands holds)
 
 pub returns-in-Long-clause-answers : goal.returns-in-Long-clause-answers
 returns-in-Long-clause-answers g c = λ p commands line is holds.
@@ -17,7 +17,7 @@ returns-in-Long-clause-answers g c = λ p commands line is holds.
     said_at_once c.say_answer.result (g.met.M.Machine.lawful c.args.machine.now) holds found c.say_answer.ensures.runs c.say_answer.ensures.all c.say_answer.ensures.kind
 
 pub returns-in-Line-clause-some : goal.returns-in-Line-clause-some
-returns-in-Line-clause-some g c = λ is. (c.args.bytes.now, λ p commands holds. c.answer_line.ensures.answers p commands holds)
+returns-in-Line-clause-some g c = λ is. (c.args.bytes.now, λ p commands holds. c.answer_request.ensures.answers p commands holds)
 
 pub returns-in-Long-clause-some : goal.returns-in-Long-clause-some
 returns-in-Long-clause-some g c = λ is.

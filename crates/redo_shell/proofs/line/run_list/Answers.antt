@@ -1,20 +1,20 @@
 use Rattle.std.proofs.Common.{Ok}
 use Rattle.redo_shell.proofs.HoldLemmas.{attached_said, always}
 use Rattle.redo_shell.proofs.DoneLemmas.{found_of, done_holds}
-use Rattle.redo_shell.proofs.ListLemmas.{calls_attached, calls_cause, calls_unbroken, calls_undamaged, list_done, list_moments, list_works}
+use Rattle.redo_shell.proofs.ListLemmas.{calls_attached, calls_cause, calls_unbroken, calls_undamaged, list_done, list_images, list_works}
 use Rattle.redo_shell.proofs.UpkeepLemmas.{passed_cause, passed_whole}
 use Rattle.redo_shell.proofs.RunLemmas.{found_said, stops_before}
 use Rattle.redo_shell.proofs.line.run_list.Goals as goal
 
 pub returns-in_err-answer-clause-answers : goal.returns-in_err-answer-clause-answers
 returns-in_err-answer-clause-answers g c = λ p commands line holds asks.
-    stops_before c.from_residual.result c.from_residual.ensures.0 (list_moments c.commands_log_no_identity.ensures holds asks c.made_answer.ensures) (list_works c.commands_log_no_identity.ensures holds asks c.made_answer.ensures) (c.made_answer.ensures.calls.call.quiet holds.shows.shows.told)
+    stops_before c.from_residual.result c.from_residual.ensures.0 (list_images c.commands_log_no_identity.ensures holds asks c.made_answer.ensures) (list_works c.commands_log_no_identity.ensures holds asks c.made_answer.ensures) (c.made_answer.ensures.calls.call.quiet holds.shows.shows.told)
 
 pub returns-clause-answers : goal.returns-clause-answers
 returns-clause-answers g c = λ p commands line holds asks.
     let done = list_done c.commands_log_no_identity.ensures holds asks c.in_ok-answer.ensures in
     let found = found_of holds done (c.engine_stands.ensures p _ (done_holds done)) c.stop_is_said.ensures.alone c.stop_is_said.ensures.within in
-    found_said c.say_answer.result holds.says.accepted (list_moments c.commands_log_no_identity.ensures holds asks c.made_answer.ensures) (list_works c.commands_log_no_identity.ensures holds asks c.made_answer.ensures) c.made_answer.ensures.calls.call.time found c.say_answer.ensures.runs c.say_answer.ensures.all c.say_answer.ensures.kind
+    found_said c.say_answer.result holds.says.accepted (list_images c.commands_log_no_identity.ensures holds asks c.made_answer.ensures) (list_works c.commands_log_no_identity.ensures holds asks c.made_answer.ensures) c.made_answer.ensures.calls.call.time found c.say_answer.ensures.runs c.say_answer.ensures.all c.say_answer.ensures.kind
 
 pub returns-clause-attached : goal.returns-clause-attached
 returns-clause-attached g c = λ attached. always c.say_answer.result

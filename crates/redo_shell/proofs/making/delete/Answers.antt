@@ -1,7 +1,7 @@
 use Rattle.std.proofs.Common.{refl}
 use Rattle.formats.specs.Objects.{bounds_of}
 use Rattle.logical_btree.specs.Plan.{delete_plan}
-use Rattle.script_lines.specs.Grammar.{tdelete}
+use Rattle.script_lines.specs.declared.line.Line.TheVariants.{TreeDelete as tdelete}
 use Rattle.redo_shell.specs.Store.{state_of}
 use Rattle.redo_shell.proofs.MakingLemmas.{made_badly, made_nowhere, made_well, no_range, nowhere, tree_is}
 use Rattle.redo_shell.proofs.making.delete.Goals as goal

@@ -26,7 +26,7 @@ returns-in-Ok-clause-opens g c = λ p commands opens. record {
   quiet = c.restart.ensures.opening.quiet opens.told;
   images = λ telling. c.restart.ensures.images telling p commands opens;
   first = first_of opens (c.opens_on_a_world.ensures.world p (g.M.Machine.disk c.args.machine.now).reads commands opens.stands);
-  courses = λ telling first is. c.restart.ensures.moments telling p is.used is.world is.found;
+  steps = λ telling first is. c.restart.ensures.steps telling p is.used is.world is.found;
 }
 
 pub returns-in-Err-clause-opens : goal.returns-in-Err-clause-opens
@@ -37,9 +37,9 @@ returns-in-Err-clause-opens g c = λ p commands opens.
       quiet = ap (λ (d : Disk). d.said) same ∙ c.restart.ensures.opening.quiet opens.told;
       images = λ telling. subst (λ (d : Disk). LeavesOnly (g.M.Machine.disk c.args.machine.now) d (OrAtStart (g.M.Machine.disk c.args.machine.now) (Between p (g.M.Machine.disk c.args.machine.now) None (length commands) (length commands) commands))) (sym same) (c.restart.ensures.images telling p commands opens);
       first = first_of opens (c.opens_on_a_world.ensures.world p (g.M.Machine.disk c.args.machine.now).reads commands opens.stands);
-      courses = λ telling first is.
+      steps = λ telling first is.
           subst (λ (d : Disk). LeavesOnly (g.M.Machine.disk c.args.machine.now) d (OrAtStart (g.M.Machine.disk c.args.machine.now) (OpeningMoment p commands (g.M.Machine.disk c.args.machine.now) first is))) (sym same)
-          (c.restart.ensures.moments telling p is.used is.world is.found);
+          (c.restart.ensures.steps telling p is.used is.world is.found);
     }
 
 pub returns-in-Ok-clause-ok : goal.returns-in-Ok-clause-ok

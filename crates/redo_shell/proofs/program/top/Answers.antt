@@ -12,10 +12,10 @@ use Rattle.redo_shell.proofs.program.top.Goals as goal
 pub serve-requires : goal.serve-requires
 serve-requires g c = c.in-Ok.ensures.ok.named.allowed
 
-pub returns-in-Ok-clause-moments : goal.returns-in-Ok-clause-moments
-returns-in-Ok-clause-moments g c = λ p commands asks opens told.
+pub returns-in-Ok-clause-images : goal.returns-in-Ok-clause-images
+returns-in-Ok-clause-images g c = λ p commands asks opens told.
     let call = call_for _ _ _ _ _ _ (c.words_ask_one_thing.ensures (map string_bytes c.args.words.now) c.in-Ok.asked Run c.in-Ok.ensures.ok asks) c.serve.ensures.call in
-    (call.script p commands opens told).moments
+    (call.script p commands opens told).images
 
 pub returns-in-Ok-clause-run : goal.returns-in-Ok-clause-run
 returns-in-Ok-clause-run g c = λ asks. inl (call_for _ _ _ _ _ _ (c.words_ask_one_thing.ensures (map string_bytes c.args.words.now) c.in-Ok.asked Run c.in-Ok.ensures.ok asks) c.serve.ensures.call)
@@ -38,14 +38,15 @@ returns-in-Ok-clause-cause g c = call_caused c.in-Ok.asked c.serve.ensures.call 
 pub returns-in-Ok-clause-exactly : goal.returns-in-Ok-clause-exactly
 returns-in-Ok-clause-exactly g c = call_exactly c.in-Ok.asked c.serve.ensures.call c.serve.ensures.faults c.serve.ensures.read_fault c.serve.ensures.too_long
     c.in-Ok.ensures.ok (λ other asks. c.words_ask_one_thing.ensures (map string_bytes c.args.words.now) c.in-Ok.asked other c.in-Ok.ensures.ok asks)
+    (record { place = c.one_damage.ensures.place (g.M.Machine.disk c.args.machine.now).reads; none = c.one_damage.ensures.none (g.M.Machine.disk c.args.machine.now).reads })
     (λ p commands opens. c.standing_files_meet_their_format.ensures.format p _ commands opens.stands)
 
 pub returns-in-Ok-clause-session : goal.returns-in-Ok-clause-session
 returns-in-Ok-clause-session g c = call_goes_on g.M.Machine.disk c.args.machine.now c.serve.new.machine (g.met.M.Machine.lawful c.args.machine.now)
     (λ other asks. call_for _ _ _ _ _ _ (c.words_ask_one_thing.ensures (map string_bytes c.args.words.now) c.in-Ok.asked other c.in-Ok.ensures.ok asks) c.serve.ensures.call)
 
-pub returns-in-Err-Refused-clause-moments : goal.returns-in-Err-Refused-clause-moments
-returns-in-Err-Refused-clause-moments g c = λ p commands asks. absurd (c.in-Err-Refused.ensures.refused (subst IsRefusal (sym c.in-Err-Refused.field-0-is) tt) _ asks)
+pub returns-in-Err-Refused-clause-images : goal.returns-in-Err-Refused-clause-images
+returns-in-Err-Refused-clause-images g c = λ p commands asks. absurd (c.in-Err-Refused.ensures.refused (subst IsRefusal (sym c.in-Err-Refused.field-0-is) tt) _ asks)
 
 pub returns-in-Err-Refused-clause-run : goal.returns-in-Err-Refused-clause-run
 returns-in-Err-Refused-clause-run g c = λ asks. absurd (c.in-Err-Refused.ensures.refused (subst IsRefusal (sym c.in-Err-Refused.field-0-is) tt) _ asks)

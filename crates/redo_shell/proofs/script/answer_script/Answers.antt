@@ -2,7 +2,7 @@ use Rattle.std.proofs.Common.{◌++◌, ◌∙◌, List, ℕ, [], ◌∷◌, Ok,
 use Rattle.std.proofs.lemmas.Result.{IfOk-from_err}
 use Rattle.disk_model.specs.Moments.{passes_none, passes_twice}
 use Rattle.script_lines.specs.Grammar.{lines_of}
-use Rattle.script_lines.specs.Reading.{IsLine, Takes}
+use Rattle.script_lines.specs.Reading.{IsLine, ReadsOn}
 use Rattle.redo_shell.specs.Run.{Going}
 use Rattle.redo_shell.specs.Stages.{stage_of}
 use Rattle.redo_shell.proofs.HoldLemmas.{told_by}
@@ -44,7 +44,7 @@ pub returns-in_err-next-clause-too_long : goal.returns-in_err-next-clause-too_lo
 returns-in_err-next-clause-too_long g c = λ told long.
     let all = takes_on (c.loop-lines.invariant.takes told) (c.next.ensures.takes (c.loop-lines.invariant.told told)) in
     let full = c.in_err-next.ensures.long (cc (too_much c.from_residual-in_err-next.result c.in_err-next.field-0.0 c.from_residual-in_err-next.ensures.1 long)) in
-    subst (λ (n : ℕ). Takes (g.S.Source.left c.args.input.now) (g.S.Source.left c.next.new.input) 0 n) full all
+    subst (λ (n : ℕ). ReadsOn (g.S.Source.left c.args.input.now) (g.S.Source.left c.next.new.input) 0 n) full all
 
 pub returns-in_err-refusing-in_default : goal.returns-in_err-refusing-in_default
 returns-in_err-refusing-in_default g c = record {
@@ -99,23 +99,23 @@ loop-lines-preserved g c = record {
   takes = λ told. takes_on (c.loop-lines.invariant.takes told) (c.next.ensures.takes (c.loop-lines.invariant.told told));
 }
 
-pub returns-in_err-finish-clause-answers : goal.returns-in_err-finish-clause-answers
-returns-in_err-finish-clause-answers g c = λ p commands holds all alone told.
+pub returns-in_err-close_script-clause-answers : goal.returns-in_err-close_script-clause-answers
+returns-in_err-close_script-clause-answers g c = λ p commands holds all alone told.
     let so_far = c.loop-lines.invariant.going p commands holds all alone told in
     let over = ended c.in_ok-next.next _ _ _ (c.in_ok-next.ensures.next (c.loop-lines.invariant.told told)) c.in-End.is in
     let here = goes_to [] so_far over in
-    ends_in_finish c.standing_files_meet_their_format.ensures.few (finish_uncut c.from_residual-in_err-finish.result c.in_err-finish.field-0.0 c.from_residual-in_err-finish.ensures.1 c.in_err-finish.ensures.cause.0) here c.loop-lines.invariant.time (c.finish.ensures.quiet (told_by here.holds)) (λ telling. c.finish.ensures.moments p here.account.commands here.holds telling)
-    (λ telling. c.finish.ensures.steps telling p here.holds.world here.holds.shows)
+    ends_in_finish c.standing_files_meet_their_format.ensures.few (finish_uncut c.from_residual-in_err-close_script.result c.in_err-close_script.field-0.0 c.from_residual-in_err-close_script.ensures.1 c.in_err-close_script.ensures.cause.0) here c.loop-lines.invariant.time (c.close_script.ensures.quiet (told_by here.holds)) (λ telling. c.close_script.ensures.images p here.account.commands here.holds telling)
+    (λ telling. c.close_script.ensures.steps telling p here.holds.world here.holds.shows)
 
-pub returns-in_err-finish-clause-some : goal.returns-in_err-finish-clause-some
-returns-in_err-finish-clause-some g c =
+pub returns-in_err-close_script-clause-some : goal.returns-in_err-close_script-clause-some
+returns-in_err-close_script-clause-some g c =
     let (script, so_far) = c.loop-lines.invariant.some in (
       script,
       λ p commands holds all alone.
           let here = so_far p commands holds all alone in (
-            ends_in_finish c.standing_files_meet_their_format.ensures.few (finish_uncut c.from_residual-in_err-finish.result c.in_err-finish.field-0.0 c.from_residual-in_err-finish.ensures.1 c.in_err-finish.ensures.cause.0) here c.loop-lines.invariant.time (c.finish.ensures.quiet (told_by here.holds)) (λ telling. c.finish.ensures.moments p here.account.commands here.holds telling)
-                (λ telling. c.finish.ensures.steps telling p here.holds.world here.holds.shows),
-            IfOk-from_err c.from_residual-in_err-finish.result _ c.from_residual-in_err-finish.ensures.0,
+            ends_in_finish c.standing_files_meet_their_format.ensures.few (finish_uncut c.from_residual-in_err-close_script.result c.in_err-close_script.field-0.0 c.from_residual-in_err-close_script.ensures.1 c.in_err-close_script.ensures.cause.0) here c.loop-lines.invariant.time (c.close_script.ensures.quiet (told_by here.holds)) (λ telling. c.close_script.ensures.images p here.account.commands here.holds telling)
+                (λ telling. c.close_script.ensures.steps telling p here.holds.world here.holds.shows),
+            IfOk-from_err c.from_residual-in_err-close_script.result _ c.from_residual-in_err-close_script.ensures.0,
           ),
     )
 
@@ -125,11 +125,11 @@ returns-clause-some g c =
       script,
       λ p commands holds all alone.
           let here = so_far p commands holds all alone in
-          let (after, forced, emptied) = c.in_ok-finish.ensures.forced p here.account.commands here.holds in
-          let quiet = c.finish.ensures.quiet (told_by here.holds) in (
-            ends_in_finish c.standing_files_meet_their_format.ensures.few (whole_uncut _) here c.loop-lines.invariant.time quiet (λ telling. c.finish.ensures.moments p here.account.commands here.holds telling)
-                (λ telling. c.finish.ensures.steps telling p here.holds.world here.holds.shows),
-            completes here quiet forced after emptied (c.in_ok-finish.ensures.follows p here.holds.world here.holds.shows),
+          let (after, forced, emptied) = c.in_ok-close_script.ensures.forced p here.account.commands here.holds in
+          let quiet = c.close_script.ensures.quiet (told_by here.holds) in (
+            ends_in_finish c.standing_files_meet_their_format.ensures.few (whole_uncut _) here c.loop-lines.invariant.time quiet (λ telling. c.close_script.ensures.images p here.account.commands here.holds telling)
+                (λ telling. c.close_script.ensures.steps telling p here.holds.world here.holds.shows),
+            completes here quiet forced after emptied (c.in_ok-close_script.ensures.follows p here.holds.world here.holds.shows),
           ),
     )
 
@@ -138,16 +138,16 @@ returns-clause-answers g c = λ p commands holds all alone told.
     let so_far = c.loop-lines.invariant.going p commands holds all alone told in
     let over = ended c.in_ok-next.next _ _ _ (c.in_ok-next.ensures.next (c.loop-lines.invariant.told told)) c.in-End.is in
     let here = goes_to [] so_far over in
-    ends_in_finish c.standing_files_meet_their_format.ensures.few (whole_uncut _) here c.loop-lines.invariant.time (c.finish.ensures.quiet (told_by here.holds)) (λ telling. c.finish.ensures.moments p here.account.commands here.holds telling)
-    (λ telling. c.finish.ensures.steps telling p here.holds.world here.holds.shows)
+    ends_in_finish c.standing_files_meet_their_format.ensures.few (whole_uncut _) here c.loop-lines.invariant.time (c.close_script.ensures.quiet (told_by here.holds)) (λ telling. c.close_script.ensures.images p here.account.commands here.holds telling)
+    (λ telling. c.close_script.ensures.steps telling p here.holds.world here.holds.shows)
 
 pub returns-clause-complete : goal.returns-clause-complete
 returns-clause-complete g c = λ p commands holds all alone told.
     let so_far = c.loop-lines.invariant.going p commands holds all alone told in
     let over = ended c.in_ok-next.next _ _ _ (c.in_ok-next.ensures.next (c.loop-lines.invariant.told told)) c.in-End.is in
     let here = goes_to [] so_far over in
-    let (after, forced, emptied) = c.in_ok-finish.ensures.forced p here.account.commands here.holds in
-    completes here (c.finish.ensures.quiet (told_by here.holds)) forced after emptied (c.in_ok-finish.ensures.follows p here.holds.world here.holds.shows)
+    let (after, forced, emptied) = c.in_ok-close_script.ensures.forced p here.account.commands here.holds in
+    completes here (c.close_script.ensures.quiet (told_by here.holds)) forced after emptied (c.in_ok-close_script.ensures.follows p here.holds.world here.holds.shows)
 
 pub returns-clause-input : goal.returns-clause-input
 returns-clause-input g c = λ told.
@@ -155,7 +155,7 @@ returns-clause-input g c = λ told.
     input_end c.in_ok-next.next _ _ c.next.new.self.ahead (g.S.Source.left c.args.input.now) (g.S.Source.left c.next.new.input) c.next.new.self.taken (c.in_ok-next.ensures.next here) c.in-End.is
     (takes_on (c.loop-lines.invariant.takes told) (c.next.ensures.takes here)) (c.next.ensures.before (c.in_ok-next.was ∙ ap (λ n. Ok n) c.in-End.is))
 
-pub returns-in_err-finish-clause-cause : goal.returns-in_err-finish-clause-cause
-returns-in_err-finish-clause-cause g c =
-    finish_stops c.from_residual-in_err-finish.result c.in_err-finish.field-0.0 (g.M.Machine.disk c.args.machine.now) (g.M.Machine.disk c.loop-lines.machine) (g.M.Machine.disk c.finish.new.machine) (g.S.Source.faults c.args.input.now)
-    (g.S.Source.faults c.next.new.input) c.from_residual-in_err-finish.ensures.1 c.in_err-finish.ensures.cause.0 c.loop-lines.invariant.time c.in_err-finish.ensures.cause.1
+pub returns-in_err-close_script-clause-cause : goal.returns-in_err-close_script-clause-cause
+returns-in_err-close_script-clause-cause g c =
+    finish_stops c.from_residual-in_err-close_script.result c.in_err-close_script.field-0.0 (g.M.Machine.disk c.args.machine.now) (g.M.Machine.disk c.loop-lines.machine) (g.M.Machine.disk c.close_script.new.machine) (g.S.Source.faults c.args.input.now)
+    (g.S.Source.faults c.next.new.input) c.from_residual-in_err-close_script.ensures.1 c.in_err-close_script.ensures.cause.0 c.loop-lines.invariant.time c.in_err-close_script.ensures.cause.1

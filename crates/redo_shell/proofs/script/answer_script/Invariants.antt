@@ -2,7 +2,7 @@ use Rattle.std.proofs.Common.{◌≡◌, ◌≤◌, ◌++◌, List, ℕ, [], len
 use Rattle.disk_model.specs.Disk.{Passes}
 use Rattle.formats.specs.declared.params.Params.{Params}
 use Rattle.script_lines.specs.Grammar.{lines_of}
-use Rattle.script_lines.specs.Reading.{Takes, still_to_give}
+use Rattle.script_lines.specs.Reading.{ReadsOn, still_to_give}
 use Rattle.store_engine.specs.Engine.{forced_in}
 use Rattle.redo_shell.specs.Store.{IsAttached}
 use Rattle.redo_shell.specs.Stages.{stage_of}
@@ -21,7 +21,7 @@ invariant-loop-lines g l = record {
   some : (script : List (List ℕ)) × ((p : Params) (commands : List Command) → (holds : Holds p (g.M.Machine.disk l.fn.machine) l.fn.engine commands) → forced_in l.fn.engine ≡ length commands → l.fn.engine.group ≡ None →
       Going p (stage_of l.fn.engine holds.world) (g.M.Machine.disk l.fn.machine) (g.M.Machine.disk l.machine) l.engine commands script [] l.refusing);
   reads : g.S.Source.faults l.fn.input ≤ g.S.Source.faults l.input;
-  takes : g.S.Source.tells l.fn.input → Takes (g.S.Source.left l.fn.input) (g.S.Source.left l.input) 0 l.lines.taken;
+  takes : g.S.Source.tells l.fn.input → ReadsOn (g.S.Source.left l.fn.input) (g.S.Source.left l.input) 0 l.lines.taken;
 }
 
 abbrev pub decreases-loop-lines : goal.decreases-loop-lines

@@ -1,11 +1,11 @@
 use Rattle.std.proofs.Common.{refl}
 use Rattle.script_lines.specs.Replies.{bad}
 use Rattle.redo_shell.specs.declared.work.Work.TheVariants.{Run, Make, Ask, Tell, Force, Keep, Group, Count, Nothing, Bad}
-use Rattle.redo_shell.proofs.HoldLemmas.{holds_between}
+use Rattle.redo_shell.proofs.HoldLemmas.{always, attached_said, holds_between}
 use Rattle.redo_shell.proofs.LineLemmas.{as_work}
 use Rattle.redo_shell.proofs.MomentLemmas.{works_at_once}
 use Rattle.redo_shell.proofs.RunLemmas.{works_none, found_at_once, said_at_once, stops_before, skipped}
-use Rattle.redo_shell.proofs.line.answer_line.Goals as goal
+use Rattle.redo_shell.proofs.line.answer_request.Goals as goal
 
 pub returns-in_err-work-clause-answers : goal.returns-in_err-work-clause-answers
 returns-in_err-work-clause-answers g c = λ p commands holds.
@@ -52,3 +52,7 @@ returns-in-Bad-clause-answers g c = λ p commands holds.
     let bad_line = as_work c.args.line.now Bad c.in_ok-work.ensures c.in-Bad.is in
     let found = found_at_once {line = c.args.line.now} bad holds (bad_line, refl) (λ f. tt) (λ group. refl) (λ n is. cc) (λ log. refl) in
     said_at_once c.say_answer.result (g.met.M.Machine.lawful c.args.machine.now) holds found c.say_answer.ensures.runs c.say_answer.ensures.all c.say_answer.ensures.kind
+
+pub returns-in-Bad-clause-attached : goal.returns-in-Bad-clause-attached
+returns-in-Bad-clause-attached g c = λ attached. always c.say_answer.result
+    (attached_said (g.M.Machine.disk c.args.machine.now) (g.M.Machine.disk c.say_answer.new.machine) c.args.engine.now c.say_answer.ensures.runs attached)

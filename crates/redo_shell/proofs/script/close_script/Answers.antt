@@ -1,6 +1,6 @@
 use Rattle.std.proofs.Common.{refl}
-use Rattle.redo_shell.proofs.FinishLemmas.{end_closes, finish_follows, finish_forced, finish_moments, finish_steps, force_done, force_failed, forces}
-use Rattle.redo_shell.proofs.script.finish.Goals as goal
+use Rattle.redo_shell.proofs.FinishLemmas.{end_closes, finish_follows, finish_forced, finish_images, finish_steps, force_done, force_failed, forces}
+use Rattle.redo_shell.proofs.script.close_script.Goals as goal
 
 pub returns-in-Ok : goal.returns-in-Ok
 returns-in-Ok g c =
@@ -14,7 +14,7 @@ returns-in-Ok g c =
       quiet = it.call.quiet;
       forced = λ p commands holds. finish_forced it c.in-Ok.field-0 done holds (c.group_is_closed.ensures p holds.world holds.shows) (c.engine_stands.ensures p commands);
       follows = λ p w shows. finish_follows it c.in-Ok.field-0 done w shows (c.group_is_closed.ensures p w shows);
-      moments = λ p commands holds told. finish_moments it holds (c.group_is_closed.ensures p holds.world holds.shows) told;
+      images = λ p commands holds told. finish_images it holds (c.group_is_closed.ensures p holds.world holds.shows) told;
       steps = λ told p w shows. finish_steps it w shows (c.group_is_closed.ensures p w shows) told;
       cause = tt;
     }
@@ -30,7 +30,7 @@ returns-in-Err g c =
       quiet = it.call.quiet;
       forced = λ p commands holds. tt;
       follows = λ p w shows. tt;
-      moments = λ p commands holds told. finish_moments it holds (c.group_is_closed.ensures p holds.world holds.shows) told;
+      images = λ p commands holds told. finish_images it holds (c.group_is_closed.ensures p holds.world holds.shows) told;
       steps = λ told p w shows. finish_steps it w shows (c.group_is_closed.ensures p w shows) told;
       cause = (refl, it.call.fault (force_failed answer c.force-forced.result c.in-Err.field-0 same c.in-Err.is));
     }

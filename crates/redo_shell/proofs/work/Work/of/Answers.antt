@@ -1,0 +1,50 @@
+use Rattle.redo_shell.proofs.LineLemmas.{as_command, as_request}
+use Rattle.redo_shell.proofs.work.Work.of.Goals as goal
+
+pub returns-in-Run : goal.returns-in-Run
+returns-in-Run c = λ bytes asks. as_command bytes c.plain_op.ensures (as_request bytes c.in-Run.is asks)
+
+pub returns-in-AppRun : goal.returns-in-AppRun
+returns-in-AppRun c = λ bytes asks. as_request bytes c.in-AppRun.is asks
+
+pub returns-in-TreeInsert : goal.returns-in-TreeInsert
+returns-in-TreeInsert c = λ bytes asks. as_request bytes c.in-TreeInsert.is asks
+
+pub returns-in-TreeDelete : goal.returns-in-TreeDelete
+returns-in-TreeDelete c = λ bytes asks. as_request bytes c.in-TreeDelete.is asks
+
+pub returns-in-TreeGet : goal.returns-in-TreeGet
+returns-in-TreeGet c = λ bytes asks. as_request bytes c.in-TreeGet.is asks
+
+pub returns-in-TreeRange : goal.returns-in-TreeRange
+returns-in-TreeRange c = λ bytes asks. as_request bytes c.in-TreeRange.is asks
+
+pub returns-in-Get : goal.returns-in-Get
+returns-in-Get c = λ bytes asks. as_request bytes c.in-Get.is asks
+
+pub returns-in-Force : goal.returns-in-Force
+returns-in-Force c = λ bytes asks. as_request bytes c.in-Force.is asks
+
+pub returns-in-Install : goal.returns-in-Install
+returns-in-Install c = λ bytes asks. as_request bytes c.in-Install.is asks
+
+pub returns-in-Drain : goal.returns-in-Drain
+returns-in-Drain c = λ bytes asks. as_request bytes c.in-Drain.is asks
+
+pub returns-in-Checkpoint : goal.returns-in-Checkpoint
+returns-in-Checkpoint c = λ bytes asks. as_request bytes c.in-Checkpoint.is asks
+
+pub returns-in-Trim : goal.returns-in-Trim
+returns-in-Trim c = λ bytes asks. as_request bytes c.in-Trim.is asks
+
+pub returns-in-Begin : goal.returns-in-Begin
+returns-in-Begin c = λ bytes asks. as_request bytes c.in-Begin.is asks
+
+pub returns-in-End : goal.returns-in-End
+returns-in-End c = λ bytes asks. as_request bytes c.in-End.is asks
+
+pub returns-in-Stat : goal.returns-in-Stat
+returns-in-Stat c = λ bytes asks. as_request bytes c.in-Stat.is asks
+
+pub returns-in-Skip : goal.returns-in-Skip
+returns-in-Skip c = λ bytes asks. as_request bytes c.in-Skip.is asks
