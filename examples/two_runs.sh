@@ -31,5 +31,5 @@ redo dump
 begin "$program"
 redo dump
 echo "second: status $?"
-{ kill -KILL $! && wait; } 2>/dev/null
+{ kill -9 $!; wait $!; } 2>/dev/null
 redo dump
