@@ -1,0 +1,13 @@
+# Completion of the words of `redo` in bash.
+_redo() {
+  local word=${COMP_WORDS[COMP_CWORD]} at=1
+  [ "${COMP_WORDS[1]}" != -C ] || at=3
+  if [ "$COMP_CWORD" = 2 ] && [ "$at" = 3 ]; then
+    mapfile -t COMPREPLY < <(compgen -d -- "$word")
+  elif [ "$COMP_CWORD" = "$at" ]; then
+    mapfile -t COMPREPLY < <(compgen -W "init run dump demo help --version --help -C" -- "$word")
+  elif [ "${COMP_WORDS[at]}" = demo ]; then
+    mapfile -t COMPREPLY < <(compgen -W "--seed --steps --help" -- "$word")
+  fi
+}
+complete -F _redo redo
