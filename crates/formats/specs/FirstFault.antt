@@ -7,10 +7,12 @@ use Rattle.disk_model.specs.Disk.{Files}
 use Rattle.disk_model.specs.declared.machine.FileNo.{FileNo}
 use Rattle.disk_model.specs.declared.machine.FileNo.TheVariants.{Objects, LogA, LogB}
 use Rattle.formats.specs.Bytes.{number_at, IsOpenAt}
-use Rattle.formats.specs.Objects.{IsObjectsFile, bounds_of, last_slot, identifier_at, length_at}
+use Rattle.formats.specs.Objects.{IsObjectsFile, bounds_of, form_in, params_in, layout_in, place_in, last_slot, identifier_at, length_at}
 use Rattle.formats.specs.Log.{Header, IsClosedLog}
 use Rattle.formats.specs.InForce.{HasHeader, IsInForce}
-use Rattle.formats.specs.Image.{IsWithin, params_in, place_in, IsOpenSlot, IsBlockFault, IsRecordFault, IsLateSlot}
+use Rattle.formats.specs.declared.form.Form.{Form}
+use Rattle.formats.specs.declared.params.Params.{Params}
+use Rattle.formats.specs.Image.{IsWithin, AreObjects, IsCap, IsLimit, IsOpenSlot, IsBlockFault, IsRecordFault, IsLateSlot}
 
 -- A check of what has this place, and the checks after it: it fails, or it passes, and the first of those after it
 -- that fails has this place.
@@ -50,29 +52,35 @@ AreApart one other file = IsOpenAt one file → IsOpenAt other file → identifi
 abbrev pub PairChecks : List ℕ → ℕ → ℕ → Type 0
 PairChecks file x =
     Checks (place_in file x 0 + 1) (HasNumber (place_in file x 0) file) (
-    Checks (place_in file x 0 + 9) (HasValue (number_at 4 13 file) (place_in file x 0) file) (
+    Checks (place_in file x 0 + 9) (HasValue (params_in file).cap (place_in file x 0) file) (
     Checks (place_in file x 1 + 1) (HasNumber (place_in file x 1) file) (
-    Checks (place_in file x 1 + 9) (HasValue (number_at 4 13 file) (place_in file x 1) file) (
+    Checks (place_in file x 1 + 9) (HasValue (params_in file).cap (place_in file x 1) file) (
     Checks (place_in file x 1 + 1) (AreApart (place_in file x 0) (place_in file x 1) file) NoMore))))
 
 -- the checks of the slots, object by object: those of the objects before this one pass
 pub record SlotChecks (file : List ℕ) (place : ℕ) : Type 0 where
   pub x : ℕ
-  pub below : x < number_at 4 9 file
+  pub below : x < (params_in file).objects
   pub before : (y other : ℕ) → y < x → PairChecks file y other → ⊥
   pub fault : PairChecks file x place
 
--- the checks of the header of the objects file, and those after them
-abbrev pub ObjectsChecks : List ℕ → (ℕ → Type 0) → ℕ → Type 0
-ObjectsChecks file behind =
-    Checks 1 (take 8 (drop 1 file) ≡ codes "RDOOBJ01") (
-    Checks 9 (IsWithin 1 4096 (number_at 4 9 file)) (
-    Checks 13 (IsWithin 16 16384 (number_at 4 13 file)) (
-    Checks 17 (IsWithin (2 * number_at 4 13 file + 4096) 536870912 (number_at 4 17 file)) behind)))
+-- the checks of the header of the objects file: the magic, and the bounds of the smaller store that was there before
+abbrev pub HeadChecks : List ℕ → (ℕ → Type 0) → ℕ → Type 0
+HeadChecks file behind =
+    Checks 1 (take 7 (drop 1 file) ≡ codes "RDOOBJ0") (
+    Checks 9 ((form_in file).older.objects ≤ 4096) (
+    Checks 13 ((form_in file).older.cap ≤ 16384) behind))
+
+-- the checks of a store's numbers in a file of this form
+abbrev pub NumberChecks : Form → Params → (ℕ → Type 0) → ℕ → Type 0
+NumberChecks form p behind =
+    Checks form.numbers (AreObjects form p) (
+    Checks (form.numbers + 4) (IsCap form p) (
+    Checks (form.numbers + 8) (IsLimit p) behind))
 
 -- the checks of the objects file: the first that fails is reported at this place
 abbrev pub IsFirstObjectsFault : List ℕ → ℕ → Type 0
-IsFirstObjectsFault file = ObjectsChecks file (Checks 0 (last_slot (params_in file) < length file) (SlotChecks file))
+IsFirstObjectsFault file = HeadChecks file (NumberChecks (form_in file) (params_in file) (Checks 0 (last_slot (layout_in file) < length file) (SlotChecks file)))
 
 -- the checks of a log's header whose gate is open, and those after them
 abbrev pub LogChecks : List ℕ → (ℕ → Type 0) → ℕ → Type 0

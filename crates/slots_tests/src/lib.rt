@@ -12,6 +12,8 @@ mod frail_files;
 #[cfg(test)]
 mod growing;
 #[cfg(test)]
+mod layouts;
+#[cfg(test)]
 mod replacing;
 #[cfg(test)]
 mod slots;

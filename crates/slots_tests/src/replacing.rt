@@ -83,6 +83,45 @@ fn takes_turns(store: &mut Store) -> bool {
     (calls == [5, 5]) & (third == 7) & ([two, three] == [[true; 2]; 2])
 }
 
+// The length that is known of an object, 0 where there is no such object.
+fn length(slots: &Slots, object: u32) -> u32 {
+    if object < slots.params().objects {
+        slots.length(object)
+    } else {
+        0
+    }
+}
+
+// The lengths that are known of object 0 before and after three values, and those of objects 0 and 1 once the file is loaded
+// again, after the second value and after the third.
+fn lengths(alloc: Global) -> Result<[u32; 8], Fail> {
+    let mut store = Store::new(alloc)?;
+    let none = length(&store.slots, 0);
+    store.put(1, &[0xaa]);
+    let one = length(&store.slots, 0);
+    store.put(256, &[0xcc, 0xcd]);
+    let two = length(&store.slots, 0);
+    let again = Slots::load(alloc, &mut store.machine)?;
+    store.put(300, &[]);
+    let last = Slots::load(alloc, &mut store.machine)?;
+    Ok([
+        none,
+        one,
+        two,
+        length(&store.slots, 0),
+        length(&again, 0),
+        length(&again, 1),
+        length(&last, 0),
+        length(&last, 1),
+    ])
+}
+
+#[test]
+fn lengths_are_known(rt: HostRuntime) -> Result<(), Fail> {
+    assert!(rt; lengths(rt.alloc())? == [0, 1, 2, 0, 2, 0, 0, 0]);
+    Ok(())
+}
+
 #[test]
 fn values_go_into_the_slots_by_turns(rt: HostRuntime) -> Result<(), Fail> {
     let mut store = Store::new(rt.alloc())?;

@@ -100,7 +100,7 @@ const FAULTS: [(u64, &[u8], Option<u64>); 15] = [
     (0, &[0], None),
     (0, &[7, 0], None),
     (1, &[0], Some(1)),
-    (8, &[0, 0], Some(1)),
+    (7, &[0, 0], Some(1)),
     (9, &[0], Some(9)),
     (9, &[0x01, 0x10], Some(9)),
     (12, &[1, 15], Some(9)),
@@ -246,13 +246,13 @@ fn calls_to_load(alloc: Global, objects: u32, cap: u32, last: u64) -> Result<u64
     Ok(if loaded { calls } else { 0 })
 }
 
-// N, CAP, the place of the last gate, and the calls: three for the header and the file's length, and the others for the
-// heads, of which a read of 64 KiB gives 851 in the first row. In the last row each is read by itself.
+// N, CAP, the place of the last gate, and the calls: four for the header, the numbers and the file's length, and the others
+// for the heads, of which a read of 64 KiB gives 851 in the first row. In the last row each is read by itself.
 const LOADS: [(u32, u32, u64, u64); 4] = [
-    (4096, 64, 630739, 13),
-    (8, 64, 1187, 4),
-    (8, 4096, 61667, 4),
-    (8, 4097, 61682, 19),
+    (4096, 64, 630739, 14),
+    (8, 64, 1187, 5),
+    (8, 4096, 61667, 5),
+    (8, 4097, 61682, 20),
 ];
 
 #[test]

@@ -1,9 +1,10 @@
 -- What slots hold, and what of it a change within one slot leaves.
-use Rattle.std.proofs.Common.{◌≡◌, ◌≢◌, inl, inr, ◌<◌, ◌≤◌, ◌-◌, ℕ, zero, suc, Bool, true, false, if◌then◌else◌, nat_lt, List, [], refl, sym, ◌∙◌, ap, arith}
+use Rattle.std.proofs.Common.{◌≡◌, ◌≢◌, inl, inr, ◌<◌, ◌≤◌, ◌-◌, ℕ, zero, suc, Bool, true, false, if◌then◌else◌, nat_lt, List, [], refl, sym, ◌∙◌, ap, subst, arith}
 use Rattle.std.proofs.lemmas.Bool.{cases_eq, eq-eqb, ne_eqb, lt-ltb, le-ltb}
 use Rattle.formats.specs.Bytes.{byte_at, IsOpenAt, IsClosedAt}
 use Rattle.oper_core.specs.Cell.{Cell}
-use Rattle.formats.specs.Objects.{AreSlotsWhole, IsWholeSlot, slot_place, identifier_at, value_at, open_identifier, cell_at, cell_of}
+use Rattle.formats.specs.Objects.{AreSlotsWhole, IsWholeSlot, slot_place, layout_in, place_in, identifier_at, value_at, open_identifier, cell_at, cell_of}
+use Rattle.formats.specs.declared.layout.Layout.{Layout}
 use Rattle.formats.specs.declared.params.Params.{Params}
 
 abbrev pub no_cell : Cell
@@ -22,12 +23,27 @@ closed_cell place file closed = ap (λ (b : Bool). record { id = if b then ident
 abbrev pub greater : Cell → Cell → Cell
 greater a b = if nat_lt a.id b.id then b else a
 
-chosen : (cap x : ℕ) (file : List ℕ) (b : Bool) → cell_at (slot_place cap x (if b then 1 else 0)) file ≡ (if b then cell_at (slot_place cap x 1) file else cell_at (slot_place cap x 0) file)
-chosen cap x file true = refl
-chosen cap x file false = refl
+-- what an object holds, where its slots stand so
+abbrev pub held_by : Layout → ℕ → List ℕ → Cell
+held_by layout x file = greater (cell_at (slot_place layout x 0) file) (cell_at (slot_place layout x 1) file)
 
-pub cell_is_greater : (cap x : ℕ) (file : List ℕ) → cell_of cap x file ≡ greater (cell_at (slot_place cap x 0) file) (cell_at (slot_place cap x 1) file)
-cell_is_greater cap x file = chosen cap x file (nat_lt (open_identifier (slot_place cap x 0) file) (open_identifier (slot_place cap x 1) file))
+chosen : (x : ℕ) (file : List ℕ) (b : Bool) → cell_at (place_in file x (if b then 1 else 0)) file ≡ (if b then cell_at (place_in file x 1) file else cell_at (place_in file x 0) file)
+chosen x file true = refl
+chosen x file false = refl
+
+pub cell_is_held : (layout : Layout) (x : ℕ) (file : List ℕ) → layout_in file ≡ layout → cell_of x file ≡ held_by layout x file
+cell_is_held layout x file same = chosen x file (nat_lt (open_identifier (place_in file x 0) file) (open_identifier (place_in file x 1) file)) ∙ ap (λ (l : Layout). held_by l x file) same
+
+-- each open slot is whole, where the slots stand so
+pub record AreWholeBy (layout : Layout) (p : Params) (file : List ℕ) : Type 0 where
+  pub each : (x s : ℕ) → x < p.objects → s < 2 → IsOpenAt (slot_place layout x s) file → IsWholeSlot p.cap (slot_place layout x s) file
+  pub apart : (x : ℕ) → x < p.objects → IsOpenAt (slot_place layout x 0) file → IsOpenAt (slot_place layout x 1) file → identifier_at (slot_place layout x 0) file ≢ identifier_at (slot_place layout x 1) file
+
+pub whole_by : (p : Params) (file : List ℕ) → AreSlotsWhole p file → AreWholeBy (layout_in file) p file
+whole_by p file slots = record { each = slots.each; apart = slots.apart }
+
+pub whole_in : (layout : Layout) (p : Params) (file : List ℕ) → layout_in file ≡ layout → AreWholeBy layout p file → AreSlotsWhole p file
+whole_in layout p file same slots = let here = subst (λ (l : Layout). AreWholeBy l p file) (sym same) slots in record { each = here.each; apart = here.apart }
 
 second_is_greater : (a b : Cell) → a.id < b.id → greater a b ≡ b
 second_is_greater a b less = ap (λ (c : Bool). if c then b else a) (lt-ltb a.id b.id less)
@@ -49,9 +65,9 @@ open_where_some place file some = elim (cases_eq (byte_at place file) 1) [
 ]
 
 -- two slots of one object with one identifier are closed
-module _ (p : Params) (x : ℕ) (file : List ℕ) (slots : AreSlotsWhole p file) (below : x < p.objects) where
+module _ (layout : Layout) (p : Params) (x : ℕ) (file : List ℕ) (slots : AreWholeBy layout p file) (below : x < p.objects) where
   abbrev place : ℕ → ℕ
-  place s = slot_place p.cap x s
+  place s = slot_place layout x s
 
   first_none : open_identifier (place 0) file ≡ open_identifier (place 1) file → cell_at (place 0) file ≡ no_cell
   first_none same = elim (cases_eq (byte_at (place 0) file) 1) [
@@ -72,12 +88,12 @@ module _ (p : Params) (x : ℕ) (file : List ℕ) (slots : AreSlotsWhole p file)
       closed_cell (place 1) file (closed_where_none p.cap (place 1) file (slots.each x 1 below (omega arith)) (sym same ∙ none))
 
   -- an object is held by the slot whose identifier is no smaller
-  pub held_in : (s : ℕ) → s < 2 → open_identifier (place s) file ≤ open_identifier (place (1 - s)) file → cell_of p.cap x file ≡ cell_at (place (1 - s)) file
-  held_in zero two le = cell_is_greater p.cap x file ∙ elim (cases_eq (open_identifier (place 0) file) (open_identifier (place 1) file)) [
+  pub held_in : (s : ℕ) → s < 2 → open_identifier (place s) file ≤ open_identifier (place (1 - s)) file → held_by layout x file ≡ cell_at (place (1 - s)) file
+  held_in zero two le = elim (cases_eq (open_identifier (place 0) file) (open_identifier (place 1) file)) [
     | inl same ↦ first_is_greater (cell_at (place 0) file) (cell_at (place 1) file) (omega (arith, same)) ∙ first_none same ∙ sym (second_none same)
     | inr other ↦ second_is_greater (cell_at (place 0) file) (cell_at (place 1) file) (omega (arith, le, other))
   ]
-  held_in (suc zero) two le = cell_is_greater p.cap x file ∙ first_is_greater (cell_at (place 0) file) (cell_at (place 1) file) le
+  held_in (suc zero) two le = first_is_greater (cell_at (place 0) file) (cell_at (place 1) file) le
   held_in (suc (suc s)) two le = absurd (omega (arith, two))
 
   -- and where the other one is open, its identifier is smaller

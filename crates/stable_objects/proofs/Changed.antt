@@ -1,14 +1,17 @@
 -- An objects file that changes within one slot.
-use Rattle.std.proofs.Common.{◌≡◌, ◌≢◌, ◌⊎◌, inl, inr, ◌<◌, ◌≤◌, ◌+◌, ◌-◌, ◌*◌, ◌^◌, ℕ, zero, suc, List, length, take, drop, sym, ◌∙◌, ap, subst, arith}
+use Rattle.std.proofs.Common.{◌≡◌, ◌≢◌, ◌⊎◌, inl, inr, ◌<◌, ◌≤◌, ◌+◌, ◌-◌, ◌*◌, ◌^◌, ℕ, zero, suc, List, length, take, drop, refl, sym, ◌∙◌, ap, subst, arith}
 use Rattle.std.proofs.lemmas.Bool.{cases_eq}
 use Rattle.formats.specs.Bytes.{byte_at, IsOpenAt, IsClosedAt}
 use Rattle.oper_core.specs.Cell.{Cell}
-use Rattle.formats.specs.Objects.{IsObjectsFile, IsWholeSlot, slot_place, identifier_at, length_at, value_at, open_identifier, cell_at, cell_of}
+use Rattle.formats.specs.Objects.{IsObjectsFile, IsWholeSlot, slot_place, form_in, params_in, layout_in, place_in, identifier_at, length_at, value_at, open_identifier, cell_at, cell_of}
+use Rattle.formats.specs.declared.layout.Layout.{Layout}
 use Rattle.formats.specs.declared.params.Params.{Params}
+use Rattle.stable_objects.specs.SlotGates.{slot_gate}
 use Rattle.stable_objects.specs.Replacing.{AgreesOutside, IsFilled, OthersKept}
 use Rattle.stable_objects.proofs.Outside.{IsBeside, byte_beside, read_same, number_stays}
 use Rattle.stable_objects.proofs.Places.{places_apart, place_within}
-use Rattle.stable_objects.proofs.Cells.{whole_cell, open_cell, closed_cell, greater, cell_is_greater, held_in}
+use Rattle.stable_objects.proofs.Cells.{AreWholeBy, whole_by, whole_cell, open_cell, closed_cell, greater, held_by, cell_is_held, held_in}
+use Rattle.stable_objects.proofs.Headed.{layout_kept, headed}
 
 -- a slot holds what it held
 pub record SlotStays (cap place : ℕ) (old new : List ℕ) : Type 0 where
@@ -60,14 +63,14 @@ slot_stays cap at place old new agrees reach apart within slot =
     }
 
 -- the two slots of an object differ still
-apart_here : (cap x : ℕ) (old new : List ℕ) (s : ℕ) → s < 2 → cell_at (slot_place cap x (1 - s)) new ≡ cell_at (slot_place cap x (1 - s)) old
-    → (IsOpenAt (slot_place cap x s) new → identifier_at (slot_place cap x s) new ≢ open_identifier (slot_place cap x (1 - s)) old)
-    → IsOpenAt (slot_place cap x 0) new → IsOpenAt (slot_place cap x 1) new → identifier_at (slot_place cap x 0) new ≢ identifier_at (slot_place cap x 1) new
-apart_here cap x old new zero two stays other first second same =
-    other first (same ∙ sym (ap (λ (c : Cell). c.id) (open_cell (slot_place cap x 1) new second)) ∙ ap (λ (c : Cell). c.id) stays)
-apart_here cap x old new (suc zero) two stays other first second same =
-    other second (sym same ∙ sym (ap (λ (c : Cell). c.id) (open_cell (slot_place cap x 0) new first)) ∙ ap (λ (c : Cell). c.id) stays)
-apart_here cap x old new (suc (suc s)) two stays other first second same = absurd (omega (arith, two))
+apart_here : (layout : Layout) (x : ℕ) (old new : List ℕ) (s : ℕ) → s < 2 → cell_at (slot_place layout x (1 - s)) new ≡ cell_at (slot_place layout x (1 - s)) old
+    → (IsOpenAt (slot_place layout x s) new → identifier_at (slot_place layout x s) new ≢ open_identifier (slot_place layout x (1 - s)) old)
+    → IsOpenAt (slot_place layout x 0) new → IsOpenAt (slot_place layout x 1) new → identifier_at (slot_place layout x 0) new ≢ identifier_at (slot_place layout x 1) new
+apart_here layout x old new zero two stays other first second same =
+    other first (same ∙ sym (ap (λ (c : Cell). c.id) (open_cell (slot_place layout x 1) new second)) ∙ ap (λ (c : Cell). c.id) stays)
+apart_here layout x old new (suc zero) two stays other first second same =
+    other second (sym same ∙ sym (ap (λ (c : Cell). c.id) (open_cell (slot_place layout x 0) new first)) ∙ ap (λ (c : Cell). c.id) stays)
+apart_here layout x old new (suc (suc s)) two stays other first second same = absurd (omega (arith, two))
 
 -- while its slot is closed, or has a smaller identifier, an object is held by the other
 pub record IsLower (cap place bound : ℕ) (file : List ℕ) : Type 0 where
@@ -77,108 +80,117 @@ pub record IsLower (cap place bound : ℕ) (file : List ℕ) : Type 0 where
 -- a whole file in which each object has its pair
 pub record IsKept (p : Params) (x : ℕ) (old new : List ℕ) : Type 0 where
   pub whole : IsObjectsFile p new
-  pub held : cell_of p.cap x new ≡ cell_of p.cap x old
+  pub held : cell_of x new ≡ cell_of x old
   pub others : OthersKept p x old new
 
 -- or this object the new one
 pub record IsRenewed (p : Params) (x id : ℕ) (value old new : List ℕ) : Type 0 where
   pub whole : IsObjectsFile p new
-  pub held : cell_of p.cap x new ≡ record { id = id; value = value }
+  pub held : cell_of x new ≡ record { id = id; value = value }
   pub others : OthersKept p x old new
 
-module _ (p : Params) (x s : ℕ) (old new : List ℕ) (is : IsObjectsFile p old) (below : x < p.objects) (two : s < 2) (agrees : AgreesOutside (slot_place p.cap x s) (13 + p.cap) old new) where
-  pub each_stays : (y t : ℕ) → y < p.objects → t < 2 → 2 * y + t ≢ 2 * x + s → SlotStays p.cap (slot_place p.cap y t) old new
-  each_stays y t below_y two_t other =
-      slot_stays p.cap (slot_place p.cap x s) (slot_place p.cap y t) old new agrees (omega (arith, place_within p old x s is.whole below two)) (places_apart p.cap x s y t other) (place_within p old y t is.whole below_y two_t) (is.slots.each y t below_y two_t)
+module _ (p : Params) (x s : ℕ) (old new : List ℕ) (is : IsObjectsFile p old) (below : x < p.objects) (two : s < 2) (agrees : AgreesOutside (place_in old x s) (13 + p.cap) old new) where
+  cap_is : (params_in old).cap ≡ p.cap
+  cap_is = ap (λ (q : Params). q.cap) is.params
 
-  pub other_stays : SlotStays p.cap (slot_place p.cap x (1 - s)) old new
+  count_is : (params_in old).objects ≡ p.objects
+  count_is = ap (λ (q : Params). q.objects) is.params
+
+  before : (form_in old).first ≤ place_in old x s
+  before = omega arith
+
+  pub stands : layout_in new ≡ layout_in old
+  stands = layout_kept p (place_in old x s) (13 + p.cap) old new is agrees before
+
+  within : (y t : ℕ) → y < p.objects → t < 2 → place_in old y t < length old
+  within y t below_y two_t = place_within (layout_in old) old y t is.whole (omega (arith, below_y, count_is)) two_t
+
+  apart_from : (y t : ℕ) → 2 * y + t ≢ 2 * x + s → (place_in old y t + (13 + p.cap) ≤ place_in old x s) ⊎ (place_in old x s + (13 + p.cap) ≤ place_in old y t)
+  apart_from y t other = subst (λ (c : ℕ). (place_in old y t + (13 + c) ≤ place_in old x s) ⊎ (place_in old x s + (13 + c) ≤ place_in old y t)) cap_is (places_apart (layout_in old) x s y t other)
+
+  pub each_stays : (y t : ℕ) → y < p.objects → t < 2 → 2 * y + t ≢ 2 * x + s → SlotStays p.cap (place_in old y t) old new
+  each_stays y t below_y two_t other =
+      slot_stays p.cap (place_in old x s) (place_in old y t) old new agrees (omega (arith, within x s below two)) (apart_from y t other) (within y t below_y two_t) (is.slots.each y t below_y two_t)
+
+  pub other_stays : SlotStays p.cap (place_in old x (1 - s)) old new
   other_stays = each_stays x (1 - s) below (omega arith) (λ same. omega (arith, same, two))
 
   pub others_kept : OthersKept p x old new
   others_kept y below_y other =
       let first = (each_stays y 0 below_y (omega arith) (λ same. omega (arith, same, other, two))).cell in
       let second = (each_stays y 1 below_y (omega arith) (λ same. omega (arith, same, other, two))).cell in
-      let both : greater (cell_at (slot_place p.cap y 0) new) (cell_at (slot_place p.cap y 1) new) ≡ greater (cell_at (slot_place p.cap y 0) old) (cell_at (slot_place p.cap y 1) old) =
-      λ i. greater (first i) (second i) in
-      cell_is_greater p.cap y new ∙ both ∙ sym (cell_is_greater p.cap y old)
+      let both : held_by (layout_in old) y new ≡ held_by (layout_in old) y old = λ i. greater (first i) (second i) in
+      cell_is_held (layout_in old) y new stands ∙ both ∙ sym (cell_is_held (layout_in old) y old refl)
 
-  header : take 21 new ≡ take 21 old
-  header = read_same (slot_place p.cap x s) (13 + p.cap) old new agrees 0 21 (inl (omega arith, omega (arith, is.whole)))
-
-  -- the file is whole where the slot is
-  pub whole_file : (IsOpenAt (slot_place p.cap x s) new → IsWholeSlot p.cap (slot_place p.cap x s) new)
-      → (IsOpenAt (slot_place p.cap x s) new → identifier_at (slot_place p.cap x s) new ≢ open_identifier (slot_place p.cap x (1 - s)) old) → IsObjectsFile p new
-  whole_file slot other = record {
-    header = header ∙ is.header;
-    in_range = is.in_range;
-    whole = omega (arith, is.whole, agrees.no_shorter);
-    slots = record {
-      each = λ y t below_y two_t. elim (cases_eq (2 * y + t) (2 * x + s)) [
-        | inl same ↦
-            let places : slot_place p.cap y t ≡ slot_place p.cap x s = ap (λ (k : ℕ). 32 + k * (13 + p.cap)) same in
-            subst (λ (q : ℕ). IsOpenAt q new → IsWholeSlot p.cap q new) (sym places) slot
-        | inr differs ↦ (each_stays y t below_y two_t differs).whole
-      ];
-      apart = λ y below_y. elim (cases_eq y x) [
-        | inl same ↦ subst (λ (z : ℕ). IsOpenAt (slot_place p.cap z 0) new → IsOpenAt (slot_place p.cap z 1) new → identifier_at (slot_place p.cap z 0) new ≢ identifier_at (slot_place p.cap z 1) new)
-            (sym same) (apart_here p.cap x old new s two other_stays.cell other)
-        | inr differs ↦ λ first second alike.
-            let one = each_stays y 0 below_y (omega arith) (λ same. omega (arith, same, differs, two)) in
-            let next = each_stays y 1 below_y (omega arith) (λ same. omega (arith, same, differs, two)) in
-            let id : (q : ℕ) → IsOpenAt q new → SlotStays p.cap q old new → identifier_at q new ≡ identifier_at q old = λ q is_open stays.
-            sym (ap (λ (c : Cell). c.id) (open_cell q new is_open)) ∙ ap (λ (c : Cell). c.id) stays.cell ∙ ap (λ (c : Cell). c.id) (open_cell q old (sym stays.gate ∙ is_open)) in
-            is.slots.apart y below_y (sym one.gate ∙ first) (sym next.gate ∙ second) (sym (id (slot_place p.cap y 0) first one) ∙ alike ∙ id (slot_place p.cap y 1) second next)
-      ];
-    };
+  slots_whole : (IsOpenAt (place_in old x s) new → IsWholeSlot p.cap (place_in old x s) new)
+      → (IsOpenAt (place_in old x s) new → identifier_at (place_in old x s) new ≢ open_identifier (place_in old x (1 - s)) old) → AreWholeBy (layout_in old) p new
+  slots_whole slot other = record {
+    each = λ y t below_y two_t. elim (cases_eq (2 * y + t) (2 * x + s)) [
+      | inl same ↦
+          let places : place_in old y t ≡ place_in old x s = ap (λ (k : ℕ). slot_gate (layout_in old) k) same in
+          subst (λ (q : ℕ). IsOpenAt q new → IsWholeSlot p.cap q new) (sym places) slot
+      | inr differs ↦ (each_stays y t below_y two_t differs).whole
+    ];
+    apart = λ y below_y. elim (cases_eq y x) [
+      | inl same ↦ subst (λ (z : ℕ). IsOpenAt (place_in old z 0) new → IsOpenAt (place_in old z 1) new → identifier_at (place_in old z 0) new ≢ identifier_at (place_in old z 1) new)
+          (sym same) (apart_here (layout_in old) x old new s two other_stays.cell other)
+      | inr differs ↦ λ first second alike.
+          let one = each_stays y 0 below_y (omega arith) (λ same. omega (arith, same, differs, two)) in
+          let next = each_stays y 1 below_y (omega arith) (λ same. omega (arith, same, differs, two)) in
+          let id : (q : ℕ) → IsOpenAt q new → SlotStays p.cap q old new → identifier_at q new ≡ identifier_at q old = λ q is_open stays.
+          sym (ap (λ (c : Cell). c.id) (open_cell q new is_open)) ∙ ap (λ (c : Cell). c.id) stays.cell ∙ ap (λ (c : Cell). c.id) (open_cell q old (sym stays.gate ∙ is_open)) in
+          is.slots.apart y below_y (sym one.gate ∙ first) (sym next.gate ∙ second) (sym (id (place_in old y 0) first one) ∙ alike ∙ id (place_in old y 1) second next)
+    ];
   }
 
-  abbrev there : ℕ
-  there = slot_place p.cap x (1 - s)
-
-  other_id : open_identifier there new ≡ open_identifier there old
+  other_id : open_identifier (place_in old x (1 - s)) new ≡ open_identifier (place_in old x (1 - s)) old
   other_id = ap (λ (c : Cell). c.id) other_stays.cell
 
-  lower_whole : IsLower p.cap (slot_place p.cap x s) (open_identifier there old) new → IsObjectsFile p new
-  lower_whole lower = whole_file lower.slot (λ is_open same. let less = lower.less is_open in omega (arith, less, same))
-
-  no_greater : IsLower p.cap (slot_place p.cap x s) (open_identifier there old) new → open_identifier (slot_place p.cap x s) new ≤ open_identifier there new
-  no_greater lower = elim (cases_eq (byte_at (slot_place p.cap x s) new) 1) [
+  no_greater : IsLower p.cap (place_in old x s) (open_identifier (place_in old x (1 - s)) old) new → open_identifier (place_in old x s) new ≤ open_identifier (place_in old x (1 - s)) new
+  no_greater lower = elim (cases_eq (byte_at (place_in old x s) new) 1) [
     | inl is_open ↦
         let less = lower.less is_open in
-        let id = ap (λ (c : Cell). c.id) (open_cell (slot_place p.cap x s) new is_open) in
+        let id = ap (λ (c : Cell). c.id) (open_cell (place_in old x s) new is_open) in
         omega (arith, less, id, other_id)
-    | inr closed ↦ let none = ap (λ (c : Cell). c.id) (closed_cell (slot_place p.cap x s) new closed) in omega (arith, none)
+    | inr closed ↦ let none = ap (λ (c : Cell). c.id) (closed_cell (place_in old x s) new closed) in omega (arith, none)
   ]
 
   -- an object keeps its pair while its other slot is closed, or has a smaller identifier
-  pub kept : open_identifier (slot_place p.cap x s) old ≤ open_identifier there old → IsLower p.cap (slot_place p.cap x s) (open_identifier there old) new → IsKept p x old new
+  pub kept : open_identifier (place_in old x s) old ≤ open_identifier (place_in old x (1 - s)) old → IsLower p.cap (place_in old x s) (open_identifier (place_in old x (1 - s)) old) new → IsKept p x old new
   kept le lower =
-      let whole = lower_whole lower in
+      let slots = slots_whole lower.slot (λ is_open same. let less = lower.less is_open in omega (arith, less, same)) in
       record {
-        whole = whole;
-        held = held_in p x new whole.slots below s two (no_greater lower) ∙ other_stays.cell ∙ sym (held_in p x old is.slots below s two le);
+        whole = headed p (place_in old x s) (13 + p.cap) old new is agrees before slots;
+        held = cell_is_held (layout_in old) x new stands
+            ∙ held_in (layout_in old) p x new slots below s two (no_greater lower)
+            ∙ other_stays.cell
+            ∙ sym (held_in (layout_in old) p x old (whole_by p old is.slots) below s two le)
+            ∙ sym (cell_is_held (layout_in old) x old refl);
         others = others_kept;
       }
 
   -- and has the new one once that slot is open
-  pub renewed : (id : ℕ) (value : List ℕ) → open_identifier there old < id → id < 2 ^ 62 → length value ≤ p.cap → IsOpenAt (slot_place p.cap x s) new → IsFilled (slot_place p.cap x s) id value new → IsRenewed p x id value old new
+  pub renewed : (id : ℕ) (value : List ℕ) → open_identifier (place_in old x (1 - s)) old < id → id < 2 ^ 62 → length value ≤ p.cap → IsOpenAt (place_in old x s) new → IsFilled (place_in old x s) id value new
+      → IsRenewed p x id value old new
   renewed id value later numbered short is_open filled =
-      let place = slot_place p.cap x s in
+      let place = place_in old x s in
+      let there = place_in old x (1 - s) in
       let slot : IsWholeSlot p.cap place new = record {
         some = omega (arith, later, filled.numbered);
         numbered = omega (arith, numbered, filled.numbered);
         short = omega (arith, short, filled.long);
         within = λ some. omega (arith, filled.long, filled.within);
       } in
-      let whole = whole_file (λ opened. slot) (λ opened same. omega (arith, same, later, filled.numbered)) in
+      let slots = slots_whole (λ opened. slot) (λ opened same. omega (arith, same, later, filled.numbered)) in
       let again : 1 - (1 - s) ≡ s = omega (arith, two) in
       let here = ap (λ (c : Cell). c.id) (open_cell place new is_open) in
       let le : open_identifier there new ≤ open_identifier place new = omega (arith, here, filled.numbered, other_id, later) in
       let cells : whole_cell place new ≡ record { id = id; value = value } = λ i. record { id = filled.numbered i; value = filled.stands i } in
       record {
-        whole = whole;
-        held = held_in p x new whole.slots below (1 - s) (omega arith) (subst (λ (t : ℕ). open_identifier there new ≤ open_identifier (slot_place p.cap x t) new) (sym again) le)
-            ∙ ap (λ (t : ℕ). cell_at (slot_place p.cap x t) new) again
+        whole = headed p (place_in old x s) (13 + p.cap) old new is agrees before slots;
+        held = cell_is_held (layout_in old) x new stands
+            ∙ held_in (layout_in old) p x new slots below (1 - s) (omega arith) (subst (λ (t : ℕ). open_identifier there new ≤ open_identifier (place_in old x t) new) (sym again) le)
+            ∙ ap (λ (t : ℕ). cell_at (place_in old x t) new) again
             ∙ open_cell place new is_open
             ∙ cells;
         others = others_kept;

@@ -4,9 +4,8 @@ use Rattle.std.specs.Prelude.{Bool, true, false, cond, ◌&&◌, nat_lt, nat_le,
 use Rattle.std.specs.List.{position_or_len}
 use Rattle.std.proofs.lemmas.Bool.{leb-true, leb-false, ltb-true, ltb-false, and_parts, and_cases, cases_Bool, cases_lt}
 use Rattle.std.proofs.lemmas.List.Quantifiers.{position-Some}
-use Rattle.formats.specs.Objects.{slot_place}
 use Rattle.stable_objects.specs.SlotGates.{slot_gate}
-use Rattle.stable_objects.specs.SlotsView.{SlotsView, AreHeads, IsLate}
+use Rattle.stable_objects.specs.SlotsView.{SlotsView, AreHeads, IsLate, layout_of, place_of}
 
 -- an identifier is not 0, and is a number or more
 abbrev is_late : ℕ → ℕ → Bool
@@ -55,8 +54,8 @@ none_found slots next none x s late =
     omega (arith, below, late.3)
 
 -- the first slot that has one
-pub found_first : (slots : SlotsView) (next i gate : ℕ) → AreHeads slots.params slots.heads → position (λ id. nat_lt 0 id && nat_le next id) slots.heads ≡ Some i → gate ≡ slot_gate slots.params.cap i
-    → (x : ℕ) × (s : ℕ) × IsLate slots next x s × (gate + 1 ≡ slot_place slots.params.cap x s + 1) × ((y t : ℕ) → IsLate slots next y t → 2 * x + s ≤ 2 * y + t)
+pub found_first : (slots : SlotsView) (next i gate : ℕ) → AreHeads (layout_of slots) slots.heads slots.lengths → position (λ id. nat_lt 0 id && nat_le next id) slots.heads ≡ Some i → gate ≡ slot_gate (layout_of slots) i
+    → (x : ℕ) × (s : ℕ) × IsLate slots next x s × (gate + 1 ≡ place_of slots x s + 1) × ((y t : ℕ) → IsLate slots next y t → 2 * x + s ≤ 2 * y + t)
 found_first slots next i gate are found here_is =
     let first = position-Some (λ id. nat_lt 0 id && nat_le next id) slots.heads i 0 found in
     let halves : i ≡ 2 * (i / 2) + i % 2 = omega arith in
@@ -68,7 +67,7 @@ found_first slots next i gate are found here_is =
       | inl less ↦ let below = not_late next (get_or slots.heads (2 * y + t) 0) (first.2 (2 * y + t) less) other.0 in absurd (omega (arith, below, other.3))
       | inr more ↦ omega (arith, more, halves)
     ] in
-    (i / 2, i % 2, (some, omega (arith, first.0, are.count, halves), omega arith, here), ap (λ (k : ℕ). k + 1) here_is ∙ ap (λ (k : ℕ). slot_gate slots.params.cap k + 1) halves, others)
+    (i / 2, i % 2, (some, omega (arith, first.0, are.count, halves), omega arith, here), ap (λ (k : ℕ). k + 1) here_is ∙ ap (λ (k : ℕ). slot_gate (layout_of slots) k + 1) halves, others)
 
 -- a fact that holds anyway holds of no answer
 pub none_anyway : (o : Option ℕ) (P : Type 0) → P → IfNone o P

@@ -26,7 +26,7 @@ pub held_agrees : (at : ℕ) (bytes old new : List ℕ) → HoldsAt at bytes old
 held_agrees at bytes old new holds = torn_agrees at (length bytes) old new (subst (λ (l : List ℕ). Torn at (length bytes) old l) (sym holds) (torn_whole at bytes old))
 
 -- all after the range
-from_behind : (at n : ℕ) (old new : List ℕ) → AgreesOutside at n old new → (p : ℕ) → at + n ≤ p → drop p new ≡ drop p old
+pub from_behind : (at n : ℕ) (old new : List ℕ) → AgreesOutside at n old new → (p : ℕ) → at + n ≤ p → drop p new ≡ drop p old
 from_behind at n old new agrees p after =
     let split : at + n + (p - (at + n)) ≡ p = omega (arith, after) in
     let moved : (l : List ℕ) → drop (p - (at + n)) (drop (at + n) l) ≡ drop p l = λ l. drop-drop (p - (at + n)) (at + n) l ∙ ap (λ (q : ℕ). drop q l) split in
@@ -141,17 +141,20 @@ module _ (place id : ℕ) (value file mid new : List ℕ) (small : id < 2 ^ 64) 
     within = omega (arith, ap length second, written_long (place + 13) value mid);
   }
 
--- the gate's byte doesn't count for what follows it
-pub filled_stays : (place id : ℕ) (value old new : List ℕ) → AgreesOutside place 1 old new → IsFilled place id value old → IsFilled place id value new
-filled_stays place id value old new agrees filled =
-    let long = number_stays place 1 old new agrees (place + 9) 4 (inr (omega arith)) ∙ filled.long in
+-- what stands before a slot, and its gate, don't count for what is filled
+pub filled_behind : (at n place id : ℕ) (value old new : List ℕ) → at + n ≤ place + 1 → AgreesOutside at n old new → IsFilled place id value old → IsFilled place id value new
+filled_behind at n place id value old new le agrees filled =
+    let long = number_stays at n old new agrees (place + 9) 4 (inr (omega (arith, le))) ∙ filled.long in
     record {
-      numbered = number_stays place 1 old new agrees (place + 1) 8 (inr (omega arith)) ∙ filled.numbered;
+      numbered = number_stays at n old new agrees (place + 1) 8 (inr (omega (arith, le))) ∙ filled.numbered;
       long = long;
       stands =
-          ap (λ (n : ℕ). take n (drop (place + 13) new)) long
-          ∙ read_same place 1 old new agrees (place + 13) (length value) (inr (omega arith))
-          ∙ ap (λ (n : ℕ). take n (drop (place + 13) old)) (sym filled.long)
+          ap (λ (k : ℕ). take k (drop (place + 13) new)) long
+          ∙ read_same at n old new agrees (place + 13) (length value) (inr (omega (arith, le)))
+          ∙ ap (λ (k : ℕ). take k (drop (place + 13) old)) (sym filled.long)
           ∙ filled.stands;
       within = omega (arith, filled.within, agrees.no_shorter);
     }
+
+pub filled_stays : (place id : ℕ) (value old new : List ℕ) → AgreesOutside place 1 old new → IsFilled place id value old → IsFilled place id value new
+filled_stays place id value old new agrees filled = filled_behind place 1 place id value old new (omega arith) agrees filled

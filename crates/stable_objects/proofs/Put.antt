@@ -1,13 +1,15 @@
 -- What the writes that fill a slot and open it leave.
-use Rattle.std.proofs.Common.{◌≡◌, ◌<◌, ◌+◌, inl, inr, ℕ, List, [], ◌∷◌, length, sym, ◌∙◌, ap, subst, arith}
+use Rattle.std.proofs.Common.{◌≡◌, ◌<◌, ◌+◌, ◌^◌, inl, inr, ℕ, List, [], ◌∷◌, ◌++◌, length, sym, ◌∙◌, ap, subst, arith, length-append}
+use Rattle.byteorder.specs.Endian.{little_bytes}
+use Rattle.oper_core.specs.LittleEndian.{length-little_bytes}
 use Rattle.disk_model.specs.Disk.{Disk, Runs, Stays, Same, In, Torn, HoldsAt, Any, IsSettled, IsSettledIn, LeavesOnly}
 use Rattle.disk_model.specs.Moments.{runs_join, runs_wider, runs_then_stays, settled_again, from_reads, first_call, goes_on}
 use Rattle.disk_model.specs.Ranges.{torn_wider, run_apart}
 use Rattle.disk_model.specs.declared.machine.FileNo.TheVariants.{Objects}
 use Rattle.formats.specs.Bytes.{byte_at, IsClosedAt}
 use Rattle.stable_objects.specs.Replacing.{AgreesOutside, IsFilled, IsPut, IsHalfPut}
-use Rattle.stable_objects.proofs.Bytes.{byte_written}
-use Rattle.stable_objects.proofs.Outside.{torn_agrees, agrees_wider, agrees_twice, filled_stays}
+use Rattle.stable_objects.proofs.Bytes.{byte_written, written_long}
+use Rattle.stable_objects.proofs.Outside.{torn_agrees, held_agrees, filled_by, agrees_wider, agrees_twice, filled_stays}
 
 -- the head alone was written
 pub head_run : (old mid : Disk) (place : ℕ) (head value : List ℕ) → length head ≡ 12 → Runs (In Objects (Torn (place + 1) (length head))) Same old mid → Runs (In Objects (Torn (place + 1) (12 + length value))) Same old mid
@@ -91,3 +93,38 @@ module _ (old mid : Disk) (place id : ℕ) (value : List ℕ) (first : Runs (In 
         opened = ap (λ (l : List ℕ). byte_at place l) holds ∙ byte_written place 1 (mid.reads Objects);
         filled = filled_stays place id value (mid.reads Objects) (new.reads Objects) agrees filled;
       }
+
+-- the gate alone was written, or the head after it, or all of a first pair
+module _ (old first mid : Disk) (place : ℕ) (head value : List ℕ) (long : length head ≡ 12) (one : Runs (In Objects (Torn place 1)) Same old first) where
+  pub gate_run : Runs (In Objects (Torn place (13 + length value))) Same old first
+  gate_run = runs_wider old first (In Objects (Torn place 1)) (In Objects (Torn place (13 + length value)))
+      (λ a b is. record { changed = torn_wider place 1 (13 + length value) (a Objects) (b Objects) (omega arith) is.changed; others = is.others }) one
+
+  joined : (new : Disk) → Runs (In Objects (Torn (place + 1) (12 + length value))) Same first new → Runs (In Objects (Torn place (13 + length value))) Same old new
+  joined new two = run_apart old first new Objects place 1 1 (12 + length value) (13 + length value) (omega arith) (omega arith) one two
+
+  pub front_run : Runs (In Objects (Torn (place + 1) (length head))) Same first mid → Runs (In Objects (Torn place (13 + length value))) Same old mid
+  front_run two = joined mid (head_run first mid place head value long two)
+
+  pub pair_run : (new : Disk) → Runs (In Objects (Torn (place + 1) (length head))) Same first mid → Runs (In Objects (Torn (place + 13) (length value))) Same mid new → Runs (In Objects (Torn place (13 + length value))) Same old new
+  pair_run new two three = joined new (fill_run first mid new place head value long two three)
+
+-- a pair is put where its gate, its head and its value were written
+pub first_put : (place id : ℕ) (value file first mid new : List ℕ) → id < 2 ^ 64 → length value < 2 ^ 32 → HoldsAt place (1 ∷ []) file first → HoldsAt (place + 1) (little_bytes 8 id ++ little_bytes 4 (length value)) first mid
+    → HoldsAt (place + 13) value mid new → IsPut place id value file new
+first_put place id value file first mid new small short one two three =
+    let head = little_bytes 8 id ++ little_bytes 4 (length value) in
+    let head_long : length head ≡ 12 = omega (arith, length-append (little_bytes 8 id) (little_bytes 4 (length value)), length-little_bytes 8 id, length-little_bytes 4 (length value)) in
+    let gate = held_agrees place (1 ∷ []) file first one in
+    let front = held_agrees (place + 1) head first mid two in
+    let rest = held_agrees (place + 13) value mid new three in
+    let reach : place < length first = omega (arith, ap length one, written_long place (1 ∷ []) file) in
+    record {
+      agrees = agrees_twice place (13 + length value) file mid new
+          (agrees_twice place (13 + length value) file first mid
+          (agrees_wider place 1 place (13 + length value) file first (omega arith) (omega arith) gate)
+          (agrees_wider (place + 1) (length head) place (13 + length value) first mid (omega arith) (omega (arith, head_long)) front))
+          (agrees_wider (place + 13) (length value) place (13 + length value) mid new (omega arith) (omega arith) rest);
+      opened = rest.before place (omega (arith, reach, front.no_shorter)) (omega arith) ∙ front.before place reach (omega arith) ∙ ap (λ (l : List ℕ). byte_at place l) one ∙ byte_written place 1 file;
+      filled = filled_by place id value first mid new small short two three;
+    }

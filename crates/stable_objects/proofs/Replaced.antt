@@ -8,15 +8,17 @@ use Rattle.disk_model.specs.Moments.{from_reads, first_call, runs_on, weaker}
 use Rattle.disk_model.specs.declared.machine.FileNo.TheVariants.{Objects}
 use Rattle.formats.specs.Bytes.{byte_at, IsOpenAt, IsClosedAt}
 use Rattle.oper_core.specs.Cell.{Cell}
-use Rattle.formats.specs.Objects.{IsWholeSlot, slot_place, open_identifier}
+use Rattle.formats.specs.Objects.{IsWholeSlot, slot_place, layout_in, place_in, open_identifier, cell_of}
+use Rattle.formats.specs.declared.layout.Layout.{Layout}
 use Rattle.formats.specs.declared.params.Params.{Params}
-use Rattle.stable_objects.specs.SlotsView.{SlotsView, AreOf, AreHeads, head, id_in}
+use Rattle.stable_objects.specs.SlotsView.{SlotsView, AreOf, AreHeads, layout_of, place_of, head, holder_in, id_in, length_in}
+use Rattle.stable_objects.specs.SlotLaws.{one_of_two, place_of_file}
 use Rattle.stable_objects.specs.SlotGates.{slot_gate}
-use Rattle.stable_objects.specs.Replacing.{AgreesOutside, IsFilled, IsPut, IsHalfPut, IsOldOrNew, IsReplaced, spare_in}
+use Rattle.stable_objects.specs.Replacing.{AgreesOutside, IsFilled, IsPut, IsHalfPut, IsOldOrNew, IsRenewed, IsReplaced, spare_in}
 use Rattle.stable_objects.proofs.Outside.{torn_agrees, agrees_wider, agrees_twice, agrees_same}
 use Rattle.stable_objects.proofs.Places.{place_within}
-use Rattle.stable_objects.proofs.Cells.{open_cell, closed_where_none, open_where_some, less_where_open}
-use Rattle.stable_objects.proofs.Changed.{IsLower, kept, renewed, closed_lower, torn_lower, each_stays}
+use Rattle.stable_objects.proofs.Cells.{whole_by, open_cell, closed_where_none, open_where_some, less_where_open}
+use Rattle.stable_objects.proofs.Changed.{IsLower, kept, renewed, closed_lower, torn_lower, stands, each_stays}
 
 -- of two identifiers that of the spare slot is no greater, and the other is the object's
 pub record IsSpare (slots : SlotsView) (x s : ℕ) : Type 0 where
@@ -50,10 +52,10 @@ module _ (slots : SlotsView) (x s id : ℕ) (value : List ℕ) (is : IsReplacing
   p = slots.params
 
   abbrev place : ℕ
-  place = slot_place slots.params.cap x s
+  place = place_in (old.reads Objects) x s
 
   abbrev other_id : ℕ
-  other_id = open_identifier (slot_place slots.params.cap x (1 - s)) (old.reads Objects)
+  other_id = open_identifier (place_in (old.reads Objects) x (1 - s)) (old.reads Objects)
 
   abbrev P : Files → List ℕ → Type 0
   P = IsOldOrNew old slots.params x (record { id = id; value = value })
@@ -71,7 +73,7 @@ module _ (slots : SlotsView) (x s id : ℕ) (value : List ℕ) (is : IsReplacing
   slot = of.whole.slots.each x s is.below is.spare.two
 
   pub within : place < length (old.reads Objects)
-  within = place_within p (old.reads Objects) x s of.whole.whole is.below is.spare.two
+  within = place_within (layout_in (old.reads Objects)) (old.reads Objects) x s of.whole.whole (omega (arith, is.below, ap (λ (q : Params). q.objects) of.whole.params)) is.spare.two
 
   pub closed_cell_where_none : head slots x s ≡ 0 → IsClosedAt place (old.reads Objects)
   closed_cell_where_none none = closed_where_none p.cap place (old.reads Objects) slot (sym here_id ∙ none)
@@ -103,7 +105,7 @@ module _ (slots : SlotsView) (x s id : ℕ) (value : List ℕ) (is : IsReplacing
         let from = from_reads old mid (In Objects (Torn place 1)) Same told settled run.crash c said left in
         let there : open_identifier place (old.reads Objects) ≢ 0 = λ none. some (here_id ∙ none) in
         let is_open = open_where_some place (old.reads Objects) there in
-        let less = less_where_open p x (old.reads Objects) of.whole.slots is.below s is.spare.two no_greater there in
+        let less = less_where_open (layout_in (old.reads Objects)) p x (old.reads Objects) (whole_by p (old.reads Objects) of.whole.slots) is.below s is.spare.two no_greater there in
         let id_here = ap (λ (cell : Cell). cell.id) (open_cell place (old.reads Objects) is_open) in
         keeps c said (torn_here (old.reads Objects) (c Objects) from.0.changed)
         (torn_lower p.cap place other_id (old.reads Objects) (c Objects) (torn_agrees place 1 (old.reads Objects) (c Objects) from.0.changed) (omega (arith, within)) (slot is_open) (omega (arith, less, id_here)))
@@ -127,22 +129,24 @@ module _ (slots : SlotsView) (x s id : ℕ) (value : List ℕ) (is : IsReplacing
       ])
       half.slot))
 
-  -- the identifiers with the new one
+  -- the identifiers and the lengths with the new ones
   abbrev after : SlotsView
-  after = record { params = slots.params; heads = set (set slots.heads (2 * x + s) 0) (2 * x + s) id }
+  after = record { params = slots.params; first = slots.first; heads = set (set slots.heads (2 * x + s) 0) (2 * x + s) id; lengths = set slots.lengths x (length value) }
 
   -- once it is done
-  pub replaced : (mid new : Disk) → old.tells_files → 2 * x + s < length slots.heads → Runs (In Objects (Torn place 1)) Same old mid → IsPut place id value (mid.reads Objects) (new.reads Objects)
+  pub replaced : (mid new : Disk) → old.tells_files → 2 * x + s < length slots.heads → x < length slots.lengths → Runs (In Objects (Torn place 1)) Same old mid → IsPut place id value (mid.reads Objects) (new.reads Objects)
       → AreOf after (new.reads Objects) × IsReplaced slots.params x (record { id = id; value = value }) (old.reads Objects) (new.reads Objects)
-  replaced mid new told room first put =
+  replaced mid new told room long first put =
       let agrees = agrees_twice place (13 + p.cap) (old.reads Objects) (mid.reads Objects) (new.reads Objects) (torn_here (old.reads Objects) (mid.reads Objects) (first.reads told).changed) (put_here (mid.reads Objects) (new.reads Objects) put.agrees) in
       let has = renewed p x s (old.reads Objects) (new.reads Objects) of.whole is.below is.spare.two agrees id value (omega (arith, there_id, is.spare.other, is.later)) is.numbered is.short put.opened put.filled in
       let emptied = set slots.heads (2 * x + s) 0 in (
         record {
           whole = has.whole;
+          first = of.first ∙ ap (λ (l : Layout). l.first) (sym (stands p x s (old.reads Objects) (new.reads Objects) of.whole is.below is.spare.two agrees));
           heads = λ y t below_y two_t. elim (cases_eq (2 * y + t) (2 * x + s)) [
             | inl same ↦
-                let places : slot_place p.cap y t ≡ place = ap (λ (k : ℕ). 32 + k * (13 + p.cap)) same in
+                let places : place_in (new.reads Objects) y t ≡ place =
+                ap (λ (l : Layout). slot_place l y t) (stands p x s (old.reads Objects) (new.reads Objects) of.whole is.below is.spare.two agrees) ∙ ap (λ (k : ℕ). slot_gate (layout_in (old.reads Objects)) k) same in
                 get_or-set_at emptied (2 * x + s) (2 * y + t) id 0 same (omega (arith, length-set slots.heads (2 * x + s) 0, room))
                 ∙ sym put.filled.numbered
                 ∙ sym (ap (λ (cell : Cell). cell.id) (open_cell place (new.reads Objects) put.opened))
@@ -152,6 +156,11 @@ module _ (slots : SlotsView) (x s id : ℕ) (value : List ℕ) (is : IsReplacing
                 ∙ get_or-set_other slots.heads (2 * x + s) (2 * y + t) 0 0 other
                 ∙ of.heads y t below_y two_t
                 ∙ sym (ap (λ (cell : Cell). cell.id) (each_stays p x s (old.reads Objects) (new.reads Objects) of.whole is.below is.spare.two agrees y t below_y two_t other).cell)
+                ∙ ap (λ (l : Layout). open_identifier (slot_place l y t) (new.reads Objects)) (sym (stands p x s (old.reads Objects) (new.reads Objects) of.whole is.below is.spare.two agrees))
+          ];
+          lengths = λ y below_y. elim (cases_eq y x) [
+            | inl same ↦ get_or-set_at slots.lengths x y (length value) 0 same long ∙ ap (λ (c : Cell). length c.value) (sym (ap (λ (k : ℕ). cell_of k (new.reads Objects)) same ∙ has.held))
+            | inr other ↦ get_or-set_other slots.lengths x y (length value) 0 other ∙ of.lengths y below_y ∙ ap (λ (c : Cell). length c.value) (sym (has.others y below_y other))
           ];
         },
         record { held = has.held; others = has.others },
@@ -168,7 +177,7 @@ greater_id slots x (suc zero) id two here less =
 greater_id slots x (suc (suc s)) id two here less = absurd (omega (arith, two))
 
 -- the spare slot has an identifier among those of all slots
-pub slot_room : (inside slots : SlotsView) (x slot : ℕ) → inside ≡ slots → AreHeads inside.params inside.heads → x < slots.params.objects → slot ≡ 2 * x + spare_in slots x → slot < length inside.heads
+pub slot_room : (inside slots : SlotsView) (x slot : ℕ) → inside ≡ slots → AreHeads (layout_of inside) inside.heads inside.lengths → x < slots.params.objects → slot ≡ 2 * x + spare_in slots x → slot < length inside.heads
 slot_room inside slots x slot same heads below slot_is =
     let count = subst (λ (w : SlotsView). length w.heads ≡ 2 * w.params.objects) same heads.count in
     let long = ap (λ (w : SlotsView). length w.heads) same in
@@ -176,17 +185,18 @@ slot_room inside slots x slot same heads below slot_is =
     omega (arith, count, long, found, slot_is, below)
 
 -- the same of a call that counts slots through the file, and knows its slots from inside
-module _ (inside slots : SlotsView) (x slot at found id : ℕ) (value : List ℕ) (same : inside ≡ slots) (heads : AreHeads inside.params inside.heads) (below : x < slots.params.objects) (later : id_in slots x < id)
-    (numbered : id < 2 ^ 62) (short : length value ≤ slots.params.cap) (slot_is : slot ≡ 2 * x + spare_in slots x) (at_is : at ≡ slot_gate inside.params.cap slot) (found_is : found ≡ get_or inside.heads slot found)
+module _ (inside slots : SlotsView) (x slot at found id : ℕ) (value : List ℕ) (same : inside ≡ slots) (heads : AreHeads (layout_of inside) inside.heads inside.lengths) (below : x < slots.params.objects) (later : id_in slots x < id)
+    (numbered : id < 2 ^ 62) (short : length value ≤ slots.params.cap) (slot_is : slot ≡ 2 * x + spare_in slots x) (at_is : at ≡ slot_gate (layout_of inside) slot) (found_is : found ≡ get_or inside.heads slot found)
     (old mid : Disk) (first : Runs (In Objects (Torn at 1)) Same old mid) (idle : found ≡ 0 → Stays old mid) where
   replacing : IsReplacing slots x (spare_in slots x) id value
   replacing = record { below = below; spare = spare slots x; later = later; numbered = numbered; short = short }
 
-  spot_is : at ≡ slot_place slots.params.cap x (spare_in slots x)
-  spot_is =
+  spot_is : AreOf slots (old.reads Objects) → at ≡ place_in (old.reads Objects) x (spare_in slots x)
+  spot_is of =
       at_is
-      ∙ ap (λ (k : ℕ). 32 + k * (13 + inside.params.cap)) slot_is
-      ∙ ap (λ (w : SlotsView). 32 + (2 * x + spare_in slots x) * (13 + w.params.cap)) same
+      ∙ ap (λ (k : ℕ). slot_gate (layout_of inside) k) slot_is
+      ∙ ap (λ (w : SlotsView). place_of w x (spare_in slots x)) same
+      ∙ place_of_file slots (old.reads Objects) x (spare_in slots x) of
 
   head_is : found ≡ head slots x (spare_in slots x)
   head_is =
@@ -195,11 +205,11 @@ module _ (inside slots : SlotsView) (x slot at found id : ℕ) (value : List ℕ
       ∙ ap (λ (k : ℕ). get_or inside.heads k 0) slot_is
       ∙ ap (λ (w : SlotsView). get_or w.heads (2 * x + spare_in slots x) 0) same
 
-  closing : Runs (In Objects (Torn (slot_place slots.params.cap x (spare_in slots x)) 1)) Same old mid
-  closing = subst (λ (q : ℕ). Runs (In Objects (Torn q 1)) Same old mid) spot_is first
+  closing : AreOf slots (old.reads Objects) → Runs (In Objects (Torn (place_in (old.reads Objects) x (spare_in slots x)) 1)) Same old mid
+  closing of = subst (λ (q : ℕ). Runs (In Objects (Torn q 1)) Same old mid) (spot_is of) first
 
   pub closing_moments : old.tells_moments → IsSettled old → AreOf slots (old.reads Objects) → LeavesOnly old mid (IsOldOrNew old slots.params x (record { id = id; value = value }))
-  closing_moments told settled of = leaves_closing slots x (spare_in slots x) id value replacing old of mid told settled closing (λ none. idle (head_is ∙ none))
+  closing_moments told settled of = leaves_closing slots x (spare_in slots x) id value replacing old of mid told settled (closing of) (λ none. idle (head_is ∙ none))
 
   pub putting_moments : (new : Disk) → (old.tells_files → (found ≡ 0 → IsClosedAt at (old.reads Objects)) → IsClosedAt at (mid.reads Objects)) → (IsSettled old → IsSettled mid)
       → (mid.tells_moments → IsSettled mid → at < length (mid.reads Objects) → IsClosedAt at (mid.reads Objects) → LeavesOnly mid new (IsHalfPut mid at id value))
@@ -208,34 +218,65 @@ module _ (inside slots : SlotsView) (x slot at found id : ℕ) (value : List ℕ
       let files_told = first.begins.telling told in
       let long = (first.reads files_told).changed.no_shorter in
       let fits = within slots x (spare_in slots x) id value replacing old of in
-      let closed = closes files_told (λ none. subst (λ (q : ℕ). IsClosedAt q (old.reads Objects)) (sym spot_is) (closed_cell_where_none slots x (spare_in slots x) id value replacing old of (sym head_is ∙ none))) in
-      let half = put (first.time.moments_told.0 told) (settles settled) (omega (arith, fits, long, spot_is)) closed in
-      leaves_putting slots x (spare_in slots x) id value replacing old of mid new files_told (closing_moments told settled of) closing
-      (subst (λ (q : ℕ). LeavesOnly mid new (IsHalfPut mid q id value)) spot_is half)
+      let closed = closes files_told (λ none. subst (λ (q : ℕ). IsClosedAt q (old.reads Objects)) (sym (spot_is of)) (closed_cell_where_none slots x (spare_in slots x) id value replacing old of (sym head_is ∙ none))) in
+      let half = put (first.time.moments_told.0 told) (settles settled) (omega (arith, fits, long, spot_is of)) closed in
+      leaves_putting slots x (spare_in slots x) id value replacing old of mid new files_told (closing_moments told settled of) (closing of)
+      (subst (λ (q : ℕ). LeavesOnly mid new (IsHalfPut mid q id value)) (spot_is of) half)
+
+  -- what the slots are then
+  abbrev later_view : SlotsView
+  later_view = record { params = inside.params; first = inside.first; heads = set (set inside.heads slot 0) slot id; lengths = set inside.lengths x (length value) }
+
+  -- there is a length of the object
+  object_room : x < length inside.lengths
+  object_room = omega (arith, heads.long, below, ap (λ (w : SlotsView). w.params.objects) same)
 
   pub replaced_by : (new : Disk) → old.tells_files → AreOf slots (old.reads Objects) → IsPut at id value (mid.reads Objects) (new.reads Objects)
-      → AreOf (record { params = inside.params; heads = set (set inside.heads slot 0) slot id }) (new.reads Objects) × IsReplaced slots.params x (record { id = id; value = value }) (old.reads Objects) (new.reads Objects)
+      → AreOf later_view (new.reads Objects) × IsReplaced slots.params x (record { id = id; value = value }) (old.reads Objects) (new.reads Objects)
   replaced_by new told of put =
       let room = slot_room inside slots x slot same heads below slot_is in
       let long = ap (λ (w : SlotsView). length w.heads) same in
-      let has = replaced slots x (spare_in slots x) id value replacing old of mid new told (omega (arith, room, long, slot_is)) closing
-      (subst (λ (q : ℕ). IsPut q id value (mid.reads Objects) (new.reads Objects)) spot_is put) in
-      let views : after slots x (spare_in slots x) id value replacing old of ≡ record { params = inside.params; heads = set (set inside.heads slot 0) slot id } =
-      ap (λ (k : ℕ). record { params = slots.params; heads = set (set slots.heads k 0) k id }) (sym slot_is)
-      ∙ ap (λ (w : SlotsView). record { params = w.params; heads = set (set w.heads slot 0) slot id }) (sym same) in
+      let has = replaced slots x (spare_in slots x) id value replacing old of mid new told (omega (arith, room, long, slot_is)) (omega (arith, object_room, ap (λ (w : SlotsView). length w.lengths) same)) (closing of)
+      (subst (λ (q : ℕ). IsPut q id value (mid.reads Objects) (new.reads Objects)) (spot_is of) put) in
+      let views : after slots x (spare_in slots x) id value replacing old of ≡ later_view =
+      ap (λ (k : ℕ). record { params = slots.params; first = slots.first; heads = set (set slots.heads k 0) k id; lengths = set slots.lengths x (length value) }) (sym slot_is)
+      ∙ ap (λ (w : SlotsView). record { params = w.params; first = w.first; heads = set (set w.heads slot 0) slot id; lengths = set w.lengths x (length value) }) (sym same) in
       (subst (λ (w : SlotsView). AreOf w (new.reads Objects)) views has.0, has.1)
 
   -- the object's identifier is the new one
-  pub id_replaced : id_in (record { params = inside.params; heads = set (set inside.heads slot 0) slot id }) x ≡ id
+  id_replaced : id_in later_view x ≡ id
   id_replaced =
       let s = spare_in slots x in
       let found = spare slots x in
       let room = slot_room inside slots x slot same heads below slot_is in
-      let after : SlotsView = record { params = inside.params; heads = set (set inside.heads slot 0) slot id } in
-      let here : head after x s ≡ id = get_or-set_at (set inside.heads slot 0) slot (2 * x + s) id 0 (sym slot_is) (omega (arith, length-set inside.heads slot 0, room)) in
+      let here : head later_view x s ≡ id = get_or-set_at (set inside.heads slot 0) slot (2 * x + s) id 0 (sym slot_is) (omega (arith, length-set inside.heads slot 0, room)) in
       let apart : 2 * x + (1 - s) ≢ slot = λ e. absurd (omega (arith, e, slot_is, found.two)) in
-      let there : head after x (1 - s) ≡ head slots x (1 - s) =
+      let there : head later_view x (1 - s) ≡ head slots x (1 - s) =
       get_or-set_other (set inside.heads slot 0) slot (2 * x + (1 - s)) id 0 apart
       ∙ get_or-set_other inside.heads slot (2 * x + (1 - s)) 0 0 apart
       ∙ ap (λ (w : SlotsView). head w x (1 - s)) same in
-      greater_id after x s id found.two here (omega (arith, there, found.other, later))
+      greater_id later_view x s id found.two here (omega (arith, there, found.other, later))
+
+  -- and each other one is as it was
+  other_head : (y t : ℕ) → y ≢ x → t < 2 → head later_view y t ≡ head slots y t
+  other_head y t other two =
+      let apart : 2 * y + t ≢ slot = λ e. other (omega (arith, e, slot_is, (spare slots x).two, two)) in
+      get_or-set_other (set inside.heads slot 0) slot (2 * y + t) id 0 apart
+      ∙ get_or-set_other inside.heads slot (2 * y + t) 0 0 apart
+      ∙ ap (λ (w : SlotsView). head w y t) same
+
+  other_id_kept : (y : ℕ) → y ≢ x → id_in later_view y ≡ id_in slots y
+  other_id_kept y other =
+      let first = other_head y 0 other (omega arith) in
+      let second = other_head y 1 other (omega arith) in
+      ap (λ (n : ℕ). head later_view y (if nat_lt n (head later_view y 1) then 1 else 0)) first
+      ∙ ap (λ (n : ℕ). head later_view y (if nat_lt (head slots y 0) n then 1 else 0)) second
+      ∙ other_head y (holder_in slots y) other (one_of_two (nat_lt (head slots y 0) (head slots y 1)))
+
+  pub renewed_by : IsRenewed slots later_view x id (length value)
+  renewed_by = record {
+    id_is = id_replaced;
+    long_is = get_or-set_at inside.lengths x x (length value) 0 refl object_room;
+    other_ids = other_id_kept;
+    other_lengths = λ y other. get_or-set_other inside.lengths x y (length value) 0 other ∙ ap (λ (w : SlotsView). length_in w y) same;
+  }

@@ -1,18 +1,19 @@
 -- What the bytes of a value that were read are.
-use Rattle.std.proofs.Common.{◌≡◌, ◌≢◌, ◌<◌, ◌≤◌, ◌+◌, ℕ, List, ◌++◌, length, take, drop, refl, sym, ◌∙◌, ap, subst, arith, length-take, length-drop}
+use Rattle.std.proofs.Common.{◌≡◌, ◌≢◌, ◌<◌, ◌≤◌, ◌+◌, ℕ, List, [], ◌++◌, inl, inr, length, take, drop, refl, sym, ◌∙◌, ap, subst, arith, length-take, length-drop}
+use Rattle.std.proofs.lemmas.Bool.{cases_eq}
 use Rattle.std.proofs.lemmas.List.{take_at, take_all}
 use Rattle.byteorder.specs.Endian.{little_number}
 use Rattle.disk_model.specs.Disk.{Files, read_of}
 use Rattle.disk_model.specs.Padded.{padded}
 use Rattle.disk_model.specs.declared.machine.FileNo.TheVariants.{Objects}
-use Rattle.formats.specs.Bytes.{number_at}
-use Rattle.formats.specs.Objects.{slot_place, length_at, value_at, holder, cell_of}
+use Rattle.formats.specs.Bytes.{byte_at, number_at}
+use Rattle.formats.specs.Objects.{place_in, length_at, value_at, holder, cell_of}
 use Rattle.formats.specs.Reading.{FailsBy, TellsDamage}
 use Rattle.formats.specs.declared.read_err.ReadErr.{ReadErr}
 use Rattle.formats.specs.declared.read_err.ReadErr.TheVariants.{DiskFault, Damaged, Memory}
-use Rattle.stable_objects.specs.SlotsView.{SlotsView, AreOf, id_in, holder_in}
+use Rattle.stable_objects.specs.SlotsView.{SlotsView, AreOf, place_of, id_in, holder_in}
 use Rattle.stable_objects.specs.Reading.{FailsAt, IsLongValue}
-use Rattle.stable_objects.specs.SlotLaws.{open_value, held_is_open, held_short, holder_is}
+use Rattle.stable_objects.specs.SlotLaws.{open_tells, open_value, closed_value, holder_below, id_is, held_is_open, held_short, holder_is, place_of_file}
 use Rattle.stable_objects.proofs.Found.{number_read}
 
 -- the length that was read is the file's
@@ -35,14 +36,14 @@ value_read file into items place n len read is bytes count le len_is =
     take_at into (drop (length into) items) len (omega (arith, count, len_is)) ∙ sym (take_all read into (omega (arith, count, le))) ∙ bytes ∙ ap (λ (k : ℕ). take k (drop (place + 13) file)) is
 
 -- the slot that holds an object with an identifier
-module _ (slots : SlotsView) (file : List ℕ) (x place : ℕ) (are : AreOf slots file) (below : x < slots.params.objects) (some : id_in slots x ≢ 0) (here : place ≡ slot_place slots.params.cap x (holder_in slots x)) where
-  spot : slot_place slots.params.cap x (holder slots.params.cap x file) ≡ place
-  spot = sym (here ∙ ap (λ (s : ℕ). slot_place slots.params.cap x s) (holder_is slots file x are below))
+module _ (slots : SlotsView) (file : List ℕ) (x place : ℕ) (are : AreOf slots file) (below : x < slots.params.objects) (some : id_in slots x ≢ 0) (here : place ≡ place_of slots x (holder_in slots x)) where
+  spot : place_in file x (holder x file) ≡ place
+  spot = sym (here ∙ place_of_file slots file x (holder_in slots x) are ∙ ap (λ (s : ℕ). place_in file x s) (holder_is slots file x are below))
 
   -- what was read is the object's value
-  pub held_value : (bytes : List ℕ) → bytes ≡ value_at place file → bytes ≡ (cell_of slots.params.cap x file).value
+  pub held_value : (bytes : List ℕ) → bytes ≡ value_at place file → bytes ≡ (cell_of x file).value
   held_value bytes is =
-      is ∙ ap (λ (k : ℕ). value_at k file) (sym spot) ∙ sym (open_value (slot_place slots.params.cap x (holder slots.params.cap x file)) file (held_is_open slots file x are below some))
+      is ∙ ap (λ (k : ℕ). value_at k file) (sym spot) ∙ sym (open_value (place_in file x (holder x file)) file (held_is_open slots file x are below some))
 
   -- and only the disk fails
   pub held_fails : (rises : Type 0) (agrees : Files → Type 0) (files : Files) (n : ℕ) (e : ReadErr) → files Objects ≡ file → agrees files → n ≡ slots.params.cap
@@ -51,3 +52,14 @@ module _ (slots : SlotsView) (file : List ℕ) (x place : ℕ) (are : AreOf slot
   held_fails rises agrees files n (Damaged number at) same agree cap fails tells = held_short slots file x at are below some
       (subst (λ (k : ℕ). IsLongValue slots.params.cap k file at) here (subst (λ (l : List ℕ). IsLongValue slots.params.cap place l at) same (subst (λ (k : ℕ). IsLongValue k place (files Objects) at) cap (fails.1 files agree))))
   held_fails rises agrees files n Memory same agree cap fails tells = tells
+
+-- an object without an identifier has no bytes
+pub empty_value : (slots : SlotsView) (file : List ℕ) (x : ℕ) → AreOf slots file → x < slots.params.objects → id_in slots x ≡ 0 → (cell_of x file).value ≡ []
+empty_value slots file x are below none =
+    let place = place_in file x (holder x file) in
+    elim (cases_eq (byte_at place file) 1) [
+      | inl is_open ↦
+          let whole = are.whole.slots.each x (holder x file) below (holder_below x file) is_open in
+          absurd (omega (arith, whole.some, open_tells place file is_open, id_is slots file x are below, none))
+      | inr closed ↦ closed_value place file closed
+    ]

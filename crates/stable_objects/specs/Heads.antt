@@ -1,12 +1,12 @@
 -- What is read of the slots' heads, and the faults that they show.
-use Rattle.std.specs.Prelude.{◌≡◌, ◌≢◌, ◌<◌, ◌≤◌, ◌+◌, ◌*◌, ◌-◌, ◌^◌, ℕ, nat_eq, if◌then◌else◌, List, length, slice_index_or}
+use Rattle.std.specs.Prelude.{◌≡◌, ◌≢◌, ◌<◌, ◌≤◌, ◌+◌, ◌*◌, ◌-◌, ◌^◌, ℕ, nat_eq, nat_lt, if◌then◌else◌, List, length, slice_index_or}
 use Rattle.disk_model.specs.Disk.{Files, Disk}
 use Rattle.disk_model.specs.Padded.{padded}
 use Rattle.disk_model.specs.declared.machine.FileNo.TheVariants.{Objects}
 use Rattle.formats.specs.Bytes.{byte_at}
 use Rattle.formats.specs.Image.{IsWithin}
 use Rattle.formats.specs.Objects.{identifier_at, length_at, slot_place}
-use Rattle.formats.specs.declared.params.Params.{Params}
+use Rattle.formats.specs.declared.layout.Layout.{Layout}
 
 -- a slot's gate, its identifier, and the length of its value
 pub record Head : Type 0 where
@@ -36,6 +36,15 @@ pub record IsRead (cap place size : ℕ) (h : Head) (id : ℕ) : Type 0 where
   pub is : id ≡ (if nat_eq h.gate 1 then h.identifier else 0)
   pub fits : h.gate ≡ 1 → Fits cap place size h
 
+-- the length of the value, 0 where the gate is closed
+abbrev pub open_length : Head → ℕ
+open_length h = if nat_eq h.gate 1 then h.long else 0
+
+-- and this is how long its value is
+pub record IsReadWhole (cap place size : ℕ) (h : Head) (id long : ℕ) : Type 0 where
+  pub read : IsRead cap place size h id
+  pub long_is : long ≡ open_length h
+
 -- An open slot's head shows its first fault at a place of the file: no record's number, or a value that is too long or
 -- not within the file.
 pub data IsHeadFault (cap place size : ℕ) (h : Head) : ℕ → Type 0 where
@@ -43,29 +52,42 @@ pub data IsHeadFault (cap place size : ℕ) (h : Head) : ℕ → Type 0 where
   too_long : h.gate ≡ 1 → IsWithin 1 (2 ^ 62 - 1) h.identifier → (h.long ≤ cap → (0 < h.long → place + 13 + h.long ≤ size) → ⊥) → IsHeadFault cap place size h (place + 9)
 
 -- the slot s of object x was read so
-abbrev pub IsReadAt : ℕ → ℕ → ℕ → ℕ → List ℕ → ℕ → Type 0
-IsReadAt cap x s size file id = IsRead cap (slot_place cap x s) size (head_at (slot_place cap x s) file) id
+abbrev pub IsReadAt : Layout → ℕ → ℕ → ℕ → List ℕ → ℕ → Type 0
+IsReadAt layout x s size file id = IsRead layout.params.cap (slot_place layout x s) size (head_at (slot_place layout x s) file) id
 
 -- the heads of both slots of an object were read, and no two open ones have one identifier
-pub record IsPair (cap x size : ℕ) (file : List ℕ) (first second : ℕ) : Type 0 where
-  pub first_read : IsReadAt cap x 0 size file first
-  pub second_read : IsReadAt cap x 1 size file second
+pub record IsPair (layout : Layout) (x size : ℕ) (file : List ℕ) (first second : ℕ) : Type 0 where
+  pub first_read : IsReadAt layout x 0 size file first
+  pub second_read : IsReadAt layout x 1 size file second
   pub apart : first ≢ 0 → first ≢ second
 
+-- how long the value is that an object with these identifiers holds
+abbrev pub held_length : Layout → ℕ → List ℕ → ℕ → ℕ → ℕ
+held_length layout x file first second = open_length (head_at (slot_place layout x (if nat_lt first second then 1 else 0)) file)
+
+-- and so long is the value that the object holds
+pub record IsWholePair (layout : Layout) (x size : ℕ) (file : List ℕ) (first second long : ℕ) : Type 0 where
+  pub pair : IsPair layout x size file first second
+  pub long_is : long ≡ held_length layout x file first second
+
 -- the slots of an object show their first fault at a place of the file
-pub data IsPairFault (cap x size : ℕ) (file : List ℕ) : ℕ → Type 0 where
-  in_first : (place : ℕ) → IsHeadFault cap (slot_place cap x 0) size (head_at (slot_place cap x 0) file) place → IsPairFault cap x size file place
-  in_second : (id place : ℕ) → IsReadAt cap x 0 size file id → IsHeadFault cap (slot_place cap x 1) size (head_at (slot_place cap x 1) file) place → IsPairFault cap x size file place
-  alike : (id : ℕ) → id ≢ 0 → IsReadAt cap x 0 size file id → IsReadAt cap x 1 size file id → IsPairFault cap x size file (slot_place cap x 1 + 1)
+pub data IsPairFault (layout : Layout) (x size : ℕ) (file : List ℕ) : ℕ → Type 0 where
+  in_first : (place : ℕ) → IsHeadFault layout.params.cap (slot_place layout x 0) size (head_at (slot_place layout x 0) file) place → IsPairFault layout x size file place
+  in_second : (id place : ℕ) → IsReadAt layout x 0 size file id → IsHeadFault layout.params.cap (slot_place layout x 1) size (head_at (slot_place layout x 1) file) place → IsPairFault layout x size file place
+  alike : (id : ℕ) → id ≢ 0 → IsReadAt layout x 0 size file id → IsReadAt layout x 1 size file id → IsPairFault layout x size file (slot_place layout x 1 + 1)
 
 -- the heads of the first n objects were read
-abbrev pub ArePairs : ℕ → ℕ → List ℕ → ℕ → List ℕ → Type 0
-ArePairs cap size file n heads = (x : ℕ) → x < n → IsPair cap x size file (slice_index_or heads (2 * x + 0) 0) (slice_index_or heads (2 * x + 1) 0)
+abbrev pub ArePairs : Layout → ℕ → List ℕ → ℕ → List ℕ → Type 0
+ArePairs layout size file n heads = (x : ℕ) → x < n → IsPair layout x size file (slice_index_or heads (2 * x + 0) 0) (slice_index_or heads (2 * x + 1) 0)
+
+-- and so long are their values
+abbrev pub AreWholePairs : Layout → ℕ → List ℕ → ℕ → List ℕ → List ℕ → Type 0
+AreWholePairs layout size file n heads lengths = (x : ℕ) → x < n → IsWholePair layout x size file (slice_index_or heads (2 * x + 0) 0) (slice_index_or heads (2 * x + 1) 0) (slice_index_or lengths x 0)
 
 -- the slots of an object show their first fault at a place of the file, and those of the objects before it show none
-pub record HasPairFault (p : Params) (size : ℕ) (file : List ℕ) (place : ℕ) : Type 0 where
+pub record HasPairFault (layout : Layout) (size : ℕ) (file : List ℕ) (place : ℕ) : Type 0 where
   pub x : ℕ
-  pub below : x < p.objects
+  pub below : x < layout.params.objects
   pub heads : List ℕ
-  pub before : ArePairs p.cap size file x heads
-  pub fault : IsPairFault p.cap x size file place
+  pub before : ArePairs layout size file x heads
+  pub fault : IsPairFault layout x size file place

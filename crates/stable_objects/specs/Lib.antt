@@ -1,8 +1,13 @@
 pub mod SlotGates
+pub mod Layouts
+pub mod LayoutLaws
 pub mod SlotsView
 pub mod Heads
 pub mod Reading
 pub mod Making
+pub mod Filling
+pub mod Larger
+pub mod Growing
 pub mod Laws
 pub mod SlotLaws
 pub mod Replacing

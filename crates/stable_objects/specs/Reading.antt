@@ -1,13 +1,15 @@
 -- What a reader of the objects file finds, why it fails, and why a store is not opened.
-use Rattle.std.specs.Prelude.{◌≡◌, ◌<◌, ◌≤◌, ◌+◌, ⊤, ℕ, List, ◌∷◌, length, take}
+use Rattle.std.specs.Prelude.{◌≡◌, ◌<◌, ◌≤◌, ◌+◌, ⊤, ℕ, List, length, take, drop, codes}
 use Rattle.disk_model.specs.declared.machine.FileNo.{FileNo}
 use Rattle.disk_model.specs.declared.machine.FileNo.TheVariants.{Objects}
 use Rattle.formats.specs.Bytes.{IsOpenAt}
-use Rattle.formats.specs.Objects.{IsInRange, last_slot, objects_fields, length_at}
+use Rattle.formats.specs.Objects.{BeginsStore, IsInRange, IsInForm, form_in, layout_in, last_slot, length_at}
 use Rattle.formats.specs.FirstFault.{IsFirstObjectsFault}
-use Rattle.formats.specs.declared.params.Params.{Params}
+use Rattle.formats.specs.declared.form.Form.{Form}
+use Rattle.formats.specs.declared.layout.Layout.{Layout}
 use Rattle.formats.specs.declared.read_err.ReadErr.{ReadErr}
 use Rattle.formats.specs.declared.read_err.ReadErr.TheVariants as of_read
+use Rattle.stable_objects.specs.Layouts.{IsForm}
 use Rattle.stable_objects.specs.declared.open_err.OpenErr.{OpenErr}
 use Rattle.stable_objects.specs.declared.open_err.OpenErr.TheVariants.{NotAStore, DiskFault, Damaged, Memory}
 
@@ -45,11 +47,19 @@ pub record IsDamagedAt (file : List ℕ) (place : ℕ) : Type 0 where
   pub gate : IsOpenAt 0 file
   pub fault : IsFirstObjectsFault file place
 
--- an open gate and the header of these numbers; the file reaches to the last slot's gate
-pub record HasHeader (p : Params) (file : List ℕ) : Type 0 where
-  pub header : take 21 file ≡ 1 ∷ objects_fields p
-  pub in_range : IsInRange p
-  pub whole : last_slot p < length file
+-- the file has the magic and this form, and its header no fault
+pub record HasForm (file : List ℕ) (form : Form) : Type 0 where
+  pub magic : take 7 (drop 1 file) ≡ codes "RDOOBJ0"
+  pub is : form ≡ form_in file
+  pub known : IsForm form
+
+-- an open gate, the magic and the numbers, with the slots where this layout says; the file reaches to the last slot's gate
+pub record HasHeader (layout : Layout) (file : List ℕ) : Type 0 where
+  pub begins : BeginsStore file
+  pub is : layout_in file ≡ layout
+  pub in_range : IsInRange layout.params
+  pub in_form : IsInForm (form_in file) layout.params
+  pub whole : last_slot layout < length file
 
 -- the place after a slot's identifier, where its length stands; the value is longer than CAP, or not within the file
 pub record IsLongValue (cap place : ℕ) (file : List ℕ) (at : ℕ) : Type 0 where

@@ -6,25 +6,32 @@ use Rattle.formats.specs.Bytes.{byte_at, IsOpenAt, IsClosedAt}
 use Rattle.oper_core.specs.Cell.{Cell}
 use Rattle.formats.specs.Objects.{IsObjectsFile, cell_of, identifier_at, length_at, value_at}
 use Rattle.formats.specs.declared.params.Params.{Params}
-use Rattle.stable_objects.specs.SlotsView.{SlotsView, head}
+use Rattle.stable_objects.specs.SlotsView.{SlotsView, head, id_in, length_in}
 
 -- each other object is as it was
 abbrev pub OthersKept : Params → ℕ → List ℕ → List ℕ → Type 0
-OthersKept p x old new = (y : ℕ) → y < p.objects → y ≢ x → cell_of p.cap y new ≡ cell_of p.cap y old
+OthersKept p x old new = (y : ℕ) → y < p.objects → y ≢ x → cell_of y new ≡ cell_of y old
 
 -- the object has the new pair, and each other one is as it was
 pub record IsReplaced (p : Params) (x : ℕ) (cell : Cell) (old new : List ℕ) : Type 0 where
-  pub held : cell_of p.cap x new ≡ cell
+  pub held : cell_of x new ≡ cell
   pub others : OthersKept p x old new
 
 -- At a moment of a replacement the object has the old pair or the new one, and each other one is as it was. The other
 -- files are as they were, and nothing was said.
 pub record IsOldOrNew (old : Disk) (p : Params) (x : ℕ) (cell : Cell) (files : Files) (said : List ℕ) : Type 0 where
   pub whole : IsObjectsFile p (files Objects)
-  pub held : (cell_of p.cap x (files Objects) ≡ cell_of p.cap x (old.reads Objects)) ⊎ (cell_of p.cap x (files Objects) ≡ cell)
+  pub held : (cell_of x (files Objects) ≡ cell_of x (old.reads Objects)) ⊎ (cell_of x (files Objects) ≡ cell)
   pub others : OthersKept p x (old.reads Objects) (files Objects)
   pub other_files : OthersStay Objects old.reads files
   pub silent : said ≡ old.said
+
+-- the object has this identifier, and a value of this length, and each other one has what it had
+pub record IsRenewed (old new : SlotsView) (x id long : ℕ) : Type 0 where
+  pub id_is : id_in new x ≡ id
+  pub long_is : length_in new x ≡ long
+  pub other_ids : (y : ℕ) → y ≢ x → id_in new y ≡ id_in old y
+  pub other_lengths : (y : ℕ) → y ≢ x → length_in new y ≡ length_in old y
 
 -- which slot of an object doesn't hold it: the next value goes there
 abbrev pub spare_in : SlotsView → ℕ → ℕ

@@ -4,11 +4,11 @@ use Rattle.std.specs.Prelude.{Bool, cond, nat_eq, nat_lt}
 use Rattle.std.proofs.lemmas.Bool.{ne_eqb, eq-eqb, cond-true, cond-false, cond_both, cases_eq, cases_lt}
 use Rattle.formats.specs.Bytes.{byte_at, IsOpenAt, IsClosedAt}
 use Rattle.oper_core.specs.Cell.{Cell}
-use Rattle.formats.specs.Objects.{IsObjectsFile, AreSlotsClosed, open_identifier, identifier_at, length_at, value_at, slot_place, holder, cell_at, cell_of}
-use Rattle.formats.specs.Image.{IsOpenSlot, place_in, params_in}
+use Rattle.formats.specs.Objects.{IsObjectsFile, AreSlotsClosed, open_identifier, identifier_at, length_at, value_at, slot_place, layout_in, place_in, holder, cell_at, cell_of}
+use Rattle.formats.specs.Image.{IsOpenSlot}
+use Rattle.formats.specs.declared.layout.Layout.{Layout}
 use Rattle.formats.specs.declared.params.Params.{Params}
-use Rattle.stable_objects.specs.SlotsView.{SlotsView, AreOf, IsLate, head, id_in, holder_in}
-use Rattle.stable_objects.specs.Laws.{params_of_file}
+use Rattle.stable_objects.specs.SlotsView.{SlotsView, AreOf, IsLate, layout_of, place_of, head, id_in, holder_in}
 use Rattle.stable_objects.specs.Reading.{IsLongValue}
 
 -- what the slot at a place reports where it is closed, and where it is open
@@ -32,67 +32,75 @@ told_is_open place file some = elim (cases_eq (byte_at place file) 1) [
 ]
 
 -- an object has two slots
-one_of_two : (b : Bool) → cond b 1 0 < 2
+pub one_of_two : (b : Bool) → cond b 1 0 < 2
 one_of_two b = cond_both b 1 0 (λ s. s < 2) (λ is. omega arith) (λ is. omega arith)
 
-pub holder_below : (cap x : ℕ) (file : List ℕ) → holder cap x file < 2
-holder_below cap x file = one_of_two (nat_lt (open_identifier (slot_place cap x 0) file) (open_identifier (slot_place cap x 1) file))
+pub holder_below : (x : ℕ) (file : List ℕ) → holder x file < 2
+holder_below x file = one_of_two (nat_lt (open_identifier (place_in file x 0) file) (open_identifier (place_in file x 1) file))
 
 -- the slot that holds an object is that of the file
-pub holder_is : (slots : SlotsView) (file : List ℕ) (x : ℕ) → AreOf slots file → x < slots.params.objects → holder_in slots x ≡ holder slots.params.cap x file
+pub holder_is : (slots : SlotsView) (file : List ℕ) (x : ℕ) → AreOf slots file → x < slots.params.objects → holder_in slots x ≡ holder x file
 holder_is slots file x are below =
     let first = are.heads x 0 below (omega arith) in
     let second = are.heads x 1 below (omega arith) in
-    ap (λ (n : ℕ). cond (nat_lt n (head slots x 1)) 1 0) first ∙ ap (λ (n : ℕ). cond (nat_lt (open_identifier (slot_place slots.params.cap x 0) file) n) 1 0) second
+    ap (λ (n : ℕ). cond (nat_lt n (head slots x 1)) 1 0) first ∙ ap (λ (n : ℕ). cond (nat_lt (open_identifier (place_in file x 0) file) n) 1 0) second
 
 -- an object's identifier is that of the file
-pub id_is : (slots : SlotsView) (file : List ℕ) (x : ℕ) → AreOf slots file → x < slots.params.objects → id_in slots x ≡ (cell_of slots.params.cap x file).id
+pub id_is : (slots : SlotsView) (file : List ℕ) (x : ℕ) → AreOf slots file → x < slots.params.objects → id_in slots x ≡ (cell_of x file).id
 id_is slots file x are below =
-    ap (λ (s : ℕ). head slots x s) (holder_is slots file x are below) ∙ are.heads x (holder slots.params.cap x file) below (holder_below slots.params.cap x file)
+    ap (λ (s : ℕ). head slots x s) (holder_is slots file x are below) ∙ are.heads x (holder x file) below (holder_below x file)
 
 -- the slot that holds an object with an identifier is open
 pub held_is_open : (slots : SlotsView) (file : List ℕ) (x : ℕ) → AreOf slots file → x < slots.params.objects → id_in slots x ≢ 0
-    → IsOpenAt (slot_place slots.params.cap x (holder slots.params.cap x file)) file
-held_is_open slots file x are below some = told_is_open (slot_place slots.params.cap x (holder slots.params.cap x file)) file (omega (arith, some, id_is slots file x are below))
+    → IsOpenAt (place_in file x (holder x file)) file
+held_is_open slots file x are below some = told_is_open (place_in file x (holder x file)) file (omega (arith, some, id_is slots file x are below))
+
+-- the slots stand where the file says
+pub layout_of_file : (slots : SlotsView) (file : List ℕ) → AreOf slots file → layout_of slots ≡ layout_in file
+layout_of_file slots file are = λ i. record { params = sym are.whole.params i; first = are.first i }
+
+pub place_of_file : (slots : SlotsView) (file : List ℕ) (x s : ℕ) → AreOf slots file → place_of slots x s ≡ place_in file x s
+place_of_file slots file x s are = ap (λ (layout : Layout). slot_place layout x s) (layout_of_file slots file are)
 
 -- and the value in it is not too long
 pub held_short : (slots : SlotsView) (file : List ℕ) (x at : ℕ) → AreOf slots file → x < slots.params.objects → id_in slots x ≢ 0
-    → IsLongValue slots.params.cap (slot_place slots.params.cap x (holder_in slots x)) file at → ⊥
+    → IsLongValue slots.params.cap (place_of slots x (holder_in slots x)) file at → ⊥
 held_short slots file x at are below some wrong =
-    let cap = slots.params.cap in
-    let whole = are.whole.slots.each x (holder cap x file) below (holder_below cap x file) (held_is_open slots file x are below some) in
-    let there = subst (λ (s : ℕ). IsLongValue cap (slot_place cap x s) file at) (holder_is slots file x are below) wrong in
+    let whole = are.whole.slots.each x (holder x file) below (holder_below x file) (held_is_open slots file x are below some) in
+    let places : place_of slots x (holder_in slots x) ≡ place_in file x (holder x file) =
+    place_of_file slots file x (holder_in slots x) are ∙ ap (λ (s : ℕ). place_in file x s) (holder_is slots file x are below) in
+    let there = subst (λ (place : ℕ). IsLongValue slots.params.cap place file at) places wrong in
     there.long whole.short whole.within
 
 -- where all slots are closed, each object has the identifier 0 and no bytes
-pub closed_cells : (p : Params) (file : List ℕ) (x : ℕ) → AreSlotsClosed p file → x < p.objects → cell_of p.cap x file ≡ record { id = 0; value = [] }
+pub closed_cells : (p : Params) (file : List ℕ) (x : ℕ) → AreSlotsClosed p file → x < p.objects → cell_of x file ≡ record { id = 0; value = [] }
 closed_cells p file x closed below =
-    let held = closed x (holder p.cap x file) below (holder_below p.cap x file) in
-    let id = closed_tells (slot_place p.cap x (holder p.cap x file)) file held in
-    let value = closed_value (slot_place p.cap x (holder p.cap x file)) file held in
+    let held = closed x (holder x file) below (holder_below x file) in
+    let id = closed_tells (place_in file x (holder x file)) file held in
+    let value = closed_value (place_in file x (holder x file)) file held in
     λ i. record { id = id i; value = value i }
 
 pub closed_ids : (slots : SlotsView) (file : List ℕ) (x : ℕ) → AreOf slots file → AreSlotsClosed slots.params file → x < slots.params.objects → id_in slots x ≡ 0
 closed_ids slots file x are closed below = id_is slots file x are below ∙ ap (λ (c : Cell). c.id) (closed_cells slots.params file x closed below)
 
 -- a value has at most CAP bytes
-pub value_short : (p : Params) (file : List ℕ) (x : ℕ) → IsObjectsFile p file → x < p.objects → length (cell_of p.cap x file).value ≤ p.cap
+pub value_short : (p : Params) (file : List ℕ) (x : ℕ) → IsObjectsFile p file → x < p.objects → length (cell_of x file).value ≤ p.cap
 value_short p file x is below =
-    let s = holder p.cap x file in
-    let place = slot_place p.cap x s in
+    let s = holder x file in
+    let place = place_in file x s in
     elim (cases_eq (byte_at place file) 1) [
       | inl is_open ↦
-          let whole = is.slots.each x s below (holder_below p.cap x file) is_open in
+          let whole = is.slots.each x s below (holder_below x file) is_open in
           omega (arith, ap length (open_value place file is_open), length-take (length_at place file) (drop (place + 13) file), whole.short)
       | inr closed ↦ omega (arith, ap length (closed_value place file closed))
     ]
 
 -- with no late slot, each open one has a number below the next
 pub none_late : (slots : SlotsView) (file : List ℕ) (next : ℕ) → AreOf slots file → 0 < next → ((x s : ℕ) → IsLate slots next x s → ⊥)
-    → (x s : ℕ) → x < slots.params.objects → s < 2 → IsOpenAt (slot_place slots.params.cap x s) file → identifier_at (slot_place slots.params.cap x s) file < next
+    → (x s : ℕ) → x < slots.params.objects → s < 2 → IsOpenAt (place_in file x s) file → identifier_at (place_in file x s) file < next
 none_late slots file next are some none x s below two is_open =
-    let told : head slots x s ≡ identifier_at (slot_place slots.params.cap x s) file = are.heads x s below two ∙ open_tells (slot_place slots.params.cap x s) file is_open in
-    elim (cases_lt (identifier_at (slot_place slots.params.cap x s) file) next) [
+    let told : head slots x s ≡ identifier_at (place_in file x s) file = are.heads x s below two ∙ open_tells (place_in file x s) file is_open in
+    elim (cases_lt (identifier_at (place_in file x s) file) next) [
       | inl less ↦ less
       | inr late ↦ absurd (none x s (omega (arith, told, late, some), below, two, omega (arith, told, late)))
     ]
@@ -101,29 +109,17 @@ none_late slots file next are some none x s below two is_open =
 pub late_slot : (slots : SlotsView) (file : List ℕ) (next x s : ℕ) → AreOf slots file → IsLate slots next x s
     → IsOpenSlot file x s × (next ≤ identifier_at (place_in file x s) file)
 late_slot slots file next x s are late =
-    let p = slots.params in
-    let place = slot_place p.cap x s in
     let tells = are.heads x s late.1 late.2 in
-    let is_open : IsOpenAt place file = told_is_open place file (omega (arith, late.0, tells)) in
-    let same : p ≡ params_in file = sym (params_of_file p file are.whole) in
-    let cap : p.cap ≡ (params_in file).cap = ap (λ (q : Params). q.cap) same in
-    let objects : p.objects ≡ (params_in file).objects = ap (λ (q : Params). q.objects) same in (
-      record {
-        below = omega (arith, late.1, objects);
-        two = late.2;
-        open_gate = subst (λ (n : ℕ). IsOpenAt (slot_place n x s) file) cap is_open;
-      },
-      subst (λ (n : ℕ). next ≤ identifier_at (slot_place n x s) file) cap (omega (arith, tells, open_tells place file is_open, late.3)),
+    let is_open : IsOpenAt (place_in file x s) file = told_is_open (place_in file x s) file (omega (arith, late.0, tells)) in
+    let objects = ap (λ (q : Params). q.objects) are.whole.params in (
+      record { below = omega (arith, late.1, objects); two = late.2; open_gate = is_open },
+      omega (arith, tells, open_tells (place_in file x s) file is_open, late.3),
     )
 
 -- an open slot with this number or a later one is late
 pub is_late : (slots : SlotsView) (file : List ℕ) (next x s : ℕ) → AreOf slots file → IsOpenSlot file x s → next ≤ identifier_at (place_in file x s) file → IsLate slots next x s
 is_late slots file next x s are slot late =
-    let p = slots.params in
-    let place = slot_place p.cap x s in
-    let same : params_in file ≡ p = params_of_file p file are.whole in
-    let below : x < p.objects = subst (λ (q : Params). x < q.objects) same slot.below in
-    let is_open : IsOpenAt place file = subst (λ (q : Params). IsOpenAt (slot_place q.cap x s) file) same slot.open_gate in
-    let tells : head slots x s ≡ identifier_at place file = are.heads x s below slot.two ∙ open_tells place file is_open in
-    let number = subst (λ (q : Params). next ≤ identifier_at (slot_place q.cap x s) file) same late in
-    (omega (arith, tells, (are.whole.slots.each x s below slot.two is_open).some), below, slot.two, omega (arith, tells, number))
+    let objects = ap (λ (q : Params). q.objects) are.whole.params in
+    let below : x < slots.params.objects = omega (arith, slot.below, objects) in
+    let tells : head slots x s ≡ identifier_at (place_in file x s) file = are.heads x s below slot.two ∙ open_tells (place_in file x s) file slot.open_gate in
+    (omega (arith, tells, (are.whole.slots.each x s below slot.two slot.open_gate).some), below, slot.two, omega (arith, tells, late))

@@ -1,10 +1,10 @@
 // Reads the heads of the slots.
-ghost use Rattle.std.specs.Prelude.{◌≡◌, ◌<◌, ◌≤◌, ◌*◌, ◌^◌, length, IfOk, IfErr, OnOk};
+ghost use Rattle.std.specs.Prelude.{◌≡◌, ◌<◌, ◌≤◌, ◌*◌, ◌^◌, if◌then◌else◌, nat_lt, length, IfOk, IfErr, OnOk};
 ghost use Rattle.disk_model.specs.Disk.{Files, Rises, Stays};
 ghost use Rattle.disk_model.specs.declared.machine.FileNo.TheVariants.{Objects};
-ghost use Rattle.formats.specs.Objects.{IsInRange};
 ghost use Rattle.formats.specs.Reading.{FailsBy};
-ghost use Rattle.stable_objects.specs.Heads.{ShowsFile, head_at, IsRead, IsHeadFault, IsPair, IsPairFault, ArePairs, HasPairFault};
+ghost use Rattle.stable_objects.specs.Heads.{ShowsFile, head_at, IsReadWhole, IsHeadFault, IsWholePair, IsPairFault, AreWholePairs, HasPairFault};
+ghost use Rattle.stable_objects.specs.Layouts.{IsLayout};
 ghost use Rattle.stable_objects.specs.Reading.{FailsAt};
 
 use crate::damage::damaged_at;
@@ -12,18 +12,33 @@ use crate::layout::{OPEN, SLOT_HEAD_BYTES, place_of};
 use crate::window::Window;
 use byteorder::{ByteOrder, LittleEndian};
 use disk_model::Machine;
-use formats::{NUMBERS_END, Params, ReadErr};
+use formats::{Layout, NUMBERS_END, ReadErr};
 use std::alloc::Global;
 
+// The identifier in a slot and the length of its value, 0 and 0 where its gate is closed.
+#[derive(Clone, Copy)]
+struct SlotHead {
+    id: u64,
+    long: u32,
+}
+
+// The identifiers in the two slots of an object, and the length of the value that it holds.
+#[derive(Clone, Copy)]
+struct Pair {
+    first: u64,
+    second: u64,
+    long: u32,
+}
+
 // What the bytes of a head say, in a file of this size.
-fn parse_head(head: &[u8], cap: u32, place: u64, size: u64) -> Result<u64, ReadErr>
+fn parse_head(head: &[u8], cap: u32, place: u64, size: u64) -> Result<SlotHead, ReadErr>
     requires long { length head.now ≡ 13 }
-    requires small { place < 2 ^ 32 }
-    ensures read { IfOk result (IsRead cap place size (head_at 0 head.now)) }
+    requires small { place < 2 ^ 40 }
+    ensures read { IfOk result (λ found. IsReadWhole cap place size (head_at 0 head.now) found.id found.long) }
     ensures cause { IfErr result (FailsBy ⊥ (FailsAt (IsHeadFault cap place size (head_at 0 head.now)))) }
 {
     if head[0] != OPEN {
-        return Ok(0);
+        return Ok(SlotHead { id: 0, long: 0 });
     }
     let id = LittleEndian::read_u64(&head[1..]);
     if id == 0 || id >= NUMBERS_END {
@@ -36,76 +51,95 @@ fn parse_head(head: &[u8], cap: u32, place: u64, size: u64) -> Result<u64, ReadE
     if long != 0 && size < place + SLOT_HEAD_BYTES + long as u64 {
         return Err(damaged_at(place + 9));
     }
-    Ok(id)
+    Ok(SlotHead { id, long })
 }
 
-// The identifier in the slot at a place, 0 where its gate is closed.
+// The head of the slot at a place.
 fn read_head<M: Machine>(
     machine: &mut M,
     window: &mut Window,
     cap: u32,
     place: u64,
     size: u64,
-) -> Result<u64, ReadErr>
+) -> Result<SlotHead, ReadErr>
     requires shows { ShowsFile (M.disk machine.old) window.old.place window.old.bytes.items }
-    requires small { place < 2 ^ 32 }
+    requires small { place < 2 ^ 40 }
     ensures shows { OnOk result (ShowsFile (M.disk machine.new) window.new.place window.new.bytes.items) }
     ensures kept { Stays (M.disk machine.old) (M.disk machine.new) }
-    ensures read { (files : Files) → (M.disk machine.new).agrees files → IfOk result (IsRead cap place size (head_at place (files Objects))) }
+    ensures read { (files : Files) → (M.disk machine.new).agrees files → IfOk result (λ found. IsReadWhole cap place size (head_at place (files Objects)) found.id found.long) }
     ensures cause { IfErr result (FailsBy (Rises (M.disk machine.old).disk_faults (M.disk machine.new).disk_faults)
         (FailsAt (λ at. (files : Files) → (M.disk machine.new).agrees files → IsHeadFault cap place size (head_at place (files Objects)) at))) }
 {
     let head = window.head_at(machine, place)?;
-    let id = parse_head(&head, cap, place, size)?;
-    Ok(id)
+    let found = parse_head(&head, cap, place, size)?;
+    Ok(found)
 }
 
-// The identifiers in the two slots of an object.
+// The length of the value of an object whose slots have these heads.
+fn held_long(first: SlotHead, second: SlotHead) -> u32
+    ensures { result ≡ (if nat_lt first.id second.id then second.long else first.long) }
+{
+    if first.id < second.id {
+        second.long
+    } else {
+        first.long
+    }
+}
+
+// The heads of the two slots of an object.
 fn read_pair<M: Machine>(
     machine: &mut M,
     window: &mut Window,
-    cap: u32,
+    layout: Layout,
     object: u32,
     size: u64,
-) -> Result<(u64, u64), ReadErr>
+) -> Result<Pair, ReadErr>
     requires shows { ShowsFile (M.disk machine.old) window.old.place window.old.bytes.items }
-    requires cap { cap ≤ 16384 }
-    requires object { object < 4096 }
+    requires layout { IsLayout layout }
+    requires object { object < layout.params.objects }
     ensures shows { OnOk result (ShowsFile (M.disk machine.new) window.new.place window.new.bytes.items) }
     ensures kept { Stays (M.disk machine.old) (M.disk machine.new) }
-    ensures read { (files : Files) → (M.disk machine.new).agrees files → IfOk result (λ ids. IsPair cap object size (files Objects) ids.0 ids.1) }
+    ensures read { (files : Files) → (M.disk machine.new).agrees files → IfOk result (λ pair. IsWholePair layout object size (files Objects) pair.first pair.second pair.long) }
     ensures cause { IfErr result (FailsBy (Rises (M.disk machine.old).disk_faults (M.disk machine.new).disk_faults)
-        (FailsAt (λ at. (files : Files) → (M.disk machine.new).agrees files → IsPairFault cap object size (files Objects) at))) }
+        (FailsAt (λ at. (files : Files) → (M.disk machine.new).agrees files → IsPairFault layout object size (files Objects) at))) }
 {
-    let first = read_head(machine, window, cap, place_of(cap, object, 0), size)?;
-    let place = place_of(cap, object, 1);
+    let cap = layout.params.cap;
+    let first = read_head(machine, window, cap, place_of(layout, object, 0), size)?;
+    let place = place_of(layout, object, 1);
     let second = read_head(machine, window, cap, place, size)?;
-    if first != 0 && first == second {
+    if first.id != 0 && first.id == second.id {
         return Err(damaged_at(place + 1));
     }
-    Ok((first, second))
+    Ok(Pair {
+        first: first.id,
+        second: second.id,
+        long: held_long(first, second),
+    })
 }
 
-/// The identifiers in all slots of a file of this size, two for each object, 0 where a slot is closed.
+/// The identifiers in all slots of a file of this size, two for each object, 0 where a slot is closed, and the length of
+/// each object's value.
 pub fn read_heads<M: Machine>(
     alloc: Global,
     machine: &mut M,
-    params: Params,
+    layout: Layout,
     size: u64,
-) -> Result<Vec<u64>, ReadErr>
-    requires { IsInRange params }
+) -> Result<(Vec<u64>, Vec<u32>), ReadErr>
+    requires { IsLayout layout }
     ensures kept { Stays (M.disk machine.old) (M.disk machine.new) }
-    ensures count { IfOk result (λ heads. length heads.items ≡ 2 * params.objects) }
-    ensures read { (files : Files) → (M.disk machine.new).agrees files → IfOk result (λ heads. ArePairs params.cap size (files Objects) params.objects heads.items) }
+    ensures count { IfOk result (λ found. (length found.0.items ≡ 2 * layout.params.objects) × (length found.1.items ≡ layout.params.objects)) }
+    ensures read { (files : Files) → (M.disk machine.new).agrees files → IfOk result (λ found. AreWholePairs layout size (files Objects) layout.params.objects found.0.items found.1.items) }
     ensures cause { IfErr result (FailsBy (Rises (M.disk machine.old).disk_faults (M.disk machine.new).disk_faults)
-        (FailsAt (λ at. (files : Files) → (M.disk machine.new).agrees files → HasPairFault params size (files Objects) at))) }
+        (FailsAt (λ at. (files : Files) → (M.disk machine.new).agrees files → HasPairFault layout size (files Objects) at))) }
 {
-    let mut heads = Vec::with_capacity(alloc, 2 * params.objects as usize)?;
-    let mut window = Window::open(alloc, machine, params.cap, size)?;
-    for object in 0..params.objects {
-        let (first, second) = read_pair(machine, &mut window, params.cap, object, size)?;
-        heads.push(first)?;
-        heads.push(second)?;
+    let mut heads = Vec::with_capacity(alloc, 2 * layout.params.objects as usize)?;
+    let mut lengths = Vec::with_capacity(alloc, layout.params.objects as usize)?;
+    let mut window = Window::open(alloc, machine, layout, size)?;
+    for object in 0..layout.params.objects {
+        let pair = read_pair(machine, &mut window, layout, object, size)?;
+        heads.push(pair.first)?;
+        heads.push(pair.second)?;
+        lengths.push(pair.long)?;
     }
-    Ok(heads)
+    Ok((heads, lengths))
 }

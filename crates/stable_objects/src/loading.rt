@@ -1,49 +1,72 @@
-// Reads and checks the header, and loads the slots.
-ghost use Rattle.std.specs.Prelude.{◌≡◌, ◌≢◌, ◌∷◌, ◌<◌, length, IfOk, IfErr, IsErrOf};
+// Reads and checks the header and the numbers, and loads the slots.
+ghost use Rattle.std.specs.Prelude.{◌≡◌, ◌≢◌, length, IfOk, IfErr, IsErrOf};
 ghost use Rattle.disk_model.specs.Disk.{Files, Rises, Stays};
 ghost use Rattle.disk_model.specs.declared.machine.FileNo.TheVariants.{Objects};
 ghost use Rattle.formats.specs.Bytes.{IsOpenAt, IsClosedAt};
-ghost use Rattle.formats.specs.FirstFault.{NoMore, ObjectsChecks};
-ghost use Rattle.formats.specs.Objects.{IsInRange, IsObjectsFile, objects_fields};
+ghost use Rattle.formats.specs.FirstFault.{NoMore, HeadChecks, NumberChecks};
+ghost use Rattle.formats.specs.Objects.{IsInRange, IsInForm, IsObjectsFile, params_at};
 ghost use Rattle.formats.specs.Reading.{FailsBy};
 ghost use Rattle.formats.specs.declared.params.Params.{Params as Numbers};
+ghost use Rattle.stable_objects.specs.Layouts.{IsForm, IsLayout};
 ghost use Rattle.stable_objects.specs.SlotsView.{AreOf};
-ghost use Rattle.stable_objects.specs.Reading.{FailsAt, HasHeader, IsDamagedAt, IsNoDamage, OpensNot};
+ghost use Rattle.stable_objects.specs.Reading.{FailsAt, HasForm, HasHeader, IsDamagedAt, IsNoDamage, OpensNot};
 
 use crate::damage::damaged_at;
 use crate::heads::read_heads;
 use crate::layout::{
-    CAP_PLACE, HEADER_BYTES, LEAST_ROOM, LIMIT_PLACE, MAGIC, MAGIC_PLACE, MAX_CAP, MAX_LIMIT,
-    MAX_OBJECTS, MIN_CAP, OBJECTS_PLACE, OPEN, gate_place,
+    CAP_PLACE, FIRST_MOST, HEADER_BYTES, LEAST_ROOM, MAGIC, MAGIC_PLACE, MAX_LIMIT, MIN_CAP,
+    NUMBERS_BYTES, OBJECTS_PLACE, OPEN, SECOND_VERSION, first_form, gate_place, second_form,
 };
 use crate::{OpenErr, Slots};
 use byteorder::{ByteOrder, LittleEndian};
 use disk_model::{FileNo, Machine, read_padded};
-use formats::{Params, ReadErr};
+use formats::{Form, Layout, Params, ReadErr};
+use oper_core::Bounds;
 use std::alloc::Global;
 
-// What the bytes of a header say.
-fn parse_header(head: &[u8]) -> Result<Params, ReadErr>
-    requires long { length head.now ≡ 21 }
-    requires gate { IsOpenAt 0 head.now }
-    ensures ok { IfOk result (λ p. IsInRange p × (head.now ≡ 1 ∷ objects_fields p)) }
-    ensures cause { IfErr result (FailsBy ⊥ (FailsAt (ObjectsChecks head.now NoMore))) }
+// The form of a file whose header has these bytes.
+fn parse_header(head: &[u8]) -> Result<Form, ReadErr>
+    requires long { length head.now ≡ 17 }
+    ensures ok { IfOk result (HasForm head.now) }
+    ensures cause { IfErr result (FailsBy ⊥ (FailsAt (HeadChecks head.now NoMore))) }
     ensures no_memory { IfErr result (λ e. e ≢ ReadErr.Memory) }
 {
-    if head[1..9] != MAGIC[..] {
+    if head[1..8] != MAGIC[..] {
         return Err(damaged_at(MAGIC_PLACE));
     }
+    if head[8] != SECOND_VERSION {
+        return Ok(first_form());
+    }
     let objects = LittleEndian::read_u32(&head[9..]);
-    if objects == 0 || objects > MAX_OBJECTS {
+    if objects > FIRST_MOST.objects {
         return Err(damaged_at(OBJECTS_PLACE));
     }
     let cap = LittleEndian::read_u32(&head[13..]);
-    if cap < MIN_CAP || cap > MAX_CAP {
+    if cap > FIRST_MOST.cap {
         return Err(damaged_at(CAP_PLACE));
     }
-    let limit = LittleEndian::read_u32(&head[17..]);
+    Ok(second_form(Bounds { objects, cap }))
+}
+
+// The numbers in these bytes, which stand in a file of this form.
+fn parse_numbers(bytes: &[u8], form: Form) -> Result<Params, ReadErr>
+    requires long { length bytes.now ≡ 12 }
+    requires form { IsForm form }
+    ensures ok { IfOk result (λ p. (p ≡ params_at 0 bytes.now) × IsInRange p × IsInForm form p) }
+    ensures cause { IfErr result (FailsBy ⊥ (FailsAt (NumberChecks form (params_at 0 bytes.now) NoMore))) }
+    ensures no_memory { IfErr result (λ e. e ≢ ReadErr.Memory) }
+{
+    let objects = LittleEndian::read_u32(bytes);
+    if objects == 0 || objects > form.most.objects || objects < form.older.objects {
+        return Err(damaged_at(form.numbers));
+    }
+    let cap = LittleEndian::read_u32(&bytes[4..]);
+    if cap < MIN_CAP || cap > form.most.cap || cap < form.older.cap {
+        return Err(damaged_at(form.numbers + 4));
+    }
+    let limit = LittleEndian::read_u32(&bytes[8..]);
     if limit < 2 * cap + LEAST_ROOM || limit > MAX_LIMIT {
-        return Err(damaged_at(LIMIT_PLACE));
+        return Err(damaged_at(form.numbers + 8));
     }
     Ok(Params {
         objects,
@@ -52,11 +75,11 @@ fn parse_header(head: &[u8]) -> Result<Params, ReadErr>
     })
 }
 
-// The header, and that the file reaches to the last slot's gate.
-fn read_header<M: Machine>(machine: &mut M) -> Result<Params, OpenErr>
+// The form of the file.
+fn read_form<M: Machine>(machine: &mut M) -> Result<Form, OpenErr>
     ensures kept { Stays (M.disk machine.old) (M.disk machine.new) }
-    ensures in_range { IfOk result IsInRange }
-    ensures read { (files : Files) → (M.disk machine.new).agrees files → IfOk result (λ p. HasHeader p (files Objects)) }
+    ensures known { IfOk result IsForm }
+    ensures read { (files : Files) → (M.disk machine.new).agrees files → IfOk result (λ form. IsOpenAt 0 (files Objects) × HasForm (files Objects) form) }
     ensures cause { IfErr result (OpensNot ((files : Files) → (M.disk machine.new).agrees files → IsClosedAt 0 (files Objects))
         (FailsBy (Rises (M.disk machine.old).disk_faults (M.disk machine.new).disk_faults)
         (FailsAt (λ place. (files : Files) → (M.disk machine.new).agrees files → IsDamagedAt (files Objects) place)))) }
@@ -67,15 +90,50 @@ fn read_header<M: Machine>(machine: &mut M) -> Result<Params, OpenErr>
     if head[0] != OPEN {
         return Err(OpenErr::NotAStore);
     }
-    let params = parse_header(&head)?;
+    let form = parse_header(&head)?;
+    Ok(form)
+}
+
+// The numbers of a file of this form.
+fn read_numbers<M: Machine>(machine: &mut M, form: Form) -> Result<Params, ReadErr>
+    requires { IsForm form }
+    ensures kept { Stays (M.disk machine.old) (M.disk machine.new) }
+    ensures in_range { IfOk result (λ p. IsInRange p × IsInForm form p) }
+    ensures read { (files : Files) → (M.disk machine.new).agrees files → IfOk result (λ p. p ≡ params_at form.numbers (files Objects)) }
+    ensures cause { IfErr result (FailsBy (Rises (M.disk machine.old).disk_faults (M.disk machine.new).disk_faults)
+        (FailsAt (λ place. (files : Files) → (M.disk machine.new).agrees files → NumberChecks form (params_at form.numbers (files Objects)) NoMore place))) }
+    ensures no_memory { IfErr result (λ e. e ≢ ReadErr.Memory) }
+{
+    let mut bytes = [0; NUMBERS_BYTES];
+    read_padded(machine, FileNo::Objects, form.numbers, &mut bytes)?;
+    let params = parse_numbers(&bytes, form)?;
+    Ok(params)
+}
+
+// Where the slots stand, in a file that reaches to the last slot's gate.
+fn read_layout<M: Machine>(machine: &mut M) -> Result<Layout, OpenErr>
+    ensures kept { Stays (M.disk machine.old) (M.disk machine.new) }
+    ensures is_layout { IfOk result IsLayout }
+    ensures read { (files : Files) → (M.disk machine.new).agrees files → IfOk result (λ layout. HasHeader layout (files Objects)) }
+    ensures cause { IfErr result (OpensNot ((files : Files) → (M.disk machine.new).agrees files → IsClosedAt 0 (files Objects))
+        (FailsBy (Rises (M.disk machine.old).disk_faults (M.disk machine.new).disk_faults)
+        (FailsAt (λ place. (files : Files) → (M.disk machine.new).agrees files → IsDamagedAt (files Objects) place)))) }
+    ensures no_memory { IfErr result (λ e. e ≢ OpenErr.Memory) }
+{
+    let form = read_form(machine)?;
+    let params = read_numbers(machine, form)?;
+    let layout = Layout {
+        params,
+        first: form.first,
+    };
     let size = machine.size(FileNo::Objects)?;
-    if size <= gate_place(params.cap, 2 * params.objects - 1) {
+    if size <= gate_place(layout, 2 * params.objects - 1) {
         return Err(OpenErr::Damaged {
             file: FileNo::Objects,
             place: 0,
         });
     }
-    Ok(params)
+    Ok(layout)
 }
 
 impl Slots {
@@ -92,9 +150,14 @@ impl Slots {
         ensures whole { (files : Files) → (M.disk machine.new).agrees files → (p : Numbers) → IsObjectsFile p (files Objects) → IfErr result IsNoDamage }
         ensures memory { (files : Files) → (M.disk machine.new).agrees files → IsErrOf result OpenErr.Memory → IsOpenAt 0 (files Objects) }
     {
-        let params = read_header(machine)?;
+        let layout = read_layout(machine)?;
         let size = machine.size(FileNo::Objects)?;
-        let heads = read_heads(alloc, machine, params, size)?;
-        Ok(Slots { params, heads })
+        let (heads, lengths) = read_heads(alloc, machine, layout, size)?;
+        Ok(Slots {
+            params: layout.params,
+            first: layout.first,
+            heads,
+            lengths,
+        })
     }
 }

@@ -1,19 +1,19 @@
 // An object gets a new value: its other slot is closed, filled, and opened last.
-ghost use Rattle.std.specs.Prelude.{◌≡◌, ◌≢◌, ℕ, ◌<◌, ◌≤◌, ◌+◌, ◌*◌, ◌^◌, ◌++◌, length, OnOk, IsErr};
+ghost use Rattle.std.specs.Prelude.{◌≡◌, ◌<◌, ◌≤◌, ◌+◌, ◌*◌, ◌^◌, ◌++◌, length, OnOk, OnErr, IsErr};
 ghost use Rattle.byteorder.specs.Endian.{little_bytes};
 ghost use Rattle.disk_model.specs.Disk.{Rises, Runs, Stays, In, Torn, Any, Same, IsSettled, LeavesOnly};
 ghost use Rattle.disk_model.specs.declared.machine.FileNo.TheVariants.{Objects};
 ghost use Rattle.formats.specs.Bytes.{IsClosedAt};
-ghost use Rattle.stable_objects.specs.SlotsView.{id_in, AreOf};
-ghost use Rattle.stable_objects.specs.Replacing.{IsReplaced, IsOldOrNew, IsFilled, IsPut, IsHalfPut, spare_in};
+ghost use Rattle.stable_objects.specs.SlotsView.{id_in, layout_of, AreOf};
+ghost use Rattle.stable_objects.specs.Replacing.{IsReplaced, IsRenewed, IsOldOrNew, IsFilled, IsPut, IsHalfPut, spare_in};
 
 use crate::Slots;
 use crate::layout::{CLOSED, OPEN, gate_place};
 use byteorder::{ByteOrder, LittleEndian};
 use disk_model::{Failed, FileNo, Machine, write_through};
 
-// The identifier and the length.
-fn head_of(id: u64, length: u32) -> [u8; 12]
+/// The identifier and the length.
+pub fn head_of(id: u64, length: u32) -> [u8; 12]
     ensures { result ≡ little_bytes 8 id ++ little_bytes 4 length }
 {
     let mut head = [0; 12];
@@ -41,7 +41,7 @@ fn close_slot<M: Machine>(machine: &mut M, place: u64, id: u64) -> Result<(), Fa
 // Writes all but the gate of a slot, and syncs it.
 fn fill<M: Machine>(machine: &mut M, place: u64, id: u64, value: &[u8]) -> Result<(), Failed>
     requires place { place < 2 ^ 62 }
-    requires short { length value.now ≤ 16384 }
+    requires short { length value.now ≤ 1048576 }
     ensures runs { Runs (In Objects (Torn (place + 1) (12 + length value.now))) Same (M.disk machine.old) (M.disk machine.new) }
     ensures filled { (M.disk machine.old).tells_files → OnOk result (IsFilled place id value.now ((M.disk machine.new).reads Objects)) }
     ensures settled { IsSettled (M.disk machine.old) → OnOk result (IsSettled (M.disk machine.new)) }
@@ -56,7 +56,7 @@ fn fill<M: Machine>(machine: &mut M, place: u64, id: u64, value: &[u8]) -> Resul
 // Fills a slot whose gate is closed, and opens the gate once all else is on the disk.
 fn put<M: Machine>(machine: &mut M, place: u64, id: u64, value: &[u8]) -> Result<(), Failed>
     requires place { place < 2 ^ 62 }
-    requires short { length value.now ≤ 16384 }
+    requires short { length value.now ≤ 1048576 }
     ensures runs { Runs (In Objects Any) Same (M.disk machine.old) (M.disk machine.new) }
     ensures put { (M.disk machine.old).tells_files → OnOk result (IsPut place id value.now ((M.disk machine.old).reads Objects) ((M.disk machine.new).reads Objects)) }
     ensures settled { IsSettled (M.disk machine.old) → OnOk result (IsSettled (M.disk machine.new)) }
@@ -97,9 +97,9 @@ impl Slots {
         requires numbered { lsn < 2 ^ 62 }
         requires short { length bytes.now ≤ self.old.params.cap }
         ensures runs { Runs (In Objects Any) Same (M.disk machine.old) (M.disk machine.new) }
-        ensures params { self.new.params ≡ self.old.params }
-        ensures id { OnOk result (id_in self.new object ≡ lsn) }
-        ensures other_ids { OnOk result ((y : ℕ) → y ≢ object → id_in self.new y ≡ id_in self.old y) }
+        ensures layout { layout_of self.new ≡ layout_of self.old }
+        ensures renewed { OnOk result (IsRenewed self.old self.new object lsn (length bytes.now)) }
+        ensures lengths { OnErr result (self.new.lengths ≡ self.old.lengths) }
         ensures replaced { (M.disk machine.old).tells_files → AreOf self.old ((M.disk machine.old).reads Objects) →
             OnOk result (AreOf self.new ((M.disk machine.new).reads Objects)
             × IsReplaced self.old.params object (record { id = lsn; value = bytes.now }) ((M.disk machine.old).reads Objects) ((M.disk machine.new).reads Objects)) }
@@ -112,11 +112,12 @@ impl Slots {
         ensures cause { IsErr result → Rises (M.disk machine.old).disk_faults (M.disk machine.new).disk_faults }
     {
         let slot = self.spare(object);
-        let place = gate_place(self.params.cap, slot as u32);
+        let place = gate_place(self.layout(), slot as u32);
         close_slot(machine, place, self.heads[slot])?;
         self.heads[slot] = 0;
         put(machine, place, lsn, bytes)?;
         self.heads[slot] = lsn;
+        self.lengths[object as usize] = bytes.len() as u32;
         Ok(())
     }
 }

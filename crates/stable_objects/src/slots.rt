@@ -1,9 +1,10 @@
 ghost use Rattle.std.specs.Prelude.{◌≡◌, ◌<◌, ◌≤◌, ◌+◌, ◌*◌, ◌&&◌, ℕ, IfSome, IfNone, nat_lt, nat_le, position};
-ghost use Rattle.formats.specs.Objects.{bounds_of, slot_place};
-ghost use Rattle.stable_objects.specs.SlotsView.{id_in, holder_in, IsLate};
+ghost use Rattle.formats.specs.Objects.{bounds_of};
+ghost use Rattle.stable_objects.specs.Layouts.{IsLayout};
+ghost use Rattle.stable_objects.specs.SlotsView.{id_in, holder_in, layout_of, length_in, place_of, IsLate};
 
 use crate::layout::gate_place;
-use formats::Params;
+use formats::{Layout, Params};
 use oper_core::Bounds;
 use std::marker::Model;
 
@@ -14,8 +15,12 @@ use std::marker::Model;
 #[derive(Drop)]
 pub struct Slots {
     pub(crate) params: Params,
+    /// The place of the first slot.
+    pub(crate) first: u64,
     /// The identifier in each slot, two for each object, 0 where the slot is closed.
     pub(crate) heads: Vec<u64>,
+    /// How long the value of each object is.
+    pub(crate) lengths: Vec<u32>,
 }
 
 impl Model for Slots {
@@ -23,9 +28,9 @@ impl Model for Slots {
 
     ghost Value = { SlotsView };
 
-    ghost view = { λ s. record { params = s.params; heads = s.heads.items } };
+    ghost view = { λ s. record { params = s.params; first = s.first; heads = s.heads.items; lengths = s.lengths.items } };
 
-    ghost invariant = { λ s. AreHeads s.params s.heads.items };
+    ghost invariant = { λ s. AreHeads (record { params = s.params; first = s.first }) s.heads.items s.lengths.items };
 }
 
 // Which of these identifiers is the first that is not 0, and is `next` or more.
@@ -36,11 +41,22 @@ fn first_late(heads: &[u64], next: u64) -> Option<usize>
 }
 
 impl Slots {
-    /// The numbers that the store was made with.
+    /// The numbers of the store.
     pub fn params(&self) -> Params
         ensures { result ≡ self.now.params }
     {
         self.params
+    }
+
+    /// Where the slots stand.
+    pub(crate) fn layout(&self) -> Layout
+        ensures is { result ≡ layout_of self.now }
+        ensures known { IsLayout result }
+    {
+        Layout {
+            params: self.params,
+            first: self.first,
+        }
     }
 
     /// How many objects the store has, and how many bytes each may hold.
@@ -68,6 +84,14 @@ impl Slots {
         self.heads[self.holder(object)]
     }
 
+    /// How many bytes the value of an object has, 0 where no slot is open.
+    pub fn length(&self, object: u32) -> u32
+        requires { object < self.now.params.objects }
+        ensures { result ≡ length_in self.now object }
+    {
+        self.lengths[object as usize]
+    }
+
     /// Which of all slots holds an object: of its two the one with the greater identifier, the first where both are
     /// closed.
     pub(crate) fn holder(&self, object: u32) -> usize
@@ -85,11 +109,11 @@ impl Slots {
     /// The place of the first identifier, in the order of the file, of an open slot that is `next` or more; none exactly
     /// where there is none.
     pub fn first_at(&self, next: u64) -> Option<u64>
-        ensures some { IfSome result (λ place. (x : ℕ) × (s : ℕ) × IsLate self.now next x s × (place ≡ slot_place self.now.params.cap x s + 1)
+        ensures some { IfSome result (λ place. (x : ℕ) × (s : ℕ) × IsLate self.now next x s × (place ≡ place_of self.now x s + 1)
             × ((y t : ℕ) → IsLate self.now next y t → 2 * x + s ≤ 2 * y + t)) }
         ensures none { IfNone result ((x s : ℕ) → IsLate self.now next x s → ⊥) }
     {
         let slot = first_late(&self.heads, next)?;
-        Some(gate_place(self.params.cap, slot as u32) + 1)
+        Some(gate_place(self.layout(), slot as u32) + 1)
     }
 }

@@ -2,9 +2,9 @@
 ghost use Rattle.std.specs.Prelude.{◌≡◌, ◌<◌, ◌≤◌, ◌^◌, [], length, OnOk, IfOk, IfErr, IsOk};
 ghost use Rattle.disk_model.specs.Disk.{Files, Rises, Stays};
 ghost use Rattle.disk_model.specs.declared.machine.FileNo.TheVariants.{Objects};
-ghost use Rattle.formats.specs.Objects.{slot_place, value_at, cell_of};
+ghost use Rattle.formats.specs.Objects.{value_at, cell_of};
 ghost use Rattle.formats.specs.Reading.{FailsBy, TellsDamage};
-ghost use Rattle.stable_objects.specs.SlotsView.{AreOf, id_in, holder_in};
+ghost use Rattle.stable_objects.specs.SlotsView.{AreOf, id_in, holder_in, place_of};
 ghost use Rattle.stable_objects.specs.Reading.{FailsAt, IsLongValue};
 
 use crate::Slots;
@@ -21,7 +21,7 @@ fn read_value<M: Machine>(
     place: u64,
     into: &mut Vec<u8>,
 ) -> Result<(), ReadErr>
-    requires { place < 2 ^ 32 }
+    requires { place < 2 ^ 40 }
     ensures kept { Stays (M.disk machine.old) (M.disk machine.new) }
     ensures short { OnOk result (length into.new.items ≤ cap) }
     ensures value { (files : Files) → (M.disk machine.new).agrees files → OnOk result (into.new.items ≡ value_at place (files Objects)) }
@@ -63,14 +63,14 @@ impl Slots {
         ensures id { IfOk result (λ id. id ≡ id_in self.now object) }
         ensures short { OnOk result (length into.new.items ≤ self.now.params.cap) }
         ensures value { (files : Files) → (M.disk machine.new).agrees files → AreOf self.now (files Objects) →
-            OnOk result (into.new.items ≡ (cell_of self.now.params.cap object (files Objects)).value) }
+            OnOk result (into.new.items ≡ (cell_of object (files Objects)).value) }
 
         // An object without an open slot costs no call.
         ensures none { id_in self.now object ≡ 0 → IsOk result × (into.new.items ≡ []) × (machine.new ≡ machine.old) }
 
         ensures cause { IfErr result (FailsBy (Rises (M.disk machine.old).disk_faults (M.disk machine.new).disk_faults)
             (FailsAt (λ place. (files : Files) → (M.disk machine.new).agrees files →
-            IsLongValue self.now.params.cap (slot_place self.now.params.cap object (holder_in self.now object)) (files Objects) place))) }
+            IsLongValue self.now.params.cap (place_of self.now object (holder_in self.now object)) (files Objects) place))) }
         ensures whole { (files : Files) → (M.disk machine.new).agrees files → AreOf self.now (files Objects) → IfErr result (λ e. TellsDamage e → ⊥) }
     {
         into.clear();
@@ -78,7 +78,7 @@ impl Slots {
         if id == 0 {
             return Ok(0);
         }
-        let place = gate_place(self.params.cap, self.holder(object) as u32);
+        let place = gate_place(self.layout(), self.holder(object) as u32);
         read_value(machine, self.params.cap, place, into)?;
         Ok(id)
     }

@@ -7,9 +7,9 @@ ghost use Rattle.formats.specs.Reading.{FailsBy};
 ghost use Rattle.stable_objects.specs.Heads.{ShowsFile};
 ghost use Rattle.stable_objects.specs.Reading.{FailsAt};
 
-use crate::layout::{FIRST_SLOT, SLOT_HEAD_BYTES};
+use crate::layout::SLOT_HEAD_BYTES;
 use disk_model::{Failed, FileNo, Machine, read_padded};
-use formats::ReadErr;
+use formats::{Layout, ReadErr};
 use std::alloc::Global;
 
 // So many bytes are read at once.
@@ -37,21 +37,21 @@ fn window_bytes(cap: u32, size: u64) -> usize
 }
 
 impl Window {
-    /// A window that begins at the first slot, for a file of this size.
+    /// A window that begins at the first slot of a file of this size.
     pub fn open<M: Machine>(
         alloc: Global,
         machine: &mut M,
-        cap: u32,
+        layout: Layout,
         size: u64,
     ) -> Result<Window, ReadErr>
         ensures kept { Stays (M.disk machine.old) (M.disk machine.new) }
         ensures shows { IfOk result (λ w. ShowsFile (M.disk machine.new) w.place w.bytes.items) }
         ensures cause { IfErr result (FailsBy (Rises (M.disk machine.old).disk_faults (M.disk machine.new).disk_faults) (FailsAt (λ at. ⊥))) }
     {
-        let mut bytes = vec![in alloc; 0; window_bytes(cap, size)]?;
-        read_padded(machine, FileNo::Objects, FIRST_SLOT, &mut bytes)?;
+        let mut bytes = vec![in alloc; 0; window_bytes(layout.params.cap, size)]?;
+        read_padded(machine, FileNo::Objects, layout.first, &mut bytes)?;
         Ok(Window {
-            place: FIRST_SLOT,
+            place: layout.first,
             bytes,
         })
     }
@@ -63,7 +63,7 @@ impl Window {
         place: u64,
     ) -> Result<[u8; SLOT_HEAD_BYTES as usize], Failed>
         requires shows { ShowsFile (M.disk machine.old) self.old.place self.old.bytes.items }
-        requires small { place < 2 ^ 32 }
+        requires small { place < 2 ^ 40 }
         ensures kept { Stays (M.disk machine.old) (M.disk machine.new) }
         ensures shows { OnOk result (ShowsFile (M.disk machine.new) self.new.place self.new.bytes.items) }
         ensures head { (files : Files) → (M.disk machine.new).agrees files → IfOk result (λ head. head ≡ padded (files Objects) place 13) }
@@ -78,7 +78,7 @@ impl Window {
     // Sees to it that the head at a place is in the window, and answers how far after its start.
     fn reach<M: Machine>(&mut self, machine: &mut M, place: u64) -> Result<usize, Failed>
         requires shows { ShowsFile (M.disk machine.old) self.old.place self.old.bytes.items }
-        requires small { place < 2 ^ 32 }
+        requires small { place < 2 ^ 40 }
         ensures kept { Stays (M.disk machine.old) (M.disk machine.new) }
         ensures shows { OnOk result (ShowsFile (M.disk machine.new) self.new.place self.new.bytes.items) }
         ensures within { IfOk result (λ from. (self.new.place + from ≡ place) × (from + 13 ≤ length self.new.bytes.items)) }
@@ -94,7 +94,7 @@ impl Window {
 
     // How far after the window's start the head at a place is, if the window has all of it.
     fn find(&self, place: u64) -> Option<usize>
-        requires { place < 2 ^ 32 }
+        requires { place < 2 ^ 40 }
         ensures some { IfSome result (λ from. (self.now.place + from ≡ place) × (from + 13 ≤ length self.now.bytes.items)) }
         ensures exact { self.now.place ≤ place → place + 13 ≤ self.now.place + length self.now.bytes.items → IsSome result }
     {

@@ -21,8 +21,8 @@ empty = record { id = 0; value = [] }
 
 pub stored_empty : (p : Params) (file : List ℕ) → AreSlotsClosed p file → (x : ℕ) → stored p file x ≡ empty
 stored_empty p file closed x = elim (cases_lt x p.objects) [
-  | inl below ↦ cond-true (nat_lt x p.objects) (cell_of p.cap x file) empty (lt-ltb x p.objects below) ∙ closed_cells p file x closed below
-  | inr past ↦ cond-false (nat_lt x p.objects) (cell_of p.cap x file) empty (le-ltb x p.objects past)
+  | inl below ↦ cond-true (nat_lt x p.objects) (cell_of x file) empty (lt-ltb x p.objects below) ∙ closed_cells p file x closed below
+  | inr past ↦ cond-false (nat_lt x p.objects) (cell_of x file) empty (le-ltb x p.objects past)
 ]
 
 pub new_shown : {O : Type 0} (m : Meaning O) (p : Params) (files : Files) → IsNewFile p (files Objects) → IsNewLog files → FilesShow m p files (new_world O)

@@ -9,8 +9,8 @@ use Rattle.oper_core.specs.Cell.{Cell}
 use Rattle.oper_core.specs.Meaning.{Meaning}
 use Rattle.oper_core.specs.declared.bounds.Bounds.{Bounds}
 use Rattle.formats.specs.Bytes.{IsOpenAt}
-use Rattle.formats.specs.Objects.{bounds_of, slot_place, open_identifier, identifier_at, holder, cell_of}
-use Rattle.formats.specs.Image.{params_in, IsRecordFault, IsLateSlot, IsFault, in_objects, in_log, in_record, in_late_slot}
+use Rattle.formats.specs.Objects.{params_in, bounds_of, place_in, open_identifier, identifier_at, holder, cell_of}
+use Rattle.formats.specs.Image.{IsRecordFault, IsLateSlot, IsFault, in_objects, in_log, in_record, in_late_slot}
 use Rattle.formats.specs.Records.{payload_of, records_of, next_after}
 use Rattle.formats.specs.declared.params.Params.{Params}
 use Rattle.log_frames.specs.Laws.{no_log_fault, one_place}
@@ -42,21 +42,21 @@ greater f s two = elim (cases_lt (f 0) (f 1)) [
     second (suc (suc s)) two is more = absurd (omega (arith, two))
 
 -- the cell of an object has the greatest identifier of its slots
-cell_latest : (p : Params) (file : List ℕ) (x s : ℕ) → x < p.objects → s < 2 → open_identifier (slot_place p.cap x s) file ≤ (stored p file x).id
+cell_latest : (p : Params) (file : List ℕ) (x s : ℕ) → x < p.objects → s < 2 → open_identifier (place_in file x s) file ≤ (stored p file x).id
 cell_latest p file x s below two =
-    let cell : stored p file x ≡ cell_of p.cap x file = cond-true (nat_lt x p.objects) (cell_of p.cap x file) (record { id = 0; value = [] }) (lt-ltb x p.objects below) in
-    let id : (stored p file x).id ≡ open_identifier (slot_place p.cap x (holder p.cap x file)) file = ap (λ (c : Cell). c.id) cell in
-    omega (arith, id, greater (λ k. open_identifier (slot_place p.cap x k) file) s two)
+    let cell : stored p file x ≡ cell_of x file = cond-true (nat_lt x p.objects) (cell_of x file) (record { id = 0; value = [] }) (lt-ltb x p.objects below) in
+    let id : (stored p file x).id ≡ open_identifier (place_in file x (holder x file)) file = ap (λ (c : Cell). c.id) cell in
+    omega (arith, id, greater (λ k. open_identifier (place_in file x k) file) s two)
 
 module _ {O : Type 0} (meaning : Bounds → Meaning O) (p : Params) (files : Files) (commands : List O) (it : StandsFor meaning p files commands) where
   next_is : next_after it.holds.header.base (records_of it.holds.groups) ≡ length it.history + 1
   next_is = next-stands (meaning (bounds_of p)) p files it.parts it.holds it.history it.installed it.stable
 
   -- each open slot has the number of a member
-  pub none_late : (x s : ℕ) → x < p.objects → s < 2 → IsOpenAt (slot_place p.cap x s) (files Objects)
-      → identifier_at (slot_place p.cap x s) (files Objects) < next_after it.holds.header.base (records_of it.holds.groups)
+  pub none_late : (x s : ℕ) → x < p.objects → s < 2 → IsOpenAt (place_in (files Objects) x s) (files Objects)
+      → identifier_at (place_in (files Objects) x s) (files Objects) < next_after it.holds.header.base (records_of it.holds.groups)
   none_late x s below two is_open =
-      let told = open_tells (slot_place p.cap x s) (files Objects) is_open in
+      let told = open_tells (place_in (files Objects) x s) (files Objects) is_open in
       let latest = cell_latest p (files Objects) x s below two in
       let cell = ap (λ (c : Cell). c.id) (it.holds.cells x) in
       elim (it.stable.slots.origin x) [
@@ -77,9 +77,7 @@ module _ {O : Type 0} (meaning : Bounds → Meaning O) (p : Params) (files : Fil
         let next : late.next ≡ next_after it.holds.header.base (records_of it.holds.groups) =
         late.next_is.here ∙ sym (λ i. next_after (same.1 i).base (same.2 i)) in
         let below : late.x < p.objects = subst (λ (q : Params). late.x < q.objects) params_are late.slot.below in
-        let is_open : IsOpenAt (slot_place p.cap late.x late.s) (files Objects) = subst (λ (q : Params). IsOpenAt (slot_place q.cap late.x late.s) (files Objects)) params_are late.slot.open_gate in
-        let at : slot_place (params_in (files Objects)).cap late.x late.s ≡ slot_place p.cap late.x late.s = ap (λ (q : Params). slot_place q.cap late.x late.s) params_are in
-        omega (arith, late.late, next, ap (λ (n : ℕ). identifier_at n (files Objects)) at, none_late late.x late.s below late.slot.two is_open)
+        omega (arith, late.late, next, none_late late.x late.s below late.slot.two late.slot.open_gate)
 
     pub no_fault_at : (file : FileNo) (place : ℕ) → IsFault meaning files file place → ⊥
     no_fault_at _ _ (in_objects place fault) = no_fault p (files Objects) place it.holds.objects fault

@@ -5,7 +5,7 @@ use Rattle.std.proofs.lemmas.Bool.{cases_Bool, both_ways}
 use Rattle.std.proofs.lemmas.List.Elements.{All-nil}
 use Rattle.redo_tables.specs.declared.table.Table.{Table}
 use Rattle.disk_model.specs.declared.machine.FileNo.TheVariants.{LogA}
-use Rattle.formats.specs.Objects.{bounds_of}
+use Rattle.formats.specs.Objects.{bounds_of, form_in}
 use Rattle.install_order.specs.Order.{IsExposed}
 use Rattle.log_records.specs.CodecLaws.{HasCodes, has_codes}
 use Rattle.explain_core.specs.ByteOps.{byte_meaning, byte_bounded}
@@ -42,6 +42,7 @@ exposed installed second (suc (suc (suc n))) out w = absurd (both_ways _ refl w)
 
 -- the identity write is not installed, and the check skips it
 skips : (installed : ℕ → Bool) → IsStableOf small_meaning (parts_with skipping_table) members installed → ⊥
+unfolding form_in
 skips installed is = elim (cases_Bool (installed 2)) [
   | inl second ↦ both_ways _ (is.slots.last 1 (exposed installed second) 2 (omega arith) second) refl
   | inr out ↦ let late = is.tables.0.before 2 1 out refl in omega (arith, late)

@@ -2,7 +2,7 @@
 use Rattle.std.proofs.Common.{zero, suc, [], refl, arith, inl}
 use Rattle.std.proofs.lemmas.List.Elements.{All-nil}
 use Rattle.disk_model.specs.declared.machine.FileNo.TheVariants.{Objects}
-use Rattle.formats.specs.Objects.{AreSlotsClosed}
+use Rattle.formats.specs.Objects.{AreSlotsClosed, form_in}
 use Rattle.formats.specs.Log.{IsPayload}
 use Rattle.log_frames.specs.Creating.{IsNewLog}
 use Rattle.stable_objects.specs.Making.{IsNewFile}
@@ -10,6 +10,7 @@ use Rattle.standing.specs.Worked.{small, new_objects, new_files}
 
 -- each slot is closed
 all_closed : AreSlotsClosed small new_objects
+unfolding form_in
 all_closed zero zero below two is_open = omega (arith, is_open)
 all_closed zero (suc zero) below two is_open = omega (arith, is_open)
 all_closed (suc zero) zero below two is_open = omega (arith, is_open)
@@ -18,10 +19,13 @@ all_closed (suc (suc x)) s below two is_open = omega (arith, below)
 all_closed x (suc (suc s)) below two is_open = omega (arith, two)
 
 pub new_whole : IsNewFile small (new_files Objects)
+unfolding form_in
 new_whole = record {
   whole = record {
-    header = refl;
+    begins = refl;
+    params = refl;
     in_range = record { some = omega arith; objects = omega arith; low = omega arith; cap = omega arith; least = omega arith; limit = omega arith };
+    in_form = record { older_objects = omega arith; older_cap = omega arith; no_fewer = omega arith; objects = omega arith; no_shorter = omega arith; cap = omega arith };
     whole = omega arith;
     slots = record {
       each = λ x s below two is_open. absurd (all_closed x s below two is_open);

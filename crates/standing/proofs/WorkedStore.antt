@@ -14,7 +14,8 @@ use Rattle.oper_core.specs.Meaning.{IsLawful, IsSmall}
 use Rattle.formats.specs.Bytes.{IsOpenAt}
 use Rattle.formats.specs.InForce.{HasHeader, IsInForce}
 use Rattle.formats.specs.Log.{Header, IsHeader, IsPayload, new_header, header_bytes, blocks}
-use Rattle.formats.specs.Objects.{IsObjectsFile, IsWholeSlot, bounds_of, slot_place, identifier_at, length_at, cell_of}
+use Rattle.formats.specs.Objects.{IsObjectsFile, form_in, IsWholeSlot, bounds_of, slot_place, identifier_at, length_at, cell_of}
+use Rattle.formats.specs.declared.layout.Layout.{Layout}
 use Rattle.formats.specs.Records.{IsCheckAt, IsRecordLog, payload_of}
 use Rattle.formats.specs.declared.record.Record.{Record}
 use Rattle.formats.specs.declared.record.Record.TheVariants.{Command as Logged_command, Identity as Logged_identity, Check as Logged_check}
@@ -103,8 +104,12 @@ module _ (sound : AllSound) where
     ((omega arith, refl), ((omega arith, refl), tt)),
   )
 
+-- where its slots stand
+abbrev small_layout : Layout
+small_layout = record { params = small; first = 32 }
+
 -- the one open slot is whole
-slot_whole : (x s : ℕ) → x < 2 → s < 2 → IsOpenAt (slot_place 16 x s) small_objects → IsWholeSlot 16 (slot_place 16 x s) small_objects
+slot_whole : (x s : ℕ) → x < 2 → s < 2 → IsOpenAt (slot_place small_layout x s) small_objects → IsWholeSlot 16 (slot_place small_layout x s) small_objects
 slot_whole zero zero below two is_open =
     let id : identifier_at 32 small_objects ≡ 1 = refl in
     let long : length_at 32 small_objects ≡ 1 = refl in
@@ -115,15 +120,18 @@ slot_whole (suc zero) (suc zero) below two is_open = absurd (omega (arith, is_op
 slot_whole (suc (suc x)) s below two is_open = absurd (omega (arith, below))
 slot_whole x (suc (suc s)) below two is_open = absurd (omega (arith, two))
 
-second_closed : (x : ℕ) → x < 2 → IsOpenAt (slot_place 16 x 1) small_objects → ⊥
+second_closed : (x : ℕ) → x < 2 → IsOpenAt (slot_place small_layout x 1) small_objects → ⊥
 second_closed zero below is_open = omega (arith, is_open)
 second_closed (suc zero) below is_open = omega (arith, is_open)
 second_closed (suc (suc x)) below is_open = omega (arith, below)
 
 pub small_whole : IsObjectsFile small small_objects
+unfolding form_in
 small_whole = record {
-  header = refl;
+  begins = refl;
+  params = refl;
   in_range = record { some = omega arith; objects = omega arith; low = omega arith; cap = omega arith; least = omega arith; limit = omega arith };
+  in_form = record { older_objects = omega arith; older_cap = omega arith; no_fewer = omega arith; objects = omega arith; no_shorter = omega arith; cap = omega arith };
   whole = omega arith;
   slots = record { each = slot_whole; apart = λ x below first second. absurd (second_closed x below second) };
 }
@@ -134,12 +142,12 @@ empty = record { id = 0; value = [] }
 
 -- the slots are those of the world
 cells : (x : ℕ) → stored small small_objects x ≡ (after_steps small_steps).slots x
-unfolding step run
+unfolding step run form_in
 cells zero = refl
 cells (suc zero) = refl
 cells (suc (suc x)) =
     let y = suc (suc x) in
-    cond-false (nat_lt y 2) (cell_of 16 y small_objects) empty (le-ltb y 2 (omega arith))
+    cond-false (nat_lt y 2) (cell_of y small_objects) empty (le-ltb y 2 (omega arith))
     ∙ sym (cond-false (y == 0) ((after_steps logged).cache 0) empty (ne_eqb y 0 (λ e. omega (arith, e))))
 
 -- the records of a log with this check

@@ -20,7 +20,7 @@ use Rattle.standing.specs.Members.{members_of, tables_in}
 
 -- an object as its slots hold it; past the last object of the store stand the identifier 0 and no bytes
 abbrev pub stored : Params → List ℕ → ℕ → Cell
-stored p file x = if nat_lt x p.objects then cell_of p.cap x file else record { id = 0; value = [] }
+stored p file x = if nat_lt x p.objects then cell_of x file else record { id = 0; value = [] }
 
 -- The files are whole, and hold these parts: the slots have the cells; of the log in force the header has the base and
 -- how many commands are before it, and the records are the members from the base on, and the checks.

@@ -7,7 +7,7 @@ ghost use Rattle.oper_core.specs.Cell.{Cell};
 ghost use Rattle.oper_core.specs.Meaning.{AreWithin, state_after};
 ghost use Rattle.formats.specs.Bytes.{IsOpenAt};
 ghost use Rattle.formats.specs.Image.{IsFault};
-ghost use Rattle.formats.specs.Objects.{bounds_of, slot_place, identifier_at};
+ghost use Rattle.formats.specs.Objects.{bounds_of, place_in, identifier_at};
 ghost use Rattle.formats.specs.declared.params.Params.{Params};
 ghost use Rattle.log_frames.specs.Creating.{IsNewLog};
 ghost use Rattle.stable_objects.specs.Making.{IsNewFile};
@@ -99,8 +99,8 @@ pub fn standing_files_have_no_fault<O: Oper>()
     ensures whole { (p : Params) (files : Files) (commands : List O) (file : FileNo) (place : ℕ) →
         StandsFor O.meaning p files commands → IsFault O.meaning files file place → ⊥ }
     ensures late { (p : Params) (files : Files) (commands : List O) (it : StandsFor O.meaning p files commands)
-        (x s : ℕ) → x < p.objects → s < 2 → IsOpenAt (slot_place p.cap x s) (files Objects) →
-        identifier_at (slot_place p.cap x s) (files Objects)
+        (x s : ℕ) → x < p.objects → s < 2 → IsOpenAt (place_in (files Objects) x s) (files Objects) →
+        identifier_at (place_in (files Objects) x s) (files Objects)
         < next_held (O.meaning (bounds_of p)) p files it.parts it.holds }
 {}
 

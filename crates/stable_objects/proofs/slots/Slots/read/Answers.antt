@@ -1,10 +1,10 @@
-use Rattle.std.proofs.Common.{◌≡◌, ◌∙◌, ℕ, ap, refl}
+use Rattle.std.proofs.Common.{◌≡◌, ◌∙◌, ℕ, ap, refl, sym}
 use Rattle.std.proofs.lemmas.Result.{err_from_is_err_and}
 use Rattle.disk_model.specs.declared.machine.FileNo.TheVariants.{Objects}
-use Rattle.formats.specs.Objects.{slot_place}
+use Rattle.formats.specs.declared.layout.Layout.{Layout}
 use Rattle.stable_objects.specs.SlotGates.{slot_gate}
-use Rattle.stable_objects.specs.SlotsView.{SlotsView, holder_in}
-use Rattle.stable_objects.proofs.ValueBytes.{held_value, held_fails}
+use Rattle.stable_objects.specs.SlotsView.{SlotsView, layout_of, place_of, holder_in}
+use Rattle.stable_objects.proofs.ValueBytes.{held_value, held_fails, empty_value}
 use Rattle.stable_objects.proofs.slots.Slots.read.Goals as goal
 
 pub returns-in_err-read_value-clause-whole : goal.returns-in_err-read_value-clause-whole
@@ -13,8 +13,8 @@ returns-in_err-read_value-clause-whole g c files agree are =
     let slots = c.args.self.now in
     let x = c.args.object in
     let cap = ap (λ (v : SlotsView). v.params.cap) c.self.view_is in
-    let here : c.gate_place-place.result ≡ slot_place slots.params.cap x (holder_in slots x) =
-    c.gate_place-place.ensures ∙ ap (λ (s : ℕ). slot_gate c.self.inside.params.cap s) c.holder.ensures ∙ ap (λ (n : ℕ). slot_place n x (holder_in slots x)) cap in
+    let here : c.gate_place-place.result ≡ place_of slots x (holder_in slots x) =
+    c.gate_place-place.ensures ∙ ap (λ (l : Layout). slot_gate l c.holder.result) c.layout.ensures.is ∙ ap (λ (s : ℕ). slot_gate (layout_of slots) s) c.holder.ensures in
     let e = err_from_is_err_and c.from_residual.result c.from_residual.ensures.1 in
     rw (e.1, e.2) (held_fails slots file x c.gate_place-place.result are c.requires (λ none. c.if-id-eq0.false (c.id-id.ensures ∙ none)) here _ (g.M.Machine.disk c.read_value.new.machine).agrees files c.self.inside.params.cap _ refl agree cap c.in_err-read_value.ensures.cause)
 
@@ -24,6 +24,9 @@ returns-clause-value g c files agree are =
     let slots = c.args.self.now in
     let x = c.args.object in
     let cap = ap (λ (v : SlotsView). v.params.cap) c.self.view_is in
-    let here : c.gate_place-place.result ≡ slot_place slots.params.cap x (holder_in slots x) =
-    c.gate_place-place.ensures ∙ ap (λ (s : ℕ). slot_gate c.self.inside.params.cap s) c.holder.ensures ∙ ap (λ (n : ℕ). slot_place n x (holder_in slots x)) cap in
+    let here : c.gate_place-place.result ≡ place_of slots x (holder_in slots x) =
+    c.gate_place-place.ensures ∙ ap (λ (l : Layout). slot_gate l c.holder.result) c.layout.ensures.is ∙ ap (λ (s : ℕ). slot_gate (layout_of slots) s) c.holder.ensures in
     held_value slots file x c.gate_place-place.result are c.requires (λ none. c.if-id-eq0.false (c.id-id.ensures ∙ none)) here c.read_value.new.into.items (c.in_ok-read_value.ensures.value files agree)
+
+pub returns-then-id-eq0-clause-value : goal.returns-then-id-eq0-clause-value
+returns-then-id-eq0-clause-value g c files agree are = c.clear.ensures.items ∙ sym (empty_value c.args.self.now (files Objects) c.args.object are c.requires (sym c.id-id.ensures ∙ c.if-id-eq0.true))

@@ -1,0 +1,42 @@
+// Laws of files that are filled before they are in use, and of a store that is made larger.
+ghost use Rattle.std.specs.Prelude.{◌≡◌, ◌≢◌, ◌<◌, ◌≤◌, ◌+◌, ◌^◌, ℕ, List, [], ◌∷◌, length};
+ghost use Rattle.disk_model.specs.Disk.{Torn, written_over};
+ghost use Rattle.oper_core.specs.Cell.{Cell};
+ghost use Rattle.formats.specs.Bytes.{byte_at};
+ghost use Rattle.formats.specs.Objects.{place_in};
+ghost use Rattle.formats.specs.declared.params.Params.{Params};
+ghost use Rattle.stable_objects.specs.Filling.{IsFilledTo};
+ghost use Rattle.stable_objects.specs.Larger.{IsFirst, IsStill, HasLastHead, end_of_slots, seconded};
+ghost use Rattle.stable_objects.specs.Making.{IsNewFile, KeepsFront, opened};
+ghost use Rattle.stable_objects.specs.Replacing.{IsPut};
+ghost use Rattle.stable_objects.specs.SlotsView.{SlotsView, AreOf};
+
+/// A new file is filled by the pairs of its objects, one after the other; an object without one is passed over.
+pub fn a_file_is_filled()
+    ensures begins { (p : Params) (cells : ℕ → Cell) (file : List ℕ) → IsNewFile p file → IsFilledTo p 0 cells file }
+    ensures put { (p : Params) (n : ℕ) (cells : ℕ → Cell) (old new : List ℕ) → IsFilledTo p n cells old → n < p.objects → 1 ≤ (cells n).id → (cells n).id < 2 ^ 62 →
+        length (cells n).value ≤ p.cap → IsPut (place_in old n 0) (cells n).id (cells n).value old new → IsFilledTo p (n + 1) cells new }
+    ensures passed { (p : Params) (n : ℕ) (cells : ℕ → Cell) (file : List ℕ) → IsFilledTo p n cells file → n < p.objects → cells n ≡ record { id = 0; value = [] } →
+        IsFilledTo p (n + 1) cells file }
+{}
+
+/// What is put into a slot is put so whatever a byte before it is. So the byte of the gate, or of the version, that makes
+/// the file one of a store may be written last.
+pub fn a_byte_is_written_later()
+    ensures put { (at byte place id : ℕ) (value old new : List ℕ) → at < place → at < length old → IsPut place id value old new →
+        IsPut place id value (written_over at (byte ∷ []) old) (written_over at (byte ∷ []) new) }
+    ensures gate { (file : List ℕ) → opened file ≡ written_over 0 (1 ∷ []) file }
+{}
+
+/// A store of version 1 stays as it is while a larger one is laid out behind its slots, if the last slot's head stands in the
+/// file.
+pub fn a_store_stays_while_it_grows()
+    ensures { (slots : SlotsView) (old new : List ℕ) → AreOf slots old → IsFirst slots → HasLastHead slots old → KeepsFront (end_of_slots slots) old new →
+        IsStill slots old new × HasLastHead slots new }
+{}
+
+/// The write of its version, if it is torn, leaves it a store of version 1, or is done.
+pub fn a_version_is_one_of_two()
+    ensures first { (slots : SlotsView) (old new : List ℕ) → AreOf slots old → IsFirst slots → Torn 8 1 old new → byte_at 8 new ≢ 50 → IsStill slots old new }
+    ensures second { (slots : SlotsView) (old new : List ℕ) → AreOf slots old → IsFirst slots → Torn 8 1 old new → byte_at 8 new ≡ 50 → new ≡ seconded old }
+{}
