@@ -1,94 +1,65 @@
-ghost use Rattle.std.specs.Prelude.{◌≤◌, ◌^◌, All, IfOk};
-ghost use Rattle.formats.specs.Log.{IsPayload};
-ghost use Rattle.log_frames.specs.Rewriting.{bytes_of, file_length};
-
 // A rewrite on a machine in memory, stopped after each of its calls.
-use crate::log::{CRASHES, add, blocks_of, new_store};
-use disk_model::{Crash, FileNo, Fuse, Machine};
-use formats::NUMBERS_END;
-use log_frames::{LogFile, Payload};
-use oper_core::ByteList;
-use std::alloc::{AllocError, Global};
+use crate::log::CRASHES;
+use crate::records::{BOUNDS, four_records, loaded};
+use crate::shortening::shorten;
+use disk_model::{Crash, Fuse};
+use redo_tables::Starts;
+use std::alloc::Global;
 use std::test::Fail;
 
-// The base of the log in force where a rewrite from base 2 to base 3 is stopped after so many calls, for each crash.
-const BASES: [(u64, [u64; 6]); 8] = [
-    (0, [2, 2, 2, 2, 2, 2]),
-    (2, [2, 2, 2, 2, 2, 2]),
-    (3, [2, 2, 2, 2, 2, 2]),
-    (8, [2, 2, 2, 2, 2, 2]),
-    (9, [2, 2, 2, 2, 2, 2]),
-    (10, [2, 2, 2, 2, 2, 2]),
-    (11, [2, 3, 2, 3, 2, 2]),
-    (12, [3, 3, 3, 3, 3, 3]),
-];
-
-// Two payloads for a rewrite.
-fn two_payloads(alloc: Global) -> Result<Vec<Payload>, AllocError>
-    ensures whole { IfOk result (λ found. All IsPayload (bytes_of found.items)) }
-    ensures fits { IfOk result (λ found. file_length (bytes_of found.items) ≤ 2 ^ 48) }
-{
-    let mut payloads = Vec::new(alloc);
-    payloads.push(Payload {
-        bytes: ByteList::new(b"vwxyz".to_vec(alloc)?),
-    })?;
-    payloads.push(Payload {
-        bytes: ByteList::new(b"q".to_vec(alloc)?),
-    })?;
-    Ok(payloads)
-}
-
-// Forces what waits, and puts a log of two payloads in the place of this one: whether that answers Ok.
-fn rewritten<M: Machine>(
-    alloc: Global,
-    log: &mut LogFile,
-    machine: &mut M,
-    base: u64,
-) -> Result<bool, Fail>
-    requires low { 1 ≤ base }
-    requires high { base ≤ 3 }
-{
-    let payloads = two_payloads(alloc)?;
-    log.force(machine)?;
-    Ok(log.epoch() < NUMBERS_END && log.rewrite(machine, base, base - 1, &payloads).is_ok())
-}
-
-// Whether a rewrite that is stopped after some calls leaves the log with this base, whole, after a crash, and answers Ok
-// only where all calls were made.
-fn leaves(alloc: Global, calls: u64, how: Crash, base: u64) -> Result<bool, Fail> {
-    let mut machine = new_store(alloc)?;
-    let mut log = LogFile::load(alloc, &mut machine)?;
-    let _grown = add(&mut log, b"abc")?;
-    let is_made = rewritten(alloc, &mut log, &mut machine, 2)?;
-    let mut fuse = Fuse::new(machine.crash(Crash::New), calls);
-    let is_ok = rewritten(alloc, &mut log, &mut fuse, 3)?;
+// The base of the log after a crash, where a rewrite from base 2 on is stopped after so many calls, and whether it answers
+// Ok.
+fn base_after(alloc: Global, calls: u64, how: Crash) -> Result<(u64, bool), Fail> {
+    let (mut machine, _) = four_records(alloc)?;
+    let mut log = loaded(alloc, &mut machine, BOUNDS)?;
+    let mut fuse = Fuse::new(machine, calls);
+    let is_ok = shorten(&mut log, &mut fuse, 2, Starts::new(Vec::new(alloc))).is_ok();
+    drop(log);
     let mut left = fuse.into_inner().crash(how);
-    let found = LogFile::load(alloc, &mut left)?;
-    let blocks = blocks_of(alloc, &found, &mut left)?;
-    let file = if base == 3 {
-        FileNo::LogA
-    } else {
-        FileNo::LogB
-    };
-    let is_whole = blocks.len() == 2 && found.used() == 49 && found.active() == file;
-    let is_base = found.base() == base && found.commands() == base - 1;
-    Ok(is_made && is_whole && is_base && is_ok == (calls == 12))
+    let found = loaded(alloc, &mut left, BOUNDS)?;
+    let base = found.base();
+    drop(found);
+    Ok((base, is_ok))
 }
 
-// Whether each crash after so many calls leaves the log with its base.
-fn all_leave(alloc: Global, calls: u64, bases: &[u64; 6]) -> Result<bool, Fail> {
-    let mut right = true;
-    for (how, base) in CRASHES.iter().zip(bases) {
-        right = leaves(alloc, calls, *how, *base)? && right;
+// How many calls the rewrite makes.
+fn calls_of_a_rewrite(alloc: Global) -> Result<u64, Fail> {
+    for calls in 0..64u64 {
+        let (_, is_ok) = base_after(alloc, calls, Crash::New)?;
+        if is_ok {
+            return Ok(calls);
+        }
     }
-    Ok(right)
+    Ok(64)
+}
+
+// After how many of the crashes the log has its new base.
+fn renewed(alloc: Global, calls: u64) -> Result<u32, Fail> {
+    let mut count = 0u32;
+    for how in CRASHES {
+        let (base, _) = base_after(alloc, calls, how)?;
+        if base == 2 {
+            count = count.saturating_add(1);
+        }
+    }
+    Ok(count)
 }
 
 #[test]
 fn a_stopped_rewrite_leaves_the_old_log_or_the_new_one(rt: HostRuntime) -> Result<(), Fail> {
-    for (calls, bases) in &BASES {
-        let right = all_leave(rt.alloc(), *calls, bases)?;
-        assert!(rt; right, "after {calls} calls");
+    let all = calls_of_a_rewrite(rt.alloc())?;
+    for calls in 0..64u64 {
+        let count = renewed(rt.alloc(), calls)?;
+
+        // The last two calls write the open header gate and sync it.
+        let wanted = if calls >= all {
+            6
+        } else if calls + 1 == all {
+            2
+        } else {
+            0
+        };
+        assert!(rt; count == wanted, "after {calls} calls");
     }
     Ok(())
 }

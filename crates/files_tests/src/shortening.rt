@@ -37,9 +37,9 @@ const REWRITTEN: [Row; 2] = [
 
 // Puts a log from a base on, with an empty check for its end, in the place of this one, where it has that base and
 // nothing waits.
-fn shorten(
+pub fn shorten<M: Machine>(
     log: &mut RecordLog<PlainOp>,
-    machine: &mut MemMachine,
+    machine: &mut M,
     base: u64,
     starts: Starts,
 ) -> Result<(), RewriteErr>

@@ -1,10 +1,11 @@
 -- A look at a header gate, and a write of it where it is open.
-use Rattle.std.proofs.Common.{◌≡◌, ◌⊎◌, inl, inr, get_or, ◌∙◌, ℕ, List, [], ◌∷◌, ◌++◌, ◌-◌, length, take, drop, replicate, refl, sym, ap, subst, arith}
+use Rattle.std.proofs.Common.{◌≡◌, ◌⊎◌, inl, inr, get_or, ◌∙◌, ℕ, List, [], ◌∷◌, length, take, refl, sym, ap, subst, arith}
 use Rattle.std.proofs.lemmas.List.{take_min, get_or-take}
 use Rattle.disk_model.specs.Disk.{Files, Disk, Runs, Stays, Same, In, Torn, HoldsAt, read_of}
 use Rattle.disk_model.specs.Moments.{runs_join}
 use Rattle.disk_model.specs.declared.machine.FileNo.{FileNo}
 use Rattle.formats.specs.Log.{IsClosedLog}
+use Rattle.log_frames.specs.RewriteLaws.{held_first}
 
 torn_none : (at n : ℕ) (a : List ℕ) → Torn at n a a
 torn_none at n a = record { before = take_min at a; after = refl; no_shorter = omega arith; no_longer = omega arith }
@@ -23,11 +24,6 @@ look_at_closed (g ∷ rest) into n count bytes closed (inl none) = omega (arith,
 look_at_closed (g ∷ rest) into n count bytes closed (inr is_open) =
     let same : get_or into 0 0 ≡ g = sym (get_or-take n into 0 0 (omega (arith, count))) ∙ ap (λ (l : List ℕ). get_or l 0 0) bytes in
     closed (sym same ∙ is_open)
-
-held_first : (b : ℕ) (old new : List ℕ) → HoldsAt 0 (b ∷ []) old new → new ≡ b ∷ drop 1 old
-held_first b old new holds =
-    let none : 0 - length old ≡ 0 = omega arith in
-    holds ∙ ap (λ (k : ℕ). ((take 0 old ++ replicate {A = ℕ} k 0) ++ b ∷ []) ++ drop 1 old) none
 
 -- a closed gate was written
 pub closed_after : (old new : List ℕ) → HoldsAt 0 (0 ∷ []) old new → IsClosedLog new

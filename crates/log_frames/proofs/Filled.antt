@@ -1,5 +1,5 @@
 -- Zeros after a log's end leave the log as it is.
-use Rattle.std.proofs.Common.{◌≡◌, ◌<◌, ◌≤◌, inl, ℕ, ◌+◌, min, List, [], ◌∷◌, ◌++◌, length, take, drop, sym, ◌∙◌, ap, subst, arith, append_assoc, length-append, take-append-drop}
+use Rattle.std.proofs.Common.{◌≡◌, ◌<◌, ◌≤◌, inl, ℕ, ◌+◌, min, List, [], ◌∷◌, ◌++◌, length, take, drop, sym, ◌∙◌, ap, arith, append_assoc, length-append, take-append-drop}
 use Rattle.std.proofs.lemmas.List.{take_at, take-take}
 use Rattle.disk_model.specs.Disk.{Files, Disk, Passes, Same, In, Torn, IsSettled, LeavesOnly, Runs}
 use Rattle.disk_model.specs.Moments.{first_call, goes_on, from_reads, runs_wider}

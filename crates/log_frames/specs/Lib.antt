@@ -3,8 +3,12 @@ pub mod Filling
 pub mod Forcing
 pub mod Payloads
 pub mod Rewriting
+pub mod Writing
+pub mod Streaming
 pub mod Creating
 pub mod Reading
 pub mod Choosing
 pub mod Laws
+pub mod RewriteLaws
+pub mod StreamLaws
 pub mod Numbers

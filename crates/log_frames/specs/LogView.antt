@@ -1,6 +1,7 @@
 -- What contracts see of a log file in use.
-use Rattle.std.specs.Prelude.{◌<◌, ◌≤◌, ◌+◌, ◌^◌, ℕ, List, [], ◌∷◌, length}
+use Rattle.std.specs.Prelude.{◌≢◌, ◌<◌, ◌≤◌, ◌+◌, ◌^◌, ℕ, List, [], ◌∷◌, length}
 use Rattle.disk_model.specs.declared.machine.FileNo.{FileNo}
+use Rattle.disk_model.specs.declared.machine.FileNo.TheVariants.{Objects}
 use Rattle.formats.specs.Log.{Header}
 
 -- the log in force, and what waits for a force
@@ -28,9 +29,10 @@ abbrev pub growth_of : List ℕ → ℕ → ℕ
 growth_of [] n = n + 5
 growth_of (byte ∷ bytes) n = n
 
--- The epoch is one that a header may have. The bytes of the buffer begin with four for the block's length, there is
--- room for a gate after them, and the block has a place after this gate.
-pub record IsInUse (epoch gate : ℕ) (bytes : List ℕ) (capacity : ℕ) : Type 0 where
+-- The log stands in a log file, and its epoch is one that a header may have. The bytes of the buffer begin with four for the
+-- block's length, there is room for a gate after them, and the block has a place after this gate.
+pub record IsInUse (active : FileNo) (epoch gate : ℕ) (bytes : List ℕ) (capacity : ℕ) : Type 0 where
+  pub a_log : active ≢ Objects
   pub last : epoch ≤ 2 ^ 62
   pub reserved : 4 ≤ length bytes
   pub room : length bytes < capacity

@@ -1,15 +1,10 @@
 -- What a rewrite of the log leaves.
-use Rattle.std.specs.Prelude.{◌≡◌, ◌⊎◌, ◌+◌, ℕ, List, [], ◌∷◌, ◌++◌, map}
+use Rattle.std.specs.Prelude.{◌≡◌, ◌⊎◌, ◌+◌, ℕ, List, [], ◌∷◌, ◌++◌}
 use Rattle.disk_model.specs.Disk.{Files, Disk, In, Any}
 use Rattle.disk_model.specs.declared.machine.FileNo.{FileNo}
 use Rattle.formats.specs.Log.{Header, header_fields, blocks, end_of, IsClosedLog, IsWholeLog}
 use Rattle.formats.specs.InForce.{other_of, IsPassive, HoldsLog}
 use Rattle.log_frames.specs.LogView.{LogView}
-use Rattle.log_frames.specs.declared.payload.Payload.{Payload}
-
--- the payloads without their places
-abbrev pub bytes_of : List Payload → List (List ℕ)
-bytes_of payloads = map (λ (p : Payload). p.bytes) payloads
 
 -- a log file that is closed stays so
 abbrev pub KeepsClosed : List ℕ → List ℕ → Type 0

@@ -1,6 +1,6 @@
 // A file that grows by small blocks is filled ahead by zeros. Where a sync finds the length of the file unchanged, the file
 // system has nothing but the bytes to write.
-ghost use Rattle.std.specs.Prelude.{◌≡◌, ◌<◌, IfSome, OnOk, IsErr};
+ghost use Rattle.std.specs.Prelude.{◌<◌, IfSome, OnOk, IsErr};
 ghost use Rattle.disk_model.specs.Disk.{Rises, Runs, In, Same, IsSettled};
 ghost use Rattle.log_frames.specs.Filling.{KeepsUpTo};
 

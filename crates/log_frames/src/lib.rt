@@ -2,8 +2,9 @@
 //! or absent.
 //!
 //! The one contract is that of [`LogFile`]: a crash at any moment of a force leaves the payloads from before it, with what
-//! waited as one block more or without; a crash at any moment of a rewrite leaves the old log in force, or a whole new one.
-//! A [`PayloadReader`] takes a log's payloads one after the other, and brings the bytes of one into memory piece by piece.
+//! waited as one block more or without. A rewrite closes the header gate of the other file, puts a new log behind it by a
+//! [`LogWriter`], piece by piece, and opens that gate at its end, so that at any moment the old log is in force or a whole new
+//! one. A [`PayloadReader`] takes a log's payloads one after the other, and brings the bytes of one into memory piece by piece.
 //! The crate depends on disk_model, whose machines it writes to, on formats, which says what the bytes of a log are, on
 //! oper_core for bytes and lack of memory, and on byteorder for the numbers in the bytes.
 #![tactic(auto)]
@@ -15,13 +16,12 @@ mod header;
 mod layout;
 mod loading;
 mod log_file;
-mod payload;
+mod log_writer;
 mod payload_reader;
 mod reading;
 mod rewriting;
 mod seen;
 
 pub use log_file::LogFile;
-pub use payload::Payload;
+pub use log_writer::LogWriter;
 pub use payload_reader::PayloadReader;
-pub use rewriting::file_length;

@@ -37,7 +37,7 @@ impl Model for LogFile {
       room = vec_capacity a.buffer - 1 - length a.buffer.items;
     } };
 
-    ghost invariant = { λ a. IsInUse a.header.epoch a.end a.buffer.items (vec_capacity a.buffer) };
+    ghost invariant = { λ a. IsInUse a.active a.header.epoch a.end a.buffer.items (vec_capacity a.buffer) };
 }
 
 impl LogFile {

@@ -4,7 +4,10 @@ mod Lasts
 mod LoadLemmas
 mod Starts
 mod Appended
-mod Packed
+mod Measures
+mod Laid
+mod Copies
 mod Numbered
 mod NumberedReading
 mod Rewrites
+mod Replaced

@@ -1,31 +1,29 @@
 -- A log of records before, within and after a rewrite.
-use Rattle.std.proofs.Common.{◌≡◌, ◌⊎◌, ◌+◌, ◌<◌, ◌≤◌, ◌^◌, ℕ, List, [], ◌∷◌, ◌++◌, length, map, refl, sym, ap, ◌∙◌, subst, arith, inl, inr, ⊎_elim}
-use Rattle.std.specs.Prelude.{All}
+use Rattle.std.proofs.Common.{◌≡◌, ◌+◌, ◌<◌, ◌≤◌, ◌^◌, ℕ, List, [], ◌∷◌, ◌++◌, length, map, refl, sym, ap, ◌∙◌, subst, arith, inl, inr, ⊎_elim}
 use Rattle.std.proofs.lemmas.List.{append-nil}
-use Rattle.std.proofs.lemmas.List.Elements.{All-push, All-filter, All-weaker}
-use Rattle.disk_model.specs.Disk.{Files, Disk, Runs, Stays, Same, In, Any, LeavesOnly}
-use Rattle.disk_model.specs.Moments.{first_call, from_reads, runs_on, runs_join, stays_settled, weaker}
+use Rattle.std.proofs.lemmas.List.Elements.{All-push, All-filter}
+use Rattle.disk_model.specs.Disk.{Files, Disk, Stays, Same, LeavesOnly}
+use Rattle.disk_model.specs.Moments.{first_call, from_reads, stays_settled, weaker}
 use Rattle.disk_model.specs.declared.machine.FileNo.{FileNo}
 use Rattle.redo_tables.specs.declared.table.Table.{Table}
 use Rattle.oper_core.specs.Meaning.{Meaning}
-use Rattle.oper_core.specs.declared.bounds.Bounds.{Bounds}
 use Rattle.formats.specs.InForce.{other_of, IsInForce, HoldsLog}
-use Rattle.formats.specs.Log.{Header, IsHeader, IsWholeLog}
+use Rattle.formats.specs.Log.{Header, IsHeader}
 use Rattle.formats.specs.Reading.{FailsBy, TellsDamage}
-use Rattle.formats.specs.Records.{record_code, payload_of, records_of, commands_of, next_after, IsRecord, IsPlaced, AreRecords}
+use Rattle.formats.specs.Records.{record_code, payload_of, records_of, commands_of, next_after, IsPlaced, AreRecords}
 use Rattle.formats.specs.declared.read_err.ReadErr.{ReadErr}
 use Rattle.formats.specs.declared.read_err.ReadErr.TheVariants.{DiskFault, Damaged, Memory}
 use Rattle.formats.specs.declared.record.Record.{Record}
 use Rattle.formats.specs.declared.record.Record.TheVariants.{Check}
 use Rattle.log_frames.specs.Forcing.{IsAtRest}
 use Rattle.log_frames.specs.LogView.{LogView}
-use Rattle.log_frames.specs.Rewriting.{IsOldOrNew, next_header, rewritten}
-use Rattle.log_records.specs.Codec.{IsEncodable, AreShort}
-use Rattle.log_records.specs.CodecLaws.{HasCodes, encodable-from_grammar}
+use Rattle.log_frames.specs.Rewriting.{IsOldOrNew, next_header}
+use Rattle.log_frames.specs.Streaming.{IsStill}
+use Rattle.log_records.specs.Codec.{AreShort}
 use Rattle.log_records.specs.RecordLog.{RecordLogView, Keeps}
-use Rattle.log_records.specs.RecordLaws.{AreRecords-push, next-append, count-append}
+use Rattle.log_records.specs.RecordLaws.{AreRecords-push, count-append, keeps_stay, next-append}
 use Rattle.log_records.specs.RewriteLaws.{blocks_hold}
-use Rattle.log_records.specs.Rewriting.{is_numbered_from, numbered_from, left_out, rewritten_records, in_full_blocks, new_payloads, commands_before, rewritten_log, rewrite_from_read, FindsDamage, IsRewritable, HoldsInForce, IsRewrittenPartly, RewriteFails}
+use Rattle.log_records.specs.Rewriting.{is_numbered_from, numbered_from, left_out, rewritten_records, in_full_blocks, new_payloads, commands_before, rewritten_log, rewrite_from_read, FindsDamage, HoldsInForce, IsOldLog, IsRefused, IsRewritable, IsRewrittenPartly, RewriteFails}
 use Rattle.log_records.proofs.Numbered.{counts_part, left_below, numbered_placed}
 
 module _ {O : Type 0} (m : Meaning O) where
@@ -80,18 +78,24 @@ module _ {O : Type 0} (m : Meaning O) where
         forced_are = omega (arith, k.forced_are, parts, pushed);
       })
 
-  -- what a crash leaves of the log files holds the old records or the new ones
-  partly : (old mid : Disk) (log : RecordLogView) (base : ℕ) (table : Table) (stable : List (Record O)) (is : Rewrites old log base table stable) → mid.reads ≡ old.reads → mid.said ≡ old.said
-      → (files : Files) (said : List ℕ)
-      → IsOldOrNew mid log.log (map (payload_of m) is.keeps.groups) (rewritten_log m log.log base table stable) (new_payloads m base table stable) files said
-      → IsRewrittenPartly m old log.log base table stable files said
-  partly old mid log base table stable is reads silent files said so =
+  -- what a crash leaves of the log files holds the old records
+  pub is_old : (old : Disk) (log : RecordLogView) (stable : List (Record O)) (k : Keeps m old log stable []) → (files : Files) (said : List ℕ) → IsStill old log.log (map (payload_of m) k.groups) files said → IsOldLog m old log.log stable files said
+  is_old old log stable k files said so = record {
+    others = so.others;
+    in_force = record { groups = k.groups; log = record { in_force = so.in_force.in_force; log = record { log = so.in_force.log; placed = k.file.placed } }; records_are = k.stable_are };
+    nothing_said = so.nothing_said;
+  }
+
+  -- or the new ones
+  pub partly : (old : Disk) (log : RecordLogView) (base : ℕ) (table : Table) (stable : List (Record O)) (is : Rewrites old log base table stable) → (files : Files) (said : List ℕ)
+      → IsOldOrNew old log.log (map (payload_of m) is.keeps.groups) (rewritten_log m log.log base table stable) (new_payloads m base table stable) files said → IsRewrittenPartly m old log.log base table stable files said
+  partly old log base table stable is files said so =
       let k = is.keeps in
       let records = rewritten_records base table stable in
       let anew = placed_anew old log base table stable is in
       let held : records_of (in_full_blocks m records) ≡ records = blocks_hold m [] records in
       record {
-        others = subst (λ (f : Files). In (other_of log.log.active) Any f files) reads so.others;
+        others = so.others;
         in_force = ⊎_elim
             (λ (was : HoldsLog log.log.active log.log.header (map (payload_of m) k.groups) files).
             inl (record { groups = k.groups; log = record { in_force = was.in_force; log = record { log = was.log; placed = k.file.placed } }; records_are = k.stable_are }))
@@ -102,77 +106,33 @@ module _ {O : Type 0} (m : Meaning O) where
               records_are = held;
             }))
             so.in_force;
-        nothing_said = so.nothing_said ∙ silent;
+        nothing_said = so.nothing_said;
       }
 
+  -- where the old log is left alone, it or the new one is
+  pub old_partly : (old new : Disk) (log : LogView) (base : ℕ) (table : Table) (stable : List (Record O)) → LeavesOnly old new (IsOldLog m old log stable) → LeavesOnly old new (IsRewrittenPartly m old log base table stable)
+  old_partly old new log base table stable leaves = weaker old new (IsOldLog m old log stable) (IsRewrittenPartly m old log base table stable) leaves
+      (λ files said so. record { others = so.others; in_force = inl so.in_force; nothing_said = so.nothing_said })
+
   -- a call that changes no image leaves the old log
-  pub partly_stays : (old mid : Disk) (log : RecordLogView) (base : ℕ) (table : Table) (stable : List (Record O)) → Keeps m old log stable [] → Stays old mid → old.tells_moments
-      → LeavesOnly old mid (IsRewrittenPartly m old log.log base table stable)
-  partly_stays old mid log base table stable k kept told = first_call old mid (IsRewrittenPartly m old log.log base table stable) told kept.time (λ files said left.
-      let from = from_reads old mid Same Same told k.settled kept.crash files said left in
+  pub old_stays : (old new : Disk) (log : RecordLogView) (stable : List (Record O)) → Keeps m old log stable [] → Stays old new → old.tells_moments → LeavesOnly old new (IsOldLog m old log.log stable)
+  old_stays old new log stable k kept told = first_call old new (IsOldLog m old log.log stable) told kept.time (λ files said left.
+      let from = from_reads old new Same Same told k.settled kept.crash files said left in
       record {
         others = record { changed = tt; others = λ other apart. ap (λ (f : Files). f other) from.0 };
-        in_force = inl (subst (λ (f : Files). HoldsInForce m log.log.active log.log.header stable f) (sym from.0) (record { groups = k.groups; log = record { in_force = k.in_force; log = k.file }; records_are = k.stable_are }));
+        in_force = subst (λ (f : Files). HoldsInForce m log.log.active log.log.header stable f) (sym from.0) (record { groups = k.groups; log = record { in_force = k.in_force; log = k.file }; records_are = k.stable_are });
         nothing_said = from.1;
       })
 
-  -- and then one that rewrites the log files leaves that, or the new one
-  pub partly_rewritten : (old mid new : Disk) (log : RecordLogView) (base : ℕ) (table : Table) (stable : List (Record O)) (is : Rewrites old log base table stable) → Stays old mid → old.tells_moments
-      → LeavesOnly mid new (IsOldOrNew mid log.log (map (payload_of m) is.keeps.groups) (rewritten_log m log.log base table stable) (new_payloads m base table stable))
-      → LeavesOnly old new (IsRewrittenPartly m old log.log base table stable)
-  partly_rewritten old mid new log base table stable is kept told leaves =
-      let files_told = kept.begins.telling told in
-      runs_on old mid new (IsRewrittenPartly m old log.log base table stable) (partly_stays old mid log base table stable is.keeps kept told)
-      (weaker mid new (IsOldOrNew mid log.log (map (payload_of m) is.keeps.groups) (rewritten_log m log.log base table stable) (new_payloads m base table stable)) (IsRewrittenPartly m old log.log base table stable) leaves
-      (λ files said so. partly old mid log base table stable is (kept.reads files_told) (kept.said files_told) files said so))
-
-  -- the old log, over calls that change no image
-  rests_on : (old mid : Disk) (log : RecordLogView) (stable : List (Record O)) (k : Keeps m old log stable []) → Stays old mid → old.tells_files → IsAtRest mid log.log (map (payload_of m) k.groups)
-  rests_on old mid log stable k kept told = record {
-    settled = λ f. stays_settled old mid f kept (k.settled f);
-    stands = subst (λ (fs : Files). IsWholeLog log.log.header (map (payload_of m) k.groups) (fs log.log.active)) (sym (kept.reads told)) k.file.log;
-    place = k.place;
+  -- so it refuses
+  pub refused_stays : (old new : Disk) (log : RecordLogView) → Stays old new → IsRefused m old new log
+  refused_stays old new log kept = record {
+    kept = λ told stable keeps. keeps_stay m old new log stable [] told kept keeps;
+    settled = λ settled file. stays_settled old new file kept (settled file);
+    any_moment = λ told stable keeps. old_stays old new log stable keeps kept told;
   }
 
-  force_on : (old mid : Disk) (log : RecordLogView) (stable : List (Record O)) (k : Keeps m old log stable []) → Stays old mid → old.tells_files → IsInForce log.log.active log.log.header.epoch mid.reads
-  force_on old mid log stable k kept told = subst (λ (fs : Files). IsInForce log.log.active log.log.header.epoch fs) (sym (kept.reads told)) k.in_force
-
-  -- a rewrite of the log below is one of its records
-  pub rewrite_moments : (old mid new : Disk) (inside now : RecordLogView) (base : ℕ) (table : Table) (stable : List (Record O)) (commands : ℕ) (bytes : List (List ℕ)) → inside ≡ now → Rewrites old now base table stable
-      → Stays old mid → old.tells_moments → (bytes ≡ new_payloads m base table stable) × (commands ≡ commands_before now.log base stable)
-      → ((held : List (List ℕ)) → IsAtRest mid inside.log held → IsInForce inside.log.active inside.log.header.epoch mid.reads → LeavesOnly mid new (IsOldOrNew mid inside.log held (rewritten inside.log base commands bytes) bytes))
-      → LeavesOnly old new (IsRewrittenPartly m old now.log base table stable)
-  rewrite_moments old mid new inside now base table stable commands bytes same is kept told made leaves =
-      let files_told = kept.begins.telling told in
-      let held = map (payload_of m) is.keeps.groups in
-      let here = subst (λ (v : RecordLogView). (held : List (List ℕ)) → IsAtRest mid v.log held → IsInForce v.log.active v.log.header.epoch mid.reads → LeavesOnly mid new (IsOldOrNew mid v.log held (rewritten v.log base commands bytes) bytes))
-      same leaves held (rests_on old mid now stable is.keeps kept files_told) (force_on old mid now stable is.keeps kept files_told) in
-      let payloads = subst (λ (ps : List (List ℕ)). LeavesOnly mid new (IsOldOrNew mid now.log held (rewritten now.log base commands ps) ps)) made.0 here in
-      partly_rewritten old mid new now base table stable is kept told
-      (subst (λ (n : ℕ). LeavesOnly mid new (IsOldOrNew mid now.log held (rewritten now.log base n (new_payloads m base table stable)) (new_payloads m base table stable))) made.1 payloads)
-
-  pub rewrite_acknowledged : (old mid new : Disk) (inside now : RecordLogView) (log : LogView) (base : ℕ) (table : Table) (stable : List (Record O)) (commands : ℕ) (bytes : List (List ℕ)) → inside ≡ now
-      → Rewrites old now base table stable → Stays old mid → old.tells_files → (bytes ≡ new_payloads m base table stable) × (commands ≡ commands_before now.log base stable)
-      → log ≡ rewritten inside.log base commands bytes
-      → ((held : List (List ℕ)) → IsAtRest mid inside.log held → IsInForce inside.log.active inside.log.header.epoch mid.reads → IsAtRest new log bytes × IsInForce log.active log.header.epoch new.reads)
-      → Keeps m new (record inside { log = log }) (rewritten_records base table stable) [] × (record inside { log = log } ≡ record now { log = rewritten_log m now.log base table stable })
-  rewrite_acknowledged old mid new inside now log base table stable commands bytes same is kept told made log_is rests =
-      let held = map (payload_of m) is.keeps.groups in
-      let logs : log ≡ rewritten_log m now.log base table stable = log_is ∙ ap (λ (v : RecordLogView). rewritten v.log base commands bytes) same ∙ (λ i. rewritten now.log base (made.1 i) (made.0 i)) in
-      let after : record inside { log = log } ≡ record now { log = rewritten_log m now.log base table stable } = λ i. record (same i) { log = logs i } in
-      let here = subst (λ (v : RecordLogView). (held : List (List ℕ)) → IsAtRest mid v.log held → IsInForce v.log.active v.log.header.epoch mid.reads → IsAtRest new log bytes × IsInForce log.active log.header.epoch new.reads)
-      same rests held (rests_on old mid now stable is.keeps kept told) (force_on old mid now stable is.keeps kept told) in
-      let rest = subst (λ (ps : List (List ℕ)). IsAtRest new (rewritten_log m now.log base table stable) ps) made.0 (subst (λ (l : LogView). IsAtRest new l bytes) logs here.0) in
-      let in_force = subst (λ (l : LogView). IsInForce l.active l.header.epoch new.reads) logs here.1 in
-      (keeps_rewritten old new now (record inside { log = log }) base table stable is after rest in_force, after)
-
   -- what the new log is made of
-  pub new_encodable : (meaning : Bounds → Meaning O) (b : Bounds) → HasCodes (meaning b) → (base : ℕ) (table : Table) (records : List (Record O)) → All (IsRecord (meaning b)) records → IsRecord (meaning b) (Check table)
-      → All (IsEncodable meaning) (rewritten_records base table records)
-  new_encodable meaning b codes base table records good check =
-      All-weaker (IsRecord (meaning b)) (IsEncodable meaning) (λ r is. encodable-from_grammar meaning b codes r is) (rewritten_records base table records)
-      (All-push (IsRecord (meaning b)) (numbered_from base records) (Check table) (All-filter (is_numbered_from base) (IsRecord (meaning b)) records good) check)
-
   pub new_short : (base : ℕ) (table : Table) (records : List (Record O)) → AreShort m records → length (record_code m (Check table)) ≤ 2 ^ 30 → AreShort m (rewritten_records base table records)
   new_short base table records short check =
       All-push (λ r. length (record_code m r) ≤ 2 ^ 30) (numbered_from base records) (Check table) (All-filter (is_numbered_from base) (λ r. length (record_code m r) ≤ 2 ^ 30) records short) check
@@ -192,10 +152,3 @@ pub none_found : (e : ReadErr) → (TellsDamage e → ⊥) → FindsDamage (rewr
 none_found DiskFault none found = found
 none_found (Damaged file place) none found = none found
 none_found Memory none found = found
-
--- a run that changes one file, after calls that change none
-pub rewritten_run : (old mid new : Disk) (file : FileNo) → Stays old mid → Runs (In file Any) Same mid new → Runs (In file Any) Same old new
-rewritten_run old mid new file kept run = runs_join old mid new Same (In file Any) (In file Any)
-    (λ a b same. record { changed = tt; others = λ other apart. ap (λ (f : Files). f other) same })
-    (λ a b c same in_file. record { changed = tt; others = λ other apart. in_file.others other apart ∙ ap (λ (f : Files). f other) same })
-    kept run

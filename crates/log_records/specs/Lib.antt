@@ -3,8 +3,11 @@ pub mod CodecLaws
 pub mod RecordLog
 pub mod RecordLaws
 pub mod Rewriting
-pub mod Packing
 pub mod RewriteLaws
+pub mod Measuring
+pub mod Measured
+pub mod Laying
+pub mod Copying
 pub mod RecordReader
 pub mod NumberedReader
 pub mod Loading

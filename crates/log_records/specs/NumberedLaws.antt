@@ -6,6 +6,7 @@ use Rattle.std.proofs.lemmas.Bool.{cases_Bool, cond-true, cond-false, and_parts,
 use Rattle.std.proofs.lemmas.List.{append-nil}
 use Rattle.std.proofs.lemmas.List.Elements.{All-cons, All-nil, All-filter, filter-append}
 use Rattle.disk_model.specs.Disk.{Files, Disk, OthersStay}
+use Rattle.disk_model.specs.declared.machine.FileNo.{FileNo}
 use Rattle.disk_model.specs.declared.machine.FileNo.TheVariants.{Objects}
 use Rattle.oper_core.specs.Meaning.{Meaning}
 use Rattle.formats.specs.Log.{IsWholeLog}
@@ -80,7 +81,7 @@ module _ {O : Type 0} (m : Meaning O) where
       (All-filter (is_between it.from it.end) (IsRecord m) is.all (all_in_grammar m base base is.all is.past.placed))
 
   -- and so is the last
-  last_of : {X : Type 0} (P : X → Type 0) (xs : List X) (x : X) → All P (xs ++ x ∷ []) → P x
+  pub last_of : {X : Type 0} (P : X → Type 0) (xs : List X) (x : X) → All P (xs ++ x ∷ []) → P x
   last_of P [] x all = all 0 x (omega arith)
   last_of P (y ∷ xs) x all = last_of P xs x (λ k d less. all (suc k) d (omega (arith, less)))
 
@@ -132,10 +133,10 @@ module _ {O : Type 0} (m : Meaning O) where
       ∙ keeps.stable_are in
       first_numbered d log stable pending is.all [] from keeps (sym same ∙ sym (append-nil is.all)) ∙ append-nil (numbered_between from log.next is.all) ∙ sym is.given_are
 
-  -- A reader goes on where the objects alone have changed.
-  reading_beside : (old new : Disk) (log : LogView) (it : RecordReaderView) (records : List (Record O)) → log.active ≢ Objects → ((now : Files) → new.agrees now → (was : Files) × old.agrees was × OthersStay Objects was now)
+  -- A reader goes on where another file alone has changed.
+  pub reading_beside : (old new : Disk) (file : FileNo) (log : LogView) (it : RecordReaderView) (records : List (Record O)) → log.active ≢ file → ((now : Files) → new.agrees now → (was : Files) × old.agrees was × OthersStay file was now)
       → IsReading m old log it records → IsReading m new log it records
-  reading_beside old new log it records apart beside is = record {
+  reading_beside old new file log it records apart beside is = record {
     file = is.file;
     base = is.base;
     placed = is.placed;
@@ -155,5 +156,5 @@ module _ {O : Type 0} (m : Meaning O) where
     all = is.all;
     given_are = is.given_are;
     past = is.past;
-    reading = λ apart. reading_beside old new log.log it.records is.all apart beside (is.reading apart);
+    reading = λ apart. reading_beside old new Objects log.log it.records is.all apart beside (is.reading apart);
   }

@@ -1,6 +1,6 @@
 -- What a rewrite of a log of records leaves.
 use Rattle.std.specs.Prelude.{◌≡◌, ◌≢◌, ⊤, ◌⊎◌, ◌<◌, ◌≤◌, ◌+◌, ◌^◌, ℕ, Bool, false, not, nat_le, nat_lt, ◌&&◌, if◌then◌else◌, List, [], ◌∷◌, ◌++◌, length, map, filter, Result, OnErr, OnOk, IfErr}
-use Rattle.disk_model.specs.Disk.{Files, Disk, In, Any, Stays}
+use Rattle.disk_model.specs.Disk.{Files, Disk, In, Any, IsSettled, LeavesOnly, Stays}
 use Rattle.disk_model.specs.declared.machine.FileNo.{FileNo}
 use Rattle.redo_tables.specs.declared.table.Table.{Table}
 use Rattle.oper_core.specs.Meaning.{Meaning}
@@ -108,6 +108,19 @@ pub record IsRewrittenPartly {O : Type 0} (m : Meaning O) (d : Disk) (log : LogV
       ⊎ HoldsInForce m (other_of log.active) (next_header log base (commands_before log base stable)) (rewritten_records base table stable) files
   pub nothing_said : said ≡ d.said
 
+-- What a crash within a rewrite leaves that fails: the log in force is the old one. The objects and the old log are as they
+-- were, and nothing was said.
+pub record IsOldLog {O : Type 0} (m : Meaning O) (d : Disk) (log : LogView) (stable : List (Record O)) (files : Files) (said : List ℕ) : Type 0 where
+  pub others : In (other_of log.active) Any d.reads files
+  pub in_force : HoldsInForce m log.active log.header stable files
+  pub nothing_said : said ≡ d.said
+
+-- The log keeps the records that it had. All that was done is on the disk, and no other log was in force at any moment.
+pub record IsRefused {O : Type 0} (m : Meaning O) (before after : Disk) (log : RecordLogView) : Type 0 where
+  pub kept : before.tells_files → (stable : List (Record O)) → Keeps m before log stable [] → Keeps m after log stable []
+  pub settled : IsSettled before → IsSettled after
+  pub any_moment : before.tells_moments → (stable : List (Record O)) → Keeps m before log stable [] → LeavesOnly before after (IsOldLog m before log.log stable)
+
 -- over files that are reported, and hold these records, the number is the length of the new log file
 abbrev pub IsNewLength : {O : Type 0} → Meaning O → Disk → RecordLogView → ℕ → Table → ℕ → Type 0
 IsNewLength {O = O} m d log base table n = d.tells_files → (stable : List (Record O)) → Keeps m d log stable [] → n ≡ file_length (new_payloads m base table stable)
@@ -139,11 +152,11 @@ rewrite_from_read of_read.DiskFault = DiskFault
 rewrite_from_read (of_read.Damaged file place) = Damaged file place
 rewrite_from_read of_read.Memory = Memory
 
--- How a rewrite of this log ends. Where it fails the log is as it was, and so are the files, unless a fault of the disk is
--- reported. They are so too where the new file would have more than 2^48 bytes. It succeeds only before the last epoch,
--- and with a file within that length.
+-- How a rewrite of this log ends. Where it fails the log is as it was, and is in force, unless a fault of the disk is reported.
+-- Where the new file would have more than 2^48 bytes no file is changed. It succeeds only before the last epoch, and with a file
+-- within that length.
 pub record IsRewriteEnd {O T : Type 0} (m : Meaning O) (before after : Disk) (log now : RecordLogView) (base : ℕ) (table : Table) (result : Result T RewriteErr) : Type 0 where
   pub kept : OnErr result (now ≡ log)
-  pub refused : IfErr result (λ e. e ≢ DiskFault → Stays before after)
+  pub refused : IfErr result (λ e. e ≢ DiskFault → IsRefused m before after log)
   pub long : before.tells_files → (stable : List (Record O)) → Keeps m before log stable [] → 2 ^ 48 < file_length (new_payloads m base table stable) → Stays before after
   pub made : OnOk result ((log.log.header.epoch < 2 ^ 62) × IsWithinLength m before log base table)

@@ -1,7 +1,7 @@
 // What is asked of one record: whether it is right in its place, which number comes after it, whether it is a command.
-ghost use Rattle.std.specs.Prelude.{◌≡◌, ◌≤◌, ◌+◌, ◌↔◌, ℕ, IsTrue, length};
+ghost use Rattle.std.specs.Prelude.{◌≡◌, ◌≤◌, ◌+◌, ◌↔◌, ℕ, IsTrue};
 ghost use Rattle.oper_core.specs.Meaning.{Meaning};
-ghost use Rattle.formats.specs.Records.{commands_of, next_behind, IsPlaced};
+ghost use Rattle.formats.specs.Records.{next_behind, IsPlaced};
 ghost use Rattle.log_records.specs.Loading.{IsStart, AreStarts};
 ghost use Rattle.log_records.specs.RecordLog.{counts};
 
@@ -52,17 +52,6 @@ pub fn next_behind<O: Oper>(record: &Record<O>, next: u64) -> u64
         Some(_) => next.saturating_add(1),
         None => next,
     }
-}
-
-// How many of the records are commands.
-pub fn count_commands<O: Oper>(records: &[Record<O>]) -> u64
-    ensures { result ≡ length (commands_of records.now) }
-{
-    let mut count = 0;
-    for record in records {
-        count += commands_in(record);
-    }
-    count
 }
 
 /// How many commands a record is: one, or none.

@@ -1,5 +1,5 @@
 use Rattle.log_frames.proofs.Steps.{IsForce, any_change, any_twice, changed_twice, leaves_staging, staged_by, block_moments, opened_log}
-use Rattle.disk_model.specs.Disk.{In, Any, Runs, Same, Files}
+use Rattle.disk_model.specs.Disk.{In, Any}
 use Rattle.disk_model.specs.Moments.{passes_twice, runs_twice}
 use Rattle.log_frames.proofs.Filled.{filling_leaves, filled_leaves, still_at}
 use Rattle.log_frames.proofs.forcing.write_block.Goals as goal
