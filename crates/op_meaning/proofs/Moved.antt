@@ -1,6 +1,6 @@
 -- Values that are moved into an effect.
 use Rattle.std.proofs.Common.{◌≡◌, ℕ, List, [], ◌∷◌, ◌++◌, length, length-append, refl, sym, ap, ◌∙◌, arith}
-use Rattle.op_meaning.specs.Rows.{first, second}
+use Rattle.op_rows.specs.Rows.{first, second}
 
 -- one value is the list of it
 pub only_one : (values : List (List ℕ)) → length values ≡ 1 → values ≡ first values ∷ []

@@ -1,68 +1,24 @@
--- When bytes begin with the code of no operation.
-use Rattle.std.proofs.Common.{◌≡◌, ◌≢◌, ℕ, Option, None, Some, Result, Ok, Err, is_some, unwrap_or, true, IfNone, IfOk, List, [], ◌∷◌, ◌++◌, length, slice_index, slice_get, sym, ap, ◌∙◌, subst, arith, true≢false}
-use Rattle.std.specs.Result.{result_err, is_err}
+-- When bytes begin with the code of no operation on plain values.
+use Rattle.std.proofs.Common.{◌≡◌, ℕ, Option, None, Some, Result, Ok, Err, is_some, IfNone, IfOk, List, slice_index, ◌≢◌, true, arith}
 use Rattle.oper_core.specs.Meaning.{StartsWithCode}
 use Rattle.oper_core.specs.declared.bounds.Bounds.{Bounds}
-use Rattle.op_meaning.specs.Rows.{all_numbers, numbers_code, text_code}
-use Rattle.op_meaning.specs.RowLaws.{beside}
+use Rattle.op_rows.specs.FirstBytes as first_bytes
+use Rattle.op_rows.specs.FirstBytes.{NoneOf}
 use Rattle.op_meaning.specs.Table.{is_plain_tag, plain_meaning, plain_row}
 use Rattle.op_meaning.specs.TableLaws.{count_is, count_of, plain_tagged}
 use Rattle.op_meaning.specs.declared.plain_op.PlainOp.{PlainOp}
 use Rattle.op_meaning.specs.declared.plain_op.PlainOp.TheVariants.{Put}
 
--- an error is a refusal
-pub is_refused : {A E : Type 0} (r : Result A E) → true ≡ is_err r → result_err r ≢ None
-is_refused (Ok x) e none = true≢false e
-is_refused (Err x) e none = cc
-
--- the first byte
-pub first_byte : (tag : ℕ) (bytes : List ℕ) → Some tag ≡ slice_get bytes 0 → slice_index bytes 0 ≡ tag
-first_byte tag [] e = cc
-first_byte tag (byte ∷ bytes) e = sym (ap (λ (o : Option ℕ). unwrap_or o 0) e)
-
--- the bytes begin with no code of this tag and so many numbers
-abbrev pub NoneOf : ℕ → ℕ → List ℕ → Type 0
-NoneOf tag n bytes = (xs rest : List ℕ) → length xs ≡ n → bytes ≢ numbers_code tag xs ++ rest
-
-pub none_of_one : (tag : ℕ) (bytes : List ℕ) → ((x : ℕ) (rest : List ℕ) → bytes ≢ numbers_code tag (x ∷ []) ++ rest) → NoneOf tag 1 bytes
-none_of_one tag bytes none [] rest size = absurd (omega (arith, size))
-none_of_one tag bytes none (x ∷ []) rest size = none x rest
-none_of_one tag bytes none (x ∷ y ∷ more) rest size = absurd (omega (arith, size))
-
-pub none_of_two : (tag : ℕ) (bytes : List ℕ) → ((x y : ℕ) (rest : List ℕ) → bytes ≢ numbers_code tag (x ∷ y ∷ []) ++ rest) → NoneOf tag 2 bytes
-none_of_two tag bytes none [] rest size = absurd (omega (arith, size))
-none_of_two tag bytes none (x ∷ []) rest size = absurd (omega (arith, size))
-none_of_two tag bytes none (x ∷ y ∷ []) rest size = none x y rest
-none_of_two tag bytes none (x ∷ y ∷ z ∷ more) rest size = absurd (omega (arith, size))
-
-pub none_of_three : (tag : ℕ) (bytes : List ℕ) → ((x y z : ℕ) (rest : List ℕ) → bytes ≢ numbers_code tag (x ∷ y ∷ z ∷ []) ++ rest) → NoneOf tag 3 bytes
-none_of_three tag bytes none [] rest size = absurd (omega (arith, size))
-none_of_three tag bytes none (x ∷ []) rest size = absurd (omega (arith, size))
-none_of_three tag bytes none (x ∷ y ∷ []) rest size = absurd (omega (arith, size))
-none_of_three tag bytes none (x ∷ y ∷ z ∷ []) rest size = none x y z rest
-none_of_three tag bytes none (x ∷ y ∷ z ∷ w ∷ more) rest size = absurd (omega (arith, size))
-
 module _ (b : Bounds) (bytes : List ℕ) where
-  -- no operation of the grammar has a code that the bytes begin with
   abbrev pub NoOp : Type 0
-  NoOp = (op : PlainOp) → StartsWithCode (plain_meaning b) bytes op → ⊥
+  NoOp = first_bytes.NoOp plain_row is_plain_tag plain_tagged count_of count_is b bytes
 
-  -- the tag of the operation that they begin with is the first byte
-  tag_is : (op : PlainOp) → StartsWithCode (plain_meaning b) bytes op → (plain_row op).names.tag ≡ slice_index bytes 0
-  tag_is op begins = sym (ap (λ (l : List ℕ). slice_index l 0) (begins.split ∙ beside plain_row op begins.rest))
-
-  -- what begins with no code of its tag and numbers begins with none
-  none_reads : (tag : ℕ) → slice_index bytes 0 ≡ tag → NoneOf tag (count_of tag) bytes → NoOp
-  none_reads tag is none op begins =
-      let numbers : List ℕ = all_numbers (plain_row op).names in
-      let behind : List ℕ = text_code (plain_row op).names.text ++ begins.rest in
-      let same = tag_is op begins ∙ is in
-      none numbers behind (count_is op ∙ ap count_of same) (begins.split ∙ beside plain_row op begins.rest ∙ ap (λ (t : ℕ). numbers_code t numbers ++ behind) same)
-
-  -- what begins with no tag of the table begins with no code
   pub no_tag : (tag : ℕ) (found : Option PlainOp) → slice_index bytes 0 ≡ tag → is_plain_tag tag ≢ true → found ≡ None → IfNone found NoOp
-  no_tag tag found is other none =
-      subst (λ (o : Option PlainOp). IfNone o NoOp) (sym none) (λ op begins. other (ap is_plain_tag (sym is ∙ sym (tag_is op begins)) ∙ plain_tagged b op))
+  no_tag = first_bytes.no_tag plain_row is_plain_tag plain_tagged count_of count_is b bytes
+
+  pub none_found : {N : Type 0} (P : Type 0) (tag : ℕ) (numbers : Option N) (found result : Option PlainOp) → slice_index bytes 0 ≡ tag
+      → found ≡ result → is_some result ≡ is_some numbers → IfNone numbers P → (P → NoneOf tag (count_of tag) bytes) → IfNone found NoOp
+  none_found = first_bytes.none_found plain_row is_plain_tag plain_tagged count_of count_is b bytes
 
   -- what begins with the tag of a put begins with no other code
   abbrev NoPut : Type 0
@@ -70,17 +26,9 @@ module _ (b : Bounds) (bytes : List ℕ) where
 
   no_other_tag : slice_index bytes 0 ≡ 1 → NoPut → NoOp
   no_other_tag is none (Put object value) begins = none object value begins
-  no_other_tag is none op begins = absurd (omega (arith, is, tag_is op begins))
+  no_other_tag is none op begins = absurd (omega (arith, is, first_bytes.tag_is plain_row is_plain_tag plain_tagged count_of count_is b bytes op begins))
 
   pub no_put : {E : Type 0} (r : Result (Option PlainOp) E) → slice_index bytes 0 ≡ 1 → IfOk r (λ found. IfNone found NoPut) → IfOk r (λ found. IfNone found NoOp)
   no_put (Err e) is none = tt
   no_put (Ok (Some op)) is none = tt
   no_put (Ok None) is none = no_other_tag is none
-
-  -- where the numbers after the tag are not there, none is found
-  pub none_found : {N : Type 0} (P : Type 0) (tag : ℕ) (numbers : Option N) (found result : Option PlainOp) → slice_index bytes 0 ≡ tag
-      → found ≡ result → is_some result ≡ is_some numbers → IfNone numbers P → (P → NoneOf tag (count_of tag) bytes) → IfNone found NoOp
-  none_found P tag None found None is e same none gives = subst (λ (o : Option PlainOp). IfNone o NoOp) (sym e) (none_reads tag is (gives none))
-  none_found P tag None found (Some op) is e same none gives = absurd (true≢false same)
-  none_found P tag (Some n) found None is e same none gives = absurd (true≢false (sym same))
-  none_found P tag (Some n) found (Some op) is e same none gives = subst (λ (o : Option PlainOp). IfNone o NoOp) (sym e) tt

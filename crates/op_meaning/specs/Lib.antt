@@ -2,7 +2,5 @@ pub mod AppState
 pub mod AppStateLaws
 pub mod Order
 pub mod OrderLaws
-pub mod Rows
-pub mod RowLaws
 pub mod Table
 pub mod TableLaws

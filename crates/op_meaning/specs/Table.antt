@@ -8,7 +8,7 @@ use Rattle.oper_core.specs.declared.refusal.Refusal.{Refusal}
 use Rattle.oper_core.specs.declared.refusal.Refusal.TheVariants.{BadPlace, BadWidth, NoInput, TooLarge}
 use Rattle.op_meaning.specs.AppState.{app_check, app_of, fed, state_code, stepped}
 use Rattle.op_meaning.specs.Order.{records, in_order}
-use Rattle.op_meaning.specs.Rows.{Names, Row, first, rows_meaning, second}
+use Rattle.op_rows.specs.Rows.{Row, first, objects_alone, rows_meaning, second, with_number}
 use Rattle.op_meaning.specs.declared.plain_op.PlainOp.{PlainOp}
 use Rattle.op_meaning.specs.declared.plain_op.PlainOp.TheVariants.{Put, Copy, Append, Cut, Sort, Swap, Exec, AppRead, AppWrite}
 
@@ -33,14 +33,6 @@ exec_check value = or_else (app_check value) (unless (nat_lt 0 (length (app_of v
 -- its state is not too long with x
 abbrev pub app_read_check : Bounds → List ℕ → List ℕ → Option Refusal
 app_read_check b value x = or_else (app_check value) (unless (nat_le (length (state_code (fed (app_of value) x))) b.cap) TooLarge)
-
--- names without numbers and text
-abbrev pub objects_alone : ℕ → List ℕ → List ℕ → List ℕ → Names
-objects_alone tag objects reads writes = record { tag = tag; objects = objects; numbers = []; text = None; reads = reads; writes = writes }
-
--- names with one number
-abbrev pub with_number : ℕ → List ℕ → ℕ → List ℕ → List ℕ → Names
-with_number tag objects number reads writes = record { tag = tag; objects = objects; numbers = number ∷ []; text = None; reads = reads; writes = writes }
 
 abbrev pub plain_row : PlainOp → Row
 -- put X v: X becomes v

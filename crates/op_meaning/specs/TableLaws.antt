@@ -1,9 +1,8 @@
 -- Each row of the table is lawful, and the table tells operations apart.
-use Rattle.std.proofs.Common.{◌<◌, ◌≡◌, ◌≤◌, ℕ, ◌+◌, List, [], ◌∷◌, ◌++◌, ◌==◌, if◌then◌else◌, length, take, drop, slice_index, refl, sym, ap, ◌∙◌, inl, inr, arith, length-append, length-drop, length-take}
-use Rattle.std.specs.Prelude.{Option, None, Some, true, is_some, unwrap_or, All, nat_le, nat_lt}
+use Rattle.std.proofs.Common.{◌<◌, ◌≡◌, ℕ, ◌+◌, List, [], ◌++◌, ◌==◌, if◌then◌else◌, length, take, drop, slice_index, refl, sym, ap, ◌∙◌, inl, inr, arith, length-append, length-drop, length-take}
+use Rattle.std.specs.Prelude.{Option, None, Some, true, is_some, unwrap_or, nat_le, nat_lt}
 use Rattle.std.specs.List.{concat}
 use Rattle.std.proofs.lemmas.Bool.{leb-true, ltb-true}
-use Rattle.std.proofs.lemmas.List.Elements.{All-head, All-tail}
 use Rattle.oper_core.specs.Meaning.{unless}
 use Rattle.oper_core.specs.Family.{IsTagged}
 use Rattle.oper_core.specs.declared.bounds.Bounds.{Bounds}
@@ -11,22 +10,13 @@ use Rattle.oper_core.specs.MeaningLaws.{or_else-none, or_else-both, unless-none}
 use Rattle.oper_core.specs.declared.refusal.Refusal.TheVariants.{NotApp, NoInput, TooLarge}
 use Rattle.op_meaning.specs.Order.{records, in_order}
 use Rattle.op_meaning.specs.OrderLaws.{length-sorted}
-use Rattle.op_meaning.specs.Rows.{all_numbers, first, second}
+use Rattle.op_rows.specs.Rows.{all_numbers, first, second}
 use Rattle.op_meaning.specs.AppState.{Application, app_check, app_of, fed, new_application, state_code, state_in, stepped}
 use Rattle.op_meaning.specs.AppStateLaws.{length-state, length-stepped, state_within}
-use Rattle.op_meaning.specs.RowLaws.{AreRows, IsRow, fits_more, one_short, two_short}
+use Rattle.op_rows.specs.RowLaws.{AreRows, IsRow, first_short, fits_more, one_short, second_short, two_short}
 use Rattle.op_meaning.specs.Table.{exec_check, is_plain_tag, plain_meaning, plain_row}
 use Rattle.op_meaning.specs.declared.plain_op.PlainOp.{PlainOp}
 use Rattle.op_meaning.specs.declared.plain_op.PlainOp.TheVariants.{Put, Copy, Append, Cut, Sort, Swap, Exec, AppRead, AppWrite}
-
--- the values that are read are short, also where there are none
-pub first_short : (cap : ℕ) (values : List (List ℕ)) → All (λ v. length v ≤ cap) values → length (first values) ≤ cap
-first_short cap [] short = omega arith
-first_short cap (v ∷ values) short = All-head (λ v. length v ≤ cap) v values short
-
-second_short : (cap : ℕ) (values : List (List ℕ)) → All (λ v. length v ≤ cap) values → length (second values) ≤ cap
-second_short cap [] short = omega arith
-second_short cap (v ∷ values) short = first_short cap values (All-tail (λ v. length v ≤ cap) v values short)
 
 put_is_row : (x : ℕ) (v : List ℕ) → IsRow (plain_row (Put x v))
 put_is_row x v = record {

@@ -4,7 +4,7 @@ ghost use Rattle.std.specs.List.{concat};
 ghost use Rattle.std.specs.Result.{result_err};
 ghost use Rattle.op_meaning.specs.AppState.{app_check, app_of, fed, state_code, stepped};
 ghost use Rattle.op_meaning.specs.Order.{in_order, records};
-ghost use Rattle.op_meaning.specs.Rows.{first, if_applicable, second};
+ghost use Rattle.op_rows.specs.Rows.{first, if_applicable, second};
 ghost use Rattle.op_meaning.specs.Table.{append_check, app_read_check, cut_check, exec_check, sort_check};
 
 use crate::AppState;

@@ -2,15 +2,13 @@
 //! code in the log.
 //!
 //! The one contract is that of the trait `Oper`, at the meaning that the table in specs/ gives; and the state of an
-//! application and its bytes determine each other. It depends on oper_core, and on byteorder for the numbers in the
-//! codes.
+//! application and its bytes determine each other. It depends on oper_core, on op_rows for
+//! the tables, and on byteorder for the numbers of a state.
 #![tactic(auto)]
 
 mod app_state;
 mod effects;
 mod laws;
-mod names;
-mod numbers;
 mod order;
 mod plain_op;
 

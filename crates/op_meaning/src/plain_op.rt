@@ -1,16 +1,17 @@
 ghost use Rattle.std.specs.Prelude.{◌≡◌, ◌<◌, ◌≤◌, ◌^◌, ◌++◌, [], ◌∷◌, List, ℕ, IfNone, IfOk, IfSome, drop, length};
 ghost use Rattle.std.specs.List.{AllByRecursion};
-ghost use Rattle.oper_core.specs.Meaning.{IsSmall, StartsWithCode};
-ghost use Rattle.op_meaning.specs.Rows.{all_numbers, names_code, text_of};
-ghost use Rattle.op_meaning.specs.RowLaws.{rows_bounded, rows_lawful, rows_widen};
+ghost use Rattle.oper_core.specs.Meaning.{StartsWithCode};
+ghost use Rattle.op_rows.specs.Rows.{all_numbers, names_code, text_of};
+ghost use Rattle.op_rows.specs.RowLaws.{rows_bounded, rows_lawful, rows_widen};
 ghost use Rattle.op_meaning.specs.Table.{is_plain_tag, plain_meaning, plain_row};
 ghost use Rattle.op_meaning.specs.TableLaws.{are_plain_rows, plain_tagged};
 ghost use Rattle.op_meaning.specs.declared.plain_op.PlainOp.{PlainOp};
 ghost use Rattle.op_meaning.specs.declared.plain_op.PlainOp.TheVariants.{Put};
 
 use crate::effects;
-use crate::names::Names;
-use crate::numbers::{number_and_text, one_number, three_numbers, two_numbers};
+use op_rows::{
+    Names, both, known_as_small, number_and_text, one_number, three_numbers, two_numbers,
+};
 use oper_core::{Bounds, ByteList, Family, Memory, Objs, Oper, Refusal, Values};
 use std::alloc::Global;
 
@@ -144,23 +145,6 @@ fn read_put(alloc: Global, b: Bounds, bytes: &[u8]) -> Result<Option<PlainOp>, M
     }
     let value = ByteList::new(text.to_vec(alloc)?);
     Ok(Some(PlainOp::Put { object, value }))
-}
-
-/// That both numbers have four bytes, for proofs. It does nothing.
-fn known_as_small(b: Bounds)
-    ensures { IsSmall b }
-{
-    let _objects = b.objects;
-    let _cap = b.cap;
-}
-
-/// The two objects, in this order.
-fn both(first: u32, second: u32) -> Objs
-    ensures { result ≡ first ∷ second ∷ [] }
-{
-    let mut objects = Objs::one(first);
-    objects.push(second);
-    objects
 }
 
 impl Oper for PlainOp {

@@ -1,6 +1,7 @@
 use Rattle.std.proofs.Common.{◌≡◌, ℕ, List, ◌∙◌, slice_index, arith}
 use Rattle.std.proofs.lemmas.Bool.Decides.{nat_tests}
-use Rattle.op_meaning.proofs.ReadOps.{first_byte, no_put, no_tag, none_found, none_of_one, none_of_two, none_of_three}
+use Rattle.op_rows.specs.FirstBytes.{first_byte, none_of_one, none_of_two, none_of_three}
+use Rattle.op_meaning.proofs.ReadOps.{no_put, no_tag, none_found}
 use Rattle.op_meaning.proofs.plain_op.PlainOp.read.Goals as goal
 use Rattle.op_meaning.proofs.plain_op.PlainOp.read.Goals.{in-2, in-3, in-4, in-5, in-6, in-7, in-8, in-9, in_default-tag}
 

@@ -1,12 +1,12 @@
 use Rattle.std.proofs.Common.{◌≡◌, ◌<◌, ◌≤◌, ◌^◌, ℕ, Option, Some, List, ◌++◌, length, drop, ap, subst, ◌∙◌, arith}
 use Rattle.std.specs.Prelude.{IfSome}
 use Rattle.std.proofs.lemmas.List.Elements.{All-from_recursion}
-use Rattle.op_meaning.specs.Rows.{all_numbers, names_code, names_shape, text_of}
-use Rattle.op_meaning.specs.RowLaws.{no_other}
+use Rattle.op_rows.specs.Rows.{all_numbers, names_code, names_shape, text_of}
+use Rattle.op_rows.specs.RowLaws.{no_other}
 use Rattle.op_meaning.specs.Table.{plain_row}
 use Rattle.op_meaning.specs.TableLaws.{are_plain_rows}
 use Rattle.op_meaning.specs.declared.plain_op.PlainOp.{PlainOp}
-use Rattle.op_meaning.proofs.ReadOps.{is_refused}
+use Rattle.op_rows.specs.FirstBytes.{is_refused}
 use Rattle.op_meaning.proofs.plain_op.PlainOpOper.decode.Goals as goal
 
 -- what holds of an operation that was found

@@ -1,6 +1,6 @@
 use Rattle.std.proofs.Common.{rules, length, ap, arith}
-use Rattle.op_meaning.specs.RowLaws.{length_code}
-use Rattle.op_meaning.proofs.names.Names.write.Goals as goal
+use Rattle.op_rows.specs.RowLaws.{length_code}
+use Rattle.op_rows.proofs.names.Names.write.Goals as goal
 
 pub loop-object-init : goal.loop-object-init
 loop-object-init c =

@@ -31,6 +31,14 @@ pub record Names : Type 0 where
   pub reads : List ℕ
   pub writes : List ℕ
 
+-- names without numbers and text
+abbrev pub objects_alone : ℕ → List ℕ → List ℕ → List ℕ → Names
+objects_alone tag objects reads writes = record { tag = tag; objects = objects; numbers = []; text = None; reads = reads; writes = writes }
+
+-- names with one number
+abbrev pub with_number : ℕ → List ℕ → ℕ → List ℕ → List ℕ → Names
+with_number tag objects number reads writes = record { tag = tag; objects = objects; numbers = number ∷ []; text = None; reads = reads; writes = writes }
+
 -- a number, or none, as a list
 abbrev pub listed_number : Option ℕ → List ℕ
 listed_number None = []

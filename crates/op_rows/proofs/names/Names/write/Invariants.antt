@@ -1,7 +1,7 @@
 use Rattle.std.proofs.Common.{◌≡◌, ◌≤◌, ◌+◌, ◌*◌, ◌++◌, length, take}
 use Rattle.std.specs.Vec.{vec_capacity}
-use Rattle.op_meaning.specs.Rows.{numbers_code, text_code}
-use Rattle.op_meaning.proofs.names.Names.write.Given as goal
+use Rattle.op_rows.specs.Rows.{numbers_code, text_code}
+use Rattle.op_rows.proofs.names.Names.write.Given as goal
 
 abbrev pub invariant-loop-object : goal.invariant-loop-object
 invariant-loop-object l = record {

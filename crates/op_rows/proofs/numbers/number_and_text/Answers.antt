@@ -3,8 +3,8 @@ use Rattle.std.proofs.lemmas.List.{length-take-le}
 use Rattle.byteorder.specs.Endian.{little_number}
 use Rattle.oper_core.specs.LittleEndian.{slice_from}
 use Rattle.std.specs.Prelude.{take, drop}
-use Rattle.op_meaning.proofs.ReadNumbers.{text_begin}
-use Rattle.op_meaning.proofs.numbers.number_and_text.Goals as goal
+use Rattle.op_rows.proofs.ReadNumbers.{text_begin}
+use Rattle.op_rows.proofs.numbers.number_and_text.Goals as goal
 
 pub returns-clause-some : goal.returns-clause-some
 returns-clause-some c =

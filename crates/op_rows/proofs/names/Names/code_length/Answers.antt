@@ -1,8 +1,8 @@
 use Rattle.std.proofs.Common.{length, option_map, sym, ap, ◌∙◌, arith}
 use Rattle.std.specs.Int.{from_bool}
-use Rattle.op_meaning.specs.Rows.{Names, text_code}
-use Rattle.op_meaning.proofs.Codes.{code_has, counted}
-use Rattle.op_meaning.proofs.names.Names.code_length.Goals as goal
+use Rattle.op_rows.specs.Rows.{Names, text_code}
+use Rattle.op_rows.proofs.Codes.{code_has, counted}
+use Rattle.op_rows.proofs.names.Names.code_length.Goals as goal
 
 pub returns-in-Some : goal.returns-in-Some
 returns-in-Some c =

@@ -9,12 +9,12 @@ use Rattle.std.proofs.lemmas.Bool.{le-leb, leb-true, lt-ltb, ltb-true, and_parts
 use Rattle.byteorder.specs.Endian.{little_bytes}
 use Rattle.oper_core.specs.LittleEndian.{length-little_bytes, little_bytes-split}
 use Rattle.oper_core.specs.State.{is_among}
-use Rattle.oper_core.specs.Meaning.{HasBounds, AreWithin, IsInGrammar, IsLawful, IsSmall, StartsWithCode, Widens, or_else, unless}
+use Rattle.oper_core.specs.Meaning.{HasBounds, AreWithin, IsInGrammar, IsLawful, IsSmall, StartsWithCode, Widens, unless}
 use Rattle.oper_core.specs.MeaningLaws.{or_else-none, or_else-both, unless-none}
 use Rattle.oper_core.specs.declared.bounds.Bounds.{Bounds}
 use Rattle.oper_core.specs.declared.refusal.Refusal.{Refusal}
 use Rattle.oper_core.specs.declared.refusal.Refusal.TheVariants.{NoObject, Same, TooLarge}
-use Rattle.op_meaning.specs.Rows.{Names, Row, all_numbers, are_apart, if_applicable, named, names_code, names_shape, numbers_code, rows_meaning, text_code, text_of}
+use Rattle.op_rows.specs.Rows.{Names, Row, all_numbers, are_apart, first, if_applicable, named, names_code, names_shape, numbers_code, rows_meaning, second, text_code, text_of}
 
 -- ---- what names say
 
@@ -94,6 +94,15 @@ one_short cap v short = All-cons (λ w. length w ≤ cap) v [] short (All-nil (�
 
 pub two_short : (cap : ℕ) (v w : List ℕ) → length v ≤ cap → length w ≤ cap → All (λ z. length z ≤ cap) (v ∷ w ∷ [])
 two_short cap v w short also = All-cons (λ z. length z ≤ cap) v (w ∷ []) short (one_short cap w also)
+
+-- the values that are read are short, also where there are none
+pub first_short : (cap : ℕ) (values : List (List ℕ)) → All (λ v. length v ≤ cap) values → length (first values) ≤ cap
+first_short cap [] short = omega arith
+first_short cap (v ∷ values) short = All-head (λ v. length v ≤ cap) v values short
+
+pub second_short : (cap : ℕ) (values : List (List ℕ)) → All (λ v. length v ≤ cap) values → length (second values) ≤ cap
+second_short cap [] short = omega arith
+second_short cap (v ∷ values) short = first_short cap values (All-tail (λ v. length v ≤ cap) v values short)
 
 -- as many empty values
 abbrev nothing_of : List (List ℕ) → List (List ℕ)

@@ -3,7 +3,7 @@ use Rattle.std.proofs.Common.{◌≡◌, ◌≤◌, ◌<◌, ℕ, ◌+◌, List,
 use Rattle.std.proofs.lemmas.List.{drop-drop, get_or-drop, length-drop, take-append-drop}
 use Rattle.byteorder.specs.Endian.{little_bytes, little_number}
 use Rattle.oper_core.specs.LittleEndian.{little_bytes-front}
-use Rattle.op_meaning.specs.Rows.{numbers_code, text_code}
+use Rattle.op_rows.specs.Rows.{numbers_code, text_code}
 
 -- each is a byte
 abbrev AreBytes : List ℕ → Type 0

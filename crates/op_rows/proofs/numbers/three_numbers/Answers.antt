@@ -1,8 +1,8 @@
 use Rattle.std.proofs.Common.{◌∙◌, ap, arith}
 use Rattle.byteorder.specs.Endian.{little_number}
 use Rattle.oper_core.specs.LittleEndian.{slice_from}
-use Rattle.op_meaning.proofs.ReadNumbers.{three_begin}
-use Rattle.op_meaning.proofs.numbers.three_numbers.Goals as goal
+use Rattle.op_rows.proofs.ReadNumbers.{three_begin}
+use Rattle.op_rows.proofs.numbers.three_numbers.Goals as goal
 
 pub returns-clause-some : goal.returns-clause-some
 returns-clause-some c =

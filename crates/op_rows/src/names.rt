@@ -1,20 +1,26 @@
 // What an operation names, and its code.
-ghost use Rattle.std.specs.Prelude.{◌≡◌, ◌<◌, ◌≤◌, ◌^◌, ◌++◌, [], IfSome, None, OnErr, OnOk, Some, length, option_map};
+ghost use Rattle.std.specs.Prelude.{◌≡◌, ◌<◌, ◌≤◌, ◌^◌, ◌++◌, [], ◌∷◌, IfSome, None, OnErr, OnOk, Some, length, option_map};
 ghost use Rattle.std.specs.Result.{result_err};
-ghost use Rattle.op_meaning.specs.Rows.{Names as Named, listed_number, named, names_code, names_shape, text_code, text_of};
-ghost use Rattle.op_meaning.specs.Table.{objects_alone};
+ghost use Rattle.oper_core.specs.Meaning.{IsSmall};
+ghost use Rattle.op_rows.specs.Rows.{Names as Named, listed_number, named, names_code, names_shape, objects_alone, text_code, text_of};
 
 use oper_core::{Bounds, Memory, Objs, Refusal};
 use std::marker::Model;
 
 /// All that is in an operation's code, and which of its objects it reads and writes.
 #[derive(Drop)]
-pub(crate) struct Names<'a> {
+pub struct Names<'a> {
+    /// The first byte of the code.
     pub tag: u8,
+    /// The objects of the code, at most two.
     pub objects: Objs,
+    /// The number behind them, if it has one.
     pub number: Option<u32>,
+    /// The text behind that, if it has one.
     pub text: Option<&'a [u8]>,
+    /// The objects that it reads.
     pub reads: Objs,
+    /// The objects that it writes.
     pub writes: Objs,
 }
 
@@ -114,4 +120,21 @@ fn require_objects(b: Bounds, objects: &[u32]) -> Result<(), Refusal>
         return Err(Refusal::Same);
     }
     Ok(())
+}
+
+/// That both numbers have four bytes, for proofs. It does nothing.
+pub fn known_as_small(b: Bounds)
+    ensures { IsSmall b }
+{
+    let _objects = b.objects;
+    let _cap = b.cap;
+}
+
+/// The two objects, in this order.
+pub fn both(first: u32, second: u32) -> Objs
+    ensures { result ≡ first ∷ second ∷ [] }
+{
+    let mut objects = Objs::one(first);
+    objects.push(second);
+    objects
 }

@@ -1,8 +1,8 @@
 -- How many bytes a code has.
 use Rattle.std.proofs.Common.{◌≡◌, ℕ, ◌+◌, ◌*◌, Option, None, Some, is_some, length, refl, arith}
 use Rattle.std.specs.Int.{from_bool}
-use Rattle.op_meaning.specs.Rows.{Names, listed_number, names_code, text_code}
-use Rattle.op_meaning.specs.RowLaws.{length_code}
+use Rattle.op_rows.specs.Rows.{Names, listed_number, names_code, text_code}
+use Rattle.op_rows.specs.RowLaws.{length_code}
 
 -- a number counts one, and none nothing
 pub counted : (number : Option ℕ) → from_bool (is_some number) ≡ length (listed_number number)
