@@ -1,5 +1,3 @@
-pub mod Copied
-pub mod OneByOne
-pub mod PlaceLemmas
+pub mod LeafLemmas
 pub mod SplitLemmas
 pub mod Outcomes

@@ -1,10 +1,10 @@
 -- What the operations make of nodes, and when they are refused.
-use Rattle.std.specs.Prelude.{ℕ, ◌==◌, Bool, not, ◌&&◌, Option, None, Some, Result, Ok, Err, List, [], ◌∷◌, length, filter, is_some, nat_le, if◌then◌else◌, option_map, slice_index_or}
-use Rattle.std.specs.Ordering.{eq_by_cmp}
-use Rattle.std.specs.FinMap.Entries.{find, put}
+use Rattle.std.specs.Prelude.{ℕ, ◌==◌, not, ◌&&◌, Option, None, Some, Result, Ok, Err, List, [], ◌∷◌, length, if◌then◌else◌, option_map, slice_index_or}
+use Rattle.std.specs.FinMap.Entries.{put}
 use Rattle.oper_core.specs.declared.refusal.Refusal.{Refusal}
-use Rattle.oper_core.specs.declared.refusal.Refusal.TheVariants.{NotNode, NoKey, NodeFull, TooLarge}
-use Rattle.btree_ops.specs.Entries.{byte_order}
+use Rattle.oper_core.specs.declared.refusal.Refusal.TheVariants.{NotNode, NoKey, NodeFull}
+use Rattle.key_entries.specs.Entries.{byte_order}
+use Rattle.key_entries.specs.Pairs.{has, without}
 use Rattle.btree_ops.specs.Node.{leaf, inner, node_in}
 use Rattle.btree_ops.specs.declared.halves.Halves.{Halves}
 use Rattle.btree_ops.specs.declared.made.Made.{Made}
@@ -24,14 +24,6 @@ pairs_of None = None
 abbrev pub pairs_to_fill : List ℕ → Option (List (List ℕ × List ℕ))
 pairs_to_fill [] = Some []
 pairs_to_fill (b ∷ bytes) = pairs_of (node_in (b ∷ bytes))
-
--- the key is there
-abbrev pub has : {X : Type 0} → List ℕ → List (List ℕ × X) → Bool
-has key entries = is_some (find byte_order key entries)
-
--- the others
-abbrev pub without : {X : Type 0} → List ℕ → List (List ℕ × X) → List (List ℕ × X)
-without key entries = filter (λ e. not (eq_by_cmp byte_order key e.0)) entries
 
 -- a pair is put into the leaf: a key that is there gets the new value
 abbrev pub put_made : List ℕ → List ℕ → Option (List (List ℕ × List ℕ)) → Result Made Refusal
@@ -98,8 +90,3 @@ made_by (Delete x key) values = delete_made key (pairs_of (node_in (slice_index_
 made_by (SplitChild parent child new) values =
     split_child_made child new (node_in (slice_index_or values 0 [])) (halves_in (node_in (slice_index_or values 1 [])))
 made_by (SplitRoot root left right) values = split_root_made left right (halves_in (node_in (slice_index_or values 0 [])))
-
--- nothing is made where values are so short that some node would not fit
-abbrev pub where_it_fits : ℕ → Result Made Refusal → Result Made Refusal
-where_it_fits cap (Err r) = Err r
-where_it_fits cap (Ok made) = if nat_le 1024 cap then Ok made else Err TooLarge

@@ -1,9 +1,7 @@
 -- What splits, puts and deletes keep.
-use Rattle.std.specs.Prelude.{◌≡◌, ◌≢◌, ◌≤◌, ℕ, Option, List, ◌∷◌, ◌++◌, All, length, if◌then◌else◌}
+use Rattle.std.specs.Prelude.{◌≡◌, ◌≢◌, ◌≤◌, ℕ, List, ◌∷◌, ◌++◌, All, length}
 use Rattle.std.proofs.Common.{Less}
-use Rattle.std.specs.Ordering.{eq_by_cmp}
-use Rattle.std.specs.FinMap.Entries.{find}
-use Rattle.btree_ops.specs.Entries.{byte_order, short_field, AreEntries}
+use Rattle.key_entries.specs.Entries.{byte_order, short_field, AreEntries}
 use Rattle.btree_ops.specs.Node.{leaf, inner, IsNode}
 use Rattle.btree_ops.specs.declared.halves.Halves.{Halves}
 
@@ -44,10 +42,6 @@ pub record SplitsInner (first : ℕ) (branches : List (List ℕ × ℕ)) (h : Ha
   pub apart : StandApart lower h.separator upper
   pub left_node : IsNode (inner first lower)
   pub right_node : IsNode (inner middle upper)
-
--- one map has this value at the key, and is the other at all others
-abbrev pub IsUpdate : {X : Type 0} → List ℕ → Option X → List (List ℕ × X) → List (List ℕ × X) → Type 0
-IsUpdate {X} key value old new = (q : List ℕ) → find byte_order q new ≡ (if eq_by_cmp byte_order q key then value else find byte_order q old)
 
 -- the branches with one more, directly after the first that leads to the child
 pub record IsBehindBranch (child : ℕ) (new : List ℕ × ℕ) (branches after : List (List ℕ × ℕ)) : Type 0 where

@@ -1,13 +1,7 @@
-pub mod Short
-pub mod Padding
-pub mod Entries
 pub mod Node
-pub mod EntryLaws
 pub mod NodeLaws
 pub mod Effects
-pub mod Places
 pub mod Operation
 pub mod OperationLaws
 pub mod Laws
-pub mod KeyLaws
 pub mod MapLaws

@@ -1,22 +1,23 @@
 -- The laws on nodes.
-use Rattle.std.proofs.Common.{◌≡◌, ◌≢◌, ◌≤◌, ◌⊎◌, inl, inr, ℕ, suc, ◌+◌, ◌*◌, ◌^◌, Bool, true, false, not, cond, if◌then◌else◌, T, Option, None, Some, is_some, List, [], ◌∷◌, ◌++◌, All, length, filter, get_or, refl, sym, ap, ◌∙◌, subst, arith, IfSome, IfNone, option_map, length-append, Ordering, Less, Equal, Greater, is_lt, is_eq, true≢false, mul-suc}
+use Rattle.std.proofs.Common.{◌≡◌, ◌≢◌, ◌≤◌, ◌⊎◌, inl, inr, ℕ, suc, ◌+◌, ◌*◌, ◌^◌, Bool, true, false, not, if◌then◌else◌, T, Option, None, Some, is_some, List, [], ◌∷◌, ◌++◌, All, length, get_or, refl, sym, ap, ◌∙◌, subst, arith, IfSome, IfNone, option_map, length-append, Less, Greater, is_lt, true≢false, mul-suc}
 use Rattle.std.specs.Prelude.{IsTrue, nat_lt}
-use Rattle.std.specs.Ordering.{eq_by_cmp, ordering_reverse}
+use Rattle.std.specs.Ordering.{ordering_reverse}
 use Rattle.std.specs.Cmp.Lexicographic.{nat_list_cmp_total}
-use Rattle.std.specs.FinMap.Entries.{by_order, put, find, is_sorted, below_all, find-put, find-where_key, is_sorted-put, is_sorted-where_key, length-put}
-use Rattle.std.proofs.lemmas.List.Elements.{All-cons, All-nil, All-head, All-tail, All-take, All-drop, All-filter}
+use Rattle.std.specs.FinMap.Entries.{is_sorted, below_all}
+use Rattle.std.proofs.lemmas.List.Elements.{All-cons, All-nil, All-head, All-tail, All-take, All-drop}
 use Rattle.std.proofs.lemmas.Bool.{ltb-true}
 use Rattle.std.proofs.lemmas.Bool.Decides.{eqb_tells}
 use Rattle.byteorder.specs.Endian.{little_bytes}
 use Rattle.oper_core.specs.LittleEndian.{length-little_bytes}
-use Rattle.btree_ops.specs.Short.{is_short, short_code}
-use Rattle.btree_ops.specs.KeyLaws.{both, first, second, less_if, same_key}
-use Rattle.btree_ops.specs.Entries.{Field, byte_order, short_field, child_field, entry_code, entries_code}
-use Rattle.btree_ops.specs.EntryLaws.{AreBytes, short_bounds, same_some, map_some}
+use Rattle.key_entries.specs.Short.{is_short, short_code}
+use Rattle.key_entries.specs.KeyLaws.{both, first, second, less_if}
+use Rattle.key_entries.specs.Entries.{Field, byte_order, short_field, child_field, entry_code, entries_code}
+use Rattle.key_entries.specs.EntryLaws.{AreBytes, short_bounds, same_some, map_some}
 use Rattle.btree_ops.specs.Node.{leaf, inner, node_code, node_in, IsNode}
 use Rattle.btree_ops.specs.NodeLaws.{IsNodeOf, node_found, node_is}
-use Rattle.btree_ops.specs.Effects.{has, without, leaf_halves, inner_halves, behind_branch, behind_child}
-use Rattle.btree_ops.specs.Laws.{SplitsLeaf, SplitsInner, IsUpdate, IsBehindBranch}
+use Rattle.key_entries.specs.Pairs.{has}
+use Rattle.btree_ops.specs.Effects.{leaf_halves, inner_halves, behind_branch, behind_child}
+use Rattle.btree_ops.specs.Laws.{SplitsLeaf, SplitsInner, IsBehindBranch}
 use Rattle.btree_ops.specs.declared.halves.Halves.{Halves}
 use Rattle.btree_ops.specs.declared.node.Node.{Node}
 
@@ -51,67 +52,6 @@ inner_size start branches node =
     let each : All (λ e. length (entry_code child_field e) ≤ 37) branches =
     λ k d within. let e : List ℕ × ℕ = get_or branches k d in let key = short_bounds e.0 (node.2.short k d within) in omega (arith, length-append (short_code e.0) (little_bytes 4 e.1), length-little_bytes 4 e.1, key.1) in
     omega (arith, entries_size child_field 37 branches each, node.2.few, length-append (little_bytes 4 start) (entries_code child_field branches), length-little_bytes 4 start)
-
--- puts and deletes
-
-pub put_updates : (key value : List ℕ) (pairs : List (List ℕ × List ℕ)) → IsUpdate key (Some value) pairs (put byte_order key value pairs)
-put_updates key value pairs q = find-put byte_order nat_list_cmp_total q key value pairs
-
-reversed : (o : Ordering) → is_eq (ordering_reverse o) ≡ is_eq o
-reversed Less = refl
-reversed Equal = refl
-reversed Greater = refl
-
-turned : (b : Bool) (o : Option (List ℕ)) → cond (not b) o None ≡ (if b then None else o)
-turned true o = refl
-turned false o = refl
-
-pub delete_updates : (key : List ℕ) (pairs : List (List ℕ × List ℕ)) → IsUpdate key None pairs (without key pairs)
-delete_updates key pairs q =
-    let turn : eq_by_cmp byte_order key q ≡ eq_by_cmp byte_order q key = ap is_eq (nat_list_cmp_total.antisymm key q) ∙ reversed (byte_order q key) in
-    find-where_key byte_order (λ x. not (eq_by_cmp byte_order key x)) q (λ x same. ap (λ (k : List ℕ). not (eq_by_cmp byte_order key k)) (sym (same_key q x same))) pairs
-    ∙ turned (eq_by_cmp byte_order key q) (find byte_order q pairs)
-    ∙ ap (λ (b : Bool). if b then None else find byte_order q pairs) turn
-
-all_put : (P : List ℕ × List ℕ → Type 0) (key value : List ℕ) → P (key, value) → ((e : List ℕ × List ℕ) → P e → P (e.0, value))
-    → (es : List (List ℕ × List ℕ)) → All P es → All P (put byte_order key value es)
-all_put P key value new changed [] all = All-cons P (key, value) [] new (All-nil P)
-all_put P key value new changed (e ∷ es) all =
-    let here = All-head P e es all in
-    let rest = All-tail P e es all in
-    elim (byte_order key e.0) as (λ o. All P (by_order o ((key, value) ∷ e ∷ es) ((e.0, value) ∷ es) (e ∷ put byte_order key value es))) [
-      | Less ↦ All-cons P (key, value) (e ∷ es) new all
-      | Equal ↦ All-cons P (e.0, value) es (changed e here) rest
-      | Greater ↦ All-cons P e (put byte_order key value es) here (all_put P key value new changed es rest)
-    ]
-
-few_put : (there : Bool) (n : ℕ) → n ≤ 7 → IsTrue there ⊎ (n ≢ 7) → cond there n (n + 1) ≤ 7
-few_put true n few room = few
-few_put false n few (inl there) = cc
-few_put false n few (inr room) = omega (arith, few, room)
-
-pub put_keeps : (key value : List ℕ) (pairs : List (List ℕ × List ℕ)) → IsNode (leaf pairs) → IsTrue (is_short key) → IsTrue (is_short value)
-    → IsTrue (has key pairs) ⊎ (length pairs ≢ 7) → IsNode (leaf (put byte_order key value pairs))
-put_keeps key value pairs node short fits room = record {
-  few = omega (arith, length-put byte_order nat_list_cmp_total key value pairs node.rise, few_put (has key pairs) (length pairs) node.few room);
-  short = all_put (λ e. IsTrue (is_short e.0)) key value short (λ e s. s) pairs node.short;
-  fit = all_put (λ e. IsTrue (is_short e.1)) key value fits (λ e s. fits) pairs node.fit;
-  rise = is_sorted-put byte_order nat_list_cmp_total key value pairs node.rise;
-}
-
-fewer : {X : Type 0} (p : X → Bool) (xs : List X) → length (filter p xs) ≤ length xs
-fewer p [] = omega arith
-fewer p (x ∷ xs) =
-    let rest = fewer p xs in
-    elim (p x) as (λ b. length (cond b (x ∷ filter p xs) (filter p xs)) ≤ suc (length xs)) [ true ↦ omega (arith, rest) | false ↦ omega (arith, rest) ]
-
-pub delete_keeps : (key : List ℕ) (pairs : List (List ℕ × List ℕ)) → IsNode (leaf pairs) → IsNode (leaf (without key pairs))
-delete_keeps key pairs node = record {
-  few = omega (arith, fewer (λ (e : List ℕ × List ℕ). not (eq_by_cmp byte_order key e.0)) pairs, node.few);
-  short = All-filter (λ e. not (eq_by_cmp byte_order key e.0)) (λ e. IsTrue (is_short e.0)) pairs node.short;
-  fit = All-filter (λ e. not (eq_by_cmp byte_order key e.0)) (λ e. IsTrue (is_short e.1)) pairs node.fit;
-  rise = is_sorted-where_key byte_order (λ x. not (eq_by_cmp byte_order key x)) pairs node.rise;
-}
 
 -- splits
 

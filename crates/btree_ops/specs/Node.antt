@@ -1,7 +1,7 @@
 -- Nodes of a B-tree, and their bytes.
 use Rattle.std.specs.Prelude.{ℕ, ◌^◌, ◌<◌, ◌≤◌, ◌==◌, ◌&&◌, Option, None, List, [], ◌∷◌, ◌++◌, length, drop, nat_le, if◌then◌else◌, option_map, option_and_then}
 use Rattle.byteorder.specs.Endian.{little_bytes, little_number}
-use Rattle.btree_ops.specs.Entries.{short_field, child_field, entries_code, entries_in, rising, AreEntries}
+use Rattle.key_entries.specs.Entries.{short_field, child_field, entries_code, entries_in, rising, AreEntries}
 use Rattle.btree_ops.specs.declared.node.Node.{Node}
 use Rattle.btree_ops.specs.declared.node.Node.TheVariants.{Leaf, Inner}
 

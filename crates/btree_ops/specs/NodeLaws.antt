@@ -1,59 +1,18 @@
 -- A reader of nodes finds exactly the node whose bytes they are.
-use Rattle.std.proofs.Common.{◌≡◌, ◌≤◌, ℕ, ◌*◌, Bool, true, false, ◌&&◌, if◌then◌else◌, T, Option, None, Some, List, [], ◌∷◌, ◌++◌, length, drop, refl, sym, ap, ◌∙◌, subst, arith, inl, inr, option_map, option_and_then, length-append, ◌==◌, true≢false}
-use Rattle.std.specs.Prelude.{IsTrue, nat_le}
+use Rattle.std.proofs.Common.{◌≡◌, ◌≤◌, ℕ, Bool, true, false, ◌&&◌, if◌then◌else◌, Option, None, Some, List, [], ◌∷◌, ◌++◌, length, drop, sym, ap, ◌∙◌, subst, arith, inl, inr, option_map, option_and_then, length-append, ◌==◌, true≢false}
+use Rattle.std.specs.Prelude.{nat_le}
 use Rattle.std.proofs.Math.Seq.{drop-append_seam}
 use Rattle.std.proofs.lemmas.Bool.{le-leb, leb-true}
 use Rattle.std.proofs.lemmas.Bool.Decides.{eqb_tells}
-use Rattle.std.specs.FinMap.Entries.{is_sorted}
 use Rattle.byteorder.specs.Endian.{little_bytes, little_number}
 use Rattle.byteorder.specs.Numbers.{little_from-lt}
 use Rattle.oper_core.specs.LittleEndian.{length-little_bytes, little_number-little_bytes, little_bytes-front}
-use Rattle.btree_ops.specs.Entries.{Field, AreEntries, byte_order, short_field, child_field, entries_code, entries_in, rising}
-use Rattle.btree_ops.specs.EntryLaws.{IsExact, AreBytes, bytes_behind, both_true, true_both, if_some, if_true, and_then_some, map_some, same_some, short_exact, child_exact, entries_found, entries_are, entries_small}
+use Rattle.key_entries.specs.Entries.{short_field, child_field, entries_code, entries_in, rising}
+use Rattle.key_entries.specs.EntryLaws.{AreBytes, bytes_behind, both_true, true_both, if_some, if_true, map_some, short_exact, child_exact}
+use Rattle.key_entries.specs.RisingLaws.{rising_found, rising_read, rising_small}
 use Rattle.btree_ops.specs.Node.{leaf, inner, node_code, IsNode, leaf_in, inner_in, node_in}
 use Rattle.btree_ops.specs.declared.node.Node.{Node}
 use Rattle.btree_ops.specs.declared.node.Node.TheVariants.{Leaf, Inner}
-
-pub truth : (b : Bool) → T b → IsTrue b
-truth true t = refl
-truth false t = absurd t
-
-holds : (b : Bool) → IsTrue b → T b
-holds b e = subst T (sym e) tt
-
-module _ {X : Type 0} (field : Field X) (exact : IsExact field) where
-  -- entries of a node are read back
-  rising_found : (es : List (List ℕ × X)) → AreEntries field es → option_and_then rising (entries_in field (length es) (entries_code field es)) ≡ Some es
-  rising_found es are =
-      ap (λ (o : Option (List (List ℕ × X))). option_and_then rising o) (entries_found field exact es are.short are.fit)
-      ∙ if_true (is_sorted byte_order es) (Some es) None (truth (is_sorted byte_order es) are.rise)
-
-  -- entries that are read, and rise, are those of a node
-  record AreReadFrom (n : ℕ) (bytes : List ℕ) (es : List (List ℕ × X)) : Type 0 where
-    split : bytes ≡ entries_code field es
-    count : length es ≡ n
-    entries : AreEntries field es
-
-  rising_read : (n : ℕ) (bytes : List ℕ) (es : List (List ℕ × X)) → n ≤ 7 → AreBytes bytes → option_and_then rising (entries_in field n bytes) ≡ Some es → AreReadFrom n bytes es
-  rising_read n bytes es few are is =
-      let read = and_then_some rising (entries_in field n bytes) es is in
-      let tests = if_some (is_sorted byte_order read.0) (Some read.0) es read.2 in
-      let same : read.0 ≡ es = same_some read.0 es tests.1 in
-      let all = entries_are field exact n bytes read.0 are read.1 in
-      subst (λ (es : List (List ℕ × X)). AreReadFrom n bytes es) same
-      (record {
-        split = all.split;
-        count = all.count;
-        entries = record { few = omega (arith, all.count, few); short = all.short; fit = all.fit; rise = holds (is_sorted byte_order read.0) tests.0 };
-      })
-
-  rising_small : (n : ℕ) (bytes : List ℕ) (es : List (List ℕ × X)) → option_and_then rising (entries_in field n bytes) ≡ Some es
-      → (length es ≡ n) × (length (entries_code field es) ≤ 66 * n)
-  rising_small n bytes es is =
-      let read = and_then_some rising (entries_in field n bytes) es is in
-      let tests = if_some (is_sorted byte_order read.0) (Some read.0) es read.2 in
-      subst (λ (es : List (List ℕ × X)). (length es ≡ n) × (length (entries_code field es) ≤ 66 * n)) (same_some read.0 es tests.1)
-      (entries_small field exact n bytes read.0 read.1)
 
 -- the bytes of a node are read as that node
 pub node_found : (n : Node) → IsNode n → node_in (node_code n) ≡ Some n

@@ -1,4 +1,5 @@
-use crate::{Node, Short};
+use crate::Node;
+use key_entries::Short;
 
 /// What a full node is split into.
 #[derive(Drop)]

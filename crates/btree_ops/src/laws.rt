@@ -2,13 +2,15 @@
 
 ghost use Rattle.std.specs.Prelude.{◌≡◌, ◌≢◌, ◌≤◌, ◌⊎◌, ℕ, IsTrue, Option, None, Some, List, [], ◌∷◌, length};
 ghost use Rattle.std.specs.FinMap.Entries.{put};
-ghost use Rattle.btree_ops.specs.Short.{is_short};
-ghost use Rattle.btree_ops.specs.Entries.{byte_order, short_field, child_field, AreEntries};
-ghost use Rattle.btree_ops.specs.EntryLaws.{AreBytes};
+ghost use Rattle.key_entries.specs.Short.{is_short};
+ghost use Rattle.key_entries.specs.Entries.{byte_order, short_field, child_field, AreEntries};
+ghost use Rattle.key_entries.specs.EntryLaws.{AreBytes};
 ghost use Rattle.btree_ops.specs.Node.{leaf, inner, node_code, node_in, IsNode};
 ghost use Rattle.btree_ops.specs.NodeLaws.{IsNodeOf};
-ghost use Rattle.btree_ops.specs.Effects.{has, without, leaf_halves, inner_halves, behind_child};
-ghost use Rattle.btree_ops.specs.Laws.{SplitsLeaf, SplitsInner, IsUpdate, IsBehindBranch};
+ghost use Rattle.key_entries.specs.Pairs.{has, without};
+ghost use Rattle.btree_ops.specs.Effects.{leaf_halves, inner_halves, behind_child};
+ghost use Rattle.key_entries.specs.Pairs.{IsUpdate};
+ghost use Rattle.btree_ops.specs.Laws.{SplitsLeaf, SplitsInner, IsBehindBranch};
 ghost use Rattle.btree_ops.specs.declared.halves.Halves.{Halves};
 ghost use Rattle.btree_ops.specs.declared.node.Node.{Node};
 

@@ -4,11 +4,10 @@
 //! The one contract is that of the trait `Oper`, at the meaning that specs/ gives: a put and a delete act on a leaf as
 //! on an ordered map, a split cuts a full node in its middle and keeps all, and bytes are read as a node or as an
 //! operation exactly where they are its one code. Nothing but the bytes that are written takes memory. It depends on
-//! oper_core, on arrayvec for the entries of a node, and on byteorder for the numbers in the bytes.
+//! oper_core, on key_entries for the entries of a node and the codes, and on arrayvec for lists of entries.
 #![tactic(auto)]
 
 mod coding;
-mod entry_field;
 mod halves;
 mod laws;
 mod leaf;
@@ -16,9 +15,7 @@ mod made;
 mod node;
 mod node_op;
 mod reading;
-mod short;
 mod split;
-mod writing;
 
 pub use halves::Halves;
 pub use laws::{
@@ -26,6 +23,5 @@ pub use laws::{
     nodes_have_one_code,
 };
 pub use made::Made;
-pub use node::{Branches, Node, Pairs};
+pub use node::{Branches, Node};
 pub use node_op::NodeOp;
-pub use short::Short;

@@ -3,16 +3,11 @@ ghost use Rattle.btree_ops.specs.Node.{node_code, node_in, IsNode};
 ghost use Rattle.btree_ops.specs.NodeLaws.{IsNodeOf};
 ghost use Rattle.btree_ops.specs.declared.node.Node.{Node};
 
-use crate::{Short, reading, writing};
+use crate::reading;
 use arrayvec::ArrayVec;
+use key_entries::{Pairs, Short, write_entries};
 use oper_core::Memory;
 use std::alloc::Global;
-
-/// The most entries of a node.
-pub const MOST_ENTRIES: usize = 7;
-
-/// Keys that rise strictly, each with its value.
-pub type Pairs = ArrayVec<(Short, Short), 7>;
 
 /// Separators, each with the child to its right.
 pub type Branches = ArrayVec<(Short, u32), 7>;
@@ -46,13 +41,13 @@ impl Node {
             Node::Leaf(pairs) => {
                 out.push(LEAF)?;
                 out.push(pairs.len() as u8)?;
-                writing::write_entries(pairs.as_slice(), &mut out)?;
+                write_entries(pairs.as_slice(), &mut out)?;
             }
             Node::Inner(first, branches) => {
                 out.push(INNER)?;
                 out.push(branches.len() as u8)?;
                 out.extend_from_slice(&first.to_le_bytes())?;
-                writing::write_entries(branches.as_slice(), &mut out)?;
+                write_entries(branches.as_slice(), &mut out)?;
             }
         }
         Ok(out)

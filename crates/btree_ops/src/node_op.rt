@@ -1,16 +1,15 @@
-ghost use Rattle.std.specs.Prelude.{◌≡◌, ◌≤◌, IfOk, length, map, [], ◌∷◌, List, ℕ};
-ghost use Rattle.std.specs.Result.{result_err};
-ghost use Rattle.btree_ops.specs.Effects.{made_by, where_it_fits};
-ghost use Rattle.btree_ops.specs.Operation.{read_by, shape_of};
-ghost use Rattle.btree_ops.specs.declared.node_op.NodeOp.TheVariants.{SplitChild};
+ghost use Rattle.std.specs.Prelude.{◌≡◌, length};
+ghost use Rattle.key_entries.specs.Objects.{where_roomy};
+ghost use Rattle.btree_ops.specs.Effects.{made_by};
+ghost use Rattle.btree_ops.specs.Operation.{read_by};
 
-use crate::coding::{self, SPLIT_CHILD, SPLIT_ROOT};
-use crate::{Made, Short, leaf, split};
+use crate::coding::{self, DELETE, PUT, SPLIT_CHILD, SPLIT_ROOT};
+use crate::{Made, leaf, split};
+use key_entries::{
+    LEAST_CAP, Short, no_values, require_three, three, write_delete, write_put, write_three,
+};
 use oper_core::{Bounds, Family, Memory, Objs, Oper, Refusal, Values};
 use std::alloc::Global;
-
-/// In a store whose objects hold fewer bytes the operations are refused.
-const LEAST_CAP: u32 = 1024;
 
 /// An operation on the nodes of a B-tree, which names the objects that hold them.
 #[derive(Clone, Copy)]
@@ -44,7 +43,7 @@ impl NodeOp {
     /// The nodes that it makes of the values that it reads, or why it makes none.
     fn outcome(&self, b: Bounds, values: &Values) -> Result<Made, Refusal>
         requires { length values.now ≡ length (read_by self.now) }
-        ensures { result ≡ where_it_fits b.cap (made_by self.now values.now) }
+        ensures { result ≡ where_roomy b.cap (made_by self.now values.now) }
     {
         let made = self.made_of(values)?;
         if b.cap < LEAST_CAP {
@@ -71,41 +70,6 @@ impl NodeOp {
             ),
         }
     }
-}
-
-/// Three objects, in this order.
-fn three(first: u32, second: u32, third: u32) -> Objs
-    ensures { result ≡ first ∷ second ∷ third ∷ [] }
-{
-    let mut objects = Objs::one(first);
-    objects.push(second);
-    objects.push(third);
-    objects
-}
-
-/// That three objects are there, and none is another.
-fn split_shape(b: Bounds, first: u32, second: u32, third: u32) -> Result<(), Refusal>
-    ensures { result_err result ≡ shape_of b.objects (SplitChild first second third) }
-{
-    if first >= b.objects || second >= b.objects || third >= b.objects {
-        return Err(Refusal::NoObject);
-    }
-    if first == second || first == third || second == third {
-        return Err(Refusal::Same);
-    }
-    Ok(())
-}
-
-/// An empty value for each object.
-fn none_for(alloc: Global, objects: &[u32]) -> Result<Values, Memory>
-    requires { length objects.now ≤ 4 }
-    ensures { IfOk result (λ values. values ≡ map (λ x. []) objects.now) }
-{
-    let mut values = Values::new(alloc);
-    for _object in objects {
-        values.push(&[])?;
-    }
-    Ok(values)
 }
 
 impl Oper for NodeOp {
@@ -153,8 +117,8 @@ impl Oper for NodeOp {
                 }
                 Ok(())
             }
-            NodeOp::SplitChild { parent, child, new } => split_shape(b, *parent, *child, *new),
-            NodeOp::SplitRoot { root, left, right } => split_shape(b, *root, *left, *right),
+            NodeOp::SplitChild { parent, child, new } => require_three(b, *parent, *child, *new),
+            NodeOp::SplitRoot { root, left, right } => require_three(b, *root, *left, *right),
         }
     }
 
@@ -166,7 +130,7 @@ impl Oper for NodeOp {
     fn apply(&self, alloc: Global, b: Bounds, values: &Values) -> Result<Values, Memory> {
         match self.outcome(b, values) {
             Ok(made) => made.values(alloc),
-            Err(_) => none_for(alloc, self.writes().as_slice()),
+            Err(_) => no_values(alloc, self.writes().as_slice()),
         }
     }
 
@@ -176,13 +140,13 @@ impl Oper for NodeOp {
 
     fn encode(&self, out: &mut Vec<u8>) -> Result<(), Memory> {
         match self {
-            NodeOp::Put { object, key, value } => coding::write_put(*object, *key, *value, out),
-            NodeOp::Delete { object, key } => coding::write_delete(*object, *key, out),
+            NodeOp::Put { object, key, value } => write_put(PUT, *object, *key, *value, out),
+            NodeOp::Delete { object, key } => write_delete(DELETE, *object, *key, out),
             NodeOp::SplitChild { parent, child, new } => {
-                coding::write_split(SPLIT_CHILD, *parent, *child, *new, out)
+                write_three(SPLIT_CHILD, *parent, *child, *new, out)
             }
             NodeOp::SplitRoot { root, left, right } => {
-                coding::write_split(SPLIT_ROOT, *root, *left, *right, out)
+                write_three(SPLIT_ROOT, *root, *left, *right, out)
             }
         }
     }

@@ -5,9 +5,9 @@ ghost use Rattle.btree_ops.specs.Node.{node_in};
 ghost use Rattle.btree_ops.specs.Effects as effects;
 ghost use Rattle.btree_ops.specs.Effects.{halves_in, leaf_halves, inner_halves, behind_child, split_child_made, split_root_made};
 
-use crate::node::MOST_ENTRIES;
-use crate::{Halves, Made, Node, Short};
+use crate::{Halves, Made, Node};
 use arrayvec::ArrayVec;
+use key_entries::{MOST_ENTRIES, Short};
 use oper_core::Refusal;
 
 /// Splits a full child of the inner node that a value is. The new object is for the upper half.

@@ -1,78 +1,39 @@
 -- The put that ends an insert, and the delete, as commands.
-use Rattle.std.proofs.Common.{◌≡◌, ◌≢◌, ◌⊎◌, inl, inr, ℕ, zero, suc, ◌==◌, Bool, true, false, not, ◌&&◌, ◌||◌, if◌then◌else◌, T, Option, None, Some, unwrap_or, Result, Ok, Err, List, [], ◌∷◌, All, length, take, drop, refl, sym, ap, ◌∙◌, subst, arith, true≢false, option_map, option_and_then, length-take, Less, Equal, Greater}
+use Rattle.std.proofs.Common.{◌≡◌, ◌≢◌, ◌⊎◌, inl, inr, ℕ, ◌==◌, Bool, true, false, not, ◌&&◌, ◌||◌, if◌then◌else◌, Option, None, Some, unwrap_or, Result, Ok, Err, List, [], ◌∷◌, length, drop, refl, sym, ap, ◌∙◌, subst, arith, true≢false, option_map, option_and_then, Less, Equal, Greater}
 use Rattle.std.specs.Prelude.{IsTrue, nat_le, ⊤}
 use Rattle.std.specs.List.{list_all}
-use Rattle.std.proofs.lemmas.List.Elements.{All-cons, All-nil}
+use Rattle.std.proofs.lemmas.List.Elements.{All-nil}
 use Rattle.std.proofs.lemmas.Bool.{leb-true}
 use Rattle.std.proofs.lemmas.Bool.Decides.{eqb_tells}
 use Rattle.std.specs.FinMap.{insert}
-use Rattle.std.specs.FinMap.Entries.{put, is_sorted, by_order}
+use Rattle.std.specs.FinMap.Entries.{put, by_order}
 use Rattle.byteorder.specs.Endian.{little_number}
 use Rattle.oper_core.specs.State.{State, with_values}
 use Rattle.oper_core.specs.Meaning.{after}
 use Rattle.oper_core.specs.declared.bounds.Bounds.{Bounds}
 use Rattle.oper_core.specs.declared.refusal.Refusal.{Refusal}
 use Rattle.oper_core.specs.declared.refusal.Refusal.TheVariants.{NodeFull, TooLarge}
-use Rattle.btree_ops.specs.Short.{is_short, short_code, short_in}
-use Rattle.btree_ops.specs.Entries.{Field, byte_order, short_field, child_field, beside, entry_in, entry_code, entries_in, rising, AreEntries}
-use Rattle.btree_ops.specs.EntryLaws.{both_true, true_both, if_some, if_true, same_some, and_then_some, map_some}
+use Rattle.key_entries.specs.Short.{is_short}
+use Rattle.key_entries.specs.Entries.{byte_order, short_field, child_field, entries_in, rising, AreEntries}
+use Rattle.key_entries.specs.EntryLaws.{both_true, true_both, if_some, if_true, and_then_some, map_some}
+use Rattle.key_entries.specs.RisingLaws.{pairs_known}
 use Rattle.btree_ops.specs.Node.{leaf, inner, node_in, leaf_in, inner_in, node_code, IsNode}
 use Rattle.btree_ops.specs.NodeLaws.{node_found}
-use Rattle.btree_ops.specs.Effects.{has, pairs_of, pairs_to_fill, put_made, where_it_fits}
-use Rattle.btree_ops.specs.Operation.{node_meaning, values_of}
+use Rattle.key_entries.specs.Pairs.{has}
+use Rattle.key_entries.specs.Objects.{where_roomy}
+use Rattle.btree_ops.specs.Effects.{pairs_of, pairs_to_fill, put_made}
+use Rattle.key_entries.specs.Objects.{values_of}
+use Rattle.btree_ops.specs.Operation.{node_meaning, bytes_of}
 use Rattle.btree_ops.specs.declared.made.Made.{Made}
 use Rattle.btree_ops.specs.declared.made.Made.TheVariants.{One}
 use Rattle.btree_ops.specs.declared.node.Node.{Node}
 use Rattle.btree_ops.specs.declared.node.Node.TheVariants.{Leaf, Inner}
 use Rattle.btree_ops.specs.declared.node_op.NodeOp.TheVariants.{Put}
-use Rattle.btree_ops.specs.MapLaws.{put_updates, put_keeps}
+use Rattle.key_entries.specs.PairLaws.{put_updates, put_keeps}
 use Rattle.logical_btree.specs.Walk.{Pair, Span, Way, is_within, root_in, children_of, is_child, if_sound, node_at, size, walk}
 use Rattle.logical_btree.specs.Tree.{all_within, IsTree, content_of}
 use Rattle.logical_btree.proofs.ReachLemmas.{none_some}
 use Rattle.logical_btree.proofs.PutLaws.{Rewritten, ends_at_leaf, put_inserts}
-
-short_read : (bytes key : List ℕ) → short_in bytes ≡ Some key → IsTrue (is_short key)
-short_read [] key e = absurd (none_some key e)
-short_read (n ∷ rest) key e =
-    let tests = if_some (nat_le 1 n && (nat_le n 32 && nat_le n (length rest))) (Some (take n rest)) key e in
-    let outer = both_true (nat_le 1 n) (nat_le n 32 && nat_le n (length rest)) tests.0 in
-    let last = both_true (nat_le n 32) (nat_le n (length rest)) outer.1 in
-    let size : length (take n rest) ≡ n = length-take n rest ∙ omega (arith, leb-true n (length rest) last.1) in
-    subst (λ (k : List ℕ). IsTrue (is_short k)) (same_some (take n rest) key tests.1)
-    (ap (λ (m : ℕ). nat_le 1 m && nat_le m 32) size ∙ true_both (nat_le 1 n) (nat_le n 32) outer.0 last.0)
-
-module _ {X : Type 0} (field : Field X) (P : X → Type 0) (reads : (bytes : List ℕ) (x : X) → field.read bytes ≡ Some x → P x) where
-  pub record Good (n : ℕ) (es : List (List ℕ × X)) : Type 0 where
-    pub count : length es ≡ n
-    pub short : All (λ e. IsTrue (is_short e.0)) es
-    pub fit : All (λ e. P e.1) es
-
-  good_entry : (bytes : List ℕ) (e : List ℕ × X) → entry_in field bytes ≡ Some e → IsTrue (is_short e.0) × P e.1
-  good_entry bytes e is =
-      let key = and_then_some (beside field bytes) (short_in bytes) e is in
-      let value = map_some (λ x. (key.0, x)) (field.read (drop (length (short_code key.0)) bytes)) e key.2 in
-      subst (λ (e : List ℕ × X). IsTrue (is_short e.0) × P e.1) value.2 (short_read bytes key.0 key.1, reads (drop (length (short_code key.0)) bytes) value.0 value.1)
-
-  good : (n : ℕ) (bytes : List ℕ) (es : List (List ℕ × X)) → entries_in field n bytes ≡ Some es → Good n es
-  good zero [] es is = subst (Good 0) (same_some [] es is) (record { count = refl; short = All-nil (λ e. IsTrue (is_short e.0)); fit = All-nil (λ e. P e.1) })
-  good zero (b ∷ bytes) es is = absurd (none_some es is)
-  good (suc n) bytes es is =
-      let first = and_then_some (λ e. option_map (λ es. e ∷ es) (entries_in field n (drop (length (entry_code field e)) bytes))) (entry_in field bytes) es is in
-      let rest = map_some (λ es. first.0 ∷ es) (entries_in field n (drop (length (entry_code field first.0)) bytes)) es first.2 in
-      let one = good_entry bytes first.0 first.1 in
-      let others = good n (drop (length (entry_code field first.0)) bytes) rest.0 rest.1 in
-      subst (Good (suc n)) rest.2
-      (record { count = ap suc others.count; short = All-cons (λ e. IsTrue (is_short e.0)) first.0 rest.0 one.0 others.short; fit = All-cons (λ e. P e.1) first.0 rest.0 one.1 others.fit })
-
-  pub good_rising : (n : ℕ) (bytes : List ℕ) (es : List (List ℕ × X)) → option_and_then rising (entries_in field n bytes) ≡ Some es → Good n es × T (is_sorted byte_order es)
-  good_rising n bytes es is =
-      let read = and_then_some rising (entries_in field n bytes) es is in
-      let tests = if_some (is_sorted byte_order read.0) (Some read.0) es read.2 in
-      subst (λ (es : List (List ℕ × X)). Good n es × T (is_sorted byte_order es)) (same_some read.0 es tests.1) (good n bytes read.0 read.1, yes (is_sorted byte_order read.0) tests.0)
-    where
-      yes : (b : Bool) → b ≡ true → T b
-      yes true e = tt
-      yes false e = absurd (true≢false (sym e))
 
 -- a leaf that is read is a node, whatever numbers stand where bytes should
 abbrev pub LeafIsNode : Node → Type 0
@@ -83,8 +44,7 @@ leaf_good : (count : ℕ) (body : List ℕ) (node : Node) → leaf_in count body
 leaf_good count body node e =
     let tests = if_some (nat_le count 7) (option_map leaf (option_and_then rising (entries_in short_field count body))) node e in
     let mapped = map_some leaf (option_and_then rising (entries_in short_field count body)) node tests.1 in
-    let g = good_rising short_field (λ v. IsTrue (is_short v)) short_read count body mapped.0 mapped.1 in
-    subst LeafIsNode mapped.2 (record { few = omega (arith, g.0.count, leb-true count 7 tests.0); short = g.0.short; fit = g.0.fit; rise = g.1 })
+    subst LeafIsNode mapped.2 (pairs_known count body mapped.0 (leb-true count 7 tests.0) mapped.1)
 
 inner_good : (count : ℕ) (body : List ℕ) (node : Node) → inner_in count body ≡ Some node → LeafIsNode node
 inner_good count body node e =
@@ -154,11 +114,11 @@ module _ (b : Bounds) (lo hi : ℕ) (s : State) (key value : List ℕ) (w : Way)
   has_room (inl there) = inl there
   has_room (inr other) = elim (eqb_tells (length w.pairs) 7) [ inl same ↦ absurd (other same.1) | inr differs ↦ inr differs.0 ]
 
-  made : where_it_fits b.cap (put_made key value (pairs_to_fill (s w.object))) ≡ Ok (One (leaf (put byte_order key value w.pairs)))
+  made : where_roomy b.cap (put_made key value (pairs_to_fill (s w.object))) ≡ Ok (One (leaf (put byte_order key value w.pairs)))
   made =
       let at = at_fills lo hi s w.object w.pairs (ends_at_leaf lo hi s key (size lo hi) lo w goes) in
-      ap (λ (o : Option (List Pair)). where_it_fits b.cap (put_made key value o)) at.fills
-      ∙ ap (λ (t : Bool). where_it_fits b.cap (if t then Err NodeFull else Ok (One (leaf (put byte_order key value w.pairs))))) (not_full (has key w.pairs) (length w.pairs == 7) (has_room room))
+      ap (λ (o : Option (List Pair)). where_roomy b.cap (put_made key value o)) at.fills
+      ∙ ap (λ (t : Bool). where_roomy b.cap (if t then Err NodeFull else Ok (One (leaf (put byte_order key value w.pairs))))) (not_full (has key w.pairs) (length w.pairs == 7) (has_room room))
       ∙ if_true (nat_le 1024 b.cap) (Ok (One (leaf (put byte_order key value w.pairs)))) (Err TooLarge) wide
 
   -- the put at the end of the way is such a rewriting
@@ -167,7 +127,7 @@ module _ (b : Bounds) (lo hi : ℕ) (s : State) (key value : List ℕ) (w : Way)
       let now : List Pair = put byte_order key value w.pairs in
       let at = at_fills lo hi s w.object w.pairs (ends_at_leaf lo hi s key (size lo hi) lo w goes) in
       let t : State = after (node_meaning b) s (Put w.object key value) in
-      let values : t ≡ with_values s (w.object ∷ []) (node_code (leaf now) ∷ []) = ap (λ (r : Result Made Refusal). with_values s (w.object ∷ []) (values_of (w.object ∷ []) r)) made in
+      let values : t ≡ with_values s (w.object ∷ []) (node_code (leaf now) ∷ []) = ap (λ (r : Result Made Refusal). with_values s (w.object ∷ []) (values_of bytes_of (w.object ∷ []) r)) made in
       let itself : (w.object == w.object) ≡ true = elim (eqb_tells w.object w.object) [ inl same ↦ same.0 | inr other ↦ absurd (other.1 refl) ] in
       let here : t w.object ≡ node_code (leaf now) =
       ap (λ (u : State). u w.object) values

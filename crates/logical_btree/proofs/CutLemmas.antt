@@ -4,9 +4,9 @@ use Rattle.std.specs.Prelude.{IsTrue}
 use Rattle.std.specs.List.{list_all}
 use Rattle.std.proofs.lemmas.List.Elements.{All-head, All-tail}
 use Rattle.oper_core.specs.State.{State}
-use Rattle.btree_ops.specs.Short.{is_short}
-use Rattle.btree_ops.specs.Entries.{byte_order}
-use Rattle.btree_ops.specs.EntryLaws.{both_true, true_both}
+use Rattle.key_entries.specs.Short.{is_short}
+use Rattle.key_entries.specs.Entries.{byte_order}
+use Rattle.key_entries.specs.EntryLaws.{both_true, true_both}
 use Rattle.btree_ops.specs.Node.{leaf, inner, IsNode}
 use Rattle.btree_ops.specs.Effects.{halves_of}
 use Rattle.btree_ops.specs.Laws.{StandApart, StartAt}

@@ -1,6 +1,6 @@
 -- A delete call: its plan acts on the content as on a map.
-use Rattle.std.proofs.Common.{◌≡◌, inl, inr, ℕ, zero, suc, ◌==◌, Bool, true, false, not, ◌||◌, if◌then◌else◌, Option, None, Some, Result, Ok, Err, List, [], ◌∷◌, take, refl, sym, ap, ◌∙◌, subst, arith, true≢false, option_and_then}
-use Rattle.std.specs.Prelude.{IsTrue, nat_le, ◌<◌}
+use Rattle.std.proofs.Common.{◌≡◌, inl, inr, ℕ, ◌==◌, Bool, true, false, not, ◌||◌, if◌then◌else◌, Option, None, Some, Result, Ok, Err, List, [], ◌∷◌, refl, sym, ap, ◌∙◌, subst, true≢false, option_and_then}
+use Rattle.std.specs.Prelude.{IsTrue, nat_le}
 use Rattle.std.proofs.lemmas.Bool.Decides.{eqb_tells}
 use Rattle.std.specs.FinMap.{remove}
 use Rattle.oper_core.specs.State.{State, with_values}
@@ -8,24 +8,28 @@ use Rattle.oper_core.specs.Meaning.{after}
 use Rattle.oper_core.specs.declared.bounds.Bounds.{Bounds}
 use Rattle.oper_core.specs.declared.refusal.Refusal.{Refusal}
 use Rattle.oper_core.specs.declared.refusal.Refusal.TheVariants.{NoKey, TooLarge}
-use Rattle.btree_ops.specs.Entries.{byte_order}
-use Rattle.btree_ops.specs.EntryLaws.{both_true, true_both, if_true, same_some}
+use Rattle.key_entries.specs.Entries.{byte_order}
+use Rattle.key_entries.specs.EntryLaws.{both_true, true_both, if_true, same_some}
 use Rattle.btree_ops.specs.Node.{leaf, node_in, node_code}
-use Rattle.btree_ops.specs.Effects.{has, without, pairs_of, pairs_to_fill, delete_made, where_it_fits}
-use Rattle.btree_ops.specs.Operation.{node_meaning, values_of}
+use Rattle.key_entries.specs.Pairs.{has, without}
+use Rattle.key_entries.specs.Objects.{where_roomy}
+use Rattle.btree_ops.specs.Effects.{pairs_of, pairs_to_fill, delete_made}
+use Rattle.key_entries.specs.Objects.{values_of}
+use Rattle.btree_ops.specs.Operation.{node_meaning, bytes_of}
 use Rattle.btree_ops.specs.declared.made.Made.{Made}
 use Rattle.btree_ops.specs.declared.made.Made.TheVariants.{One}
 use Rattle.btree_ops.specs.declared.node_op.NodeOp.TheVariants.{Delete}
-use Rattle.btree_ops.specs.MapLaws.{delete_updates, delete_keeps}
+use Rattle.key_entries.specs.PairLaws.{delete_updates, delete_keeps}
 use Rattle.logical_btree.specs.Walk.{Pair, Span, Way, is_within, root_in, if_sound, size, walk}
+use Rattle.call_plans.specs.Plan.{refused_by, one_command}
+use Rattle.call_plans.specs.PlanLaws.{the_last, no_command}
 use Rattle.logical_btree.specs.Tree.{all_within, IsTree, content_of}
 use Rattle.std.specs.Ordering.{eq_by_cmp}
-use Rattle.logical_btree.specs.Plan.{Plan, delete_on, is_there, delete_plan}
-use Rattle.logical_btree.specs.Laws.{Acts, DeleteActs, after_all}
+use Rattle.logical_btree.specs.Plan.{TreePlan, delete_on, is_there, delete_plan}
+use Rattle.logical_btree.specs.Laws.{CallActs, DeleteActs}
 use Rattle.logical_btree.specs.declared.refusal.TreeRefusal.TheVariants.{NoObject, NoKey as TreeNoKey}
 use Rattle.logical_btree.proofs.GoesLemmas.{tree_goes}
 use Rattle.logical_btree.proofs.CommandLemmas.{at_fills, leaf_at}
-use Rattle.logical_btree.proofs.ReachLemmas.{none_some}
 use Rattle.logical_btree.proofs.PutLaws.{Rewritten, ends_at_leaf, delete_removes}
 
 filter_within : (key : List ℕ) (span : Span) (es : List Pair) → IsTrue (all_within span es) → IsTrue (all_within span (without key es))
@@ -44,11 +48,11 @@ to_delete key [] pairs has_it e = absurd (true≢false (sym has_it ∙ ap (λ (l
 to_delete key (x ∷ bytes) pairs has_it e = e
 
 module _ (b : Bounds) (lo hi : ℕ) (s : State) (key : List ℕ) (w : Way) (goes : walk lo hi s key ≡ Ok w) (wide : IsTrue (nat_le 1024 b.cap)) (there : IsTrue (has key w.pairs)) where
-  made : where_it_fits b.cap (delete_made key (pairs_of (node_in (s w.object)))) ≡ Ok (One (leaf (without key w.pairs)))
+  made : where_roomy b.cap (delete_made key (pairs_of (node_in (s w.object)))) ≡ Ok (One (leaf (without key w.pairs)))
   made =
       let at = at_fills lo hi s w.object w.pairs (ends_at_leaf lo hi s key (size lo hi) lo w goes) in
-      ap (λ (o : Option (List Pair)). where_it_fits b.cap (delete_made key o)) (to_delete key (s w.object) w.pairs there at.fills)
-      ∙ ap (λ (t : Bool). where_it_fits b.cap (if t then Ok (One (leaf (without key w.pairs))) else Err NoKey)) there
+      ap (λ (o : Option (List Pair)). where_roomy b.cap (delete_made key o)) (to_delete key (s w.object) w.pairs there at.fills)
+      ∙ ap (λ (t : Bool). where_roomy b.cap (if t then Ok (One (leaf (without key w.pairs))) else Err NoKey)) there
       ∙ if_true (nat_le 1024 b.cap) (Ok (One (leaf (without key w.pairs)))) (Err TooLarge) wide
 
   pub delete_rewrites : Rewritten lo hi s (after (node_meaning b) s (Delete w.object key)) key None w
@@ -56,7 +60,7 @@ module _ (b : Bounds) (lo hi : ℕ) (s : State) (key : List ℕ) (w : Way) (goes
       let now : List Pair = without key w.pairs in
       let at = at_fills lo hi s w.object w.pairs (ends_at_leaf lo hi s key (size lo hi) lo w goes) in
       let t : State = after (node_meaning b) s (Delete w.object key) in
-      let values : t ≡ with_values s (w.object ∷ []) (node_code (leaf now) ∷ []) = ap (λ (r : Result Made Refusal). with_values s (w.object ∷ []) (values_of (w.object ∷ []) r)) made in
+      let values : t ≡ with_values s (w.object ∷ []) (node_code (leaf now) ∷ []) = ap (λ (r : Result Made Refusal). with_values s (w.object ∷ []) (values_of bytes_of (w.object ∷ []) r)) made in
       let itself : (w.object == w.object) ≡ true = elim (eqb_tells w.object w.object) [ inl same ↦ same.0 | inr other ↦ absurd (other.1 refl) ] in
       let here : t w.object ≡ node_code (leaf now) =
       ap (λ (u : State). u w.object) values
@@ -74,43 +78,15 @@ module _ (b : Bounds) (lo hi : ℕ) (s : State) (key : List ℕ) (w : Way) (goes
         held = λ span all is. filter_within key span w.pairs all;
       }
 
-is_none : {X : Type 0} (x : X) → Some x ≡ None → ⊥
-is_none x e = none_some x (sym e)
-
 -- on a tree a delete acts as on a map
 pub delete_acts : (b : Bounds) (lo hi : ℕ) (s : State) (key : List ℕ) → IsTrue (nat_le 1024 b.cap) → IsTrue (is_there b lo hi) → IsTree lo hi s → DeleteActs b lo hi s key
 delete_acts b lo hi s key wide inside tree =
     let g = tree_goes key lo hi s tree in
-    let plan : delete_plan b lo hi s key ≡ delete_on key (Ok g.way) =
-    ap (λ (t : Bool). if t then delete_on key (walk lo hi s key) else record { commands = []; refusal = Some NoObject }) inside ∙ ap (delete_on key) g.is in
-    subst (λ (p : Plan). Acts b lo hi s (λ m. remove m key) p) (sym plan) (by_key g.way g.is (has key g.way.pairs) refl)
+    let plan : delete_plan b lo hi s key ≡ delete_on key (Ok g.way) = ap (λ (t : Bool). if t then delete_on key (walk lo hi s key) else refused_by NoObject) inside ∙ ap (delete_on key) g.is in
+    subst (λ (p : TreePlan). CallActs b lo hi s (λ m. remove m key) p) (sym plan) (by_key g.way g.is (has key g.way.pairs) refl)
   where
-    by_key : (w : Way) → walk lo hi s key ≡ Ok w → (h : Bool) → has key w.pairs ≡ h
-        → Acts b lo hi s (λ m. remove m key) (if h then record { commands = Delete w.object key ∷ []; refusal = None } else record { commands = []; refusal = Some TreeNoKey })
-    by_key w goes false e = record {
-      trees = λ k. nothing k;
-      before = λ k less. absurd (omega (arith, less));
-      done = λ none. absurd (is_none TreeNoKey none);
-      refused = λ r some. refl;
-    }
-      where
-        nothing : (k : ℕ) → IsTree lo hi (after_all b s (take k []))
-        nothing zero = tree
-        nothing (suc k) = tree
+    by_key : (w : Way) → walk lo hi s key ≡ Ok w → (h : Bool) → has key w.pairs ≡ h → CallActs b lo hi s (λ m. remove m key) (if h then one_command (Delete w.object key) else refused_by TreeNoKey)
+    by_key w goes false e = no_command (node_meaning b) (IsTree lo hi) (content_of lo hi) (λ m. remove m key) s TreeNoKey tree
     by_key w goes true e =
         let new = delete_removes lo hi s (after (node_meaning b) s (Delete w.object key)) key w goes (delete_rewrites b lo hi s key w goes wide e) tree in
-        record {
-          trees = λ k. fronts k new.0;
-          before = λ k less. at_first k less;
-          done = λ none. new.1;
-          refused = λ r some. absurd (none_some r some);
-        }
-      where
-        fronts : (k : ℕ) → IsTree lo hi (after (node_meaning b) s (Delete w.object key)) → IsTree lo hi (after_all b s (take k (Delete w.object key ∷ [])))
-        fronts zero t = tree
-        fronts (suc zero) t = t
-        fronts (suc (suc k)) t = t
-
-        at_first : (k : ℕ) → k < 1 → content_of lo hi (after_all b s (take k (Delete w.object key ∷ []))) ≡ content_of lo hi s
-        at_first zero less = refl
-        at_first (suc k) less = absurd (omega (arith, less))
+        the_last (node_meaning b) (IsTree lo hi) (content_of lo hi) (λ m. remove m key) s (Delete w.object key) (record { kept = new.0; changed = new.1 }) tree

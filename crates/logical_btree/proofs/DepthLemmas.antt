@@ -5,7 +5,7 @@ use Rattle.std.specs.List.{list_all}
 use Rattle.std.proofs.lemmas.Bool.{ltb-true, leb-true}
 use Rattle.std.proofs.lemmas.Bool.Decides.{eqb_tells}
 use Rattle.oper_core.specs.State.{State}
-use Rattle.btree_ops.specs.EntryLaws.{both_true, if_some, same_some, and_then_some}
+use Rattle.key_entries.specs.EntryLaws.{both_true, if_some, same_some, and_then_some}
 use Rattle.btree_ops.specs.Node.{inner, node_in}
 use Rattle.btree_ops.specs.declared.node.Node.{Node}
 use Rattle.logical_btree.specs.Walk.{Span, root_in, children_of, is_child, if_sound, node_at, size}

@@ -10,12 +10,15 @@ use Rattle.oper_core.specs.Meaning.{Accepts, refusal_of, read_values, or_else, u
 use Rattle.oper_core.specs.declared.bounds.Bounds.{Bounds}
 use Rattle.oper_core.specs.declared.refusal.Refusal.{Refusal}
 use Rattle.oper_core.specs.declared.refusal.Refusal.TheVariants.{NoObject, Same, TooLarge, NodeFull, NoKey}
-use Rattle.btree_ops.specs.Short.{is_short}
-use Rattle.btree_ops.specs.Entries.{byte_order}
-use Rattle.btree_ops.specs.EntryLaws.{true_both, same_some, and_then_some, if_some}
+use Rattle.key_entries.specs.Short.{is_short}
+use Rattle.key_entries.specs.Entries.{byte_order}
+use Rattle.key_entries.specs.EntryLaws.{true_both, same_some, and_then_some, if_some}
 use Rattle.btree_ops.specs.Node.{leaf, inner, node_in}
-use Rattle.btree_ops.specs.Effects.{has, without, halves_of, halves_in, behind_branch, behind_child, split_child_with as child_split_with, split_child_made, split_root_made, put_made, delete_made, made_by, where_it_fits}
-use Rattle.btree_ops.specs.Operation.{node_meaning, are_apart, shape_of}
+use Rattle.key_entries.specs.Pairs.{has, without}
+use Rattle.key_entries.specs.Objects.{where_roomy}
+use Rattle.btree_ops.specs.Effects.{halves_of, halves_in, behind_branch, behind_child, split_child_with as child_split_with, split_child_made, split_root_made, put_made, delete_made, made_by}
+use Rattle.key_entries.specs.Objects.{are_apart}
+use Rattle.btree_ops.specs.Operation.{node_meaning, shape_of}
 use Rattle.btree_ops.specs.declared.halves.Halves.{Halves}
 use Rattle.btree_ops.specs.declared.made.Made.{Made}
 use Rattle.btree_ops.specs.declared.made.Made.TheVariants.{One, Three}
@@ -25,16 +28,17 @@ use Rattle.btree_ops.specs.declared.node_op.NodeOp.{NodeOp}
 use Rattle.btree_ops.specs.declared.node_op.NodeOp.TheVariants.{Put, Delete, SplitChild, SplitRoot}
 use Rattle.btree_ops.specs.MapLaws.{leaf_cut, inner_cut}
 use Rattle.std.specs.FinMap.Entries.{put}
+use Rattle.call_plans.specs.Plan.{goes_on, ends, refuses}
 use Rattle.logical_btree.specs.Walk.{Pair, Way, root_in, children_of, is_child, if_sound, node_at, size, child_for, walk}
-use Rattle.logical_btree.specs.Plan.{Full, Next, splits, puts, refuses, first_full, is_full, steps_of, free_in, split_root_with, split_child_with, split_with, next_with, next_on, insert_next}
+use Rattle.logical_btree.specs.Plan.{Full, TreeNext, first_full, is_full, steps_of, free_in, split_root_with, split_child_with, split_with, next_with, next_on, insert_next}
 use Rattle.logical_btree.proofs.CommandLemmas.{at_fills}
 use Rattle.logical_btree.proofs.DeleteLaws.{to_delete}
-use Rattle.logical_btree.proofs.FreeLemmas.{first_free}
+use Rattle.call_plans.specs.FreeLaws.{first_free}
 use Rattle.logical_btree.proofs.InsertLaws.{leaf_room}
 use Rattle.logical_btree.proofs.PlaceOfFull.{HeadFull, Place, place_of_full}
 use Rattle.logical_btree.proofs.PutLaws.{ends_at_leaf, leaf_not_inner}
 use Rattle.logical_btree.proofs.ReachLemmas.{none_some}
-use Rattle.logical_btree.proofs.ValueLemmas.{same_test, other_test, three_apart}
+use Rattle.key_entries.specs.ValueLaws.{same_test, other_test, three_apart}
 use Rattle.logical_btree.proofs.WayLemmas.{child_range, leaf_range}
 
 -- values that are not empty
@@ -106,8 +110,8 @@ module _ (b : Bounds) where
 
   due_refusal : (s : State) (op : NodeOp) (due : IsDue s op) → refusal_of (node_meaning b) s op ≡ result_err (if nat_le 1024 b.cap then Ok due.made else Err TooLarge)
   due_refusal s op due =
-      ap (λ (o : Option Refusal). or_else o (result_err (where_it_fits b.cap (made_by op (read_values (node_meaning b) s op))))) due.shape
-      ∙ ap (λ (r : Result Made Refusal). result_err (where_it_fits b.cap r)) due.is
+      ap (λ (o : Option Refusal). or_else o (result_err (where_roomy b.cap (made_by op (read_values (node_meaning b) s op))))) due.shape
+      ∙ ap (λ (r : Result Made Refusal). result_err (where_roomy b.cap r)) due.is
 
   pub due_accepted : (s : State) (op : NodeOp) → IsTrue (nat_le 1024 b.cap) → IsDue s op → Accepts (node_meaning b) s op
   due_accepted s op wide due = due_refusal s op due ∙ ap (λ (t : Bool). result_err (if t then Ok due.made else Err TooLarge)) wide
@@ -168,9 +172,9 @@ module _ (lo hi : ℕ) (key value : List ℕ) where
     pub room : IsTrue (has key way.pairs) ⊎ (length way.pairs ≢ 7)
     pub op_is : op ≡ Put way.object key value
 
-  abbrev pub Tells : State → Next → Type 0
-  Tells s (splits op) = SplitsRoot s op ⊎ SplitsNode s op
-  Tells s (puts op) = PutsPair s op
+  abbrev pub Tells : State → TreeNext → Type 0
+  Tells s (goes_on op) = SplitsRoot s op ⊎ SplitsNode s op
+  Tells s (ends op) = PutsPair s op
   Tells s (refuses r) = ⊤
 
   module _ (s : State) (order : lo ≤ hi) where
@@ -233,7 +237,7 @@ module _ (lo hi : ℕ) (key value : List ℕ) where
     by_way (Err bad) goes = tt
     by_way (Ok w) goes =
         let op : NodeOp = Put w.object key value in
-        elim (has key w.pairs) as (λ t. has key w.pairs ≡ t → Tells s (if t then puts op else next_with op (free_in s lo hi) (first_full None (steps_of w)))) [
+        elim (has key w.pairs) as (λ t. has key w.pairs ≡ t → Tells s (if t then ends op else next_with op (free_in s lo hi) (first_full None (steps_of w)))) [
           | true ↦ λ e. record { way = w; goes = goes; room = inl e; op_is = refl }
           | false ↦ λ e.
               elim (first_full None (steps_of w)) as (λ o. first_full None (steps_of w) ≡ o → Tells s (next_with op (free_in s lo hi) o)) [
@@ -368,15 +372,15 @@ module _ (lo hi : ℕ) (key value : List ℕ) where
                 ∙ ap (λ (t : Bool). if t then Ok made else Err NoKey) there;
           }
 
-      abbrev pub IsDueNext : State → Next → Type 0
-      IsDueNext s (splits op) = IsDue b s op
-      IsDueNext s (puts op) = IsDue b s op
+      abbrev pub IsDueNext : State → TreeNext → Type 0
+      IsDueNext s (goes_on op) = IsDue b s op
+      IsDueNext s (ends op) = IsDue b s op
       IsDueNext s (refuses r) = ⊤
 
-      due_told : IsTrue (is_short value) → (s : State) (next : Next) → Tells s next → IsDueNext s next
-      due_told fits s (splits op) (inl root) = root_due s op root
-      due_told fits s (splits op) (inr node) = node_due s op node
-      due_told fits s (puts op) told = put_due fits s op told
+      due_told : IsTrue (is_short value) → (s : State) (next : TreeNext) → Tells s next → IsDueNext s next
+      due_told fits s (goes_on op) (inl root) = root_due s op root
+      due_told fits s (goes_on op) (inr node) = node_due s op node
+      due_told fits s (ends op) told = put_due fits s op told
       due_told fits s (refuses r) told = tt
 
       -- on any state the next command of an insert is due

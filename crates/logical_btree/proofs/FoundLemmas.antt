@@ -7,9 +7,9 @@ use Rattle.std.specs.FinMap.{get, get-from_entries}
 use Rattle.std.specs.FinMap.Entries.{find, is_sorted}
 use Rattle.std.specs.Cmp.Lexicographic.{nat_list_cmp_total}
 use Rattle.oper_core.specs.State.{State}
-use Rattle.btree_ops.specs.Entries.{byte_order, short_field, child_field, entries_in, rising}
-use Rattle.btree_ops.specs.KeyLaws.{same_key}
-use Rattle.btree_ops.specs.EntryLaws.{both_true, if_some, same_some, and_then_some, map_some}
+use Rattle.key_entries.specs.Entries.{byte_order, short_field, child_field, entries_in, rising}
+use Rattle.key_entries.specs.KeyLaws.{same_key}
+use Rattle.key_entries.specs.EntryLaws.{both_true, if_some, same_some, and_then_some, map_some}
 use Rattle.btree_ops.specs.Node.{leaf, inner, node_in, leaf_in, inner_in}
 use Rattle.byteorder.specs.Endian.{little_number}
 use Rattle.btree_ops.specs.declared.node.Node.TheVariants.{Leaf, Inner}

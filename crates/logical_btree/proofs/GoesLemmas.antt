@@ -3,7 +3,7 @@ use Rattle.std.proofs.Common.{◌≡◌, ◌≤◌, inl, inr, ℕ, zero, suc, �
 use Rattle.std.specs.Prelude.{IsTrue}
 use Rattle.oper_core.specs.State.{State}
 use Rattle.oper_core.specs.declared.bounds.Bounds.{Bounds}
-use Rattle.btree_ops.specs.Entries.{byte_order}
+use Rattle.key_entries.specs.Entries.{byte_order}
 use Rattle.btree_ops.specs.Node.{inner}
 use Rattle.btree_ops.specs.declared.node.Node.{Node}
 use Rattle.logical_btree.specs.Walk.{Span, Met, Way, node_at, size, child_for, walk_at, with_met, walk_from, walk, found}

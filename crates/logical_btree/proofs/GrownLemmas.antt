@@ -3,7 +3,7 @@ use Rattle.std.proofs.Common.{◌≡◌, ◌≢◌, ◌≤◌, ◌⊎◌, inl, i
 use Rattle.std.specs.Prelude.{IsTrue}
 use Rattle.std.proofs.lemmas.Bool.Decides.{eqb_tells}
 use Rattle.oper_core.specs.State.{State}
-use Rattle.btree_ops.specs.EntryLaws.{both_true, true_both}
+use Rattle.key_entries.specs.EntryLaws.{both_true, true_both}
 use Rattle.btree_ops.specs.Node.{leaf, inner}
 use Rattle.btree_ops.specs.Laws.{StandApart, IsBehindBranch}
 use Rattle.btree_ops.specs.declared.node.Node.{Node}

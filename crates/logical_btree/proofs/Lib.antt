@@ -22,6 +22,4 @@ pub mod EndLaws
 pub mod FullLaws
 pub mod SplitsKeepLaws
 pub mod CutLemmas
-pub mod FreeLemmas
 pub mod WayLemmas
-pub mod ValueLemmas

@@ -4,13 +4,13 @@ use Rattle.std.proofs.lemmas.Bool.Decides.{eqb_tells}
 use Rattle.std.specs.Ordering.{eq_by_cmp}
 use Rattle.std.specs.FinMap.Entries.{find}
 use Rattle.oper_core.specs.State.{State}
-use Rattle.btree_ops.specs.Entries.{byte_order}
+use Rattle.key_entries.specs.Entries.{byte_order}
 use Rattle.btree_ops.specs.Node.{leaf}
-use Rattle.btree_ops.specs.Laws.{IsUpdate}
+use Rattle.key_entries.specs.Pairs.{IsUpdate}
 use Rattle.btree_ops.specs.declared.node.Node.{Node}
 use Rattle.btree_ops.specs.declared.node.Node.TheVariants.{Leaf, Inner}
 use Rattle.logical_btree.specs.Walk.{Pair, Met, Way, node_at, size, child_for, walk_at, with_met, walk_from, walk, found, lookup}
-use Rattle.btree_ops.specs.KeyLaws.{same_key}
+use Rattle.key_entries.specs.KeyLaws.{same_key}
 
 pub err_ok : {X : Type 0} (bad : ℕ) (x : X) → ◌≡◌ {A = Result X ℕ} (Err bad) (Ok x) → ⊥
 err_ok bad x e = cc

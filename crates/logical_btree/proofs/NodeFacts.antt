@@ -7,15 +7,15 @@ use Rattle.std.proofs.lemmas.Bool.{leb-true, lt-ltb}
 use Rattle.std.specs.FinMap.Entries.{is_sorted}
 use Rattle.byteorder.specs.Endian.{little_number}
 use Rattle.oper_core.specs.State.{State}
-use Rattle.btree_ops.specs.Short.{is_short}
-use Rattle.btree_ops.specs.Entries.{byte_order, short_field, child_field, entries_in, rising}
-use Rattle.btree_ops.specs.EntryLaws.{both_true, if_some, if_true, same_some, and_then_some, map_some}
+use Rattle.key_entries.specs.Short.{is_short}
+use Rattle.key_entries.specs.Entries.{byte_order, short_field, child_field, entries_in, rising}
+use Rattle.key_entries.specs.EntryLaws.{both_true, if_some, if_true, same_some, and_then_some, map_some}
+use Rattle.key_entries.specs.RisingLaws.{rising_known}
 use Rattle.btree_ops.specs.Node.{leaf, inner, node_in, leaf_in, inner_in, node_code, IsNode}
 use Rattle.btree_ops.specs.NodeLaws.{node_found}
 use Rattle.btree_ops.specs.declared.node.Node.{Node}
 use Rattle.btree_ops.specs.declared.node.Node.TheVariants.{Leaf, Inner}
 use Rattle.logical_btree.specs.Walk.{root_in, children_of, is_child, if_sound, node_at}
-use Rattle.logical_btree.proofs.CommandLemmas.{good_rising}
 use Rattle.logical_btree.proofs.ReachLemmas.{none_some}
 
 abbrev InnerParts : Node → Type 0
@@ -28,7 +28,7 @@ inner_parts count body node e =
     let outer = both_true (nat_le 1 count) (nat_le count 7 && nat_le 4 (length body)) tests.0 in
     let last = both_true (nat_le count 7) (nat_le 4 (length body)) outer.1 in
     let mapped = map_some (inner (little_number 4 body)) (option_and_then rising (entries_in child_field count (drop 4 body))) node tests.1 in
-    let g = good_rising child_field (λ x. ⊤) (λ bytes x e. tt) count (drop 4 body) mapped.0 mapped.1 in
+    let g = rising_known child_field (λ x. ⊤) (λ bytes x e. tt) count (drop 4 body) mapped.0 mapped.1 in
     subst InnerParts mapped.2 (omega (arith, g.0.count, leb-true 1 count outer.0), omega (arith, g.0.count, leb-true count 7 last.0), g.0.short, g.1)
 
 leaf_parts : (count : ℕ) (body : List ℕ) (node : Node) → leaf_in count body ≡ Some node → InnerParts node

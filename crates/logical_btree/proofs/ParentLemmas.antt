@@ -4,7 +4,7 @@ use Rattle.std.specs.Prelude.{IsTrue}
 use Rattle.std.proofs.lemmas.Bool.Decides.{eqb_tells}
 use Rattle.std.specs.FinMap.Entries.{is_sorted, below_all}
 use Rattle.oper_core.specs.State.{State}
-use Rattle.btree_ops.specs.Entries.{byte_order}
+use Rattle.key_entries.specs.Entries.{byte_order}
 use Rattle.btree_ops.specs.Laws.{IsBehindBranch}
 use Rattle.logical_btree.specs.Walk.{Span, is_below, node_at}
 use Rattle.logical_btree.specs.Tree.{Reach, reach_children, reach_from, times, one_if}

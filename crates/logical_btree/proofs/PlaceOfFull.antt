@@ -1,6 +1,6 @@
 -- The first full node on a way is the root, or the child that the way takes at an inner node with room.
 use Rattle.std.proofs.Common.{◌≡◌, ◌≢◌, ◌≤◌, ◌⊎◌, inl, inr, ℕ, zero, suc, ◌==◌, true, false, if◌then◌else◌, Option, None, Some, Result, Ok, Err, List, [], ◌∷◌, length, refl, sym, ap, ◌∙◌, arith}
-use Rattle.btree_ops.specs.EntryLaws.{same_some}
+use Rattle.key_entries.specs.EntryLaws.{same_some}
 use Rattle.oper_core.specs.State.{State}
 use Rattle.btree_ops.specs.Node.{inner}
 use Rattle.btree_ops.specs.declared.node.Node.{Node}

@@ -6,9 +6,9 @@ use Rattle.std.specs.Ordering.{eq_by_cmp}
 use Rattle.std.specs.FinMap.{get, insert, remove, get-insert, get-remove, same_map, slice_cmp-IsAntisymmetric, nat_cmp-IsAntisymmetric}
 use Rattle.std.specs.Cmp.Lexicographic.{nat_list_cmp_total}
 use Rattle.oper_core.specs.State.{State}
-use Rattle.btree_ops.specs.Entries.{byte_order}
+use Rattle.key_entries.specs.Entries.{byte_order}
 use Rattle.btree_ops.specs.Node.{leaf, inner}
-use Rattle.btree_ops.specs.Laws.{IsUpdate}
+use Rattle.key_entries.specs.Pairs.{IsUpdate}
 use Rattle.btree_ops.specs.declared.node.Node.{Node}
 use Rattle.btree_ops.specs.declared.node.Node.TheVariants.{Leaf, Inner}
 use Rattle.logical_btree.specs.Walk.{Pair, Span, Met, Way, is_within, node_at, size, child_for, walk_at, with_met, walk_from, walk}

@@ -6,8 +6,8 @@ use Rattle.std.specs.FinMap.Entries.{is_sorted, below_all, is_sorted-where_key}
 use Rattle.std.specs.Cmp.Lexicographic.{nat_list_cmp_total}
 use Rattle.oper_core.specs.State.{State}
 use Rattle.oper_core.specs.declared.bounds.Bounds.{Bounds}
-use Rattle.btree_ops.specs.Entries.{byte_order}
-use Rattle.btree_ops.specs.EntryLaws.{both_true, true_both}
+use Rattle.key_entries.specs.Entries.{byte_order}
+use Rattle.key_entries.specs.EntryLaws.{both_true, true_both}
 use Rattle.btree_ops.specs.Node.{leaf, inner}
 use Rattle.btree_ops.specs.declared.node.Node.{Node}
 use Rattle.logical_btree.specs.Walk.{Pair, Span, is_within, is_below, lower_end, lower_part, upper_part, both_pairs, scan_at, scan_child, scan_children, scan_from, scan, node_at, size}

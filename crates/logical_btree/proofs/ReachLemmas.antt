@@ -3,7 +3,7 @@ use Rattle.std.proofs.Common.{◌≡◌, ◌≢◌, ◌⊎◌, inl, inr, ℕ, ze
 use Rattle.std.specs.Prelude.{IsTrue}
 use Rattle.std.proofs.lemmas.Bool.Decides.{eqb_tells}
 use Rattle.oper_core.specs.State.{State}
-use Rattle.btree_ops.specs.EntryLaws.{if_some, if_true, same_some}
+use Rattle.key_entries.specs.EntryLaws.{if_some, if_true, same_some}
 use Rattle.btree_ops.specs.Node.{leaf, inner}
 use Rattle.btree_ops.specs.declared.node.Node.{Node}
 use Rattle.btree_ops.specs.declared.node.Node.TheVariants.{Leaf, Inner}

@@ -4,8 +4,8 @@ use Rattle.std.specs.Prelude.{IsTrue}
 use Rattle.std.proofs.lemmas.Bool.Decides.{eqb_tells}
 use Rattle.std.specs.FinMap.{from_entries}
 use Rattle.oper_core.specs.State.{State}
-use Rattle.btree_ops.specs.Entries.{byte_order}
-use Rattle.btree_ops.specs.EntryLaws.{both_true, true_both}
+use Rattle.key_entries.specs.Entries.{byte_order}
+use Rattle.key_entries.specs.EntryLaws.{both_true, true_both}
 use Rattle.btree_ops.specs.Node.{leaf, inner}
 use Rattle.btree_ops.specs.Laws.{StandApart}
 use Rattle.btree_ops.specs.declared.node.Node.{Node}

@@ -5,9 +5,9 @@ use Rattle.std.specs.Ordering.{ordering_reverse}
 use Rattle.std.specs.FinMap.Entries.{is_sorted, below_all}
 use Rattle.std.specs.Cmp.Lexicographic.{nat_list_cmp_total}
 use Rattle.std.proofs.lemmas.List.Elements.{All-head, All-tail}
-use Rattle.btree_ops.specs.Entries.{byte_order}
-use Rattle.btree_ops.specs.KeyLaws.{same_key}
-use Rattle.btree_ops.specs.EntryLaws.{both_true, true_both}
+use Rattle.key_entries.specs.Entries.{byte_order}
+use Rattle.key_entries.specs.KeyLaws.{same_key}
+use Rattle.key_entries.specs.EntryLaws.{both_true, true_both}
 use Rattle.logical_btree.specs.Walk.{Span, is_below, is_within}
 use Rattle.logical_btree.specs.Tree.{all_within}
 

@@ -3,7 +3,7 @@ use Rattle.std.proofs.Common.{◌≡◌, ◌≤◌, ◌⊎◌, inl, inr, ℕ, ze
 use Rattle.std.proofs.lemmas.Bool.Decides.{eqb_tells}
 use Rattle.std.specs.FinMap.{from_entries}
 use Rattle.oper_core.specs.State.{State}
-use Rattle.btree_ops.specs.Entries.{byte_order}
+use Rattle.key_entries.specs.Entries.{byte_order}
 use Rattle.btree_ops.specs.Node.{leaf, inner}
 use Rattle.btree_ops.specs.declared.node.Node.{Node}
 use Rattle.logical_btree.specs.Walk.{Pair, Span, node_at, size}

@@ -10,12 +10,14 @@ use Rattle.oper_core.specs.Meaning.{after, read_values}
 use Rattle.oper_core.specs.declared.bounds.Bounds.{Bounds}
 use Rattle.oper_core.specs.declared.refusal.Refusal.{Refusal}
 use Rattle.oper_core.specs.declared.refusal.Refusal.TheVariants.{TooLarge}
-use Rattle.btree_ops.specs.Short.{is_short}
-use Rattle.btree_ops.specs.EntryLaws.{both_true, true_both, if_true}
+use Rattle.key_entries.specs.Short.{is_short}
+use Rattle.key_entries.specs.EntryLaws.{both_true, true_both, if_true}
 use Rattle.btree_ops.specs.Node.{inner, node_in, node_code}
-use Rattle.btree_ops.specs.Effects.{made_by, where_it_fits}
+use Rattle.key_entries.specs.Objects.{where_roomy}
+use Rattle.btree_ops.specs.Effects.{made_by}
 use Rattle.btree_ops.specs.Laws.{IsBehindBranch}
-use Rattle.btree_ops.specs.Operation.{node_meaning, objects_of, bytes_of, values_of}
+use Rattle.key_entries.specs.Objects.{values_of}
+use Rattle.btree_ops.specs.Operation.{node_meaning, objects_of, bytes_of}
 use Rattle.btree_ops.specs.declared.halves.Halves.{Halves}
 use Rattle.btree_ops.specs.declared.made.Made.{Made}
 use Rattle.btree_ops.specs.declared.made.Made.TheVariants.{Three}
@@ -24,14 +26,16 @@ use Rattle.btree_ops.specs.declared.node.Node.TheVariants.{Leaf, Inner}
 use Rattle.btree_ops.specs.declared.node_op.NodeOp.{NodeOp}
 use Rattle.btree_ops.specs.declared.node_op.NodeOp.TheVariants.{SplitChild, SplitRoot}
 use Rattle.btree_ops.specs.MapLaws.{stands_behind}
+use Rattle.call_plans.specs.Free.{is_empty, objects_from}
+use Rattle.call_plans.specs.Plan.{goes_on}
 use Rattle.logical_btree.specs.Walk.{Span, Way, root_in, is_child, if_sound, node_at, size}
 use Rattle.logical_btree.specs.Tree.{Reach, reach_at, reach_from, times, all_keys, IsTree}
-use Rattle.logical_btree.specs.Plan.{free_in, Next, splits, is_empty, objects_from, insert_next}
+use Rattle.logical_btree.specs.Plan.{TreeNext, free_in, insert_next}
 use Rattle.logical_btree.specs.Laws.{SplitKeeps}
 use Rattle.logical_btree.proofs.CommandLemmas.{leaf_at}
 use Rattle.logical_btree.proofs.CutLemmas.{LeafParts, InnerParts, parts, placed, separator_short, start_held}
 use Rattle.logical_btree.proofs.DueLemmas.{RootMade, NodeMade, SplitsRoot, SplitsNode, Tells, insert_tells, root_made, node_made, root_apart, node_apart}
-use Rattle.logical_btree.proofs.FreeLemmas.{one_taken}
+use Rattle.call_plans.specs.FreeLaws.{one_taken}
 use Rattle.logical_btree.proofs.GoesLemmas.{objects_of as way_objects, tree_goes}
 use Rattle.logical_btree.proofs.GrownLemmas.{LeafCut, InnerCut, ParentCut}
 use Rattle.logical_btree.proofs.MovedLemmas.{same_ok}
@@ -40,7 +44,7 @@ use Rattle.logical_btree.proofs.ParentLemmas.{leads_from, more_rise}
 use Rattle.logical_btree.proofs.ReachLemmas.{none_some, inner_is, SameBut}
 use Rattle.logical_btree.proofs.RootLaws.{LeafRootCut, InnerRootCut, split_root_keeps}
 use Rattle.logical_btree.proofs.SplitLaws.{split_child_keeps}
-use Rattle.logical_btree.proofs.ValueLemmas.{HasThree, has_three, other_test}
+use Rattle.key_entries.specs.ValueLaws.{HasThree, has_three, other_test}
 use Rattle.logical_btree.proofs.WayLemmas.{parent_on_way, root_held}
 
 flip : {x y : ℕ} → x ≢ y → y ≢ x
@@ -54,8 +58,8 @@ code_some (Inner first branches) = refl
 written : (b : Bounds) (s : State) (op : NodeOp) (made : Made) → IsTrue (nat_le 1024 b.cap) → made_by op (read_values (node_meaning b) s op) ≡ Ok made
     → after (node_meaning b) s op ≡ with_values s (objects_of op) (bytes_of made)
 written b s op made wide is =
-    ap (λ (r : Result Made Refusal). with_values s (objects_of op) (values_of (objects_of op) r))
-    (ap (where_it_fits b.cap) is ∙ if_true (nat_le 1024 b.cap) (Ok made) (Err TooLarge) wide)
+    ap (λ (r : Result Made Refusal). with_values s (objects_of op) (values_of bytes_of (objects_of op) r))
+    (ap (where_roomy b.cap) is ∙ if_true (nat_le 1024 b.cap) (Ok made) (Err TooLarge) wide)
 
 -- three nodes that are written leave no more objects free
 three_fewer : (s t : State) (a c d : ℕ) (u v w : Node) → HasThree s t a c d (node_code u) (node_code v) (node_code w) → (z : ℕ) → is_empty (t z) ≡ true → is_empty (s z) ≡ true
@@ -338,9 +342,9 @@ module _ (b : Bounds) (lo hi : ℕ) (key value : List ℕ) (wide : IsTrue (nat_l
         })
 
   -- what was asked of splits
-  pub splits_keep : (s : State) (op : NodeOp) → IsTree lo hi s → insert_next b lo hi s key value ≡ splits op → SplitKeeps b lo hi s op
+  pub splits_keep : (s : State) (op : NodeOp) → IsTree lo hi s → insert_next b lo hi s key value ≡ goes_on op → SplitKeeps b lo hi s op
   splits_keep s op tree is =
-      elim (subst (λ (next : Next). Tells lo hi key value s next) is (insert_tells lo hi key value s order b)) [
+      elim (subst (λ (next : TreeNext). Tells lo hi key value s next) is (insert_tells lo hi key value s order b)) [
         | inl root ↦ root_keeps s op root tree
         | inr node ↦ node_keeps s op node tree
       ]

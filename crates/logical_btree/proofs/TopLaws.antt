@@ -4,10 +4,11 @@ use Rattle.std.specs.Prelude.{IsTrue, nat_le}
 use Rattle.std.proofs.lemmas.Bool.{leb-true, le-leb}
 use Rattle.oper_core.specs.State.{State}
 use Rattle.oper_core.specs.declared.bounds.Bounds.{Bounds}
-use Rattle.btree_ops.specs.Short.{is_short}
+use Rattle.key_entries.specs.Short.{is_short}
 use Rattle.btree_ops.specs.declared.node_op.NodeOp.{NodeOp}
+use Rattle.call_plans.specs.Plan.{goes_on}
 use Rattle.logical_btree.specs.Tree.{IsTree}
-use Rattle.logical_btree.specs.Plan.{insert_next, splits}
+use Rattle.logical_btree.specs.Plan.{insert_next}
 use Rattle.logical_btree.specs.Laws.{IsRange, SplitKeeps, InsertActs, DeleteActs}
 use Rattle.logical_btree.proofs.AcceptedLaws.{in_order, in_store}
 use Rattle.logical_btree.proofs.DeleteLaws.{delete_acts}
@@ -25,7 +26,7 @@ too_narrow cap narrow =
     ] refl
 
 module _ (b : Bounds) (lo hi : ℕ) (range : IsRange b lo hi) where
-  pub keeps_in_range : (s : State) (key value : List ℕ) (op : NodeOp) → IsTree lo hi s → insert_next b lo hi s key value ≡ splits op → SplitKeeps b lo hi s op
+  pub keeps_in_range : (s : State) (key value : List ℕ) (op : NodeOp) → IsTree lo hi s → insert_next b lo hi s key value ≡ goes_on op → SplitKeeps b lo hi s op
   keeps_in_range s key value op tree is =
       let inside : hi < b.objects = in_store b lo hi range.there in
       let few : b.objects < 2 ^ 32 = range.small.objects in

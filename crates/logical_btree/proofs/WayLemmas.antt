@@ -4,8 +4,8 @@ use Rattle.std.specs.Prelude.{IsTrue, nat_lt, nat_le, option_and_then}
 use Rattle.std.specs.List.{list_all}
 use Rattle.std.proofs.lemmas.Bool.{ltb-true, leb-true}
 use Rattle.oper_core.specs.State.{State}
-use Rattle.btree_ops.specs.Entries.{byte_order}
-use Rattle.btree_ops.specs.EntryLaws.{both_true, if_some, same_some}
+use Rattle.key_entries.specs.Entries.{byte_order}
+use Rattle.key_entries.specs.EntryLaws.{both_true, if_some, same_some}
 use Rattle.btree_ops.specs.Node.{leaf, inner, node_in}
 use Rattle.btree_ops.specs.declared.node.Node.{Node}
 use Rattle.btree_ops.specs.declared.node.Node.TheVariants.{Leaf, Inner}
@@ -17,7 +17,7 @@ use Rattle.logical_btree.proofs.GoesLemmas.{objects_of}
 use Rattle.logical_btree.proofs.MovedLemmas.{err_ok, same_ok}
 use Rattle.logical_btree.proofs.PutLaws.{onward}
 use Rattle.logical_btree.proofs.ReachLemmas.{none_some}
-use Rattle.logical_btree.proofs.ValueLemmas.{same_test}
+use Rattle.key_entries.specs.ValueLaws.{same_test}
 
 -- what holds of all children holds of the one that a key leads to
 child_of_all : (p : ℕ → Bool) (key : List ℕ) (first : ℕ) (branches : List (List ℕ × ℕ)) → IsTrue (list_all p (first ∷ map (λ b. b.1) branches)) → IsTrue (p (child_for key first branches))

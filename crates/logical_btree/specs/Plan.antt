@@ -1,12 +1,13 @@
 -- What the calls of a tree stand for: the commands that each makes of a state, and its answer.
-use Rattle.std.specs.Prelude.{ℕ, zero, suc, ◌==◌, Bool, true, false, Option, None, Some, Result, Ok, Err, List, [], ◌∷◌, ◌++◌, length, filter, nat_lt, nat_le, if◌then◌else◌, ◌&&◌}
+use Rattle.std.specs.Prelude.{ℕ, suc, ◌==◌, Bool, Option, None, Some, Result, Ok, Err, List, [], ◌∷◌, ◌++◌, length, nat_lt, nat_le, if◌then◌else◌, ◌&&◌}
 use Rattle.std.specs.FinMap.Entries.{find}
 use Rattle.oper_core.specs.State.{State}
-use Rattle.oper_core.specs.Meaning.{after}
 use Rattle.oper_core.specs.declared.bounds.Bounds.{Bounds}
-use Rattle.btree_ops.specs.Entries.{byte_order}
+use Rattle.key_entries.specs.Entries.{byte_order}
 use Rattle.btree_ops.specs.Node.{leaf}
-use Rattle.btree_ops.specs.Effects.{has}
+use Rattle.key_entries.specs.Pairs.{has}
+use Rattle.call_plans.specs.Free.{free_from}
+use Rattle.call_plans.specs.Plan.{Next, goes_on, ends, refuses, Plan, refused_by, one_command, plan_from}
 use Rattle.btree_ops.specs.Operation.{node_meaning}
 use Rattle.btree_ops.specs.declared.node.Node.{Node}
 use Rattle.btree_ops.specs.declared.node.Node.TheVariants.{Leaf, Inner}
@@ -33,63 +34,43 @@ abbrev pub first_full : Option ℕ → List Met → Option Full
 first_full parent [] = None
 first_full parent (m ∷ rest) = if is_full m.node then Some (record { parent = parent; child = m.object }) else first_full (Some m.object) rest
 
-abbrev pub is_empty : List ℕ → Bool
-is_empty [] = true
-is_empty (b ∷ bytes) = false
-
--- n objects from x on
-abbrev pub objects_from : ℕ → ℕ → List ℕ
-objects_from x zero = []
-objects_from x (suc n) = x ∷ objects_from (suc x) n
-
+-- the free objects of the range
 abbrev pub free_in : State → ℕ → ℕ → List ℕ
-free_in s lo hi = filter (λ x. is_empty (s x)) (objects_from lo (size lo hi))
+free_in s lo hi = free_from s lo (size lo hi)
 
 -- what comes next in an insert: a split, or the put that ends it, or a refusal
-pub data Next : Type 0 where
-  splits : NodeOp → Next
-  puts : NodeOp → Next
-  refuses : TreeRefusal → Next
+abbrev pub TreeNext : Type 0
+TreeNext = Next NodeOp TreeRefusal
+
+abbrev pub TreePlan : Type 0
+TreePlan = Plan NodeOp TreeRefusal
 
 -- the root is split with the two least free objects, another node with the least free one
-abbrev pub split_root_with : ℕ → List ℕ → Next
-split_root_with root (left ∷ right ∷ free) = splits (SplitRoot root left right)
+abbrev pub split_root_with : ℕ → List ℕ → TreeNext
+split_root_with root (left ∷ right ∷ free) = goes_on (SplitRoot root left right)
 split_root_with root (one ∷ []) = refuses (TreeFull 2 1)
 split_root_with root [] = refuses (TreeFull 2 0)
 
-abbrev pub split_child_with : ℕ → ℕ → List ℕ → Next
-split_child_with parent child (new ∷ free) = splits (SplitChild parent child new)
+abbrev pub split_child_with : ℕ → ℕ → List ℕ → TreeNext
+split_child_with parent child (new ∷ free) = goes_on (SplitChild parent child new)
 split_child_with parent child [] = refuses (TreeFull 1 0)
 
-abbrev pub split_with : List ℕ → ℕ → Option ℕ → Next
+abbrev pub split_with : List ℕ → ℕ → Option ℕ → TreeNext
 split_with free child None = split_root_with child free
 split_with free child (Some parent) = split_child_with parent child free
 
-abbrev pub next_with : NodeOp → List ℕ → Option Full → Next
-next_with put free None = puts put
+abbrev pub next_with : NodeOp → List ℕ → Option Full → TreeNext
+next_with put free None = ends put
 next_with put free (Some full) = split_with free full.child full.parent
 
-abbrev pub next_on : List ℕ → List ℕ → List ℕ → Result Way ℕ → Next
+abbrev pub next_on : List ℕ → List ℕ → List ℕ → Result Way ℕ → TreeNext
 next_on key value free (Err bad) = refuses (BadTree bad)
 next_on key value free (Ok way) =
-    if has key way.pairs then puts (Put way.object key value) else next_with (Put way.object key value) free (first_full None (steps_of way))
+    if has key way.pairs then ends (Put way.object key value) else next_with (Put way.object key value) free (first_full None (steps_of way))
 
--- the commands of a call, one after the other, and why it is refused at their end, if it is
-pub record Plan : Type 0 where
-  pub commands : List NodeOp
-  pub refusal : Option TreeRefusal
-
-abbrev pub with_command : NodeOp → Plan → Plan
-with_command op plan = record { commands = op ∷ plan.commands; refusal = plan.refusal }
-
-abbrev pub plan_next : (NodeOp → Plan) → Next → Plan
-plan_next on (splits op) = with_command op (on op)
-plan_next on (puts op) = record { commands = op ∷ []; refusal = None }
-plan_next on (refuses r) = record { commands = []; refusal = Some r }
-
-abbrev pub delete_on : List ℕ → Result Way ℕ → Plan
-delete_on key (Err bad) = record { commands = []; refusal = Some (BadTree bad) }
-delete_on key (Ok way) = if has key way.pairs then record { commands = Delete way.object key ∷ []; refusal = None } else record { commands = []; refusal = Some NoKey }
+abbrev pub delete_on : List ℕ → Result Way ℕ → TreePlan
+delete_on key (Err bad) = refused_by (BadTree bad)
+delete_on key (Ok way) = if has key way.pairs then one_command (Delete way.object key) else refused_by NoKey
 
 abbrev pub get_on : List ℕ → Result Way ℕ → Result (Option (List ℕ)) TreeRefusal
 get_on key (Err bad) = Err (BadTree bad)
@@ -100,24 +81,23 @@ range_on (Err bad) = Err (BadTree bad)
 range_on (Ok pairs) = Ok pairs
 
 module _ (b : Bounds) (lo hi : ℕ) where
-  abbrev pub insert_next : State → List ℕ → List ℕ → Next
+  abbrev pub insert_next : State → List ℕ → List ℕ → TreeNext
   insert_next s key value = next_on key value (free_in s lo hi) (walk lo hi s key)
 
   -- an insert of at most n splits: each takes a free object, so there are never more than objects of the range
-  abbrev pub insert_from : List ℕ → List ℕ → ℕ → State → Plan
-  insert_from key value zero s = record { commands = []; refusal = None }
-  insert_from key value (suc n) s = plan_next (λ op. insert_from key value n (after (node_meaning b) s op)) (insert_next s key value)
+  abbrev pub insert_from : List ℕ → List ℕ → ℕ → State → TreePlan
+  insert_from key value n s = plan_from (node_meaning b) (λ s. insert_next s key value) n s
 
   abbrev pub is_there : Bool
   is_there = nat_le lo hi && nat_lt hi b.objects
 
-  abbrev pub where_there : Plan → Plan
-  where_there plan = if is_there then plan else record { commands = []; refusal = Some NoObject }
+  abbrev pub where_there : TreePlan → TreePlan
+  where_there plan = if is_there then plan else refused_by NoObject
 
-  abbrev pub insert_plan : State → List ℕ → List ℕ → Plan
+  abbrev pub insert_plan : State → List ℕ → List ℕ → TreePlan
   insert_plan s key value = where_there (insert_from key value (suc (size lo hi)) s)
 
-  abbrev pub delete_plan : State → List ℕ → Plan
+  abbrev pub delete_plan : State → List ℕ → TreePlan
   delete_plan s key = where_there (delete_on key (walk lo hi s key))
 
   abbrev pub get_answer : State → List ℕ → Result (Option (List ℕ)) TreeRefusal

@@ -1,7 +1,7 @@
 ghost use Rattle.std.specs.Prelude.{◌≡◌};
 ghost use Rattle.logical_btree.specs.Walk as walks;
 
-use btree_ops::Short;
+use key_entries::Short;
 
 /// The child under which a key stands. A key that is equal to a separator stands to its right.
 pub fn child_for(key: Short, first: u32, branches: &[(Short, u32)]) -> u32

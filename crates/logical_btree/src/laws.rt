@@ -5,13 +5,17 @@ ghost use Rattle.std.specs.FinMap.{get};
 ghost use Rattle.std.specs.FinMap.Entries.{is_sorted};
 ghost use Rattle.oper_core.specs.State.{State};
 ghost use Rattle.oper_core.specs.declared.bounds.Bounds.{Bounds};
-ghost use Rattle.btree_ops.specs.Short.{is_short};
-ghost use Rattle.btree_ops.specs.Entries.{byte_order};
+ghost use Rattle.key_entries.specs.Short.{is_short};
+ghost use Rattle.key_entries.specs.Entries.{byte_order};
+ghost use Rattle.call_plans.specs.Plan.{goes_on};
+ghost use Rattle.call_plans.specs.Laws.{AllAccepted, FirstTooLarge, EndsWith};
+ghost use Rattle.btree_ops.specs.Operation.{node_meaning};
 ghost use Rattle.btree_ops.specs.declared.node_op.NodeOp.{NodeOp};
+ghost use Rattle.btree_ops.specs.declared.node_op.NodeOp.TheVariants.{Put};
 ghost use Rattle.logical_btree.specs.Walk.{Pair};
 ghost use Rattle.logical_btree.specs.Tree.{IsTree, content_of};
-ghost use Rattle.logical_btree.specs.Plan.{insert_next, insert_plan, delete_plan, range_answer, is_there, splits};
-ghost use Rattle.logical_btree.specs.Laws.{IsRange, IsTreeFull, SplitKeeps, AllAccepted, FirstTooLarge, EndsWithPut, GetTells, RangeTells, InsertActs, DeleteActs};
+ghost use Rattle.logical_btree.specs.Plan.{insert_next, insert_plan, delete_plan, range_answer, is_there};
+ghost use Rattle.logical_btree.specs.Laws.{IsRange, IsTreeFull, SplitKeeps, GetTells, RangeTells, InsertActs, DeleteActs};
 ghost use Rattle.logical_btree.specs.declared.refusal.TreeRefusal.{TreeRefusal};
 ghost use Rattle.logical_btree.specs.declared.refusal.TreeRefusal.TheVariants.{NoKey};
 
@@ -29,7 +33,7 @@ pub fn a_tree_is_an_ordered_map()
 /// Each split that an insert makes of a tree leaves a tree with the same pairs, and fewer objects free.
 pub fn a_split_keeps_the_tree()
     ensures { (b : Bounds) (lo hi : ℕ) (s : State) (key value : List ℕ) (op : NodeOp) → IsRange b lo hi → IsTree lo hi s
-        → insert_next b lo hi s key value ≡ splits op → SplitKeeps b lo hi s op }
+        → insert_next b lo hi s key value ≡ goes_on op → SplitKeeps b lo hi s op }
 {}
 
 /// The pairs that a range reports a tree rise strictly by their keys.
@@ -42,19 +46,19 @@ pub fn a_range_rises()
 /// value holds 1,024 bytes; where it holds fewer, the first of them is refused as too large.
 pub fn commands_are_accepted()
     ensures insert { (b : Bounds) (lo hi : ℕ) (s : State) (key value : List ℕ) → IsTrue (is_short key) → IsTrue (is_short value)
-        → 1024 ≤ b.cap → AllAccepted b s (insert_plan b lo hi s key value).commands }
+        → 1024 ≤ b.cap → AllAccepted (node_meaning b) s (insert_plan b lo hi s key value).commands }
     ensures delete { (b : Bounds) (lo hi : ℕ) (s : State) (key : List ℕ) → IsTrue (is_short key)
-        → 1024 ≤ b.cap → AllAccepted b s (delete_plan b lo hi s key).commands }
+        → 1024 ≤ b.cap → AllAccepted (node_meaning b) s (delete_plan b lo hi s key).commands }
     ensures insert_too_large { (b : Bounds) (lo hi : ℕ) (s : State) (key value : List ℕ) → IsTrue (is_short key) → IsTrue (is_short value)
-        → b.cap < 1024 → FirstTooLarge b s (insert_plan b lo hi s key value).commands }
+        → b.cap < 1024 → FirstTooLarge (node_meaning b) s (insert_plan b lo hi s key value).commands }
     ensures delete_too_large { (b : Bounds) (lo hi : ℕ) (s : State) (key : List ℕ) → IsTrue (is_short key)
-        → b.cap < 1024 → FirstTooLarge b s (delete_plan b lo hi s key).commands }
+        → b.cap < 1024 → FirstTooLarge (node_meaning b) s (delete_plan b lo hi s key).commands }
 {}
 
 /// On every state an insert that is not refused ends with its put: the splits before it come to an end, since each takes a
 /// free object.
 pub fn an_insert_ends_with_its_put()
-    ensures { (b : Bounds) (lo hi : ℕ) (s : State) (key value : List ℕ) → IsRange b lo hi → EndsWithPut key value (insert_plan b lo hi s key value) }
+    ensures { (b : Bounds) (lo hi : ℕ) (s : State) (key value : List ℕ) → IsRange b lo hi → EndsWith (λ op. (x : ℕ) × (op ≡ Put x key value)) (insert_plan b lo hi s key value) }
 {}
 
 /// On a tree an insert is refused for lack of free objects alone, and a delete exactly where the map lacks the key.

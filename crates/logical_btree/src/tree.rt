@@ -5,7 +5,8 @@ ghost use Rattle.logical_btree.specs.Walk as walks;
 ghost use Rattle.logical_btree.specs.Walk.{children_of, node_at};
 
 use arrayvec::ArrayVec;
-use btree_ops::{Node, Short};
+use btree_ops::Node;
+use key_entries::Short;
 use std::marker::Model;
 
 /// A range of objects for an ordered map. Its first object is the root.

@@ -1,4 +1,4 @@
-use Rattle.btree_ops.specs.MapLaws.{delete_updates, delete_keeps}
+use Rattle.key_entries.specs.PairLaws.{delete_updates, delete_keeps}
 use Rattle.btree_ops.proofs.laws.a_delete_acts_on_a_map.Goals as goal
 
 pub returns : goal.returns

@@ -1,4 +1,4 @@
-use Rattle.btree_ops.specs.MapLaws.{put_updates, put_keeps}
+use Rattle.key_entries.specs.PairLaws.{put_updates, put_keeps}
 use Rattle.btree_ops.proofs.laws.a_put_acts_on_a_map.Goals as goal
 
 pub returns : goal.returns

@@ -1,21 +1,13 @@
-use Rattle.std.proofs.Common.{ℕ, List, ap, ◌∙◌, insert}
 use Rattle.btree_ops.specs.Effects as effects
-use Rattle.btree_ops.specs.Places.{place_in}
-use Rattle.btree_ops.proofs.PlaceLemmas.{some_listed, put_there, put_full, put_new}
+use Rattle.btree_ops.proofs.LeafLemmas.{some_listed, put_done, put_refused}
 use Rattle.btree_ops.proofs.leaf.put.Goals as goal
 
-pub returns-then-is_full : goal.returns-then-is_full
-returns-then-is_full c =
-    put_full c.args.key c.args.new (effects.pairs_to_fill c.args.value.now) c.in-Some.pairs.items (some_listed c.in-Some.pairs.items (effects.pairs_to_fill c.args.value.now) c.in-Some.ensures.value) c.in-Some.ensures.rise
-    c.in-Err.at (c.in-Err.ensures.value ∙ ap (λ (l : List (List ℕ × List ℕ)). place_in c.args.key l) c.as_slice.ensures.value) c.if-is_full.ensures.value
+pub returns-in-Some-with_pair : goal.returns-in-Some-with_pair
+returns-in-Some-with_pair c =
+    put_done c.args.key c.args.new (effects.pairs_to_fill c.args.value.now) c.in-Some.pairs.items (some_listed c.in-Some.pairs.items (effects.pairs_to_fill c.args.value.now) c.in-Some.ensures.value)
+    c.in-Some-with_pair.pairs.items c.in-Some-with_pair.ensures
 
-pub returns-in-Ok : goal.returns-in-Ok
-returns-in-Ok c =
-    put_there c.args.key c.args.new (effects.pairs_to_fill c.args.value.now) c.in-Some.pairs.items (some_listed c.in-Some.pairs.items (effects.pairs_to_fill c.args.value.now) c.in-Some.ensures.value) c.in-Some.ensures.rise
-    c.in-Ok.there c.insert.new.self.items (c.in-Ok.ensures.value ∙ ap (λ (l : List (List ℕ × List ℕ)). place_in c.args.key l) c.as_slice.ensures.value)
-    (c.insert.ensures.items ∙ ap (λ (l : List (List ℕ × List ℕ)). insert l c.in-Ok.there (c.args.key, c.args.new)) c.remove-old.ensures.items)
-
-pub returns-else-is_full : goal.returns-else-is_full
-returns-else-is_full c =
-    put_new c.args.key c.args.new (effects.pairs_to_fill c.args.value.now) c.in-Some.pairs.items (some_listed c.in-Some.pairs.items (effects.pairs_to_fill c.args.value.now) c.in-Some.ensures.value) c.in-Some.ensures.rise
-    c.in-Err.at c.insert-in-Err.new.self.items (c.in-Err.ensures.value ∙ ap (λ (l : List (List ℕ × List ℕ)). place_in c.args.key l) c.as_slice.ensures.value) c.if-is_full.ensures.value c.insert-in-Err.ensures.items
+pub returns-in-None : goal.returns-in-None
+returns-in-None c =
+    put_refused c.args.key c.args.new (effects.pairs_to_fill c.args.value.now) c.in-Some.pairs.items (some_listed c.in-Some.pairs.items (effects.pairs_to_fill c.args.value.now) c.in-Some.ensures.value)
+    c.in-None.ensures

@@ -1,5 +1,0 @@
-use Rattle.std.proofs.Common.{◌≡◌, map, take, []}
-use Rattle.btree_ops.proofs.node_op.none_for.Given as goal
-
-abbrev pub invariant-loop-object : goal.invariant-loop-object
-invariant-loop-object l = l.values ≡ map (λ x. []) (take l._object-index l.objects)

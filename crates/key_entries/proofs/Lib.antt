@@ -1,0 +1,4 @@
+pub mod Copied
+pub mod OneByOne
+pub mod PlaceLemmas
+pub mod NoValues

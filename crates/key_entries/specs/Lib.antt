@@ -1,0 +1,14 @@
+pub mod Short
+pub mod Padding
+pub mod Entries
+pub mod EntryLaws
+pub mod KeyLaws
+pub mod RisingLaws
+pub mod Places
+pub mod Pairs
+pub mod Codes
+pub mod CodeLaws
+pub mod Objects
+pub mod ObjectLaws
+pub mod PairLaws
+pub mod ValueLaws

@@ -1,0 +1,18 @@
+//! The bytes of entries.
+
+ghost use Rattle.std.specs.Prelude.{◌≡◌, ◌++◌, OnOk};
+ghost use Rattle.key_entries.specs.Entries.{entries_code};
+
+use crate::{EntryField, Short};
+use oper_core::Memory;
+
+/// Appends the codes of the entries. After an error a part of them may stand there.
+pub fn write_entries<T: EntryField>(entries: &[(Short, T)], out: &mut Vec<u8>) -> Result<(), Memory>
+    ensures { OnOk result (out.new.items ≡ out.old.items ++ entries_code T.field entries.now) }
+{
+    for entry in entries {
+        entry.0.write(out)?;
+        entry.1.write(out)?;
+    }
+    Ok(())
+}
