@@ -1,0 +1,4 @@
+pub mod Accepted
+pub mod Got
+pub mod ReadOps
+pub mod ReadState

@@ -1,0 +1,13 @@
+pub mod Program
+pub mod ProgramLaws
+pub mod Machine
+pub mod MachineLaws
+pub mod State
+pub mod StateLaws
+pub mod CodeLaws
+pub mod OneCode
+pub mod History
+pub mod FitLaws
+pub mod ValueLaws
+pub mod Table
+pub mod TableLaws
