@@ -1,0 +1,10 @@
+pub mod BitLemmas
+pub mod ContentLemmas
+pub mod StepLemmas
+pub mod DueLemmas
+pub mod AcceptedLemmas
+pub mod SplitLemmas
+pub mod StateLemmas
+pub mod GrowthLemmas
+pub mod WriteLemmas
+pub mod CallLemmas

@@ -1,0 +1,5 @@
+pub mod Find
+pub mod Plan
+pub mod File
+pub mod Laws
+pub mod Worked
