@@ -5,19 +5,29 @@ use Rattle.op_meaning.specs.Table.{plain_meaning}
 use Rattle.op_meaning.specs.declared.plain_op.PlainOp.{PlainOp}
 use Rattle.btree_ops.specs.Operation.{node_meaning}
 use Rattle.btree_ops.specs.declared.node_op.NodeOp.{NodeOp}
+use Rattle.app_program.specs.Table.{program_meaning}
+use Rattle.app_program.specs.declared.program_op.ProgramOp.{ProgramOp}
+use Rattle.hash_ops.specs.Operation.{hash_meaning}
+use Rattle.hash_ops.specs.declared.hash_op.HashOp.{HashOp}
 use Rattle.op_codec.specs.Sum.{sum_meaning}
 use Rattle.op_codec.specs.declared.sum.Sum.{Sum}
 use Rattle.op_codec.specs.declared.sum.Sum.TheVariants.{First, Second}
 
 -- an operation of a store is one of these families
 abbrev pub AllOps : Type 0
-AllOps = Sum PlainOp NodeOp
+AllOps = Sum PlainOp (Sum NodeOp (Sum ProgramOp HashOp))
 
 abbrev pub plain : PlainOp → AllOps
 plain op = First op
 
 abbrev pub node : NodeOp → AllOps
-node op = Second op
+node op = Second (First op)
+
+abbrev pub program : ProgramOp → AllOps
+program op = Second (Second (First op))
+
+abbrev pub hash : HashOp → AllOps
+hash op = Second (Second (Second op))
 
 abbrev pub all_meaning : Bounds → Meaning AllOps
-all_meaning = sum_meaning plain_meaning node_meaning
+all_meaning = sum_meaning plain_meaning (sum_meaning node_meaning (sum_meaning program_meaning hash_meaning))

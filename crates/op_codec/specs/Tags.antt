@@ -1,29 +1,35 @@
--- No two families share a tag.
-use Rattle.std.proofs.Common.{◌≡◌, ◌≤◌, ℕ, zero, suc, ◌+◌, ◌-◌, Bool, true, false, refl, sym, ◌∙◌, subst, arith, true≢false}
-use Rattle.std.specs.Prelude.{nat_le}
+-- No two families share a tag: each has a range of its own, and the ranges rise.
+use Rattle.std.proofs.Common.{◌≡◌, ◌<◌, ℕ, Bool, true, false, refl, ◌∙◌, ap, arith}
+use Rattle.std.specs.Prelude.{nat_le, ◌&&◌, ◌||◌}
 use Rattle.std.proofs.lemmas.Bool.{and_parts, leb-true}
 use Rattle.op_meaning.specs.Table.{is_plain_tag}
 use Rattle.btree_ops.specs.Operation.{is_node_tag}
+use Rattle.app_program.specs.Table.{is_program_tag}
+use Rattle.hash_ops.specs.Operation.{is_hash_tag}
+use Rattle.op_codec.specs.Sum.{either_tag}
 
--- what is so of the four tags of nodes is so of each of them
-each_node_tag : (P : ℕ → Type 0) → P 10 → P 11 → P 12 → P 13 → (k : ℕ) → k ≤ 3 → P (k + 10)
-each_node_tag P a b c d zero within = a
-each_node_tag P a b c d (suc zero) within = b
-each_node_tag P a b c d (suc (suc zero)) within = c
-each_node_tag P a b c d (suc (suc (suc zero))) within = d
-each_node_tag P a b c d (suc (suc (suc (suc k)))) within = absurd (omega (arith, within))
+-- what is below a range is not in it
+below_range : (from tag : ℕ) (rest : Bool) (starts : Bool) → nat_le from tag ≡ starts → tag < from → starts && rest ≡ false
+below_range from tag rest true is below = absurd (omega (arith, leb-true from tag is, below))
+below_range from tag rest false is below = refl
 
-not_plain : (tag : ℕ) → is_node_tag tag ≡ true → is_plain_tag tag ≡ false
-not_plain tag node =
-    let range = and_parts (nat_le 10 tag) (nat_le tag 13) node in
-    let low = leb-true 10 tag range.0 in
-    let high = leb-true tag 13 range.1 in
-    let same : (tag - 10) + 10 ≡ tag = omega (arith, low) in
-    subst (λ (t : ℕ). is_plain_tag t ≡ false) same (each_node_tag (λ t. is_plain_tag t ≡ false) refl refl refl refl (tag - 10) (omega (arith, low, high)))
+-- nor is what a range holds whose last number lies below it
+apart : (first last from most tag : ℕ) → last < from → nat_le first tag && nat_le tag last ≡ true → nat_le from tag && nat_le tag most ≡ false
+apart first last from most tag rises in_range =
+    let high = leb-true tag last (and_parts (nat_le first tag) (nat_le tag last) in_range).1 in
+    below_range from tag (nat_le tag most) (nat_le from tag) refl (omega (arith, high, rises))
 
-not_both : (tag : ℕ) (t : Bool) → is_plain_tag tag ≡ true → is_node_tag tag ≡ t → t ≡ false
-not_both tag true plain is = absurd (true≢false (sym plain ∙ not_plain tag is))
-not_both tag false plain is = refl
+-- where both families of a sum are apart, it is
+neither : (a b : Bool) → a ≡ false → b ≡ false → a || b ≡ false
+neither a b first second = ap (λ (x : Bool). x || b) first ∙ second
 
-pub nodes_are_apart : (tag : ℕ) → is_plain_tag tag ≡ true → is_node_tag tag ≡ false
-nodes_are_apart tag plain = not_both tag (is_node_tag tag) plain refl
+pub hashes_from_programs : (tag : ℕ) → is_program_tag tag ≡ true → is_hash_tag tag ≡ false
+hashes_from_programs tag is = apart 14 16 17 20 tag (omega arith) is
+
+pub later_from_nodes : (tag : ℕ) → is_node_tag tag ≡ true → either_tag is_program_tag is_hash_tag tag ≡ false
+later_from_nodes tag is = neither (is_program_tag tag) (is_hash_tag tag) (apart 10 13 14 16 tag (omega arith) is) (apart 10 13 17 20 tag (omega arith) is)
+
+pub others_from_plain : (tag : ℕ) → is_plain_tag tag ≡ true → either_tag is_node_tag (either_tag is_program_tag is_hash_tag) tag ≡ false
+others_from_plain tag is =
+    neither (is_node_tag tag) (either_tag is_program_tag is_hash_tag tag) (apart 1 9 10 13 tag (omega arith) is)
+    (neither (is_program_tag tag) (is_hash_tag tag) (apart 1 9 14 16 tag (omega arith) is) (apart 1 9 17 20 tag (omega arith) is))

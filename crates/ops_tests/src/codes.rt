@@ -1,4 +1,5 @@
 // Bytes that begin with no code, and objects that no command has.
+use app_program::ProgramOp;
 use btree_ops::NodeOp;
 use op_codec::AllOps;
 use op_meaning::PlainOp;
@@ -10,7 +11,7 @@ const EIGHT: Bounds = Bounds { objects: 8, cap: 3 };
 const NO_CODES: &[(&[u8], &str)] = &[
     (b"", "nothing"),
     (b"\0\x03\0\0\0\x01\0\0\0\x02\0\0\0", "the tag 0"),
-    (b"\x0e\x03\0\0\0\x01\0\0\0\x02\0\0\0", "the tag 14"),
+    (b"\x15\x03\0\0\0\x01\0\0\0\x02\0\0\0", "the tag 21"),
     (b"\x01\0\0\0\0\0\0\0", "a cut head"),
     (b"\x01\0\0\0\0\x01\0\0\0", "a cut value"),
     (b"\x01\x08\0\0\0\x01\0\0\0\xaa", "no such object"),
@@ -43,6 +44,13 @@ const NO_CODES: &[(&[u8], &str)] = &[
     (b"\x0c\x01\0\0\0\x02\0\0\0\x03\0\0", "a cut object"),
     (b"\x0c\x01\0\0\0\x02\0\0\0\x02\0\0\0", "one node twice"),
     (b"\x0d\x01\0\0\0\x02\0\0\0\x01\0\0\0", "the root twice"),
+    (b"\x0e\x03\0\0\0\x01\0\0", "a cut program"),
+    (
+        b"\x0e\x03\0\0\0\x03\0\0\0",
+        "an application that is its own program",
+    ),
+    (b"\x0f\x08\0\0\0\x01\0\0\0", "no such machine"),
+    (b"\x10\x01\0\0\0\x08\0\0\0", "no object for the output"),
 ];
 
 fn is_no_code(alloc: Global, bytes: &[u8]) -> bool {
@@ -81,6 +89,19 @@ fn is_said_of_pairs(from: u32, to: u32, want: Result<(), Refusal>) -> bool {
         }
         .shape(EIGHT),
     ] == [want; 5]
+        && is_said_of_programs(from, to, want)
+}
+
+fn is_said_of_programs(app: u32, other: u32, want: Result<(), Refusal>) -> bool {
+    [
+        ProgramOp::Step {
+            app,
+            program: other,
+        }
+        .shape(EIGHT),
+        ProgramOp::Feed { app, from: other }.shape(EIGHT),
+        ProgramOp::Drain { app, to: other }.shape(EIGHT),
+    ] == [want; 3]
 }
 
 fn is_said_of_splits(one: u32, two: u32, three: u32, want: Result<(), Refusal>) -> bool {
@@ -108,8 +129,8 @@ fn shapes_are_right() -> bool {
     good
 }
 
-// How many of the bytes are read as a command.
-fn codes_among(alloc: Global, rows: &[(&[u8], &str)]) -> usize {
+/// How many of the bytes are read as a command.
+pub fn codes_among(alloc: Global, rows: &[(&[u8], &str)]) -> usize {
     rows.iter().filter(|row| !is_no_code(alloc, row.0)).count()
 }
 

@@ -1,7 +1,8 @@
 // Each command on values of its own: its code, its first refusal, and what it makes.
 ghost use Rattle.std.specs.Prelude.{◌≡◌, ◌≤◌, All, IfOk, length};
 
-use crate::rows::{APPLICATIONS, NODES, OBJECTS, Row, VALUES};
+use crate::rows::{APPLICATIONS, ECHO, NODES, OBJECTS, PROGRAMS, Row, VALUES};
+use app_program::ProgramOp;
 use op_codec::AllOps;
 use oper_core::{Bounds, Oper, Refusal, Values};
 use std::alloc::Global;
@@ -87,14 +88,52 @@ fn is_as_worked(alloc: Global, row: &Row) -> Result<bool, Fail> {
     Ok(good & are(&made, new) & are(&moved, new))
 }
 
-// The place of the first row that is not as it says; none where all are.
-fn first_wrong(alloc: Global, rows: &[Row]) -> Result<Option<usize>, Fail> {
+/// The place of the first row that is not as it says; none where all are.
+pub fn first_wrong(alloc: Global, rows: &[Row]) -> Result<Option<usize>, Fail> {
     for (i, row) in rows.iter().enumerate() {
         if !is_as_worked(alloc, row)? {
             return Ok(Some(i));
         }
     }
     Ok(None)
+}
+
+// The value that a command makes, if nothing refuses it.
+fn made_by(alloc: Global, op: ProgramOp, read: &[&[u8]]) -> Result<Option<Vec<u8>>, Fail> {
+    let b = Bounds {
+        objects: OBJECTS,
+        cap: 1024,
+    };
+    let (refused, made, _) = outcome(alloc, b, op, read)?;
+    if refused.is_err() || made.len() == 0 {
+        return Ok(None);
+    }
+    Ok(Some(made.get(0).to_vec(alloc)?))
+}
+
+// How many steps of the program are accepted from a state, at most so many, and the state after them.
+fn steps(alloc: Global, state: Vec<u8>, code: &[u8], most: u64) -> Result<(u64, Vec<u8>), Fail> {
+    let mut state = state;
+    for done in 0..most {
+        let op = ProgramOp::Step { app: 0, program: 1 };
+        let Some(next) = made_by(alloc, op, &[state.as_slice(), code])? else {
+            return Ok((done, state));
+        };
+        state = next;
+    }
+    Ok((most, state))
+}
+
+// Whether a program copies two bytes, where a run of at most so many steps does the first of these numbers, and a second run
+// the other.
+fn copies(alloc: Global, first: u64, want: [u64; 2]) -> Result<bool, Fail> {
+    let feed = ProgramOp::Feed { app: 0, from: 2 };
+    let fed = made_by(alloc, feed, &[b"", b"\x0a\x0b"])?.ok_or("not fed")?;
+    let (begun, state) = steps(alloc, fed, ECHO, first)?;
+    let (more, state) = steps(alloc, state, ECHO, 9)?;
+    let drain = ProgramOp::Drain { app: 0, to: 3 };
+    let output = made_by(alloc, drain, &[state.as_slice()])?.ok_or("not drained")?;
+    Ok(([begun, more] == want) & (output.as_slice() == b"\x0a\x0b".as_slice()))
 }
 
 #[test]
@@ -106,6 +145,20 @@ fn values_go_from_object_to_object(rt: HostRuntime) -> Result<(), Fail> {
 #[test]
 fn applications_take_steps(rt: HostRuntime) -> Result<(), Fail> {
     assert_eq!(rt; first_wrong(rt.alloc(), APPLICATIONS)?, None);
+    Ok(())
+}
+
+#[test]
+fn programs_take_steps(rt: HostRuntime) -> Result<(), Fail> {
+    assert_eq!(rt; first_wrong(rt.alloc(), PROGRAMS)?, None);
+    Ok(())
+}
+
+#[test]
+fn a_run_goes_on_where_it_ended(rt: HostRuntime) -> Result<(), Fail> {
+    for (first, want) in [(0, [0, 6]), (2, [2, 4]), (9, [6, 0])] {
+        assert!(rt; copies(rt.alloc(), first, want)?);
+    }
     Ok(())
 }
 

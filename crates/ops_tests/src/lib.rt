@@ -1,4 +1,4 @@
-//! A test crate: the tests of oper_core, op_meaning, btree_ops and op_codec. The library is empty.
+//! A test crate: the tests of oper_core, op_meaning, app_program, btree_ops, hash_ops and op_codec. The library is empty.
 //!
 //! They stand apart so that the proofs of those crates are made once, and not a second time with their tests.
 #![tactic(auto)]
@@ -7,6 +7,8 @@
 mod codes;
 #[cfg(test)]
 mod commands;
+#[cfg(test)]
+mod hashes;
 #[cfg(test)]
 mod nodes;
 #[cfg(test)]

@@ -1,6 +1,7 @@
 // Bytes that are nodes, and short lists of bytes.
 use crate::rows::{FULL, INNER, PAIR};
-use btree_ops::{Node, Short};
+use btree_ops::Node;
+use key_entries::Short;
 use std::alloc::Global;
 
 fn is_kept(bytes: &[u8]) -> bool {
