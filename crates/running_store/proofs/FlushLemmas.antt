@@ -9,6 +9,7 @@ use Rattle.disk_model.specs.declared.machine.FileNo.TheVariants.{Objects}
 use Rattle.oper_core.specs.Meaning.{Meaning}
 use Rattle.oper_core.specs.declared.bounds.Bounds.{Bounds}
 use Rattle.formats.specs.Objects.{bounds_of}
+use Rattle.formats.specs.declared.layout.Layout.{Layout}
 use Rattle.formats.specs.declared.params.Params.{Params}
 use Rattle.install_order.specs.declared.entry.Entry.{Entry}
 use Rattle.log_records.specs.RecordLog.{RecordLogView}
@@ -99,13 +100,13 @@ module _ {O : Type 0} (meaning : Bounds → Meaning O) (old new : Disk) (log : R
     flush_ends gate = record {
       usable = record {
         in_use = record {
-          bounds = used.in_use.bounds ∙ ap bounds_of (sym flushed.params);
-          store = subst (λ (q : Params). AreInUse q log.next (volatile later entries)) (sym flushed.params) (flushed_in_use objects.slots.params log.next (volatile objects entries) later x used.in_use.store flushed);
+          bounds = used.in_use.bounds ∙ ap (λ (l : Layout). bounds_of l.params) (sym flushed.layout);
+          store = subst (λ (l : Layout). AreInUse l.params log.next (volatile later entries)) (sym flushed.layout) (flushed_in_use objects.slots.params log.next (volatile objects entries) later x used.in_use.store flushed);
           early = flushed_early objects.slots.params log.next (volatile objects entries) later x used.in_use.store dirty flushed used.in_use.early;
         };
         counted = used.counted;
       };
-      call = call_inside log objects entries identities broken before is old new log later entries identities flag Done meaning 0 Never (quiet_one old new Objects runs) flushed.params (omega arith) (omega arith) (inr settled) (inr keeps)
+      call = call_inside log objects entries identities broken before is old new log later entries identities flag Done meaning 0 Never (quiet_one old new Objects runs) flushed.layout (omega arith) (omega arith) (inr settled) (inr keeps)
           (inr (λ at told. let told_old = runs.time.files_told.1 told in let was = at told_old in (still_laid told_old was.0, keeps told_old was.1)))
           (λ stop ends. cc) (λ set. absurd (both_ways _ unset set), λ failed. absurd failed) (λ failed. absurd failed);
       beside = subst (λ (s : StoreView). IsOnObjectsAlone old new s after) is (record { objects = record { runs = runs; log = refl; laid = inr still_laid }; entries = λ k all. all });
@@ -138,7 +139,7 @@ module _ (log : RecordLogView) (objects : Laid) (entries rest : List Entry) (ide
         let call = subst (λ (s : StoreView). IsCall meaning old new before s 0 Never Done) (sym is) called in
         record {
           quiet = call.quiet;
-          params = call.params;
+          layout = call.layout;
           rising = call.rising;
           identities = call.identities;
           settled = call.settled;

@@ -20,6 +20,7 @@ use Rattle.explain_core.specs.Sound.{IsSound}
 use Rattle.explain_core.specs.World.{World, step, IsAllowed}
 use Rattle.explain_core.specs.World.Step.{Block_gate}
 use Rattle.standing.specs.Moments.{TakesSome}
+use Rattle.stable_objects.specs.SlotsView.{layout_of}
 use Rattle.running_store.specs.Calls.{IsCall, IsFailed, IsForce, IsRoomMade, Never, ending_of_force, failed_of, with_log}
 use Rattle.running_store.specs.Courses.{Course, Stop, course, force_course, force_steps}
 use Rattle.running_store.specs.Faults.{has_failed}
@@ -65,13 +66,13 @@ module _ (log : RecordLogView) (objects : Laid) (entries : List Entry) (identiti
     abbrev outside : StoreView
     outside = view_of after_log after_objects after_entries after_identities flag
 
-    pub call_inside : {O : Type 0} (meaning : Bounds → Meaning O) (logged : ℕ) (stops : RecordLogView → Stop → Type 0) → IsQuiet old new → after_objects.slots.params ≡ objects.slots.params → log.next ≤ after_log.next
+    pub call_inside : {O : Type 0} (meaning : Bounds → Meaning O) (logged : ℕ) (stops : RecordLogView → Stop → Type 0) → IsQuiet old new → layout_of after_objects.slots ≡ layout_of objects.slots → log.next ≤ after_log.next
         → after_identities ≡ identities + logged → IsFailed ending ⊎ (IsSettled old → IsSettled new) → IsFailed ending ⊎ KeepsLog meaning old new log after_log → IsFailed ending ⊎ (IsAttached meaning old (parts log objects entries) → IsAttached meaning new (parts after_log after_objects after_entries))
         → ((stop : Stop) → ending ≡ Stopped stop → stops after_log stop) → (flag ≡ true) ↔ IsFailed ending → (IsFailed ending → Rises old.disk_faults new.disk_faults)
         → IsCall meaning old new before outside logged stops ending
-    call_inside meaning logged stops quiet params rising counted settled kept attached stopped so fault = subst (λ (s : StoreView). IsCall meaning old new s outside logged stops ending) is (record {
+    call_inside meaning logged stops quiet layout rising counted settled kept attached stopped so fault = subst (λ (s : StoreView). IsCall meaning old new s outside logged stops ending) is (record {
       quiet = quiet;
-      params = params;
+      layout = layout;
       rising = rising;
       identities = counted;
       settled = settled;

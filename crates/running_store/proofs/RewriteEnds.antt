@@ -3,7 +3,6 @@ use Rattle.std.proofs.Common.{◌≡◌, ◌∙◌, sym, subst, ap, ℕ, ◌<◌
 use Rattle.std.specs.Prelude.{◌≢◌, ◌||◌, ◌^◌, IfErr, OnOk, nat_lt, Result, Ok, Err}
 use Rattle.std.proofs.lemmas.Bool.{both_ways, cases_lt, lt-ltb, le-ltb, cond-true, cond-false}
 use Rattle.disk_model.specs.Disk.{Any, Disk, In, IsSettled, LeavesOnly, Rises, Runs, Same, Stays}
-use Rattle.disk_model.specs.Moments.{stays_settled}
 use Rattle.disk_model.specs.declared.machine.FileNo.{FileNo}
 use Rattle.disk_model.specs.declared.machine.FileNo.TheVariants.{Objects}
 use Rattle.oper_core.specs.Meaning.{Meaning}
@@ -21,7 +20,7 @@ use Rattle.log_frames.specs.Rewriting.{file_length, rewritten}
 use Rattle.log_records.specs.declared.rewrite_err.RewriteErr.{RewriteErr}
 use Rattle.log_records.specs.declared.rewrite_err.RewriteErr.TheVariants as of_rewrite
 use Rattle.log_records.specs.RecordLog.{RecordLogView, Keeps}
-use Rattle.log_records.specs.Rewriting.{IsNewLength, IsRewritable, IsRewriteEnd, IsRewrittenPartly, IsWithinLength, RewriteFails, new_payloads, rewritten_log, rewritten_records}
+use Rattle.log_records.specs.Rewriting.{IsNewLength, IsRefused, IsRewritable, IsRewriteEnd, IsRewrittenPartly, IsWithinLength, RewriteFails, new_payloads, rewritten_log, rewritten_records}
 use Rattle.explain_core.specs.Sound.{IsSound}
 use Rattle.explain_core.specs.Taken.{after_none}
 use Rattle.explain_core.specs.TurnLaws.{run_none}
@@ -35,23 +34,16 @@ use Rattle.running_store.specs.Courses.Stop.{Through, Full, Worn}
 use Rattle.running_store.specs.Faults.{has_failed, is_rewrite_fault}
 use Rattle.running_store.specs.Keeping.{still_in_use}
 use Rattle.running_store.specs.Kept.{HasLog, KeepsLog, StopsAt}
-use Rattle.running_store.specs.KeptLaws.{stays_log}
 use Rattle.running_store.specs.Laid.{Laid, IsLaidOn}
 use Rattle.running_store.specs.Parts.{Parts, Shows, Volatile, meaning_in, parts, volatile}
-use Rattle.running_store.specs.Reads.{read_shows}
 use Rattle.running_store.specs.RewriteLaws.{gate_allowed}
 use Rattle.running_store.specs.Rewrites.{HasRewritten, IsKeptFrom, ending_of_rewrite, new_base, rewrite_course, trimmed, trimmed_file}
 use Rattle.running_store.specs.Stored.{run_one}
 use Rattle.running_store.specs.StoreView.{IsUsable, StoreView, view_of}
 use Rattle.running_store.specs.Taking.{Ending, Follows, Takes}
 use Rattle.running_store.specs.Taking.Ending.{Done, Stopped, Short, Failed}
-use Rattle.running_store.specs.Unchanged.{HasRead}
 use Rattle.running_store.proofs.Inside.{call_inside, flag_before, quiet_one, takes_inside}
-use Rattle.running_store.proofs.Rewritten.{all_stable, keeps_all, length_new, no_records, other_log, rewrite_moments, rewritten_shows, stable}
-
--- where no file changes, and no object in memory
-read_none : (old new : Disk) (objects : Laid) → Stays old new → HasRead old new objects objects
-read_none old new objects stays = record { stays = stays; fetched = record { slots = refl; dirty = λ x. refl; held = λ x pair had. inl had }; cells = λ told laid. ((λ x below. refl), laid) }
+use Rattle.running_store.proofs.Rewritten.{all_stable, keeps_all, length_new, no_records, old_shows, other_log, rewrite_moments, rewritten_shows, stable}
 
 -- The check and the base are those of each world that is shown.
 module _ {O : Type 0} (meaning : Bounds → Meaning O) (d : Disk) (log : RecordLogView) (it : Volatile) (base : ℕ) (table : Table) (may : IsRewritable (meaning log.bounds) log base table)
@@ -114,12 +106,18 @@ module _ {O : Type 0} (meaning : Bounds → Meaning O) (d : Disk) (log : RecordL
           },
         )
 
+    -- the old log is in force still
+    refused_shows : (new : Disk) → Runs (In (other_of log.log.active) Any) Same d new → IsRefused (meaning log.bounds) d new log → Shows m p new here v
+    refused_shows new runs refused = old_shows m p d log it v shows may.waits new (runs.time.files_told.0 shows.told)
+        ((runs.reads shows.told).others Objects (λ e. other_log log.log.active shows.log.keeps.in_force.a_log (sym e)))
+        (subst (λ (b : Bounds). Keeps (meaning b) new log records []) shows.bounds (refused.kept shows.told records own))
+
     -- it would be too long
-    full_follows : (new : Disk) (len need limit : ℕ) → Stays d new → len ≡ used → need ≡ trimmed_file m v → limit ≡ log_limit → limit < need → Follows m p new here v (rewrite_course m v used) (Stopped (Full len need limit))
-    full_follows new len need limit stays same long most over =
+    full_follows : (new : Disk) (len need limit : ℕ) → Shows m p new here v → len ≡ used → need ≡ trimmed_file m v → limit ≡ log_limit → limit < need → Follows m p new here v (rewrite_course m v used) (Stopped (Full len need limit))
+    full_follows new len need limit still same long most over =
         let stop : Full used (trimmed_file m v) log_limit ≡ Full len need limit = λ i. Full (sym same i) (sym long i) (sym most i) in
         subst (λ (c : Course O). Follows m p new here v c (Stopped (Full len need limit))) (sym (over_is (omega (arith, over, long, most))))
-        (stop, record { shows = subst (λ (u : World O). Shows m p new here u) (sym (run_none m 0 v)) (read_shows m p d new here it.objects v (read_none d new it.objects stays) shows); used = refl })
+        (stop, record { shows = subst (λ (u : World O). Shows m p new here u) (sym (run_none m 0 v)) still; used = refl })
 
   -- a crash within the rewrite leaves the world before it, or the one after it
   module _ (new : Disk)
@@ -138,23 +136,23 @@ module _ {O : Type 0} (meaning : Bounds → Meaning O) (d : Disk) (log : RecordL
               (subst (λ (b : Bounds). LeavesOnly d new (IsRewrittenPartly (meaning b) d log.log base table records)) shows.bounds (steps told records (own p v shows)))))
         ]
 
-    short_so : Stays d new → Takes meaning d new here here (λ m v used. rewrite_course m v used) Short
-    short_so stays = record {
-      follows = λ p v shows. let m = meaning_in meaning p in after_none m (λ u. Shows m p new here u) v (rewrite_course m v (used_of log.log)).steps (read_shows m p d new here it.objects v (read_none d new it.objects stays) shows);
+    short_so : Runs (In (other_of log.log.active) Any) Same d new → IsRefused (meaning log.bounds) d new log → Takes meaning d new here here (λ m v used. rewrite_course m v used) Short
+    short_so runs refused = record {
+      follows = λ p v shows. let m = meaning_in meaning p in after_none m (λ u. Shows m p new here u) v (rewrite_course m v (used_of log.log)).steps (refused_shows p v shows new runs refused);
       steps = rewrite_taken;
     }
 
     -- why the log is not rewritten
     ends_so : (T : Type 0) (fault : FileNo → ℕ → Type 0) (rises : Type 0) (e : RewriteErr) → log.log.header.epoch < 2 ^ 62 → RewriteFails rises fault (IsNewLength (meaning log.bounds) d log base table) log.log e
-        → (e ≢ of_rewrite.DiskFault → Stays d new) → Takes meaning d new here here (λ m v used. rewrite_course m v used) (ending_of_rewrite {T = T} (Err e))
-    ends_so T fault rises of_rewrite.DiskFault early cause stays = record { follows = λ p v shows. tt; steps = rewrite_taken }
-    ends_so T fault rises (of_rewrite.LogFull len need limit) early cause stays = record {
-      follows = λ p v shows. full_follows p v shows new len need limit (stays (λ e. cc)) cause.0 (cause.1 shows.told (stable (meaning_in meaning p) p d log it v shows may.waits) (own p v shows) ∙ long_is p v shows) cause.2 cause.3;
+        → Runs (In (other_of log.log.active) Any) Same d new → (e ≢ of_rewrite.DiskFault → IsRefused (meaning log.bounds) d new log) → Takes meaning d new here here (λ m v used. rewrite_course m v used) (ending_of_rewrite {T = T} (Err e))
+    ends_so T fault rises of_rewrite.DiskFault early cause runs refused = record { follows = λ p v shows. tt; steps = rewrite_taken }
+    ends_so T fault rises (of_rewrite.LogFull len need limit) early cause runs refused = record {
+      follows = λ p v shows. full_follows p v shows new len need limit (refused_shows p v shows new runs (refused (λ e. cc))) cause.0 (cause.1 shows.told (stable (meaning_in meaning p) p d log it v shows may.waits) (own p v shows) ∙ long_is p v shows) cause.2 cause.3;
       steps = rewrite_taken;
     }
-    ends_so T fault rises (of_rewrite.Damaged file at) early cause stays = short_so (stays (λ e. cc))
-    ends_so T fault rises (of_rewrite.Exhausted epoch) early cause stays = absurd (omega (arith, early, cause.0, cause.1))
-    ends_so T fault rises of_rewrite.Memory early cause stays = short_so (stays (λ e. cc))
+    ends_so T fault rises (of_rewrite.Damaged file at) early cause runs refused = short_so runs (refused (λ e. cc))
+    ends_so T fault rises (of_rewrite.Exhausted epoch) early cause runs refused = absurd (omega (arith, early, cause.0, cause.1))
+    ends_so T fault rises of_rewrite.Memory early cause runs refused = short_so runs (refused (λ e. cc))
 
     done_so : (after : RecordLogView) → ((b : Bounds) (w : World O) (k : ℕ) → IsSound (meaning b) w → IsAllowed (meaning b) w (Header_gate k) → IsSound (meaning b) (step (meaning b) w (Header_gate k)))
         → Runs (In (other_of log.log.active) Any) Same d new → IsWithinLength (meaning log.bounds) d log base table
@@ -214,23 +212,24 @@ module _ {O : Type 0} (meaning : Bounds → Meaning O) (old new : Disk) (log : R
       (subst (λ (f : List ℕ). IsLaidOn objects f) (sym ((runs.reads told_old).others Objects (λ e. other_log log.log.active was.1.keeps.in_force.a_log (sym e)))) was.0, keeps told_old was.1)))
       stopped (λ set. absurd (both_ways _ clear set), λ failed. absurd (none failed)) (λ failed. absurd (none failed))
 
-  -- nor was anything done
-  still_call : (ending : Ending) → (IsFailed ending → ⊥) → flag ≡ false → Stays old new → ((stop : Stop) → ending ≡ Stopped stop → StopsAt log_limit log stop) → IsCall meaning old new before (with_new log) 0 (StopsAt log_limit) ending
-  still_call ending none clear stays = fine_call log ending none clear refl (λ settled file. stays_settled old new file stays (settled file)) (λ told has. stays_log (meaning log.bounds) old new log told stays has)
+  -- and the old log is in force still
+  still_call : (ending : Ending) → (IsFailed ending → ⊥) → flag ≡ false → IsRefused (meaning log.bounds) old new log → ((stop : Stop) → ending ≡ Stopped stop → StopsAt log_limit log stop) → IsCall meaning old new before (with_new log) 0 (StopsAt log_limit) ending
+  still_call ending none clear refused = fine_call log ending none clear refl refused.settled
+      (λ told has. record { stable = has.stable; pending = []; keeps = refused.kept told has.stable (all_stable_of (meaning log.bounds) old log may.waits has) })
 
   module _ (T : Type 0) (fault : FileNo → ℕ → Type 0) (length_is : ℕ → Type 0) where
-    failed_call : (e : RewriteErr) → flag ≡ is_rewrite_fault e → RewriteFails (Rises old.disk_faults new.disk_faults) fault length_is log.log e → (e ≢ of_rewrite.DiskFault → Stays old new)
+    failed_call : (e : RewriteErr) → flag ≡ is_rewrite_fault e → RewriteFails (Rises old.disk_faults new.disk_faults) fault length_is log.log e → (e ≢ of_rewrite.DiskFault → IsRefused (meaning log.bounds) old new log)
         → IsCall meaning old new before (with_new log) 0 (StopsAt log_limit) (ending_of_rewrite {T = T} (Err e))
-    failed_call of_rewrite.DiskFault set cause stays =
+    failed_call of_rewrite.DiskFault set cause refused =
         call_inside log objects entries identities broken before is old new log objects entries identities flag Failed meaning 0 (StopsAt log_limit) (quiet_one old new (other_of log.log.active) runs) refl (omega arith) (omega arith)
         (inl tt) (inl tt) (inl tt) (λ stop ends. cc) (λ is. tt, λ failed. set) (λ failed. cause.0)
-    failed_call (of_rewrite.LogFull len need limit) set cause stays =
-        still_call (Stopped (Full len need limit)) (λ failed. failed) set (stays (λ e. cc))
+    failed_call (of_rewrite.LogFull len need limit) set cause refused =
+        still_call (Stopped (Full len need limit)) (λ failed. failed) set (refused (λ e. cc))
         (λ stop same. stop_is (StopsAt log_limit log) (Full len need limit) stop same (cause.0, may.waits, omega (arith, cause.3), cause.2))
-    failed_call (of_rewrite.Damaged file at) set cause stays = still_call Short (λ failed. failed) set (stays (λ e. cc)) (λ stop same. cc)
-    failed_call (of_rewrite.Exhausted epoch) set cause stays =
-        still_call (Stopped (Worn epoch)) (λ failed. failed) set (stays (λ e. cc)) (λ stop same. stop_is (StopsAt log_limit log) (Worn epoch) stop same (cause.0, cause.1))
-    failed_call of_rewrite.Memory set cause stays = still_call Short (λ failed. failed) set (stays (λ e. cc)) (λ stop same. cc)
+    failed_call (of_rewrite.Damaged file at) set cause refused = still_call Short (λ failed. failed) set (refused (λ e. cc)) (λ stop same. cc)
+    failed_call (of_rewrite.Exhausted epoch) set cause refused =
+        still_call (Stopped (Worn epoch)) (λ failed. failed) set (refused (λ e. cc)) (λ stop same. stop_is (StopsAt log_limit log) (Worn epoch) stop same (cause.0, cause.1))
+    failed_call of_rewrite.Memory set cause refused = still_call Short (λ failed. failed) set (refused (λ e. cc)) (λ stop same. cc)
 
   module _ (early : log.log.header.epoch < 2 ^ 62) (gate : (b : Bounds) (w : World O) (k : ℕ) → IsSound (meaning b) w → IsAllowed (meaning b) w (Header_gate k) → IsSound (meaning b) (step (meaning b) w (Header_gate k)))
       (steps : old.tells_moments → (records : List (Record O)) → Keeps (meaning log.bounds) old log records [] → LeavesOnly old new (IsRewrittenPartly (meaning log.bounds) old log.log base table records)) where
@@ -276,6 +275,6 @@ module _ {O : Type 0} (meaning : Bounds → Meaning O) (old new : Disk) (log : R
         subst (λ (l : RecordLogView). EndsRewrite {T = T} meaning old new before (with_new l) base table (Err e)) (sym ends.kept) (record {
           usable = usable_with log refl refl;
           call = failed_call T fault (IsNewLength (meaning log.bounds) old log base table) e (sets ∙ ap (λ (b : Bool). b || is_rewrite_fault e) unset) cause ends.refused;
-          takes = taken log (ending_of_rewrite {T = T} (Err e)) (λ here. ends_so meaning old log (volatile objects entries) base table may here new steps ends.long T fault (Rises old.disk_faults new.disk_faults) e early cause ends.refused);
+          takes = taken log (ending_of_rewrite {T = T} (Err e)) (λ here. ends_so meaning old log (volatile objects entries) base table may here new steps ends.long T fault (Rises old.disk_faults new.disk_faults) e early cause runs ends.refused);
           rewritten = subst (λ (s : StoreView). HasRewritten {T = T} {E = RewriteErr} s (with_new log) base (Err e)) is refl;
         })

@@ -30,7 +30,7 @@ use Rattle.standing.specs.Moments.{ShowsEither, TakesSome, moments_one}
 use Rattle.standing.specs.Standing.{stored}
 use Rattle.running_store.specs.Buffered.{check_bytes}
 use Rattle.running_store.specs.Courses.{record_length, table_length}
-use Rattle.running_store.specs.Parts.{Shows, Volatile}
+use Rattle.running_store.specs.Parts.{Shows, ShowsVolatile, Volatile}
 use Rattle.running_store.specs.Rewrites.{check_length, lengths_left, new_base, trimmed_file}
 use Rattle.running_store.proofs.Tails.{tail_members, tail_tables, tail_lengths, left_commands}
 
@@ -63,6 +63,26 @@ module _ {O : Type 0} (m : Meaning O) (p : Params) (d : Disk) (log : RecordLogVi
 
   pub all_stable : v.forced ≡ length v.history
   all_stable = all_forced v.history v.forced shows.running.sound.forced (ap members_of (sym nothing) ∙ shows.log.waiting)
+
+  -- the same parts show the world in other files, in which the objects and the log's records are the same
+  pub old_shows : (new : Disk) → new.tells_files → new.reads Objects ≡ d.reads Objects → Keeps m new log stable [] → Shows m p new (record { log = log; volatile = it }) v
+  old_shows new told objects keeps = record {
+    told = told;
+    running = shows.running;
+    bounds = shows.bounds;
+    store = subst (λ (f : List ℕ). ShowsVolatile m p f it v) (sym objects) shows.store;
+    log = record {
+      stable = stable;
+      pending = shows.log.pending;
+      keeps = subst (λ (l : List (Record O)). Keeps m new log stable l) (sym nothing) keeps;
+      base = shows.log.base;
+      commands_before = shows.log.commands_before;
+      forced = shows.log.forced;
+      waiting = shows.log.waiting;
+      tables = shows.log.tables;
+      pending_tables = shows.log.pending_tables;
+    };
+  }
 
   members_all : members_of stable ≡ drop (v.base - 1) v.history
   members_all = shows.log.forced ∙ ap (λ (n : ℕ). drop (v.base - 1) (take n v.history)) all_stable ∙ ap (λ (h : List (Member O)). drop (v.base - 1) h) (take-length v.history)

@@ -88,7 +88,7 @@ pub call_stopped : {O : Type 0} (meaning : Bounds → Meaning O) (old new : Disk
     → stops after.parts.log stop → IsCall meaning old new before after n Never Done → IsCall meaning old new before after n stops (Stopped stop)
 call_stopped meaning old new before after n stops stop so is = record {
   quiet = is.quiet;
-  params = is.params;
+  layout = is.layout;
   rising = is.rising;
   identities = is.identities;
   settled = is.settled;

@@ -9,7 +9,6 @@ use Rattle.disk_model.specs.declared.machine.FileNo.TheVariants.{Objects}
 use Rattle.oper_core.specs.Cell.{Cell}
 use Rattle.oper_core.specs.State.{is_among, value_for}
 use Rattle.oper_core.specs.Meaning.{Meaning}
-use Rattle.formats.specs.Objects.{cell_of}
 use Rattle.formats.specs.Records.{IsRecord, IsPlaced, next_behind}
 use Rattle.formats.specs.declared.params.Params.{Params}
 use Rattle.log_records.specs.RecordLog.{RecordLogView}
@@ -209,7 +208,7 @@ module _ {O : Type 0} (m : Meaning O) (p : Params) (d : Disk) (before after : Pa
       slots = subst (λ (s : SlotsView). AreOf s (d.reads Objects)) (sym it.slots) shows.store.laid.slots;
       clean = λ y pair clean had. elim (cases_Bool (is_among y (writes_of m member))) [
         | inl is ↦ absurd (both_ways _ clean (dirty_set y is))
-        | inr left ↦ ap (λ (s : SlotsView). cell_of s.params.cap y (d.reads Objects)) it.slots ∙ shows.store.laid.clean y pair (sym (dirty_left y left) ∙ clean) (sym (held_left y left) ∙ had)
+        | inr left ↦ shows.store.laid.clean y pair (sym (dirty_left y left) ∙ clean) (sym (held_left y left) ∙ had)
       ];
     };
     below = λ y pair had. elim (cases_Bool (is_among y (writes_of m member))) [

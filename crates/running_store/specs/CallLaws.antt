@@ -23,7 +23,7 @@ module _ {O : Type 0} (meaning : Bounds → Meaning O) (old new : Disk) (before 
     pub call_short : IsCall meaning old new before after n stops Short
     call_short = record {
       quiet = is.quiet;
-      params = is.params;
+      layout = is.layout;
       rising = is.rising;
       identities = is.identities;
       settled = is.settled;

@@ -14,7 +14,7 @@ use Rattle.running_store.specs.Finished.{IsQuiet}
 use Rattle.running_store.specs.Forced.{IsForced}
 use Rattle.running_store.specs.Kept.{IsAttached, KeepsLog}
 use Rattle.running_store.specs.Logged.{IsAsLong}
-use Rattle.running_store.specs.StoreView.{StoreView, next_of, store_params}
+use Rattle.running_store.specs.StoreView.{StoreView, next_of, store_layout}
 use Rattle.running_store.specs.Taking.{Ending}
 use Rattle.running_store.specs.Taking.Ending.{Done, Stopped, Short, Failed}
 use Rattle.running_store.specs.declared.store_err.StoreErr.{StoreErr}
@@ -50,13 +50,15 @@ ending_of_read (Err of_read.DiskFault) = Failed
 ending_of_read (Err (of_read.Damaged file place)) = Short
 ending_of_read (Err of_read.Memory) = Short
 
--- What holds on every machine of each call on a store: time passes, and nothing is said; the store's numbers stay, no number
--- of a record is given again, and so many identity writes are logged; unless the disk failed the machine stays settled, a log
--- that keeps some records keeps some still, and the store stays attached; a call that was stopped says so of the log that it
--- leaves; the store is broken exactly if the disk failed, and then the disk counted that.
+-- What holds on every machine of each call on a store: time passes, and nothing is said; the store's numbers stay, and where
+-- its slots stand, no number of a record is given again, and so many identity writes are logged; unless it is answered that
+-- the disk failed, the machine stays settled, a log that keeps some records keeps some still, and the store stays attached; a
+-- call that was stopped says so of the log that it leaves; the store is broken exactly where it is answered that the disk
+-- failed, and then the disk counted that. (The count may rise beside another answer: where a force succeeds, zeros may have
+-- been refused.)
 pub record IsCall {O : Type 0} (meaning : Bounds → Meaning O) (old new : Disk) (before after : StoreView) (logged : ℕ) (stops : RecordLogView → Stop → Type 0) (ending : Ending) : Type 0 where
   pub quiet : IsQuiet old new
-  pub params : store_params after ≡ store_params before
+  pub layout : store_layout after ≡ store_layout before
   pub rising : next_of before ≤ next_of after
   pub identities : after.identities ≡ before.identities + logged
   pub settled : IsFailed ending ⊎ (IsSettled old → IsSettled new)
@@ -106,7 +108,7 @@ module _ {O : Type 0} (meaning : Bounds → Meaning O) where
   pub call_none : (d : Disk) (it : StoreView) (stops : RecordLogView → Stop → Type 0) → IsDisk d → it.broken ≡ false → IsCall meaning d d it it 0 stops Done
   call_none d it stops lawful unbroken = record {
     quiet = runs_none d (λ before after. Unit {0}) (λ files. tt) lawful;
-    params = refl;
+    layout = refl;
     rising = omega arith;
     identities = omega arith;
     settled = inr (λ is. is);
@@ -122,7 +124,7 @@ module _ {O : Type 0} (meaning : Bounds → Meaning O) where
       → IsCall meaning old mid before here n stops Done → IsCall meaning mid new here after k then ending → IsCall meaning old new before after (n + k) then ending
   call_twice old mid new before here after n k stops then ending first second = record {
     quiet = runs_twice old mid new (λ before after. Unit {0}) (λ a b c changed then. tt) first.quiet second.quiet;
-    params = second.params ∙ first.params;
+    layout = second.layout ∙ first.layout;
     rising = omega (arith, first.rising, second.rising);
     identities = omega (arith, first.identities, second.identities);
     settled = and_on first.settled second.settled;
@@ -138,7 +140,7 @@ module _ {O : Type 0} (meaning : Bounds → Meaning O) where
       → n ≡ k → ((stop : Stop) → ending ≡ Stopped stop → stops after.parts.log stop → then after.parts.log stop) → IsCall meaning old new before after n stops ending → IsCall meaning old new before after k then ending
   call_as old new before after n k stops then ending same more is = record {
     quiet = is.quiet;
-    params = is.params;
+    layout = is.layout;
     rising = is.rising;
     identities = omega (arith, same, is.identities);
     settled = is.settled;

@@ -32,16 +32,16 @@ use Rattle.running_store.specs.Laid.{IsLaidOn}
 use Rattle.running_store.specs.Parts.{Parts, Shows, Volatile, meaning_in}
 use Rattle.running_store.specs.Rewrites.{check_length}
 use Rattle.running_store.specs.Stored.{run_one, stays_shown, store_shown}
-use Rattle.running_store.specs.StoreView.{StoreView, store_params}
+use Rattle.running_store.specs.StoreView.{StoreView, store_layout}
 use Rattle.running_store.specs.Taking.{Takes}
 use Rattle.running_store.specs.Taking.Ending.{Done}
 use Rattle.running_store.specs.Writes.{IsUnwritten}
 
--- The check is right in its place after the log, and in the grammar. There are no more than 4,096 objects.
+-- The check is right in its place after the log, and in the grammar. There are no more than 65,535 objects.
 pub record IsCheckHere {O : Type 0} (m : Meaning O) (log : RecordLogView) (table : Logged_table) : Type 0 where
   pub placed : IsCheckAt m log.log.header.base log.next table
   pub grammar : IsTable table
-  pub few : length table.starts ≤ 4096
+  pub few : length table.starts ≤ 65535
   pub ahead : log.log.header.base ≤ log.next
   pub bytes : length (record_code m (Logged_check table)) ≡ 13 + 12 * length table.starts
 
@@ -130,7 +130,7 @@ module _ {O : Type 0} (meaning : Bounds → Meaning O) (before after : StoreView
       λ told has. subst (λ (r : RecordLogView). HasLog (meaning r.bounds) d r) (sym is.log) (checked_log m log table after.parts.log.log.room is.here d has) in
       record {
         quiet = runs_none d (λ a b. Unit {0}) (λ files. tt) lawful;
-        params = ap store_params is.same;
+        layout = ap store_layout is.same;
         rising = omega (arith, ap (λ (r : RecordLogView). r.next) is.log);
         identities = omega (arith, ap (λ (s : StoreView). s.identities) is.same);
         settled = inr (λ settled. settled);

@@ -11,7 +11,7 @@ use Rattle.formats.specs.Objects.{bounds_of}
 use Rattle.formats.specs.declared.params.Params.{Params}
 use Rattle.log_frames.specs.LogView.{used_of, growth_of}
 use Rattle.log_records.specs.RecordLog.{RecordLogView}
-use Rattle.stable_objects.specs.SlotsView.{SlotsView}
+use Rattle.stable_objects.specs.SlotsView.{layout_of}
 use Rattle.explain_core.specs.History.Member.{Command}
 use Rattle.explain_core.specs.Taken.{after_none}
 use Rattle.explain_core.specs.World.{World}
@@ -78,7 +78,7 @@ module _ {O : Type 0} (meaning : Bounds → Meaning O) (before after : StoreView
       (appended_log m d before.parts after.parts (Command op) (m.effect op values) is.appended (omega (arith, low), is.ready.shape) low (subst (λ (n : Meaning O). HasLog n d before.parts.log) same has)) in
       record {
         quiet = runs_none d (λ a b. Unit {0}) (λ files. tt) lawful;
-        params = ap (λ (s : SlotsView). s.params) is.appended.slots;
+        layout = ap layout_of is.appended.slots;
         rising = omega (arith, ap (λ (r : RecordLogView). r.next) is.appended.log);
         identities = omega (arith, is.counted);
         settled = inr (λ settled. settled);
@@ -93,7 +93,7 @@ module _ {O : Type 0} (meaning : Bounds → Meaning O) (before after : StoreView
     pub left_call : IsCall meaning d d before after 0 Never Short
     left_call = record {
       quiet = runs_none d (λ a b. Unit {0}) (λ files. tt) lawful;
-      params = ap (λ (s : SlotsView). s.params) is.untaken.slots;
+      layout = ap layout_of is.untaken.slots;
       rising = omega (arith, ap (λ (r : RecordLogView). r.next) is.untaken.log);
       identities = omega (arith, is.counted);
       settled = inr (λ settled. settled);

@@ -3,7 +3,6 @@ use Rattle.std.proofs.Common.{◌≡◌, ◌∙◌, sym, subst, ap, ℕ, ◌<◌
 use Rattle.std.proofs.lemmas.Bool.{both_ways, cases_lt}
 use Rattle.oper_core.specs.Cell.{Cell}
 use Rattle.oper_core.specs.Meaning.{Meaning}
-use Rattle.formats.specs.Objects.{cell_of}
 use Rattle.formats.specs.declared.params.Params.{Params}
 use Rattle.stable_objects.specs.SlotsView.{SlotsView, id_in}
 use Rattle.dirty_cache.specs.Contents.{held, is_dirty}
@@ -89,7 +88,6 @@ module _ {O : Type 0} (m : Meaning O) (p : Params) (file : List ℕ) (it : Volat
   cell_after x = elim (cases_lt x p.objects) [
     | inl below ↦
         ap (λ (c : Cell). cell_or (held after.cache x) c) (stored_here p file x below)
-        ∙ ap (λ (q : Params). cell_or (held after.cache x) (cell_of q.cap x file)) (sym params_after)
         ∙ keeps x (subst (λ (q : Params). x < q.objects) (sym shows.params) below)
         ∙ cell_shown m p file it w shows x below
     | inr past ↦ past_last p after file x (below_after x) past ∙ sym (past_last p it.objects file x (shows.below x) past) ∙ shows.cache x

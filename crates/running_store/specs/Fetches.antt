@@ -7,7 +7,7 @@ use Rattle.disk_model.specs.declared.machine.FileNo.TheVariants.{Objects}
 use Rattle.oper_core.specs.Meaning.{Meaning}
 use Rattle.oper_core.specs.declared.bounds.Bounds.{Bounds}
 use Rattle.log_records.specs.RecordLog.{RecordLogView}
-use Rattle.stable_objects.specs.SlotsView.{SlotsView}
+use Rattle.stable_objects.specs.SlotsView.{layout_of}
 use Rattle.running_store.specs.Calls.{IsCall, IsFailed}
 use Rattle.running_store.specs.Courses.{Stop}
 use Rattle.running_store.specs.Kept.{HasLog, KeepsLog}
@@ -19,7 +19,7 @@ use Rattle.running_store.specs.Taking.Ending.{Stopped}
 use Rattle.running_store.specs.Unchanged.{HasRead}
 
 -- Slots were read, and nothing else was done: the log, the graph and the count of identity writes stay. The store is broken
--- exactly if the disk failed.
+-- exactly where it is answered that the disk failed.
 pub record IsFetch (old new : Disk) (before after : StoreView) (failed : Type 0) : Type 0 where
   pub read : HasRead old new before.parts.volatile.objects after.parts.volatile.objects
   pub log : after.parts.log ≡ before.parts.log
@@ -32,7 +32,7 @@ pub fetch_call : {O : Type 0} (meaning : Bounds → Meaning O) (old new : Disk) 
     → failed ↔ IsFailed ending → ((stop : Stop) → ending ≡ Stopped stop → stops after.parts.log stop) → (IsFailed ending → Rises old.disk_faults new.disk_faults) → IsCall meaning old new before after 0 stops ending
 fetch_call {O} meaning old new before after failed stops ending is so stopped fault = record {
   quiet = runs_wider old new (λ a b. b ≡ a) (λ a b. Unit {0}) (λ a b same. tt) is.read.stays;
-  params = ap (λ (s : SlotsView). s.params) is.read.fetched.slots;
+  layout = ap layout_of is.read.fetched.slots;
   rising = omega (arith, ap (λ (l : RecordLogView). l.next) is.log);
   identities = omega (arith, is.identities);
   settled = inr (λ settled file. stays_settled old new file is.read.stays (settled file));

@@ -2,7 +2,7 @@
 use Rattle.std.specs.Prelude.{◌≡◌, ◌≢◌, ◌⊎◌, ◌<◌, ℕ, false, nat_eq, None, Some}
 use Rattle.dirty_cache.specs.Contents.{held, is_dirty, IsSameOrForgotten}
 use Rattle.dirty_cache.specs.declared.entry.Entry.{Entry as Pair}
-use Rattle.stable_objects.specs.SlotsView.{id_in}
+use Rattle.stable_objects.specs.SlotsView.{id_in, layout_of}
 use Rattle.running_store.specs.Laid.{Laid}
 
 -- each slot's identifier is below this number
@@ -12,7 +12,7 @@ AreEarly next objects = (x : ℕ) → x < objects.slots.params.objects → id_in
 -- x is flushed: its slot has the identifier that is cached, and it is clean, or forgotten; other clean objects may be
 -- forgotten, and all else is as it was
 pub record IsFlushed (before after : Laid) (x : ℕ) : Type 0 where
-  pub params : after.slots.params ≡ before.slots.params
+  pub layout : layout_of after.slots ≡ layout_of before.slots
   pub id : (pair : Pair) → held before.cache x ≡ Some pair → id_in after.slots x ≡ pair.lsn
   pub other_ids : (y : ℕ) → y ≢ x → id_in after.slots y ≡ id_in before.slots y
   pub entry : (held after.cache x ≡ held before.cache x) ⊎ (held after.cache x ≡ None)

@@ -1,5 +1,5 @@
 -- A store in use is in use still after a flush and after a removal.
-use Rattle.std.proofs.Common.{◌≡◌, ◌∙◌, sym, subst, ℕ, ◌<◌, Bool, true, false, List, [], ◌∷◌, arith, inl, inr, ⊎_elim, Option, Some, None, is_some, refl}
+use Rattle.std.proofs.Common.{◌≡◌, ◌∙◌, ap, sym, subst, ℕ, ◌<◌, Bool, true, false, List, [], ◌∷◌, arith, inl, inr, ⊎_elim, Option, Some, None, is_some, refl}
 use Rattle.std.specs.Prelude.{All, IsSome, not, nat_eq}
 use Rattle.std.specs.List.{filter}
 use Rattle.std.specs.Map.{lookup}
@@ -12,6 +12,7 @@ use Rattle.dirty_cache.specs.declared.entry.Entry.{Entry as Pair}
 use Rattle.stable_objects.specs.SlotsView.{id_in}
 use Rattle.install_order.specs.declared.entry.Entry.{Entry}
 use Rattle.write_graph.specs.Graph.{numbers}
+use Rattle.formats.specs.declared.layout.Layout.{Layout}
 use Rattle.formats.specs.declared.params.Params.{Params}
 use Rattle.running_store.specs.Laid.{Laid}
 use Rattle.running_store.specs.Flushed.{AreEarly, IsFlushed}
@@ -33,7 +34,7 @@ none_some o pair none some = let h : None ≡ Some pair = sym none ∙ some in c
 
 pub flushed_in_use : (p : Params) (next : ℕ) (it : Volatile) (after : Laid) (x : ℕ) → AreInUse p next it → IsFlushed it.objects after x → AreInUse p next (volatile after it.entries)
 flushed_in_use p next it after x used is = record {
-  params = is.params ∙ used.params;
+  params = ap (λ (l : Layout). l.params) is.layout ∙ used.params;
   low = used.low;
   above = used.above;
   dirty = λ y pair dirty had. elim (cases_eq x y) [
@@ -64,7 +65,7 @@ flushed_early p next it after x used dirty is early y below = elim (cases_eq y x
       let low = (used.dirty x had.0 dirty had.1).1 in
       subst (λ (z : ℕ). id_in after.slots z < next) (sym e) (omega (arith, low, is.id had.0 had.1))
   | inr ne ↦
-      let was = early y (subst (λ (q : Params). y < q.objects) is.params below) in
+      let was = early y (subst (λ (l : Layout). y < l.params.objects) is.layout below) in
       omega (arith, was, is.other_ids y ne)
 ]
 

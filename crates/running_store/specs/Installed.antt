@@ -8,6 +8,7 @@ use Rattle.oper_core.specs.Cell.{Cell}
 use Rattle.oper_core.specs.State.{is_among}
 use Rattle.oper_core.specs.Meaning.{Meaning}
 use Rattle.formats.specs.Objects.{cell_of}
+use Rattle.formats.specs.declared.layout.Layout.{Layout}
 use Rattle.formats.specs.declared.params.Params.{Params}
 use Rattle.dirty_cache.specs.Contents.{held, is_dirty, cell_of_entry}
 use Rattle.dirty_cache.specs.declared.entry.Entry.{Entry as Pair}
@@ -29,7 +30,7 @@ use Rattle.running_store.specs.Parts.{Volatile, ShowsVolatile, volatile}
 
 -- past the last object of the store there are no bytes
 stored_past : (p : Params) (file : List ℕ) (y : ℕ) → p.objects ≤ y → stored p file y ≡ record { id = 0; value = [] }
-stored_past p file y past = cond-false (nat_lt y p.objects) (cell_of p.cap y file) (record { id = 0; value = [] }) (le-ltb y p.objects past)
+stored_past p file y past = cond-false (nat_lt y p.objects) (cell_of y file) (record { id = 0; value = [] }) (le-ltb y p.objects past)
 
 -- the others are as they were
 pub stored_kept : (p : Params) (x : ℕ) (old new : List ℕ) (y : ℕ) → OthersKept p x old new → y ≢ x → stored p new y ≡ stored p old y
@@ -54,7 +55,7 @@ module _ {O : Type 0} (m : Meaning O) (p : Params) (old new : List ℕ) (it : Vo
   the_cell = cached_shown m p old it w shows x pair had
 
   -- the slots of a file in which x has the pair, and all else what it had
-  pub cells_new : cell_of p.cap x new ≡ cell_of_entry pair → OthersKept p x old new → (y : ℕ) → stored p new y ≡ (step m w (Slot_gate node x)).slots y
+  pub cells_new : cell_of x new ≡ cell_of_entry pair → OthersKept p x old new → (y : ℕ) → stored p new y ≡ (step m w (Slot_gate node x)).slots y
   unfolding step
   cells_new here kept y = elim (cases_eq y x) [
     | inl e ↦ subst (λ (z : ℕ). stored p new z ≡ (if z == x then w.cache x else w.slots z)) (sym e) (stored_here p new x below ∙ here ∙ sym the_cell ∙ sym (cond-true (x == x) (w.cache x) (w.slots x) (eq-eqb x x refl)))
@@ -65,23 +66,23 @@ module _ {O : Type 0} (m : Meaning O) (p : Params) (old new : List ℕ) (it : Vo
   unfolding step
   flushed_store of_file replaced is =
       let at_x : stored p new x ≡ w.cache x = stored_here p new x below ∙ replaced.held ∙ sym the_cell in
-      let params : after.slots.params ≡ p = is.params ∙ shows.params in
+      let params : after.slots.params ≡ p = ap (λ (l : Layout). l.params) is.layout ∙ shows.params in
       let kept : (y : ℕ) → x ≢ y → stored p new y ≡ stored p old y = λ y ne. stored_kept p x old new y replaced.others (λ q. ne (sym q)) in
       record {
         params = params;
         laid = record {
           slots = of_file;
           clean = λ y other clean there. elim (cases_eq x y) [
-            | inl e ↦ subst (λ (z : ℕ). held after.cache z ≡ Some other → cell_of after.slots.params.cap z new ≡ cell_of_entry other) e
+            | inl e ↦ subst (λ (z : ℕ). held after.cache z ≡ Some other → cell_of z new ≡ cell_of_entry other) e
                 (λ here. ⊎_elim
-                (λ same. let q : pair ≡ other = same_pair pair other (sym had ∙ sym same ∙ here) in ap (λ (r : Params). cell_of r.cap x new) params ∙ replaced.held ∙ ap cell_of_entry q)
+                (λ same. let q : pair ≡ other = same_pair pair other (sym had ∙ sym same ∙ here) in replaced.held ∙ ap cell_of_entry q)
                 (λ none. absurd (none_some other (sym none ∙ here))) is.entry) there
             | inr ne ↦
                 let was = is.others y (ne_eqb x y ne) in
                 ⊎_elim
                 (λ same.
-                let before : cell_of p.cap y old ≡ cell_of_entry other = ap (λ (r : Params). cell_of r.cap y old) (sym shows.params) ∙ shows.laid.clean y other (sym was.dirty ∙ clean) (sym same ∙ there) in
-                ap (λ (r : Params). cell_of r.cap y new) params ∙ replaced.others y (shows.below y other (sym same ∙ there)) (λ q. ne (sym q)) ∙ before)
+                let before : cell_of y old ≡ cell_of_entry other = shows.laid.clean y other (sym was.dirty ∙ clean) (sym same ∙ there) in
+                replaced.others y (shows.below y other (sym same ∙ there)) (λ q. ne (sym q)) ∙ before)
                 (λ gone. absurd (none_some other (sym gone.1 ∙ there))) was.entry
           ];
         };
@@ -98,7 +99,7 @@ module _ {O : Type 0} (m : Meaning O) (p : Params) (old new : List ℕ) (it : Vo
               let was = is.others y (ne_eqb x y ne) in
               let slot : stored p new y ≡ stored p old y = kept y ne in
               ⊎_elim
-              (λ same. (λ i. cell_or (same i) (slot i)) ∙ shows.cache y)
+              (λ same. ap (λ (c : Cell). cell_or (held after.cache y) c) slot ∙ ap (λ (o : Option Pair). cell_or o (stored p old y)) same ∙ shows.cache y)
               (λ gone. ap (λ (o : Option Pair). cell_or o (stored p new y)) gone.1 ∙ slot ∙ shows.slots y ∙ sym (clean_shown m p old it w shows y gone.0))
               was.entry
         ];

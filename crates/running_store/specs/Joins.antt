@@ -15,15 +15,14 @@ use Rattle.running_store.specs.Laid.{cell_or, cell_in}
 use Rattle.running_store.specs.Parts.{Volatile, ShowsVolatile}
 
 -- an object of the store has in its slots what the file has at their places
-pub stored_here : (p : Params) (file : List ℕ) (x : ℕ) → x < p.objects → stored p file x ≡ cell_of p.cap x file
-stored_here p file x below = cond-true (nat_lt x p.objects) (cell_of p.cap x file) (record { id = 0; value = [] }) (lt-ltb x p.objects below)
+pub stored_here : (p : Params) (file : List ℕ) (x : ℕ) → x < p.objects → stored p file x ≡ cell_of x file
+stored_here p file x below = cond-true (nat_lt x p.objects) (cell_of x file) (record { id = 0; value = [] }) (lt-ltb x p.objects below)
 
 module _ {O : Type 0} (m : Meaning O) (p : Params) (file : List ℕ) (it : Volatile) (w : World O) (shows : ShowsVolatile m p file it w) where
   -- an object's pair is the world's cell
   pub cell_shown : (x : ℕ) → x < p.objects → cell_in it.objects file x ≡ w.cache x
   cell_shown x below =
-      ap (λ (q : Params). cell_or (held it.objects.cache x) (cell_of q.cap x file)) shows.params
-      ∙ ap (λ (c : Cell). cell_or (held it.objects.cache x) c) (sym (stored_here p file x below))
+      ap (λ (c : Cell). cell_or (held it.objects.cache x) c) (sym (stored_here p file x below))
       ∙ shows.cache x
 
   -- what is cached is the world's cell
@@ -39,7 +38,6 @@ module _ {O : Type 0} (m : Meaning O) (p : Params) (file : List ℕ) (it : Volat
       by_entry (Some pair) had =
           ap (λ (o : Option Pair). cell_or o (stored p file x)) had
           ∙ sym (shows.laid.clean x pair clean had)
-          ∙ ap (λ (q : Params). cell_of q.cap x file) shows.params
           ∙ sym (stored_here p file x (shows.below x pair had))
 
   -- an object is dirty exactly where the world's two identifiers differ

@@ -9,7 +9,6 @@ use Rattle.oper_core.specs.Meaning.{Meaning}
 use Rattle.oper_core.specs.declared.bounds.Bounds.{Bounds}
 use Rattle.oper_core.specs.State.{is_among}
 use Rattle.formats.specs.Objects.{cell_of}
-use Rattle.formats.specs.declared.params.Params.{Params}
 use Rattle.log_records.specs.RecordLog.{RecordLogView}
 use Rattle.stable_objects.specs.Replacing.{IsReplaced}
 use Rattle.stable_objects.specs.SlotsView.{SlotsView, AreOf}
@@ -61,7 +60,7 @@ module _ {O : Type 0} (m : Meaning O) (x : ℕ) (pair : Pair) (before after : Pa
       | inl among ↦ absurd (both_ways _ clean (written_dirty m x pair before after had done dirty y ∙ subst (λ (z : ℕ). is_dirty before.volatile.objects.cache z ≡ true) (sym (same_object x y among)) dirty))
       | inr left ↦
           let here : held before.volatile.objects.cache y ≡ Some other = sym (cond-false (is_among y (x ∷ [])) _ _ left) ∙ sym (done.held y) ∙ there in
-          ap (λ (s : SlotsView). cell_of s.params.cap y file) done.slots ∙ laid.clean y other (sym (written_dirty m x pair before after had done dirty y) ∙ clean) here
+          laid.clean y other (sym (written_dirty m x pair before after had done dirty y) ∙ clean) here
     ];
   }
 
@@ -90,24 +89,21 @@ pub flushed_laid : (old new : Laid) (x : ℕ) (pair : Pair) (file later : List �
 flushed_laid old new x pair file later laid had slots replaced is below = record {
   slots = slots;
   clean = λ y other clean there. elim (cases_eq x y) [
-    | inl e ↦ subst (λ (z : ℕ). held new.cache z ≡ Some other → cell_of new.slots.params.cap z later ≡ cell_of_entry other) e (own other) there
+    | inl e ↦ subst (λ (z : ℕ). held new.cache z ≡ Some other → cell_of z later ≡ cell_of_entry other) e (own other) there
     | inr ne ↦
         let was = is.others y (ne_eqb x y ne) in
         let before : held old.cache y ≡ Some other = ⊎_elim (λ same. sym same ∙ there) (λ gone. none_some (held new.cache y) other gone.1 there) was.entry in
-        at_cap y ∙ replaced.others y (below y other before) (λ e. ne (sym e)) ∙ laid.clean y other (sym was.dirty ∙ clean) before
+        replaced.others y (below y other before) (λ e. ne (sym e)) ∙ laid.clean y other (sym was.dirty ∙ clean) before
   ];
 }
   where
     none_some : {B : Type 0} (o : Option Pair) (pair : Pair) → o ≡ None → o ≡ Some pair → B
     none_some o pair none some = let h : None ≡ Some pair = sym none ∙ some in cc
 
-    at_cap : (y : ℕ) → cell_of new.slots.params.cap y later ≡ cell_of old.slots.params.cap y later
-    at_cap y = ap (λ (p : Params). cell_of p.cap y later) is.params
-
-    own : (other : Pair) → held new.cache x ≡ Some other → cell_of new.slots.params.cap x later ≡ cell_of_entry other
+    own : (other : Pair) → held new.cache x ≡ Some other → cell_of x later ≡ cell_of_entry other
     own other there =
         let same : held old.cache x ≡ Some other = ⊎_elim (λ kept. sym kept ∙ there) (λ gone. none_some (held new.cache x) other gone there) is.entry in
-        at_cap x ∙ replaced.held ∙ ap (λ (o : Option Pair). cell_of_some (cell_of_entry pair) o) (sym had ∙ same)
+        replaced.held ∙ ap (λ (o : Option Pair). cell_of_some (cell_of_entry pair) o) (sym had ∙ same)
       where
         cell_of_some : Cell → Option Pair → Cell
         cell_of_some d None = d

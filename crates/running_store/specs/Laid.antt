@@ -20,7 +20,7 @@ cell_or (Some entry) cell = cell_of_entry entry
 
 -- an object's pair: that of the cache, or else that of its slots in the objects file
 abbrev pub cell_in : Laid → List ℕ → ℕ → Cell
-cell_in laid file x = cell_or (held laid.cache x) (cell_of laid.slots.params.cap x file)
+cell_in laid file x = cell_or (held laid.cache x) (cell_of x file)
 
 -- the values of the objects
 abbrev pub values_in : Laid → List ℕ → State
@@ -43,7 +43,7 @@ pub record AreCached (p : Params) (cache : Contents) : Type 0 where
 pub record IsLaidOn (laid : Laid) (file : List ℕ) : Type 0 where
   pub slots : AreOf laid.slots file
   pub clean : (x : ℕ) (entry : Entry) → is_dirty laid.cache x ≡ false → held laid.cache x ≡ Some entry
-      → cell_of laid.slots.params.cap x file ≡ cell_of_entry entry
+      → cell_of x file ≡ cell_of_entry entry
 
 -- each object has the pair that it had
 abbrev pub KeepsCells : List ℕ → Laid → Laid → Type 0

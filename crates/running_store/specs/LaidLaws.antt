@@ -10,7 +10,7 @@ use Rattle.running_store.specs.Laid.{Laid, IsLaidOn, KeepsCells, cell_or, cell_i
 
 -- the same is cached
 pub cells_same : (file : List ℕ) (old new : Laid) → new.slots ≡ old.slots → ((x : ℕ) → held new.cache x ≡ held old.cache x) → KeepsCells file old new
-cells_same file old new slots same x below = λ i. cell_or (same x i) (cell_of (slots i).params.cap x file)
+cells_same file old new slots same x below = λ i. cell_or (same x i) (cell_of x file)
 
 pub cells_twice : (file : List ℕ) (old mid new : Laid) → mid.slots ≡ old.slots → KeepsCells file old mid → KeepsCells file mid new → KeepsCells file old new
 cells_twice file old mid new slots first second x below = second x (subst (λ (s : SlotsView). x < s.params.objects) (sym slots) below) ∙ first x below
@@ -21,7 +21,7 @@ same_value None one other some = cc
 same_value (Some entry) one other some = refl
 
 pub cached_value : (laid : Laid) (x : ℕ) (one other : List ℕ) → IsSome (held laid.cache x) → values_in laid one x ≡ values_in laid other x
-cached_value laid x one other some = same_value (held laid.cache x) (cell_of laid.slots.params.cap x one) (cell_of laid.slots.params.cap x other) some
+cached_value laid x one other some = same_value (held laid.cache x) (cell_of x one) (cell_of x other) some
 
 -- the identifier that is reported without the file is that of the pair
 id_or : (h : Option Entry) (id : ℕ) (cell : Cell) → id ≡ cell.id → lsn_or h id ≡ (cell_or h cell).id
@@ -30,4 +30,4 @@ id_or (Some e) id cell same = refl
 
 pub id_told : (file : List ℕ) (laid : Laid) (x : ℕ) → IsLaidOn laid file → x < laid.slots.params.objects → id_at laid x ≡ (cell_in laid file x).id
 id_told file laid x is below =
-    id_or (held laid.cache x) (id_in laid.slots x) (cell_of laid.slots.params.cap x file) (id_is laid.slots file x is.slots below)
+    id_or (held laid.cache x) (id_in laid.slots x) (cell_of x file) (id_is laid.slots file x is.slots below)

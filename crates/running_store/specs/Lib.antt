@@ -12,6 +12,8 @@ pub mod Flushed
 pub mod Early
 pub mod Installed
 pub mod InUse
+pub mod Lengths
+pub mod LengthLaws
 pub mod Among
 pub mod Logged
 pub mod Growth

@@ -73,9 +73,7 @@ module _ (before after : Parts) (it : IsUntaken before after) where
   untaken_fetched = fetched-same before.volatile.objects after.volatile.objects it.slots it.dirty it.held
 
   untaken_cells : (file : List ℕ) → KeepsCells file before.volatile.objects after.volatile.objects
-  untaken_cells file x below =
-      ap (λ (s : SlotsView). cell_or (held after.volatile.objects.cache x) (cell_of s.params.cap x file)) it.slots
-      ∙ ap (λ (e : Option Pair). cell_or e (cell_of before.volatile.objects.slots.params.cap x file)) (it.held x)
+  untaken_cells file x below = ap (λ (e : Option Pair). cell_or e (cell_of x file)) (it.held x)
 
   pub untaken_shows : {O : Type 0} (m : Meaning O) (p : Params) (d : Disk) (w : World O) → Shows m p d before w → Shows m p d after w
   untaken_shows m p d w shows = record {

@@ -1,9 +1,11 @@
 -- A running store, as contracts see it.
 use Rattle.std.specs.Prelude.{◌-◌, ◌≤◌, ℕ, Bool, List}
+use Rattle.formats.specs.declared.layout.Layout.{Layout}
 use Rattle.formats.specs.declared.params.Params.{Params}
 use Rattle.install_order.specs.declared.entry.Entry.{Entry}
 use Rattle.log_frames.specs.LogView.{used_of}
 use Rattle.log_records.specs.RecordLog.{RecordLogView}
+use Rattle.stable_objects.specs.SlotsView.{layout_of}
 use Rattle.running_store.specs.Laid.{Laid}
 use Rattle.running_store.specs.Parts.{Parts, parts}
 use Rattle.running_store.specs.Taking.{ArePartsInUse}
@@ -13,7 +15,7 @@ pub record StoreView : Type 0 where
   pub parts : Parts
   -- so many identity writes were logged since it was opened
   pub identities : ℕ
-  -- the disk failed
+  -- a call was answered that the disk failed
   pub broken : Bool
 
 -- the store that these parts make
@@ -23,6 +25,10 @@ view_of log objects entries identities broken = record { parts = parts log objec
 -- the numbers of the store
 abbrev pub store_params : StoreView → Params
 store_params store = store.parts.volatile.objects.slots.params
+
+-- where its slots stand
+abbrev pub store_layout : StoreView → Layout
+store_layout store = layout_of store.parts.volatile.objects.slots
 
 -- the number of its next record
 abbrev pub next_of : StoreView → ℕ

@@ -1,5 +1,5 @@
 -- Store and files that show a world: what a flush and a removal leave of them, and of a log beside them.
-use Rattle.std.proofs.Common.{◌≡◌, ◌∙◌, sym, subst, ℕ, ◌<◌, Bool, List, [], ◌∷◌, refl, inl, inr, ◌⊎◌, ⊎_elim, Some}
+use Rattle.std.proofs.Common.{◌≡◌, ◌∙◌, ap, sym, subst, ℕ, ◌<◌, Bool, List, [], ◌∷◌, refl, inl, inr, ◌⊎◌, ⊎_elim, Some}
 use Rattle.std.specs.Prelude.{not}
 use Rattle.std.proofs.Math.Path.{fun_ext}
 use Rattle.std.specs.List.{filter}
@@ -13,6 +13,7 @@ use Rattle.oper_core.specs.Meaning.{Meaning}
 use Rattle.formats.specs.InForce.{IsInForce, IsPassive}
 use Rattle.formats.specs.Objects.{IsObjectsFile, cell_of}
 use Rattle.formats.specs.Records.{HoldsRecordLog, IsRecordLog}
+use Rattle.formats.specs.declared.layout.Layout.{Layout}
 use Rattle.formats.specs.declared.params.Params.{Params}
 use Rattle.formats.specs.declared.record.Record.{Record}
 use Rattle.log_records.specs.RecordLog.{RecordLogView, Keeps}
@@ -152,7 +153,7 @@ module _ {O : Type 0} (m : Meaning O) (p : Params) where
   module _ (d : Disk) (it : Volatile) (w : World O) (shows : VolatileShows m p d it w) (node : ℕ → Bool) where
     module _ (x : ℕ) (pair : Pair) (below : x < p.objects) (had : held it.objects.cache x ≡ Some pair) where
       -- nothing is replaced yet
-      kept_cells : (file : List ℕ) → cell_of p.cap x file ≡ cell_of p.cap x (d.reads Objects) → OthersKept p x (d.reads Objects) file → (y : ℕ) → stored p file y ≡ w.slots y
+      kept_cells : (file : List ℕ) → cell_of x file ≡ cell_of x (d.reads Objects) → OthersKept p x (d.reads Objects) file → (y : ℕ) → stored p file y ≡ w.slots y
       kept_cells file same others y = elim (cases_eq y x) [
         | inl e ↦ subst (λ (z : ℕ). stored p file z ≡ w.slots z) (sym e) (stored_here p file x below ∙ same ∙ sym (stored_here p (d.reads Objects) x below) ∙ shows.store.slots x)
         | inr ne ↦ stored_kept p x (d.reads Objects) file y others ne ∙ shows.store.slots y
@@ -177,7 +178,7 @@ module _ {O : Type 0} (m : Meaning O) (p : Params) where
           → IsSound m (step m w (Slot_gate node x)) → VolatileShows m p new (volatile after it.entries) (step m w (Slot_gate node x))
       unfolding step
       flush_shows new after run settled of_file replaced is sound =
-          let params = is.params ∙ shows.store.params in
+          let params = ap (λ (l : Layout). l.params) is.layout ∙ shows.store.params in
           record {
             told = run.time.files_told.0 shows.told;
             settled = settled;

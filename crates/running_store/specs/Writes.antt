@@ -11,7 +11,7 @@ use Rattle.formats.specs.Objects.{bounds_of}
 use Rattle.formats.specs.declared.params.Params.{Params}
 use Rattle.log_frames.specs.LogView.{used_of, growth_of}
 use Rattle.log_records.specs.RecordLog.{RecordLogView}
-use Rattle.stable_objects.specs.SlotsView.{SlotsView}
+use Rattle.stable_objects.specs.SlotsView.{layout_of}
 use Rattle.dirty_cache.specs.Contents.{held, is_dirty}
 use Rattle.dirty_cache.specs.declared.entry.Entry.{Entry as Pair}
 use Rattle.explain_core.specs.History.Member.{Identity}
@@ -82,7 +82,7 @@ module _ {O : Type 0} (meaning : Bounds → Meaning O) (before after : StoreView
         (omega (arith, is.short, has.cap, ap (λ (b : Bounds). b.cap) is.bounds)) is.low d in
         record {
           quiet = runs_none d (λ a b. Unit {0}) (λ files. tt) lawful;
-          params = ap (λ (s : SlotsView). s.params) is.appended.slots;
+          layout = ap layout_of is.appended.slots;
           rising = omega (arith, ap (λ (r : RecordLogView). r.next) is.appended.log);
           identities = is.counted;
           settled = inr (λ settled. settled);

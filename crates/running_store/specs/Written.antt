@@ -111,7 +111,7 @@ module _ {O : Type 0} (m : Meaning O) (x : ℕ) (pair : Pair) (before after : Pa
 
 -- the value of a cached object
 pub value_cached : (laid : Laid) (x : ℕ) (pair : Pair) (value : List ℕ) → held laid.cache x ≡ Some pair → ((file : List ℕ) → value ≡ values_in laid file x) → value ≡ pair.bytes
-value_cached laid x pair value had is = is [] ∙ ap (λ (o : Option Pair). (cell_or o (cell_of laid.slots.params.cap x [])).value) had
+value_cached laid x pair value had is = is [] ∙ ap (λ (o : Option Pair). (cell_or o (cell_of x [])).value) had
 
 -- a record of the value that is read has the bytes that the course says
 pub course_length : {O : Type 0} (m : Meaning O) (p : Params) (d : Disk) (it : Parts) (w : World O) (x : ℕ) (pair : Pair) (value : List ℕ) → Shows m p d it w → held it.volatile.objects.cache x ≡ Some pair

@@ -7,6 +7,7 @@ ghost use Rattle.stable_objects.specs.SlotsView.{id_in};
 ghost use Rattle.running_store.specs.Fetched.{IsFetched};
 ghost use Rattle.running_store.specs.Laid.{IsLaidOn, KeepsCells};
 
+use crate::empties::note_value;
 use crate::objects::Objects;
 use oper_core::{ByteList, Memory};
 
@@ -42,7 +43,7 @@ impl Objects {
         requires absent { held self.old.cache object ≡ None }
         requires short { length bytes.items ≤ self.old.slots.params.cap }
         ensures slots { self.new.slots ≡ self.old.slots }
-        ensures cells { (file : List ℕ) → IsLaidOn self.old file → cell_of self.old.slots.params.cap object file ≡ record { id = lsn; value = bytes.items } →
+        ensures cells { (file : List ℕ) → IsLaidOn self.old file → cell_of object file ≡ record { id = lsn; value = bytes.items } →
             KeepsCells file self.old self.new × IsLaidOn self.new file }
         ensures fetched { lsn ≡ id_in self.old.slots object → IsFetched self.old self.new }
     {
@@ -72,6 +73,7 @@ impl Objects {
         ensures dirty { (y : ℕ) → is_dirty self.new.cache y ≡ ((y == object) || is_dirty self.old.cache y) }
         ensures laid { (file : List ℕ) → IsLaidOn self.old file → IsLaidOn self.new file }
     {
+        note_value(&mut self.empties, object, value.as_slice());
         self.cache.set(object, lsn, value.into_vec());
     }
 

@@ -2,23 +2,27 @@
 //!
 //! The one contract is [`Store`], to whose calls the machine is passed. What a call leaves on every machine is one record
 //! (`IsCall`, which follows from the records of calls that only read, or log in memory alone): time passes, no number is given
-//! again, the store stays attached to its files, and it is broken exactly if the disk failed. What it does to the world that
-//! the store shows is a course (`Takes`), a list of steps as a function of the world and of the log's length: all of them are
-//! taken, or as many as there is memory for, and a crash at any moment leaves the world after some first ones. Both go over
-//! two calls, one after the other, so the crates above describe each of their calls by those that it makes. specs/ says which
-//! world the parts of a store show (`Shows`; without a log `VolatileShows`).
+//! again, the store stays attached to its files, and it is broken exactly where a call was answered that the disk failed; the
+//! disk then counted that, and may count a fault too where a force succeeds (zeros that were refused). What it does to the
+//! world that the store shows is a course (`Takes`), a list of steps as a function of the world and of the log's length: all
+//! of them are taken, or as many as there is memory for, and a crash at any moment leaves the world after some first ones.
+//! Both go over two calls, one after the other, so the crates above describe each of their calls by those that it makes.
+//! specs/ says which world the parts of a store show (`Shows`; without a log `VolatileShows`).
 //!
 //! [`Objects`] holds what is cached: an object's identifier and value are those of the cache, or else those of its slot, and
-//! what was read and forgotten is read again, and is the same. An error says what can come: `ReadErr` of a call that reads,
-//! `RewriteErr` of a rewrite, `Failed` or `Memory` of one that fails by that alone, and [`StoreErr`] of the calls above that
-//! fail by either. The crate depends on log_records, stable_objects, dirty_cache and write_graph, of which a store is made, on
-//! standing and explain_core, which say what files and worlds are, and on formats for the numbers and the error of a reader.
+//! what was read and forgotten is read again, and is the same. The length of each value is known without a read, from the
+//! cache or the head of its slot, so `next_empty` finds the next empty object in memory alone. An error says what can come:
+//! `ReadErr` of a call that reads, `RewriteErr` of a rewrite, `Failed` or `Memory` of one that fails by that alone, and
+//! [`StoreErr`] of the calls above that fail by either. The crate depends on log_records, stable_objects, dirty_cache,
+//! number_lists and write_graph, of which a store is made, on standing and explain_core, which say what files and worlds are,
+//! and on formats for the numbers and the error of a reader.
 #![tactic(auto)]
 
 mod appending;
 mod cached;
 mod checks;
 mod commands;
+mod empties;
 mod entering;
 mod fault;
 mod fetching;

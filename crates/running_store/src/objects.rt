@@ -4,18 +4,20 @@ ghost use Rattle.disk_model.specs.Disk.{Files, Rises, Stays};
 ghost use Rattle.disk_model.specs.declared.machine.FileNo.TheVariants.{Objects as ObjectsFile};
 ghost use Rattle.formats.specs.Bytes.{IsOpenAt, IsClosedAt};
 ghost use Rattle.formats.specs.Reading.{FailsBy};
-ghost use Rattle.formats.specs.Objects.{IsInRange, IsObjectsFile, bounds_of, slot_place};
+ghost use Rattle.formats.specs.Objects.{IsInRange, IsObjectsFile, bounds_of};
 ghost use Rattle.formats.specs.declared.params.Params.{Params as Numbers};
 ghost use Rattle.stable_objects.specs.Reading.{FailsAt, IsDamagedAt, IsNoDamage, OpensNot};
-ghost use Rattle.stable_objects.specs.SlotsView.{IsLate};
+ghost use Rattle.stable_objects.specs.SlotsView.{IsLate, place_of};
 ghost use Rattle.oper_core.specs.State.{is_among};
 ghost use Rattle.dirty_cache.specs.Contents.{held, is_dirty, AreDirty, HasRoom};
 ghost use Rattle.running_store.specs.Fetched.{IsFetched};
 ghost use Rattle.running_store.specs.Laid.{IsLaidOn, values_in, id_at, with_chosen, with_entries};
 
+use crate::empties::empty_objects;
 use dirty_cache::Cache;
 use disk_model::Machine;
 use formats::Params;
+use number_lists::NumberTree;
 use oper_core::{Bounds, Memory, Values};
 use stable_objects::{OpenErr, Slots};
 use std::alloc::Global;
@@ -27,16 +29,19 @@ pub struct Objects {
     pub(crate) alloc: Global,
     pub(crate) slots: Slots,
     pub(crate) cache: Cache,
+    /// The objects whose values are empty.
+    pub(crate) empties: NumberTree,
 }
 
 impl Model for Objects {
-    ghost use Rattle.running_store.specs.Laid.{Laid, AreCached};
+    ghost use Rattle.running_store.specs.Laid.{Laid};
+    ghost use Rattle.running_store.specs.Lengths.{AreKept};
 
     ghost Value = { Laid };
 
     ghost view = { λ s. record { slots = s.slots; cache = s.cache } };
 
-    ghost invariant = { λ s. AreCached s.slots.params s.cache };
+    ghost invariant = { λ s. AreKept (record { slots = s.slots; cache = s.cache }) s.empties.marks };
 }
 
 impl Objects {
@@ -59,10 +64,12 @@ impl Objects {
     {
         let slots = Slots::load(alloc, machine)?;
         let cache = Cache::new(alloc, clean)?;
+        let empties = empty_objects(alloc, &slots)?;
         Ok(Objects {
             alloc,
             slots,
             cache,
+            empties,
         })
     }
 
@@ -89,7 +96,7 @@ impl Objects {
     /// The place in the objects file of the first identifier of an open slot that is `next` or more; none exactly where
     /// there is none.
     pub fn first_late(&self, next: u64) -> Option<u64>
-        ensures some { IfSome result (λ place. (x : ℕ) × (s : ℕ) × IsLate self.now.slots next x s × (place ≡ slot_place self.now.slots.params.cap x s + 1)
+        ensures some { IfSome result (λ place. (x : ℕ) × (s : ℕ) × IsLate self.now.slots next x s × (place ≡ place_of self.now.slots x s + 1)
             × ((y t : ℕ) → IsLate self.now.slots next y t → 2 * x + s ≤ 2 * y + t)) }
         ensures none { IfNone result ((x s : ℕ) → IsLate self.now.slots next x s → ⊥) }
     {
@@ -97,7 +104,7 @@ impl Objects {
     }
 
     /// The slots that the objects are read from.
-    pub(crate) fn slots(&self) -> &Slots
+    pub fn slots(&self) -> &Slots
         ensures { result.now ≡ self.now.slots }
     {
         &self.slots

@@ -21,7 +21,8 @@ use write_graph::WriteGraph;
 
 /// A running store: its log, its objects, and the graph of what is not installed.
 ///
-/// The machine is passed to each call. A store whose disk failed is broken, and no call is made on it any more.
+/// The machine is passed to each call. A store of which a call was answered that the disk failed is broken, and no call
+/// is made on it any more.
 #[derive(Drop)]
 pub struct Store<O: Oper> {
     pub(crate) alloc: Global,
@@ -103,7 +104,7 @@ impl<O: Oper> Store<O> {
         self.identities
     }
 
-    /// Whether a call on the disk failed.
+    /// Whether a call was answered that the disk failed.
     pub fn is_broken(&self) -> bool
         ensures { result ≡ self.now.broken }
     {

@@ -10,8 +10,8 @@ use Rattle.log_records.specs.RecordLog.{RecordLogView}
 use Rattle.stable_objects.specs.SlotsView.{SlotsView}
 use Rattle.explain_core.specs.History.Member.{Command}
 use Rattle.running_store.specs.Among.{small_bounds}
-use Rattle.running_store.specs.Commands.{IsLeft, IsReady}
-use Rattle.running_store.specs.Parts.{IsAppended, Parts, parts}
+use Rattle.running_store.specs.Commands.{HasPlaceBelow, IsCommanded, IsLeft, IsReady, command_length}
+use Rattle.running_store.specs.Parts.{IsAppended, Parts, meaning_in, parts}
 use Rattle.running_store.specs.StoreView.{IsUsable, StoreView, next_of, store_params, view_of}
 use Rattle.running_store.specs.Unchanged.{IsSameLog, IsUntaken}
 use Rattle.running_store.proofs.Commanded.{command_usable, left_usable}
@@ -75,6 +75,11 @@ invariant_of-self g c = λ fine. usable g (goal.at.invariant_of-self g c).After-
 pub invariant_of-self-in_err-make_room-2 : goal.invariant_of-self-in_err-make_room-2
 invariant_of-self-in_err-make_room-2 g c = λ fine. usable g (goal.at.invariant_of-self-in_err-make_room-2 g c).After-make_room c.self.inside.log c.make_room-2.new.self.entries refl c.make_room-2.ensures.same
 
+pub returns-in_err-make_room-2 : goal.returns-in_err-make_room-2
+returns-in_err-make_room-2 g c =
+    let q = err_from_is_err_and c.from_residual-in_err-make_room-2.result c.from_residual-in_err-make_room-2.ensures.1 in
+    rw (q.1) (refused g (goal.at.returns-in_err-make_room-2 g c).After-make_room c.self.inside.log c.make_room-2.new.self.entries refl c.make_room-2.ensures.same)
+
 pub invariant_of-self-in_err-code : goal.invariant_of-self-in_err-code
 invariant_of-self-in_err-code g c = λ fine. usable g (goal.at.invariant_of-self-in_err-code g c).After-make_room c.encode_command.new.self c.make_room-2.new.self.entries c.encode_command.ensures.kept c.make_room-2.ensures.same
 
@@ -99,3 +104,18 @@ invariant_of-self-2 g c = λ fine.
     let done : IsAppended (m g at) (before g at) after (Command c.args.op) made = search rules in
     command_usable (before g at) after c.self.inside.identities (used g at) (m g at) c.args.op made done
     (λ k d within. omega (arith, below g at k d within, (g.met.O.Oper.bounded (bounds_of c.self.inside.objects.slots.params)).objects)) (omega (arith, ap (λ (s : StoreView). next_of s) c.self.view_is, c.requires.place.number))
+
+pub returns : goal.returns
+returns g c =
+    let at = (goal.at.returns g c).After-make_room in
+    let after = parts c.append_encoded.new.self c.set_values.new.self c.add.new.self.entries in
+    let done : IsAppended (m g at) (before g at) after (Command c.args.op) ((m g at).effect c.args.op c.args.values) = search rules in
+    subst (λ (s : StoreView). IsCommanded g.O.Oper.meaning s (view_of c.append_encoded.new.self c.set_values.new.self c.add.new.self.entries c.self.inside.identities c.self.inside.broken) c.args.op c.args.values) c.self.view_is (record {
+      ready = ready g at;
+      place = subst (λ (s : StoreView). HasPlaceBelow (store_params s).limit s.parts.log (command_length (meaning_in g.O.Oper.meaning (store_params s)) c.args.op)) (sym c.self.view_is) c.requires.place;
+      bounds = (used g at).in_use.bounds;
+      appended = done;
+      laid = λ file laid. c.set_values.ensures.laid file (c.make_room.ensures.laid file laid);
+      counted = refl;
+      flag = refl;
+    })

@@ -1,9 +1,11 @@
-use Rattle.std.proofs.Common.{rules, ◌≡◌, ◌==◌, ◌<◌, ◌+◌, ◌∙◌, ◌∷◌, [], Some, ap, arith, if◌then◌else◌, length, refl, subst, sym, true}
+use Rattle.std.proofs.Common.{rules, Bool, true, false, ◌||◌, ◌≡◌, ◌==◌, ◌<◌, ◌+◌, ◌∙◌, ◌∷◌, [], Some, ap, arith, if◌then◌else◌, length, refl, subst, sym}
 use Rattle.std.specs.Prelude.{◌^◌}
 use Rattle.dirty_cache.specs.Contents.{held, is_dirty}
 use Rattle.dirty_cache.specs.declared.entry.Entry.{Entry as Pair}
 use Rattle.explain_core.specs.History.Member.{Identity}
+use Rattle.running_store.specs.Courses.{identity_length}
 use Rattle.running_store.specs.InUse.{dirty_held}
+use Rattle.running_store.specs.Logged.{HasPlace}
 use Rattle.running_store.specs.Parts.{IsAppended, Parts, parts}
 use Rattle.running_store.specs.StoreView.{IsUsable, StoreView, next_of, view_of}
 use Rattle.running_store.specs.Writes.{IsWritten}
@@ -13,6 +15,10 @@ use Rattle.running_store.proofs.SetLemmas.{entries_cons, entry_of}
 use Rattle.running_store.proofs.store.Store.append_identity.Given.{Over}
 use Rattle.running_store.proofs.store.Store.append_identity.Goals.{After-add}
 use Rattle.running_store.proofs.store.Store.append_identity.Goals as goal
+
+alone : (b : Bool) → b ≡ (b || false)
+alone true = refl
+alone false = refl
 
 module _ (g : Over) (c : After-add g) where
   abbrev before : Parts
@@ -44,9 +50,27 @@ module _ (g : Over) (c : After-add g) where
         held = λ y.
             let number : c.next-number.result ≡ c.self.inside.log.next = search rules in
             c.set.ensures.entries y ∙ (λ i. if y == c.args.x then Some (entry_of (number i) (bytes i)) else held objects.cache y) ∙ sym (entries_cons c.self.inside.log.next (held objects.cache) c.args.x [] pair.0.bytes [] y);
-        dirty = λ y. search rules;
+        dirty = λ y. c.set.ensures.dirty y ∙ ap (λ (b : Bool). b || is_dirty objects.cache y) (alone (y == c.args.x));
         entries = search rules;
       }
+
+pub append-requires-clause-short : goal.append-requires-clause-short
+append-requires-clause-short g c =
+    let objects = c.self.inside.objects in
+    let dirty = ap (λ (s : StoreView). is_dirty s.parts.volatile.objects.cache c.args.x) c.self.view_is ∙ c.requires.dirty in
+    let found = dirty_held objects.cache c.args.x dirty in
+    let place = subst (λ (s : StoreView). (pair : Pair) → held s.parts.volatile.objects.cache c.args.x ≡ Some pair → HasPlace s.parts.log.log (identity_length (length pair.bytes))) (sym c.self.view_is) c.requires.place found.0 found.1 in
+    let first : c.new-2.result ≡ found.0.bytes = search rules ∙ value_cached objects c.args.x found.0 c.value.result.now found.1 c.value.ensures.value in
+    omega (arith, ap length first, place.block)
+
+pub append-requires-clause-place : goal.append-requires-clause-place
+append-requires-clause-place g c =
+    let objects = c.self.inside.objects in
+    let dirty = ap (λ (s : StoreView). is_dirty s.parts.volatile.objects.cache c.args.x) c.self.view_is ∙ c.requires.dirty in
+    let found = dirty_held objects.cache c.args.x dirty in
+    let place = subst (λ (s : StoreView). (pair : Pair) → held s.parts.volatile.objects.cache c.args.x ≡ Some pair → HasPlace s.parts.log.log (identity_length (length pair.bytes))) (sym c.self.view_is) c.requires.place found.0 found.1 in
+    let first : c.new-2.result ≡ found.0.bytes = search rules ∙ value_cached objects c.args.x found.0 c.value.result.now found.1 c.value.ensures.value in
+    omega (arith, ap length first, place.file)
 
 pub invariant_of-self-2 : goal.invariant_of-self-2
 invariant_of-self-2 g c = λ fine.

@@ -1,5 +1,5 @@
 use Rattle.std.proofs.Common.{◌≡◌, ◌⊎◌, ◌∙◌, ap, sym, subst, Bool, List, ℕ, Option, Some, None, Ok, true, false, nat_eq}
-use Rattle.std.specs.Prelude.{◌≢◌, OnOk, Result}
+use Rattle.std.specs.Prelude.{length, OnErr, OnOk, Result}
 use Rattle.disk_model.specs.Disk.{Disk, IsSettled, LeavesOnly}
 use Rattle.disk_model.specs.declared.machine.FileNo.TheVariants.{Objects}
 use Rattle.formats.specs.Objects.{bounds_of}
@@ -8,8 +8,8 @@ use Rattle.dirty_cache.specs.Contents.{Contents, IsSameOrForgotten, cell_of_entr
 use Rattle.dirty_cache.specs.declared.entry.Entry.{Entry as Pair}
 use Rattle.install_order.specs.declared.entry.Entry.{Entry}
 use Rattle.log_records.specs.RecordLog.{RecordLogView}
-use Rattle.stable_objects.specs.Replacing.{IsOldOrNew, IsReplaced}
-use Rattle.stable_objects.specs.SlotsView.{AreOf, id_in}
+use Rattle.stable_objects.specs.Replacing.{IsOldOrNew, IsRenewed, IsReplaced}
+use Rattle.stable_objects.specs.SlotsView.{AreOf}
 use Rattle.explain_core.specs.TurnLaws.{run_none}
 use Rattle.explain_core.specs.World.{World, Step, run}
 use Rattle.standing.specs.Moments.{TakesSome}
@@ -18,12 +18,13 @@ use Rattle.running_store.specs.Faults.{has_failed}
 use Rattle.running_store.specs.Flushed.{IsFlushed}
 use Rattle.running_store.specs.InUse.{dirty_held, none_some}
 use Rattle.running_store.specs.Laid.{Laid, lsn_or}
+use Rattle.running_store.specs.Lengths.{AreKept}
 use Rattle.running_store.specs.Parts.{VolatileShows, meaning_in, parts}
 use Rattle.running_store.specs.Stored.{stays_shown}
 use Rattle.running_store.specs.StoreView.{IsUsable, StoreView, view_of}
 use Rattle.running_store.proofs.FlushLemmas.{EndsFlush, first_dirty, flush_ends, flush_none, flush_taken}
 use Rattle.running_store.proofs.Inside.{flag_after, usable_before}
-use Rattle.running_store.proofs.LaidLemmas.{cached_flushed}
+use Rattle.running_store.proofs.LaidLemmas.{kept_failed, kept_flushed}
 use Rattle.running_store.proofs.store.Store.flush.Given.{Over}
 use Rattle.running_store.proofs.store.Store.flush.Goals.{After-note}
 use Rattle.running_store.proofs.store.Store.flush.Goals as goal
@@ -86,11 +87,18 @@ module _ (g : Over) (c : After-note g) where
     done : (P : Type 0) → OnOk c.replace-answer.result P → P
     done P is = subst (λ (r : Result _ _). OnOk r P) was is
 
+    renewed : IsRenewed objects.slots later.slots x pair.lsn (length pair.bytes)
+    renewed = subst (λ (bytes : List ℕ). IsRenewed objects.slots later.slots x pair.lsn (length bytes)) c.as_slice.ensures (done _ c.replace-answer.ensures.renewed)
+
+    kept : AreKept later c.self-inside.inside.0.1.1.0.empties.marks
+    kept =
+        kept_flushed objects later.slots c.replace-answer.ensures.layout c.self-inside.inside.0.1.1.0.empties.marks c.self-inside.invariant cache x pair had dirty renewed.long_is renewed.other_lengths entry clean others
+
     flushed : IsFlushed objects later x
     flushed = record {
-      params = c.replace-answer.ensures.params;
-      id = λ other there. done (id_in later.slots x ≡ pair.lsn) c.replace-answer.ensures.id ∙ ap (λ (o : Option Pair). lsn_or o 0) (sym had ∙ there);
-      other_ids = done ((y : ℕ) → y ≢ x → id_in later.slots y ≡ id_in objects.slots y) c.replace-answer.ensures.other_ids;
+      layout = c.replace-answer.ensures.layout;
+      id = λ other there. renewed.id_is ∙ ap (λ (o : Option Pair). lsn_or o 0) (sym had ∙ there);
+      other_ids = renewed.other_ids;
       entry = entry;
       clean = clean;
       others = others;
@@ -109,7 +117,7 @@ module _ (g : Over) (c : After-note g) where
     ends : EndsFlush g.O.Oper.meaning old new c.args.self.now (view_of log later entries identities c.note.new.broken) c.args.work.now
     ends =
         flush_ends g.O.Oper.meaning old new log objects entries identities broken c.args.self.now is x pair c.args.work.now (sym c.in-Some.ensures.value) had c.note.new.broken later unset used dirty c.replace-answer.ensures.runs flushed
-        (λ settled. done (IsSettled new) (c.replace-answer.ensures.settled settled)) replaced (λ y other there. (c.self-inside.invariant.each y other there).0) c.slot_gate_keeps.ensures
+        (λ settled. done (IsSettled new) (c.replace-answer.ensures.settled settled)) replaced (λ y other there. (c.self-inside.invariant.cached.each y other there).0) c.slot_gate_keeps.ensures
 
 pub returns-in_default-clause-shows : goal.returns-in_default-clause-shows
 returns-in_default-clause-shows g c = λ p w node shows allowed.
@@ -146,10 +154,15 @@ mark_clean-requires g c =
     (λ i. is_dirty (c.self-inside.view_is i).objects.cache x) ∙ ap (λ (s : StoreView). is_dirty s.parts.volatile.objects.cache x) c.self.view_is
     ∙ first_dirty c.args.self.now.parts.volatile.objects.cache x c.args.work.now (sym c.in-Some.ensures.value) c.requires.dirty
 
+pub invariant_of-self-inside : goal.invariant_of-self-inside
+invariant_of-self-inside g c =
+    kept_failed (record { slots = c.self-inside.inside.0.1.1.0.slots; cache = c.self-inside.inside.0.1.1.0.cache }) c.replace-answer.new.self c.replace-answer.ensures.layout c.self-inside.inside.0.1.1.0.empties.marks c.self-inside.invariant
+    (subst (λ (r : Result _ _). OnErr r (c.replace-answer.new.self.lengths ≡ c.self-inside.inside.0.1.1.0.slots.lengths)) c.in_err-answer.was c.replace-answer.ensures.lengths)
+
 pub invariant_of-self-inside-2 : goal.invariant_of-self-inside-2
 invariant_of-self-inside-2 g c =
-    cached_flushed c.self-inside.inside.0.1.1.0.slots.params c.replace-answer.new.self.params c.self-inside.inside.0.1.1.0.cache c.mark_clean.new.self c.in-Some.x.now c.replace-answer.ensures.params c.self-inside.invariant
-    c.mark_clean.ensures.entry c.mark_clean.ensures.others
+    let clean = c.mark_clean.ensures in
+    kept g (goal.at.invariant_of-self-inside-2 g c).After-note c.in_ok-answer.field-0 c.in_ok-answer.was c.mark_clean.new.self clean.entry clean.clean clean.others
 
 pub invariant_of-self-2 : goal.invariant_of-self-2
 invariant_of-self-2 g c = λ fine.
