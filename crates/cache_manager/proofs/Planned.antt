@@ -264,6 +264,6 @@ lengths_shown m p d it w shows (x ∷ work) all =
     let P : ℕ → Type 0 = λ y. is_dirty it.volatile.objects.cache y ≡ true in
     let found = dirty_held it.volatile.objects.cache x (All-head P x work all) in
     let file = d.reads Objects in
-    let value = ap (λ (o : Option Pair). (cell_or o (cell_of it.volatile.objects.slots.params.cap x file)).value) found.1 ∙ ap (λ (c : Cell). c.value) (sym (cached_shown m p file it.volatile w shows.store x found.0 found.1)) in
+    let value = ap (λ (o : Option Pair). (cell_or o (cell_of x file)).value) found.1 ∙ ap (λ (c : Cell). c.value) (sym (cached_shown m p file it.volatile w shows.store x found.0 found.1)) in
     let rest = lengths_shown m p d it w shows work (All-tail P x work all) in
     λ i. length (value i) ∷ rest i

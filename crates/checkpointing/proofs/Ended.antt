@@ -44,7 +44,7 @@ module _ {O : Type 0} (meaning : Bounds → Meaning O) (old new : Disk) (before 
   pub call_ends : (one other : Ending) → (IsFailed one → ⊥) → (IsFailed other → ⊥) → IsStoppedBy (then after.parts.log) other → IsCall meaning old new before after 0 stops one → IsCall meaning old new before after 0 then other
   call_ends one other first last so is = record {
     quiet = is.quiet;
-    params = is.params;
+    layout = is.layout;
     rising = is.rising;
     identities = is.identities;
     settled = ⊎_elim (λ failed. absurd (first failed)) (λ kept. inr kept) is.settled;

@@ -99,7 +99,7 @@ in_log : (objects base : ℕ) (s : ℕ × ℕ) → is_in_log objects base s ≡ 
 in_log objects base s is = let parts = and_parts (nat_lt s.0 objects) (nat_le base s.1) is in (ltb-true s.0 objects parts.0, leb-true base s.1 parts.1)
 
 -- a check of the starts that are kept is right in its place
-module _ {O : Type 0} (m : Meaning O) (log : RecordLogView) (entries : List Entry) (objects : ℕ) (starts : List (ℕ × ℕ)) (there : m.objects ≡ objects) (short : objects ≤ 4096) (low : log.next ≤ 2 ^ 62) (ahead : log.log.header.base ≤ log.next)
+module _ {O : Type 0} (m : Meaning O) (log : RecordLogView) (entries : List Entry) (objects : ℕ) (starts : List (ℕ × ℕ)) (there : m.objects ≡ objects) (short : objects ≤ 65535) (low : log.next ≤ 2 ^ 62) (ahead : log.log.header.base ≤ log.next)
     (above : All (λ n. n < log.next) (numbers entries)) (lists : Lists (IsWritten (accesses entries)) (firsts starts)) (least : All (λ s. IsLeast (IsWriter (accesses entries) s.0) s.1) starts) where
   abbrev base : ℕ
   base = log.log.header.base
@@ -126,7 +126,7 @@ module _ {O : Type 0} (m : Meaning O) (log : RecordLogView) (entries : List Entr
   before = All-filter (is_in_log objects base) (λ (s : ℕ × ℕ). s.1 < log.next) starts
       (All-weaker (λ (s : ℕ × ℕ). IsLeast (IsWriter (accesses entries) s.0) s.1) (λ (s : ℕ × ℕ). s.1 < log.next) (λ s is. writer_below log.next entries s.1 s.0 is.0 above) starts least)
 
-  count : length kept ≤ 4096
+  count : length kept ≤ 65535
   count = omega (arith, few_below m.objects (firsts kept) rises (firsts_below m.objects kept below), length-map kept (λ (s : ℕ × ℕ). s.0), there, short)
 
   bytes : length (record_code m (Logged_check table)) ≡ 13 + 12 * length kept

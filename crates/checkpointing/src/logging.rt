@@ -16,7 +16,7 @@ use running_store::{Store, StoreErr};
 
 /// How many bytes the record of a check has.
 fn check_bytes(table: &Table) -> u64
-    requires { length table.now.starts ≤ 4096 }
+    requires { length table.now.starts ≤ 65535 }
     ensures { result ≡ 13 + 12 * length table.now.starts }
 {
     (CHECK_HEAD + START_BYTES * table.starts.as_slice().len()) as u64

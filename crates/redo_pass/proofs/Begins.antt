@@ -60,8 +60,8 @@ module _ {O : Type 0} (m : Meaning O) (p : Params) (file : List ℕ) (it : Volat
   pub id_shown : (x : ℕ) → x < p.objects → id_at it.objects x ≡ (w.cache x).id
   id_shown x below =
       let here : x < it.objects.slots.params.objects = subst (λ (q : Params). x < q.objects) (sym shows.params) below in
-      let cell : cell_of it.objects.slots.params.cap x file ≡ stored p file x =
-      ap (λ (q : Params). cell_of q.cap x file) shows.params ∙ sym (cond-true (nat_lt x p.objects) (cell_of p.cap x file) (record { id = 0; value = [] }) (lt-ltb x p.objects below)) in
+      let cell : cell_of x file ≡ stored p file x =
+      sym (cond-true (nat_lt x p.objects) (cell_of x file) (record { id = 0; value = [] }) (lt-ltb x p.objects below)) in
       id_told file it.objects x shows.laid here
       ∙ ap (λ (c : Cell). (cell_or (held it.objects.cache x) c).id) cell
       ∙ ap (λ (c : Cell). c.id) (shows.cache x)

@@ -12,6 +12,7 @@ use Rattle.oper_core.specs.declared.bounds.Bounds.{Bounds}
 use Rattle.formats.specs.Objects.{bounds_of}
 use Rattle.formats.specs.Reading.{FailsBy}
 use Rattle.formats.specs.Records.{IsRecord, Rise}
+use Rattle.formats.specs.declared.layout.Layout.{Layout}
 use Rattle.formats.specs.declared.params.Params.{Params}
 use Rattle.formats.specs.declared.read_err.ReadErr.{ReadErr}
 use Rattle.formats.specs.declared.record.Record.{Record}
@@ -20,7 +21,7 @@ use Rattle.log_records.specs.NumberedLaws.{given_first, given_all, given_rise, l
 use Rattle.log_records.specs.NumberedReader.{NumberedReaderView, IsReadingNumbered, AreAllNumbered, HasGiven}
 use Rattle.log_records.specs.RecordLog.{RecordLogView, Keeps}
 use Rattle.log_records.specs.Rewriting.{numbered_from}
-use Rattle.stable_objects.specs.SlotsView.{SlotsView}
+use Rattle.stable_objects.specs.SlotsView.{SlotsView, layout_of}
 use Rattle.dirty_cache.specs.Contents.{held}
 use Rattle.install_order.specs.declared.entry.Entry.{Entry}
 use Rattle.write_graph.specs.Graph.{numbers}
@@ -168,7 +169,7 @@ module _ {O : Type 0} {meaning : Bounds → Meaning O} {limit : ℕ} {plan : Pla
       never = λ told is.
           let laid = part_laid done.part told (record { slots = is; clean = λ x e clean had. let h : None ≡ Some e = sym (none x) ∙ had in cc }) in
           long_untold now.parts.volatile.objects.slots long.object file place kept (done.part.objects.runs.time.files_told.0 told) laid.slots long.slot;
-      params = ap (λ (s : SlotsView). s.params) same ∙ done.part.call.params;
+      layout = ap layout_of same ∙ done.part.call.layout;
       object = long.object;
       long = subst (λ (s : SlotsView). IsLongSlot next s long.object file place) (sym same) long.slot;
     }
@@ -233,7 +234,7 @@ module _ {O : Type 0} {meaning : Bounds → Meaning O} {limit : ℕ} {plan : Pla
   module _ {mid : Disk} {now : StoreView} {reader : NumberedReaderView} {given : List (Record O)} (r : Record O) (is : IsAt meaning limit plan first old mid now reader given (given ++ r ∷ [])) (used : ArePartsInUse first.parts) where
     -- it is of the grammar, and its number is above those before
     pub next_in_grammar : IsRecord (meaning (bounds_of (store_params now))) r
-    next_in_grammar = subst (λ (q : Params). IsRecord (meaning (bounds_of q)) r) (sym is.so_far.part.call.params)
+    next_in_grammar = subst (λ (l : Layout). IsRecord (meaning (bounds_of l.params)) r) (sym is.so_far.part.call.layout)
         (subst (λ (b : Bounds). IsRecord (meaning b) r) (is.bounds ∙ used.bounds) (last_in_grammar (meaning reader.records.bounds) mid first.parts.log reader given r is.reading))
 
     rising : Rise (reached 0 given) (next_of first) (r ∷ [])

@@ -11,7 +11,7 @@ use Rattle.oper_core.specs.declared.bounds.Bounds.{Bounds}
 use Rattle.formats.specs.declared.read_err.ReadErr.{ReadErr}
 use Rattle.install_order.specs.declared.entry.Entry.{Entry}
 use Rattle.log_records.specs.RecordLog.{RecordLogView}
-use Rattle.stable_objects.specs.SlotsView.{SlotsView}
+use Rattle.stable_objects.specs.SlotsView.{SlotsView, layout_of}
 use Rattle.write_graph.specs.Graph.{numbers}
 use Rattle.running_store.specs.Beside.{IsOnObjects, objects_fetch, objects_twice}
 use Rattle.running_store.specs.Calls.{IsCall, IsFailed, Never, call_twice, ending_of_read}
@@ -119,7 +119,7 @@ module _ {O : Type 0} (meaning : Bounds → Meaning O) {old new : Disk} {before 
       record {
         call = record {
           quiet = call.quiet;
-          params = ap (λ (s : SlotsView). s.params) set.slots ∙ call.params;
+          layout = ap layout_of set.slots ∙ call.layout;
           rising = omega (arith, call.rising, ap (λ (l : RecordLogView). l.next) set.log);
           identities = omega (arith, call.identities, set.identities);
           settled = call.settled;

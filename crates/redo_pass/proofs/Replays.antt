@@ -143,7 +143,7 @@ module _ {O : Type 0} (m : Meaning O) (p : Params) (file : List ℕ) (before aft
       slots = subst (λ s. AreOf s file) (sym it.slots) shows.laid.slots;
       clean = λ y pair clean had. elim (cases_Bool (is_redone m w y)) [
         | inl set ↦ absurd (both_ways _ clean (dirty_set y set))
-        | inr left ↦ ap (λ s. cell_of s.params.cap y file) it.slots ∙ shows.laid.clean y pair (sym (dirty_left y left) ∙ clean) (sym (held_left y left) ∙ had)
+        | inr left ↦ ap (λ s. cell_of y file) it.slots ∙ shows.laid.clean y pair (sym (dirty_left y left) ∙ clean) (sym (held_left y left) ∙ had)
       ];
     };
     below = λ y pair had. elim (cases_Bool (is_redone m w y)) [

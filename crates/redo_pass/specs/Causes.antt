@@ -6,14 +6,14 @@ use Rattle.disk_model.specs.declared.machine.FileNo.TheVariants.{Objects}
 use Rattle.oper_core.specs.Meaning.{Meaning}
 use Rattle.log_frames.specs.LogView.{LogView}
 use Rattle.log_records.specs.Loading.{IsTailFault}
-use Rattle.stable_objects.specs.SlotsView.{SlotsView, AreOf}
+use Rattle.stable_objects.specs.SlotsView.{SlotsView, AreOf, layout_of}
 use Rattle.running_store.specs.LongSlot.{IsLongSlot}
 
 -- A slot is damaged: never on a machine that reports its files, where the slots before were those of the file. On each machine
--- it is the slot of some object, by the slots after, and its value is too long; the store's numbers are as they were.
+-- it is the slot of some object, by the slots after, and its value is too long; the slots stand where they stood.
 pub record IsSlotFault (old new : Disk) (before after : SlotsView) (file : FileNo) (place : ℕ) : Type 0 where
   pub never : old.tells_files → AreOf before (old.reads Objects) → ⊥
-  pub params : after.params ≡ before.params
+  pub layout : layout_of after ≡ layout_of before
   pub object : ℕ
   pub long : IsLongSlot new after object file place
 

@@ -12,9 +12,9 @@ use Rattle.oper_core.specs.Meaning.{Meaning, HasBounds, IsSmall, IsLawful}
 use Rattle.oper_core.specs.declared.bounds.Bounds.{Bounds}
 use Rattle.formats.specs.Bytes.{IsOpenAt}
 use Rattle.formats.specs.Log.{Header}
-use Rattle.formats.specs.Objects.{IsInRange, IsObjectsFile, bounds_of, slot_place}
+use Rattle.formats.specs.Objects.{params_in, IsInRange, IsObjectsFile, bounds_of}
 use Rattle.formats.specs.FirstFault.{IsDamaged, AreObjectsWhole, at_objects, at_logs, at_record, at_late_slot}
-use Rattle.formats.specs.Image.{params_in, IsRecordFault, IsLateSlot}
+use Rattle.formats.specs.Image.{IsRecordFault, IsLateSlot}
 use Rattle.formats.specs.Reading.{FailsBy, TellsDamage}
 use Rattle.formats.specs.Records.{AreRecords, last_check, payload_of, records_of, next_after, HoldsRecordLog}
 use Rattle.formats.specs.declared.params.Params.{Params}
@@ -24,8 +24,8 @@ use Rattle.formats.specs.declared.record.Record.{Record}
 use Rattle.log_frames.specs.Reading.{fails_on}
 use Rattle.stable_objects.specs.Laws.{one_store, params_of_file, gate_is_open}
 use Rattle.stable_objects.specs.Reading.{FailsAt, IsDamagedAt, IsNoDamage, OpensNot, open_from_read}
-use Rattle.stable_objects.specs.SlotLaws.{none_late, late_slot, is_late}
-use Rattle.stable_objects.specs.SlotsView.{SlotsView, IsLate}
+use Rattle.stable_objects.specs.SlotLaws.{none_late, late_slot, is_late, place_of_file}
+use Rattle.stable_objects.specs.SlotsView.{SlotsView, IsLate, place_of}
 use Rattle.stable_objects.specs.declared.open_err.OpenErr.{OpenErr}
 use Rattle.stable_objects.specs.declared.open_err.OpenErr.TheVariants as of_opening
 use Rattle.dirty_cache.specs.Contents.{held}
@@ -95,7 +95,7 @@ whole_objects q files is = subst (λ (p : Params). IsObjectsFile p (files Object
 -- The place is that of the identifier of the first open slot that has this number or a later one.
 abbrev pub IsLateAt : SlotsView → ℕ → ℕ → Type 0
 IsLateAt slots next place =
-    (x : ℕ) × (s : ℕ) × IsLate slots next x s × (place ≡ slot_place slots.params.cap x s + 1) × ((y t : ℕ) → IsLate slots next y t → 2 * x + s ≤ 2 * y + t)
+    (x : ℕ) × (s : ℕ) × IsLate slots next x s × (place ≡ place_of slots x s + 1) × ((y t : ℕ) → IsLate slots next y t → 2 * x + s ≤ 2 * y + t)
 
 pub holder_two : (b : Bool) → (if b then 1 else 0) < 2
 holder_two true = omega arith
@@ -239,7 +239,7 @@ module _ {O : Type 0} (meaning : Bounds → Meaning O) where
             here = same ∙ log.next_is;
           };
           late = slot.1;
-          here = at.3 ∙ ap (λ (q : Params). slot_place q.cap at.0 at.1 + 1) (sym params);
+          here = at.3 ∙ ap (λ (n : ℕ). n + 1) (place_of_file objects.slots file at.0 at.1 laid.slots);
         }
 
     pub late_fails : (next place : ℕ) → next ≡ view.next → IsLateAt objects.slots next place → (files : Files) → last.agrees files → IsDamaged meaning files Objects place

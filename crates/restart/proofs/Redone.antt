@@ -11,6 +11,7 @@ use Rattle.formats.specs.Log.{Header}
 use Rattle.formats.specs.Objects.{bounds_of, slot_place}
 use Rattle.formats.specs.Reading.{FailsBy}
 use Rattle.formats.specs.Records.{IsRecordLog, payload_of, records_of}
+use Rattle.formats.specs.declared.layout.Layout.{Layout}
 use Rattle.formats.specs.declared.params.Params.{Params}
 use Rattle.formats.specs.declared.read_err.ReadErr.{ReadErr}
 use Rattle.formats.specs.declared.record.Record.{Record}
@@ -34,6 +35,7 @@ use Rattle.standing.specs.Members.{members_of, tables_in}
 use Rattle.standing.specs.Moments.{TakesSome, moments_longer, moments_twice}
 use Rattle.standing.specs.Standing.{FilesShow}
 use Rattle.analysis_pass.specs.Analysis.{PlanView, plan_table, least_start}
+use Rattle.stable_objects.specs.SlotLaws.{place_of_file}
 use Rattle.running_store.specs.Beside.{IsOnObjects}
 use Rattle.running_store.specs.Calls.{IsCall, Never}
 use Rattle.running_store.specs.Courses.{Course}
@@ -223,10 +225,11 @@ module _ {O : Type 0} (meaning : Bounds → Meaning O) (bounded : (b : Bounds) �
         others = was.2.others;
         file_is = long.file_is;
         object = x;
-        below = subst (λ (p : Params). x < p.objects) slot.params long.below;
+        below = subst (λ (l : Layout). x < l.params.objects) slot.layout long.below;
         slot = s;
         two = holder_two (nat_lt (head after.volatile.objects.slots x 0) (head after.volatile.objects.slots x 1));
-        long = subst (λ (p : Params). IsLongValue p.cap (slot_place p.cap x s) (files Objects) place) slot.params (long.long files agrees);
+        long = subst (λ (at : ℕ). IsLongValue it.volatile.objects.slots.params.cap at (files Objects) place) (place_of_file it.volatile.objects.slots (was.0 Objects) x s is.laid.slots)
+            (subst (λ (l : Layout). IsLongValue l.params.cap (slot_place l x s) (files Objects) place) slot.layout (long.long files agrees));
       }))
       (λ tail. absurd (no_tail was.0 files is (was.2.others it.log.log.active is.file.in_force.a_log) agrees tail))
       found.fault

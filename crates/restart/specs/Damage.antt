@@ -7,7 +7,7 @@ use Rattle.oper_core.specs.Meaning.{Meaning}
 use Rattle.oper_core.specs.declared.bounds.Bounds.{Bounds}
 use Rattle.formats.specs.Bytes.{IsClosedAt}
 use Rattle.formats.specs.FirstFault.{IsDamaged}
-use Rattle.formats.specs.Objects.{slot_place}
+use Rattle.formats.specs.Objects.{place_in}
 use Rattle.stable_objects.specs.Reading.{IsLongValue}
 use Rattle.stable_objects.specs.declared.open_err.OpenErr.{OpenErr}
 use Rattle.stable_objects.specs.declared.open_err.OpenErr.TheVariants.{NotAStore, Damaged}
@@ -27,7 +27,7 @@ pub record IsDamagedSince {O : Type 0} (meaning : Bounds → Meaning O) (old : D
   pub below : object < formed.params.objects
   pub slot : ℕ
   pub two : slot < 2
-  pub long : IsLongValue formed.params.cap (slot_place formed.params.cap object slot) (files Objects) place
+  pub long : IsLongValue formed.params.cap (place_in (loaded Objects) object slot) (files Objects) place
 
 -- Each of the files that agree with what was read either is damaged at this place, by the first check that fails, or has a
 -- length here that is too great while it differs at most in the objects file from files that met their format. The second is

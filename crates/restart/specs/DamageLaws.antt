@@ -7,15 +7,16 @@ use Rattle.oper_core.specs.Meaning.{Meaning, HasBounds, IsSmall, IsLawful}
 use Rattle.oper_core.specs.declared.bounds.Bounds.{Bounds}
 use Rattle.formats.specs.Bytes.{IsOpenAt}
 use Rattle.formats.specs.FirstFault.{AreObjectsWhole, IsFirstFault, at_objects, at_logs, at_record, at_late_slot, IsFirstLateSlot}
-use Rattle.formats.specs.Image.{params_in, IsFault, IsRecordFault, IsLateSlot, NextIs, in_objects, in_log, in_record, in_late_slot}
+use Rattle.formats.specs.Image.{IsFault, IsRecordFault, IsLateSlot, NextIs, in_objects, in_log, in_record, in_late_slot}
 use Rattle.formats.specs.InForce.{IsInForce, HasHeader}
 use Rattle.formats.specs.Log.{Header}
-use Rattle.formats.specs.Objects.{IsInRange, bounds_of, slot_place, identifier_at}
+use Rattle.formats.specs.Objects.{params_in, IsInRange, bounds_of, place_in, identifier_at, layout_in}
 use Rattle.formats.specs.Records.{payload_of, records_of, next_after, HoldsRecordLog}
 use Rattle.formats.specs.declared.params.Params.{Params}
 use Rattle.log_frames.specs.Laws.{first_is_log_fault, no_first_log_fault, one_log_fault, one_place, one_active}
 use Rattle.log_records.specs.CodecLaws.{HasCodes, has_codes}
 use Rattle.log_records.specs.Uniqueness.{log_of, one_records, no_record_fault, one_record_fault, broken_log}
+use Rattle.stable_objects.specs.SlotGates.{slot_gate}
 use Rattle.stable_objects.specs.Laws.{params_of_file, first_is_fault, no_first_fault, one_objects_fault}
 use Rattle.running_store.specs.Parts.{meaning_in}
 use Rattle.restart.specs.WellFormed.{IsWellFormed}
@@ -34,7 +35,7 @@ one_late_slot m files p q codes a b =
     let low = a.first b.late.x b.late.s b.late.slot (omega (arith, next, b.late.late)) in
     let high = b.first a.late.x a.late.s a.late.slot (omega (arith, next, a.late.late)) in
     let same : 2 * a.late.x + a.late.s ≡ 2 * b.late.x + b.late.s = omega (arith, low, high) in
-    a.late.here ∙ ap (λ (n : ℕ). 32 + n * (13 + (params_in file).cap) + 1) same ∙ sym b.late.here
+    a.late.here ∙ ap (λ (n : ℕ). slot_gate (layout_in file) n + 1) same ∙ sym b.late.here
 
 -- the first check that fails is a fault of the files
 pub is_fault : {O : Type 0} (meaning : Bounds → Meaning O) (files : Files) (file : FileNo) (place : ℕ) → IsFirstFault meaning files file place → IsFault meaning files file place
@@ -58,7 +59,7 @@ module _ {O : Type 0} (meaning : Bounds → Meaning O) (bounded : (b : Bounds) �
       let next = late.next_is in
       let own = subst (λ (q : Params). HoldsRecordLog (meaning_in meaning q) next.active next.header next.groups files) same next.log in
       let logs = one_records (meaning_in meaning image.params) (codes_in image.params image.objects.in_range) next.active image.active next.header image.header next.groups image.groups files own image.log in
-      let none = subst (λ (q : Params). (x s : ℕ) → x < q.objects → s < 2 → IsOpenAt (slot_place q.cap x s) file → identifier_at (slot_place q.cap x s) file < next_after image.header.base (records_of image.groups)) (sym same) image.none_late in
+      let none = subst (λ (q : Params). (x s : ℕ) → x < q.objects → s < 2 → IsOpenAt (place_in file x s) file → identifier_at (place_in file x s) file < next_after image.header.base (records_of image.groups)) (sym same) image.none_late in
       let below = none late.x late.s late.slot.below late.slot.two late.slot.open_gate in
       let same_next : next_after next.header.base (records_of next.groups) ≡ next_after image.header.base (records_of image.groups) = λ i. next_after (logs.1 i).base (logs.2 i) in
       omega (arith, below, late.late, next.here, same_next)

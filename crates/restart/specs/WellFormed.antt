@@ -7,7 +7,7 @@ use Rattle.oper_core.specs.Meaning.{Meaning}
 use Rattle.oper_core.specs.declared.bounds.Bounds.{Bounds}
 use Rattle.formats.specs.Bytes.{IsOpenAt}
 use Rattle.formats.specs.Log.{Header}
-use Rattle.formats.specs.Objects.{bounds_of, slot_place, identifier_at, IsObjectsFile}
+use Rattle.formats.specs.Objects.{bounds_of, place_in, identifier_at, IsObjectsFile}
 use Rattle.formats.specs.Records.{HoldsRecordLog, records_of, next_after}
 use Rattle.formats.specs.declared.params.Params.{Params}
 use Rattle.formats.specs.declared.record.Record.{Record}
@@ -22,8 +22,8 @@ pub record IsWellFormed {O : Type 0} (meaning : Bounds → Meaning O) (files : F
   pub groups : List (List (Record O))
   pub objects : IsObjectsFile params (files Objects)
   pub log : HoldsRecordLog (meaning (bounds_of params)) active header groups files
-  pub none_late : (x s : ℕ) → x < params.objects → s < 2 → IsOpenAt (slot_place params.cap x s) (files Objects)
-      → identifier_at (slot_place params.cap x s) (files Objects) < next_after header.base (records_of groups)
+  pub none_late : (x s : ℕ) → x < params.objects → s < 2 → IsOpenAt (place_in (files Objects) x s) (files Objects)
+      → identifier_at (place_in (files Objects) x s) (files Objects) < next_after header.base (records_of groups)
 
 -- where files meet it, their gate is open
 pub opens_gate : {O : Type 0} (meaning : Bounds → Meaning O) {files : Files} → IsWellFormed meaning files → IsOpenAt 0 (files Objects)
