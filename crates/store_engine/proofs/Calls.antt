@@ -7,6 +7,7 @@ use Rattle.oper_core.specs.Meaning.{Meaning}
 use Rattle.oper_core.specs.declared.bounds.Bounds.{Bounds}
 use Rattle.log_records.specs.RecordLog.{RecordLogView}
 use Rattle.explain_core.specs.World.{World}
+use Rattle.formats.specs.declared.layout.Layout.{Layout}
 use Rattle.running_store.specs.Calls as of_store
 use Rattle.running_store.specs.Calls.{IsFailed}
 use Rattle.running_store.specs.Courses.{Course, Stop}
@@ -38,7 +39,7 @@ module _ {O : Type 0} (meaning : Bounds → Meaning O) (old new : Disk) (store l
   call_of most group so = record {
     time = call.quiet.time;
     quiet = call.quiet.said;
-    params = call.params;
+    params = ap (λ (l : Layout). l.params) call.layout;
     group = refl;
     attached = call.attached;
     identities = call.identities;

@@ -74,8 +74,8 @@ module _ {O : Type 0} (meaning : Bounds → Meaning O) (old new : Disk) (store l
       by_entry : (o : Option Pair) → held later.parts.volatile.objects.cache x ≡ o → IsSome o → values_in later.parts.volatile.objects file x ≡ values_in later.parts.volatile.objects other x
       by_entry None none cached = cc
       by_entry (Some pair) had cached =
-          ap (λ (o : Option Pair). (cell_or o (cell_of later.parts.volatile.objects.slots.params.cap x file)).value) had
-          ∙ sym (ap (λ (o : Option Pair). (cell_or o (cell_of later.parts.volatile.objects.slots.params.cap x other)).value) had)
+          ap (λ (o : Option Pair). (cell_or o (cell_of x file)).value) had
+          ∙ sym (ap (λ (o : Option Pair). (cell_or o (cell_of x other)).value) had)
 
   pub fetched_value : (p : Params) → IsLiveMap (meaning_in meaning p) → (commands : List O) → later.broken ≡ false → Holds meaning p old (engine_of store group) commands
       → (x : ℕ) → x < later.parts.volatile.objects.slots.params.objects → IsSome (held later.parts.volatile.objects.cache x)

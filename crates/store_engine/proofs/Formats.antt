@@ -6,7 +6,7 @@ use Rattle.disk_model.specs.declared.machine.FileNo.TheVariants.{Objects}
 use Rattle.oper_core.specs.Meaning.{Meaning}
 use Rattle.oper_core.specs.declared.bounds.Bounds.{Bounds}
 use Rattle.formats.specs.Bytes.{IsOpenAt}
-use Rattle.formats.specs.Objects.{slot_place, identifier_at}
+use Rattle.formats.specs.Objects.{place_in, identifier_at}
 use Rattle.formats.specs.Records.{records_of}
 use Rattle.formats.specs.declared.params.Params.{Params}
 use Rattle.log_records.specs.RecordLaws.{numbers_end}
@@ -15,7 +15,7 @@ use Rattle.store_engine.specs.Store.{IsWellFormed, Stands, meaning_in}
 use Rattle.store_engine.proofs.Counts.{commands-members_of}
 
 module _ {O : Type 0} (meaning : Bounds → Meaning O) (p : Params) (files : Files) (commands : List O) (stands : Stands meaning p files commands) where
-  pub well_formed : ((x s : ℕ) → x < p.objects → s < 2 → IsOpenAt (slot_place p.cap x s) (files Objects) → identifier_at (slot_place p.cap x s) (files Objects) < next_held (meaning_in meaning p) p files stands.parts stands.holds)
+  pub well_formed : ((x s : ℕ) → x < p.objects → s < 2 → IsOpenAt (place_in (files Objects) x s) (files Objects) → identifier_at (place_in (files Objects) x s) (files Objects) < next_held (meaning_in meaning p) p files stands.parts stands.holds)
       → IsWellFormed meaning files
   well_formed late = record {
     params = p;

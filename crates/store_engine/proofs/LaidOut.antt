@@ -8,7 +8,7 @@ use Rattle.disk_model.specs.Moments.{first_call, goes_on, runs_on, weaker, from_
 use Rattle.disk_model.specs.declared.machine.FileNo.TheVariants.{Objects}
 use Rattle.formats.specs.Bytes.{IsClosedAt}
 use Rattle.formats.specs.Log.{new_header}
-use Rattle.formats.specs.Image.{BeginsStore}
+use Rattle.formats.specs.Objects.{BeginsStore}
 use Rattle.oper_core.specs.Meaning.{Meaning}
 use Rattle.oper_core.specs.declared.bounds.Bounds.{Bounds}
 use Rattle.formats.specs.declared.params.Params.{Params}
@@ -21,21 +21,21 @@ use Rattle.store_engine.specs.Store.{Stands}
 
 -- no store begins after a closed gate
 closed_begins : (file : List ℕ) → IsClosedAt 0 file → BeginsStore file → ⊥
-closed_begins file closed begins = closed (sym (get_or-take 9 file 0 0 (omega arith)) ∙ ap (λ (l : List ℕ). get_or l 0 0) begins)
+closed_begins file closed begins = closed (sym (get_or-take 8 file 0 0 (omega arith)) ∙ ap (λ (l : List ℕ). get_or l 0 0) begins)
 
 -- nor does one while the gate is closed
 torn_begins : (file new : List ℕ) → (BeginsStore file → ⊥) → (IsClosedFile file → new ≡ file) → Torn 0 1 file new → BeginsStore new → ⊥
 torn_begins [] new none idle torn begins =
     let long = torn.no_longer in
-    let nine : length (take 9 new) ≡ 9 = ap (λ (l : List ℕ). length l) begins in
-    absurd (omega (arith, long, nine, length-take 9 new))
+    let eight : length (take 8 new) ≡ 8 = ap (λ (l : List ℕ). length l) begins in
+    absurd (omega (arith, long, eight, length-take 8 new))
 torn_begins (gate ∷ rest) [] none idle torn begins = cc
 torn_begins (gate ∷ rest) (gate' ∷ rest') none idle torn begins =
     elim (cases_eq gate 1) [
       | inl is_open ↦
-          let behind : take 8 rest' ≡ codes "RDOOBJ01" = ap (λ (l : List ℕ). drop 1 l) begins in
+          let behind : take 7 rest' ≡ codes "RDOOBJ0" = ap (λ (l : List ℕ). drop 1 l) begins in
           let same : rest' ≡ rest = torn.after in
-          none (ap (λ (g : ℕ). g ∷ take 8 rest) is_open ∙ ap (λ (l : List ℕ). 1 ∷ l) (ap (λ (l : List ℕ). take 8 l) (sym same) ∙ behind))
+          none (ap (λ (g : ℕ). g ∷ take 7 rest) is_open ∙ ap (λ (l : List ℕ). 1 ∷ l) (ap (λ (l : List ℕ). take 7 l) (sym same) ∙ behind))
       | inr closed ↦ none (subst (λ (l : List ℕ). BeginsStore l) (idle (record { some = omega arith; closed = closed })) begins)
     ]
 

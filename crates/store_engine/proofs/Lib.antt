@@ -24,3 +24,5 @@ pub mod ListStart
 pub mod ListRuns
 pub mod ListFetches
 pub mod ListMachines
+pub mod WiderLog
+pub mod Enlarged

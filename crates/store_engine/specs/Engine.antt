@@ -6,7 +6,8 @@ use Rattle.disk_model.specs.declared.machine.FileNo.{FileNo}
 use Rattle.disk_model.specs.declared.machine.FileNo.TheVariants.{Objects}
 use Rattle.oper_core.specs.Meaning.{Meaning, IsInGrammar}
 use Rattle.oper_core.specs.declared.bounds.Bounds.{Bounds}
-use Rattle.formats.specs.Image.{BeginsStore, EndsAt, NextIs}
+use Rattle.formats.specs.Objects.{BeginsStore}
+use Rattle.formats.specs.Image.{EndsAt, NextIs}
 use Rattle.formats.specs.InForce.{HasHeader, IsInForce}
 use Rattle.formats.specs.Log.{Header}
 use Rattle.formats.specs.declared.params.Params.{Params}
@@ -47,7 +48,7 @@ pub record EngineView : Type 0 where
   pub identities : ℕ
   -- the number at which the open group began
   pub group : Option ℕ
-  -- the disk failed
+  -- a call was answered that the disk failed
   pub broken : Bool
 
 -- the engine of this store, whose open group began with this number
@@ -117,9 +118,10 @@ module _ {O : Type 0} (meaning : Bounds → Meaning O) where
   IsAttached d engine = of_parts.IsAttached meaning d engine.parts
 
   -- What holds on every machine of each call that may change the log, which may have `most` bytes: time passes, nothing is
-  -- said, the store's numbers stay, and the open group; unless the disk failed the engine stays attached; so many identity
-  -- writes are logged; a call that was stopped says the numbers of the log that it leaves; the engine is broken exactly if
-  -- the disk failed, and then the disk counted that.
+  -- said, the store's numbers stay, and the open group; unless it is answered that the disk failed, the engine stays
+  -- attached; so many identity writes are logged; a call that was stopped says the numbers of the log that it leaves; the
+  -- engine is broken exactly where it is answered that the disk failed, and then the disk counted that. (The count may rise
+  -- beside another answer: where a force succeeds, zeros may have been refused.)
   pub record IsEngineCall (most : ℕ) (old new : Disk) (before after : EngineView) (logged : ℕ) (ending : Ending) : Type 0 where
     pub time : Passes old new
     pub quiet : old.tells_files → new.said ≡ old.said
@@ -132,7 +134,7 @@ module _ {O : Type 0} (meaning : Bounds → Meaning O) where
     pub fault : IsFailed ending → Rises old.disk_faults new.disk_faults
 
   -- What holds on every machine of a fetch: the files, the log, the counts and the open group stay, and nothing is said; the
-  -- engine stays attached; it is broken exactly if the disk failed.
+  -- engine stays attached; it is broken exactly where it is answered that the disk failed.
   pub record IsEngineFetch (old new : Disk) (before after : EngineView) (failed : Type 0) : Type 0 where
     pub kept : Stays old new
     pub log : after.parts.log ≡ before.parts.log

@@ -5,7 +5,8 @@ use Rattle.oper_core.specs.Meaning.{Meaning}
 use Rattle.oper_core.specs.declared.bounds.Bounds.{Bounds}
 use Rattle.disk_model.specs.Disk.{Files}
 use Rattle.disk_model.specs.declared.machine.FileNo.TheVariants.{Objects}
-use Rattle.formats.specs.Image.{BeginsStore, EndsAt}
+use Rattle.formats.specs.Objects.{BeginsStore}
+use Rattle.formats.specs.Image.{EndsAt}
 use Rattle.formats.specs.Log.{end_of}
 use Rattle.formats.specs.Records.{payload_of}
 use Rattle.formats.specs.declared.params.Params.{Params}

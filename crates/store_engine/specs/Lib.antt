@@ -2,6 +2,7 @@ pub mod Store
 pub mod Grouping
 pub mod Engine
 pub mod Calls
+pub mod Upgrading
 pub mod Failures
 pub mod FailureLaws
 pub mod ImageLaws

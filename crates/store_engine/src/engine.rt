@@ -47,7 +47,7 @@ impl<O: Oper> Engine<O> {
         self.store.objects().params()
     }
 
-    /// Whether a call on the disk failed. Then only `stat` and `is_broken` may be called.
+    /// Whether a call was answered that the disk failed. Then only `stat` and `is_broken` may be called.
     pub fn is_broken(&self) -> bool
         ensures { result ≡ self.now.broken }
     {

@@ -17,11 +17,14 @@ mod executing;
 mod grouping;
 mod init_err;
 mod laws;
+mod lengths;
 mod lists;
 mod making;
 mod opening;
 mod stat;
 mod uniqueness;
+mod upgrade_err;
+mod upgrading;
 mod work_err;
 mod working;
 
@@ -36,6 +39,7 @@ pub use laws::{
     a_trim_behind_a_drain_leaves_nothing, engine_stands, group_is_closed, identities_are_counted,
     opens_on_a_world, standing_files_meet_their_format, stop_is_said,
 };
+pub use lengths::lengths_are_told;
 pub use lists::{
     calls_go_on, commands_log_no_identity, exec_goes_on, fetch_goes_on, fronts_are_joined,
     nothing_is_made,
@@ -44,4 +48,5 @@ pub use restart::{Tuning, one_damage};
 pub use stable_objects::OpenErr;
 pub use stat::Stat;
 pub use uniqueness::one_state;
+pub use upgrade_err::UpgradeErr;
 pub use work_err::WorkErr;

@@ -2,8 +2,7 @@
 ghost use Rattle.std.specs.Prelude.{◌≡◌, OnOk, IsErrOf};
 ghost use Rattle.disk_model.specs.Disk.{Rises, Passes, Stays, LeavesOnly, IsSettled};
 ghost use Rattle.disk_model.specs.declared.machine.FileNo.TheVariants.{Objects};
-ghost use Rattle.formats.specs.Objects.{IsInRange};
-ghost use Rattle.formats.specs.Image.{BeginsStore};
+ghost use Rattle.formats.specs.Objects.{BeginsStore, IsInRange};
 ghost use Rattle.store_engine.specs.Engine.{InEachImage, IsNew, IsNewStore};
 ghost use Rattle.restart.specs.Starts.{OrAtStart};
 
