@@ -1,9 +1,4 @@
-pub mod JoinLemmas
-pub mod NodeLemmas
 pub mod WalkLemmas
-pub mod MakeLemmas
 pub mod PlanLemmas
-pub mod ReadLemmas
 pub mod TurnLemmas
 pub mod ScanLemmas
-pub mod InsertLemmas

@@ -1,26 +1,19 @@
 -- What a way, or a turn, says of the plan of a call.
-use Rattle.std.proofs.Common.{◌≡◌, ◌≤◌, ◌<◌, refl, sym, ap, ◌∙◌, subst, ℕ, Bool, true, false, None, Some, Result, Ok, Err, List, [], ◌∷◌, if◌then◌else◌, length}
-use Rattle.std.specs.Prelude.{IsTrue, nat_le, nat_lt, ◌&&◌}
+use Rattle.std.proofs.Common.{◌≡◌, ◌≤◌, ◌<◌, refl, sym, ap, ◌∙◌, ℕ, Bool, true, false, None, Some, Result, Ok, Err, List, [], ◌∷◌, if◌then◌else◌}
+use Rattle.std.specs.Prelude.{nat_le, nat_lt, ◌&&◌}
 use Rattle.std.specs.FinMap.Entries.{find}
 use Rattle.std.proofs.lemmas.Bool.{cond-true, cond-false, le-leb, lt-ltb, le-ltb}
 use Rattle.oper_core.specs.State.{State}
 use Rattle.oper_core.specs.declared.bounds.Bounds.{Bounds}
-use Rattle.formats.specs.Objects.{bounds_of}
-use Rattle.formats.specs.declared.params.Params.{Params}
-use Rattle.btree_ops.specs.Entries.{byte_order}
-use Rattle.btree_ops.specs.EntryLaws.{true_both}
-use Rattle.btree_ops.specs.Effects.{has}
-use Rattle.btree_ops.specs.Short.{is_short}
-use Rattle.btree_ops.specs.declared.node_op.NodeOp.{NodeOp}
+use Rattle.key_entries.specs.Entries.{byte_order}
+use Rattle.key_entries.specs.EntryLaws.{true_both}
+use Rattle.key_entries.specs.Pairs.{has}
 use Rattle.btree_ops.specs.declared.node_op.NodeOp.TheVariants.{Delete}
 use Rattle.logical_btree.specs.Walk.{Pair, Way, walk}
 use Rattle.logical_btree.specs.Plan.{delete_on, delete_plan, first_full, get_answer, get_on, is_there, steps_of}
-use Rattle.logical_btree.specs.Laws.{AllAccepted, FirstTooLarge}
 use Rattle.logical_btree.specs.declared.refusal.TreeRefusal.TheVariants as refusals
-use Rattle.tree_client.specs.Due.{IsDue}
 use Rattle.tree_client.specs.Finding.{way_end}
-use Rattle.tree_client.specs.declared.tree_err.TreeErr.{TreeErr}
-use Rattle.tree_client.specs.declared.tree_err.TreeErr.TheVariants.{BadTree}
+use Rattle.tree_client.specs.Answers.{TreeErr, bad_tree}
 use Rattle.tree_client.specs.declared.walking.WayEnd.{WayEnd}
 
 -- the range ends below the last object of the store, or not
@@ -34,18 +27,14 @@ is_past b lo hi past = both (nat_le lo hi) (nat_lt hi b.objects) (le-ltb hi b.ob
     both true y is = is
     both false y is = refl
 
--- the bytes of a short list
-pub short_is : (bytes : List ℕ) → 1 ≤ length bytes → length bytes ≤ 32 → IsTrue (is_short bytes)
-short_is bytes some few = true_both (nat_le 1 (length bytes)) (nat_le (length bytes) 32) (le-leb 1 (length bytes) some) (le-leb (length bytes) 32 few)
-
 -- a way that met a bad object
 pub record IsBad (r : Result Way ℕ) (e : TreeErr) : Type 0 where
   pub bad : ℕ
   pub way : r ≡ Err bad
-  pub error : e ≡ BadTree bad
+  pub error : e ≡ bad_tree bad
 
 pub bad_way : (r : Result Way ℕ) (e : TreeErr) → Err e ≡ way_end None None r → IsBad r e
-bad_way (Err bad) e is = record { bad = bad; way = refl; error = same_err e (BadTree bad) is }
+bad_way (Err bad) e is = record { bad = bad; way = refl; error = same_err e (bad_tree bad) is }
   where
     same_err : (a b : TreeErr) → (let x : Result WayEnd TreeErr = Err a in let y : Result WayEnd TreeErr = Err b in x ≡ y) → a ≡ b
     same_err a b same = cc same
@@ -68,14 +57,6 @@ end_of_way (Ok way) end is =
   where
     same_ok : (a b : WayEnd) → (let x : Result WayEnd TreeErr = Ok a in let y : Result WayEnd TreeErr = Ok b in x ≡ y) → a ≡ b
     same_ok a b same = cc same
-
--- the first command of a plan is due
-pub first_due : (p : Params) (s : State) (commands : List NodeOp) (op : NodeOp) (ops : List NodeOp) → commands ≡ op ∷ ops
-    → (1024 ≤ p.cap → AllAccepted (bounds_of p) s commands) → (p.cap < 1024 → FirstTooLarge (bounds_of p) s commands) → IsDue p s op
-first_due p s commands op ops is accepted large = record {
-  wide = λ wide. (subst (λ (l : List NodeOp). AllAccepted (bounds_of p) s l) is (accepted wide)).0;
-  narrow = λ narrow. subst (λ (l : List NodeOp). FirstTooLarge (bounds_of p) s l) is (large narrow);
-}
 
 module _ (b : Bounds) (lo hi : ℕ) (s : State) (key : List ℕ) where
   -- what a get answers

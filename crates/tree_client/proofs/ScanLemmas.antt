@@ -11,8 +11,8 @@ use Rattle.std.specs.Ordering.{is_lt}
 use Rattle.std.proofs.lemmas.Bool.{cond-true, cond-false, leb-true, ne_eqb}
 use Rattle.arrayvec.specs.ArrayVec.{ArrayVec}
 use Rattle.oper_core.specs.State.{State}
-use Rattle.btree_ops.specs.Entries.{byte_order}
-use Rattle.btree_ops.specs.EntryLaws.{both_true, true_both}
+use Rattle.key_entries.specs.Entries.{byte_order}
+use Rattle.key_entries.specs.EntryLaws.{both_true, true_both}
 use Rattle.btree_ops.specs.declared.node.Node.{Node}
 use Rattle.btree_ops.specs.declared.node.Node.TheVariants.{Leaf, Inner}
 use Rattle.logical_btree.specs.Walk.{Pair, Span, both_pairs, is_child, is_within, node_at, scan, scan_at, scan_child, scan_children, scan_from}
@@ -23,8 +23,8 @@ use Rattle.tree_client.specs.Answers.{told}
 use Rattle.tree_client.specs.Finding.{node_answer}
 use Rattle.tree_client.specs.Scanning.{AreWithin, GoesOn, IsBad, child_scan, objects_in, part_scan, span, stack_scan, weight, weight_of}
 use Rattle.tree_client.specs.declared.part.Part.{Part}
-use Rattle.tree_client.specs.declared.tree_err.TreeErr.{TreeErr}
-use Rattle.tree_client.specs.declared.tree_err.TreeErr.TheVariants.{BadTree}
+use Rattle.tree_client.specs.Answers.{TreeErr}
+use Rattle.tree_client.specs.Answers.{bad_tree}
 use Rattle.tree_client.proofs.PlanLemmas.{is_past}
 use Rattle.tree_client.proofs.WalkLemmas.{node_bad, sound_children}
 
@@ -225,7 +225,7 @@ module _ (lo hi : ℕ) (s : State) where
       (subst (λ (d : ℕ). GoesOn lo hi s (scan_from lo hi s d (span part.from part.to) x) parts pairs (parts ++ part ∷ []) pairs) below
       (inner_goes part.depth x part.child part.branches.items part.from part.to parts pairs node within))
 
-  pub out_of_depth : (depth x : ℕ) (keys : Span) → depth ≡ 0 → IsBad (scan_from lo hi s depth keys x) (BadTree x)
+  pub out_of_depth : (depth x : ℕ) (keys : Span) → depth ≡ 0 → IsBad (scan_from lo hi s depth keys x) (bad_tree x)
   out_of_depth depth x keys none = (x, ap (λ (d : ℕ). scan_from lo hi s d keys x) none, refl)
 
   pub bad_met : (depth x : ℕ) (keys : Span) (e : TreeErr) → 0 < depth → Err e ≡ node_answer x (node_at lo hi s x) → IsBad (scan_from lo hi s depth keys x) e

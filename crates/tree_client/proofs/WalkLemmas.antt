@@ -5,16 +5,16 @@ use Rattle.std.specs.List.{list_all}
 use Rattle.std.specs.Ordering.{is_lt}
 use Rattle.std.proofs.lemmas.Bool.{leb-true}
 use Rattle.oper_core.specs.State.{State}
-use Rattle.btree_ops.specs.Entries.{byte_order}
-use Rattle.btree_ops.specs.EntryLaws.{and_then_some, if_some, same_some, both_true}
+use Rattle.key_entries.specs.Entries.{byte_order}
+use Rattle.key_entries.specs.EntryLaws.{and_then_some, if_some, same_some, both_true}
 use Rattle.btree_ops.specs.declared.node.Node.{Node}
 use Rattle.btree_ops.specs.declared.node.Node.TheVariants.{Leaf, Inner}
 use Rattle.arrayvec.specs.ArrayVec.{ArrayVec}
 use Rattle.logical_btree.specs.Walk.{Way, children_of, child_for, if_sound, is_child, node_at, read_as, size, walk_at, walk_from, with_met}
 use Rattle.logical_btree.specs.Plan.{Full, first_full, is_full, steps_of}
 use Rattle.tree_client.specs.Finding.{first_of, full_here, node_answer, way_end}
-use Rattle.tree_client.specs.declared.tree_err.TreeErr.{TreeErr}
-use Rattle.tree_client.specs.declared.tree_err.TreeErr.TheVariants.{BadTree}
+use Rattle.tree_client.specs.Answers.{TreeErr}
+use Rattle.tree_client.specs.Answers.{bad_tree}
 
 -- the objects that a sound node names are children
 pub sound_children : (lo hi : ℕ) (s : State) (x : ℕ) (node : Node) → node_at lo hi s x ≡ Some node → IsTrue (list_all (is_child lo hi) (children_of node))
@@ -79,7 +79,7 @@ pub node_found : (x : ℕ) (o : Option Node) (node : Node) → Ok node ≡ node_
 node_found x None node is = cc
 node_found x (Some n) node is = cc is
 
-pub node_bad : (x : ℕ) (o : Option Node) (e : TreeErr) → Err e ≡ node_answer x o → (o ≡ None) × (e ≡ BadTree x)
+pub node_bad : (x : ℕ) (o : Option Node) (e : TreeErr) → Err e ≡ node_answer x o → (o ≡ None) × (e ≡ bad_tree x)
 node_bad x None e is = (refl, cc is)
 node_bad x (Some n) e is = cc
 
@@ -114,5 +114,5 @@ below_node lo hi s key step x first seen parent branches node full child turn is
     ∙ ap (λ (f : Option Full). way_end f (Some x) (walk_from lo hi s key (size lo hi - (step + 1)) (child_for key first branches))) (sym (noted ∙ ap (λ (n : Node). first_of seen (full_here parent x n)) inner))
     ∙ ap (λ (y : ℕ). way_end full (Some x) (walk_from lo hi s key (size lo hi - (step + 1)) y)) (sym below)
 
-pub at_end : (lo hi : ℕ) (s : State) (key : List ℕ) (n x : ℕ) (seen : Option Full) (parent : Option ℕ) → n ≡ 0 → way_end seen parent (walk_from lo hi s key n x) ≡ Err (BadTree x)
+pub at_end : (lo hi : ℕ) (s : State) (key : List ℕ) (n x : ℕ) (seen : Option Full) (parent : Option ℕ) → n ≡ 0 → way_end seen parent (walk_from lo hi s key n x) ≡ Err (bad_tree x)
 at_end lo hi s key n x seen parent none = ap (λ (k : ℕ). way_end seen parent (walk_from lo hi s key k x)) none

@@ -1,20 +1,17 @@
 -- What a call finds on its way.
-use Rattle.std.specs.Prelude.{ℕ, suc, ◌≡◌, ◌-◌, Bool, true, false, Option, None, Some, Result, Ok, Err, List, [], ◌∷◌, filter, if◌then◌else◌}
-use Rattle.oper_core.specs.State.{State}
+use Rattle.std.specs.Prelude.{ℕ, Option, None, Some, Result, Ok, Err, if◌then◌else◌}
 use Rattle.btree_ops.specs.declared.node.Node.{Node}
 use Rattle.btree_ops.specs.declared.node_op.NodeOp.{NodeOp}
 use Rattle.logical_btree.specs.Walk.{Way}
-use Rattle.logical_btree.specs.Plan.{Full, Next, Plan, first_full, is_empty, is_full, objects_from, steps_of}
-use Rattle.logical_btree.specs.Plan.Next.{splits, puts, refuses}
-use Rattle.tree_client.specs.Answers.{error_of}
-use Rattle.tree_client.specs.declared.tree_err.TreeErr.{TreeErr}
-use Rattle.tree_client.specs.declared.tree_err.TreeErr.TheVariants.{BadTree}
-use Rattle.tree_client.specs.declared.turning.Turn.{Turn}
+use Rattle.logical_btree.specs.Plan.{Full, TreeNext, first_full, is_full, steps_of}
+use Rattle.call_plans.specs.Plan.{goes_on, ends, refuses}
+use Rattle.range_calls.specs.declared.call_err.CallErr.TheVariants.{Refused}
+use Rattle.tree_client.specs.Answers.{TreeErr, bad_tree}
 use Rattle.tree_client.specs.declared.walking.WayEnd.{WayEnd}
 
 -- the node of an object, or the object as a bad one
 abbrev pub node_answer : ℕ → Option Node → Result Node TreeErr
-node_answer object None = Err (BadTree object)
+node_answer object None = Err (bad_tree object)
 node_answer object (Some node) = Ok node
 
 -- the first of two, if there is one
@@ -28,38 +25,11 @@ full_here parent object node = if is_full node then Some (record { parent = pare
 
 -- where a way ends, after a full node that was seen before, and under a node, if there was one
 abbrev pub way_end : Option Full → Option ℕ → Result Way ℕ → Result WayEnd TreeErr
-way_end seen parent (Err bad) = Err (BadTree bad)
+way_end seen parent (Err bad) = Err (bad_tree bad)
 way_end seen parent (Ok way) = Ok (record { leaf = way.object; pairs = record { items = way.pairs }; full = first_of seen (first_full parent (steps_of way)) })
 
--- the free objects from one on, below another, rising
-abbrev pub free_from : State → ℕ → ℕ → List ℕ
-free_from s from end = filter (λ x. is_empty (s x)) (objects_from from (end - from))
-
--- the first free object, if there is one, and after it the others
-abbrev pub IsFirstFree : State → ℕ → ℕ → Option ℕ → Type 0
-IsFirstFree s from end None = free_from s from end ≡ []
-IsFirstFree s from end (Some x) = free_from s from end ≡ x ∷ free_from s (suc x) end
-
 -- the split that comes next, or why there is none
-abbrev pub split_answer : Next → Result NodeOp TreeErr
-split_answer (splits op) = Ok op
-split_answer (puts op) = Ok op
-split_answer (refuses refusal) = Err (error_of refusal)
-
--- the next turn of an insert: its command, and whether it is the last
-abbrev pub turn_answer : Next → Result Turn TreeErr
-turn_answer (splits op) = Ok (record { op = op; last = false })
-turn_answer (puts op) = Ok (record { op = op; last = true })
-turn_answer (refuses refusal) = Err (error_of refusal)
-
--- the command that comes next, as a plan
-abbrev pub turn_plan : Next → Plan
-turn_plan (splits op) = record { commands = op ∷ []; refusal = None }
-turn_plan (puts op) = record { commands = op ∷ []; refusal = None }
-turn_plan (refuses refusal) = record { commands = []; refusal = Some refusal }
-
--- it is the put that ends an insert
-abbrev pub is_last : Next → Bool
-is_last (splits op) = false
-is_last (puts op) = true
-is_last (refuses refusal) = false
+abbrev pub split_answer : TreeNext → Result NodeOp TreeErr
+split_answer (goes_on op) = Ok op
+split_answer (ends op) = Ok op
+split_answer (refuses refusal) = Err (Refused refusal)

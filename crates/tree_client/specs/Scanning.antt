@@ -4,8 +4,8 @@ use Rattle.std.specs.List.{list_all}
 use Rattle.oper_core.specs.State.{State}
 use Rattle.logical_btree.specs.Walk.{Pair, Span, both_pairs, is_child, scan_child, scan_children, scan_from}
 use Rattle.tree_client.specs.declared.part.Part.{Part}
-use Rattle.tree_client.specs.declared.tree_err.TreeErr.{TreeErr}
-use Rattle.tree_client.specs.declared.tree_err.TreeErr.TheVariants.{BadTree}
+use Rattle.tree_client.specs.Answers.{TreeErr}
+use Rattle.tree_client.specs.Answers.{bad_tree}
 
 -- the keys from one on, and below another
 abbrev pub span : List ℕ → List ℕ → Span
@@ -48,4 +48,4 @@ module _ (lo hi : ℕ) where
 
 -- a scan that meets a bad object, and is refused for it
 abbrev pub IsBad : Result (List Pair) ℕ → TreeErr → Type 0
-IsBad scan e = (bad : ℕ) × (scan ≡ Err bad) × (e ≡ BadTree bad)
+IsBad scan e = (bad : ℕ) × (scan ≡ Err bad) × (e ≡ bad_tree bad)

@@ -8,17 +8,16 @@ ghost use Rattle.running_store.specs.Taking.Ending.{Done};
 ghost use Rattle.store_engine.specs.Lists.{AddsFront, AreCalls, ending_of};
 ghost use Rattle.logical_btree.specs.Plan.{delete_plan};
 ghost use Rattle.tree_client.specs.Answers.{cause_in, made_of, refused_in};
-ghost use Rattle.tree_client.specs.Store.{Command, Holds, state_of};
+ghost use Rattle.range_calls.specs.Store.{Command, Holds, state_of};
 
-use crate::finding::has_key;
-use crate::laws::makes_go_on;
-use crate::making::make;
 use crate::tree_err::TreeErr;
 use crate::walking::walk;
-use btree_ops::{NodeOp, Short};
+use btree_ops::NodeOp;
 use disk_model::Machine;
-use logical_btree::{Tree, commands_are_accepted};
-use op_codec::AllOps;
+use key_entries::{Short, has_key};
+use logical_btree::{Tree, TreeRefusal, commands_are_accepted};
+use op_codec::{AllOps, node_op};
+use range_calls::{CallErr, make, makes_go_on};
 use store_engine::{Engine, nothing_is_made};
 
 /// Deletes a key and its value, by one command.
@@ -45,16 +44,16 @@ pub fn delete<M: Machine>(
     makes_go_on::<M>();
     commands_are_accepted();
     if tree.last() >= engine.params().objects {
-        return Err(TreeErr::NoObject);
+        return Err(CallErr::Refused(TreeRefusal::NoObject));
     }
     let end = walk(tree, engine, machine, *key)?;
     if has_key(end.pairs.as_slice(), *key) {
         let _bytes = key.as_slice();
-        let op = NodeOp::Delete {
+        let op = node_op(NodeOp::Delete {
             object: end.leaf,
             key: *key,
-        };
+        });
         return make(engine, machine, op);
     }
-    Err(TreeErr::NoKey)
+    Err(CallErr::Refused(TreeRefusal::NoKey))
 }

@@ -7,15 +7,15 @@ ghost use Rattle.running_store.specs.Taking.Ending.{Done};
 ghost use Rattle.store_engine.specs.Lists.{AddsFront, AreCalls, ending_of};
 ghost use Rattle.logical_btree.specs.Plan.{get_answer};
 ghost use Rattle.tree_client.specs.Answers.{cause_in, told};
-ghost use Rattle.tree_client.specs.Store.{Command, Holds, state_of};
+ghost use Rattle.range_calls.specs.Store.{Command, Holds, state_of};
 
-use crate::finding::value_in;
 use crate::tree_err::TreeErr;
 use crate::walking::walk;
-use btree_ops::Short;
 use disk_model::Machine;
-use logical_btree::Tree;
+use key_entries::{Short, value_in};
+use logical_btree::{Tree, TreeRefusal};
 use op_codec::AllOps;
+use range_calls::CallErr;
 use store_engine::{Engine, nothing_is_made};
 
 /// The value of a key, if it is there. No command is added.
@@ -37,7 +37,7 @@ pub fn get<M: Machine>(
 {
     nothing_is_made(machine, engine);
     if tree.last() >= engine.params().objects {
-        return Err(TreeErr::NoObject);
+        return Err(CallErr::Refused(TreeRefusal::NoObject));
     }
     let end = walk(tree, engine, machine, *key)?;
     Ok(value_in(end.pairs.as_slice(), *key))

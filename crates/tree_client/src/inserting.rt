@@ -1,56 +1,103 @@
 // A pair is inserted.
-ghost use Rattle.std.specs.Prelude.{◌≡◌, ◌<◌, ◌≤◌, List, suc, false, IfOk};
+ghost use Rattle.std.specs.Prelude.{◌≡◌, ◌<◌, List, None, false, refl};
 ghost use Rattle.std.specs.Result.{result_err};
 ghost use Rattle.formats.specs.Objects.{bounds_of};
 ghost use Rattle.formats.specs.declared.params.Params.{Params};
-ghost use Rattle.op_codec.specs.AllOps.{all_meaning};
+ghost use Rattle.op_codec.specs.AllOps.{all_meaning, node};
 ghost use Rattle.running_store.specs.Taking.Ending.{Done};
 ghost use Rattle.store_engine.specs.Engine.{params_of};
 ghost use Rattle.store_engine.specs.Lists.{AddsFront, AreCalls, ending_of};
-ghost use Rattle.logical_btree.specs.Plan.{insert_next, insert_plan};
+ghost use Rattle.btree_ops.specs.Operation.{node_meaning};
+ghost use Rattle.logical_btree.specs.Plan.{insert_next, insert_plan, split_with};
+ghost use Rattle.range_calls.specs.Free.{free_between};
+ghost use Rattle.range_calls.specs.Store.{Command, Holds, state_of};
+ghost use Rattle.range_calls.specs.Turns.{turn_answer};
 ghost use Rattle.tree_client.specs.Answers.{cause_in, made_of, refused_in};
-ghost use Rattle.tree_client.specs.Finding.{is_last, turn_plan};
-ghost use Rattle.tree_client.specs.Making.{Makes};
-ghost use Rattle.tree_client.specs.Store.{Command, Holds, state_of};
 
-use crate::laws::makes_go_on;
-use crate::making::make;
+use crate::full::Full;
+use crate::splitting::split;
 use crate::tree_err::TreeErr;
-use crate::turning::next_turn;
-use crate::walking::size;
-use btree_ops::Short;
+use crate::walking::{size, walk};
+use btree_ops::NodeOp;
 use disk_model::Machine;
-use logical_btree::{Tree, commands_are_accepted};
-use op_codec::AllOps;
+use key_entries::{Short, has_key};
+use logical_btree::{Tree, TreeRefusal, commands_are_accepted};
+use op_codec::{AllOps, node_op};
+use range_calls::{CallErr, Turn, Turns, reads_go_on, take_turns};
 use store_engine::{Engine, nothing_is_made};
 
-/// Makes the command that comes next. It reports whether that was the put.
-fn take_turn<M: Machine>(
+/// A pair that is inserted.
+#[derive(Drop)]
+struct NewPair<'a> {
+    tree: &'a Tree,
+    key: Short,
+    value: Short,
+}
+
+impl<'a> Turns for NewPair<'a> {
+    type Op = NodeOp;
+
+    type Refusal = TreeRefusal;
+
+    ghost kind = { node };
+
+    ghost meaning = { node_meaning };
+
+    ghost next = { λ pair b s. insert_next b pair.tree.now.lo pair.tree.now.hi s pair.key pair.value };
+
+    ghost is_there = { λ pair p. pair.tree.now.hi < p.objects };
+
+    /// Finds the command that comes next: the split of the first full node on the way, or the put of the pair, where the key is
+    /// there or no node on the way is full.
+    fn next_turn<M: Machine>(
+        &self,
+        engine: &mut Engine<AllOps>,
+        machine: &mut M,
+    ) -> Result<Turn, TreeErr> {
+        reads_go_on::<M>();
+        commands_are_accepted();
+        let _last = self.tree.last();
+        let _key = self.key.as_slice();
+        let _value = self.value.as_slice();
+        let found = walk(self.tree, engine, machine, self.key)?;
+        let put = node_op(NodeOp::Put {
+            object: found.leaf,
+            key: self.key,
+            value: self.value,
+        });
+        if has_key(found.pairs.as_slice(), self.key) {
+            return Ok(Turn {
+                op: put,
+                last: true,
+            });
+        }
+        match found.full {
+            None => Ok(Turn {
+                op: put,
+                last: true,
+            }),
+            Some(full) => split_turn(self.tree, engine, machine, full),
+        }
+    }
+
+    ghost means = { λ b s op. refl };
+}
+
+/// The turn that splits a full node.
+fn split_turn<M: Machine>(
     tree: &Tree,
-    engine: &mut Engine<AllOps>,
-    machine: &mut M,
-    end: u32,
-    key: &Short,
-    value: &Short,
-) -> Result<bool, TreeErr>
-    requires unbroken { engine.old.broken ≡ false }
-    requires there { tree.now.hi < (params_of engine.old).objects }
-    requires order { tree.now.lo ≤ tree.now.hi }
-    requires end { end ≡ suc tree.now.hi }
-    ensures makes { Makes (M.disk machine.old) (M.disk machine.new) engine.old engine.new
-        (λ p commands. made_of p.cap (turn_plan (insert_next (bounds_of p) tree.now.lo tree.now.hi (state_of p commands) key.now value.now)).commands) (cause_in result) }
-    ensures answer { (p : Params) (commands : List Command) → Holds p (M.disk machine.old) engine.old commands → ending_of (cause_in result) ≡ Done →
-        result_err result ≡ refused_in p.cap (turn_plan (insert_next (bounds_of p) tree.now.lo tree.now.hi (state_of p commands) key.now value.now)) }
-    ensures last { (p : Params) (commands : List Command) → Holds p (M.disk machine.old) engine.old commands →
-        IfOk result (λ last. last ≡ is_last (insert_next (bounds_of p) tree.now.lo tree.now.hi (state_of p commands) key.now value.now)) }
+    engine: &Engine<AllOps>,
+    machine: &M,
+    full: Full,
+) -> Result<Turn, TreeErr>
+    requires there { tree.now.hi < (params_of engine.now).objects }
+    ensures found { cause_in result ≡ None }
+    ensures answer { (p : Params) (commands : List Command) → Holds p (M.disk machine.now) engine.now commands → tree.now.hi < p.objects →
+        result ≡ turn_answer node (split_with (free_between (state_of p commands) tree.now.lo tree.now.hi) full.child full.parent) }
 {
-    makes_go_on::<M>();
-    commands_are_accepted();
-    let _key = key.as_slice();
-    let _value = value.as_slice();
-    let turn = next_turn(tree, engine, machine, end, key, value)?;
-    make(engine, machine, turn.op)?;
-    Ok(turn.last)
+    let split = split(tree, engine, machine, full)?;
+    let op = node_op(split);
+    Ok(Turn { op, last: false })
 }
 
 /// Inserts a pair, or gives a key that is there the new value.
@@ -77,16 +124,13 @@ pub fn insert<M: Machine>(
         result_err result ≡ refused_in p.cap (insert_plan (bounds_of p) tree.now.lo tree.now.hi (state_of p commands) key.now value.now) }
 {
     nothing_is_made(machine, engine);
-    makes_go_on::<M>();
-    let last = tree.last();
-    if last >= engine.params().objects {
-        return Err(TreeErr::NoObject);
+    if tree.last() >= engine.params().objects {
+        return Err(CallErr::Refused(TreeRefusal::NoObject));
     }
-    let end = last + 1;
-    for _turn in 0..size(tree) + 1 {
-        if take_turn(tree, engine, machine, end, key, value)? {
-            return Ok(());
-        }
-    }
-    Ok(())
+    let pair = NewPair {
+        tree,
+        key: *key,
+        value: *value,
+    };
+    take_turns(&pair, engine, machine, size(tree) + 1)
 }

@@ -6,23 +6,19 @@
 //! call acts as on an ordered map (`a_tree_is_an_ordered_map`), a split keeps the tree and its pairs
 //! (`a_split_keeps_the_tree`), and no command of a plan is refused where a value may hold 1,024 bytes
 //! (`commands_are_accepted`). A call fetches each node on its way once, and an insert that splits nothing is one
-//! command.
+//! command. What a call on another kind of range would do too is in `range_calls`.
 #![tactic(auto)]
 
 mod deleting;
-mod finding;
 mod full;
 mod getting;
 mod inserting;
-mod laws;
-mod making;
 mod nodes;
 mod part;
 mod ranging;
 mod scanning;
 mod splitting;
 mod tree_err;
-mod turning;
 mod walking;
 
 pub use deleting::delete;

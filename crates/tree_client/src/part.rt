@@ -1,9 +1,10 @@
 // What is left of a scan.
 ghost use Rattle.std.specs.Prelude.{◌≡◌, if◌then◌else◌};
 ghost use Rattle.std.specs.Ordering.{is_lt};
-ghost use Rattle.btree_ops.specs.Entries.{byte_order};
+ghost use Rattle.key_entries.specs.Entries.{byte_order};
 
-use btree_ops::{Branches, Short};
+use btree_ops::Branches;
+use key_entries::Short;
 
 /// Children of a node that are to be met: the first, and after it those of the branches. Of their keys those from `from` on
 /// and below `to` are asked for, and their ways may have `depth` objects.

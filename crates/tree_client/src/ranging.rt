@@ -7,17 +7,17 @@ ghost use Rattle.running_store.specs.Taking.Ending.{Done};
 ghost use Rattle.store_engine.specs.Lists.{AddsFront, AreCalls, ending_of};
 ghost use Rattle.logical_btree.specs.Plan.{range_answer};
 ghost use Rattle.tree_client.specs.Answers.{cause_in, cause_of, told};
-ghost use Rattle.tree_client.specs.Store.{Command, Holds, state_of};
+ghost use Rattle.range_calls.specs.Store.{Command, Holds, state_of};
 
-use crate::laws::reads_go_on;
 use crate::part::Scan;
 use crate::scanning::{meet, meet_part};
 use crate::tree_err::TreeErr;
 use crate::walking::size;
-use btree_ops::Short;
 use disk_model::Machine;
-use logical_btree::Tree;
+use key_entries::Short;
+use logical_btree::{Tree, TreeRefusal};
 use op_codec::AllOps;
+use range_calls::{CallErr, reads_go_on};
 use std::alloc::Global;
 use store_engine::{Engine, nothing_is_made};
 
@@ -46,7 +46,7 @@ pub fn range<M: Machine>(
     reads_go_on::<M>();
     let last = tree.last();
     if last >= engine.params().objects {
-        return Err(TreeErr::NoObject);
+        return Err(CallErr::Refused(TreeRefusal::NoObject));
     }
     let parts = Vec::new(alloc);
     let pairs = Vec::new(alloc);

@@ -7,18 +7,20 @@ ghost use Rattle.store_engine.specs.Engine.{params_of};
 ghost use Rattle.store_engine.specs.Lists.{ending_of};
 ghost use Rattle.logical_btree.specs.Walk as walks;
 ghost use Rattle.tree_client.specs.Answers.{cause_in, cause_of};
-ghost use Rattle.tree_client.specs.Making.{Reads};
+ghost use Rattle.range_calls.specs.Making.{Reads};
+ghost use Rattle.range_calls.specs.declared.call_err.CallErr.TheVariants.{Memory as OutOfMemory};
 ghost use Rattle.tree_client.specs.Scanning.{AreWithin, GoesOn, IsBad, child_scan, part_scan, span, weight, weight_of};
-ghost use Rattle.tree_client.specs.Store.{Command, Holds, state_of};
+ghost use Rattle.range_calls.specs.Store.{Command, Holds, state_of};
 
-use crate::laws::reads_run_short;
 use crate::nodes::node_of;
 use crate::part::{Part, Scan, greater, is_below, lesser};
 use crate::tree_err::TreeErr;
-use btree_ops::{Node, Short};
+use btree_ops::Node;
 use disk_model::Machine;
-use logical_btree::Tree;
+use key_entries::Short;
+use logical_btree::{Tree, TreeRefusal};
 use op_codec::AllOps;
+use range_calls::{CallErr, reads_run_short};
 use store_engine::{Engine, nothing_is_made};
 
 /// Whether a key is not below one, and below another.
@@ -36,7 +38,7 @@ fn push_asked(
     pairs: &mut Vec<(Short, Short)>,
 ) -> Result<(), TreeErr>
     ensures ok { OnOk result (pairs.new.items ≡ pairs.old.items ++ filter (λ e. walks.is_within e.0 (span from to)) (pair ∷ [])) }
-    ensures memory { IfErr result (λ e. e ≡ TreeErr.Memory) }
+    ensures memory { IfErr result (λ e. e ≡ OutOfMemory) }
 {
     if !is_asked(pair.0, from, to) {
         return Ok(());
@@ -53,7 +55,7 @@ fn push_pairs(
     pairs: &mut Vec<(Short, Short)>,
 ) -> Result<(), TreeErr>
     ensures ok { OnOk result (pairs.new.items ≡ pairs.old.items ++ filter (λ e. walks.is_within e.0 (span from to)) leaf.now) }
-    ensures memory { IfErr result (λ e. e ≡ TreeErr.Memory) }
+    ensures memory { IfErr result (λ e. e ≡ OutOfMemory) }
 {
     for i in 0..leaf.len() {
         push_asked(leaf[i], from, to, pairs)?;
@@ -64,7 +66,7 @@ fn push_pairs(
 /// Puts a part on the others: it is met next.
 fn push_part(part: Part, parts: &mut Vec<Part>) -> Result<(), TreeErr>
     ensures ok { OnOk result (parts.new.items ≡ parts.old.items ++ part ∷ []) }
-    ensures memory { IfErr result (λ e. e ≡ TreeErr.Memory) }
+    ensures memory { IfErr result (λ e. e ≡ OutOfMemory) }
 {
     parts.push(part)?;
     Ok(())
@@ -93,7 +95,7 @@ pub(crate) fn meet<M: Machine>(
     nothing_is_made(machine, engine);
     reads_run_short::<M>();
     if depth == 0 {
-        return Err(TreeErr::BadTree { object });
+        return Err(CallErr::Refused(TreeRefusal::BadTree { object }));
     }
     match node_of(tree, engine, machine, object)? {
         Node::Leaf(leaf) => push_pairs(leaf.as_slice(), from, to, &mut scan.pairs),

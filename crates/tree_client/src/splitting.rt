@@ -1,123 +1,103 @@
-// Free objects of a range, and the splits that take them.
-ghost use Rattle.std.specs.Prelude.{◌≡◌, ◌<◌, ◌≤◌, ◌∷◌, List, suc, false, IfOk, IfErr, IfSome};
+// The splits that take free objects of a range.
+ghost use Rattle.std.specs.Prelude.{◌≡◌, ◌<◌, ◌≤◌, ◌∷◌, List, None, IfSome, suc};
 ghost use Rattle.formats.specs.declared.params.Params.{Params};
-ghost use Rattle.running_store.specs.Taking.Ending.{Done};
-ghost use Rattle.store_engine.specs.Lists.{ending_of};
+ghost use Rattle.store_engine.specs.Engine.{params_of};
 ghost use Rattle.logical_btree.specs.Plan as plans;
-ghost use Rattle.tree_client.specs.Answers.{cause_in, cause_of};
-ghost use Rattle.tree_client.specs.Finding.{IsFirstFree, free_from, split_answer};
-ghost use Rattle.tree_client.specs.Making.{Reads};
-ghost use Rattle.tree_client.specs.Store.{Command, Holds, state_of};
+ghost use Rattle.range_calls.specs.Free.{IsLeastFree, free_between};
+ghost use Rattle.range_calls.specs.Store.{Command, Holds, state_of};
+ghost use Rattle.tree_client.specs.Answers.{cause_in};
+ghost use Rattle.tree_client.specs.Finding.{split_answer};
 
 use crate::full::Full;
-use crate::laws::reads_go_on;
-use crate::nodes::is_free;
 use crate::tree_err::TreeErr;
 use btree_ops::NodeOp;
 use disk_model::Machine;
+use logical_btree::{Tree, TreeRefusal};
 use op_codec::AllOps;
-use store_engine::{Engine, nothing_is_made};
+use range_calls::{CallErr, least_free};
+use store_engine::Engine;
 
-/// The least free object from one on, below another. Objects are fetched up to it alone.
-fn first_free<M: Machine>(
-    engine: &mut Engine<AllOps>,
-    machine: &mut M,
-    from: u32,
-    end: u32,
-) -> Result<Option<u32>, TreeErr>
-    requires unbroken { engine.old.broken ≡ false }
-    ensures reads { Reads (M.disk machine.old) (M.disk machine.new) engine.old engine.new (cause_in result) }
-    ensures below { IfOk result (λ found. IfSome found (λ x. x < end)) }
-    ensures answer { (p : Params) (commands : List Command) → Holds p (M.disk machine.old) engine.old commands → end ≤ p.objects →
-        IfOk result (IsFirstFree (state_of p commands) from end) }
-    ensures refused { (p : Params) (commands : List Command) → Holds p (M.disk machine.old) engine.old commands → end ≤ p.objects →
-        IfErr result (λ e. ending_of (cause_of e) ≡ Done → ⊥) }
+/// The least free object of the range.
+fn first_free<M: Machine>(tree: &Tree, engine: &Engine<AllOps>, machine: &M) -> Option<u32>
+    ensures within { IfSome result (λ x. x ≤ tree.now.hi) }
+    ensures answer { (p : Params) (commands : List Command) → Holds p (M.disk machine.now) engine.now commands → tree.now.hi < p.objects →
+        IsLeastFree (state_of p commands) tree.now.lo tree.now.hi result }
 {
-    nothing_is_made(machine, engine);
-    reads_go_on::<M>();
-    for object in from..end {
-        if is_free(engine, machine, object)? {
-            return Ok(Some(object));
-        }
-    }
-    Ok(None)
+    least_free(engine, machine, tree.root(), tree.last())
 }
 
 /// Splits the root with a free object and the least free one after it.
 fn split_root_beside<M: Machine>(
-    engine: &mut Engine<AllOps>,
-    machine: &mut M,
+    engine: &Engine<AllOps>,
+    machine: &M,
     left: u32,
-    end: u32,
+    last: u32,
     root: u32,
 ) -> Result<NodeOp, TreeErr>
-    requires unbroken { engine.old.broken ≡ false }
-    requires below { left < end }
-    ensures reads { Reads (M.disk machine.old) (M.disk machine.new) engine.old engine.new (cause_in result) }
-    ensures answer { (p : Params) (commands : List Command) → Holds p (M.disk machine.old) engine.old commands → end ≤ p.objects → ending_of (cause_in result) ≡ Done →
-        result ≡ split_answer (plans.split_root_with root (left ∷ free_from (state_of p commands) (suc left) end)) }
+    requires within { left ≤ last }
+    requires there { last < (params_of engine.now).objects }
+    ensures found { cause_in result ≡ None }
+    ensures answer { (p : Params) (commands : List Command) → Holds p (M.disk machine.now) engine.now commands → last < p.objects →
+        result ≡ split_answer (plans.split_root_with root (left ∷ free_between (state_of p commands) (suc left) last)) }
 {
-    match first_free(engine, machine, left + 1, end)? {
+    let _objects = engine.params().objects;
+    let next = left + 1;
+    match least_free(engine, machine, next, last) {
         Some(right) => Ok(NodeOp::SplitRoot { root, left, right }),
-        None => Err(TreeErr::TreeFull { need: 2, free: 1 }),
+        None => Err(CallErr::Refused(TreeRefusal::TreeFull { need: 2, free: 1 })),
     }
 }
 
 /// Splits the root with the two least free objects.
 fn split_root<M: Machine>(
-    engine: &mut Engine<AllOps>,
-    machine: &mut M,
-    from: u32,
-    end: u32,
+    tree: &Tree,
+    engine: &Engine<AllOps>,
+    machine: &M,
     root: u32,
 ) -> Result<NodeOp, TreeErr>
-    requires unbroken { engine.old.broken ≡ false }
-    ensures reads { Reads (M.disk machine.old) (M.disk machine.new) engine.old engine.new (cause_in result) }
-    ensures answer { (p : Params) (commands : List Command) → Holds p (M.disk machine.old) engine.old commands → end ≤ p.objects → ending_of (cause_in result) ≡ Done →
-        result ≡ split_answer (plans.split_root_with root (free_from (state_of p commands) from end)) }
+    requires there { tree.now.hi < (params_of engine.now).objects }
+    ensures found { cause_in result ≡ None }
+    ensures answer { (p : Params) (commands : List Command) → Holds p (M.disk machine.now) engine.now commands → tree.now.hi < p.objects →
+        result ≡ split_answer (plans.split_root_with root (free_between (state_of p commands) tree.now.lo tree.now.hi)) }
 {
-    reads_go_on::<M>();
-    match first_free(engine, machine, from, end)? {
-        Some(left) => split_root_beside(engine, machine, left, end, root),
-        None => Err(TreeErr::TreeFull { need: 2, free: 0 }),
+    match first_free(tree, engine, machine) {
+        Some(left) => split_root_beside(engine, machine, left, tree.last(), root),
+        None => Err(CallErr::Refused(TreeRefusal::TreeFull { need: 2, free: 0 })),
     }
 }
 
 /// Splits a child with the least free object.
 fn split_child<M: Machine>(
-    engine: &mut Engine<AllOps>,
-    machine: &mut M,
-    from: u32,
-    end: u32,
+    tree: &Tree,
+    engine: &Engine<AllOps>,
+    machine: &M,
     parent: u32,
     child: u32,
 ) -> Result<NodeOp, TreeErr>
-    requires unbroken { engine.old.broken ≡ false }
-    ensures reads { Reads (M.disk machine.old) (M.disk machine.new) engine.old engine.new (cause_in result) }
-    ensures answer { (p : Params) (commands : List Command) → Holds p (M.disk machine.old) engine.old commands → end ≤ p.objects → ending_of (cause_in result) ≡ Done →
-        result ≡ split_answer (plans.split_child_with parent child (free_from (state_of p commands) from end)) }
+    ensures found { cause_in result ≡ None }
+    ensures answer { (p : Params) (commands : List Command) → Holds p (M.disk machine.now) engine.now commands → tree.now.hi < p.objects →
+        result ≡ split_answer (plans.split_child_with parent child (free_between (state_of p commands) tree.now.lo tree.now.hi)) }
 {
-    match first_free(engine, machine, from, end)? {
+    match first_free(tree, engine, machine) {
         Some(new) => Ok(NodeOp::SplitChild { parent, child, new }),
-        None => Err(TreeErr::TreeFull { need: 1, free: 0 }),
+        None => Err(CallErr::Refused(TreeRefusal::TreeFull { need: 1, free: 0 })),
     }
 }
 
 /// The split of a full node.
 pub(crate) fn split<M: Machine>(
-    engine: &mut Engine<AllOps>,
-    machine: &mut M,
-    from: u32,
-    end: u32,
+    tree: &Tree,
+    engine: &Engine<AllOps>,
+    machine: &M,
     full: Full,
 ) -> Result<NodeOp, TreeErr>
-    requires unbroken { engine.old.broken ≡ false }
-    ensures reads { Reads (M.disk machine.old) (M.disk machine.new) engine.old engine.new (cause_in result) }
-    ensures answer { (p : Params) (commands : List Command) → Holds p (M.disk machine.old) engine.old commands → end ≤ p.objects → ending_of (cause_in result) ≡ Done →
-        result ≡ split_answer (plans.split_with (free_from (state_of p commands) from end) full.child full.parent) }
+    requires there { tree.now.hi < (params_of engine.now).objects }
+    ensures found { cause_in result ≡ None }
+    ensures answer { (p : Params) (commands : List Command) → Holds p (M.disk machine.now) engine.now commands → tree.now.hi < p.objects →
+        result ≡ split_answer (plans.split_with (free_between (state_of p commands) tree.now.lo tree.now.hi) full.child full.parent) }
 {
     match full.parent {
-        None => split_root(engine, machine, from, end, full.child),
-        Some(parent) => split_child(engine, machine, from, end, parent, full.child),
+        None => split_root(tree, engine, machine, full.child),
+        Some(parent) => split_child(tree, engine, machine, parent, full.child),
     }
 }

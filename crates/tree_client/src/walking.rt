@@ -7,17 +7,18 @@ ghost use Rattle.store_engine.specs.Lists.{ending_of};
 ghost use Rattle.logical_btree.specs.Walk as walks;
 ghost use Rattle.tree_client.specs.Answers.{cause_in};
 ghost use Rattle.tree_client.specs.Finding.{first_of, full_here, way_end};
-ghost use Rattle.tree_client.specs.Making.{Reads};
-ghost use Rattle.tree_client.specs.Store.{Command, Holds, state_of};
+ghost use Rattle.range_calls.specs.Making.{Reads};
+ghost use Rattle.range_calls.specs.Store.{Command, Holds, state_of};
 
 use crate::full::Full;
-use crate::laws::reads_go_on;
 use crate::nodes::node_of;
 use crate::tree_err::TreeErr;
-use btree_ops::{Node, Pairs, Short};
+use btree_ops::Node;
 use disk_model::Machine;
-use logical_btree::{Tree, child_for, is_full};
+use key_entries::{Pairs, Short};
+use logical_btree::{Tree, TreeRefusal, child_for, is_full};
 use op_codec::AllOps;
+use range_calls::{CallErr, reads_go_on};
 use store_engine::{Engine, nothing_is_made};
 
 /// The leaf at the end of a way, with its pairs, and the first full node on the way.
@@ -88,5 +89,5 @@ pub(crate) fn walk<M: Machine>(
             }
         }
     }
-    Err(TreeErr::BadTree { object })
+    Err(CallErr::Refused(TreeRefusal::BadTree { object }))
 }

@@ -1,25 +1,27 @@
 use Rattle.std.proofs.Common.{◌≡◌, ◌≤◌, refl, sym, ap, ◌∙◌, subst, List, [], ◌∷◌, Option, Some, true, false, arith}
 use Rattle.formats.specs.Objects.{bounds_of}
 use Rattle.formats.specs.declared.params.Params.{Params}
-use Rattle.btree_ops.specs.Effects.{has}
-use Rattle.btree_ops.specs.declared.node_op.NodeOp.TheVariants.{Delete}
+use Rattle.key_entries.specs.Pairs.{has}
 use Rattle.op_codec.specs.AllOps.{all_meaning}
-use Rattle.logical_btree.specs.Plan.{Plan, delete_plan}
+use Rattle.logical_btree.specs.Plan.{TreePlan, delete_plan}
 use Rattle.logical_btree.specs.declared.refusal.TreeRefusal.{TreeRefusal}
 use Rattle.logical_btree.specs.Walk.{Pair, walk}
 use Rattle.store_engine.specs.Lists.{AddsFront}
 use Rattle.running_store.specs.Taking.Ending.{Done}
+use Rattle.range_calls.specs.Answers as answers
 use Rattle.tree_client.specs.Answers.{cause_in, made_of, refused_in}
-use Rattle.tree_client.specs.Due.{IsDue}
-use Rattle.tree_client.specs.Store.{Command, state_of}
-use Rattle.tree_client.proofs.JoinLemmas.{holds_behind}
-use Rattle.tree_client.proofs.MakeLemmas.{made_none}
-use Rattle.tree_client.proofs.PlanLemmas.{bad_way, delete_absent, delete_bad, delete_past, delete_present, end_of_way, first_due, is_within, short_is}
-use Rattle.tree_client.proofs.ReadLemmas.{adds_passed, one_behind, passed, read_adds, refuses_passed}
+use Rattle.range_calls.specs.Due.{IsDue}
+use Rattle.range_calls.specs.DueLaws.{short_is}
+use Rattle.range_calls.specs.Store.{Command, state_of}
+use Rattle.range_calls.specs.JoinLaws.{holds_behind}
+use Rattle.range_calls.specs.MakeLaws.{made_none}
+use Rattle.tree_client.proofs.PlanLemmas.{bad_way, delete_absent, delete_bad, delete_past, delete_present, end_of_way, is_within}
+use Rattle.tree_client.proofs.TurnLemmas.{delete_due}
+use Rattle.range_calls.specs.ReadLaws.{adds_passed, one_behind, passed, read_adds, refuses_passed}
 use Rattle.tree_client.proofs.deleting.delete.Goals as goal
 
-none_of : (p : Params) (plan : Plan) (r : Option TreeRefusal) → plan ≡ record { commands = []; refusal = r } → made_of p.cap plan.commands ≡ []
-none_of p plan r is = ap (λ (q : Plan). made_of p.cap q.commands) is ∙ made_none p.cap
+none_of : (p : Params) (plan : TreePlan) (r : Option TreeRefusal) → plan ≡ record { commands = []; refusal = r } → made_of p.cap plan.commands ≡ []
+none_of p plan r is = ap (λ (q : TreePlan). made_of p.cap q.commands) is ∙ made_none p.cap
 
 pub returns-then-last-params-clause-adds : goal.returns-then-last-params-clause-adds
 returns-then-last-params-clause-adds g c = λ p commands holds.
@@ -80,42 +82,41 @@ returns-then-has_key-clause-calls g c =
     c.makes_go_on.ensures.calls c.args.machine.now c.walk.new.machine c.make.new.machine c.args.engine.now c.walk.new.engine c.make.new.engine _ c.in_ok-end.ensures.reads.calls c.make.ensures.calls
 
 -- the plan has the one command
-one_planned : goal.returns-then-has_key-clause-adds
-one_planned g c = λ p commands holds.
+pub returns-then-has_key-clause-adds : goal.returns-then-has_key-clause-adds
+returns-then-has_key-clause-adds g c = λ p commands holds.
+    let b = bounds_of p in
     let s = state_of p commands in
     let lo = c.args.tree.now.lo in
     let hi = c.args.tree.now.hi in
+    let key = c.args.key.now in
     let fits = ap (λ (q : Params). q.objects) (c.params.ensures.value ∙ holds.shows.shows.store.params) in
-    let there = is_within (bounds_of p) lo hi (omega (arith, c.last.ensures.order, c.last.ensures.value)) (omega (arith, c.if-last-params.false, c.last.ensures.value, fits)) in
-    let found = end_of_way (walk lo hi s c.args.key.now) c.in_ok-end.end (c.in_ok-end.ensures.answer p commands holds refl) in
-    let here : has c.args.key.now c.in_ok-end.end.pairs.items ≡ true = ap (λ (l : List Pair). has c.args.key.now l) (sym c.as_slice.ensures.value) ∙ sym c.if-has_key.ensures in
-    let plan = delete_present (bounds_of p) lo hi s c.args.key.now there c.in_ok-end.end found here in
-    let short = short_is c.args.key.now (omega (arith, c.as_slice-bytes.ensures.some)) (omega (arith, c.as_slice-bytes.ensures.few)) in
-    let due : IsDue p s (Delete c.in_ok-end.end.leaf c.args.key.now) =
-    first_due p s (delete_plan (bounds_of p) lo hi s c.args.key.now).commands (Delete c.in_ok-end.end.leaf c.args.key.now) [] (ap (λ (q : Plan). q.commands) plan)
-    (λ wide. c.commands_are_accepted.ensures.delete (bounds_of p) lo hi s c.args.key.now short wide) (λ narrow. c.commands_are_accepted.ensures.delete_too_large (bounds_of p) lo hi s c.args.key.now short narrow) in
+    let there = is_within b lo hi (omega (arith, c.last.ensures.order, c.last.ensures.value)) (omega (arith, c.if-last-params.false, c.last.ensures.value, fits)) in
+    let found = end_of_way (walk lo hi s key) c.in_ok-end.end (c.in_ok-end.ensures.answer p commands holds refl) in
+    let here : has key c.in_ok-end.end.pairs.items ≡ true = ap (λ (l : List Pair). has key l) (sym c.as_slice.ensures.value) ∙ sym c.if-has_key.ensures in
+    let plan = delete_present b lo hi s key there c.in_ok-end.end found here in
+    let short = short_is key (omega (arith, c.as_slice-bytes.ensures.some)) (omega (arith, c.as_slice-bytes.ensures.few)) in
+    let due = delete_due p s (delete_plan b lo hi s key) c.in_ok-end.end.leaf key plan c.node_op-op.result c.node_op-op.ensures
+    (λ wide. c.commands_are_accepted.ensures.delete b lo hi s key short wide) (λ narrow. c.commands_are_accepted.ensures.delete_too_large b lo hi s key short narrow) in
     one_behind g.M.Machine.disk c.makes_go_on.ensures.front c.args.machine.now c.walk.new.machine c.make.new.machine c.args.engine.now c.walk.new.engine c.make.new.engine (cause_in c.make.result)
-    c.in_ok-end.ensures.reads holds (made_of p.cap (Delete c.in_ok-end.end.leaf c.args.key.now ∷ [])) (made_of p.cap (delete_plan (bounds_of p) lo hi s c.args.key.now).commands)
-    (sym (ap (λ (q : Plan). made_of p.cap q.commands) plan))
-    (λ v shows is. c.make.ensures.adds p v shows (subst (λ (l : List Command). IsDue p (state_of p l) (Delete c.in_ok-end.end.leaf c.args.key.now)) (sym is) due))
-
-pub returns-then-has_key-clause-adds : goal.returns-then-has_key-clause-adds
-returns-then-has_key-clause-adds g c = one_planned g c
+    c.in_ok-end.ensures.reads holds (answers.made_of p.cap (c.node_op-op.result ∷ [])) (made_of p.cap (delete_plan b lo hi s key).commands)
+    (ap (λ (o : Command). answers.made_of p.cap (o ∷ [])) c.node_op-op.ensures ∙ sym (ap (λ (q : TreePlan). made_of p.cap q.commands) plan))
+    (λ v shows is. c.make.ensures.adds p v shows (subst (λ (l : List Command). IsDue p (state_of p l) c.node_op-op.result) (sym is) due))
 
 pub returns-then-has_key-clause-answer : goal.returns-then-has_key-clause-answer
 returns-then-has_key-clause-answer g c = λ p commands holds done.
+    let b = bounds_of p in
     let s = state_of p commands in
     let lo = c.args.tree.now.lo in
     let hi = c.args.tree.now.hi in
+    let key = c.args.key.now in
     let fits = ap (λ (q : Params). q.objects) (c.params.ensures.value ∙ holds.shows.shows.store.params) in
-    let there = is_within (bounds_of p) lo hi (omega (arith, c.last.ensures.order, c.last.ensures.value)) (omega (arith, c.if-last-params.false, c.last.ensures.value, fits)) in
-    let found = end_of_way (walk lo hi s c.args.key.now) c.in_ok-end.end (c.in_ok-end.ensures.answer p commands holds refl) in
-    let here : has c.args.key.now c.in_ok-end.end.pairs.items ≡ true = ap (λ (l : List Pair). has c.args.key.now l) (sym c.as_slice.ensures.value) ∙ sym c.if-has_key.ensures in
-    let plan = delete_present (bounds_of p) lo hi s c.args.key.now there c.in_ok-end.end found here in
-    let short = short_is c.args.key.now (omega (arith, c.as_slice-bytes.ensures.some)) (omega (arith, c.as_slice-bytes.ensures.few)) in
-    let due : IsDue p s (Delete c.in_ok-end.end.leaf c.args.key.now) =
-    first_due p s (delete_plan (bounds_of p) lo hi s c.args.key.now).commands (Delete c.in_ok-end.end.leaf c.args.key.now) [] (ap (λ (q : Plan). q.commands) plan)
-    (λ wide. c.commands_are_accepted.ensures.delete (bounds_of p) lo hi s c.args.key.now short wide) (λ narrow. c.commands_are_accepted.ensures.delete_too_large (bounds_of p) lo hi s c.args.key.now short narrow) in
+    let there = is_within b lo hi (omega (arith, c.last.ensures.order, c.last.ensures.value)) (omega (arith, c.if-last-params.false, c.last.ensures.value, fits)) in
+    let found = end_of_way (walk lo hi s key) c.in_ok-end.end (c.in_ok-end.ensures.answer p commands holds refl) in
+    let here : has key c.in_ok-end.end.pairs.items ≡ true = ap (λ (l : List Pair). has key l) (sym c.as_slice.ensures.value) ∙ sym c.if-has_key.ensures in
+    let plan = delete_present b lo hi s key there c.in_ok-end.end found here in
+    let short = short_is key (omega (arith, c.as_slice-bytes.ensures.some)) (omega (arith, c.as_slice-bytes.ensures.few)) in
+    let due = delete_due p s (delete_plan b lo hi s key) c.in_ok-end.end.leaf key plan c.node_op-op.result c.node_op-op.ensures
+    (λ wide. c.commands_are_accepted.ensures.delete b lo hi s key short wide) (λ narrow. c.commands_are_accepted.ensures.delete_too_large b lo hi s key short narrow) in
     let mid = holds_behind c.in_ok-end.ensures.reads holds in
-    c.make.ensures.answer p mid.world mid.shows (subst (λ (l : List Command). IsDue p (state_of p l) (Delete c.in_ok-end.end.leaf c.args.key.now)) (sym mid.commands_are) due) done
+    c.make.ensures.answer p mid.world mid.shows (subst (λ (l : List Command). IsDue p (state_of p l) c.node_op-op.result) (sym mid.commands_are) due) done
     ∙ sym (ap (refused_in p.cap) plan)

@@ -1,14 +1,14 @@
 use Rattle.std.proofs.Common.{refl, sym, ap, ◌∙◌, ℕ, List, [], Ok, Err, Option, arith}
 use Rattle.std.specs.FinMap.Entries.{find}
-use Rattle.btree_ops.specs.Entries.{byte_order}
+use Rattle.key_entries.specs.Entries.{byte_order}
 use Rattle.formats.specs.Objects.{bounds_of}
 use Rattle.formats.specs.declared.params.Params.{Params}
 use Rattle.logical_btree.specs.Plan.{get_answer}
 use Rattle.logical_btree.specs.Walk.{Pair, walk}
 use Rattle.tree_client.specs.Answers.{told}
-use Rattle.tree_client.specs.Store.{state_of}
+use Rattle.range_calls.specs.Store.{state_of}
 use Rattle.tree_client.proofs.PlanLemmas.{bad_way, end_of_way, get_bad, get_found, is_within}
-use Rattle.tree_client.proofs.ReadLemmas.{adds_passed, answers_passed, passed, read_adds}
+use Rattle.range_calls.specs.ReadLaws.{adds_passed, answers_passed, passed, read_adds}
 use Rattle.tree_client.proofs.getting.get.Goals as goal
 
 pub returns-in_err-end-clause-adds : goal.returns-in_err-end-clause-adds

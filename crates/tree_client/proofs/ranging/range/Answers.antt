@@ -7,12 +7,12 @@ use Rattle.running_store.specs.Taking.Ending.{Done}
 use Rattle.store_engine.specs.Lists.{ending_of}
 use Rattle.tree_client.specs.Answers.{cause_of, told}
 use Rattle.tree_client.specs.Scanning.{AreWithin, span}
-use Rattle.tree_client.specs.Store.{state_of}
+use Rattle.range_calls.specs.Store.{state_of}
 use Rattle.tree_client.specs.declared.part.Part.{Part}
-use Rattle.tree_client.specs.declared.tree_err.TreeErr.{TreeErr}
-use Rattle.tree_client.proofs.JoinLemmas.{holds_behind}
+use Rattle.tree_client.specs.Answers.{TreeErr}
+use Rattle.range_calls.specs.JoinLaws.{holds_behind}
 use Rattle.tree_client.proofs.PlanLemmas.{is_within}
-use Rattle.tree_client.proofs.ReadLemmas.{adds_passed, calls_passed, passed, read_adds, refused_passed}
+use Rattle.range_calls.specs.ReadLaws.{adds_passed, calls_passed, passed, read_adds, refused_passed}
 use Rattle.tree_client.proofs.ScanLemmas.{begins_scan, less_left, none_left, range_bad, range_found, scan_goes_on, scan_is_bad}
 use Rattle.tree_client.proofs.ranging.range.Goals as goal
 

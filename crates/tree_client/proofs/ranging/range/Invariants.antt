@@ -1,9 +1,9 @@
 use Rattle.std.proofs.Common.{◌≡◌, None, Ok, List}
 use Rattle.formats.specs.declared.params.Params.{Params}
 use Rattle.logical_btree.specs.Walk.{both_pairs, scan}
-use Rattle.tree_client.specs.Making.{Reads}
+use Rattle.range_calls.specs.Making.{Reads}
 use Rattle.tree_client.specs.Scanning.{AreWithin, span, stack_scan, weight}
-use Rattle.tree_client.specs.Store.{Command, Holds, state_of}
+use Rattle.range_calls.specs.Store.{Command, Holds, state_of}
 use Rattle.tree_client.proofs.ranging.range.Given as goal
 
 abbrev pub invariant-loop-part : goal.invariant-loop-part

@@ -5,13 +5,13 @@ use Rattle.tree_client.specs.Scanning.{IsBad, span, weight}
 use Rattle.tree_client.specs.Answers.{cause_of}
 use Rattle.store_engine.specs.Lists.{ending_of}
 use Rattle.running_store.specs.Taking.Ending.{Done}
-use Rattle.tree_client.specs.Store.{state_of}
-use Rattle.tree_client.specs.declared.tree_err.TreeErr.{TreeErr}
+use Rattle.range_calls.specs.Store.{state_of}
+use Rattle.tree_client.specs.Answers.{TreeErr}
 use Rattle.std.specs.List.{filter}
 use Rattle.std.specs.Prelude.{length, ◌++◌, ◌^◌}
 use Rattle.tree_client.specs.declared.part.Part.{Part}
-use Rattle.tree_client.proofs.JoinLemmas.{not_refused, nothing_reads, reads_then}
-use Rattle.tree_client.proofs.ReadLemmas.{passed, refused_passed}
+use Rattle.range_calls.specs.JoinLaws.{not_refused, nothing_reads, reads_then}
+use Rattle.range_calls.specs.ReadLaws.{passed, refused_passed}
 use Rattle.tree_client.proofs.ScanLemmas.{bad_met, inner_met, leaf_met, lighter_with, lighter_without, on_ok}
 use Rattle.tree_client.proofs.WalkLemmas.{node_found}
 use Rattle.tree_client.proofs.scanning.meet.Goals as goal

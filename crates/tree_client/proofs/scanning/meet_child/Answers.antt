@@ -1,5 +1,5 @@
-use Rattle.tree_client.specs.Store.{state_of}
-use Rattle.tree_client.proofs.JoinLemmas.{nothing_reads}
+use Rattle.range_calls.specs.Store.{state_of}
+use Rattle.range_calls.specs.JoinLaws.{nothing_reads}
 use Rattle.tree_client.proofs.ScanLemmas.{asked_bad, asked_goes, if_err, lighter_without, on_ok, passed_goes}
 use Rattle.tree_client.proofs.scanning.meet_child.Goals as goal
 

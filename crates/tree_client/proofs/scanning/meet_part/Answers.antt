@@ -1,16 +1,16 @@
 use Rattle.std.proofs.Common.{◌≡◌, ◌<◌, refl, sym, ap, subst, arith}
 use Rattle.formats.specs.declared.params.Params.{Params}
-use Rattle.tree_client.specs.Store.{state_of}
+use Rattle.range_calls.specs.Store.{state_of}
 use Rattle.tree_client.specs.declared.part.Part.{Part}
 use Rattle.oper_core.specs.State.{start}
 use Rattle.running_store.specs.Taking.Ending.{Done}
 use Rattle.store_engine.specs.Lists.{ending_of}
 use Rattle.tree_client.specs.Answers.{cause_of}
-use Rattle.tree_client.specs.Making.{Reads}
+use Rattle.range_calls.specs.Making.{Reads}
 use Rattle.tree_client.specs.Scanning.{IsBad, part_scan}
-use Rattle.tree_client.specs.declared.tree_err.TreeErr.{TreeErr}
-use Rattle.tree_client.proofs.JoinLemmas.{memory_is_short, nothing_reads}
-use Rattle.tree_client.proofs.ReadLemmas.{makes_err, passed, refused_passed}
+use Rattle.tree_client.specs.Answers.{TreeErr}
+use Rattle.range_calls.specs.JoinLaws.{memory_is_short, nothing_reads}
+use Rattle.range_calls.specs.ReadLaws.{makes_err, passed, refused_passed}
 use Rattle.tree_client.proofs.ScanLemmas.{first_taken, if_err, last_bad, last_goes, no_branch, on_ok, part_within, parts_within, rest_bad, rest_goes, rest_lighter, rest_within, weight_last}
 use Rattle.tree_client.proofs.scanning.meet_part.Goals as goal
 

@@ -4,9 +4,9 @@ use Rattle.btree_ops.specs.declared.node.Node.{Node}
 use Rattle.btree_ops.specs.declared.node.Node.TheVariants.{Inner}
 use Rattle.logical_btree.specs.Walk as walks
 use Rattle.tree_client.specs.Finding.{way_end}
-use Rattle.tree_client.specs.Store.{Command, Holds, state_of}
-use Rattle.tree_client.proofs.JoinLemmas.{holds_behind, nothing_reads}
-use Rattle.tree_client.proofs.ReadLemmas.{answers_passed, makes_err, passed}
+use Rattle.range_calls.specs.Store.{Command, Holds, state_of}
+use Rattle.range_calls.specs.JoinLaws.{holds_behind, nothing_reads}
+use Rattle.range_calls.specs.ReadLaws.{answers_passed, makes_err, passed}
 use Rattle.tree_client.proofs.WalkLemmas.{at_end, at_leaf, below_node, child_within, meets_bad, node_found}
 use Rattle.tree_client.proofs.walking.walk.Goals as goal
 

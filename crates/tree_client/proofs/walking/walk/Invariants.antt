@@ -2,8 +2,8 @@ use Rattle.std.proofs.Common.{◌≡◌, ◌≤◌, ◌-◌, None, List}
 use Rattle.formats.specs.declared.params.Params.{Params}
 use Rattle.logical_btree.specs.Walk as walks
 use Rattle.tree_client.specs.Finding.{way_end}
-use Rattle.tree_client.specs.Making.{Reads}
-use Rattle.tree_client.specs.Store.{Command, Holds, state_of}
+use Rattle.range_calls.specs.Making.{Reads}
+use Rattle.range_calls.specs.Store.{Command, Holds, state_of}
 use Rattle.tree_client.proofs.walking.walk.Given as goal
 
 abbrev pub invariant-loop-step : goal.invariant-loop-step

@@ -1,0 +1,13 @@
+pub mod Store
+pub mod Answers
+pub mod Making
+pub mod Joining
+pub mod Due
+pub mod Free
+pub mod Turns
+pub mod JoinLaws
+pub mod MakeLaws
+pub mod ReadLaws
+pub mod DueLaws
+pub mod TurnLaws
+pub mod RunLaws
