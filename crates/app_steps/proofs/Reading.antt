@@ -13,7 +13,7 @@ use Rattle.oper_core.specs.declared.refusal.Refusal.TheVariants.{NoObject, NotAp
 use Rattle.formats.specs.declared.params.Params.{Params}
 use Rattle.op_meaning.specs.AppState.{Application, app_of, new_application, state_code, state_in, stepped}
 use Rattle.op_meaning.specs.AppStateLaws.{state_in-state_code}
-use Rattle.op_meaning.specs.Rows.{if_applicable}
+use Rattle.op_rows.specs.Rows.{if_applicable}
 use Rattle.op_meaning.specs.Table.{exec_check}
 use Rattle.op_codec.specs.AllOps.{AllOps, all_meaning}
 use Rattle.store_engine.specs.Store.{meaning_in, refusal_after, state_of}
@@ -131,13 +131,13 @@ module _ (p : Params) (app : ℕ) (there : app < p.objects) where
       ap (λ (l : List AllOps). state_in (state_of all_meaning p l app)) (sym (append_assoc commands (op ∷ []) (replicate k op))) ∙ rest ∙ ap (λ (t : Application). Some t) (read_on k s some)
 
   -- as many steps are accepted as there are bytes of input, and at most so many as are asked for
-  pub as_many : (n : ℕ) (commands : List AllOps) (s : Application) → IsRunnable s → Has commands s → steps_accepted p commands app n ≡ min n (length s.input)
+  pub as_many : (n : ℕ) (commands : List AllOps) (s : Application) → IsRunnable s → Has commands s → steps_accepted p commands op n ≡ min n (length s.input)
   as_many zero commands s is has = omega arith
   as_many (suc n) commands s is has = elim (eq-zero-or-pos (length s.input)) [
-    | inl none ↦ none_count p commands app NoInput (refused commands s has none) (suc n) ∙ omega (arith, none)
+    | inl none ↦ none_count p commands op NoInput (refused commands s has none) (suc n) ∙ omega (arith, none)
     | inr some ↦
         let short = (shorter s.steps s.sum s.input s.output some).0 in
-        step_counts p commands app n (none_refused commands s has some)
+        step_counts p commands op n (none_refused commands s has some)
         ∙ ap suc (as_many n (commands ++ op ∷ []) (stepped s) (runnable_on s is some) (state_on commands s is has some))
         ∙ omega (arith, short)
   ]

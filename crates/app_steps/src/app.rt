@@ -5,13 +5,13 @@ ghost use Rattle.op_codec.specs.AllOps.{AllOps as Command, all_meaning};
 ghost use Rattle.store_engine.specs.Engine.{Holds};
 ghost use Rattle.store_engine.specs.Lists.{AddsFront, AreCalls, ending_of};
 ghost use Rattle.store_engine.specs.Commands.{HasRun};
-ghost use Rattle.app_steps.specs.Steps.{EndsSo, HasAnswer, drain_of, feed_of, step_of, steps};
+ghost use Rattle.app_steps.specs.Steps.{HasAnswer, drain_of, feed_of, step_of, steps};
 
+use crate::steps::{self, Steps};
 use disk_model::Machine;
 use op_codec::{AllOps, plain_op};
 use op_meaning::PlainOp;
-use oper_core::Refusal;
-use store_engine::{Engine, ExecErr, calls_go_on, exec_goes_on, nothing_is_made};
+use store_engine::{Engine, ExecErr};
 
 /// An application: the object that holds its state.
 #[derive(Clone, Copy)]
@@ -19,14 +19,13 @@ pub struct App {
     pub app: u32,
 }
 
-// What a run answers that has done some steps, and whose next one is not done.
-fn ended(done: u64, e: ExecErr) -> Result<u64, ExecErr>
-    ensures { EndsSo done e result }
-{
-    match e {
-        ExecErr::Refused(Refusal::NoInput) => Ok(done),
-        ExecErr::Refused(_) if done != 0 => Ok(done),
-        e => Err(e),
+impl Steps for App {
+    ghost use Rattle.app_steps.specs.Steps.{step_of};
+
+    ghost command = { λ s. step_of s.app };
+
+    fn next(&self) -> AllOps {
+        plain_op(PlainOp::Exec { app: self.app })
     }
 }
 
@@ -68,7 +67,7 @@ impl App {
         ensures run { HasRun all_meaning (M.disk machine.old) (M.disk machine.new) engine.old engine.new (step_of self.now.app) result }
         ensures calls { AreCalls all_meaning (M.disk machine.old) (M.disk machine.new) engine.old engine.new (result_err result) }
     {
-        engine.exec(machine, plain_op(PlainOp::Exec { app: self.app }))
+        steps::step(self, engine, machine)
     }
 
     /// Makes the application's output the value of an object. It answers as `Engine::exec` does.
@@ -99,18 +98,10 @@ impl App {
         requires unbroken { engine.old.broken ≡ false }
         ensures calls { AreCalls all_meaning (M.disk machine.old) (M.disk machine.new) engine.old engine.new (result_err result) }
         ensures adds { (p : Params) (commands : List Command) → (holds : Holds all_meaning p (M.disk machine.old) engine.old commands) →
-            AddsFront all_meaning p (M.disk machine.old) (M.disk machine.new) engine.old engine.new holds.world commands (steps p commands self.now.app most) (ending_of (result_err result)) }
+            AddsFront all_meaning p (M.disk machine.old) (M.disk machine.new) engine.old engine.new holds.world commands (steps p commands (step_of self.now.app) most) (ending_of (result_err result)) }
         ensures answer { (p : Params) (commands : List Command) → Holds all_meaning p (M.disk machine.old) engine.old commands →
-            HasAnswer p commands self.now.app most result }
+            HasAnswer p commands (step_of self.now.app) most result }
     {
-        exec_goes_on::<AllOps, M>();
-        calls_go_on::<AllOps, M>();
-        nothing_is_made(machine, engine);
-        for done in 0..most {
-            if let Err(e) = self.step(engine, machine) {
-                return ended(done, e);
-            }
-        }
-        Ok(most)
+        steps::run(self, engine, machine, most)
     }
 }

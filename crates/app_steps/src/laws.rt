@@ -1,9 +1,14 @@
-// What many steps make of an application.
-ghost use Rattle.std.specs.Prelude.{◌≡◌, ◌<◌, ◌≤◌, ◌^◌, ◌++◌, ℕ, List, Some, length, min, replicate};
+// What many steps make of an application, and when one is refused.
+ghost use Rattle.std.specs.Prelude.{◌≡◌, ◌<◌, ◌≤◌, ◌^◌, ◌++◌, ◌⊎◌, ℕ, [], List, Some, length, min, replicate};
+ghost use Rattle.oper_core.specs.declared.refusal.Refusal.{Refusal};
+ghost use Rattle.oper_core.specs.declared.refusal.Refusal.TheVariants.{NoObject, NotApp, NoInput};
+ghost use Rattle.formats.specs.Objects.{IsInRange};
 ghost use Rattle.formats.specs.declared.params.Params.{Params};
 ghost use Rattle.op_meaning.specs.AppState.{Application, state_in};
 ghost use Rattle.op_codec.specs.AllOps.{AllOps as Command, all_meaning};
-ghost use Rattle.store_engine.specs.Store.{state_of};
+ghost use Rattle.app_program.specs.State.{HasDone};
+ghost use Rattle.store_engine.specs.Store.{refusal_after, state_of};
+ghost use Rattle.app_steps.specs.Programs.{AreOfProgram, IsValue, fed_to, steps_done};
 ghost use Rattle.app_steps.specs.Runs.{IsRunnable, after_steps, has_read};
 ghost use Rattle.app_steps.specs.Steps.{step_of, steps_accepted};
 
@@ -16,5 +21,20 @@ pub fn a_run_reads_the_input()
         state_in (state_of all_meaning p commands app) ≡ Some s → k ≤ length s.input →
         state_in (state_of all_meaning p (commands ++ replicate k (step_of app)) app) ≡ Some (has_read k s) }
     ensures accepted { (p : Params) (commands : List Command) (app n : ℕ) (s : Application) → app < p.objects → IsRunnable s →
-        state_in (state_of all_meaning p commands app) ≡ Some s → steps_accepted p commands app n ≡ min n (length s.input) }
+        state_in (state_of all_meaning p commands app) ≡ Some s → steps_accepted p commands (step_of app) n ≡ min n (length s.input) }
+{}
+
+/// A step of an application is refused for these reasons and no others, so a run of it ends early only for lack of input.
+pub fn why_a_step_is_refused()
+    ensures { (p : Params) (commands : List Command) (app : ℕ) (refusal : Refusal) → refusal_after all_meaning p commands (step_of app) ≡ Some refusal →
+        (refusal ≡ NoObject) ⊎ ((refusal ≡ NotApp) ⊎ (refusal ≡ NoInput)) }
+{}
+
+/// An interpreted application whose object was empty, and was then written only by accepted feeds and by accepted steps of one
+/// program, has done so many steps of the program on all that it was fed, in whatever order they came, and whatever became of
+/// the other objects in between. The program may have been in one object or in another, if only its bytes were these.
+pub fn a_program_runs_on_all_that_is_fed()
+    ensures { (p : Params) (before commands : List Command) (app : ℕ) (code : List ℕ) → IsInRange p → IsValue p code →
+        state_of all_meaning p before app ≡ [] → AreOfProgram p app code before commands →
+        HasDone code (fed_to p app before commands) (steps_done p app before commands) (state_of all_meaning p (before ++ commands) app) }
 {}

@@ -1,12 +1,15 @@
-//! An application whose state is an object's value, run one step at a time.
+//! Applications whose state is an object's value, run one step at a time.
 //!
-//! The one contract is [`App`]: each of its calls is a command of the engine, and a run is as many steps as are
-//! accepted one after the other, at most so many as are asked for. What a run makes of engine and files, wherever it
-//! ends, is what store_engine says of several commands.
+//! The one contract is that of [`App`] and of [`ProgApp`], whose program is an object's value too: each of their calls is a
+//! command of the engine, and a run is as many steps as are accepted one after the other, at most so many as are asked for.
+//! What a run makes of engine and files, wherever it ends, is what store_engine says of several commands.
 #![tactic(auto)]
 
 mod app;
 mod laws;
+mod prog_app;
+mod steps;
 
 pub use app::App;
-pub use laws::a_run_reads_the_input;
+pub use laws::{a_program_runs_on_all_that_is_fed, a_run_reads_the_input, why_a_step_is_refused};
+pub use prog_app::ProgApp;
