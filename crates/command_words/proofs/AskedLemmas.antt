@@ -3,10 +3,10 @@ use Rattle.std.proofs.Common.{◌≡◌, ◌∙◌, ◌<◌, ◌≤◌, ◌^◌,
 use Rattle.clap.specs.Words.{Row, Text}
 use Rattle.formats.specs.declared.params.Params.{Params}
 use Rattle.command_words.specs.declared.asked.Asked.{Asked}
-use Rattle.command_words.specs.declared.asked.Asked.TheVariants.{Init, Run, Dump, Demo}
+use Rattle.command_words.specs.declared.asked.Asked.TheVariants.{Init, Run, Dump, Demo, Upgrade}
 use Rattle.formats.specs.Objects.{IsInRange}
 use Rattle.command_words.specs.Words.{GivesDemo, GivesParams, NamesForm, IsFor}
-use Rattle.command_words.proofs.NameLemmas.{run_or_init, run_or_demo, dump_or_init, dump_or_demo, init_or_demo, one_name, one_rows}
+use Rattle.command_words.proofs.NameLemmas.{run_or_init, run_or_demo, run_or_upgrade, dump_or_init, dump_or_demo, dump_or_upgrade, init_or_demo, init_or_upgrade, demo_or_upgrade, one_name, one_rows}
 
 -- the name and the values of what was named
 module _ {B : Type 0} (f : B → Text) (g : B → List Row) where
@@ -30,9 +30,18 @@ module _ (named : Option (Text × List Row)) (name : Text) (rows : List Row) (is
   no_init e none Dump it = dump_or_init name (asked_for Dump it) e
   no_init e none (Init p) it = none p it.allowed (asked_for (Init p) it).1
   no_init e none (Demo seed steps) it = init_or_demo name e (asked_for (Demo seed steps) it).0
+  no_init e none (Upgrade p) it = init_or_upgrade name e (asked_for (Upgrade p) it).0
+
+  pub no_upgrade : name ≡ codes "upgrade" → ((p : Params) → IsInRange p → GivesParams rows p → ⊥) → (asked : Asked) → NamesForm named asked → ⊥
+  no_upgrade e none Run it = run_or_upgrade name (asked_for Run it) e
+  no_upgrade e none Dump it = dump_or_upgrade name (asked_for Dump it) e
+  no_upgrade e none (Init p) it = init_or_upgrade name (asked_for (Init p) it).0 e
+  no_upgrade e none (Demo seed steps) it = demo_or_upgrade name (asked_for (Demo seed steps) it).0 e
+  no_upgrade e none (Upgrade p) it = none p it.allowed (asked_for (Upgrade p) it).1
 
   pub no_demo : name ≡ codes "demo" → ((seed steps : ℕ) → seed < 2 ^ 64 → steps ≤ 1000000 → GivesDemo rows seed steps → ⊥) → (asked : Asked) → NamesForm named asked → ⊥
   no_demo e none Run it = run_or_demo name (asked_for Run it) e
   no_demo e none Dump it = dump_or_demo name (asked_for Dump it) e
   no_demo e none (Init p) it = init_or_demo name (asked_for (Init p) it).0 e
   no_demo e none (Demo seed steps) it = none seed steps it.allowed.0 it.allowed.1 (asked_for (Demo seed steps) it).1
+  no_demo e none (Upgrade p) it = demo_or_upgrade name e (asked_for (Upgrade p) it).0

@@ -4,7 +4,7 @@ use Rattle.clap.specs.Words.{Row, Text}
 
 -- two letters tell the names apart
 abbrev mark : Text → ℕ
-mark name = get_or name 1 0 + get_or name 2 0
+mark name = get_or name 0 0 + get_or name 1 0
 
 pub run_or_dump : (name : Text) → name ≡ codes "run" → name ≡ codes "dump" → ⊥
 run_or_dump name x y = omega (arith, ap mark (sym x ∙ y))
@@ -23,6 +23,18 @@ dump_or_demo name x y = omega (arith, ap mark (sym x ∙ y))
 
 pub init_or_demo : (name : Text) → name ≡ codes "init" → name ≡ codes "demo" → ⊥
 init_or_demo name x y = omega (arith, ap mark (sym x ∙ y))
+
+pub run_or_upgrade : (name : Text) → name ≡ codes "run" → name ≡ codes "upgrade" → ⊥
+run_or_upgrade name x y = omega (arith, ap mark (sym x ∙ y))
+
+pub dump_or_upgrade : (name : Text) → name ≡ codes "dump" → name ≡ codes "upgrade" → ⊥
+dump_or_upgrade name x y = omega (arith, ap mark (sym x ∙ y))
+
+pub init_or_upgrade : (name : Text) → name ≡ codes "init" → name ≡ codes "upgrade" → ⊥
+init_or_upgrade name x y = omega (arith, ap mark (sym x ∙ y))
+
+pub demo_or_upgrade : (name : Text) → name ≡ codes "demo" → name ≡ codes "upgrade" → ⊥
+demo_or_upgrade name x y = omega (arith, ap mark (sym x ∙ y))
 
 abbrev name_in : Option (Text × List Row) → Text
 name_in None = []

@@ -3,9 +3,10 @@ use Rattle.std.proofs.Common.{◌≡◌, ◌∙◌, ℕ, List, Option, Some, Non
 use Rattle.std.specs.Str.Parse.{digits_value, without_leading_plus}
 use Rattle.clap.specs.Words.{Row, Text}
 use Rattle.command_words.specs.declared.asked.Asked.{Asked}
-use Rattle.command_words.specs.declared.asked.Asked.TheVariants.{Init, Run, Dump, Demo}
-use Rattle.command_words.specs.Words.{Asks, Gives, IsFor}
-use Rattle.command_words.proofs.NameLemmas.{run_or_dump, run_or_init, run_or_demo, dump_or_init, dump_or_demo, init_or_demo, one_name, one_rows}
+use Rattle.command_words.specs.declared.asked.Asked.TheVariants.{Init, Run, Dump, Demo, Upgrade}
+use Rattle.formats.specs.declared.params.Params.{Params}
+use Rattle.command_words.specs.Words.{Asks, Gives, GivesParams, IsFor}
+use Rattle.command_words.proofs.NameLemmas.{run_or_dump, run_or_init, run_or_demo, run_or_upgrade, dump_or_init, dump_or_demo, dump_or_upgrade, init_or_demo, init_or_upgrade, demo_or_upgrade, one_name, one_rows}
 
 abbrev text_in : Option Text → Text
 text_in None = []
@@ -17,28 +18,40 @@ one_number rows id m n a b =
     let text : a.text ≡ b.text = ap text_in (sym a.value ∙ b.value) in
     sym a.number ∙ ap (λ t. digits_value 10 (without_leading_plus t)) text ∙ b.number
 
+-- three arguments give the numbers of one store
+one_params : (rows : List Row) (p q : Params) → GivesParams rows p → GivesParams rows q → p ≡ q
+one_params rows p q x y =
+    let a = one_number rows (codes "N") p.objects q.objects x.0 y.0 in
+    let b = one_number rows (codes "CAP") p.cap q.cap x.1 y.1 in
+    let c = one_number rows (codes "LIMIT") p.limit q.limit x.2 y.2 in
+    λ i. record { objects = a i; cap = b i; limit = c i }
+
 -- a subcommand of one name is for one thing
 for_one : (name : Text) (rows : List Row) (a b : Asked) → IsFor a name rows → IsFor b name rows → a ≡ b
 for_one name rows Run Run x y = refl
 for_one name rows Run Dump x y = absurd (run_or_dump name x y)
 for_one name rows Run (Init q) x y = absurd (run_or_init name x y.0)
 for_one name rows Run (Demo k l) x y = absurd (run_or_demo name x y.0)
+for_one name rows Run (Upgrade q) x y = absurd (run_or_upgrade name x y.0)
 for_one name rows Dump Run x y = absurd (run_or_dump name y x)
 for_one name rows Dump Dump x y = refl
 for_one name rows Dump (Init q) x y = absurd (dump_or_init name x y.0)
 for_one name rows Dump (Demo k l) x y = absurd (dump_or_demo name x y.0)
+for_one name rows Dump (Upgrade q) x y = absurd (dump_or_upgrade name x y.0)
 for_one name rows (Init p) Run x y = absurd (run_or_init name y x.0)
 for_one name rows (Init p) Dump x y = absurd (dump_or_init name y x.0)
-for_one name rows (Init p) (Init q) x y =
-    let a = one_number rows (codes "N") p.objects q.objects x.1.0 y.1.0 in
-    let b = one_number rows (codes "CAP") p.cap q.cap x.1.1 y.1.1 in
-    let c = one_number rows (codes "LIMIT") p.limit q.limit x.1.2 y.1.2 in
-    let same : p ≡ q = λ i. record { objects = a i; cap = b i; limit = c i } in
-    ap Init same
+for_one name rows (Init p) (Init q) x y = ap Init (one_params rows p q x.1 y.1)
 for_one name rows (Init p) (Demo k l) x y = absurd (init_or_demo name x.0 y.0)
+for_one name rows (Init p) (Upgrade q) x y = absurd (init_or_upgrade name x.0 y.0)
 for_one name rows (Demo m n) Run x y = absurd (run_or_demo name y x.0)
 for_one name rows (Demo m n) Dump x y = absurd (dump_or_demo name y x.0)
 for_one name rows (Demo m n) (Init q) x y = absurd (init_or_demo name y.0 x.0)
+for_one name rows (Demo m n) (Upgrade q) x y = absurd (demo_or_upgrade name x.0 y.0)
+for_one name rows (Upgrade p) Run x y = absurd (run_or_upgrade name y x.0)
+for_one name rows (Upgrade p) Dump x y = absurd (dump_or_upgrade name y x.0)
+for_one name rows (Upgrade p) (Init q) x y = absurd (init_or_upgrade name y.0 x.0)
+for_one name rows (Upgrade p) (Demo k l) x y = absurd (demo_or_upgrade name y.0 x.0)
+for_one name rows (Upgrade p) (Upgrade q) x y = ap Upgrade (one_params rows p q x.1 y.1)
 for_one name rows (Demo m n) (Demo k l) x y =
     let a = one_number rows (codes "seed") m k x.1.0 y.1.0 in
     let b = one_number rows (codes "steps") n l x.1.1 y.1.1 in

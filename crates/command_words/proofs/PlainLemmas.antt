@@ -10,11 +10,12 @@ use Rattle.clap.specs.Simple.{Shape, built, built_leaf, entered, inherited, mark
 use Rattle.clap.specs.Faults.{check_fault, defaults_fault, entered_fault, fault_of, level_fault, settle_fault, turn_fault, walk_fault}
 use Rattle.clap.specs.ValueTests.{accepts}
 use Rattle.clap.proofs.OnLiterals.{clap_on_literals}
-use Rattle.command_words.specs.Commands.{any, between, init, demo, redo}
+use Rattle.command_words.specs.Commands.{any, between, sized, demo, redo}
 use Rattle.formats.specs.Objects.{IsInRange}
-use Rattle.command_words.specs.Words.{Asks, Gives}
+use Rattle.command_words.specs.Words.{Asks, Gives, GivesParams, IsAllowed, IsFor}
 use Rattle.formats.specs.declared.params.Params.{Params}
-use Rattle.command_words.specs.declared.asked.Asked.TheVariants.{Init, Run, Dump, Demo}
+use Rattle.command_words.specs.declared.asked.Asked.{Asked}
+use Rattle.command_words.specs.declared.asked.Asked.TheVariants.{Init, Run, Dump, Demo, Upgrade}
 use Rattle.command_words.proofs.WordLemmas.{IsNumeralOf, decimal_word, in_any, in_range, option_turn, option_walked, read_signed, value_turn, value_walked, walk_at}
 
 -- ---- the first level
@@ -74,13 +75,7 @@ pub dump_asks : (program : Text) → Asks (program ∷ codes "dump" ∷ []) Dump
 unfolding clap_on_literals
 dump_asks program = record { faultless = refl; named = record { name = codes "dump"; rows = []; is = refl; for = refl; allowed = tt } }
 
--- ---- init
-
-abbrev init_shape : Shape
-init_shape = sub init
-
-abbrev init_rules : List Rule
-init_rules = init_shape.rules
+-- ---- init and upgrade
 
 -- what is held after one word, after two, and after three
 abbrev row : Text → Text → Row
@@ -99,80 +94,105 @@ module _ (a b c : Text) where
   abbrev three : Walk
   three = walk_at (pending (row (codes "N") a ∷ row (codes "CAP") b ∷ []) (codes "LIMIT") (c ∷ [])) idle 4
 
-  abbrev init_rows : List Row
-  init_rows = row (codes "N") a ∷ row (codes "CAP") b ∷ row (codes "LIMIT") c ∷ []
+  abbrev sized_rows : List Row
+  sized_rows = row (codes "N") a ∷ row (codes "CAP") b ∷ row (codes "LIMIT") c ∷ []
 
-  module _ {k m n : ℕ} (is_a : IsNumeralOf k a) (is_b : IsNumeralOf m b) (is_c : IsNumeralOf n c) where
-    first : walked init_rules [] (walk_from nothing_held) a ≡ one
-    first = value_walked a is_a init_rules 1 nothing_held
+-- a subcommand of this name with the numbers of a store
+module _ (name : Text) where
+  abbrev sized_shape : Shape
+  sized_shape = sub (sized name)
 
-    second : walked init_rules [] one b ≡ two
-    second = value_walked b is_b init_rules 2 (pending [] (codes "N") (a ∷ []))
+  abbrev sized_rules : List Rule
+  sized_rules = sized_shape.rules
 
-    third : walked init_rules [] two c ≡ three
-    third = value_walked c is_c init_rules 3 (pending (row (codes "N") a ∷ []) (codes "CAP") (b ∷ []))
+  module _ (a b c : Text) {k m n : ℕ} (is_a : IsNumeralOf k a) (is_b : IsNumeralOf m b) (is_c : IsNumeralOf n c) where
+    first : walked sized_rules [] (walk_from nothing_held) a ≡ one a b c
+    first = value_walked a is_a sized_rules 1 nothing_held
 
-    init_walk : walk init_rules [] nothing_held (a ∷ b ∷ c ∷ []) ≡ three
-    init_walk = ap (λ w. walked init_rules [] (walked init_rules [] w b) c) first ∙ ap (λ w. walked init_rules [] w c) second ∙ third
+    second : walked sized_rules [] (one a b c) b ≡ two a b c
+    second = value_walked b is_b sized_rules 2 (pending [] (codes "N") (a ∷ []))
 
-    pub init_rows_are : rows_after init_rules [] (a ∷ b ∷ c ∷ []) ≡ init_rows
-    init_rows_are = ap (λ (w : Walk). finished init_rules w.held) init_walk
+    third : walked sized_rules [] (two a b c) c ≡ three a b c
+    third = value_walked c is_c sized_rules 3 (pending (row (codes "N") a ∷ []) (codes "CAP") (b ∷ []))
 
-    module _ (in_a : accepts false (between 1 4096) a ≡ true) (in_b : accepts false (between 16 16384) b ≡ true) (in_c : accepts false (between 4128 536870912) c ≡ true) where
-      init_turns : walk_fault init_shape [] (walk_from nothing_held) (a ∷ b ∷ c ∷ []) ≡ []
+    sized_walk : walk sized_rules [] nothing_held (a ∷ b ∷ c ∷ []) ≡ three a b c
+    sized_walk = ap (λ w. walked sized_rules [] (walked sized_rules [] w b) c) first ∙ ap (λ w. walked sized_rules [] w c) second ∙ third
+
+    sized_rows_are : rows_after sized_rules [] (a ∷ b ∷ c ∷ []) ≡ sized_rows a b c
+    sized_rows_are = ap (λ (w : Walk). finished sized_rules w.held) sized_walk
+
+    module _ (in_a : accepts false (between 1 65535) a ≡ true) (in_b : accepts false (between 16 1048576) b ≡ true) (in_c : accepts false (between 4128 536870912) c ≡ true) where
+      sized_turns : walk_fault sized_shape [] (walk_from nothing_held) (a ∷ b ∷ c ∷ []) ≡ []
       unfolding walk_fault
-      init_turns =
-          let one_turn : turn_fault init_shape [] (walk_from nothing_held) a ≡ [] = value_turn a is_a init_shape 1 nothing_held in
-          let two_turn : turn_fault init_shape [] one b ≡ [] = value_turn b is_b init_shape 2 (pending [] (codes "N") (a ∷ [])) ∙ rw in_a refl in
-          let three_turn : turn_fault init_shape [] two c ≡ [] = value_turn c is_c init_shape 3 (pending (row (codes "N") a ∷ []) (codes "CAP") (b ∷ [])) ∙ rw in_b refl in
-          ap (λ k. or_else k (or_else (turn_fault init_shape [] (walked init_rules [] (walk_from nothing_held) a) b) (or_else (turn_fault init_shape [] (walked init_rules [] (walked init_rules [] (walk_from nothing_held) a) b) c) []))) one_turn
-          ∙ ap (λ w. or_else (turn_fault init_shape [] w b) (or_else (turn_fault init_shape [] (walked init_rules [] w b) c) [])) first
-          ∙ ap (λ k. or_else k (or_else (turn_fault init_shape [] (walked init_rules [] one b) c) [])) two_turn
-          ∙ ap (λ w. or_else (turn_fault init_shape [] w c) []) second
+      sized_turns =
+          let one_turn : turn_fault sized_shape [] (walk_from nothing_held) a ≡ [] = value_turn a is_a sized_shape 1 nothing_held in
+          let two_turn : turn_fault sized_shape [] (one a b c) b ≡ [] = value_turn b is_b sized_shape 2 (pending [] (codes "N") (a ∷ [])) ∙ rw in_a refl in
+          let three_turn : turn_fault sized_shape [] (two a b c) c ≡ [] = value_turn c is_c sized_shape 3 (pending (row (codes "N") a ∷ []) (codes "CAP") (b ∷ [])) ∙ rw in_b refl in
+          ap (λ k. or_else k (or_else (turn_fault sized_shape [] (walked sized_rules [] (walk_from nothing_held) a) b) (or_else (turn_fault sized_shape [] (walked sized_rules [] (walked sized_rules [] (walk_from nothing_held) a) b) c) []))) one_turn
+          ∙ ap (λ w. or_else (turn_fault sized_shape [] w b) (or_else (turn_fault sized_shape [] (walked sized_rules [] w b) c) [])) first
+          ∙ ap (λ k. or_else k (or_else (turn_fault sized_shape [] (walked sized_rules [] (one a b c) b) c) [])) two_turn
+          ∙ ap (λ w. or_else (turn_fault sized_shape [] w c) []) second
           ∙ ap (λ k. or_else k []) three_turn
 
       -- the faults of the level, by where its walk ends and by the faults of the walk
-      pub init_faultless : level_fault init_shape [] nothing_held (a ∷ b ∷ c ∷ []) false [] ≡ []
+      sized_faultless : level_fault sized_shape [] nothing_held (a ∷ b ∷ c ∷ []) false [] ≡ []
       unfolding defaults_fault
-      init_faultless =
-          ap (λ w. level_end init_shape w (walk_fault init_shape [] (walk_from nothing_held) (a ∷ b ∷ c ∷ []))) init_walk
-          ∙ ap (level_end init_shape three) init_turns ∙ rw in_c refl
+      sized_faultless =
+          ap (λ w. level_end sized_shape w (walk_fault sized_shape [] (walk_from nothing_held) (a ∷ b ∷ c ∷ []))) sized_walk
+          ∙ ap (level_end sized_shape (three a b c)) sized_turns ∙ rw in_c refl
 
 -- ---- the numbers of the words
 
 gives : (id : Text) (n : ℕ) (word : Text) (rows : List Row) → IsNumeralOf n word → one_of id rows ≡ Some word → Gives rows id n
 gives id n word rows is value = record { text = word; value = value; numeral = subst (IsNumeral 10) (sym is.no_plus) is.numeral; number = ap (digits_value 10) is.no_plus ∙ is.number }
 
-init_stops : (a b c : Text) → walk top.rules (names_of (built redo)) nothing_held (codes "init" ∷ a ∷ b ∷ c ∷ []) ≡ stopped_at (codes "init") (a ∷ b ∷ c ∷ [])
-unfolding clap_on_literals
-init_stops a b c = refl
+-- The command set has a subcommand of this name, with the numbers of a store.
+record IsSized (name : Text) : Type 0 where
+  pub stops : (a b c : Text) → walk top.rules (names_of (built redo)) nothing_held (name ∷ a ∷ b ∷ c ∷ []) ≡ stopped_at name (a ∷ b ∷ c ∷ [])
+  pub named : (a b c : Text) → walk_fault top (names_of (built redo)) (walk_from nothing_held) (name ∷ a ∷ b ∷ c ∷ []) ≡ []
+  pub enters : (words : List Text) → entered_fault (built redo) (Some (name, words)) ≡ level_fault (sized_shape name) [] nothing_held words false []
+  pub rows : (words : List Text) → entered (built redo) (Some (name, words)) ≡ Some (name, rows_after (sized_rules name) [] words)
 
-init_named : (a b c : Text) → walk_fault top (names_of (built redo)) (walk_from nothing_held) (codes "init" ∷ a ∷ b ∷ c ∷ []) ≡ []
+init_sized : IsSized (codes "init")
 unfolding clap_on_literals
-init_named a b c = refl
+init_sized = record { stops = λ a b c. refl; named = λ a b c. refl; enters = λ words. refl; rows = λ words. refl }
 
-pub init_asks : (program : Text) (p : Params) → IsInRange p → Asks (program ∷ codes "init" ∷ decimal p.objects ∷ decimal p.cap ∷ decimal p.limit ∷ []) (Init p)
-init_asks program p range =
+upgrade_sized : IsSized (codes "upgrade")
+unfolding clap_on_literals
+upgrade_sized = record { stops = λ a b c. refl; named = λ a b c. refl; enters = λ words. refl; rows = λ words. refl }
+
+-- the words of one ask what the subcommand is for
+sized_asks : (program name : Text) → IsSized name → (p : Params) → IsInRange p → (asked : Asked) → ((rows : List Row) → GivesParams rows p → IsFor asked name rows) → IsAllowed asked
+    → Asks (program ∷ name ∷ decimal p.objects ∷ decimal p.cap ∷ decimal p.limit ∷ []) asked
+sized_asks program name sized p range asked for allowed =
     let a = decimal p.objects in
     let b = decimal p.cap in
     let c = decimal p.limit in
     let is_a = decimal_word p.objects (omega (arith, range.objects)) in
     let is_b = decimal_word p.cap (omega (arith, range.cap)) in
     let is_c = decimal_word p.limit (omega (arith, range.limit)) in
-    let in_a = in_range 1 4096 p.objects a is_a (omega (arith, range.objects)) range.some range.objects in
-    let in_b = in_range 16 16384 p.cap b is_b (omega (arith, range.cap)) range.low range.cap in
+    let in_a = in_range 1 65535 p.objects a is_a (omega (arith, range.objects)) range.some range.objects in
+    let in_b = in_range 16 1048576 p.cap b is_b (omega (arith, range.cap)) range.low range.cap in
     let in_c = in_range 4128 536870912 p.limit c is_c (omega (arith, range.limit)) (omega (arith, range.low, range.least)) range.limit in
-    let rows = init_rows a b c in
+    let words = a ∷ b ∷ c ∷ [] in
+    let rows = sized_rows a b c in
+    let entered_as = sized.rows words ∙ ap (λ rs. Some (name, rs)) (sized_rows_are name a b c is_a is_b is_c) in
     record {
-      faultless = taken program (codes "init") (a ∷ b ∷ c ∷ []) init_shape (init_stops a b c) (init_named a b c) refl refl (init_faultless a b c is_a is_b is_c in_a in_b in_c);
+      faultless = taken program name words (sized_shape name) (sized.stops a b c) (sized.named a b c) (sized.enters words) (ap is_some entered_as) (sized_faultless name a b c is_a is_b is_c in_a in_b in_c);
       named = record {
-        name = codes "init";
+        name = name;
         rows = rows;
-        is = taken_as program (codes "init") (a ∷ b ∷ c ∷ []) init_shape (init_stops a b c) ∙ ap (λ rs. Some (codes "init", rs)) (init_rows_are a b c is_a is_b is_c);
-        for = (refl, (gives (codes "N") p.objects a rows is_a (read_signed a is_a), gives (codes "CAP") p.cap b rows is_b (read_signed b is_b), gives (codes "LIMIT") p.limit c rows is_c (read_signed c is_c)));
-        allowed = range;
+        is = taken_as program name words (sized_shape name) (sized.stops a b c) ∙ entered_as;
+        for = for rows (gives (codes "N") p.objects a rows is_a (read_signed a is_a), gives (codes "CAP") p.cap b rows is_b (read_signed b is_b), gives (codes "LIMIT") p.limit c rows is_c (read_signed c is_c));
+        allowed = allowed;
       };
     }
+
+pub init_asks : (program : Text) (p : Params) → IsInRange p → Asks (program ∷ codes "init" ∷ decimal p.objects ∷ decimal p.cap ∷ decimal p.limit ∷ []) (Init p)
+init_asks program p range = sized_asks program (codes "init") init_sized p range (Init p) (λ rows all. (refl, all)) range
+
+pub upgrade_asks : (program : Text) (p : Params) → IsInRange p → Asks (program ∷ codes "upgrade" ∷ decimal p.objects ∷ decimal p.cap ∷ decimal p.limit ∷ []) (Upgrade p)
+upgrade_asks program p range = sized_asks program (codes "upgrade") upgrade_sized p range (Upgrade p) (λ rows all. (refl, all)) range
 
 -- ---- demo, with its options in either order
 

@@ -20,9 +20,10 @@ between least most = Signed (pos least) (pos most)
 abbrev pub any : ValueParser
 any = Unsigned 0 18446744073709551615
 
-abbrev pub init : Shape
-init = record (new_shape (codes "init")) {
-  rules = number (codes "N") (between 1 4096) ∷ number (codes "CAP") (between 16 16384) ∷ number (codes "LIMIT") (between 4128 536870912) ∷ [];
+-- a subcommand of this name with the numbers of a store
+abbrev pub sized : Text → Shape
+sized name = record (new_shape name) {
+  rules = number (codes "N") (between 1 65535) ∷ number (codes "CAP") (between 16 1048576) ∷ number (codes "LIMIT") (between 4128 536870912) ∷ [];
 }
 
 abbrev pub demo : Shape
@@ -30,9 +31,9 @@ demo = record (new_shape (codes "demo")) {
   rules = option (codes "seed") any ∷ option (codes "steps") (between 0 1000000) ∷ [];
 }
 
--- four subcommands, of which one has to be named; where nothing is said at all, help is the answer
+-- five subcommands, of which one has to be named; where nothing is said at all, help is the answer
 abbrev pub redo : App
 redo = record {
   top = record (new_shape (codes "redo")) { is_leaf = false; subcommand_required = true; arg_required_else_help = true };
-  subs = init ∷ new_shape (codes "run") ∷ new_shape (codes "dump") ∷ demo ∷ [];
+  subs = sized (codes "init") ∷ new_shape (codes "run") ∷ new_shape (codes "dump") ∷ demo ∷ sized (codes "upgrade") ∷ [];
 }

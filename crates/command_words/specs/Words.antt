@@ -6,7 +6,7 @@ use Rattle.clap.specs.Words.{Row, Text, fault_of, one_of, subcommand_of}
 use Rattle.command_words.specs.Commands.{redo}
 use Rattle.formats.specs.declared.params.Params.{Params}
 use Rattle.command_words.specs.declared.asked.Asked.{Asked}
-use Rattle.command_words.specs.declared.asked.Asked.TheVariants.{Init, Run, Dump, Demo}
+use Rattle.command_words.specs.declared.asked.Asked.TheVariants.{Init, Run, Dump, Demo, Upgrade}
 
 -- the value of the argument of this name is a numeral of n, perhaps after a plus
 pub record Gives (rows : List Row) (id : Text) (n : ℕ) : Type 0 where
@@ -27,6 +27,7 @@ abbrev pub IsFor : Asked → Text → List Row → Type 0
 IsFor Run name rows = name ≡ codes "run"
 IsFor Dump name rows = name ≡ codes "dump"
 IsFor (Init params) name rows = (name ≡ codes "init") × GivesParams rows params
+IsFor (Upgrade params) name rows = (name ≡ codes "upgrade") × GivesParams rows params
 IsFor (Demo seed steps) name rows = (name ≡ codes "demo") × GivesDemo rows seed steps
 
 -- the numbers are in their ranges
@@ -34,6 +35,7 @@ abbrev pub IsAllowed : Asked → Type 0
 IsAllowed Run = ⊤
 IsAllowed Dump = ⊤
 IsAllowed (Init params) = IsInRange params
+IsAllowed (Upgrade params) = IsInRange params
 IsAllowed (Demo seed steps) = (seed < 2 ^ 64) × (steps ≤ 1000000)
 
 -- the subcommand that was named asks this

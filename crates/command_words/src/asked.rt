@@ -11,4 +11,6 @@ pub enum Asked {
     Dump,
     /// `demo --seed S --steps T`: a script of so many steps is made from the seed and answered, in memory.
     Demo { seed: u64, steps: u32 },
+    /// `upgrade N CAP LIMIT`: the store gets these limits, where it stands.
+    Upgrade(Params),
 }

@@ -2,7 +2,7 @@
 ghost use Rattle.std.specs.Prelude.{◌≡◌, IfOk, false};
 ghost use Rattle.clap.specs.Words.{app_of, rule_of, shape_of};
 ghost use Rattle.clap.specs.declared.builder.command.Command.TheViews.{out-Command};
-ghost use Rattle.command_words.specs.Commands.{number, option, init, demo, redo};
+ghost use Rattle.command_words.specs.Commands.{number, option, sized, demo, redo};
 
 use clap::builder::ValueParser;
 use clap::{Arg, Command, value_parser};
@@ -16,7 +16,9 @@ const MORE: &str =
 const LINES: &str = "Lines:\n  \
     put X HEX, get X, copy X Y, append X Y, cut X Y K, sort X Y W, swap X Y\n  \
     exec A, arun A N, aread A X, awrite A X\n  \
+    pexec A P, prun A P N, pread A X, pwrite A X\n  \
     tinsert LO HI KEY VAL, tget LO HI KEY, tdelete LO HI KEY, trange LO HI FROM TO\n  \
+    hset LO HI KEY VAL, hget LO HI KEY, hdel LO HI KEY\n  \
     begin, end, force, install, drain, checkpoint, trim, stat, # a comment\n\n\
     The lines drain and trim make a full log short again. `rlwrap redo run` lets lines be edited; Ctrl-D ends\n\
     the input and forces, Ctrl-C loses what is not forced.";
@@ -37,21 +39,21 @@ fn option<'a>(alloc: Global, id: &'a str, values: ValueParser<'a>) -> Arg<'a>
     number(alloc, id, values).long(id)
 }
 
-/// `init N CAP LIMIT`.
-fn init<'a>(alloc: Global) -> Result<Command<'a>, AllocError>
-    ensures { IfOk result (λ c. (shape_of c ≡ init) × ((out-Command c).has_globals ≡ false)) }
+/// `init N CAP LIMIT`, or another command with the three numbers of a store.
+fn sized<'a>(alloc: Global, name: &'a str, about: &'a str) -> Result<Command<'a>, AllocError>
+    ensures { IfOk result (λ c. (shape_of c ≡ sized name.entry.now) × ((out-Command c).has_globals ≡ false)) }
 {
-    let objects = number(alloc, "N", value_parser!(u32).range(1..=4096)).help(
-        "How many objects, 1 to 4096",
+    let objects = number(alloc, "N", value_parser!(u32).range(1..=65535)).help(
+        "How many objects, 1 to 65535",
     );
-    let cap = number(alloc, "CAP", value_parser!(u32).range(16..=16384)).help(
-        "The most bytes of an object, 16 to 16384; a map needs 1024",
+    let cap = number(alloc, "CAP", value_parser!(u32).range(16..=1048576)).help(
+        "The most bytes of an object, 16 to 1048576; a map needs 1024",
     );
     let limit = number(alloc, "LIMIT", value_parser!(u32).range(4128..=536870912)).help(
         "How many bytes the log may grow to, 2 x CAP + 4096 to 536870912",
     );
-    Command::new(alloc, "init")
-        .about("Makes a new store in this folder")
+    Command::new(alloc, name)
+        .about(about)
         .arg(objects)?
         .arg(cap)?
         .arg(limit)
@@ -81,14 +83,21 @@ pub fn redo<'a>(alloc: Global) -> Result<Command<'a>, AllocError>
         .after_help(LINES)
         .about("Answers the lines of standard input");
     let dump = Command::new(alloc, "dump").about("Reports the objects that are not empty");
+    let init = sized(alloc, "init", "Makes a new store in this folder")?;
+    let upgrade = sized(
+        alloc,
+        "upgrade",
+        "Gives the store more objects and longer ones, and a log of this limit",
+    )?;
     Command::new(alloc, "redo")
         .bin_name("redo")?
         .about("A recoverable object store")
         .after_help(MORE)
         .subcommand_required(true)
         .arg_required_else_help(true)
-        .subcommand(init(alloc)?)?
+        .subcommand(init)?
         .subcommand(run)?
         .subcommand(dump)?
-        .subcommand(demo(alloc)?)
+        .subcommand(demo(alloc)?)?
+        .subcommand(upgrade)
 }

@@ -20,8 +20,8 @@ fn is_in_range(params: &Params) -> bool
     ensures yes { IsTrue result → IsInRange params.now }
     ensures no { result ≡ false → IsInRange params.now → ⊥ }
 {
-    (1..=4096).contains(&params.objects)
-        && (16..=16384).contains(&params.cap)
+    (1..=65535).contains(&params.objects)
+        && (16..=1048576).contains(&params.cap)
         && (2 * params.cap + 4096..=536870912).contains(&params.limit)
 }
 
@@ -40,8 +40,8 @@ fn long(matches: &ArgMatches<'_>, id: &str) -> Option<u64>
     matches.get_one::<u64>(id)
 }
 
-/// `init N CAP LIMIT`, by the values of the three arguments.
-fn init(values: &ArgMatches<'_>) -> Option<Params>
+/// The numbers of a store, by the values of the three arguments.
+fn params(values: &ArgMatches<'_>) -> Option<Params>
     ensures some { IfSome result (λ p. IsInRange p × GivesParams (rows_of (found_of values.now)) p) }
     ensures none { IfNone result ((p : Params) → IsInRange p → GivesParams (rows_of (found_of values.now)) p → ⊥) }
 {
@@ -79,13 +79,14 @@ fn asked(matches: &ArgMatches<'_>) -> Option<Asked>
 {
     let (name, values) = matches.subcommand()?;
     match name {
-        "init" => Some(Asked::Init(init(values)?)),
+        "init" => Some(Asked::Init(params(values)?)),
         "run" => Some(Asked::Run),
         "dump" => Some(Asked::Dump),
         "demo" => {
             let (seed, steps) = demo(values)?;
             Some(Asked::Demo { seed, steps })
         }
+        "upgrade" => Some(Asked::Upgrade(params(values)?)),
         _ => None,
     }
 }

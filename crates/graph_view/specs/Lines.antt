@@ -1,10 +1,10 @@
 -- The entries of the commands that the lines of a script ask for, all of them taken as accepted.
 use Rattle.std.specs.Prelude.{◌≡◌, ⊤, ℕ, ◌+◌, false, List, [], ◌∷◌, ◌++◌, length, Option, Some, None}
 use Rattle.install_order.specs.declared.entry.Entry.{Entry}
-use Rattle.op_meaning.specs.Table.{plain_row}
-use Rattle.op_meaning.specs.declared.plain_op.PlainOp.{PlainOp}
+use Rattle.oper_core.specs.Meaning.{Meaning}
+use Rattle.op_codec.specs.AllOps.{AllOps, all_meaning}
 use Rattle.script_lines.specs.Grammar.{Request, AsksFor, IsBad, lines_of}
-use Rattle.script_lines.specs.declared.line.Line.TheVariants.{Run, AppRun, TreeInsert, TreeDelete, TreeGet, TreeRange, Get, Force, Install, Drain, Checkpoint, Trim, Begin, End, Stat, Skip}
+use Rattle.script_lines.specs.declared.line.Line.TheVariants.{Run, AppRun, ProgramRun, TreeInsert, TreeDelete, TreeGet, TreeRange, HashPut, HashGet, HashDelete, Get, Force, Install, Drain, Checkpoint, Trim, Begin, End, Stat, Skip}
 use Rattle.graph_view.specs.declared.accesses.Accesses.{Accesses}
 use Rattle.graph_view.specs.declared.asked.Asked.{Asked}
 use Rattle.graph_view.specs.declared.asked.Asked.TheVariants.{Command, Nothing, Several, Bad}
@@ -12,19 +12,27 @@ use Rattle.graph_view.specs.declared.draw_error.DrawError.{DrawError}
 use Rattle.graph_view.specs.declared.draw_error.DrawError.TheVariants as errors
 use Rattle.graph_view.specs.Dot.{IsGraph}
 
--- a command that is this operation
-abbrev pub by_row : PlainOp → Asked
-by_row op = Command (record { reads = (plain_row op).names.reads; writes = (plain_row op).names.writes })
+-- the operations of a store, in any bounds: what they read and write is the same in all
+abbrev meaning : Meaning AllOps
+meaning = all_meaning (record { objects = 0; cap = 0 })
+
+-- what an operation reads, and what it writes
+abbrev pub accesses_of : AllOps → Accesses
+accesses_of op = record { reads = meaning.reads op; writes = meaning.writes op }
 
 -- what a request is to the write graph: how many commands a run of an application or a change of a tree makes depends on the
 -- values; all others but the operations make none
 abbrev pub asked_by : Request → Asked
-asked_by (Run op) = by_row op
+asked_by (Run op) = Command (accesses_of op)
 asked_by (AppRun app steps) = Several
+asked_by (ProgramRun app program steps) = Several
 asked_by (TreeInsert low high key value) = Several
 asked_by (TreeDelete low high key) = Several
+asked_by (HashPut low high key value) = Several
+asked_by (HashDelete low high key) = Several
 asked_by (TreeGet low high key) = Nothing
 asked_by (TreeRange low high from to) = Nothing
+asked_by (HashGet low high key) = Nothing
 asked_by (Get x) = Nothing
 asked_by Force = Nothing
 asked_by Install = Nothing

@@ -1,8 +1,9 @@
-ghost use Rattle.std.specs.Prelude.{List, ℕ, IfOk};
+ghost use Rattle.std.specs.Prelude.{◌≡◌, List, ℕ, IfOk};
 ghost use Rattle.script_lines.specs.Grammar.{AsksFor};
-ghost use Rattle.graph_view.specs.Lines.{IsAsked};
+ghost use Rattle.graph_view.specs.Lines.{IsAsked, accesses_of};
 
 use crate::accesses::Accesses;
+use op_codec::AllOps;
 use oper_core::Memory;
 use script_lines::{Line, LineErr, parse_line};
 use std::alloc::Global;
@@ -18,6 +19,13 @@ pub enum Asked {
     Several,
     /// The line is outside the grammar.
     Bad,
+}
+
+/// What an operation of a store reads, and what it writes.
+fn accesses_of(op: AllOps) -> Accesses
+    ensures { result ≡ accesses_of op }
+{
+    Accesses::of(op)
 }
 
 impl Asked {
@@ -37,12 +45,16 @@ impl Asked {
         ensures { (bytes : List ℕ) → AsksFor bytes line → IsAsked bytes result }
     {
         match line {
-            Line::Run(op) => Asked::Command(Accesses::of(op)),
-            Line::AppRun { .. } | Line::TreeInsert { .. } | Line::TreeDelete { .. } => {
-                Asked::Several
-            }
+            Line::Run(op) => Asked::Command(accesses_of(op)),
+            Line::AppRun { .. }
+            | Line::ProgramRun { .. }
+            | Line::TreeInsert { .. }
+            | Line::TreeDelete { .. }
+            | Line::HashPut { .. }
+            | Line::HashDelete { .. } => Asked::Several,
             Line::TreeGet { .. }
             | Line::TreeRange { .. }
+            | Line::HashGet { .. }
             | Line::Get { .. }
             | Line::Force
             | Line::Install

@@ -9,11 +9,13 @@ use Rattle.std.specs.Str.{bytes_eq, all_ascii_digits}
 use Rattle.std.specs.Char.{is_ascii_digit}
 use Rattle.oper_core.specs.declared.refusal.Refusal.{Refusal}
 use Rattle.oper_core.specs.declared.refusal.Refusal.TheVariants.{NoObject, Same, BadPlace, BadWidth, NotApp, NotCode, Halted, NoInput, NotNode, NoKey, NodeFull, TooLarge}
-use Rattle.script_lines.specs.Replies.{Reply, ok, value, forced, bad, refused, full, end, object_value, command_count, stat, ran, pairs, bad_tree, tree_full, in_group, no_group, summary, silence, Pair, pair_text, spaced_pair, pairs_reply, spaced, numbers_of, AreSmall, HasSmallNumbers, hex_glyph, hex_pair, hex_text, name_of, text_of, reply_of, said_line}
+use Rattle.script_lines.specs.Replies.{Reply, ok, value, forced, bad, refused, full, end, object_value, command_count, stat, ran, pairs, bad_tree, tree_full, denied, in_group, no_group, summary, silence, Pair, pair_text, spaced_pair, pairs_reply, spaced, numbers_of, AreSmall, HasSmallNumbers, hex_glyph, hex_pair, hex_text, denial_name, name_of, text_of, reply_of, said_line}
+use Rattle.script_lines.specs.declared.denial.Denial.{Denial}
+use Rattle.script_lines.specs.declared.denial.Denial.TheVariants.{BadHash, HashFull, NoRoom}
 use Rattle.script_lines.specs.declared.answer.Answer.{Answer}
 use Rattle.script_lines.specs.declared.answer.StatLine.{StatLine}
 use Rattle.script_lines.specs.declared.answer.Totals.{Totals}
-use Rattle.script_lines.specs.declared.answer.Answer.TheVariants.{Done, Value, Forced, Bad, Refused, Full, End, Object, Commands, Stat, Ran, Pairs, BadTree, TreeFull, InGroup, NoGroup, Summary}
+use Rattle.script_lines.specs.declared.answer.Answer.TheVariants.{Done, Value, Forced, Bad, Refused, Full, End, Object, Commands, Stat, Ran, Pairs, BadTree, TreeFull, Denied, InGroup, NoGroup, Summary}
 use Rattle.script_lines.proofs.NumberLemmas.{own}
 
 -- some byte of the text is this one
@@ -37,6 +39,7 @@ kind (ran n) = 10
 kind (pairs pair others) = 11
 kind bad_tree = 4
 kind tree_full = 4
+kind (denied why) = 4
 kind in_group = 4
 kind no_group = 4
 kind (summary totals) = 12
@@ -293,9 +296,17 @@ named TooLarge = refl
 refused_one : (a b : Refusal) → name_of a ≡ name_of b → a ≡ b
 refused_one a b same = sym (named a) ∙ ap refusal_of same ∙ named b
 
--- a refusal of a tree, or of a group, has a name of its own
+-- a refusal of a tree, of a hash file or of a group has a name of its own
 abbrev tree_name : List ℕ → ℕ
-tree_name name = if bytes_eq name (codes "BadTree") then 1 else if bytes_eq name (codes "TreeFull") then 2 else if bytes_eq name (codes "InGroup") then 3 else if bytes_eq name (codes "NoGroup") then 4 else 0
+tree_name name =
+    if bytes_eq name (codes "BadTree") then 1
+    else if bytes_eq name (codes "TreeFull") then 2
+    else if bytes_eq name (codes "InGroup") then 3
+    else if bytes_eq name (codes "NoGroup") then 4
+    else if bytes_eq name (codes "BadHash") then 5
+    else if bytes_eq name (codes "HashFull") then 6
+    else if bytes_eq name (codes "NoRoom") then 7
+    else 0
 
 other_name : (refusal : Refusal) → tree_name (name_of refusal) ≡ 0
 other_name NoObject = refl
@@ -322,6 +333,35 @@ not_in_group a same = let is : tree_name (name_of a) ≡ 3 = ap (λ (l : List �
 
 not_no_group : (a : Refusal) → codes "refused " ++ name_of a ≡ codes "refused NoGroup" → ⊥
 not_no_group a same = let is : tree_name (name_of a) ≡ 4 = ap (λ (l : List ℕ). tree_name (drop 8 l)) same in omega (arith, other_name a, is)
+
+-- and so has each of a hash file
+abbrev denial_of : ℕ → Denial
+denial_of n = if n == 5 then BadHash else if n == 6 then HashFull else NoRoom
+
+denial_named : (why : Denial) → denial_of (tree_name (denial_name why)) ≡ why
+denial_named BadHash = refl
+denial_named HashFull = refl
+denial_named NoRoom = refl
+
+denied_one : (a b : Denial) → denial_name a ≡ denial_name b → a ≡ b
+denied_one a b same = sym (denial_named a) ∙ ap (λ (l : List ℕ). denial_of (tree_name l)) same ∙ denial_named b
+
+denial_mark : (why : Denial) → 5 ≤ tree_name (denial_name why)
+denial_mark BadHash = omega arith
+denial_mark HashFull = omega arith
+denial_mark NoRoom = omega arith
+
+-- so no other text is that of one
+not_denied : (why : Denial) (text : List ℕ) → tree_name (drop 8 text) ≤ 4 → codes "refused " ++ denial_name why ≡ text → ⊥
+not_denied why text other same = let is : tree_name (denial_name why) ≡ tree_name (drop 8 text) = ap (λ (l : List ℕ). tree_name (drop 8 l)) same in omega (arith, denial_mark why, is, other)
+
+not_denied_refused : (why : Denial) (a : Refusal) → codes "refused " ++ denial_name why ≡ codes "refused " ++ name_of a → ⊥
+not_denied_refused why a same = let is : tree_name (denial_name why) ≡ tree_name (name_of a) = ap (λ (l : List ℕ). tree_name (drop 8 l)) same in omega (arith, denial_mark why, other_name a, is)
+
+no_colon_denial : (why : Denial) → has 58 (denial_name why) ≡ false
+no_colon_denial BadHash = refl
+no_colon_denial HashFull = refl
+no_colon_denial NoRoom = refl
 
 no_colon_name : (refusal : Refusal) → has 58 (name_of refusal) ≡ false
 no_colon_name NoObject = refl
@@ -435,6 +475,7 @@ kind_told (ran n) small = without (codes "ran " ++ decimal n) 10 (no_colon_decim
 kind_told (pairs pair others) small = ap (λ (t : Bool). if t then 11 else plain_kind (pair_text pair ++ flat_map spaced_pair others)) (has_colon pair (flat_map spaced_pair others))
 kind_told bad_tree small = refl
 kind_told tree_full small = refl
+kind_told (denied why) small = without (codes "refused " ++ denial_name why) 4 (no_colon_denial why) refl
 kind_told in_group small = refl
 kind_told no_group small = refl
 kind_told (summary totals) small = without (to_sum totals) 12 (ap (has 58) (regrouped totals) ∙ no_colon_totals totals small) refl
@@ -472,6 +513,17 @@ same_kind (refused a) bad_tree p q like same = absurd (not_bad_tree a same)
 same_kind (refused a) tree_full p q like same = absurd (not_tree_full a same)
 same_kind bad_tree (refused a) p q like same = absurd (not_bad_tree a (sym same))
 same_kind tree_full (refused a) p q like same = absurd (not_tree_full a (sym same))
+same_kind (denied a) (denied b) p q like same = ap denied (denied_one a b (ap (λ (l : List ℕ). drop 8 l) same))
+same_kind (denied a) (refused b) p q like same = absurd (not_denied_refused a b same)
+same_kind (refused b) (denied a) p q like same = absurd (not_denied_refused a b (sym same))
+same_kind (denied a) bad_tree p q like same = absurd (not_denied a (codes "refused BadTree") (omega arith) same)
+same_kind (denied a) tree_full p q like same = absurd (not_denied a (codes "refused TreeFull") (omega arith) same)
+same_kind (denied a) in_group p q like same = absurd (not_denied a (codes "refused InGroup") (omega arith) same)
+same_kind (denied a) no_group p q like same = absurd (not_denied a (codes "refused NoGroup") (omega arith) same)
+same_kind bad_tree (denied a) p q like same = absurd (not_denied a (codes "refused BadTree") (omega arith) (sym same))
+same_kind tree_full (denied a) p q like same = absurd (not_denied a (codes "refused TreeFull") (omega arith) (sym same))
+same_kind in_group (denied a) p q like same = absurd (not_denied a (codes "refused InGroup") (omega arith) (sym same))
+same_kind no_group (denied a) p q like same = absurd (not_denied a (codes "refused NoGroup") (omega arith) (sym same))
 same_kind in_group in_group p q like same = refl
 same_kind no_group no_group p q like same = refl
 same_kind bad_tree in_group p q like same = absurd (omega (arith, ap (λ (l : List ℕ). get_or l 8 0) same))
@@ -557,6 +609,7 @@ said_answer (Ran n) = refl
 said_answer (Pairs found) = said_pairs found.now
 said_answer BadTree = refl
 said_answer TreeFull = refl
+said_answer (Denied why) = refl
 said_answer InGroup = refl
 said_answer NoGroup = refl
 said_answer (Summary totals) = refl

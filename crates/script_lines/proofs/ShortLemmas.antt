@@ -2,7 +2,7 @@
 use Rattle.std.proofs.Common.{◌≡◌, ◌*◌, ◌<◌, ◌≤◌, List, ℕ, [], Option, Some, None, length, refl, sym, ◌∙◌, ap, subst, arith, Bool, true, false, if◌then◌else◌, IsTrue, inr, ⊎_elim, codes}
 use Rattle.std.specs.Option.{IfSome, IfNone}
 use Rattle.std.proofs.lemmas.Bool.Decides.{nat_tests}
-use Rattle.btree_ops.specs.Short.{is_short}
+use Rattle.key_entries.specs.Short.{is_short}
 use Rattle.script_lines.specs.Grammar.{IsHexOf, none, byte, SaysShort}
 use Rattle.script_lines.proofs.HexLemmas.{hex_of_one}
 

@@ -2,10 +2,12 @@
 use Rattle.std.specs.Prelude.{◌≡◌, ℕ, ◌+◌, ◌*◌, ◌-◌, ◌^◌, ◌<◌, ◌≤◌, ◌⊎◌, ◌++◌, List, [], ◌∷◌, Option, Some, None, codes, if◌then◌else◌, ◌==◌, nat_le, nat_lt, length, IsTrue}
 use Rattle.std.specs.Fmt.{decimal}
 use Rattle.std.specs.Str.{bytes_eq}
-use Rattle.btree_ops.specs.Short.{is_short}
+use Rattle.key_entries.specs.Short.{is_short}
+use Rattle.app_program.specs.declared.program_op.ProgramOp.TheVariants.{Step, Feed, Drain as DrainTo}
+use Rattle.op_codec.specs.AllOps.{plain, program}
 use Rattle.op_meaning.specs.declared.plain_op.PlainOp.TheVariants.{Put, Copy, Append, Cut, Sort, Swap, Exec, AppRead, AppWrite}
 use Rattle.script_lines.specs.declared.line.Line.{Line}
-use Rattle.script_lines.specs.declared.line.Line.TheVariants.{Run, AppRun, TreeInsert, TreeGet, TreeDelete, TreeRange, Get, Force, Install, Drain, Checkpoint, Trim, Begin, End, Stat, Skip}
+use Rattle.script_lines.specs.declared.line.Line.TheVariants.{Run, ProgramRun, AppRun, TreeInsert, TreeGet, TreeDelete, TreeRange, HashPut, HashGet, HashDelete, Get, Force, Install, Drain, Checkpoint, Trim, Begin, End, Stat, Skip}
 
 -- one byte more in front of the first text
 abbrev pub before_first : ℕ → List (List ℕ) → List (List ℕ)
@@ -120,6 +122,14 @@ store_rows =
     ∷ row (codes "stat") (asks Stat)
     ∷ []
 
+-- before these those that are asked of a hash file,
+abbrev pub hash_rows : List Row
+hash_rows =
+    row (codes "hset") (range_and_two (λ low high key value. HashPut low high key value))
+    ∷ row (codes "hget") (range_and_key (λ low high key. HashGet low high key))
+    ∷ row (codes "hdel") (range_and_key (λ low high key. HashDelete low high key))
+    ∷ store_rows
+
 -- before these those that are asked of a tree, or for several steps of an application,
 abbrev pub made_rows : List Row
 made_rows =
@@ -128,21 +138,30 @@ made_rows =
     ∷ row (codes "tget") (range_and_key (λ low high key. TreeGet low high key))
     ∷ row (codes "tdelete") (range_and_key (λ low high key. TreeDelete low high key))
     ∷ row (codes "trange") (range_and_two (λ low high from to. TreeRange low high from to))
-    ∷ store_rows
+    ∷ hash_rows
 
--- and before all of these those that are one command.
+-- before these those that are asked of an interpreted application,
+abbrev pub program_rows : List Row
+program_rows =
+    row (codes "pexec") (two (λ app p. Run (program (Step app p))))
+    ∷ row (codes "pread") (two (λ app x. Run (program (Feed app x))))
+    ∷ row (codes "pwrite") (two (λ app x. Run (program (DrainTo app x))))
+    ∷ row (codes "prun") (three (λ app p steps. ProgramRun app p steps))
+    ∷ made_rows
+
+-- and before all of these those that are one command on plain values or on an application.
 abbrev pub rows : List Row
 rows =
-    row (codes "put") (object_and_value (λ x bytes. Run (Put x bytes)))
-    ∷ row (codes "copy") (two (λ x y. Run (Copy x y)))
-    ∷ row (codes "append") (two (λ x y. Run (Append x y)))
-    ∷ row (codes "cut") (three (λ x y place. Run (Cut x y place)))
-    ∷ row (codes "sort") (three (λ x y width. Run (Sort x y width)))
-    ∷ row (codes "swap") (two (λ x y. Run (Swap x y)))
-    ∷ row (codes "exec") (one (λ app. Run (Exec app)))
-    ∷ row (codes "aread") (two (λ app x. Run (AppRead app x)))
-    ∷ row (codes "awrite") (two (λ app x. Run (AppWrite app x)))
-    ∷ made_rows
+    row (codes "put") (object_and_value (λ x bytes. Run (plain (Put x bytes))))
+    ∷ row (codes "copy") (two (λ x y. Run (plain (Copy x y))))
+    ∷ row (codes "append") (two (λ x y. Run (plain (Append x y))))
+    ∷ row (codes "cut") (three (λ x y place. Run (plain (Cut x y place))))
+    ∷ row (codes "sort") (three (λ x y width. Run (plain (Sort x y width))))
+    ∷ row (codes "swap") (two (λ x y. Run (plain (Swap x y))))
+    ∷ row (codes "exec") (one (λ app. Run (plain (Exec app))))
+    ∷ row (codes "aread") (two (λ app x. Run (plain (AppRead app x))))
+    ∷ row (codes "awrite") (two (λ app x. Run (plain (AppWrite app x))))
+    ∷ program_rows
 
 -- the form of the fields after a word, if a row has it
 abbrev pub form_in : List Row → List ℕ → Option Form

@@ -4,10 +4,12 @@ use Rattle.std.specs.List.{flat_map}
 use Rattle.std.specs.Fmt.{decimal}
 use Rattle.oper_core.specs.declared.refusal.Refusal.{Refusal}
 use Rattle.oper_core.specs.declared.refusal.Refusal.TheVariants.{NoObject, Same, BadPlace, BadWidth, NotApp, NotCode, Halted, NoInput, NotNode, NoKey, NodeFull, TooLarge}
+use Rattle.script_lines.specs.declared.denial.Denial.{Denial}
+use Rattle.script_lines.specs.declared.denial.Denial.TheVariants.{BadHash, HashFull, NoRoom}
 use Rattle.script_lines.specs.declared.answer.Answer.{Answer}
 use Rattle.script_lines.specs.declared.answer.StatLine.{StatLine}
 use Rattle.script_lines.specs.declared.answer.Totals.{Totals}
-use Rattle.script_lines.specs.declared.answer.Answer.TheVariants.{Done, Value, Forced, Bad, Refused, Full, End, Object, Commands, Stat, Ran, Pairs, BadTree, TreeFull, InGroup, NoGroup, Summary}
+use Rattle.script_lines.specs.declared.answer.Answer.TheVariants.{Done, Value, Forced, Bad, Refused, Full, End, Object, Commands, Stat, Ran, Pairs, BadTree, TreeFull, Denied, InGroup, NoGroup, Summary}
 
 -- a key and its value
 abbrev pub Pair : Type 0
@@ -38,6 +40,8 @@ pub data Reply : Type 0 where
   bad_tree : Reply
   -- the tree has too few free objects
   tree_full : Reply
+  -- a call on a hash file is refused
+  denied : Denial → Reply
   -- a group is open
   in_group : Reply
   -- no group is open
@@ -68,6 +72,7 @@ reply_of (Ran n) = ran n
 reply_of (Pairs found) = pairs_reply found.now
 reply_of BadTree = bad_tree
 reply_of TreeFull = tree_full
+reply_of (Denied why) = denied why
 reply_of InGroup = in_group
 reply_of NoGroup = no_group
 reply_of (Summary totals) = summary totals
@@ -99,6 +104,12 @@ name_of NotNode = codes "NotNode"
 name_of NoKey = codes "NoKey"
 name_of NodeFull = codes "NodeFull"
 name_of TooLarge = codes "TooLarge"
+
+-- the name of a hash file's refusal
+abbrev pub denial_name : Denial → List ℕ
+denial_name BadHash = codes "BadHash"
+denial_name HashFull = codes "HashFull"
+denial_name NoRoom = codes "NoRoom"
 
 -- a number in digits after a space
 abbrev pub spaced : ℕ → List ℕ
@@ -132,6 +143,7 @@ text_of (ran n) = codes "ran " ++ decimal n
 text_of (pairs pair others) = pair_text pair ++ flat_map spaced_pair others
 text_of bad_tree = codes "refused BadTree"
 text_of tree_full = codes "refused TreeFull"
+text_of (denied why) = codes "refused " ++ denial_name why
 text_of in_group = codes "refused InGroup"
 text_of no_group = codes "refused NoGroup"
 text_of (summary totals) = codes "demo seed " ++ decimal totals.seed ++ codes " steps " ++ decimal totals.steps ++ codes " lines " ++ decimal totals.lines

@@ -3,9 +3,10 @@ ghost use Rattle.std.specs.Fmt.{decimal};
 ghost use Rattle.std.specs.List.{flat_map};
 ghost use Rattle.script_lines.specs.Replies.{reply_of, pairs_reply, summary, text_of, said_line, name_of, spaced, numbers_of, pair_text, spaced_pair};
 
+use crate::denial::{Denial, denial_name};
 use crate::hex::{push_hex, push_value};
 use crate::number::{push_number, push_numbers};
-use btree_ops::Short;
+use key_entries::Short;
 use oper_core::{Memory, Refusal};
 use std::alloc::Global;
 
@@ -78,6 +79,8 @@ pub enum Answer<'a> {
     BadTree,
     /// The tree has too few free objects for an insert: `refused TreeFull`.
     TreeFull,
+    /// A call on a hash file is refused: `refused NAME`.
+    Denied(Denial),
     /// A group is open, and does not allow what the line asks: `refused InGroup`.
     InGroup,
     /// No group is open that could end: `refused NoGroup`.
@@ -113,6 +116,15 @@ fn push_counted(alloc: Global, text: &mut Vec<u8>, word: &[u8], number: u64) -> 
     text.extend_from_slice(word)?;
     text.push(b' ')?;
     push_number(alloc, text, number)
+}
+
+/// Adds `refused` and a name.
+fn push_refused(text: &mut Vec<u8>, name: &[u8]) -> Result<(), Memory>
+    ensures { OnOk result (text.new.items ≡ text.old.items ++ codes "refused " ++ name.now) }
+{
+    text.extend_from_slice(b"refused ")?;
+    text.extend_from_slice(name)?;
+    Ok(())
 }
 
 /// Adds `stat` and the counts.
@@ -203,10 +215,7 @@ fn write_answer(alloc: Global, text: &mut Vec<u8>, answer: &Answer<'_>) -> Resul
         Answer::Value(bytes) => push_value(text, bytes)?,
         Answer::Forced(count) => push_counted(alloc, text, b"forced", *count)?,
         Answer::Bad => text.extend_from_slice(b"bad")?,
-        Answer::Refused(refusal) => {
-            text.extend_from_slice(b"refused ")?;
-            text.extend_from_slice(refusal_name(*refusal))?;
-        }
+        Answer::Refused(refusal) => push_refused(text, refusal_name(*refusal))?,
         Answer::Full { used, need, limit } => {
             push_counted(alloc, text, b"full", *used)?;
             text.push(b' ')?;
@@ -226,6 +235,7 @@ fn write_answer(alloc: Global, text: &mut Vec<u8>, answer: &Answer<'_>) -> Resul
         Answer::Pairs(pairs) => push_pairs(text, pairs)?,
         Answer::BadTree => text.extend_from_slice(b"refused BadTree")?,
         Answer::TreeFull => text.extend_from_slice(b"refused TreeFull")?,
+        Answer::Denied(denial) => push_refused(text, denial_name(*denial))?,
         Answer::InGroup => text.extend_from_slice(b"refused InGroup")?,
         Answer::NoGroup => text.extend_from_slice(b"refused NoGroup")?,
         Answer::Summary(totals) => push_totals(alloc, text, totals)?,

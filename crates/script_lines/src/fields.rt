@@ -5,7 +5,7 @@ ghost use Rattle.script_lines.specs.Grammar.{Request, IsRead, asks, fields_of, o
 
 use crate::hex::{hex_bytes, short_of};
 use crate::number::read_number;
-use btree_ops::Short;
+use key_entries::Short;
 use oper_core::{ByteList, Memory};
 use std::alloc::Global;
 

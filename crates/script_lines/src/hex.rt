@@ -4,7 +4,7 @@ ghost use Rattle.script_lines.specs.Grammar.{IsHex, IsHexOf, SaysShort, hex_digi
 ghost use Rattle.script_lines.specs.Replies.{hex_glyph, hex_pair, hex_text};
 
 use arrayvec::ArrayVec;
-use btree_ops::Short;
+use key_entries::Short;
 use oper_core::Memory;
 use std::alloc::Global;
 

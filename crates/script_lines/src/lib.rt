@@ -3,13 +3,14 @@
 //! The one contract is the grammar of `specs/`, a relation between a line's bytes and what they ask, over one table of the
 //! words: a line is parsed exactly where it asks something, which is then one thing; an answer is exactly the text of its
 //! reply, and no other reply has this text; the reader gives exactly the lines of its source, one after the other; and a
-//! demo's script is exactly that of its seed. The crate depends on op_meaning, whose operations are what most lines ask,
-//! on oper_core, whose refusals an answer names, on btree_ops for the keys of a tree and their values, and on the source
-//! of disk_model.
+//! demo's script is exactly that of its seed. The crate depends on op_codec, op_meaning and app_program, whose operations are
+//! what most lines ask, on oper_core, whose refusals an answer names, on key_entries for keys and their values, and on the
+//! source of disk_model.
 #![tactic(auto)]
 
 mod answer;
 mod demo;
+mod denial;
 mod draws;
 mod fields;
 mod hex;
@@ -24,6 +25,7 @@ mod steps;
 
 pub use answer::{Answer, StatLine, Totals, answer_line, answer_text};
 pub use demo::demo_script;
+pub use denial::Denial;
 pub use laws::{a_line_asks_one_thing, a_text_says_one_thing, scripts_are_short};
 pub use line::{Line, LineErr, MAX_LINE, parse_line};
 pub use next::Next;

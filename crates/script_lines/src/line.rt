@@ -1,11 +1,13 @@
 ghost use Rattle.std.specs.Prelude.{◌≡◌, IfOk, IsErrOf};
-ghost use Rattle.script_lines.specs.Grammar.{AsksFor, IsBad, IsRead, form_in, rows, made_rows, store_rows, fields_of, without_return};
+ghost use Rattle.script_lines.specs.Grammar.{AsksFor, IsBad, IsRead, form_in, rows, program_rows, made_rows, hash_rows, store_rows, fields_of, without_return};
 
 use crate::fields::{
     next_field, no_field, object_and_value, one_number, range_and_key, range_and_two,
     three_numbers, two_numbers,
 };
-use btree_ops::Short;
+use app_program::ProgramOp;
+use key_entries::Short;
+use op_codec::{AllOps, plain_op, program_op};
 use op_meaning::PlainOp;
 use oper_core::Memory;
 use std::alloc::Global;
@@ -17,9 +19,15 @@ pub const MAX_LINE: usize = 40000;
 /// What a line asks.
 #[derive(Drop)]
 pub enum Line {
-    /// `put X HEX`, `copy X Y`, `append X Y`, `cut X Y K`, `sort X Y W`, `swap X Y`, `exec A`, `aread A X`, `awrite A X`:
-    /// one command, which is this operation.
-    Run(PlainOp),
+    /// `put X HEX`, `copy X Y`, `append X Y`, `cut X Y K`, `sort X Y W`, `swap X Y`, `exec A`, `aread A X`, `awrite A X`,
+    /// `pexec A P`, `pread A X`, `pwrite A X`: one command, which is this operation.
+    Run(AllOps),
+    /// `prun A P N`: the program of an object takes so many steps on an application, or as many as it can.
+    ProgramRun {
+        app: u32,
+        program: u32,
+        steps: u32,
+    },
     /// `arun A N`: the application takes so many steps, or as many as its input has bytes.
     AppRun {
         app: u32,
@@ -50,6 +58,25 @@ pub enum Line {
         high: u32,
         from: Short,
         to: Short,
+    },
+    /// `hset LO HI KEY VAL`: the key gets this value, in the hash file of the objects from `low` to `high`.
+    HashPut {
+        low: u32,
+        high: u32,
+        key: Short,
+        value: Short,
+    },
+    /// `hget LO HI KEY`: the value of the key is reported.
+    HashGet {
+        low: u32,
+        high: u32,
+        key: Short,
+    },
+    /// `hdel LO HI KEY`: the key leaves the hash file, with its value.
+    HashDelete {
+        low: u32,
+        high: u32,
+        key: Short,
     },
     /// `get X`: the value of the object is reported.
     Get {
@@ -134,6 +161,26 @@ fn store_line(word: &[u8], rest: &[u8]) -> Option<Line>
     }
 }
 
+/// The same of a line that asks a hash file, too.
+fn hash_line(word: &[u8], rest: &[u8]) -> Option<Line>
+    ensures { IsRead (form_in hash_rows word.now) (fields_of rest.now) result }
+{
+    if word == b"hset".as_slice() {
+        range_and_two(rest).map(|(low, high, key, value)| Line::HashPut {
+            low,
+            high,
+            key,
+            value,
+        })
+    } else if word == b"hget".as_slice() {
+        range_and_key(rest).map(|(low, high, key)| Line::HashGet { low, high, key })
+    } else if word == b"hdel".as_slice() {
+        range_and_key(rest).map(|(low, high, key)| Line::HashDelete { low, high, key })
+    } else {
+        store_line(word, rest)
+    }
+}
+
 /// The same of a line that asks a tree, or for as many steps of an application as it has input, too.
 fn made_line(word: &[u8], rest: &[u8]) -> Option<Line>
     ensures { IsRead (form_in made_rows word.now) (fields_of rest.now) result }
@@ -159,7 +206,30 @@ fn made_line(word: &[u8], rest: &[u8]) -> Option<Line>
             to,
         })
     } else {
-        store_line(word, rest)
+        hash_line(word, rest)
+    }
+}
+
+/// The same of a line that asks an interpreted application, too.
+fn program_line(word: &[u8], rest: &[u8]) -> Option<Line>
+    ensures { IsRead (form_in program_rows word.now) (fields_of rest.now) result }
+{
+    if word == b"pexec".as_slice() {
+        two_numbers(rest).map(|(app, program)| {
+            Line::Run(program_op(ProgramOp::Step { app, program }))
+        })
+    } else if word == b"pread".as_slice() {
+        two_numbers(rest).map(|(app, from)| Line::Run(program_op(ProgramOp::Feed { app, from })))
+    } else if word == b"pwrite".as_slice() {
+        two_numbers(rest).map(|(app, to)| Line::Run(program_op(ProgramOp::Drain { app, to })))
+    } else if word == b"prun".as_slice() {
+        three_numbers(rest).map(|(app, program, steps)| Line::ProgramRun {
+            app,
+            program,
+            steps,
+        })
+    } else {
+        made_line(word, rest)
     }
 }
 
@@ -169,29 +239,36 @@ fn line_of(alloc: Global, word: &[u8], rest: &[u8]) -> Result<Option<Line>, Memo
 {
     if word == b"put".as_slice() {
         let put = object_and_value(alloc, rest)?;
-        Ok(put.map(|(object, value)| Line::Run(PlainOp::Put { object, value })))
+        Ok(put.map(|(object, value)| Line::Run(plain_op(PlainOp::Put { object, value }))))
     } else if word == b"copy".as_slice() {
-        Ok(two_numbers(rest).map(|(from, to)| Line::Run(PlainOp::Copy { from, to })))
+        Ok(two_numbers(rest).map(|(from, to)| Line::Run(plain_op(PlainOp::Copy { from, to }))))
     } else if word == b"append".as_slice() {
-        Ok(two_numbers(rest).map(|(from, to)| Line::Run(PlainOp::Append { from, to })))
+        Ok(two_numbers(rest).map(|(from, to)| Line::Run(plain_op(PlainOp::Append { from, to }))))
     } else if word == b"cut".as_slice() {
-        Ok(three_numbers(rest).map(|(from, to, place)| Line::Run(PlainOp::Cut { from, to, place })))
+        Ok(three_numbers(rest).map(|(from, to, place)| Line::Run(plain_op(PlainOp::Cut {
+            from,
+            to,
+            place,
+        }))))
     } else if word == b"sort".as_slice() {
-        Ok(three_numbers(rest).map(|(from, to, width)| Line::Run(PlainOp::Sort {
+        Ok(three_numbers(rest).map(|(from, to, width)| Line::Run(plain_op(PlainOp::Sort {
             from,
             to,
             width,
-        })))
+        }))))
     } else if word == b"swap".as_slice() {
-        Ok(two_numbers(rest).map(|(first, second)| Line::Run(PlainOp::Swap { first, second })))
+        Ok(two_numbers(rest).map(|(first, second)| Line::Run(plain_op(PlainOp::Swap {
+            first,
+            second,
+        }))))
     } else if word == b"exec".as_slice() {
-        Ok(one_number(rest).map(|app| Line::Run(PlainOp::Exec { app })))
+        Ok(one_number(rest).map(|app| Line::Run(plain_op(PlainOp::Exec { app }))))
     } else if word == b"aread".as_slice() {
-        Ok(two_numbers(rest).map(|(app, from)| Line::Run(PlainOp::AppRead { app, from })))
+        Ok(two_numbers(rest).map(|(app, from)| Line::Run(plain_op(PlainOp::AppRead { app, from }))))
     } else if word == b"awrite".as_slice() {
-        Ok(two_numbers(rest).map(|(app, to)| Line::Run(PlainOp::AppWrite { app, to })))
+        Ok(two_numbers(rest).map(|(app, to)| Line::Run(plain_op(PlainOp::AppWrite { app, to }))))
     } else {
-        Ok(made_line(word, rest))
+        Ok(program_line(word, rest))
     }
 }
 

@@ -6,4 +6,4 @@ use Rattle.graph_view.proofs.asked.Asked.of.Goals as goal
 
 pub returns-in-Run : goal.returns-in-Run
 returns-in-Run c = λ bytes asks.
-    (Run c.in-Run.op, subst (λ (r : Request). AsksFor bytes r) c.in-Run.is asks, ap Command (sym (c.of.ensures (record { objects = 0; cap = 0 }))))
+    (Run c.in-Run.op, subst (λ (r : Request). AsksFor bytes r) c.in-Run.is asks, ap Command (sym c.accesses_of.ensures))

@@ -4,7 +4,7 @@ use Rattle.formats.specs.Objects.{IsInRange}
 use Rattle.command_words.specs.Words.{GivesParams}
 use Rattle.formats.specs.declared.params.Params.{Params}
 use Rattle.command_words.proofs.ReadLemmas.{if_holds}
-use Rattle.command_words.proofs.words.init.Goals as goal
+use Rattle.command_words.proofs.words.params.Goals as goal
 
 pub returns-in_err-short-clause-none : goal.returns-in_err-short-clause-none
 returns-in_err-short-clause-none c =

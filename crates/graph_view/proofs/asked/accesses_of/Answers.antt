@@ -1,0 +1,4 @@
+use Rattle.graph_view.proofs.asked.accesses_of.Goals as goal
+
+pub returns : goal.returns
+returns c = c.of.ensures (record { objects = 0; cap = 0 })
