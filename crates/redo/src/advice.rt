@@ -1,9 +1,8 @@
 use redo_shell::Status;
 
-/// What happened, and what to do next, for a status that reports trouble; none for the others.
-pub fn advice(status: Status) -> Option<&'static str> {
+/// What happened, and what to do next, for a status that tells of the store that is there, or is not; none for the others.
+fn of_the_store(status: Status) -> Option<&'static str> {
     match status {
-        Status::Done | Status::DoneWithRefusals | Status::Usage => None,
         Status::NotAStore => Some(
             "no store is in this folder. If it is the folder of your store, copy its files before anything else; \
              `redo init N CAP LIMIT` makes a new store here.",
@@ -15,6 +14,21 @@ pub fn advice(status: Status) -> Option<&'static str> {
             "a file of the store breaks its format at the offset given. Copy objects.rdo, log_a.rdo and log_b.rdo before \
              anything else.",
         ),
+        Status::AlreadyTwo => Some(
+            "the store is of version 2 already, and it was left as it is. Only a store of version 1 can be made larger: see \
+             docs/SCRIPT.md for another way.",
+        ),
+        Status::Smaller => Some(
+            "the store has more objects, or longer ones, as printed, and it was left as it is. Neither N nor CAP may \
+             become smaller.",
+        ),
+        _ => None,
+    }
+}
+
+/// The same for any status that reports trouble.
+pub fn advice(status: Status) -> Option<&'static str> {
+    match status {
         Status::DiskFault => Some(
             "a file of the store could not be read, written or synced. All that was answered `forced` is there. See to free \
              space and rights, then run again. If it may have been a sync that failed, or the disk itself fails, copy the files \
@@ -35,5 +49,6 @@ pub fn advice(status: Status) -> Option<&'static str> {
         Status::TooLong => Some(
             "the input has 2^40 bytes or more. Run again with the rest of it: `redo dump` says how many commands are done.",
         ),
+        _ => of_the_store(status),
     }
 }

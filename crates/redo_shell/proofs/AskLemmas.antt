@@ -1,4 +1,4 @@
--- What a question to a tree is answered.
+-- What a question to a tree or a hash file is answered.
 use Rattle.std.proofs.Common.{◌≡◌, ◌≢◌, ◌∙◌, ap, sym, subst, refl, ◌⊎◌, inl, inr, ⊎_elim, ◌≤◌, ◌+◌, ◌++◌, ℕ, zero, suc, Bool, true, false, List, [], ◌∷◌, length, take, drop, arith, Option, Some, None, Result, Ok, Err, IfOk}
 use Rattle.std.specs.Prelude.{⊤, if◌then◌else◌}
 use Rattle.std.proofs.Math.Seq.{take-nil}
@@ -16,17 +16,22 @@ use Rattle.running_store.specs.Taking.Ending.{Done, Stopped, Short, Failed}
 use Rattle.store_engine.specs.Lists.{AddsFront, ending_of}
 use Rattle.logical_btree.specs.Plan.{get_answer, get_on, is_there, range_answer, range_on}
 use Rattle.std.specs.FinMap.Entries.{find}
-use Rattle.btree_ops.specs.Entries.{byte_order}
+use Rattle.key_entries.specs.Entries.{byte_order}
 use Rattle.logical_btree.specs.Walk.{Pair, Way, scan, walk}
 use Rattle.logical_btree.specs.declared.refusal.TreeRefusal.TheVariants.{NoObject}
+use Rattle.hash_file.specs.Find.{Met, find_bucket}
+use Rattle.hash_file.specs.Find as hash_find
+use Rattle.hash_file.specs.Plan as of_hash
+use Rattle.hash_file.specs.declared.refusal.HashRefusal.TheVariants as hash_refusals
+use Rattle.script_lines.specs.declared.denial.Denial.TheVariants.{BadHash}
 use Rattle.script_lines.specs.Grammar.{Request, AsksFor}
-use Rattle.script_lines.specs.declared.line.Line.TheVariants.{TreeGet as tget, TreeRange as trange}
-use Rattle.script_lines.specs.Replies.{Reply, value, pairs, forced, refused, bad_tree, pairs_reply}
+use Rattle.script_lines.specs.declared.line.Line.TheVariants.{TreeGet as tget, TreeRange as trange, HashGet as hget}
+use Rattle.script_lines.specs.Replies.{Reply, value, pairs, forced, refused, bad_tree, denied, pairs_reply}
 use Rattle.store_engine.specs.Engine.{EngineView, forced_in, used_in}
 use Rattle.store_engine.specs.Engine as of_engine
 use Rattle.redo_shell.specs.Found.{IsAsked, reply_in}
 use Rattle.redo_shell.specs.Groups.{Regroups, open_in, waiting}
-use Rattle.redo_shell.specs.Made.{AsksTree, found_reply, range_reply, tree_answer}
+use Rattle.redo_shell.specs.Made.{AsksTree, found_reply, hash_found, range_reply, tree_answer}
 use Rattle.redo_shell.specs.Replies.{IsTrueIn, Replies}
 use Rattle.redo_shell.specs.Run.{IsAnswerFound, Working}
 use Rattle.redo_shell.specs.Stages.{GoesBy, IsQuestion, Stage, stage_of}
@@ -43,6 +48,7 @@ IsTold (value bytes) = ⊤
 IsTold (pairs pair others) = ⊤
 IsTold (refused why) = ⊤
 IsTold bad_tree = ⊤
+IsTold (denied BadHash) = ⊤
 IsTold reply = ⊥
 
 told_value : (found : Option (List ℕ)) → IsTold (found_reply (Ok found))
@@ -63,17 +69,30 @@ told_range false found = tt
 told_range true (Err bad) = tt
 told_range true (Ok found) = told_pairs found
 
+told_bytes : (value : Option (List ℕ)) → IsTold (hash_found (Ok value))
+told_bytes None = tt
+told_bytes (Some bytes) = tt
+
+told_hash : (there : Bool) (key : List ℕ) (met : Met) → IsTold (hash_found (if there then of_hash.get_on key met else Err hash_refusals.NoObject))
+told_hash false key met = tt
+told_hash true key hash_find.unused = tt
+told_hash true key (hash_find.bad x) = tt
+told_hash true key (hash_find.found x b) = told_bytes (find byte_order key b.pairs.items)
+
 is_told : (p : Params) (s : State) (reply : Reply) (request : Request) → tree_answer p s request ≡ Some reply → IsTold reply
 is_told p s reply (tget lo hi key) is =
     subst IsTold (let e : found_reply (get_answer (bounds_of p) lo hi s key) ≡ reply = cc is in e) (told_get (is_there (bounds_of p) lo hi) key (walk lo hi s key))
 is_told p s reply (trange lo hi from to) is =
     subst IsTold (let e : range_reply (range_answer (bounds_of p) lo hi s from to) ≡ reply = cc is in e)
     (told_range (is_there (bounds_of p) lo hi) (scan lo hi s (record { from = from; to = Some to })))
+is_told p s reply (hget lo hi key) is =
+    subst IsTold (let e : hash_found (of_hash.get_answer (bounds_of p) lo hi s key) ≡ reply = cc is in e) (told_hash (of_hash.is_there (bounds_of p) lo hi) key (find_bucket lo hi s key))
 is_told p s reply request is = cc
 
 is_question : (p : Params) (s : State) (reply : Reply) (request : Request) → tree_answer p s request ≡ Some reply → IsQuestion request
 is_question p s reply (tget lo hi key) is = tt
 is_question p s reply (trange lo hi from to) is = tt
+is_question p s reply (hget lo hi key) is = tt
 is_question p s reply request is = cc
 
 module _ (p : Params) (commands : List Command) (line : List ℕ) where
@@ -82,6 +101,7 @@ module _ (p : Params) (commands : List Command) (line : List ℕ) where
   told_replies group (pairs pair others) told a = (a, refl)
   told_replies group (refused why) told a = inr (inr a, refl)
   told_replies group bad_tree told a = inr (a, refl)
+  told_replies group (denied BadHash) told a = inr (refl, a, refl)
   told_replies group reply told a = absurd told
 
   -- it leaves the open group as it is
@@ -90,6 +110,7 @@ module _ (p : Params) (commands : List Command) (line : List ℕ) where
   told_regroups group (pairs pair others) told = refl
   told_regroups group (refused why) told = refl
   told_regroups group bad_tree told = refl
+  told_regroups group (denied BadHash) told = refl
   told_regroups group reply told = absurd told
 
   told_goes : (reply : Reply) → IsTold reply → AsksTree p commands line reply → (s : Stage) → GoesBy p s line reply s
@@ -97,6 +118,7 @@ module _ (p : Params) (commands : List Command) (line : List ℕ) where
   told_goes (pairs pair others) told a s = refl
   told_goes (refused why) told a s = asks_values p s line a.request (is_question p (state_of p commands) (refused why) a.request a.answers) a.asks
   told_goes bad_tree told a s = asks_values p s line a.request (is_question p (state_of p commands) bad_tree a.request a.answers) a.asks
+  told_goes (denied BadHash) told a s = asks_values p s line a.request (is_question p (state_of p commands) (denied BadHash) a.request a.answers) a.asks
   told_goes reply told a s = absurd told
 
   told_tied : (reply : Reply) → IsTold reply → (f : Files) (ops : List Command) → IsTrueIn p f ops line reply
@@ -104,6 +126,7 @@ module _ (p : Params) (commands : List Command) (line : List ℕ) where
   told_tied (pairs pair others) told f ops = tt
   told_tied (refused why) told f ops = tt
   told_tied bad_tree told f ops = tt
+  told_tied (denied BadHash) told f ops = tt
   told_tied reply told f ops = absurd told
 
 told_other : (reply : Reply) → IsTold reply → (n : ℕ) → reply ≢ forced n
@@ -111,6 +134,7 @@ told_other (value bytes) told n is = cc is
 told_other (pairs pair others) told n is = cc is
 told_other (refused why) told n is = cc is
 told_other bad_tree told n is = cc is
+told_other (denied BadHash) told n is = cc is
 told_other reply told n is = absurd told
 
 -- nothing is there to be stopped at

@@ -1,21 +1,22 @@
 -- What holds of a call for any words, from what holds of one that was asked one thing.
-use Rattle.std.proofs.Common.{◌≡◌, ◌≢◌, ◌^◌, List, ℕ, inl, refl, subst}
-use Rattle.disk_model.specs.Disk.{Disk, IsDisk, Rises}
+use Rattle.std.proofs.Common.{◌≡◌, ◌≢◌, ◌⊎◌, ◌^◌, ⊎_elim, List, ℕ, inl, inr, refl, subst}
+use Rattle.disk_model.specs.Disk.{Disk, IsDisk, Passes, Rises}
 use Rattle.formats.specs.declared.params.Params.{Params}
 use Rattle.script_lines.specs.Grammar.{lines_of}
 use Rattle.script_lines.specs.Reading.{ReadsOn}
 use Rattle.command_words.specs.Words.{Asks}
 use Rattle.command_words.specs.declared.asked.Asked.{Asked}
-use Rattle.command_words.specs.declared.asked.Asked.TheVariants.{Init, Run, Dump, Demo}
+use Rattle.command_words.specs.declared.asked.Asked.TheVariants.{Init, Run, Dump, Demo, Upgrade}
 use Rattle.redo_shell.specs.Calls.{IsCallFor, GoesOn}
-use Rattle.redo_shell.specs.Causes.{CountsFaults, IsUnread, SaysNoStore, SaysDamage, SaysStore, ComesByCause}
+use Rattle.redo_shell.specs.Causes.{CountsFaults, IsCutUpgrade, IsUnread, JudgesFiles, JudgesUpgrade, SaysCut, SaysNoStore, SaysDamage, SaysStore, ComesByCause}
 use Rattle.redo_shell.specs.Demo.{IsOfDemo}
-use Rattle.redo_shell.specs.Exactly.{IsFaultless, ComesExactly}
-use Rattle.redo_shell.specs.Sessions.{run, init, dump}
-use Rattle.redo_shell.specs.Status.{IsOfRun, IsOfDump, IsOfInit}
+use Rattle.redo_shell.specs.Exactly.{IsFaultless, IsUpgradeEnd, ComesExactly}
+use Rattle.redo_shell.specs.Keeps.{KeepsFiles}
+use Rattle.redo_shell.specs.Sessions.{run, init, dump, upgrade}
+use Rattle.redo_shell.specs.Status.{IsOfRun, IsOfDump, IsOfInit, IsOfUpgrade}
 use Rattle.redo_shell.specs.Store.{Command, IsWellFormed, Opens}
 use Rattle.redo_shell.specs.declared.status.Status.{Status}
-use Rattle.redo_shell.specs.declared.status.Status.TheVariants.{Done, DoneWithRefusals, Usage, NotAStore, AlreadyStore, Damaged, DiskFault, ReadFault, SayFault, Memory, TooLong}
+use Rattle.redo_shell.specs.declared.status.Status.TheVariants.{Done, DoneWithRefusals, Usage, NotAStore, AlreadyStore, Damaged, DiskFault, ReadFault, SayFault, Memory, TooLong, AlreadyTwo, Smaller}
 use Rattle.restart.specs.Starts.{at_start}
 use Rattle.redo_shell.proofs.KeepLemmas.{keeps_once}
 use Rattle.redo_shell.proofs.DamageLemmas.{HasOneDamage}
@@ -32,24 +33,32 @@ module _ (told : Type 0) (left rest : List ℕ) (old new : Disk) (status : Statu
   not_usage Dump call is = subst IsOfDump is call.ends
   not_usage (Init p) call is = subst IsOfInit is call.ends
   not_usage (Demo seed steps) call is = subst IsOfDemo is call.ends
+  not_usage (Upgrade q) call is = subst IsOfUpgrade is call.ends
+
+  -- of a store that was opened, and not called damaged but where it is cut, nothing is said as of none
+  no_store_judged : JudgesUpgrade old new status → status ≡ NotAStore → SaysNoStore old new
+  no_store_judged judged is = ⊎_elim (λ (files : JudgesFiles old new status). files.no_store is) (λ (cut : (status ≡ Damaged) × SaysCut old new). absurd (cc (cut.0, is))) judged
 
   no_store_said : (asked : Asked) → IsCallFor asked told left rest old new status → old.tells_files → status ≡ NotAStore → SaysNoStore old new
   no_store_said Run call files is = (call.judged files).no_store is
   no_store_said Dump call files is = (call.judged files).no_store is
   no_store_said (Init p) call files is = absurd (subst IsOfInit is call.ends)
   no_store_said (Demo seed steps) call files is = absurd (subst IsOfDemo is call.ends)
+  no_store_said (Upgrade q) call files is = no_store_judged (call.judged files) is
 
-  damage_said : (asked : Asked) → IsCallFor asked told left rest old new status → old.tells_files → status ≡ Damaged → SaysDamage old new
-  damage_said Run call files is = (call.judged files).damaged is
-  damage_said Dump call files is = (call.judged files).damaged is
-  damage_said (Init p) call files is = absurd (subst IsOfInit is call.ends)
-  damage_said (Demo seed steps) call files is = absurd (subst IsOfDemo is call.ends)
+  damage_said : (words : List (List ℕ)) (asked : Asked) → Asks words asked → IsCallFor asked told left rest old new status → old.tells_files → status ≡ Damaged → SaysDamage old new ⊎ IsCutUpgrade words old new
+  damage_said words Run asks call files is = inl ((call.judged files).damaged is)
+  damage_said words Dump asks call files is = inl ((call.judged files).damaged is)
+  damage_said words (Init p) asks call files is = absurd (subst IsOfInit is call.ends)
+  damage_said words (Demo seed steps) asks call files is = absurd (subst IsOfDemo is call.ends)
+  damage_said words (Upgrade q) asks call files is = ⊎_elim (λ (judged : JudgesFiles old new status). inl (judged.damaged is)) (λ (cut : (status ≡ Damaged) × SaysCut old new). inr (q, asks, cut.1)) (call.judged files)
 
   store_said : (asked : Asked) → IsCallFor asked told left rest old new status → old.tells_files → status ≡ AlreadyStore → SaysStore old new
   store_said Run call files is = absurd (subst IsOfRun is call.ends)
   store_said Dump call files is = absurd (subst IsOfDump is call.ends)
   store_said (Init p) call files is = call.already files is
   store_said (Demo seed steps) call files is = absurd (subst IsOfDemo is call.ends)
+  store_said (Upgrade q) call files is = absurd (subst IsOfUpgrade is call.ends)
 
 -- a demo that finds memory, in which no count of faults rises
 calm_demo : {old new : Disk} {before now : ℕ} (status : Status) → IsFaultless old new before now → status ≢ Memory → IsOfDemo status → CountsFaults old new status → status ≡ Done
@@ -64,16 +73,34 @@ calm_demo Damaged calm memory of faults = absurd of
 calm_demo DiskFault calm memory of faults = absurd of
 calm_demo ReadFault calm memory of faults = absurd of
 calm_demo TooLong calm memory of faults = absurd of
+calm_demo AlreadyTwo calm memory of faults = absurd of
+calm_demo Smaller calm memory of faults = absurd of
+
+-- an upgrade of a store, with memory, in which no count of faults rises
+calm_upgrade : {old new : Disk} {before now : ℕ} (status : Status) → IsFaultless old new before now → status ≢ Memory → IsOfUpgrade status → CountsFaults old new status → status ≢ NotAStore → IsUpgradeEnd status
+calm_upgrade Done calm memory of faults store = inl refl
+calm_upgrade AlreadyTwo calm memory of faults store = inr (inl refl)
+calm_upgrade Smaller calm memory of faults store = inr (inr (inl refl))
+calm_upgrade Damaged calm memory of faults store = inr (inr (inr refl))
+calm_upgrade NotAStore calm memory of faults store = absurd (store refl)
+calm_upgrade DiskFault calm memory of faults store = absurd (calm.disk (faults.disk refl))
+calm_upgrade SayFault calm memory of faults store = absurd (calm.output (faults.output refl))
+calm_upgrade Memory calm memory of faults store = absurd (memory refl)
+calm_upgrade DoneWithRefusals calm memory of faults store = absurd of
+calm_upgrade Usage calm memory of faults store = absurd of
+calm_upgrade AlreadyStore calm memory of faults store = absurd of
+calm_upgrade ReadFault calm memory of faults store = absurd of
+calm_upgrade TooLong calm memory of faults store = absurd of
 
 module _ {words : List (List ℕ)} {told : Type 0} {left rest : List ℕ} {before now : ℕ} {old new : Disk} {status : Status} (asked : Asked) (call : IsCallFor asked told left rest old new status)
     (faults : CountsFaults old new status) (read_fault : status ≡ ReadFault → Rises before now) (too_long : told → status ≡ TooLong → ReadsOn left rest 0 (2 ^ 40)) where
   -- each status of trouble comes only with its cause
-  pub call_caused : ComesByCause words told left rest before now old new status
-  call_caused = record {
+  pub call_caused : Asks words asked → ComesByCause words told left rest before now old new status
+  call_caused asks = record {
     usage = λ is. absurd (not_usage told left rest old new status asked call is);
     usage_said = λ files is. absurd (not_usage told left rest old new status asked call is);
     no_store = no_store_said told left rest old new status asked call;
-    damaged = damage_said told left rest old new status asked call;
+    damaged = damage_said told left rest old new status words asked asks call;
     already = store_said told left rest old new status asked call;
     faults = faults;
     read_fault = read_fault;
@@ -98,37 +125,51 @@ module _ {words : List (List ℕ)} {told : Type 0} {left rest : List ℕ} {befor
         let it = call_for told left rest old new status (one Dump is) call in
         calm_dump status faultless memory it.ends faults ((it.judged opens.told).store (format p commands opens));
     init = λ p is files. inl (makes_exactly status faultless (call_for told left rest old new status (one (Init p) is) call) faults files);
+    upgrades = λ q is memory p commands opens.
+        let it = call_for told left rest old new status (one (Upgrade q) is) call in
+        calm_upgrade status faultless memory it.ends faults (it.stands p commands opens).store;
     demos = λ seed steps is memory. calm_demo status faultless memory (call_for told left rest old new status (one (Demo seed steps) is) call).ends faults;
   }
 
+-- files that do not meet their format are kept by an upgrade
+keeps_judged : {old new : Disk} {status : Status} → JudgesUpgrade old new status → (IsWellFormed old.reads → ⊥) → KeepsFiles old new
+keeps_judged {old} {new} {status} judged broken = ⊎_elim (λ (files : JudgesFiles old new status). files.keeps broken) (λ (cut : (status ≡ Damaged) × SaysCut old new). absurd (broken cut.1.whole)) judged
+
 -- what it does goes on any calls before it
-pub call_goes_on : {T : Type 0} (disk : T → Disk) {words : List (List ℕ)} {told : Type 0} {left rest : List ℕ} {status : Status} (old new : T) → IsDisk (disk old)
+pub call_goes_on : {T : Type 0} (disk : T → Disk) {words : List (List ℕ)} {told : Type 0} {left rest : List ℕ} {status : Status} (old new : T) → IsDisk (disk old) → Passes (disk old) (disk new)
     → ((other : Asked) → Asks words other → IsCallFor other told left rest (disk old) (disk new) status) → GoesOn disk words told (lines_of left) old new
-call_goes_on disk {words} {told} {left} old new lawful call = record {
-  run = λ first next inits runs bytes asks told begins before follows.
+call_goes_on disk {words} {told} {left} old new lawful time call = record {
+  time = time;
+  run = λ first next sizes runs bytes asks told begins before follows.
       run old new next (record { script = lines_of left; bytes = bytes }) before begins (λ p commands opens. ((call Run asks).script p commands opens told).images) follows;
   run_untold = λ asks.
       let (script, each) = (call Run asks).untold in (
         script,
-        λ first next inits runs bytes begins before follows. run old new next (record { script = script; bytes = bytes }) before begins (λ p commands opens. (each p commands opens).images) follows,
+        λ first next sizes runs bytes begins before follows. run old new next (record { script = script; bytes = bytes }) before begins (λ p commands opens. (each p commands opens).images) follows,
       );
-  init = λ p first next inits runs said asks none before follows. init old new next p said before none (λ telling. (call (Init p) asks).images telling none) follows;
-  dump = λ first next inits runs said asks before follows.
+  init = λ p first next sizes runs said asks none before follows. init old new next p said before none (λ telling. (call (Init p) asks).images telling none) follows;
+  dump = λ first next sizes runs said asks before follows.
       dump old new next said before (λ none telling. ((call Dump asks).judged (lawful.telling telling)).keeps (λ image. none (image_begins image)))
       (λ p commands opens. ((call Dump asks).table p commands opens).images) follows;
+  upgrade = λ q first next sizes runs said asks before follows.
+      upgrade old new next q said before (λ none telling. keeps_judged ((call (Upgrade q) asks).judged (lawful.telling telling)) (λ image. none (image_begins image)))
+      (λ p commands opens. ((call (Upgrade q) asks).stands p commands opens).images) follows;
 }
 
 -- where there was no memory to read the words, it goes on them too
 pub unread_goes_on : {T : Type 0} (disk : T → Disk) {words script : List (List ℕ)} {told : Type 0} {status : Status} (old new : T) → IsUnread (disk old) (disk new) status
     → GoesOn disk words told script old new
 unread_goes_on disk {words} {script} old new unread = record {
-  run = λ first next inits runs bytes asks told begins before follows.
+  time = unread.stays.time;
+  run = λ first next sizes runs bytes asks told begins before follows.
       run old new next (record { script = script; bytes = bytes }) before begins (λ p commands opens telling. at_start (disk old) (disk new) _ unread.stays telling) follows;
   run_untold = λ asks. (
     script,
-    λ first next inits runs bytes begins before follows. run old new next (record { script = script; bytes = bytes }) before begins (λ p commands opens telling. at_start (disk old) (disk new) _ unread.stays telling) follows,
+    λ first next sizes runs bytes begins before follows. run old new next (record { script = script; bytes = bytes }) before begins (λ p commands opens telling. at_start (disk old) (disk new) _ unread.stays telling) follows,
   );
-  init = λ p first next inits runs said asks none before follows. init old new next p said before none (λ telling. at_start (disk old) (disk new) _ unread.stays telling) follows;
-  dump = λ first next inits runs said asks before follows.
+  init = λ p first next sizes runs said asks none before follows. init old new next p said before none (λ telling. at_start (disk old) (disk new) _ unread.stays telling) follows;
+  dump = λ first next sizes runs said asks before follows.
       dump old new next said before (λ none telling. keeps_once (disk old) (disk new) unread.stays) (λ p commands opens telling. at_start (disk old) (disk new) _ unread.stays telling) follows;
+  upgrade = λ q first next sizes runs said asks before follows.
+      upgrade old new next q said before (λ none telling. keeps_once (disk old) (disk new) unread.stays) (λ p commands opens telling. at_start (disk old) (disk new) _ unread.stays telling) follows;
 }

@@ -19,8 +19,10 @@ use Rattle.execution.specs.Courses.{append_course, needed}
 use Rattle.store_engine.specs.Engine.{needed_in}
 use Rattle.script_lines.specs.declared.answer.StatLine.{StatLine}
 use Rattle.script_lines.specs.Grammar.{Request, AsksFor, IsBad}
-use Rattle.script_lines.specs.declared.line.Line.TheVariants.{Run as run, AppRun as arun, TreeInsert as tinsert, TreeGet as tget, TreeDelete as tdelete, TreeRange as trange, Get as get, Force as force, Install as install, Drain as drain, Checkpoint as checkpoint, Trim as trim, Begin as begin_group, End as end_group, Stat as asks_stat, Skip as skip}
-use Rattle.script_lines.specs.Replies.{Reply, ok, ran, value, pairs, forced, bad, refused, bad_tree, tree_full, in_group, no_group, full, end, object_value, command_count, stat, summary, silence}
+use Rattle.script_lines.specs.declared.line.Line.TheVariants.{Run as run, AppRun as arun, ProgramRun as prun, TreeInsert as tinsert, TreeGet as tget, TreeDelete as tdelete, TreeRange as trange, HashPut as hset, HashGet as hget, HashDelete as hdel, Get as get, Force as force, Install as install, Drain as drain, Checkpoint as checkpoint, Trim as trim, Begin as begin_group, End as end_group, Stat as asks_stat, Skip as skip}
+use Rattle.script_lines.specs.Replies.{Reply, ok, ran, value, pairs, forced, bad, refused, bad_tree, tree_full, denied, in_group, no_group, full, end, object_value, command_count, stat, summary, silence}
+use Rattle.script_lines.specs.declared.denial.Denial.{Denial}
+use Rattle.script_lines.specs.declared.denial.Denial.TheVariants.{BadHash}
 use Rattle.redo_shell.specs.Groups.{open_in, size_of}
 use Rattle.redo_shell.specs.Made.{Made, AsksMade, AsksBehind, AsksTree, made, made_by, one_made, one_unless, tree_answer}
 use Rattle.redo_shell.specs.Replies.{AsksCommand, Replies, IsBarred, IsFull, IsGranted, IsNumbered, IsOver, IsUpkeep}
@@ -28,11 +30,12 @@ use Rattle.redo_shell.specs.Stages.{Stage, Ends, GoesBy, IsQuestion, upkeep_cour
 use Rattle.redo_shell.specs.Store.{Command, meaning_in, refusal_after, state_of, record_length}
 use Rattle.redo_shell.proofs.MadeLemmas.{command_made, one_course}
 
--- the classes of requests: for pairs of a tree, for a value, for commands, the end of a group, upkeep, the beginning of a
+-- the classes of requests: for pairs of a tree or a hash file, for a value, for commands, the end of a group, upkeep, the beginning of a
 -- group, and three by themselves
 abbrev class : Request → ℕ
 class (tget lo hi key) = 0
 class (trange lo hi from to) = 0
+class (hget lo hi key) = 0
 class (get x) = 1
 class end_group = 3
 class install = 4
@@ -55,6 +58,7 @@ first_of (forced k) = 6
 first_of (refused why) = 0
 first_of bad_tree = 0
 first_of tree_full = 2
+first_of (denied why) = 0
 first_of in_group = 4
 first_of no_group = 3
 first_of (full used need limit) = 2
@@ -71,6 +75,7 @@ last_of (forced k) = 6
 last_of (refused why) = 2
 last_of bad_tree = 2
 last_of tree_full = 2
+last_of (denied why) = 2
 last_of in_group = 6
 last_of no_group = 3
 last_of (full used need limit) = 4
@@ -85,8 +90,11 @@ Allows reply n = (first_of reply ≤ n) × (n ≤ last_of reply)
 made_class : (p : Params) (commands : List Command) (it : Made) (request : Request) → made_by p commands request ≡ Some it → class request ≡ 2
 made_class p commands it (run op) is = refl
 made_class p commands it (arun app n) is = refl
+made_class p commands it (prun app code n) is = refl
 made_class p commands it (tinsert lo hi key bytes) is = refl
 made_class p commands it (tdelete lo hi key) is = refl
+made_class p commands it (hset lo hi key bytes) is = refl
+made_class p commands it (hdel lo hi key) is = refl
 made_class p commands it request is = cc
 
 upkeep_class : (request : Request) → IsUpkeep request → class request ≡ 4
@@ -123,12 +131,14 @@ barred_class request is = absurd is
 tree_class : (p : Params) (s : State) (reply : Reply) (request : Request) → tree_answer p s request ≡ Some reply → class request ≡ 0
 tree_class p s reply (tget lo hi key) is = refl
 tree_class p s reply (trange lo hi from to) is = refl
+tree_class p s reply (hget lo hi key) is = refl
 tree_class p s reply request is = cc
 
 question_class : (request : Request) → IsQuestion request → class request ≤ 1
 question_class (get x) is = omega arith
 question_class (tget lo hi key) is = omega arith
 question_class (trange lo hi from to) is = omega arith
+question_class (hget lo hi key) is = omega arith
 question_class request is = absurd is
 
 -- no group is open, and one is
@@ -209,6 +219,10 @@ module _ (p : Params) (group : Option ℕ) (commands : List Command) (line : Lis
       (λ (t : AsksTree p commands line bad_tree × (added ≡ [])). of_tree bad_tree (λ n e. (omega (arith, e), omega (arith, e))) t.0)
       is
   asked tree_full added is other = of_made tree_full (λ n e. (omega (arith, e), omega (arith, e))) is
+  asked (denied why) added is other = ⊎_elim
+      (λ (m : AsksMade p commands line (made added (denied why))). of_made (denied why) (λ n e. (omega (arith, e), omega (arith, e))) m)
+      (λ (t : (why ≡ BadHash) × AsksTree p commands line (denied why) × (added ≡ [])). of_tree (denied why) (λ n e. (omega (arith, e), omega (arith, e))) t.1)
+      is
   asked in_group added is other = (is.0, is.2, barred_class is.0 is.1)
   asked no_group added is other = (end_group, is.0, (omega arith, omega arith))
   asked (full used need limit) added is other = ⊎_elim
@@ -312,6 +326,14 @@ module _ (p : Params) (group : Option ℕ) (commands : List Command) (line : Lis
         ⊎_elim (λ (none : (refusal_after p commands op ≡ None) × (tree_full ≡ ok)). absurd (let e = none.1 in cc e))
         (λ (other : (why : Refusal) × (refusal_after p commands op ≡ Some why) × (tree_full ≡ refused why)). absurd (let e = other.2 in cc e))
         (answer_of op tree_full added asks is)
+    refused_exactly (denied because) added op why is asks = ⊎_elim
+        (λ (m : AsksMade p commands line (made added (denied because))).
+        ⊎_elim (λ (none : (refusal_after p commands op ≡ None) × (denied because ≡ ok)). absurd (let e = none.1 in cc e))
+        (λ (other : (why : Refusal) × (refusal_after p commands op ≡ Some why) × (denied because ≡ refused why)). absurd (let e = other.2 in cc e))
+        (answer_of op (denied because) added asks m))
+        (λ (t : (because ≡ BadHash) × AsksTree p commands line (denied because) × (added ≡ [])). let mine = command_made p commands line op asks in
+        absurd (tree_clash mine.request mine.asks (λ e. let same = made_class p commands (one_made p commands op) mine.request mine.makes in omega (arith, e, same)) t.1))
+        is
     refused_exactly (full used need limit) added op why is asks = ⊎_elim
         (λ (b : (first : Command) × AsksBehind p commands line added first × (need ≡ needed_in (size_of group (commands ++ added)) (record_length p first)) × (limit ≡ p.limit) × (limit < used + need)).
         let none = nothing_refuses op b.0 added asks b.1 in (λ e. cc, λ some. cc (some, none)))
@@ -344,6 +366,13 @@ module _ (p : Params) (group : Option ℕ) (commands : List Command) (line : Lis
         (λ (t : AsksTree p commands line bad_tree × (added ≡ [])). tree_clash (get object) asks (λ e. omega (arith, e)) t.0)
         is
 
+    -- nor of a hash file
+    no_denial : (object : ℕ) (why : Denial) (added : List Command) → Replies p group commands line (denied why) added → AsksFor line (get object) → ⊥
+    no_denial object why added is asks = ⊎_elim
+        (λ (m : AsksMade p commands line (made added (denied why))). made_clash (get object) asks (λ e. omega (arith, e)) m)
+        (λ (t : (why ≡ BadHash) × AsksTree p commands line (denied why) × (added ≡ [])). tree_clash (get object) asks (λ e. omega (arith, e)) t.1)
+        is
+
     pub no_object_exactly : (reply : Reply) (added : List Command) (object : ℕ) → Replies p group commands line reply added → AsksFor line (get object) → (reply ≡ refused NoObject) ↔ (p.objects ≤ object)
     no_object_exactly (value bytes) added object is asks = ⊎_elim
         (λ (g : (x : ℕ) × AsksFor line (get x) × (x < p.objects) × (bytes ≡ state_of p commands x)). (λ e. cc, λ high. absurd (omega (arith, high, g.2, same_object g.0 object g.1 asks))))
@@ -352,6 +381,7 @@ module _ (p : Params) (group : Option ℕ) (commands : List Command) (line : Lis
     no_object_exactly bad added object is asks = absurd (is.0 (get object) asks)
     no_object_exactly (refused why) added object is asks = let here = none_there why added object is asks in (λ e. here.0, λ high. ap (λ (w : Refusal). refused w) here.1)
     no_object_exactly bad_tree added object is asks = absurd (no_tree object added is asks)
+    no_object_exactly (denied why) added object is asks = absurd (no_denial object why added is asks)
     no_object_exactly reply added object is asks = absurd (let a = fits (get object) asks reply added is (λ e. cc) in omega (arith, a.0, a.1))
 
     pub value_exactly : (reply : Reply) (added : List Command) (object : ℕ) → Replies p group commands line reply added → AsksFor line (get object) → object < p.objects → reply ≡ value (state_of p commands object)
@@ -362,6 +392,7 @@ module _ (p : Params) (group : Option ℕ) (commands : List Command) (line : Lis
     value_exactly bad added object is asks low = absurd (is.0 (get object) asks)
     value_exactly (refused why) added object is asks low = let here = none_there why added object is asks in absurd (omega (arith, low, here.0))
     value_exactly bad_tree added object is asks low = absurd (no_tree object added is asks)
+    value_exactly (denied why) added object is asks low = absurd (no_denial object why added is asks)
     value_exactly reply added object is asks low = absurd (let a = fits (get object) asks reply added is (λ e. cc) in omega (arith, a.0, a.1))
 
     pub forced_exactly : (reply : Reply) (added : List Command) → Replies p group commands line reply added → AsksFor line force → group ≡ None → reply ≡ forced (length commands)
@@ -490,6 +521,14 @@ module _ (p : Params) (group : Option ℕ) (commands : List Command) (line : Lis
         (λ (none : (refusal_after p commands op ≡ None) × (tree_full ≡ ok)). let e = none.1 in cc e)
         (λ (other : (why : Refusal) × (refusal_after p commands op ≡ Some why) × (tree_full ≡ refused why)). let e = other.2 in cc e)
         (answer_of op tree_full added asks is))
+    full_exactly (denied why) added op before after is goes same asks none = absurd (⊎_elim
+        (λ (m : AsksMade p commands line (made added (denied why))). ⊎_elim
+        (λ (none : (refusal_after p commands op ≡ None) × (denied why ≡ ok)). let e = none.1 in cc e)
+        (λ (other : (because : Refusal) × (refusal_after p commands op ≡ Some because) × (denied why ≡ refused because)). let e = other.2 in cc e)
+        (answer_of op (denied why) added asks m))
+        (λ (t : (why ≡ BadHash) × AsksTree p commands line (denied why) × (added ≡ [])). let mine = command_made p commands line op asks in
+        tree_clash mine.request mine.asks (λ e. let same = made_class p commands (one_made p commands op) mine.request mine.makes in omega (arith, e, same)) t.1)
+        is)
     full_exactly (full used need limit) added op before after is goes same asks none = (
       λ f. full_over (meaning_in p) (is_some before.world.group) p.limit op before.world before.used used need limit (own_course op before after (Full used need limit) same none asks goes),
       λ over. tt,

@@ -8,7 +8,7 @@ use Rattle.std.proofs.lemmas.List.Splits.{length-slice_split}
 use Rattle.std.proofs.lemmas.List.Sums.{sum_by-cons, sum_by-append}
 use borrow.Author.Tests.{ne_eqb}
 use Rattle.script_lines.specs.Reading.{IsPlain}
-use Rattle.script_lines.specs.Replies.{Reply, ok, value, ran, pairs, forced, bad, refused, bad_tree, tree_full, in_group, no_group, full, end, object_value, command_count, stat, summary, silence, hex_glyph, hex_pair, hex_text, spaced, spaced_pair, numbers_of, text_of, said_line}
+use Rattle.script_lines.specs.Replies.{Reply, ok, value, ran, pairs, forced, bad, refused, bad_tree, tree_full, denied, in_group, no_group, full, end, object_value, command_count, stat, summary, silence, hex_glyph, hex_pair, hex_text, spaced, spaced_pair, numbers_of, text_of, said_line}
 use Rattle.formats.specs.declared.params.Params.{Params}
 use Rattle.redo_shell.specs.Answers.{Answers}
 use Rattle.redo_shell.specs.Demo.{is_newline, is_refusal, refusal_count}
@@ -106,6 +106,7 @@ text_kind p group commands line bad added is = refl
 text_kind p group commands line (refused why) added is = refl
 text_kind p group commands line bad_tree added is = refl
 text_kind p group commands line tree_full added is = refl
+text_kind p group commands line (denied why) added is = refl
 text_kind p group commands line in_group added is = refl
 text_kind p group commands line no_group added is = refl
 text_kind p group commands line (full used need limit) added is = refl

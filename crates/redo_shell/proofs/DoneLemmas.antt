@@ -43,7 +43,7 @@ use Rattle.execution.specs.declared.exec_err.ExecErr.TheVariants.{Refused, LogFu
 use Rattle.execution.specs.Failures.{IsExecFailure}
 use Rattle.script_lines.specs.Grammar.{Request, AsksFor}
 use Rattle.script_lines.specs.declared.line.Line.TheVariants.{Begin as begin_group, End as end_group, Force as force, Trim as trim}
-use Rattle.script_lines.specs.Replies.{Reply, ok, ran, value, pairs, forced, bad, refused, bad_tree, tree_full, in_group, no_group, full, end, object_value, command_count, stat, summary, silence, reply_of}
+use Rattle.script_lines.specs.Replies.{Reply, ok, ran, value, pairs, forced, bad, refused, bad_tree, tree_full, denied, in_group, no_group, full, end, object_value, command_count, stat, summary, silence, reply_of}
 use Rattle.script_lines.specs.declared.answer.Answer.{Answer}
 use Rattle.store_engine.specs.Calls.{IsForcing}
 use Rattle.store_engine.specs.Engine.{EngineView, FollowsIn, InEachImage, IsAfterIn, IsOutcome, KeepsCommands, SaysStop, SaysStopWithin, EpochIs, accepted_in, params_of, used_in, forced_in, group_bytes, group_size, logged_since, needed_in}
@@ -131,6 +131,7 @@ tied_by ops line bad is says stops = (tt, λ told f s left. tt)
 tied_by ops line (refused why) is says stops = (tt, λ told f s left. tt)
 tied_by ops line bad_tree is says stops = (tt, λ told f s left. tt)
 tied_by ops line tree_full is says stops = (tt, λ told f s left. tt)
+tied_by ops line (denied why) is says stops = (tt, λ told f s left. tt)
 tied_by ops line in_group is says stops = (tt, λ told f s left. tt)
 tied_by ops line no_group is says stops = (tt, λ told f s left. tt)
 tied_by ops line (full used need limit) is says stops = stops (Full used need limit) is

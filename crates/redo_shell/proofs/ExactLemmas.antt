@@ -10,7 +10,7 @@ use Rattle.redo_shell.specs.Calls.{IsRunCall, IsMaking}
 use Rattle.redo_shell.specs.Causes.{CountsFaults, JudgesFiles}
 use Rattle.redo_shell.specs.Store.{Command, IsWellFormed, Opens}
 use Rattle.redo_shell.specs.declared.status.Status.{Status}
-use Rattle.redo_shell.specs.declared.status.Status.TheVariants.{Done, DoneWithRefusals, Usage, NotAStore, AlreadyStore, Damaged, DiskFault, ReadFault, SayFault, Memory, TooLong}
+use Rattle.redo_shell.specs.declared.status.Status.TheVariants.{Done, DoneWithRefusals, Usage, NotAStore, AlreadyStore, Damaged, DiskFault, ReadFault, SayFault, Memory, TooLong, AlreadyTwo, Smaller}
 use Rattle.redo_shell.specs.Exactly.{IsFaultless, OpensExactly, MakesExactly, RunsExactly}
 use Rattle.redo_shell.proofs.DamageLemmas.{HasOneDamage, first_said}
 use Rattle.redo_shell.proofs.ScriptLemmas.{enough_taken, not_so_few}
@@ -22,11 +22,15 @@ unopened_reads_none Done of is = of
 unopened_reads_none DoneWithRefusals of is = of
 unopened_reads_none ReadFault of is = of
 unopened_reads_none TooLong of is = of
+unopened_reads_none AlreadyTwo of is = of
+unopened_reads_none Smaller of is = of
 unopened_reads_none status of is = is
 
 pub unopened_run : (status : Status) → IsOfUnopened status → IsOfRun status
 unopened_run Usage of = of
 unopened_run AlreadyStore of = of
+unopened_run AlreadyTwo of = of
+unopened_run Smaller of = of
 unopened_run status of = tt
 
 pub unopened_dump : (status : Status) → IsOfUnopened status → IsOfDump status
@@ -59,6 +63,8 @@ calm_run ReadFault calm of faults input = absurd (calm.input (input refl))
 calm_run SayFault calm of faults input = absurd (calm.output (faults.output refl))
 calm_run Memory calm of faults input = tt
 calm_run TooLong calm of faults input = tt
+calm_run AlreadyTwo calm of faults input = absurd of
+calm_run Smaller calm of faults input = absurd of
 
 pub no_store_exactly : {gate image : Type 0} (status : Status) → IsCalm status → (status ≡ NotAStore → gate → ⊥) → (status ≡ Damaged → gate) → (status ≡ Memory → gate) → (IsOfStore status → image) → (image → gate)
     → (status ≡ NotAStore) ↔ (gate → ⊥)
@@ -73,6 +79,8 @@ no_store_exactly DiskFault calm closed broken refused opened open_gate = absurd 
 no_store_exactly ReadFault calm closed broken refused opened open_gate = absurd calm
 no_store_exactly SayFault calm closed broken refused opened open_gate = absurd calm
 no_store_exactly Memory calm closed broken refused opened open_gate = (λ e. cc, λ closed. absurd (closed (refused refl)))
+no_store_exactly AlreadyTwo calm closed broken refused opened open_gate = absurd calm
+no_store_exactly Smaller calm closed broken refused opened open_gate = absurd calm
 
 pub damaged_exactly : {gate image : Type 0} (status : Status) → IsCalm status → status ≢ Memory → (status ≡ NotAStore → gate → ⊥) → (status ≡ Damaged → gate) → (IsOfStore status → image) → (image → status ≢ Damaged)
     → (status ≡ Damaged) ↔ (gate × (image → ⊥))
@@ -87,6 +95,8 @@ damaged_exactly DiskFault calm memory closed broken opened whole = absurd calm
 damaged_exactly ReadFault calm memory closed broken opened whole = absurd calm
 damaged_exactly SayFault calm memory closed broken opened whole = absurd calm
 damaged_exactly Memory calm memory closed broken opened whole = absurd (memory refl)
+damaged_exactly AlreadyTwo calm memory closed broken opened whole = absurd calm
+damaged_exactly Smaller calm memory closed broken opened whole = absurd calm
 
 -- on a store that is whole
 pub whole_run : (status : Status) → IsCalm status → status ≢ Memory → (status ≢ NotAStore) × (status ≢ Damaged) → (status ≡ TooLong) ⊎ ((status ≡ Done) ⊎ (status ≡ DoneWithRefusals))
@@ -101,6 +111,8 @@ whole_run DiskFault calm memory store = absurd calm
 whole_run ReadFault calm memory store = absurd calm
 whole_run SayFault calm memory store = absurd calm
 whole_run Memory calm memory store = absurd (memory refl)
+whole_run AlreadyTwo calm memory store = absurd calm
+whole_run Smaller calm memory store = absurd calm
 
 -- so does a dump
 pub calm_told : {old new : Disk} {before now : ℕ} (status : Status) → IsFaultless old new before now → IsOfDump status → CountsFaults old new status → IsCalm status
@@ -115,6 +127,8 @@ calm_told Usage calm of faults = absurd of
 calm_told AlreadyStore calm of faults = absurd of
 calm_told ReadFault calm of faults = absurd of
 calm_told TooLong calm of faults = absurd of
+calm_told AlreadyTwo calm of faults = absurd of
+calm_told Smaller calm of faults = absurd of
 
 -- a dump of a store that is whole, which nothing disturbs
 pub calm_dump : {old new : Disk} {before now : ℕ} (status : Status) → IsFaultless old new before now → status ≢ Memory → IsOfDump status → CountsFaults old new status → (status ≢ NotAStore) × (status ≢ Damaged) → status ≡ Done
@@ -129,6 +143,8 @@ calm_dump Usage calm memory of faults store = absurd of
 calm_dump AlreadyStore calm memory of faults store = absurd of
 calm_dump ReadFault calm memory of faults store = absurd of
 calm_dump TooLong calm memory of faults store = absurd of
+calm_dump AlreadyTwo calm memory of faults store = absurd of
+calm_dump Smaller calm memory of faults store = absurd of
 
 -- the making of a store in which no count of faults rises
 pub calm_init : {old new : Disk} {before now : ℕ} (status : Status) → IsFaultless old new before now → IsOfInit status → CountsFaults old new status → (status ≡ Done) ⊎ (status ≡ AlreadyStore)
@@ -143,6 +159,8 @@ calm_init Damaged calm of faults = absurd of
 calm_init ReadFault calm of faults = absurd of
 calm_init Memory calm of faults = absurd of
 calm_init TooLong calm of faults = absurd of
+calm_init AlreadyTwo calm of faults = absurd of
+calm_init Smaller calm of faults = absurd of
 
 -- where a store is there already, or the output fails to say so
 pub in_made : (status : Status) → (status ≡ AlreadyStore) ⊎ (status ≡ SayFault) → IsOfInit status

@@ -6,7 +6,7 @@ use Rattle.disk_model.specs.declared.fuse.Fuse.{Fuse}
 use Rattle.formats.specs.declared.params.Params.{Params}
 use Rattle.redo_shell.specs.Store.{Command, Opens}
 use Rattle.redo_shell.specs.Keeps.{KeepsFiles}
-use Rattle.redo_shell.specs.Sessions.{Ran, Follows, Sessions, start, run, init, dump, other}
+use Rattle.redo_shell.specs.Sessions.{Ran, Sizing, Follows, Sessions, start, run, init, dump, upgrade, other}
 
 module _ {M : Type 0} (disk : M → Disk) where
   -- a fuse around a machine
@@ -39,7 +39,7 @@ module _ {M : Type 0} (disk : M → Disk) where
   follows_around old new next said f = record { told = f.told; within = f.within }
 
   -- a list of calls on fuses is one on the machines inside
-  pub inside : {first last : Fuse M} {inits : List Params} {runs : List Ran} → Sessions (disk_through disk) first inits runs last → Sessions disk first.inner inits runs last.inner
+  pub inside : {first last : Fuse M} {sizes : List Sizing} {runs : List Ran} → Sessions (disk_through disk) first sizes runs last → Sessions disk first.inner sizes runs last.inner
   inside start = start
   inside (run old new next ran before begins leaves follows) =
       run old.inner new.inner next.inner ran (inside before) begins
@@ -49,17 +49,20 @@ module _ {M : Type 0} (disk : M → Disk) where
   inside (dump old new next said before keeps leaves follows) =
       dump old.inner new.inner next.inner said (inside before) (λ none told. keeps_inside old new (keeps none told))
       (λ p commands opens told. leaves_inside old new _ (leaves p commands (opens_around p old commands opens) told)) (follows_inside old new next said follows)
+  inside (upgrade old new next q said before keeps leaves follows) =
+      upgrade old.inner new.inner next.inner q said (inside before) (λ none told. keeps_inside old new (keeps none told))
+      (λ p commands opens told. leaves_inside old new _ (leaves p commands (opens_around p old commands opens) told)) (follows_inside old new next said follows)
   inside (other old new next said before kept follows) =
       other old.inner new.inner next.inner said (inside before) (keeps_inside old new kept) (follows_inside old new next said follows)
 
   -- a list of calls on fuses that ends with this one
-  pub record Around (first : M) (inits : List Params) (runs : List Ran) (end : Fuse M) : Type 0 where
+  pub record Around (first : M) (sizes : List Sizing) (runs : List Ran) (end : Fuse M) : Type 0 where
     pub begin : Fuse M
     pub begins : begin.inner ≡ first
-    pub calls : Sessions (disk_through disk) begin inits runs end
+    pub calls : Sessions (disk_through disk) begin sizes runs end
 
   -- and a list of calls on machines is one on fuses around them
-  pub around : {first last : M} {inits : List Params} {runs : List Ran} → Sessions disk first inits runs last → (end : Fuse M) → end.inner ≡ last → Around first inits runs end
+  pub around : {first last : M} {sizes : List Sizing} {runs : List Ran} → Sessions disk first sizes runs last → (end : Fuse M) → end.inner ≡ last → Around first sizes runs end
   around start end is = record { begin = end; begins = is; calls = start }
   around (run old new next ran before begins leaves follows) end is =
       let so_far = around before (fresh old) refl in
@@ -86,6 +89,15 @@ module _ {M : Type 0} (disk : M → Disk) where
         begin = so_far.begin;
         begins = so_far.begins;
         calls = dump (fresh old) (fresh new) end said so_far.calls (λ none told. keeps_around (fresh old) (fresh new) (keeps none told))
+            (λ p commands opens told. leaves_around (fresh old) (fresh new) _ (leaves p commands (opens_inside p (fresh old) commands opens) told)) (follows_around (fresh old) (fresh new) end said here);
+      }
+  around (upgrade old new next q said before keeps leaves follows) end is =
+      let so_far = around before (fresh old) refl in
+      let here : Follows (disk old) (disk new) (disk end.inner) said = subst (λ (m : M). Follows (disk old) (disk new) (disk m) said) (sym is) follows in
+      record {
+        begin = so_far.begin;
+        begins = so_far.begins;
+        calls = upgrade (fresh old) (fresh new) end q said so_far.calls (λ none told. keeps_around (fresh old) (fresh new) (keeps none told))
             (λ p commands opens told. leaves_around (fresh old) (fresh new) _ (leaves p commands (opens_inside p (fresh old) commands opens) told)) (follows_around (fresh old) (fresh new) end said here);
       }
   around (other old new next said before kept follows) end is =

@@ -9,6 +9,7 @@ pub mod OpenLemmas
 pub mod CallLemmas
 pub mod ExactLemmas
 pub mod DumpLemmas
+pub mod UpgradeLemmas
 pub mod KeepLemmas
 pub mod CauseLemmas
 pub mod SayLemmas
@@ -21,6 +22,8 @@ pub mod MadeLemmas
 pub mod ListLemmas
 pub mod AskLemmas
 pub mod MakingLemmas
+pub mod RangeLemmas
+pub mod HashLemmas
 pub mod DoneLemmas
 pub mod UpkeepLemmas
 pub mod FetchLemmas

@@ -1,11 +1,10 @@
 -- What a line asks for, and what a reader has found.
-use Rattle.std.proofs.Common.{◌≡◌, ◌<◌, List, ℕ, length, sym, subst, arith}
+use Rattle.std.proofs.Common.{◌≡◌, ◌<◌, List, ℕ, length, subst, arith}
 use Rattle.std.specs.Prelude.{replicate}
 use Rattle.std.proofs.lemmas.List.{length-replicate}
 use Rattle.script_lines.specs.Grammar.{AsksFor, IsBad, Request}
 use Rattle.script_lines.specs.GrammarLaws.{long_is_bad}
-use Rattle.redo_shell.specs.Replies.{AsksCommand, IsUpkeep}
-use Rattle.redo_shell.specs.Store.{Command}
+use Rattle.redo_shell.specs.Replies.{IsUpkeep}
 use Rattle.redo_shell.specs.Work.{AsksWork, request_for}
 use Rattle.redo_shell.specs.declared.work.Upkeep.{Upkeep}
 use Rattle.redo_shell.specs.declared.work.Upkeep.TheVariants.{Install, Drain, Checkpoint, Trim}
@@ -17,10 +16,6 @@ use Rattle.script_lines.specs.declared.next.Next.TheVariants.{Line as Short, Lon
 -- a line asks for this
 pub as_request : (line : List ℕ) {request known : Request} → request ≡ known → AsksFor line request → AsksFor line known
 as_request line is asks = subst (λ (r : Request). AsksFor line r) is asks
-
--- and for this command
-pub as_command : (line : List ℕ) {op known : Command} → op ≡ known → AsksCommand line known → AsksCommand line op
-as_command line same asks = subst (λ (c : Command). AsksCommand line c) (sym same) asks
 
 -- a line asks for this work
 pub as_work : (line : List ℕ) {work : Work} (known : Work) → AsksWork line work → work ≡ known → AsksWork line known

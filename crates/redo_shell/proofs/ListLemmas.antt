@@ -14,11 +14,12 @@ use Rattle.formats.specs.Objects.{bounds_of}
 use Rattle.formats.specs.declared.params.Params.{Params}
 use Rattle.btree_ops.specs.declared.node_op.NodeOp.{NodeOp}
 use Rattle.logical_btree.specs.Walk.{Way, size, walk}
-use Rattle.btree_ops.specs.Effects.{has}
+use Rattle.key_entries.specs.Pairs.{has}
 use Rattle.btree_ops.specs.Operation.{node_meaning}
 use Rattle.btree_ops.specs.declared.node_op.NodeOp.TheVariants.{Delete}
 use Rattle.oper_core.specs.declared.bounds.Bounds.{Bounds}
-use Rattle.logical_btree.specs.Plan.{Plan, Next, splits, puts, refuses, delete_on, delete_plan, insert_from, insert_next, insert_plan, is_there, plan_next}
+use Rattle.call_plans.specs.Plan.{plan_next, goes_on, ends, refuses}
+use Rattle.logical_btree.specs.Plan.{TreeNext, TreePlan, delete_on, delete_plan, insert_from, insert_next, insert_plan, is_there}
 use Rattle.logical_btree.specs.declared.refusal.TreeRefusal.{TreeRefusal}
 use Rattle.logical_btree.specs.declared.refusal.TreeRefusal.TheVariants.{NoObject, BadTree, TreeFull, NoKey}
 use Rattle.op_codec.specs.AllOps.{all_meaning}
@@ -40,23 +41,28 @@ use Rattle.execution.specs.Courses.{append_course}
 use Rattle.execution.specs.declared.exec_err.ExecErr.{ExecErr}
 use Rattle.execution.specs.declared.exec_err.ExecErr.TheVariants as exec_errors
 use Rattle.script_lines.specs.Grammar.{Request, AsksFor}
-use Rattle.script_lines.specs.declared.line.Line.TheVariants.{Run, AppRun as arun, TreeInsert as tinsert, TreeDelete as tdelete, Begin as begin_group, End as end_group}
-use Rattle.script_lines.specs.Replies.{Reply, ok, ran, refused, bad_tree, tree_full, full, end, reply_of}
+use Rattle.script_lines.specs.declared.line.Line.TheVariants.{Run, AppRun as arun, ProgramRun as prun, TreeInsert as tinsert, TreeDelete as tdelete, HashPut as hset, HashDelete as hdel, Begin as begin_group, End as end_group}
+use Rattle.script_lines.specs.Replies.{Reply, ok, ran, refused, bad_tree, tree_full, denied, full, end, reply_of}
 use Rattle.script_lines.specs.declared.answer.Answer.{Answer}
 use Rattle.script_lines.specs.declared.answer.Answer.TheVariants as answers
 use Rattle.store_engine.specs.Engine.{EngineView, forced_in, group_size, needed_in, params_of, used_in}
 use Rattle.redo_shell.specs.Store.{IsAttached, IsEngineCall}
 use Rattle.redo_shell.specs.Found.{IsAnswerTo, IsEndedBy, IsDone, IsMade, IsOfEngine}
 use Rattle.redo_shell.specs.Groups.{Regroups, group_after, open_in, size_of}
-use Rattle.redo_shell.specs.Made.{AsksMade, AsksBehind, Made, end_reply, made, made_by, one_unless, plan_made, plan_reply, run_reply}
+use Rattle.hash_file.specs.Plan.{HashPlan}
+use Rattle.hash_file.specs.Plan as of_hash
+use Rattle.hash_file.specs.declared.refusal.HashRefusal.{HashRefusal}
+use Rattle.hash_file.specs.declared.refusal.HashRefusal.TheVariants as hash_refusals
+use Rattle.redo_shell.specs.Made.{AsksMade, AsksBehind, Made, call_end, hash_made, hash_reply, end_reply, made, made_by, one_unless, plan_made, plan_reply, run_made, run_reply}
 use Rattle.tree_client.specs.Answers.{made_of}
-use Rattle.app_steps.specs.Steps.{step_of, steps_accepted}
+use Rattle.app_steps.specs.Steps.{program_step, step_of, steps_accepted}
 use Rattle.redo_shell.specs.Replies.{Replies}
 use Rattle.redo_shell.specs.Run.{IsCaused, IsUndamaged, Working}
 use Rattle.redo_shell.specs.Stages.{Ends, GoesBy, stage_of}
 use Rattle.redo_shell.specs.Store.{Between, Command, Holds, meaning_in, record_length, refusal_after, state_of}
 use Rattle.redo_shell.specs.declared.stop.Stop.{Stop as Early}
 use Rattle.redo_shell.specs.declared.stop.Stop.TheVariants.{DiskFault, Damaged, Memory}
+use Rattle.redo_shell.proofs.HashLemmas.{planned_delete_all, planned_put_all, some_hash}
 use Rattle.redo_shell.proofs.MomentLemmas.{Works, works_by}
 use Rattle.redo_shell.proofs.DoneLemmas.{asks_in, last_number, left_stopped, over_limit, still_attached, still_whole}
 use Rattle.redo_shell.proofs.GroupsOfLists.{open_same}
@@ -71,6 +77,7 @@ IsEnd (ran k) = ⊤
 IsEnd (refused why) = ⊤
 IsEnd bad_tree = ⊤
 IsEnd tree_full = ⊤
+IsEnd (denied why) = ⊤
 IsEnd reply = ⊥
 
 end_one : (op : Command) (refusal : Option Refusal) → IsEnd (one_unless op refusal).reply
@@ -80,8 +87,13 @@ end_one op (Some why) = tt
 end_run : (n k : ℕ) (refusal : Option Refusal) → IsEnd (run_reply n k refusal)
 end_run zero k refusal = tt
 end_run (suc n) k None = tt
+end_run (suc n) k (Some refusals.Halted) = tt
 end_run (suc n) k (Some refusals.NoInput) = tt
+end_run (suc n) k (Some refusals.TooLarge) = tt
 end_run (suc n) k (Some why) = tt
+
+end_made : (p : Params) (commands : List Command) (step : Command) (n : ℕ) → IsEnd (run_made p commands step n).reply
+end_made p commands step n = end_run n (steps_accepted p commands step n) (refusal_after p commands step)
 
 end_end : (refusal : Option TreeRefusal) → IsEnd (end_reply refusal)
 end_end None = tt
@@ -90,9 +102,20 @@ end_end (Some (BadTree object)) = tt
 end_end (Some (TreeFull need free)) = tt
 end_end (Some NoKey) = tt
 
-end_plan : (cap : ℕ) (ops : List NodeOp) (reply : Reply) → IsEnd reply → IsEnd (plan_reply cap ops reply)
+end_plan : {O : Type 0} (cap : ℕ) (ops : List O) (reply : Reply) → IsEnd reply → IsEnd (plan_reply cap ops reply)
 end_plan cap [] reply is = is
 end_plan cap (op ∷ ops) reply is = cond_both (nat_le 1024 cap) _ _ IsEnd (λ wide. is) (λ small. tt)
+
+end_hash : (refusal : Option HashRefusal) → IsEnd (call_end hash_reply refusal)
+end_hash None = tt
+end_hash (Some hash_refusals.NoObject) = tt
+end_hash (Some (hash_refusals.BadHash object)) = tt
+end_hash (Some (hash_refusals.HashFull object)) = tt
+end_hash (Some (hash_refusals.NoRoom free)) = tt
+end_hash (Some hash_refusals.NoKey) = tt
+
+end_hash_plan : (p : Params) (plan : HashPlan) → IsEnd (hash_made p plan).reply
+end_hash_plan p plan = end_plan p.cap plan.commands (call_end hash_reply plan.refusal) (end_hash plan.refusal)
 
 made_end : (p : Params) (commands : List Command) (it : Made) (request : Request) → made_by p commands request ≡ Some it → IsEnd it.reply
 made_end p commands it request is = of_request request it is
@@ -102,9 +125,12 @@ made_end p commands it request is = of_request request it is
 
     of_request : (request : Request) (it : Made) → made_by p commands request ≡ Some it → IsEnd it.reply
     of_request (Run op) it same = given _ it same (end_one _ _)
-    of_request (arun app n) it same = given _ it same (end_run n (steps_accepted p commands app n) (refusal_after p commands (step_of app)))
+    of_request (arun app n) it same = given _ it same (end_made p commands (step_of app) n)
+    of_request (prun app code n) it same = given _ it same (end_made p commands (program_step app code) n)
     of_request (tinsert lo hi key value) it same = let s = state_of p commands in let plan = insert_plan (bounds_of p) lo hi s key value in given _ it same (end_plan p.cap plan.commands (end_reply plan.refusal) (end_end plan.refusal))
     of_request (tdelete lo hi key) it same = let s = state_of p commands in let plan = delete_plan (bounds_of p) lo hi s key in given _ it same (end_plan p.cap plan.commands (end_reply plan.refusal) (end_end plan.refusal))
+    of_request (hset lo hi key value) it same = given _ it same (end_hash_plan p (of_hash.put_plan (bounds_of p) lo hi (state_of p commands) key value))
+    of_request (hdel lo hi key) it same = given _ it same (end_hash_plan p (of_hash.delete_plan (bounds_of p) lo hi (state_of p commands) key))
     of_request request it same = cc
 
 -- where the answer is ok, there are some
@@ -118,11 +144,16 @@ some_one op (Some why) is none = cc is
 some_run : (n k : ℕ) (refusal : Option Refusal) → run_reply n k refusal ≡ ok → ⊥
 some_run zero k refusal is = cc is
 some_run (suc n) k None is = cc is
+some_run (suc n) k (Some refusals.Halted) is = cc is
 some_run (suc n) k (Some refusals.NoInput) is = cc is
+some_run (suc n) k (Some refusals.TooLarge) is = cc is
 some_run (suc n) k (Some why) is = cc is
 
+some_made : (p : Params) (commands : List Command) (step : Command) (n : ℕ) → (run_made p commands step n).reply ≡ ok → ⊥
+some_made p commands step n = some_run n (steps_accepted p commands step n) (refusal_after p commands step)
+
 -- a plan that is not refused has some commands
-abbrev IsPlanned : Plan → Type 0
+abbrev IsPlanned : TreePlan → Type 0
 IsPlanned plan = plan.refusal ≡ None → plan.commands ≡ [] → ⊥
 
 some_end : (refusal : Option TreeRefusal) → end_reply refusal ≡ ok → refusal ≡ None
@@ -132,7 +163,7 @@ some_end (Some (BadTree object)) is = cc is
 some_end (Some (TreeFull need free)) is = cc is
 some_end (Some NoKey) is = cc is
 
-some_plan : (p : Params) (plan : Plan) → IsPlanned plan → HasSome (plan_made p plan)
+some_plan : (p : Params) (plan : TreePlan) → IsPlanned plan → HasSome (plan_made p plan)
 some_plan p plan planned = of_commands plan.commands plan.refusal planned
   where
     of_commands : (ops : List NodeOp) (refusal : Option TreeRefusal) → (refusal ≡ None → ops ≡ [] → ⊥) → HasSome (made (made_of p.cap ops) (plan_reply p.cap ops (end_reply refusal)))
@@ -187,12 +218,12 @@ few_commands m limit (op ∷ ops) w now used some is same =
     let low : end_of now ≤ 2 ^ 62 = subst (λ (v : World Command). end_of v ≤ 2 ^ 62) (sym same) (low_some m limit op ops w used is) in
     omega (arith, low, no_more_commands now.history)
 
-planned_next : (on : NodeOp → Plan) (next : Next) → IsPlanned (plan_next on next)
-planned_next on (splits op) is none = cc none
-planned_next on (puts op) is none = cc none
+planned_next : (on : NodeOp → TreePlan) (next : TreeNext) → IsPlanned (plan_next on next)
+planned_next on (goes_on op) is none = cc none
+planned_next on (ends op) is none = cc none
 planned_next on (refuses why) is none = cc is
 
-planned_there : (there : Bool) (plan other : Plan) → IsPlanned plan → IsPlanned other → IsPlanned (if there then plan else other)
+planned_there : (there : Bool) (plan other : TreePlan) → IsPlanned plan → IsPlanned other → IsPlanned (if there then plan else other)
 planned_there true plan other here there = here
 planned_there false plan other here there = there
 
@@ -208,7 +239,8 @@ made_some p commands it request is = of_request request it is
   where
     of_request : (request : Request) (it : Made) → made_by p commands request ≡ Some it → HasSome it
     of_request (Run op) it same = some_given _ it same (some_one _ _)
-    of_request (arun app n) it same = some_given _ it same (λ e none. some_run n (steps_accepted p commands app n) (refusal_after p commands (step_of app)) e)
+    of_request (arun app n) it same = some_given _ it same (λ e none. some_made p commands (step_of app) n e)
+    of_request (prun app code n) it same = some_given _ it same (λ e none. some_made p commands (program_step app code) n e)
     of_request (tinsert lo hi key value) it same =
         let b = bounds_of p in
         let s = state_of p commands in
@@ -222,6 +254,12 @@ made_some p commands it request is = of_request request it is
         let plan = delete_plan b lo hi s key in
         some_given _ it same (some_plan p plan
         (planned_there (is_there b lo hi) (delete_on key (walk lo hi s key)) (record { commands = []; refusal = Some NoObject }) (planned_delete key (walk lo hi s key)) no_object))
+    of_request (hset lo hi key value) it same =
+        let plan = of_hash.put_plan (bounds_of p) lo hi (state_of p commands) key value in
+        some_given _ it same (some_hash p plan (planned_put_all (bounds_of p) lo hi (state_of p commands) key value))
+    of_request (hdel lo hi key) it same =
+        let plan = of_hash.delete_plan (bounds_of p) lo hi (state_of p commands) key in
+        some_given _ it same (some_hash p plan (planned_delete_all (bounds_of p) lo hi (state_of p commands) key))
     of_request request it same = cc
 
 -- a line that asks for commands leaves the open group as it is
@@ -320,6 +358,7 @@ module _ (p : Params) (old now : Disk) (before after : EngineView) (commands : L
   made_done (refused why) is fin call a = all_done (refused why) is (inl (asks_so (refused why) is)) (λ world goes. goes) tt call a
   made_done bad_tree is fin call a = all_done bad_tree is (inl (asks_so bad_tree is)) (λ world goes. goes) tt call a
   made_done tree_full is fin call a = all_done tree_full is (asks_so tree_full is) (λ world goes. goes) tt call a
+  made_done (denied why) is fin call a = all_done (denied why) is (inl (asks_so (denied why) is)) (λ world goes. goes) tt call a
   made_done reply is fin call a = absurd fin
 
   -- one of them is stopped

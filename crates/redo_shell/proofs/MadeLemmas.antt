@@ -10,7 +10,6 @@ use Rattle.running_store.specs.Courses.{Course, Stop, course, behind}
 use Rattle.running_store.specs.Courses.Stop.{Through, Full, At_end, Worn}
 use Rattle.execution.specs.Courses.{append_course}
 use Rattle.store_engine.specs.Lists.{commands_course}
-use Rattle.op_codec.specs.declared.sum.Sum.TheVariants.{First, Second}
 use Rattle.script_lines.specs.Grammar.{Request}
 use Rattle.script_lines.specs.declared.line.Line.TheVariants.{Run as run, Trim as trim, Begin as begin_group, End as end_group}
 use Rattle.store_engine.specs.Engine.{EngineView}
@@ -22,8 +21,7 @@ use Rattle.redo_shell.specs.Store.{Command, refusal_after}
 
 -- a line that asks for a command makes it, unless it is refused
 pub command_made : (p : Params) (commands : List Command) (line : List ℕ) (op : Command) → AsksCommand line op → AsksMade p commands line (one_made p commands op)
-command_made p commands line (First op) asks = record { request = run op; asks = asks; makes = refl }
-command_made p commands line (Second op) asks = absurd asks
+command_made p commands line op asks = record { request = run op; asks = asks; makes = refl }
 
 pub made_unless : (p : Params) (commands : List Command) (line : List ℕ) (op : Command) (refusal : Option Refusal) → refusal_after p commands op ≡ refusal → AsksCommand line op → AsksMade p commands line (one_unless op refusal)
 made_unless p commands line op refusal is asks = subst (λ (r : Option Refusal). AsksMade p commands line (one_unless op r)) is (command_made p commands line op asks)

@@ -6,13 +6,13 @@ use Rattle.oper_core.specs.declared.bounds.Bounds.{Bounds}
 use Rattle.oper_core.specs.declared.refusal.Refusal.{Refusal}
 use Rattle.oper_core.specs.declared.refusal.Refusal.TheVariants as refusals
 use Rattle.formats.specs.declared.params.Params.{Params}
-use Rattle.app_steps.specs.Steps.{IsRefusedAtOnce, HasAnswer, step_of, steps_accepted}
+use Rattle.app_steps.specs.Steps.{IsRefusedAtOnce, HasAnswer, ends_a_run, steps, steps_accepted}
 use Rattle.btree_ops.specs.declared.node_op.NodeOp.{NodeOp}
 use Rattle.running_store.specs.Taking.Ending.{Done, Stopped}
 use Rattle.store_engine.specs.Lists.{AddsFront, AreCalls, ending_of}
 use Rattle.execution.specs.declared.exec_err.ExecErr.{ExecErr}
 use Rattle.execution.specs.declared.exec_err.ExecErr.TheVariants as exec_errors
-use Rattle.logical_btree.specs.Plan.{Plan, is_there}
+use Rattle.logical_btree.specs.Plan.{TreePlan, is_there}
 use Rattle.logical_btree.specs.Walk.{Range}
 use Rattle.logical_btree.specs.declared.refusal.TreeRefusal.{TreeRefusal}
 use Rattle.logical_btree.specs.declared.refusal.TreeRefusal.TheVariants.{NoObject, BadTree, TreeFull, NoKey}
@@ -21,8 +21,9 @@ use Rattle.script_lines.specs.Replies.{Reply, ok, ran, refused, bad_tree, tree_f
 use Rattle.script_lines.specs.declared.answer.Answer.{Answer}
 use Rattle.script_lines.specs.declared.answer.Answer.TheVariants as answers
 use Rattle.tree_client.specs.Answers.{cause_of, error_of, made_of, refused_in, refused_of, told}
-use Rattle.tree_client.specs.declared.tree_err.TreeErr.{TreeErr}
-use Rattle.tree_client.specs.declared.tree_err.TreeErr.TheVariants as tree_errors
+use Rattle.tree_client.specs.Answers.{TreeErr}
+use Rattle.range_calls.specs.declared.call_err.CallErr.TheVariants as tree_errors
+use Rattle.logical_btree.specs.declared.refusal.TreeRefusal.TheVariants as tree_refusals
 use Rattle.disk_model.specs.Disk.{Disk}
 use Rattle.op_codec.specs.AllOps.{all_meaning}
 use Rattle.running_store.specs.Courses.{Stop}
@@ -30,7 +31,7 @@ use Rattle.script_lines.specs.Grammar.{Request}
 use Rattle.store_engine.specs.Engine.{EngineView}
 use Rattle.store_engine.specs.Engine as of_engine
 use Rattle.redo_shell.specs.Found.{IsAnswerTo, IsAsked, IsEndedBy, IsMade, answer_of_error, answer_of_tree_error, refused_as, reply_in}
-use Rattle.redo_shell.specs.Made.{end_reply, found_reply, made_by, plan_made, plan_reply, run_reply, tree_answer, tree_reply}
+use Rattle.redo_shell.specs.Made.{end_reply, found_reply, made_by, plan_made, plan_reply, run_made, run_reply, tree_answer, tree_reply}
 use Rattle.redo_shell.specs.Store.{Command, refusal_after, state_of}
 use Rattle.redo_shell.specs.declared.asking.Found.{Found}
 use Rattle.redo_shell.specs.declared.asking.Found.TheVariants as founds
@@ -56,32 +57,71 @@ error_answers (exec_errors.Damaged file place) is so = is
 error_answers exec_errors.Memory is so = is
 
 -- a run of steps that is done
-module _ (p : Params) (commands : List Command) (app : ℕ) where
-  run_done : (n k : ℕ) (refusal : Option Refusal) → refusal_after p commands (step_of app) ≡ refusal → ((why : Refusal) → IsRefusedAtOnce p commands app n why → ⊥) → run_reply n k refusal ≡ ran k
+module _ (p : Params) (commands : List Command) (step : Command) where
+  run_done : (n k : ℕ) (refusal : Option Refusal) → refusal_after p commands step ≡ refusal → ((why : Refusal) → IsRefusedAtOnce p commands step n why → ⊥) → run_reply n k refusal ≡ ran k
   run_done zero k refusal is none = refl
   run_done (suc n) k None is none = refl
+  run_done (suc n) k (Some refusals.Halted) is none = refl
   run_done (suc n) k (Some refusals.NoInput) is none = refl
-  run_done (suc n) k (Some why) is none = absurd (none why (record { some = λ e. cc e; first = is; not_input = λ e. cc e }))
+  run_done (suc n) k (Some refusals.TooLarge) is none = refl
+  run_done (suc n) k (Some why) is none = absurd (none why (record { some = λ e. cc e; first = is; no_end = refl }))
 
-  pub run_is : (n k : ℕ) → HasAnswer p commands app n (Ok k) → run_reply n (steps_accepted p commands app n) (refusal_after p commands (step_of app)) ≡ ran k
-  run_is n k answer = run_done n (steps_accepted p commands app n) (refusal_after p commands (step_of app)) refl answer.1 ∙ ap (λ (m : ℕ). ran m) (sym answer.0)
+  run_is : (n k : ℕ) → HasAnswer p commands step n (Ok k) → run_reply n (steps_accepted p commands step n) (refusal_after p commands step) ≡ ran k
+  run_is n k answer = run_done n (steps_accepted p commands step n) (refusal_after p commands step) refl answer.1 ∙ ap (λ (m : ℕ). ran m) (sym answer.0)
 
-  refused_so : (n k : ℕ) (why : Refusal) → (n ≡ 0 → ⊥) → (why ≡ refusals.NoInput → ⊥) → run_reply n k (Some why) ≡ refused why
+  refused_so : (n k : ℕ) (why : Refusal) → (n ≡ 0 → ⊥) → ends_a_run why ≡ false → run_reply n k (Some why) ≡ refused why
   refused_so zero k why some other = absurd (some refl)
-  refused_so (suc n) k refusals.NoInput some other = absurd (other refl)
+  refused_so (suc n) k refusals.Halted some other = cc other
+  refused_so (suc n) k refusals.NoInput some other = cc other
+  refused_so (suc n) k refusals.TooLarge some other = cc other
   refused_so (suc n) k why some other = refl
 
-  pub run_refused : (n : ℕ) (e : ExecErr) → HasAnswer p commands app n (Err e) → (why : Refusal) → e ≡ exec_errors.Refused why → run_reply n (steps_accepted p commands app n) (refusal_after p commands (step_of app)) ≡ refused why
+  run_refused : (n : ℕ) (e : ExecErr) → HasAnswer p commands step n (Err e) → (why : Refusal) → e ≡ exec_errors.Refused why → run_reply n (steps_accepted p commands step n) (refusal_after p commands step) ≡ refused why
   run_refused n e answer why is =
-      let here = subst (λ (x : ExecErr). HasAnswer p commands app n (Err x)) is answer in
-      ap (λ (r : Option Refusal). run_reply n (steps_accepted p commands app n) r) here.first ∙ refused_so n (steps_accepted p commands app n) why here.some here.not_input
+      let here = subst (λ (x : ExecErr). HasAnswer p commands step n (Err x)) is answer in
+      ap (λ (r : Option Refusal). run_reply n (steps_accepted p commands step n) r) here.first ∙ refused_so n (steps_accepted p commands step n) why here.some here.no_end
+
+-- A run of steps for a request.
+module _ (old now : Disk) (before after : EngineView) (request : Request) (step : Command) (n : ℕ) (makes : (p : Params) (commands : List Command) → made_by p commands request ≡ Some (run_made p commands step n)) where
+  -- it adds its steps, as many as are accepted, or some first of them
+  abbrev Steps : Option ExecErr → Type 0
+  Steps error = (p : Params) (commands : List Command) → (holds : of_engine.Holds all_meaning p old before commands) → AddsFront all_meaning p old now before after holds.world commands (steps p commands step n) (ending_of error)
+
+  abbrev Answers : Result ℕ ExecErr → Type 0
+  Answers result = (p : Params) (commands : List Command) → of_engine.Holds all_meaning p old before commands → HasAnswer p commands step n result
+
+  pub ran_well : (k : ℕ) → AreCalls all_meaning old now before after None → Steps None → Answers (Ok k) → IsMade old now before after request (Ok (answers.Ran k))
+  ran_well k calls adds answer = record {
+    error = None;
+    calls = calls;
+    ended = (answers.Ran k, refl);
+    adds = λ p commands holds. (
+      run_made p commands step n,
+      makes p commands,
+      adds p commands (in_engine holds),
+      (answers.Ran k, refl, run_is p commands step n k (answer p commands (in_engine holds))),
+    );
+  }
+
+  pub ran_badly : (e : ExecErr) {r : Result Answer Early} → AreCalls all_meaning old now before after (Some e) → Steps (Some e) → Answers (Err e) → r ≡ answer_of_error e → IsMade old now before after request r
+  ran_badly e calls adds answer is = record {
+    error = Some e;
+    calls = calls;
+    ended = error_ends e is;
+    adds = λ p commands holds. (
+      run_made p commands step n,
+      makes p commands,
+      adds p commands (in_engine holds),
+      error_answers e is (run_refused p commands step n e (answer p commands (in_engine holds))),
+    );
+  }
 
 -- the reply to a tree's own refusals, and to a command that is refused
 abbrev pub reply_to : TreeErr → Reply
-reply_to tree_errors.NoObject = refused refusals.NoObject
-reply_to (tree_errors.BadTree object) = bad_tree
-reply_to (tree_errors.TreeFull need free) = tree_full
-reply_to tree_errors.NoKey = refused refusals.NoKey
+reply_to (tree_errors.Refused tree_refusals.NoObject) = refused refusals.NoObject
+reply_to (tree_errors.Refused (tree_refusals.BadTree object)) = bad_tree
+reply_to (tree_errors.Refused (tree_refusals.TreeFull need free)) = tree_full
+reply_to (tree_errors.Refused tree_refusals.NoKey) = refused refusals.NoKey
 reply_to (tree_errors.Exec (exec_errors.Refused why)) = refused why
 reply_to error = ok
 
@@ -106,26 +146,26 @@ plan_so room (op ∷ ops) refusal e = by_room (nat_le 1024 room)
     by_room true is = plan_end refusal e is
     by_room false is = (λ none. cc (none, is), λ x some. ap reply_to (let same : tree_errors.Exec (exec_errors.Refused refusals.TooLarge) ≡ x = cc (is, some) in same))
 
-pub plan_ok : (p : Params) (plan : Plan) → None ≡ refused_of p.cap plan.commands (option_map error_of plan.refusal) → (plan_made p plan).reply ≡ ok
+pub plan_ok : (p : Params) (plan : TreePlan) → None ≡ refused_of p.cap plan.commands (option_map error_of plan.refusal) → (plan_made p plan).reply ≡ ok
 plan_ok p plan is = (plan_so p.cap plan.commands plan.refusal None is).0 refl
 
-pub plan_err : (p : Params) (plan : Plan) (e : TreeErr) → Some e ≡ refused_of p.cap plan.commands (option_map error_of plan.refusal) → (plan_made p plan).reply ≡ reply_to e
+pub plan_err : (p : Params) (plan : TreePlan) (e : TreeErr) → Some e ≡ refused_of p.cap plan.commands (option_map error_of plan.refusal) → (plan_made p plan).reply ≡ reply_to e
 plan_err p plan e is = (plan_so p.cap plan.commands plan.refusal (Some e) is).1 e refl
 
 -- the error of a call on a tree ends it so
 pub tree_ends : (e : TreeErr) {r : Result Answer Early} → r ≡ answer_of_tree_error e → IsEndedBy (cause_of e) r
-tree_ends tree_errors.NoObject is = (answers.Refused refusals.NoObject, is)
-tree_ends (tree_errors.BadTree object) is = (answers.BadTree, is)
-tree_ends (tree_errors.TreeFull need free) is = (answers.TreeFull, is)
-tree_ends tree_errors.NoKey is = (answers.Refused refusals.NoKey, is)
+tree_ends (tree_errors.Refused tree_refusals.NoObject) is = (answers.Refused refusals.NoObject, is)
+tree_ends (tree_errors.Refused (tree_refusals.BadTree object)) is = (answers.BadTree, is)
+tree_ends (tree_errors.Refused (tree_refusals.TreeFull need free)) is = (answers.TreeFull, is)
+tree_ends (tree_errors.Refused tree_refusals.NoKey) is = (answers.Refused refusals.NoKey, is)
 tree_ends (tree_errors.Exec e) is = error_ends e is
 tree_ends tree_errors.Memory is = is
 
 pub tree_answers : (e : TreeErr) {r : Result Answer Early} {reply : Reply} → r ≡ answer_of_tree_error e → (ending_of (cause_of e) ≡ Done → reply ≡ reply_to e) → IsAnswerTo reply (cause_of e) r
-tree_answers tree_errors.NoObject is so = (answers.Refused refusals.NoObject, is, so refl)
-tree_answers (tree_errors.BadTree object) is so = (answers.BadTree, is, so refl)
-tree_answers (tree_errors.TreeFull need free) is so = (answers.TreeFull, is, so refl)
-tree_answers tree_errors.NoKey is so = (answers.Refused refusals.NoKey, is, so refl)
+tree_answers (tree_errors.Refused tree_refusals.NoObject) is so = (answers.Refused refusals.NoObject, is, so refl)
+tree_answers (tree_errors.Refused (tree_refusals.BadTree object)) is so = (answers.BadTree, is, so refl)
+tree_answers (tree_errors.Refused (tree_refusals.TreeFull need free)) is so = (answers.TreeFull, is, so refl)
+tree_answers (tree_errors.Refused tree_refusals.NoKey) is so = (answers.Refused refusals.NoKey, is, so refl)
 tree_answers (tree_errors.Exec e) {r} {reply} is so = of_error e is so
   where
     of_error : (e : ExecErr) → r ≡ answer_of_error e → (ending_of (Some e) ≡ Done → reply ≡ reply_to (tree_errors.Exec e)) → IsAnswerTo reply (Some e) r
@@ -165,8 +205,8 @@ nowhere b low high there none is = ap (λ (t : Bool). if t && nat_lt high b.obje
 no_ops : (cap : ℕ) → made_of cap [] ≡ []
 no_ops cap = cond_both (nat_le 1024 cap) (map (λ n. node n) []) [] (λ (l : List Command). l ≡ []) (λ wide. refl) (λ small. refl)
 
-pub none_made : (p : Params) (plan : Plan) → plan ≡ record { commands = []; refusal = Some NoObject } → ((plan_made p plan).ops ≡ []) × ((plan_made p plan).reply ≡ refused refusals.NoObject)
-none_made p plan is = (ap (λ (q : Plan). (plan_made p q).ops) is ∙ no_ops p.cap, ap (λ (q : Plan). (plan_made p q).reply) is)
+pub none_made : (p : Params) (plan : TreePlan) → plan ≡ record { commands = []; refusal = Some NoObject } → ((plan_made p plan).ops ≡ []) × ((plan_made p plan).reply ≡ refused refusals.NoObject)
+none_made p plan is = (ap (λ (q : TreePlan). (plan_made p q).ops) is ∙ no_ops p.cap, ap (λ (q : TreePlan). (plan_made p q).reply) is)
 
 -- what a tree tells
 pub found_so : (answer : Result (Option (List ℕ)) TreeRefusal) (found : Option (List ℕ)) → Ok found ≡ told answer → found_reply answer ≡ found_reply (Ok found)
@@ -191,10 +231,10 @@ module _ {T : Type 0} (reply : Result T TreeRefusal → Reply) (same : (why : Tr
 
   pub refused_tells : (e : TreeErr) (r : Result Found Early) → r ≡ refused_as (answer_of_tree_error e) → (ending_of (cause_of e) ≡ Done → Err e ≡ told answer) → ((stop : Stop) → ending_of (cause_of e) ≡ Stopped stop → ⊥)
       → IfOk r (λ found. reply answer ≡ reply_in found)
-  refused_tells tree_errors.NoObject r is so none = subst (λ (x : Result Found Early). IfOk x (λ found. reply answer ≡ reply_in found)) (sym is) (told_so reply same answer tree_errors.NoObject (so refl))
-  refused_tells (tree_errors.BadTree object) r is so none = subst (λ (x : Result Found Early). IfOk x (λ found. reply answer ≡ reply_in found)) (sym is) (told_so reply same answer (tree_errors.BadTree object) (so refl))
-  refused_tells (tree_errors.TreeFull need free) r is so none = subst (λ (x : Result Found Early). IfOk x (λ found. reply answer ≡ reply_in found)) (sym is) (told_so reply same answer (tree_errors.TreeFull need free) (so refl))
-  refused_tells tree_errors.NoKey r is so none = subst (λ (x : Result Found Early). IfOk x (λ found. reply answer ≡ reply_in found)) (sym is) (told_so reply same answer tree_errors.NoKey (so refl))
+  refused_tells (tree_errors.Refused tree_refusals.NoObject) r is so none = subst (λ (x : Result Found Early). IfOk x (λ found. reply answer ≡ reply_in found)) (sym is) (told_so reply same answer (tree_errors.Refused tree_refusals.NoObject) (so refl))
+  refused_tells (tree_errors.Refused (tree_refusals.BadTree object)) r is so none = subst (λ (x : Result Found Early). IfOk x (λ found. reply answer ≡ reply_in found)) (sym is) (told_so reply same answer (tree_errors.Refused (tree_refusals.BadTree object)) (so refl))
+  refused_tells (tree_errors.Refused (tree_refusals.TreeFull need free)) r is so none = subst (λ (x : Result Found Early). IfOk x (λ found. reply answer ≡ reply_in found)) (sym is) (told_so reply same answer (tree_errors.Refused (tree_refusals.TreeFull need free)) (so refl))
+  refused_tells (tree_errors.Refused tree_refusals.NoKey) r is so none = subst (λ (x : Result Found Early). IfOk x (λ found. reply answer ≡ reply_in found)) (sym is) (told_so reply same answer (tree_errors.Refused tree_refusals.NoKey) (so refl))
   refused_tells (tree_errors.Exec (exec_errors.Refused why)) r is so none = absurd (not_by_engine (exec_errors.Refused why) (so refl))
   refused_tells (tree_errors.Exec (exec_errors.LogFull used need limit)) r is so none = absurd (none _ refl)
   refused_tells (tree_errors.Exec (exec_errors.LsnEnd number)) r is so none = absurd (none _ refl)
@@ -205,10 +245,10 @@ module _ {T : Type 0} (reply : Result T TreeRefusal → Reply) (same : (why : Tr
 
 -- and it ends so
 pub asked_ends : (e : TreeErr) {r : Result Found Early} → r ≡ refused_as (answer_of_tree_error e) → IsEndedBy (cause_of e) r
-asked_ends tree_errors.NoObject is = (_, is)
-asked_ends (tree_errors.BadTree object) is = (_, is)
-asked_ends (tree_errors.TreeFull need free) is = (_, is)
-asked_ends tree_errors.NoKey is = (_, is)
+asked_ends (tree_errors.Refused tree_refusals.NoObject) is = (_, is)
+asked_ends (tree_errors.Refused (tree_refusals.BadTree object)) is = (_, is)
+asked_ends (tree_errors.Refused (tree_refusals.TreeFull need free)) is = (_, is)
+asked_ends (tree_errors.Refused tree_refusals.NoKey) is = (_, is)
 asked_ends (tree_errors.Exec (exec_errors.Refused why)) is = (_, is)
 asked_ends (tree_errors.Exec (exec_errors.LogFull used need limit)) is = (_, is)
 asked_ends (tree_errors.Exec (exec_errors.LsnEnd number)) is = (_, is)
@@ -218,7 +258,7 @@ asked_ends (tree_errors.Exec exec_errors.Memory) is = is
 asked_ends tree_errors.Memory is = is
 
 -- A call on a tree for commands.
-module _ (old now : Disk) (before after : EngineView) (request : Request) (planned : Params → List Command → Range → Plan) (low high : ℕ)
+module _ (old now : Disk) (before after : EngineView) (request : Request) (planned : Params → List Command → Range → TreePlan) (low high : ℕ)
     (makes : (p : Params) (commands : List Command) → made_by p commands request ≡ Some (plan_made p (planned p commands (record { lo = low; hi = high })))) where
   abbrev its : Range
   its = record { lo = low; hi = high }
@@ -259,7 +299,7 @@ module _ (old now : Disk) (before after : EngineView) (request : Request) (plann
   }
 
 -- Where the range is none nothing is made.
-pub made_nowhere : {d : Disk} {engine : EngineView} (request : Request) (plan : Params → List Command → Plan) → ((p : Params) (commands : List Command) → made_by p commands request ≡ Some (plan_made p (plan p commands)))
+pub made_nowhere : {d : Disk} {engine : EngineView} (request : Request) (plan : Params → List Command → TreePlan) → ((p : Params) (commands : List Command) → made_by p commands request ≡ Some (plan_made p (plan p commands)))
     → ((p : Params) (commands : List Command) → plan p commands ≡ record { commands = []; refusal = Some NoObject }) → AreCalls all_meaning d d engine engine None
     → ((p : Params) (commands : List Command) → (holds : of_engine.Holds all_meaning p d engine commands) → AddsFront all_meaning p d d engine engine holds.world commands [] Done) → IsMade d d engine engine request (Ok (answers.Refused refusals.NoObject))
 made_nowhere {d} {engine} request plan makes none calls front = record {

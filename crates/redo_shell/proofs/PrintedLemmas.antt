@@ -9,7 +9,8 @@ use Rattle.oper_core.specs.declared.refusal.Refusal.{Refusal}
 use Rattle.oper_core.specs.declared.refusal.Refusal.TheVariants.{NoObject, Same, BadPlace, BadWidth, NotApp, NotCode, Halted, NoInput, NotNode, NoKey, NodeFull, TooLarge}
 use Rattle.formats.specs.declared.params.Params.{Params}
 use Rattle.script_lines.specs.Reading.{IsPlain}
-use Rattle.script_lines.specs.Replies.{Pair, Reply, ok, ran, value, pairs, forced, bad, refused, bad_tree, tree_full, in_group, no_group, full, end, object_value, command_count, stat, summary, silence, pair_text, spaced_pair, spaced, numbers_of, hex_glyph, hex_pair, hex_text, name_of, text_of, said_line}
+use Rattle.script_lines.specs.declared.denial.Denial.TheVariants.{BadHash, HashFull, NoRoom}
+use Rattle.script_lines.specs.Replies.{Pair, Reply, ok, ran, value, pairs, forced, bad, refused, bad_tree, tree_full, denied, in_group, no_group, full, end, object_value, command_count, stat, summary, silence, pair_text, spaced_pair, spaced, numbers_of, hex_glyph, hex_pair, hex_text, name_of, text_of, said_line}
 use Rattle.redo_shell.specs.Store.{Command}
 use Rattle.redo_shell.specs.Answers.{Said, Begun}
 use Rattle.redo_shell.specs.Printed.{before_line, whole_lines, texts_of, SaysForced}
@@ -128,6 +129,9 @@ plain_text (ran n) = plain_count (codes "ran ") n (plain_when (codes "ran ") ref
 plain_text (pairs pair others) = plain_on (pair_text pair) (flat_map spaced_pair others) (plain_pair pair) (plain_others others)
 plain_text bad_tree = plain_when (codes "refused BadTree") refl
 plain_text tree_full = plain_when (codes "refused TreeFull") refl
+plain_text (denied BadHash) = plain_when (codes "refused BadHash") refl
+plain_text (denied HashFull) = plain_when (codes "refused HashFull") refl
+plain_text (denied NoRoom) = plain_when (codes "refused NoRoom") refl
 plain_text in_group = plain_when (codes "refused InGroup") refl
 plain_text no_group = plain_when (codes "refused NoGroup") refl
 plain_text (summary t) =
@@ -187,6 +191,7 @@ line_more (ran n) replies bytes rest = whole_line (ran n) replies bytes rest
 line_more (pairs pair others) replies bytes rest = whole_line (pairs pair others) replies bytes rest
 line_more bad_tree replies bytes rest = whole_line bad_tree replies bytes rest
 line_more tree_full replies bytes rest = whole_line tree_full replies bytes rest
+line_more (denied why) replies bytes rest = whole_line (denied why) replies bytes rest
 line_more in_group replies bytes rest = whole_line in_group replies bytes rest
 line_more no_group replies bytes rest = whole_line no_group replies bytes rest
 line_more (summary totals) replies bytes rest = whole_line (summary totals) replies bytes rest
@@ -238,6 +243,7 @@ forced_text (ran m) n same = absurd (omega (arith, ap (λ (l : List ℕ). get_or
 forced_text (pairs pair others) n same = absurd (low_pair pair.0 pair.1 (flat_map spaced_pair others) n same)
 forced_text bad_tree n same = absurd (omega (arith, ap (λ (l : List ℕ). get_or l 1 0) same))
 forced_text tree_full n same = absurd (omega (arith, ap (λ (l : List ℕ). get_or l 1 0) same))
+forced_text (denied why) n same = absurd (omega (arith, ap (λ (l : List ℕ). get_or l 1 0) same))
 forced_text in_group n same = absurd (omega (arith, ap (λ (l : List ℕ). get_or l 1 0) same))
 forced_text no_group n same = absurd (omega (arith, ap (λ (l : List ℕ). get_or l 1 0) same))
 forced_text (summary totals) n same = absurd (omega (arith, ap (λ (l : List ℕ). get_or l 0 0) same))

@@ -6,7 +6,8 @@ use Rattle.disk_model.specs.Disk.{Files, Disk, Stays}
 use Rattle.disk_model.specs.declared.machine.FileNo.TheVariants.{Objects}
 use Rattle.stable_objects.specs.Laws.{begins_store}
 use Rattle.disk_model.specs.declared.machine.FileNo.{FileNo}
-use Rattle.formats.specs.Image.{BeginsStore, EndsAt}
+use Rattle.formats.specs.Objects.{BeginsStore}
+use Rattle.formats.specs.Image.{EndsAt}
 use Rattle.formats.specs.declared.params.Params.{Params}
 use Rattle.op_codec.specs.AllOps.{all_meaning}
 use Rattle.explain_core.specs.History.{Member, commands_of}

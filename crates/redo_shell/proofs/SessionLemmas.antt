@@ -8,10 +8,10 @@ use Rattle.formats.specs.declared.params.Params.{Params}
 use Rattle.op_codec.specs.AllOps.{all_meaning}
 use Rattle.store_engine.specs.ImageLaws.{stands_begins}
 use Rattle.script_lines.specs.Replies.{Reply}
-use Rattle.redo_shell.specs.Store.{Command, Stands, IsNew}
+use Rattle.redo_shell.specs.Store.{Command, Stands, StandsInEither, IsNew, IsUpgraded}
 use Rattle.redo_shell.specs.Groups.{account_of}
 use Rattle.redo_shell.specs.Answers.{Said, Begun, Moment}
-use Rattle.redo_shell.specs.Sessions.{Ran, Adds, Survives, Follows, Sessions, AllSilent, WereAskedFor, IsThere, Arises, none, more, start, run, init, dump, other}
+use Rattle.redo_shell.specs.Sessions.{Ran, Sizing, by_init, by_upgrade, Adds, Grows, Survives, Follows, Sessions, AllSilent, WereAskedFor, WereGrownTo, IsThere, Arises, none, more, larger, start, run, init, dump, upgrade, other}
 use Rattle.redo_shell.proofs.PrintedLemmas.{nothing_printed}
 use Rattle.redo_shell.proofs.StoryLemmas.{answers_grow, ended_whole, story_start, told_whole}
 
@@ -57,15 +57,17 @@ adds_moment p commands ran before files m =
     (record { story = untied m.story; kept = m.kept; all_before = m.all_before; no_more = m.no_more; whole = m.whole; now_is = refl; acked = m.acked })
 
 -- where a store has what runs made of it, it has what one run more makes of that
-abbrev survives_run : {p : Params} {commands : List Command} {runs : List Ran} {was files : Files} (ran : Ran) (now : List Command) → (s : Survives p commands runs was) → Adds p s.now ran now → Stands p files now → Survives p commands (ran ∷ runs) files
-survives_run {p} {commands} {runs} {was} {files} ran now s adds stands =
-    let grown = answers_grow p (account_of s.now) adds.story.lines adds.story.replies adds.story.waits adds.story.account adds.story.answers in
+abbrev survives_run : {sizes : List Sizing} {p : Params} {commands : List Command} {runs : List Ran} {was files : Files} (ran : Ran) (now : List Command) → (s : Survives sizes p commands runs was) → Adds s.numbers s.now ran now → Stands s.numbers files now
+    → Survives sizes p commands (ran ∷ runs) files
+survives_run {sizes} {p} {commands} {runs} {was} {files} ran now s adds stands =
+    let grown = answers_grow s.numbers (account_of s.now) adds.story.lines adds.story.replies adds.story.waits adds.story.account adds.story.answers in
     let added = grown.0 ++ adds.story.added in
     let rest = take (adds.kept - length s.now) added in
     let split : adds.kept ≡ length s.now + (adds.kept - length s.now) = omega (arith, adds.all_before) in
     let whole : adds.story.account.commands ++ adds.story.added ≡ s.now ++ added = ap (λ (l : List Command). l ++ adds.story.added) grown.1 ∙ append_assoc s.now grown.0 adds.story.added in
     let long : length now ≡ adds.kept = ap (λ (l : List Command). length l) adds.now_is ∙ length-take-le adds.kept (adds.story.account.commands ++ adds.story.added) adds.no_more in
     record {
+      numbers = s.numbers;
       now = now;
       later = s.later ++ rest;
       now_is = adds.now_is ∙ ap (λ (l : List Command). take adds.kept l) whole ∙ ap (λ (k : ℕ). take k (s.now ++ added)) split ∙ take-append-add s.now added (adds.kept - length s.now) ∙ ap (λ (l : List Command). l ++ rest) s.now_is ∙ append_assoc commands s.later rest;
@@ -75,41 +77,73 @@ survives_run {p} {commands} {runs} {was} {files} ran now s adds stands =
     }
 
 -- other files that stand for the same
-abbrev survives_as : {p : Params} {commands : List Command} {runs : List Ran} {was files : Files} → (s : Survives p commands runs was) → Stands p files s.now → Survives p commands runs files
-survives_as s stands = record { now = s.now; later = s.later; now_is = s.now_is; grows = s.grows; stands = stands; acked = s.acked }
+abbrev survives_as : {sizes : List Sizing} {p : Params} {commands : List Command} {runs : List Ran} {was files : Files} → (s : Survives sizes p commands runs was) → Stands s.numbers files s.now → Survives sizes p commands runs files
+survives_as s stands = record { numbers = s.numbers; now = s.now; later = s.later; now_is = s.now_is; grows = s.grows; stands = stands; acked = s.acked }
+
+-- an `init` more, or an upgrade, takes away no numbers that an upgrade gave
+grown_more : (size : Sizing) (sizes : List Sizing) (p : Params) → WereGrownTo sizes p → WereGrownTo (size ∷ sizes) p
+grown_more (by_init q) sizes p were = were
+grown_more (by_upgrade q) sizes p were = inr were
+
+grows_more : (size : Sizing) {sizes : List Sizing} {p : Params} {commands : List Command} {runs : List Ran} {q : Params} {now : List Command} → Grows sizes p commands runs q now → Grows (size ∷ sizes) p commands runs q now
+grows_more size none = none
+grows_more size (more ran before adds) = more ran (grows_more size before) adds
+grows_more size {sizes} (larger r before were) = larger r (grows_more size before) (grown_more size sizes r were)
+
+survives_more : (size : Sizing) {sizes : List Sizing} {p : Params} {commands : List Command} {runs : List Ran} {files : Files} → Survives sizes p commands runs files → Survives (size ∷ sizes) p commands runs files
+survives_more size s = record { numbers = s.numbers; now = s.now; later = s.later; now_is = s.now_is; grows = grows_more size s.grows; stands = s.stands; acked = s.acked }
+
+-- files that an upgrade gave these numbers stand for the same
+survives_grown : {sizes : List Sizing} {p : Params} {commands : List Command} {runs : List Ran} {was files : Files} (q : Params) → (s : Survives sizes p commands runs was) → Stands q files s.now → Survives (by_upgrade q ∷ sizes) p commands runs files
+survives_grown q s stands = record {
+  numbers = q;
+  now = s.now;
+  later = s.later;
+  now_is = s.now_is;
+  grows = larger q (grows_more (by_upgrade q) s.grows) (inl refl);
+  stands = stands;
+  acked = s.acked;
+}
+
+-- so do files at a moment of an upgrade
+survives_upgrade : {sizes : List Sizing} {p : Params} {commands : List Command} {runs : List Ran} {was files : Files} (q : Params) → (s : Survives sizes p commands runs was) → StandsInEither s.numbers q s.now files → Survives (by_upgrade q ∷ sizes) p commands runs files
+survives_upgrade {files = files} q s either = ⊎_elim
+    (λ (stands : Stands s.numbers files s.now). survives_more (by_upgrade q) (survives_as s stands))
+    (λ (upgraded : IsUpgraded q s.now files). survives_grown q s upgraded.stands)
+    either
 
 -- before the first run
-abbrev survives_start : (p : Params) (commands : List Command) (files : Files) → Stands p files commands → Survives p commands [] files
-survives_start p commands files stands = record { now = commands; later = []; now_is = sym (append-nil commands); grows = none; stands = stands; acked = λ n was. absurd was }
+abbrev survives_start : (sizes : List Sizing) (p : Params) (commands : List Command) (files : Files) → Stands p files commands → Survives sizes p commands [] files
+survives_start sizes p commands files stands = record { numbers = p; now = commands; later = []; now_is = sym (append-nil commands); grows = none; stands = stands; acked = λ n was. absurd was }
 
 -- where no run said anything, a new store is what they have made
-survives_silent : (p : Params) (files : Files) (runs : List Ran) → AllSilent runs → Stands p files [] → (s : Survives p [] runs files) × (s.now ≡ [])
-survives_silent p files [] silent stands = (survives_start p [] files stands, refl)
-survives_silent p files (ran ∷ runs) (first, rest) stands =
-    let (s, empty) = survives_silent p files runs rest stands in
-    (survives_run ran s.now s (adds_none p s.now ran first) s.stands, empty)
+survives_silent : (sizes : List Sizing) (p : Params) (files : Files) (runs : List Ran) → AllSilent runs → Stands p files [] → (s : Survives sizes p [] runs files) × (s.now ≡ [])
+survives_silent sizes p files [] silent stands = (survives_start sizes p [] files stands, refl)
+survives_silent sizes p files (ran ∷ runs) (first, rest) stands =
+    let (s, empty) = survives_silent sizes p files runs rest stands in
+    (survives_run ran s.now s (adds_none s.numbers s.now ran first) s.stands, empty)
 
 module _ {T : Type 0} (disk : T → Disk) (lawful : (m : T) → IsDisk (disk m)) (p : Params) (commands : List Command) (first : T) (told : (disk first).tells_moments)
     (here : (files : Files) (said : List ℕ) → (disk first).left_since (disk first).clock files said → Stands p files commands) where
   -- whatever a crash leaves after the last of the calls
-  pub survive : {inits : List Params} {runs : List Ran} {last : T} → Sessions disk first inits runs last
-      → (disk last).tells_moments × ((files : Files) (said : List ℕ) → (disk last).left_since (disk last).clock files said → Survives p commands runs files)
+  pub survive : {sizes : List Sizing} {runs : List Ran} {last : T} → Sessions disk first sizes runs last
+      → (disk last).tells_moments × ((files : Files) (said : List ℕ) → (disk last).left_since (disk last).clock files said → Survives sizes p commands runs files)
   survive start = (
     told,
-    λ files said left. survives_start p commands files (here files said left),
+    λ files said left. survives_start [] p commands files (here files said left),
   )
   survive (run old new next ran before begins leaves follows) =
       let (told_old, each_old) = survive before in
       let read = each_old (disk old).reads (disk old).said ((lawful old).as_read told_old) in
-      let images = leaves p read.now (record { told = (lawful old).telling told_old; stands = read.stands }) told_old in
+      let images = leaves read.numbers read.now (record { told = (lawful old).telling told_old; stands = read.stands }) told_old in
       let told_next = follows.told told_old in (
         told_next,
         λ files said left. ⊎_elim
             (λ was.
             let image = each_old files _ was in
             let silent = append_cancel_left (disk old).said ran.bytes [] ((lawful old).said_now told_old files _ was ∙ sym (append-nil (disk old).said)) in
-            survives_run ran image.now image (adds_none p image.now ran silent) image.stands)
-            (λ m. survives_run ran (take m.kept (m.story.account.commands ++ m.story.added)) read (adds_moment p read.now ran (disk old).said files m) m.stands)
+            survives_run ran image.now image (adds_none image.numbers image.now ran silent) image.stands)
+            (λ m. survives_run ran (take m.kept (m.story.account.commands ++ m.story.added)) read (adds_moment read.numbers read.now ran (disk old).said files m) m.stands)
             (images.each files _ (follows.within told_next files said left)),
       )
   survive (init old new next q bytes before no_store leaves follows) =
@@ -119,10 +153,18 @@ module _ {T : Type 0} (disk : T → Disk) (lawful : (m : T) → IsDisk (disk m))
   survive (dump old new next bytes before keeps leaves follows) =
       let (told_old, each_old) = survive before in
       let read = each_old (disk old).reads (disk old).said ((lawful old).as_read told_old) in
-      let images = leaves p read.now (record { told = (lawful old).telling told_old; stands = read.stands }) told_old in
+      let images = leaves read.numbers read.now (record { told = (lawful old).telling told_old; stands = read.stands }) told_old in
       let told_next = follows.told told_old in (
         told_next,
         λ files said left. ⊎_elim (λ was. each_old files bytes was) (λ m. survives_as read m.stands) (images.each files bytes (follows.within told_next files said left)),
+      )
+  survive (upgrade old new next q bytes before keeps leaves follows) =
+      let (told_old, each_old) = survive before in
+      let read = each_old (disk old).reads (disk old).said ((lawful old).as_read told_old) in
+      let images = leaves read.numbers read.now (record { told = (lawful old).telling told_old; stands = read.stands }) told_old in
+      let told_next = follows.told told_old in (
+        told_next,
+        λ files said left. ⊎_elim (λ was. survives_more (by_upgrade q) (each_old files bytes was)) (λ either. survives_upgrade q read either) (images.each files bytes (follows.within told_next files said left)),
       )
   survive (other old new next bytes before kept follows) =
       let (told_old, each_old) = survive before in
@@ -131,69 +173,90 @@ module _ {T : Type 0} (disk : T → Disk) (lawful : (m : T) → IsDisk (disk m))
         λ files said left. each_old files (disk old).said ((kept.images told_old).each files bytes (follows.within told_next files said left)),
       )
 
--- one `init` more has asked
-arises_more : (first : Disk) (inits : List Params) (runs : List Ran) (files : Files) (p : Params) → Arises first inits runs files → Arises first (p ∷ inits) runs files
-arises_more first inits runs files p here = ⊎_elim (λ none. inl none)
-    (λ (is : (q : Params) × (WereAskedFor inits q ⊎ IsThere first q) × Survives q [] runs files).
-    let (q, from, survives) = is in
-    inr (q, ⊎_elim (λ (asked : WereAskedFor inits q). inl (inr asked)) (λ (there : IsThere first q). inr there) from, survives))
+-- one `init` more, or an upgrade, has asked
+asked_more : (size : Sizing) (sizes : List Sizing) (p : Params) → WereAskedFor sizes p → WereAskedFor (size ∷ sizes) p
+asked_more (by_init q) sizes p were = inr were
+asked_more (by_upgrade q) sizes p were = were
+
+from_more : (first : Disk) (size : Sizing) (sizes : List Sizing) (p : Params) → WereAskedFor sizes p ⊎ IsThere first p → WereAskedFor (size ∷ sizes) p ⊎ IsThere first p
+from_more first size sizes p from = ⊎_elim (λ (asked : WereAskedFor sizes p). inl (asked_more size sizes p asked)) (λ (there : IsThere first p). inr there) from
+
+arises_more : (first : Disk) (sizes : List Sizing) (runs : List Ran) (files : Files) (size : Sizing) → Arises first sizes runs files → Arises first (size ∷ sizes) runs files
+arises_more first sizes runs files size here = ⊎_elim (λ none. inl none)
+    (λ (is : (p : Params) × (WereAskedFor sizes p ⊎ IsThere first p) × Survives sizes p [] runs files).
+    let (p, from, survives) = is in
+    inr (p, from_more first size sizes p from, survives_more size survives))
     here
 
 module _ {T : Type 0} (disk : T → Disk) (lawful : (m : T) → IsDisk (disk m)) (first : T) (told : (disk first).tells_moments)
     (here : (files : Files) (said : List ℕ) → (disk first).left_since (disk first).clock files said → (p : Params) × IsNew p files) where
   -- the same from files that are no store yet
-  pub arise : {inits : List Params} {runs : List Ran} {last : T} → Sessions disk first inits runs last
-      → (disk last).tells_moments × ((files : Files) (said : List ℕ) → (disk last).left_since (disk last).clock files said → Arises (disk first) inits runs files)
+  pub arise : {sizes : List Sizing} {runs : List Ran} {last : T} → Sessions disk first sizes runs last
+      → (disk last).tells_moments × ((files : Files) (said : List ℕ) → (disk last).left_since (disk last).clock files said → Arises (disk first) sizes runs files)
   arise start = (
     told,
-    λ files said left. let (p, is) = here files said left in ⊎_elim (λ no_store. inl (no_store, tt)) (λ stands. inr (p, inr (files, said, left, stands), survives_start p [] files stands)) is,
+    λ files said left. let (p, is) = here files said left in ⊎_elim (λ no_store. inl (no_store, tt)) (λ stands. inr (p, inr (files, said, left, stands), survives_start [] p [] files stands)) is,
   )
-  arise (run {inits} {runs} old new next ran before begins leaves follows) =
+  arise (run {sizes} {runs} old new next ran before begins leaves follows) =
       let (told_old, each_old) = arise before in
       let read_or = each_old (disk old).reads (disk old).said ((lawful old).as_read told_old) in
       let told_next = follows.told told_old in (
         told_next,
         λ files said left. ⊎_elim
             (λ no_store. absurd (no_store.0 begins))
-            (λ (is_read : (p : Params) × (WereAskedFor inits p ⊎ IsThere (disk first) p) × Survives p [] runs (disk old).reads).
+            (λ (is_read : (p : Params) × (WereAskedFor sizes p ⊎ IsThere (disk first) p) × Survives sizes p [] runs (disk old).reads).
             let (p, from, read) = is_read in
-            let images = leaves p read.now (record { told = (lawful old).telling told_old; stands = read.stands }) told_old in
+            let images = leaves read.numbers read.now (record { told = (lawful old).telling told_old; stands = read.stands }) told_old in
             ⊎_elim
             (λ was.
             let silent = append_cancel_left (disk old).said ran.bytes [] ((lawful old).said_now told_old files _ was ∙ sym (append-nil (disk old).said)) in
             ⊎_elim (λ no_store. inl (no_store.0, (silent, no_store.1)))
-            (λ (is : (q : Params) × (WereAskedFor inits q ⊎ IsThere (disk first) q) × Survives q [] runs files).
+            (λ (is : (q : Params) × (WereAskedFor sizes q ⊎ IsThere (disk first) q) × Survives sizes q [] runs files).
             let (q, from_q, image) = is in
-            inr (q, from_q, survives_run ran image.now image (adds_none q image.now ran silent) image.stands))
+            inr (q, from_q, survives_run ran image.now image (adds_none image.numbers image.now ran silent) image.stands))
             (each_old files _ was))
-            (λ m. inr (p, from, survives_run ran (take m.kept (m.story.account.commands ++ m.story.added)) read (adds_moment p read.now ran (disk old).said files m) m.stands))
+            (λ m. inr (p, from, survives_run ran (take m.kept (m.story.account.commands ++ m.story.added)) read (adds_moment read.numbers read.now ran (disk old).said files m) m.stands))
             (images.each files _ (follows.within told_next files said left)))
             read_or,
       )
-  arise (init {inits} {runs} old new next p bytes before no_store leaves follows) =
+  arise (init {sizes} {runs} old new next p bytes before no_store leaves follows) =
       let (told_old, each_old) = arise before in
       let read_or = each_old (disk old).reads (disk old).said ((lawful old).as_read told_old) in
       let told_next = follows.told told_old in (
         told_next,
         λ files said left. ⊎_elim
             (λ none_read. ⊎_elim
-            (λ was. arises_more (disk first) inits runs files p (each_old files _ was))
-            (λ is. ⊎_elim (λ still. inl (still, none_read.1)) (λ stands. inr (p, inl (inl refl), (survives_silent p files runs none_read.1 stands).0)) is.0)
+            (λ was. arises_more (disk first) sizes runs files (by_init p) (each_old files _ was))
+            (λ is. ⊎_elim (λ still. inl (still, none_read.1)) (λ stands. inr (p, inl (inl refl), (survives_silent (by_init p ∷ sizes) p files runs none_read.1 stands).0)) is.0)
             ((leaves told_old).each files _ (follows.within told_next files said left)))
-            (λ (is_read : (q : Params) × (WereAskedFor inits q ⊎ IsThere (disk first) q) × Survives q [] runs (disk old).reads). absurd (no_store (stands_begins all_meaning is_read.2.stands)))
+            (λ (is_read : (q : Params) × (WereAskedFor sizes q ⊎ IsThere (disk first) q) × Survives sizes q [] runs (disk old).reads). absurd (no_store (stands_begins all_meaning is_read.2.stands)))
             read_or,
       )
-  arise (dump {inits} {runs} old new next bytes before keeps leaves follows) =
+  arise (dump {sizes} {runs} old new next bytes before keeps leaves follows) =
       let (told_old, each_old) = arise before in
       let read_or = each_old (disk old).reads (disk old).said ((lawful old).as_read told_old) in
       let told_next = follows.told told_old in (
         told_next,
         λ files said left. ⊎_elim
             (λ no_store. each_old files (disk old).said (((keeps no_store.0 told_old).images told_old).each files bytes (follows.within told_next files said left)))
-            (λ (is_read : (p : Params) × (WereAskedFor inits p ⊎ IsThere (disk first) p) × Survives p [] runs (disk old).reads).
+            (λ (is_read : (p : Params) × (WereAskedFor sizes p ⊎ IsThere (disk first) p) × Survives sizes p [] runs (disk old).reads).
             let (p, from, read) = is_read in
-            let images = leaves p read.now (record { told = (lawful old).telling told_old; stands = read.stands }) told_old in
+            let images = leaves read.numbers read.now (record { told = (lawful old).telling told_old; stands = read.stands }) told_old in
             ⊎_elim (λ was. each_old files bytes was) (λ m. inr (p, from, survives_as read m.stands)) (images.each files bytes (follows.within told_next files said left)))
+            read_or,
+      )
+  arise (upgrade {sizes} {runs} old new next q bytes before keeps leaves follows) =
+      let (told_old, each_old) = arise before in
+      let read_or = each_old (disk old).reads (disk old).said ((lawful old).as_read told_old) in
+      let told_next = follows.told told_old in (
+        told_next,
+        λ files said left. ⊎_elim
+            (λ no_store. arises_more (disk first) sizes runs files (by_upgrade q) (each_old files (disk old).said (((keeps no_store.0 told_old).images told_old).each files bytes (follows.within told_next files said left))))
+            (λ (is_read : (p : Params) × (WereAskedFor sizes p ⊎ IsThere (disk first) p) × Survives sizes p [] runs (disk old).reads).
+            let (p, from, read) = is_read in
+            let images = leaves read.numbers read.now (record { told = (lawful old).telling told_old; stands = read.stands }) told_old in
+            ⊎_elim (λ was. arises_more (disk first) sizes runs files (by_upgrade q) (each_old files bytes was)) (λ either. inr (p, from_more (disk first) (by_upgrade q) sizes p from, survives_upgrade q read either))
+            (images.each files bytes (follows.within told_next files said left)))
             read_or,
       )
   arise (other old new next bytes before kept follows) =

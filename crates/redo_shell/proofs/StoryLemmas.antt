@@ -9,7 +9,7 @@ use Rattle.disk_model.specs.Disk.{Disk, LeavesOnly}
 use Rattle.formats.specs.declared.params.Params.{Params}
 use Rattle.script_lines.specs.Grammar.{Request, AsksFor}
 use Rattle.script_lines.specs.declared.line.Line.TheVariants.{Install as install, Drain as drain, Checkpoint as checkpoint, Trim as trim, Begin as begin_group, End as end_group}
-use Rattle.script_lines.specs.Replies.{Reply, ok, ran, pairs, bad_tree, tree_full, in_group, no_group, value, forced, bad, refused, full, end, object_value, command_count, stat, summary, silence, text_of, said_line}
+use Rattle.script_lines.specs.Replies.{Reply, ok, ran, pairs, bad_tree, tree_full, denied, in_group, no_group, value, forced, bad, refused, full, end, object_value, command_count, stat, summary, silence, text_of, said_line}
 use Rattle.redo_shell.specs.Store.{Command}
 use Rattle.redo_shell.specs.Groups.{Account, AreWhole, IsAfter, IsWhole, Regroups, Span, account_before, account_of, closed_after, closed_with, group_after, waiting}
 use Rattle.redo_shell.specs.Made.{Made, AsksMade, IsFront, made, made_by}
@@ -280,6 +280,7 @@ beginning (ran k) count less = within_text (text_of (ran k)) count less
 beginning (pairs pair others) count less = within_text (text_of (pairs pair others)) count less
 beginning bad_tree count less = within_text (text_of bad_tree) count less
 beginning tree_full count less = within_text (text_of tree_full) count less
+beginning (denied why) count less = within_text (text_of (denied why)) count less
 beginning in_group count less = within_text (text_of in_group) count less
 beginning no_group count less = within_text (text_of no_group) count less
 beginning (summary totals) count less = within_text (text_of (summary totals)) count less

@@ -13,7 +13,7 @@ use Rattle.formats.specs.declared.params.Params.{Params}
 use Rattle.op_codec.specs.AllOps.{all_meaning}
 use Rattle.script_lines.specs.Grammar.{Request, AsksFor}
 use Rattle.script_lines.specs.declared.line.Line.TheVariants.{Trim as trim}
-use Rattle.script_lines.specs.Replies.{Reply, ok, ran, pairs, bad_tree, tree_full, in_group, no_group, value, forced, bad, refused, full, end, object_value, command_count, stat, summary, silence, text_of, said_line}
+use Rattle.script_lines.specs.Replies.{Reply, ok, ran, pairs, bad_tree, tree_full, denied, in_group, no_group, value, forced, bad, refused, full, end, object_value, command_count, stat, summary, silence, text_of, said_line}
 use Rattle.explain_core.specs.History.{Member, commands_of}
 use Rattle.explain_core.specs.Sound.{IsGroup, IsSound}
 use Rattle.explain_core.specs.StableLaws.{commands_of-append}
@@ -54,6 +54,7 @@ within_line (ran k) count some within = newline_behind (text_of (ran k)) count w
 within_line (pairs pair others) count some within = newline_behind (text_of (pairs pair others)) count within
 within_line bad_tree count some within = newline_behind (text_of bad_tree) count within
 within_line tree_full count some within = newline_behind (text_of tree_full) count within
+within_line (denied why) count some within = newline_behind (text_of (denied why)) count within
 within_line in_group count some within = newline_behind (text_of in_group) count within
 within_line no_group count some within = newline_behind (text_of no_group) count within
 within_line (summary totals) count some within = newline_behind (text_of (summary totals)) count within

@@ -1,29 +1,32 @@
 -- What the calls that a command line may ask for make of the files, as a whole.
 use Rattle.std.specs.Prelude.{◌≡◌, ◌≢◌, ◌⊎◌, ◌<◌, ◌^◌, ◌++◌, ℕ, List, [], ◌∷◌, length, take}
-use Rattle.disk_model.specs.Disk.{Disk, LeavesOnly, IsSettled}
+use Rattle.disk_model.specs.Disk.{Disk, LeavesOnly, Passes, IsSettled}
 use Rattle.disk_model.specs.declared.machine.FileNo.TheVariants.{Objects}
-use Rattle.formats.specs.Image.{BeginsStore}
+use Rattle.formats.specs.Objects.{BeginsStore}
 use Rattle.formats.specs.declared.params.Params.{Params}
 use Rattle.standing.specs.Standing.{FilesShow}
 use Rattle.script_lines.specs.Grammar.{lines_of}
 use Rattle.command_words.specs.Words.{Asks}
 use Rattle.command_words.specs.declared.asked.Asked.{Asked}
-use Rattle.command_words.specs.declared.asked.Asked.TheVariants.{Init, Run, Dump, Demo}
+use Rattle.command_words.specs.declared.asked.Asked.TheVariants.{Init, Run, Dump, Demo, Upgrade}
 use Rattle.store_engine.specs.Engine.{InEachImage}
+use Rattle.store_engine.specs.Upgrading.{IsSecond}
+use Rattle.stable_objects.specs.Larger.{IsLarger}
 use Rattle.restart.specs.Starts.{OrAtStart}
-use Rattle.redo_shell.specs.Store.{Command, meaning_in, Stands, Opens, IsNew, IsNewStore}
+use Rattle.redo_shell.specs.Store.{Command, meaning_in, Stands, StandsInEither, Opens, IsNew, IsNewStore, IsUpgraded}
 use Rattle.redo_shell.specs.Answers.{Moment, SaysTruly}
-use Rattle.redo_shell.specs.Causes.{JudgesFiles, SaysStore}
+use Rattle.redo_shell.specs.Causes.{JudgesFiles, JudgesUpgrade, SaysStore, Sometime}
 use Rattle.redo_shell.specs.Demo.{IsDemo}
 use Rattle.redo_shell.specs.Dump.{dump_of, DumpMoment}
 use Rattle.redo_shell.specs.Keeps.{KeepsFiles}
+use Rattle.redo_shell.specs.Notices as notices
 use Rattle.redo_shell.specs.Run.{IsComplete, MomentSoFar}
 use Rattle.redo_shell.specs.Stages.{Stage, IsFirst}
 use Rattle.redo_shell.specs.Courses.{RunMoment, TableMoment}
-use Rattle.redo_shell.specs.Sessions.{Ran, Follows, Sessions}
-use Rattle.redo_shell.specs.Status.{IsCut, IsOfRun, IsOfDump, IsOfInit}
+use Rattle.redo_shell.specs.Sessions.{Ran, Sizing, by_init, by_upgrade, Follows, Sessions}
+use Rattle.redo_shell.specs.Status.{IsCut, IsOfRun, IsOfDump, IsOfInit, IsOfUpgrade}
 use Rattle.redo_shell.specs.declared.status.Status.{Status}
-use Rattle.redo_shell.specs.declared.status.Status.TheVariants.{Done, DoneWithRefusals, NotAStore, AlreadyStore, Damaged, DiskFault, Memory}
+use Rattle.redo_shell.specs.declared.status.Status.TheVariants.{Done, DoneWithRefusals, NotAStore, AlreadyStore, Damaged, DiskFault, Memory, AlreadyTwo, Smaller}
 
 -- A run of a script of these lines, on files that stand for commands as they are read, whatever a process before this one
 -- left unsynced.
@@ -107,20 +110,51 @@ pub record IsMaking (p : Params) (old new : Disk) (status : Status) : Type 0 whe
   pub fresh : old.tells_files → status ≡ Done → BeginsStore (old.reads Objects) → ⊥
   pub already : old.tells_files → status ≡ AlreadyStore → SaysStore old new
 
+-- A store is made larger, with the numbers q, of files that stand for commands.
+pub record IsUpgradeOn (p q : Params) (commands : List Command) (old new : Disk) (status : Status) : Type 0 where
+  -- what a crash at any moment leaves is what one at the start could leave, or it stands for these commands, in the store that
+  -- was there or in the larger one
+  pub images : old.tells_moments → LeavesOnly old new (OrAtStart old (λ files said. StandsInEither p q commands files))
+  pub from_settled : old.tells_moments → IsSettled old → LeavesOnly old new (λ files said. StandsInEither p q commands files)
+  -- but where the disk or memory may have failed, that is so of the files then
+  pub stands : status ≢ DiskFault → status ≢ Memory → InEachImage new (StandsInEither p q commands)
+  -- with status 0 they are those of the larger store, and nothing is said
+  pub done : status ≡ Done → InEachImage new (IsUpgraded q commands)
+  pub quiet : status ≡ Done → new.said ≡ old.said
+  -- the store was of version 1 as it was opened, and no number of it is greater then; where one is, that is said
+  pub first : status ≡ Done → old.tells_moments → Sometime old new (λ files. IsSecond files → ⊥)
+  pub larger : status ≡ Done → IsLarger p q
+  pub smaller : status ≡ Smaller → (IsLarger p q → ⊥) × (new.said ≡ old.said ++ notices.smaller p.objects p.cap)
+  -- it was of version 2 as it was opened, and that is said
+  pub already : status ≡ AlreadyTwo → (old.tells_moments → Sometime old new IsSecond) × (new.said ≡ old.said ++ notices.already_version_two)
+  -- with each of these two it is left as it was
+  pub idle : (status ≡ AlreadyTwo) ⊎ (status ≡ Smaller) → InEachImage new (λ files. Stands p files commands)
+  pub store : status ≢ NotAStore
+
+-- An upgrade of any files.
+pub record IsUpgradeCall (q : Params) (old new : Disk) (status : Status) : Type 0 where
+  pub stands : (p : Params) (commands : List Command) → Opens p old commands → IsUpgradeOn p q commands old new status
+  pub ends : IsOfUpgrade status
+  pub judged : old.tells_files → JudgesUpgrade old new status
+
 -- what a call makes of the files and says, by what it was asked
 abbrev pub IsCallFor : Asked → Type 0 → List ℕ → List ℕ → Disk → Disk → Status → Type 0
 IsCallFor Run told left rest old new status = IsRunCall told left rest old new status
 IsCallFor Dump told left rest old new status = IsDumpCall old new status
 IsCallFor (Init p) told left rest old new status = IsMaking p old new status
+IsCallFor (Upgrade q) told left rest old new status = IsUpgradeCall q old new status
 IsCallFor (Demo seed steps) told left rest old new status = IsDemo seed steps old new status
 
 -- A call with these words, and this script where its source reports it, or some script where it does not, goes on any calls
 -- before it, whatever follows it: nothing, a kill at one of its moments, or a crash.
 pub record GoesOn {T : Type 0} (disk : T → Disk) (words : List (List ℕ)) (told : Type 0) (script : List (List ℕ)) (old new : T) : Type 0 where
-  pub run : (first next : T) (inits : List Params) (runs : List Ran) (bytes : List ℕ) → Asks words Run → told → BeginsStore ((disk old).reads Objects) → Sessions disk first inits runs old
-      → Follows (disk old) (disk new) (disk next) ((disk old).said ++ bytes) → Sessions disk first inits (record { script = script; bytes = bytes } ∷ runs) next
-  pub run_untold : Asks words Run → (script : List (List ℕ)) × ((first next : T) (inits : List Params) (runs : List Ran) (bytes : List ℕ) → BeginsStore ((disk old).reads Objects) → Sessions disk first inits runs old
-      → Follows (disk old) (disk new) (disk next) ((disk old).said ++ bytes) → Sessions disk first inits (record { script = script; bytes = bytes } ∷ runs) next)
-  pub init : (p : Params) (first next : T) (inits : List Params) (runs : List Ran) (said : List ℕ) → Asks words (Init p) → (BeginsStore ((disk old).reads Objects) → ⊥) → Sessions disk first inits runs old
-      → Follows (disk old) (disk new) (disk next) said → Sessions disk first (p ∷ inits) runs next
-  pub dump : (first next : T) (inits : List Params) (runs : List Ran) (said : List ℕ) → Asks words Dump → Sessions disk first inits runs old → Follows (disk old) (disk new) (disk next) said → Sessions disk first inits runs next
+  pub time : Passes (disk old) (disk new)
+  pub run : (first next : T) (sizes : List Sizing) (runs : List Ran) (bytes : List ℕ) → Asks words Run → told → BeginsStore ((disk old).reads Objects) → Sessions disk first sizes runs old
+      → Follows (disk old) (disk new) (disk next) ((disk old).said ++ bytes) → Sessions disk first sizes (record { script = script; bytes = bytes } ∷ runs) next
+  pub run_untold : Asks words Run → (script : List (List ℕ)) × ((first next : T) (sizes : List Sizing) (runs : List Ran) (bytes : List ℕ) → BeginsStore ((disk old).reads Objects) → Sessions disk first sizes runs old
+      → Follows (disk old) (disk new) (disk next) ((disk old).said ++ bytes) → Sessions disk first sizes (record { script = script; bytes = bytes } ∷ runs) next)
+  pub init : (p : Params) (first next : T) (sizes : List Sizing) (runs : List Ran) (said : List ℕ) → Asks words (Init p) → (BeginsStore ((disk old).reads Objects) → ⊥) → Sessions disk first sizes runs old
+      → Follows (disk old) (disk new) (disk next) said → Sessions disk first (by_init p ∷ sizes) runs next
+  pub dump : (first next : T) (sizes : List Sizing) (runs : List Ran) (said : List ℕ) → Asks words Dump → Sessions disk first sizes runs old → Follows (disk old) (disk new) (disk next) said → Sessions disk first sizes runs next
+  pub upgrade : (q : Params) (first next : T) (sizes : List Sizing) (runs : List Ran) (said : List ℕ) → Asks words (Upgrade q) → Sessions disk first sizes runs old → Follows (disk old) (disk new) (disk next) said
+      → Sessions disk first (by_upgrade q ∷ sizes) runs next

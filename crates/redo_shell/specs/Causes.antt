@@ -5,12 +5,16 @@ use Rattle.disk_model.specs.declared.machine.FileNo.{FileNo}
 use Rattle.disk_model.specs.declared.machine.FileNo.TheVariants.{Objects}
 use Rattle.formats.specs.Bytes.{IsOpenAt, IsClosedAt}
 use Rattle.formats.specs.FirstFault.{IsDamaged}
-use Rattle.formats.specs.Image.{BeginsStore}
+use Rattle.formats.specs.Objects.{BeginsStore}
+use Rattle.formats.specs.declared.params.Params.{Params}
 use Rattle.op_codec.specs.AllOps.{all_meaning}
 use Rattle.script_lines.specs.Reading.{ReadsOn}
 use Rattle.command_words.specs.Words.{Asks}
 use Rattle.command_words.specs.declared.asked.Asked.{Asked}
+use Rattle.command_words.specs.declared.asked.Asked.TheVariants.{Upgrade}
 use Rattle.store_engine.specs.Engine.{InEachImage}
+use Rattle.stable_objects.specs.Larger.{HasLastHead}
+use Rattle.stable_objects.specs.SlotsView.{SlotsView, AreOf}
 use Rattle.redo_shell.specs.Keeps.{KeepsFiles}
 use Rattle.redo_shell.specs.Notices as notices
 use Rattle.redo_shell.specs.Status.{IsOfStore}
@@ -37,6 +41,26 @@ pub record SaysStore (old new : Disk) : Type 0 where
   pub said : new.said ≡ old.said ++ notices.already_a_store
   pub each : InEachImage new (λ (files : Files). BeginsStore (files Objects))
 
+-- a crash at some moment of the call could leave such files
+abbrev pub Sometime : Disk → Disk → (Files → Type 0) → Type 0
+Sometime old new P = (files : Files) × (said : List ℕ) × new.left_since old.clock files said × P files
+
+-- the last slot of the objects file is open, and the file ends within its head, which no call of a store leaves
+abbrev pub IsCutStore : Files → Type 0
+IsCutStore files = (slots : SlotsView) × AreOf slots (files Objects) × (HasLastHead slots (files Objects) → ⊥)
+
+-- The store was opened, but it can't be made larger, since it is cut. That is said as damage.
+pub record SaysCut (old new : Disk) : Type 0 where
+  pub whole : IsWellFormed old.reads
+  pub cut : old.tells_moments → Sometime old new IsCutStore
+  pub file : FileNo
+  pub place : ℕ
+  pub said : new.said ≡ old.said ++ notices.damaged file place
+
+-- and the words ask for that
+abbrev pub IsCutUpgrade : List (List ℕ) → Disk → Disk → Type 0
+IsCutUpgrade words old new = (q : Params) × Asks words (Upgrade q) × SaysCut old new
+
 -- The call reports a fault of the disk or of the output only where that was counted.
 pub record CountsFaults (old new : Disk) (status : Status) : Type 0 where
   pub disk : status ≡ DiskFault → Rises old.disk_faults new.disk_faults
@@ -55,6 +79,10 @@ pub record JudgesFiles (old new : Disk) (status : Status) : Type 0 where
   pub memory : status ≡ Memory → IsOpenAt 0 (old.reads Objects)
   -- of files that do not meet their format nothing is said where the disk fails or memory runs out
   pub silent : (IsWellFormed old.reads → ⊥) → (status ≡ DiskFault) ⊎ (status ≡ Memory) → new.said ≡ old.said
+
+-- An upgrade says of the files that it finds what a run says, or that they are cut.
+abbrev pub JudgesUpgrade : Disk → Disk → Status → Type 0
+JudgesUpgrade old new status = JudgesFiles old new status ⊎ ((status ≡ Damaged) × SaysCut old new)
 
 -- There was no memory to read the words, and nothing was done.
 pub record IsUnread (old new : Disk) (status : Status) : Type 0 where
@@ -76,7 +104,7 @@ pub record ComesByCause (words : List (List ℕ)) (told : Type 0) (left rest : L
   pub usage : status ≡ Usage → AsksNothing words
   pub usage_said : old.tells_files → status ≡ Usage → new.said ≡ old.said ++ notices.usage
   pub no_store : old.tells_files → status ≡ NotAStore → SaysNoStore old new
-  pub damaged : old.tells_files → status ≡ Damaged → SaysDamage old new
+  pub damaged : old.tells_files → status ≡ Damaged → SaysDamage old new ⊎ IsCutUpgrade words old new
   pub already : old.tells_files → status ≡ AlreadyStore → SaysStore old new
   pub faults : CountsFaults old new status
   pub read_fault : status ≡ ReadFault → Rises reads_before reads_now

@@ -5,16 +5,16 @@ use Rattle.disk_model.specs.declared.machine.FileNo.{FileNo}
 use Rattle.disk_model.specs.declared.machine.FileNo.TheVariants.{Objects}
 use Rattle.formats.specs.Bytes.{IsOpenAt, IsClosedAt}
 use Rattle.formats.specs.FirstFault.{IsDamaged}
-use Rattle.formats.specs.Image.{BeginsStore}
+use Rattle.formats.specs.Objects.{BeginsStore}
 use Rattle.formats.specs.declared.params.Params.{Params}
 use Rattle.op_codec.specs.AllOps.{all_meaning}
 use Rattle.command_words.specs.Words.{Asks}
-use Rattle.command_words.specs.declared.asked.Asked.TheVariants.{Init, Run, Dump, Demo}
+use Rattle.command_words.specs.declared.asked.Asked.TheVariants.{Init, Run, Dump, Demo, Upgrade}
 use Rattle.redo_shell.specs.Causes.{AsksNothing, OrUnread}
 use Rattle.redo_shell.specs.Notices as notices
 use Rattle.redo_shell.specs.Store.{Command, IsWellFormed, Opens}
 use Rattle.redo_shell.specs.declared.status.Status.{Status}
-use Rattle.redo_shell.specs.declared.status.Status.TheVariants.{Done, DoneWithRefusals, Usage, NotAStore, AlreadyStore, Damaged, Memory, TooLong}
+use Rattle.redo_shell.specs.declared.status.Status.TheVariants.{Done, DoneWithRefusals, Usage, NotAStore, AlreadyStore, Damaged, Memory, TooLong, AlreadyTwo, Smaller}
 
 -- no count of faults rose, that of the disk, of the output or of the input
 pub record IsFaultless (old new : Disk) (reads_before reads_now : ℕ) : Type 0 where
@@ -40,6 +40,11 @@ pub record RunsExactly (told : Type 0) (left : List ℕ) (old : Disk) (status : 
   pub succeeds : (p : Params) (commands : List Command) → Opens p old commands → told → length left < 2 ^ 40 → (status ≡ Done) ⊎ (status ≡ DoneWithRefusals)
   pub too_long : old.tells_files → IsWellFormed old.reads → told → (status ≡ TooLong) ↔ (2 ^ 40 ≤ length left)
 
+-- An upgrade that finds memory is done on files that stand for commands, unless they are of version 2, or cut, or have a number
+-- that is greater.
+abbrev pub IsUpgradeEnd : Status → Type 0
+IsUpgradeEnd status = (status ≡ Done) ⊎ ((status ≡ AlreadyTwo) ⊎ ((status ≡ Smaller) ⊎ (status ≡ Damaged)))
+
 -- Where no count of faults rises, each status comes exactly where its cause holds.
 pub record ComesExactly (words : List (List ℕ)) (told : Type 0) (left : List ℕ) (old new : Disk) (status : Status) : Type 0 where
   pub usage : status ≢ Memory → (status ≡ Usage) ↔ AsksNothing words
@@ -50,3 +55,4 @@ pub record ComesExactly (words : List (List ℕ)) (told : Type 0) (left : List �
   pub init : (p : Params) → Asks words (Init p) → old.tells_files → OrUnread (MakesExactly old status) old new status
   -- a demo that finds memory succeeds
   pub demos : (seed steps : ℕ) → Asks words (Demo seed steps) → status ≢ Memory → status ≡ Done
+  pub upgrades : (q : Params) → Asks words (Upgrade q) → status ≢ Memory → (p : Params) (commands : List Command) → Opens p old commands → IsUpgradeEnd status

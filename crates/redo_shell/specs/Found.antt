@@ -14,8 +14,13 @@ use Rattle.running_store.specs.Courses.Stop.{Through, Full, At_end, Worn}
 use Rattle.running_store.specs.Taking.{Ending}
 use Rattle.running_store.specs.Taking.Ending.{Done, Stopped, Short, Failed}
 use Rattle.oper_core.specs.declared.refusal.Refusal.TheVariants as refusals
-use Rattle.tree_client.specs.declared.tree_err.TreeErr.{TreeErr}
-use Rattle.tree_client.specs.declared.tree_err.TreeErr.TheVariants as tree_errors
+use Rattle.hash_file.specs.declared.refusal.HashRefusal.{HashRefusal}
+use Rattle.hash_file.specs.declared.refusal.HashRefusal.TheVariants as hash_refusals
+use Rattle.range_calls.specs.declared.call_err.CallErr.{CallErr}
+use Rattle.range_calls.specs.declared.call_err.CallErr.TheVariants as call_errors
+use Rattle.script_lines.specs.declared.denial.Denial.TheVariants as denials
+use Rattle.tree_client.specs.Answers.{TreeErr}
+use Rattle.logical_btree.specs.declared.refusal.TreeRefusal.TheVariants as tree_refusals
 use Rattle.op_codec.specs.AllOps.{all_meaning}
 use Rattle.script_lines.specs.Grammar.{Request, AsksFor}
 use Rattle.script_lines.specs.declared.line.Line.TheVariants.{Trim as trim}
@@ -142,12 +147,26 @@ answer_of_error exec_errors.Memory = Err Memory
 
 -- how the error of a call on a tree is answered
 abbrev pub answer_of_tree_error : TreeErr → Result Answer Stop
-answer_of_tree_error tree_errors.NoObject = Ok (answers.Refused refusals.NoObject)
-answer_of_tree_error (tree_errors.BadTree object) = Ok answers.BadTree
-answer_of_tree_error (tree_errors.TreeFull need free) = Ok answers.TreeFull
-answer_of_tree_error tree_errors.NoKey = Ok (answers.Refused refusals.NoKey)
-answer_of_tree_error (tree_errors.Exec error) = answer_of_error error
-answer_of_tree_error tree_errors.Memory = Err Memory
+answer_of_tree_error (call_errors.Refused tree_refusals.NoObject) = Ok (answers.Refused refusals.NoObject)
+answer_of_tree_error (call_errors.Refused (tree_refusals.BadTree object)) = Ok answers.BadTree
+answer_of_tree_error (call_errors.Refused (tree_refusals.TreeFull need free)) = Ok answers.TreeFull
+answer_of_tree_error (call_errors.Refused tree_refusals.NoKey) = Ok (answers.Refused refusals.NoKey)
+answer_of_tree_error (call_errors.Exec error) = answer_of_error error
+answer_of_tree_error call_errors.Memory = Err Memory
+
+-- how a hash file's own refusal is answered
+abbrev pub hash_answer : HashRefusal → Answer
+hash_answer hash_refusals.NoObject = answers.Refused refusals.NoObject
+hash_answer (hash_refusals.BadHash object) = answers.Denied denials.BadHash
+hash_answer (hash_refusals.HashFull object) = answers.Denied denials.HashFull
+hash_answer (hash_refusals.NoRoom free) = answers.Denied denials.NoRoom
+hash_answer hash_refusals.NoKey = answers.Refused refusals.NoKey
+
+-- how the error of a call on a range of objects is answered, by how the range's own refusals are
+abbrev pub answer_of_call_error : {R : Type 0} → (R → Answer) → CallErr R → Result Answer Stop
+answer_of_call_error answer (call_errors.Refused why) = Ok (answer why)
+answer_of_call_error answer (call_errors.Exec error) = answer_of_error error
+answer_of_call_error answer call_errors.Memory = Err Memory
 
 -- how a call ends that answers this error, or none: a fault, a damaged slot or running out of memory ends it early
 abbrev pub IsEndedBy : {T : Type 0} → Option ExecErr → Result T Stop → Type 0

@@ -16,9 +16,17 @@ not_a_store = with_newline (codes "not a store")
 abbrev pub already_a_store : List ℕ
 already_a_store = with_newline (codes "already a store")
 
+-- the store is of version 2 already
+abbrev pub already_version_two : List ℕ
+already_version_two = with_newline (codes "already version 2")
+
+-- the store has so many objects, of at most so many bytes
+abbrev pub smaller : ℕ → ℕ → List ℕ
+smaller objects cap = with_newline (codes "smaller " ++ decimal objects ++ 32 ∷ decimal cap)
+
 -- the words ask nothing
 abbrev pub usage : List ℕ
-usage = with_newline (codes "usage: redo init N CAP LIMIT | run | dump | demo --seed S --steps T")
+usage = with_newline (codes "usage: redo init N CAP LIMIT | run | dump | demo --seed S --steps T | upgrade N CAP LIMIT")
 
 -- the name of a file
 abbrev pub name_of_file : FileNo → List ℕ

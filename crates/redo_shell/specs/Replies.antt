@@ -7,18 +7,17 @@ use Rattle.formats.specs.Image.{EndsAt, NextIs}
 use Rattle.store_engine.specs.Engine.{EpochIs, group_bytes, needed_in}
 use Rattle.formats.specs.declared.params.Params.{Params}
 use Rattle.op_codec.specs.AllOps.{all_meaning}
-use Rattle.op_codec.specs.declared.sum.Sum.TheVariants.{First, Second}
 use Rattle.script_lines.specs.Grammar.{Request, AsksFor, IsBad}
 use Rattle.script_lines.specs.declared.line.Line.TheVariants.{Run as run, Get as get, Force as force, Install as install, Drain as drain, Checkpoint as checkpoint, Trim as trim, Begin as begin_group, End as end_group, Stat as asks_stat, Skip as skip}
-use Rattle.script_lines.specs.Replies.{Reply, ok, ran, value, pairs, forced, bad, refused, bad_tree, tree_full, in_group, no_group, full, end, object_value, command_count, stat, summary, silence}
+use Rattle.script_lines.specs.Replies.{Reply, ok, ran, value, pairs, forced, bad, refused, bad_tree, tree_full, denied, in_group, no_group, full, end, object_value, command_count, stat, summary, silence}
+use Rattle.script_lines.specs.declared.denial.Denial.TheVariants.{BadHash}
 use Rattle.redo_shell.specs.Store.{Command, meaning_in, state_of, record_length, Stands}
 use Rattle.redo_shell.specs.Groups.{size_of}
 use Rattle.redo_shell.specs.Made.{made, AsksMade, AsksBehind, AsksTree}
 
--- The line asks for this one command. No line asks for one on a node.
+-- the line asks for this one command
 abbrev pub AsksCommand : List ℕ → Command → Type 0
-AsksCommand line (First op) = AsksFor line (run op)
-AsksCommand line (Second op) = ⊥
+AsksCommand line op = AsksFor line (run op)
 
 -- a request that adds no command, and changes the files or the log
 abbrev pub IsUpkeep : Request → Type 0
@@ -71,6 +70,7 @@ Replies p group commands line (refused why) added =
     ⊎ ((((object : ℕ) × AsksFor line (get object) × (p.objects ≤ object) × (why ≡ NoObject)) ⊎ AsksTree p commands line (refused why)) × (added ≡ []))
 Replies p group commands line bad_tree added = AsksMade p commands line (made added bad_tree) ⊎ (AsksTree p commands line bad_tree × (added ≡ []))
 Replies p group commands line tree_full added = AsksMade p commands line (made added tree_full)
+Replies p group commands line (denied why) added = AsksMade p commands line (made added (denied why)) ⊎ ((why ≡ BadHash) × AsksTree p commands line (denied why) × (added ≡ []))
 Replies p group commands line in_group added = (request : Request) × IsBarred request × AsksFor line request × IsTrue (is_some group) × (added ≡ [])
 Replies p group commands line no_group added = AsksFor line end_group × (group ≡ None) × (added ≡ [])
 Replies p group commands line (full used need limit) added =

@@ -12,8 +12,8 @@ use Rattle.cache_manager.specs.InstallCourses.{logged_in, install_course, drain_
 use Rattle.running_store.specs.Courses.Stop.{Through, Full, At_end, Worn}
 use Rattle.op_codec.specs.AllOps.{all_meaning}
 use Rattle.script_lines.specs.Grammar.{Request, AsksFor}
-use Rattle.script_lines.specs.declared.line.Line.TheVariants.{Get as get, TreeGet as tget, TreeRange as trange, Install as install, Drain as drain, Checkpoint as checkpoint, Trim as trim, Begin as begin_group, End as end_group}
-use Rattle.script_lines.specs.Replies.{Reply, ok, ran, forced, refused, bad_tree, tree_full, full, end, stat}
+use Rattle.script_lines.specs.declared.line.Line.TheVariants.{Get as get, TreeGet as tget, TreeRange as trange, HashGet as hget, Install as install, Drain as drain, Checkpoint as checkpoint, Trim as trim, Begin as begin_group, End as end_group}
+use Rattle.script_lines.specs.Replies.{Reply, ok, ran, forced, refused, bad_tree, tree_full, denied, full, end, stat}
 use Rattle.script_lines.specs.declared.answer.StatLine.{StatLine}
 use Rattle.checkpointing.specs.Courses.{checkpoint_course, trim_course}
 use Rattle.restart.specs.Courses.{restart_course}
@@ -56,6 +56,7 @@ abbrev pub IsQuestion : Request → Type 0
 IsQuestion (get object) = ⊤
 IsQuestion (tget lo hi key) = ⊤
 IsQuestion (trange lo hi from to) = ⊤
+IsQuestion (hget lo hi key) = ⊤
 IsQuestion request = ⊥
 
 -- what is done behind the last line: the open group is closed, if there is one, and the log is forced
@@ -97,6 +98,7 @@ GoesBy p old line (ran k) new = Ends p old line Through new
 GoesBy p old line (refused why) new = Ends p old line Through new
 GoesBy p old line bad_tree new = Ends p old line Through new
 GoesBy p old line tree_full new = Ends p old line Through new
+GoesBy p old line (denied why) new = Ends p old line Through new
 GoesBy p old line (full used need limit) new = Ends p old line (Full used need limit) new
 GoesBy p old line (end number) new = Ends p old line (At_end number) new ⊎ Ends p old line (Worn number) new
 GoesBy p old line (forced n) new = new ≡ stage_after p old (force_course (meaning_in p) old.world old.used)
@@ -117,7 +119,7 @@ AllGoBy p first (line ∷ lines) (reply ∷ replies) last = (mid : Stage) × Lea
 AllGoBy p first [] (reply ∷ replies) last = ⊥
 AllGoBy p first (line ∷ lines) [] last = ⊥
 
--- how many objects may be dirty in a redo before it installs: as many as a store can have, so that it installs nothing
+-- how many objects may be dirty in a redo before it installs: as many as a store of version 1 can have, which installs nothing
 abbrev pub redo_dirty : ℕ
 redo_dirty = 4096
 

@@ -7,7 +7,7 @@ use Rattle.script_lines.specs.declared.read_error.ReadError.TheVariants.{ReadFau
 use Rattle.redo_shell.specs.declared.stop.Stop.{Stop}
 use Rattle.redo_shell.specs.declared.stop.Stop.TheVariants.{DiskFault, Damaged as SlotDamaged, ReadFault, SayFault, Memory, TooLong}
 use Rattle.redo_shell.specs.declared.status.Status.{Status}
-use Rattle.redo_shell.specs.declared.status.Status.TheVariants.{Done, DoneWithRefusals, Usage, NotAStore, AlreadyStore, Damaged, DiskFault as DiskFailed, ReadFault as InputFailed, SayFault as OutputFailed, Memory as OutOfMemory, TooLong as InputTooLong}
+use Rattle.redo_shell.specs.declared.status.Status.TheVariants.{Done, DoneWithRefusals, Usage, NotAStore, AlreadyStore, Damaged, DiskFault as DiskFailed, ReadFault as InputFailed, SayFault as OutputFailed, Memory as OutOfMemory, TooLong as InputTooLong, AlreadyTwo, Smaller}
 
 -- the number that the process ends with
 abbrev pub number_of : Status → ℕ
@@ -22,6 +22,8 @@ number_of InputFailed = 6
 number_of OutputFailed = 7
 number_of OutOfMemory = 8
 number_of InputTooLong = 9
+number_of AlreadyTwo = 3
+number_of Smaller = 10
 
 -- why a run ends where no line could be read
 abbrev pub stop_of_input : ReadError → Stop
@@ -63,6 +65,8 @@ IsCut status = ⊥
 abbrev pub IsOfRun : Status → Type 0
 IsOfRun Usage = ⊥
 IsOfRun AlreadyStore = ⊥
+IsOfRun AlreadyTwo = ⊥
+IsOfRun Smaller = ⊥
 IsOfRun status = ⊤
 
 -- a dump may end with this status
@@ -72,6 +76,8 @@ IsOfDump Usage = ⊥
 IsOfDump AlreadyStore = ⊥
 IsOfDump InputFailed = ⊥
 IsOfDump InputTooLong = ⊥
+IsOfDump AlreadyTwo = ⊥
+IsOfDump Smaller = ⊥
 IsOfDump status = ⊤
 
 -- a layout may end with this status
@@ -82,12 +88,26 @@ IsOfInit DiskFailed = ⊤
 IsOfInit OutputFailed = ⊤
 IsOfInit status = ⊥
 
--- a run ends with this status only where it has opened the store
+-- an upgrade may end with this status
+abbrev pub IsOfUpgrade : Status → Type 0
+IsOfUpgrade Done = ⊤
+IsOfUpgrade NotAStore = ⊤
+IsOfUpgrade Damaged = ⊤
+IsOfUpgrade DiskFailed = ⊤
+IsOfUpgrade OutputFailed = ⊤
+IsOfUpgrade OutOfMemory = ⊤
+IsOfUpgrade AlreadyTwo = ⊤
+IsOfUpgrade Smaller = ⊤
+IsOfUpgrade status = ⊥
+
+-- a run, or an upgrade, ends with this status only where it has opened the store
 abbrev pub IsOfStore : Status → Type 0
 IsOfStore Done = ⊤
 IsOfStore DoneWithRefusals = ⊤
 IsOfStore InputFailed = ⊤
 IsOfStore InputTooLong = ⊤
+IsOfStore AlreadyTwo = ⊤
+IsOfStore Smaller = ⊤
 IsOfStore status = ⊥
 
 -- where a store is not opened, the program ends with this status

@@ -12,6 +12,7 @@ use Rattle.explain_core.specs.World.{World}
 use Rattle.running_store.specs.Taking.{Ending}
 use Rattle.store_engine.specs.Store as of_store
 use Rattle.store_engine.specs.Engine as of_engine
+use Rattle.store_engine.specs.Upgrading as of_upgrading
 use Rattle.store_engine.specs.Engine.{EngineView, accepted_in, forced_in}
 use Rattle.execution.specs.declared.exec_err.ExecErr.{ExecErr}
 
@@ -46,6 +47,14 @@ Stands p files commands = of_store.Stands all_meaning p files commands
 -- the files are those of a new store
 abbrev pub IsNewStore : Params → Files → Type 0
 IsNewStore p files = of_engine.IsNewStore all_meaning p files
+
+-- the files are those of a store of version 2 with these numbers, and stand for the commands
+abbrev pub IsUpgraded : Params → List Command → Files → Type 0
+IsUpgraded q commands files = of_upgrading.IsUpgraded all_meaning q commands files
+
+-- they stand for the commands, in the store with the first numbers that was there or in the larger one with the others
+abbrev pub StandsInEither : Params → Params → List Command → Files → Type 0
+StandsInEither p q commands files = of_upgrading.StandsInEither all_meaning p q commands files
 
 -- no store is there, or one without commands
 abbrev pub IsNew : Params → Files → Type 0

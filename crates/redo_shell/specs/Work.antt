@@ -1,16 +1,16 @@
 -- What a line has the program do.
 use Rattle.std.specs.Prelude.{ℕ, List}
 use Rattle.script_lines.specs.Grammar.{Request, AsksFor, IsBad}
-use Rattle.script_lines.specs.declared.line.Line.TheVariants.{AppRun as arun, TreeInsert as tinsert, TreeGet as tget, TreeDelete as tdelete, TreeRange as trange, Get as get, Force as force, Install as install, Drain as drain, Checkpoint as checkpoint, Trim as trim, Begin as begin_group, End as end_group, Stat as stat, Skip as skip}
+use Rattle.script_lines.specs.declared.line.Line.TheVariants.{AppRun as arun, ProgramRun as prun, TreeInsert as tinsert, TreeGet as tget, TreeDelete as tdelete, TreeRange as trange, HashPut as hset, HashGet as hget, HashDelete as hdel, Get as get, Force as force, Install as install, Drain as drain, Checkpoint as checkpoint, Trim as trim, Begin as begin_group, End as end_group, Stat as stat, Skip as skip}
 use Rattle.redo_shell.specs.Replies.{AsksCommand}
 use Rattle.redo_shell.specs.declared.work.Upkeep.{Upkeep}
 use Rattle.redo_shell.specs.declared.work.Upkeep.TheVariants.{Install, Drain, Checkpoint, Trim}
 use Rattle.redo_shell.specs.declared.work.Grouping.{Grouping}
 use Rattle.redo_shell.specs.declared.work.Grouping.TheVariants.{Begin, End}
 use Rattle.redo_shell.specs.declared.work.Making.{Making}
-use Rattle.redo_shell.specs.declared.work.Making.TheVariants.{Steps, Insert, Delete}
+use Rattle.redo_shell.specs.declared.work.Making.TheVariants.{Steps, ProgramSteps, Insert, Delete, HashPut, HashDelete}
 use Rattle.redo_shell.specs.declared.work.Question.{Question}
-use Rattle.redo_shell.specs.declared.work.Question.TheVariants.{Find, Range}
+use Rattle.redo_shell.specs.declared.work.Question.TheVariants.{Find, Range, HashFind}
 use Rattle.redo_shell.specs.declared.work.Work.{Work}
 use Rattle.redo_shell.specs.declared.work.Work.TheVariants.{Run, Make, Ask, Tell, Force, Keep, Group, Count, Nothing, Bad}
 
@@ -29,13 +29,17 @@ group_request End = end_group
 -- what a line asks for that may add several commands
 abbrev pub made_request : Making → Request
 made_request (Steps app most) = arun app most
+made_request (ProgramSteps app program most) = prun app program most
 made_request (Insert low high key value) = tinsert low high key value
 made_request (Delete low high key) = tdelete low high key
+made_request (HashPut low high key value) = hset low high key value
+made_request (HashDelete low high key) = hdel low high key
 
--- what a line asks of a tree
+-- what a line asks of a tree or a hash file
 abbrev pub tree_request : Question → Request
 tree_request (Find low high key) = tget low high key
 tree_request (Range low high from to) = trange low high from to
+tree_request (HashFind low high key) = hget low high key
 
 -- the line asks for this
 abbrev pub AsksWork : List ℕ → Work → Type 0

@@ -1,21 +1,23 @@
-// Questions to trees, and their answers.
+// Questions to trees and hash files, and their answers.
 ghost use Rattle.std.specs.Prelude.{◌≡◌, false, List, ℕ, OnOk, IfErr};
 ghost use Rattle.disk_model.specs.Disk.{Passes};
 ghost use Rattle.formats.specs.declared.params.Params.{Params};
 ghost use Rattle.script_lines.specs.Grammar.{AsksFor};
-ghost use Rattle.script_lines.specs.declared.line.Line.TheVariants.{TreeGet as tget, TreeRange as trange};
+ghost use Rattle.script_lines.specs.declared.line.Line.TheVariants.{HashGet as hget, TreeGet as tget, TreeRange as trange};
 ghost use Rattle.script_lines.specs.Replies.{reply_of};
-ghost use Rattle.redo_shell.specs.Found.{IsAsked, answer_of_tree_error, refused_as, reply_in};
+ghost use Rattle.redo_shell.specs.Found.{IsAsked, answer_of_call_error, answer_of_tree_error, hash_answer, refused_as, reply_in};
 ghost use Rattle.redo_shell.specs.Store.{Command, Holds, IsAttached};
 ghost use Rattle.redo_shell.specs.Run.{Answering, IsCaused, IsUndamaged};
 ghost use Rattle.redo_shell.specs.Work.{tree_request};
 
-use crate::making::tree_answer;
+use crate::making::{hash_error_answer, tree_answer};
 use crate::say::say_answer;
 use crate::stop::Stop;
 use crate::work::Question;
-use btree_ops::Short;
 use disk_model::Machine;
+use hash_client::HashErr;
+use hash_file::HashFile;
+use key_entries::Short;
 use logical_btree::Tree;
 use op_codec::AllOps;
 use oper_core::Refusal;
@@ -24,7 +26,7 @@ use std::alloc::Global;
 use store_engine::{Engine, engine_stands, nothing_is_made};
 use tree_client::TreeErr;
 
-/// What was found in a tree.
+/// What was found in a tree or a hash file.
 #[derive(Drop)]
 pub enum Found {
     /// The value of the key.
@@ -58,6 +60,38 @@ fn refused(error: TreeErr) -> Result<Found, Stop>
     match tree_answer(error) {
         Ok(answer) => Ok(Found::Refused(answer)),
         Err(stop) => Err(stop),
+    }
+}
+
+/// What is found where a call on a hash file is not done.
+fn hash_refused(error: HashErr) -> Result<Found, Stop>
+    ensures { result ≡ refused_as (answer_of_call_error hash_answer error) }
+{
+    match hash_error_answer(error) {
+        Ok(answer) => Ok(Found::Refused(answer)),
+        Err(stop) => Err(stop),
+    }
+}
+
+/// Looks for the value of a key in the hash file of some objects.
+fn find_hash<M: Machine>(
+    engine: &mut Engine<AllOps>,
+    machine: &mut M,
+    low: u32,
+    high: u32,
+    key: Short,
+) -> Result<Found, Stop>
+    requires { engine.old.broken ≡ false }
+    ensures { IsAsked (M.disk machine.old) (M.disk machine.new) engine.old engine.new (hget low high key) result }
+{
+    let Some(file) = HashFile::new(low, high) else {
+        nothing_is_made(machine, engine);
+        return Ok(Found::Refused(Answer::Refused(Refusal::NoObject)));
+    };
+    match hash_client::get(&file, engine, machine, &key) {
+        Ok(Some(value)) => Ok(Found::Value(value)),
+        Ok(None) => Ok(Found::Absent),
+        Err(error) => hash_refused(error),
     }
 }
 
@@ -124,10 +158,11 @@ fn found_in<M: Machine>(
             from,
             to,
         } => { find_range(alloc, engine, machine, low, high, from, to) }
+        Question::HashFind { low, high, key } => find_hash(engine, machine, low, high, key),
     }
 }
 
-/// Answers a question to a tree. It reports whether the answer is a refusal.
+/// Answers a question to a tree or a hash file. It reports whether the answer is a refusal.
 pub fn say_found<M: Machine>(
     alloc: Global,
     engine: &mut Engine<AllOps>,

@@ -17,7 +17,7 @@ ghost use Rattle.explain_core.specs.History.{commands_of};
 ghost use Rattle.store_engine.specs.Engine.{InEachImage};
 ghost use Rattle.redo_shell.specs.Store.{Command, Stands, IsNew, meaning_in, refusal_after, state_of, record_length};
 ghost use Rattle.redo_shell.specs.Printed.{whole_lines, texts_of};
-ghost use Rattle.redo_shell.specs.Sessions.{Ran, Follows, Survives, Arises, Sessions};
+ghost use Rattle.redo_shell.specs.Sessions.{Ran, Sizing, Follows, Survives, Arises, Sessions};
 ghost use Rattle.redo_shell.specs.Replies.{AsksCommand, Replies, IsBarred, IsFull};
 ghost use Rattle.redo_shell.specs.Stages.{Stage, GoesBy};
 
@@ -66,14 +66,14 @@ pub fn the_lines_said_are_the_answers()
 /// Any calls of the program, one after the other, each ended in any way and followed by nothing, a kill or a crash: what
 /// is left stands for the commands of the start and those that the runs have added, which split no group of any run, and no
 /// fewer than any run has printed to be forced. From files that are no store the same holds from the first `init` on that has
-/// made one, with the numbers that an `init` has asked for.
+/// made one, with the numbers that an `init` has asked for. Only an `upgrade` gives a store others.
 pub fn sessions_keep_what_was_forced<M: Machine>()
-    ensures from_store { (p : Params) (commands : List Command) (first last : M) (inits : List Params) (runs : List Ran) → (M.disk first).tells_moments →
-        InEachImage (M.disk first) (λ files. Stands p files commands) → Sessions M.disk first inits runs last →
-        InEachImage (M.disk last) (Survives p commands runs) }
-    ensures from_none { (first last : M) (inits : List Params) (runs : List Ran) → (M.disk first).tells_moments →
-        InEachImage (M.disk first) (λ files. (p : Params) × IsNew p files) → Sessions M.disk first inits runs last →
-        InEachImage (M.disk last) (Arises (M.disk first) inits runs) }
+    ensures from_store { (p : Params) (commands : List Command) (first last : M) (sizes : List Sizing) (runs : List Ran) → (M.disk first).tells_moments →
+        InEachImage (M.disk first) (λ files. Stands p files commands) → Sessions M.disk first sizes runs last →
+        InEachImage (M.disk last) (Survives sizes p commands runs) }
+    ensures from_none { (first last : M) (sizes : List Sizing) (runs : List Ran) → (M.disk first).tells_moments →
+        InEachImage (M.disk first) (λ files. (p : Params) × IsNew p files) → Sessions M.disk first sizes runs last →
+        InEachImage (M.disk last) (Arises (M.disk first) sizes runs) }
 {}
 
 /// What may follow a call: nothing, a kill at a moment of it, which may be that between two calls to the machine, or a
@@ -88,7 +88,7 @@ pub fn a_call_is_followed<M: Machine>()
 /// A fuse may be the machine of a call in a list of calls on the machine that it passes its own to: a process that is
 /// killed after some calls is one on a fuse.
 pub fn a_fuse_is_its_machine<M: Machine>()
-    ensures inside { (first last : Fuse M) (inits : List Params) (runs : List Ran) → Sessions (disk_through M.disk) first inits runs last → Sessions M.disk first.inner inits runs last.inner }
-    ensures around { (first last : M) (end : Fuse M) (inits : List Params) (runs : List Ran) → end.inner ≡ last → Sessions M.disk first inits runs last →
-        (begin : Fuse M) × (begin.inner ≡ first) × Sessions (disk_through M.disk) begin inits runs end }
+    ensures inside { (first last : Fuse M) (sizes : List Sizing) (runs : List Ran) → Sessions (disk_through M.disk) first sizes runs last → Sessions M.disk first.inner sizes runs last.inner }
+    ensures around { (first last : M) (end : Fuse M) (sizes : List Sizing) (runs : List Ran) → end.inner ≡ last → Sessions M.disk first sizes runs last →
+        (begin : Fuse M) × (begin.inner ≡ first) × Sessions (disk_through M.disk) begin sizes runs end }
 {}

@@ -30,6 +30,7 @@ mod script;
 mod status;
 mod stop;
 mod tally;
+mod upgrade;
 mod upkeep;
 mod work;
 

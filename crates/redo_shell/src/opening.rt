@@ -23,8 +23,8 @@ use store_engine::{
 };
 
 // How much of a store the program keeps in memory. A redo installs while more objects than `redo_dirty` are dirty, and each
-// install waits for three syncs. A store has at most 4,096 objects of at most 16,384 bytes, 64 MiB in all, which a restart
-// may hold: so its redo installs nothing.
+// install waits for three syncs. A store of version 1 has at most 4,096 objects of at most 16,384 bytes, 64 MiB in all, which
+// a restart may hold: so its redo installs nothing. That of a larger store installs where more objects wait.
 const TUNING: Tuning = Tuning {
     clean: 64,
     redo_dirty: 4_096,
@@ -62,6 +62,7 @@ pub fn open_store<M: Machine>(alloc: Global, machine: &mut M) -> Result<Engine<A
     ensures ok { (p : Params) (commands : List Command) → Opens p (M.disk machine.old) commands → IfOk result (IsOpen p commands (M.disk machine.old) (M.disk machine.new)) }
     ensures ready { IfOk result (λ engine. (engine.broken ≡ false) × IsAttached (M.disk machine.new) engine) }
     ensures settled { OnOk result (IsSettled (M.disk machine.new)) }
+    ensures quiet { (M.disk machine.old).tells_files → OnOk result ((M.disk machine.new).said ≡ (M.disk machine.old).said) }
     ensures read { (M.disk machine.old).tells_files → OnOk result (IsWellFormed (M.disk machine.old).reads) }
     ensures unopened { IfErr result (IsUnopened (M.disk machine.old) (M.disk machine.new)) }
 {

@@ -6,9 +6,9 @@ ghost use Rattle.restart.specs.Starts.{OrAtStart};
 ghost use Rattle.script_lines.specs.Grammar.{lines_of};
 ghost use Rattle.script_lines.specs.Reading.{ReadsOn};
 ghost use Rattle.command_words.specs.Words.{Asks, IsAllowed};
-ghost use Rattle.command_words.specs.declared.asked.Asked.TheVariants.{Init, Run, Dump, Demo};
+ghost use Rattle.command_words.specs.declared.asked.Asked.TheVariants.{Init, Run, Dump, Demo, Upgrade};
 ghost use Rattle.redo_shell.specs.Answers.{Moment};
-ghost use Rattle.redo_shell.specs.Calls.{IsRunCall, IsDumpCall, IsMaking, IsCallFor, GoesOn};
+ghost use Rattle.redo_shell.specs.Calls.{IsRunCall, IsDumpCall, IsMaking, IsUpgradeCall, IsCallFor, GoesOn};
 ghost use Rattle.redo_shell.specs.Causes.{AsksNothing, CountsFaults, IsUsage, OrUnread, ComesByCause};
 ghost use Rattle.redo_shell.specs.Demo.{IsDemo};
 ghost use Rattle.redo_shell.specs.Exactly.{IsFaultless, ComesExactly};
@@ -20,6 +20,7 @@ use crate::init::init;
 use crate::run::run;
 use crate::say::end_with;
 use crate::status::Status;
+use crate::upgrade::upgrade;
 use command_words::{Asked, Unread, read_words, words_ask_one_thing};
 use disk_model::{Machine, Source};
 use op_codec::AllOps;
@@ -27,7 +28,8 @@ use std::alloc::Global;
 use store_engine::{one_damage, standing_files_meet_their_format};
 
 /// What is printed where the words ask nothing.
-const USAGE: &[u8] = b"usage: redo init N CAP LIMIT | run | dump | demo --seed S --steps T\n";
+const USAGE: &[u8] =
+    b"usage: redo init N CAP LIMIT | run | dump | demo --seed S --steps T | upgrade N CAP LIMIT\n";
 
 /// Does what was asked, with the files of the machine, its output, and the script that the source gives.
 fn serve<M: Machine, S: Source>(
@@ -48,6 +50,7 @@ fn serve<M: Machine, S: Source>(
         Asked::Dump => dump(alloc, machine),
         Asked::Init(params) => init(machine, params),
         Asked::Demo { seed, steps } => demo(alloc, machine, seed, steps),
+        Asked::Upgrade(params) => upgrade(alloc, machine, params),
     }
 }
 
@@ -59,7 +62,6 @@ pub fn top<M: Machine, S: Source>(
     machine: &mut M,
     input: &mut S,
 ) -> Status
-    ensures time { Passes (M.disk machine.old) (M.disk machine.new) }
     // A run on files that stand for commands, as they are read: what a crash at any moment of it leaves a crash at the start
     // could leave, or it stands for these commands and a beginning of those that the script has added, which splits no group
     // and is no shorter than any number that was printed to be forced.
@@ -69,6 +71,8 @@ pub fn top<M: Machine, S: Source>(
         OrUnread (IsRunCall (S.tells input.old) (S.left input.old) (S.left input.new) (M.disk machine.old) (M.disk machine.new) result) (M.disk machine.old) (M.disk machine.new) result }
     ensures dump { Asks (map string_bytes words.now) Dump → OrUnread (IsDumpCall (M.disk machine.old) (M.disk machine.new) result) (M.disk machine.old) (M.disk machine.new) result }
     ensures init { (p : Params) → Asks (map string_bytes words.now) (Init p) → OrUnread (IsMaking p (M.disk machine.old) (M.disk machine.new) result) (M.disk machine.old) (M.disk machine.new) result }
+    // An upgrade leaves files that stand for the same commands at every moment, and with status 0 those of the larger store.
+    ensures upgrade { (q : Params) → Asks (map string_bytes words.now) (Upgrade q) → OrUnread (IsUpgradeCall q (M.disk machine.old) (M.disk machine.new) result) (M.disk machine.old) (M.disk machine.new) result }
     // A demo leaves the files alone, and says what the plain map's answers to the generated script count to.
     ensures demo { (seed steps : ℕ) → Asks (map string_bytes words.now) (Demo seed steps) → OrUnread (IsDemo seed steps (M.disk machine.old) (M.disk machine.new) result) (M.disk machine.old) (M.disk machine.new) result }
     // Where there is no memory to read the words, the status is 8 and nothing is done: that is `OrUnread` here and in `exactly`.
@@ -77,7 +81,7 @@ pub fn top<M: Machine, S: Source>(
     ensures cause { ComesByCause (map string_bytes words.now) (S.tells input.old) (S.left input.old) (S.left input.new) (S.faults input.old) (S.faults input.new) (M.disk machine.old) (M.disk machine.new) result }
     ensures exactly { IsFaultless (M.disk machine.old) (M.disk machine.new) (S.faults input.old) (S.faults input.new) →
         ComesExactly (map string_bytes words.now) (S.tells input.old) (S.left input.old) (M.disk machine.old) (M.disk machine.new) result }
-    // What the call does goes on any calls of the program before it.
+    // The machine goes on through the call, and what the call does goes on any calls of the program before it.
     ensures session { GoesOn M.disk (map string_bytes words.now) (S.tells input.old) (lines_of (S.left input.old)) machine.old machine.new }
 {
     standing_files_meet_their_format::<AllOps>();

@@ -21,6 +21,7 @@ fn refuses(answer: &Answer<'_>) -> bool
             | Answer::Refused(_)
             | Answer::BadTree
             | Answer::TreeFull
+            | Answer::Denied(_)
             | Answer::InGroup
             | Answer::NoGroup
             | Answer::Full { .. }

@@ -28,6 +28,10 @@ pub enum Status {
     Memory,
     /// The input has 2^40 bytes or more.
     TooLong,
+    /// The store is of version 2 already.
+    AlreadyTwo,
+    /// The store has more objects, or longer ones, than it was to get.
+    Smaller,
 }
 
 impl Status {
@@ -46,6 +50,8 @@ impl Status {
             Status::SayFault => 7,
             Status::Memory => 8,
             Status::TooLong => 9,
+            Status::AlreadyTwo => 3,
+            Status::Smaller => 10,
         }
     }
 }

@@ -2,8 +2,8 @@ ghost use Rattle.std.specs.Prelude.{IfOk, List, ℕ};
 ghost use Rattle.script_lines.specs.Grammar.{AsksFor};
 ghost use Rattle.redo_shell.specs.Work.{AsksWork};
 
-use btree_ops::Short;
-use op_codec::{AllOps, plain_op};
+use key_entries::Short;
+use op_codec::AllOps;
 use oper_core::Memory;
 use script_lines::{Line, LineErr, parse_line};
 use std::alloc::Global;
@@ -38,6 +38,12 @@ pub enum Making {
         app: u32,
         most: u32,
     },
+    /// Take so many steps of an interpreted application by this program, or as many as it can.
+    ProgramSteps {
+        app: u32,
+        program: u32,
+        most: u32,
+    },
     /// The key gets the value, in the tree of these objects.
     Insert {
         low: u32,
@@ -51,9 +57,22 @@ pub enum Making {
         high: u32,
         key: Short,
     },
+    /// The key gets the value, in the hash file of these objects.
+    HashPut {
+        low: u32,
+        high: u32,
+        key: Short,
+        value: Short,
+    },
+    /// The key leaves the hash file of these objects, with its value.
+    HashDelete {
+        low: u32,
+        high: u32,
+        key: Short,
+    },
 }
 
-/// What is asked of the tree of some objects.
+/// What is asked of the tree or the hash file of some objects.
 #[derive(Clone, Copy)]
 pub enum Question {
     /// The value of the key.
@@ -68,6 +87,12 @@ pub enum Question {
         high: u32,
         from: Short,
         to: Short,
+    },
+    /// The value of the key, in a hash file.
+    HashFind {
+        low: u32,
+        high: u32,
+        key: Short,
     },
 }
 
@@ -113,8 +138,19 @@ impl Work {
         ensures { (bytes : List ℕ) → AsksFor bytes line → AsksWork bytes result }
     {
         match line {
-            Line::Run(op) => Work::Run(plain_op(op)),
+            Line::Run(op) => Work::Run(op),
             Line::AppRun { app, steps } => Work::Make(Making::Steps { app, most: steps }),
+            Line::ProgramRun {
+                app,
+                program,
+                steps,
+            } => {
+                Work::Make(Making::ProgramSteps {
+                    app,
+                    program,
+                    most: steps,
+                })
+            }
             Line::TreeInsert {
                 low,
                 high,
@@ -143,6 +179,23 @@ impl Work {
                     to,
                 })
             }
+            Line::HashPut {
+                low,
+                high,
+                key,
+                value,
+            } => {
+                Work::Make(Making::HashPut {
+                    low,
+                    high,
+                    key,
+                    value,
+                })
+            }
+            Line::HashDelete { low, high, key } => {
+                Work::Make(Making::HashDelete { low, high, key })
+            }
+            Line::HashGet { low, high, key } => Work::Ask(Question::HashFind { low, high, key }),
             Line::Get { object } => Work::Tell { object },
             Line::Force => Work::Force,
             Line::Install => Work::Keep(Upkeep::Install),

@@ -37,11 +37,23 @@ fn a_log_of_one_put_is_as_worked(alloc: Global) -> Result<bool, AllocError> {
     Ok(header & (log.len() == 76) & log.ends_with(BLOCK.as_slice()))
 }
 
+// The store of 8 objects of 64 bytes gets 16 of 128: behind its slots stand the numbers, and then the slots of the larger one.
+fn a_larger_store_is_as_worked(alloc: Global) -> Result<bool, AllocError> {
+    let mut machine = new_store(alloc)?;
+    run(alloc, &mut machine, "redo run", b"put 0 aa\n");
+    run(alloc, &mut machine, "redo upgrade 16 128 65536", b"");
+    let objects = machine.bytes(FileNo::Objects);
+    let header = objects.starts_with(b"\x01RDOOBJ02\x08\0\0\0\x40\0\0\0");
+    let (_, numbers) = objects.split_at(1264.min(objects.len()));
+    Ok(header & numbers.starts_with(b"\x10\0\0\0\x80\0\0\0\0\0\x01\0") & (objects.len() == 5668))
+}
+
 #[test]
 fn files_have_these_bytes(rt: HostRuntime) -> Result<(), Fail> {
     assert!(rt; a_new_store_is_as_worked(rt.alloc())?);
     assert!(rt; a_log_of_one_check_is_as_worked(rt.alloc())?);
     assert!(rt; a_log_of_one_put_is_as_worked(rt.alloc())?);
+    assert!(rt; a_larger_store_is_as_worked(rt.alloc())?);
     Ok(())
 }
 

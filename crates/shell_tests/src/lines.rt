@@ -1,19 +1,21 @@
 // What no clause says of lines: that calls succeed with ample memory, and worked rows.
 ghost use Rattle.std.specs.Prelude.{⊤, []};
 
+use app_program::ProgramOp;
 use command_words::{Asked, read_words};
 use disk_model::{Failed, Source};
 use formats::Params;
+use op_codec::{AllOps, Sum};
 use op_meaning::PlainOp;
 use oper_core::Refusal;
 use script_lines::{
-    Answer, Line, LineErr, LineReader, Next, ReadError, StatLine, answer_line, answer_text,
+    Answer, Denial, Line, LineErr, LineReader, Next, ReadError, StatLine, answer_line, answer_text,
     parse_line,
 };
 use std::alloc::Global;
 
 // A line of each form, and which one it is, counted from 1. That it asks what it says is a clause.
-const FORMS: [(&[u8], u32); 23] = [
+const FORMS: [(&[u8], u32); 30] = [
     (b"put 4294967295 00FfA9", 1),
     (b"copy 0 1", 2),
     (b"append 7 12", 3),
@@ -37,6 +39,13 @@ const FORMS: [(&[u8], u32); 23] = [
     (b"stat", 21),
     (b"begin", 22),
     (b"end", 23),
+    (b"pexec 3 4", 24),
+    (b"pread 3 4", 25),
+    (b"pwrite 3 4294967295", 26),
+    (b"prun 3 4 0", 27),
+    (b"hset 0 7 01 Ff", 28),
+    (b"hget 7 0 0102", 29),
+    (b"hdel 0 7 01", 30),
 ];
 
 // Lines, and the plain ones that ask the same.
@@ -66,7 +75,14 @@ const SKIPPED: [&[u8]; 10] = [
     b"#\r\r",
 ];
 
-const BAD: [&[u8]; 67] = [
+const BAD: [&[u8]; 74] = [
+    b"hset 0 7 01",
+    b"hget 0 7 -",
+    b"hdel 0 7",
+    b"pexec 0",
+    b"pread 0 1 2",
+    b"pwrite 0 -",
+    b"prun 0 1",
     b"install 1",
     b"drain #",
     b"Checkpoint",
@@ -154,10 +170,28 @@ fn op_told(op: &PlainOp) -> [u32; 4] {
     }
 }
 
+// The same of an interpreted application's.
+fn program_told(op: &ProgramOp) -> [u32; 4] {
+    match op {
+        ProgramOp::Step { app, program } => [24, *app, *program, 0],
+        ProgramOp::Feed { app, from } => [25, *app, *from, 0],
+        ProgramOp::Drain { app, to } => [26, *app, *to, 0],
+    }
+}
+
+// The same of any command. No line asks for one on a node of a tree or a bucket of a hash file.
+fn command_told(op: &AllOps) -> [u32; 4] {
+    match op {
+        Sum::First(op) => op_told(op),
+        Sum::Second(Sum::Second(Sum::First(op))) => program_told(op),
+        _ => [0; 4],
+    }
+}
+
 // The form of a line, and the numbers of a command or a `get`. A line that is skipped has none of these forms.
 fn line_told(line: &Line) -> [u32; 4] {
     match line {
-        Line::Run(op) => op_told(op),
+        Line::Run(op) => command_told(op),
         Line::AppRun { .. } => [10, 0, 0, 0],
         Line::TreeInsert { .. } => [11, 0, 0, 0],
         Line::TreeGet { .. } => [12, 0, 0, 0],
@@ -172,6 +206,10 @@ fn line_told(line: &Line) -> [u32; 4] {
         Line::Stat => [21, 0, 0, 0],
         Line::Begin => [22, 0, 0, 0],
         Line::End => [23, 0, 0, 0],
+        Line::ProgramRun { .. } => [27, 0, 0, 0],
+        Line::HashPut { .. } => [28, 0, 0, 0],
+        Line::HashGet { .. } => [29, 0, 0, 0],
+        Line::HashDelete { .. } => [30, 0, 0, 0],
         Line::Skip => [0; 4],
     }
 }
@@ -251,7 +289,7 @@ const HEX: [(&[u8], &[u8]); 3] = [
 
 fn puts(alloc: Global, line: &[u8], want: &[u8]) -> bool {
     match parse_line(alloc, line) {
-        Ok(Line::Run(PlainOp::Put { value, .. })) => value.as_slice() == want,
+        Ok(Line::Run(Sum::First(PlainOp::Put { value, .. }))) => value.as_slice() == want,
         _ => false,
     }
 }
@@ -270,7 +308,7 @@ fn hex_is_read(rt: HostRuntime) {
 }
 
 // Answers, and their texts.
-const TEXTS: [(Answer<'static>, &[u8]); 23] = [
+const TEXTS: [(Answer<'static>, &[u8]); 28] = [
     (Answer::Done, b"ok"),
     (Answer::Value(&[]), b"-"),
     (Answer::Value(&[0x00, 0x9a, 0xff]), b"009aff"),
@@ -285,11 +323,16 @@ const TEXTS: [(Answer<'static>, &[u8]); 23] = [
     (Answer::Refused(Refusal::BadPlace), b"refused BadPlace"),
     (Answer::Refused(Refusal::BadWidth), b"refused BadWidth"),
     (Answer::Refused(Refusal::NotApp), b"refused NotApp"),
+    (Answer::Refused(Refusal::NotCode), b"refused NotCode"),
+    (Answer::Refused(Refusal::Halted), b"refused Halted"),
     (Answer::Refused(Refusal::NoInput), b"refused NoInput"),
     (Answer::Refused(Refusal::NotNode), b"refused NotNode"),
     (Answer::Refused(Refusal::NoKey), b"refused NoKey"),
     (Answer::Refused(Refusal::NodeFull), b"refused NodeFull"),
     (Answer::Refused(Refusal::TooLarge), b"refused TooLarge"),
+    (Answer::Denied(Denial::BadHash), b"refused BadHash"),
+    (Answer::Denied(Denial::HashFull), b"refused HashFull"),
+    (Answer::Denied(Denial::NoRoom), b"refused NoRoom"),
     (
         Answer::Full {
             used: 5248,
@@ -376,8 +419,8 @@ fn strings(alloc: Global, words: &[&str]) -> Option<Vec<String>> {
 }
 
 const LARGEST: Params = Params {
-    objects: 4096,
-    cap: 16384,
+    objects: 65535,
+    cap: 1048576,
     limit: 536870912,
 };
 
@@ -388,7 +431,7 @@ const LEAST: Params = Params {
 };
 
 // Words, and what they ask.
-const WORDS: [(&[&str], Option<Asked>); 28] = [
+const WORDS: [(&[&str], Option<Asked>); 32] = [
     (&["redo", "run"], Some(Asked::Run)),
     (&["redo", "dump"], Some(Asked::Dump)),
     (&["redo", "dump", "run"], None),
@@ -398,7 +441,7 @@ const WORDS: [(&[&str], Option<Asked>); 28] = [
         Some(Asked::Init(LEAST)),
     ),
     (
-        &["redo", "init", "4096", "16384", "536870912"],
+        &["redo", "init", "65535", "1048576", "536870912"],
         Some(Asked::Init(LARGEST)),
     ),
     (&[], None),
@@ -411,15 +454,15 @@ const WORDS: [(&[&str], Option<Asked>); 28] = [
     (&["redo", "init", "8", "64"], None),
     (&["redo", "init", "8", "64", "65536", "1"], None),
     (&["redo", "init", "0", "64", "65536"], None),
-    (&["redo", "init", "4097", "64", "65536"], None),
+    (&["redo", "init", "65536", "64", "65536"], None),
     (&["redo", "init", "8", "15", "65536"], None),
-    (&["redo", "init", "8", "16385", "65536"], None),
+    (&["redo", "init", "8", "1048577", "536870912"], None),
     (&["redo", "init", "8", "64", "4223"], None),
     (&["redo", "init", "8", "64", "536870913"], None),
     (&["redo", "help"], None),
     (&["redo", "init", "--", "-8", "64", "65536"], None),
     (
-        &["redo", "init", "+4096", "016384", "536870912"],
+        &["redo", "init", "+65535", "01048576", "536870912"],
         Some(Asked::Init(LARGEST)),
     ),
     (
@@ -435,6 +478,13 @@ const WORDS: [(&[&str], Option<Asked>); 28] = [
         None,
     ),
     (&["redo", "demo", "--seed", "7"], None),
+    (
+        &["redo", "upgrade", "65535", "1048576", "536870912"],
+        Some(Asked::Upgrade(LARGEST)),
+    ),
+    (&["redo", "upgrade", "8", "64"], None),
+    (&["redo", "upgrade", "8", "64", "4223"], None),
+    (&["redo", "upgraded", "8", "64", "65536"], None),
 ];
 
 fn ask(alloc: Global, words: &[&str], want: Option<Asked>) -> bool {

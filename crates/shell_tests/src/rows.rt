@@ -9,12 +9,16 @@ type Run = (&'static str, &'static [u8], Status, &'static [u8]);
 
 const NEW: Run = (INIT, b"", Status::Done, b"");
 
+// A store whose objects have room for nodes and programs.
+const NODES: Run = ("redo init 8 1024 65536", b"", Status::Done, b"");
+
 const NO_STORE: Run = ("redo run", b"get 0\n", Status::NotAStore, b"not a store\n");
 
-const USAGE: &[u8] = b"usage: redo init N CAP LIMIT | run | dump | demo --seed S --steps T\n";
+const USAGE: &[u8] =
+    b"usage: redo init N CAP LIMIT | run | dump | demo --seed S --steps T | upgrade N CAP LIMIT\n";
 
 // Runs in one folder, empty at first, with a crash between them that loses what was not synced.
-const ROWS: [&[Run]; 36] = [
+const ROWS: [&[Run]; 47] = [
     // A group allows no force, and ends once.
     &[
         NEW,
@@ -33,6 +37,163 @@ const ROWS: [&[Run]; 36] = [
             b"end\nbegin\nbegin\ninstall\ndrain\ncheckpoint\ntrim\nforce\nput 8 aa\nstat\nend\nend\nbegin 1\n",
             Status::DoneWithRefusals,
             b"refused NoGroup\nok\nrefused InGroup\nrefused InGroup\nrefused InGroup\nrefused InGroup\nrefused InGroup\nrefused InGroup\nrefused NoObject\nstat 0 0 0 0 0 51 0\nok\nrefused NoGroup\nbad\n",
+        ),
+    ],
+    // A store is made larger, once, and keeps its values; each object then takes longer ones, and there are more.
+    &[
+        NEW,
+        ("redo run", b"put 0 aa\nput 7 bb", Status::Done, b"ok\nok\n"),
+        ("redo upgrade 16 128 65536", b"", Status::Done, b""),
+        (
+            "redo run",
+            b"get 0\nget 7\nget 8\nget 15\nget 16\ncopy 7 15\nappend 0 15\nget 15\nforce\n",
+            Status::DoneWithRefusals,
+            b"aa\nbb\n-\n-\nrefused NoObject\nok\nok\nbbaa\nforced 4\n",
+        ),
+        (
+            "redo upgrade 16 128 65536",
+            b"",
+            Status::AlreadyTwo,
+            b"already version 2\n",
+        ),
+        (
+            "redo init 8 64 65536",
+            b"",
+            Status::AlreadyStore,
+            b"already a store\n",
+        ),
+        (
+            "redo dump",
+            b"",
+            Status::Done,
+            b"0 aa\n7 bb\n15 bbaa\ncommands 4\n",
+        ),
+    ],
+    // It never becomes smaller.
+    &[
+        NEW,
+        (
+            "redo upgrade 4 64 65536",
+            b"",
+            Status::Smaller,
+            b"smaller 8 64\n",
+        ),
+        (
+            "redo upgrade 16 63 65536",
+            b"",
+            Status::Smaller,
+            b"smaller 8 64\n",
+        ),
+        ("redo upgrade 8 64 4224", b"", Status::Done, b""),
+        (
+            "redo upgrade 4 64 65536",
+            b"",
+            Status::AlreadyTwo,
+            b"already version 2\n",
+        ),
+    ],
+    &[
+        (
+            "redo upgrade 16 128 65536",
+            b"",
+            Status::NotAStore,
+            b"not a store\n",
+        ),
+        ("redo upgrade 16 128 4351", b"", Status::Usage, USAGE),
+        NEW,
+    ],
+    // A store of version 2 is made so where one of its numbers is greater than those of version 1.
+    &[
+        ("redo init 1 16385 36866", b"", Status::Done, b""),
+        ("redo run", b"put 0 aa", Status::Done, b"ok\n"),
+        (
+            "redo upgrade 1 16385 36866",
+            b"",
+            Status::AlreadyTwo,
+            b"already version 2\n",
+        ),
+        ("redo dump", b"", Status::Done, b"0 aa\ncommands 1\n"),
+    ],
+    // The eighth key of a hash file splits its bucket.
+    &[
+        NODES,
+        (
+            "redo run",
+            b"hset 0 7 01 a1\nhset 0 7 02 a2\nhset 0 7 03 a3\nhset 0 7 04 a4\nhset 0 7 05 a5\nhset 0 7 06 a6\nhset 0 7 07 a7\nhset 0 7 08 a8\nhget 0 7 08\nhdel 0 7 04\nhget 0 7 04\nforce\n",
+            Status::Done,
+            b"ok\nok\nok\nok\nok\nok\nok\nok\na8\nok\n-\nforced 11\n",
+        ),
+        (
+            "redo run",
+            b"hget 0 7 01\nhget 0 7 08\nhdel 0 7 04\nhset 0 7 01 b1\nhget 0 7 01\n",
+            Status::DoneWithRefusals,
+            b"a1\na8\nrefused NoKey\nok\nb1\n",
+        ),
+    ],
+    // No object is left for a split.
+    &[
+        NODES,
+        (
+            "redo run",
+            b"hset 0 1 01 a1\nhset 0 1 02 a2\nhset 0 1 03 a3\nhset 0 1 04 a4\nhset 0 1 05 a5\nhset 0 1 06 a6\nhset 0 1 07 a7\nhset 0 1 08 a8\n",
+            Status::DoneWithRefusals,
+            b"ok\nok\nok\nok\nok\nok\nok\nrefused NoRoom\n",
+        ),
+    ],
+    // Eight keys whose hashes are alike in their low six bits fill a bucket that is as deep as can be.
+    &[
+        NODES,
+        (
+            "redo run",
+            b"hset 0 7 00 a1\nhset 0 7 40 a2\nhset 0 7 80 a3\nhset 0 7 c0 a4\nhset 0 7 0000 a5\nhset 0 7 0040 a6\nhset 0 7 0080 a7\nhset 0 7 00c0 a8\nforce\n",
+            Status::DoneWithRefusals,
+            b"ok\nok\nok\nok\nok\nok\nok\nrefused HashFull\nforced 14\n",
+        ),
+    ],
+    // What is no hash file, and ranges that are none.
+    &[
+        NODES,
+        (
+            "redo run",
+            b"put 0 aa\nhget 0 7 01\nhset 0 7 01 a1\nhdel 0 7 01\nhget 1 1 01\nhset 2 1 01 a1\nhdel 1 8 01\nhget 1 2 01\n",
+            Status::DoneWithRefusals,
+            b"ok\nrefused BadHash\nrefused BadHash\nrefused BadHash\nrefused NoObject\nrefused NoObject\nrefused NoObject\n-\n",
+        ),
+    ],
+    // A program that copies its input runs to the end of it.
+    &[
+        NODES,
+        (
+            "redo run",
+            b"put 1 050000000000000006000000000000000700000000000000\nput 2 0a0b\npread 0 2\nprun 0 1 9\npwrite 0 3\nget 3\n",
+            Status::Done,
+            b"ok\nok\nok\nran 6\nok\n0a0b\n",
+        ),
+    ],
+    // Stopped behind two steps, it goes on from there.
+    &[
+        NODES,
+        (
+            "redo run",
+            b"put 1 050000000000000006000000000000000700000000000000\nput 2 0a0b\npread 0 2\nprun 0 1 2\nforce\n",
+            Status::Done,
+            b"ok\nok\nok\nran 2\nforced 5\n",
+        ),
+        (
+            "redo run",
+            b"prun 0 1 9\npwrite 0 3\nget 3\n",
+            Status::Done,
+            b"ran 4\nok\n0a0b\n",
+        ),
+    ],
+    // What is no program is refused before a machine that has none to run.
+    &[
+        NODES,
+        (
+            "redo run",
+            b"put 1 07\npexec 0 1\nprun 0 1 0\nprun 0 1 1\nput 1 -\npexec 0 1\nprun 0 1 9\nprun 0 0 1\n",
+            Status::DoneWithRefusals,
+            b"ok\nrefused NotCode\nran 0\nrefused NotCode\nok\nrefused Halted\nran 0\nrefused Same\n",
         ),
     ],
     // The end of the input closes a group, a crash takes it away.

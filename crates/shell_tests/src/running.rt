@@ -6,7 +6,7 @@ use std::alloc::{AllocError, Global};
 pub const INIT: &str = "redo init 8 64 65536";
 
 pub fn empty_folder(alloc: Global) -> Result<MemMachine, AllocError> {
-    MemMachine::new(alloc, [8192, 65536, 65536], 1000, 65536, Vec::new(alloc))
+    MemMachine::new(alloc, [32896, 65536, 65536], 1000, 65536, Vec::new(alloc))
 }
 
 // The words of a line.

@@ -1,8 +1,9 @@
 // Trees by calls of the engine, and by lines whose nodes are installed in part.
 use crate::installs::{say, status_of};
 use crate::running::{Room, crashed, run};
-use btree_ops::{NodeOp, Short};
+use btree_ops::NodeOp;
 use disk_model::{Crash, Machine, MemMachine};
+use key_entries::Short;
 use op_codec::{AllOps, node_op};
 use redo_shell::Status;
 use std::alloc::{AllocError, Global};

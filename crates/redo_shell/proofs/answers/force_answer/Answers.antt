@@ -1,11 +1,11 @@
-use Rattle.std.proofs.Common.{ap, sym, subst, Err, Result, IfOk, OnOk, ◌∙◌}
+use Rattle.std.proofs.Common.{ap, sym, subst, Ok, Err, Result, IfOk, OnOk, ◌∙◌}
 use Rattle.script_lines.specs.declared.line.Line.TheVariants.{Force as force}
 use Rattle.script_lines.specs.Replies.{reply_of}
 use Rattle.script_lines.specs.declared.answer.Answer.{Answer}
 use Rattle.redo_shell.specs.Found.{IsDone}
 use Rattle.redo_shell.specs.Store.{IsAttached}
 use Rattle.redo_shell.specs.declared.stop.Stop.{Stop}
-use Rattle.redo_shell.proofs.DoneLemmas.{barred_done, by_group, force_done, images_of, still_images}
+use Rattle.redo_shell.proofs.DoneLemmas.{barred_done, by_group, force_done, images_of, still_attached, still_images}
 use Rattle.redo_shell.proofs.HoldLemmas.{always, in_engine}
 use Rattle.redo_shell.proofs.UpkeepLemmas.{barred_attached, barred_in, barred_still, forced_alone, never_barred, unforced_alone}
 use Rattle.redo_shell.proofs.answers.force_answer.Goals as goal
@@ -43,3 +43,8 @@ returns-in-Err-clause-images g c = λ p commands holds told.
 
 pub returns-in-Err-clause-steps : goal.returns-in-Err-clause-steps
 returns-in-Err-clause-steps g c = λ told p w shows none. (c.force.ensures.alone (sym shows.group ∙ none)).2.takes.steps told p w shows
+
+pub returns-in-Ok-clause-attached : goal.returns-in-Ok-clause-attached
+returns-in-Ok-clause-attached g c = λ attached.
+    by_group c.args.engine.now.group (λ some. barred_attached g.M.Machine.disk c.args.machine.now c.force.new.machine c.args.engine.now c.force.new.self (Ok c.in-Ok.count) c.in-Ok.ensures.in_group some attached)
+    (λ none. still_attached (forced_alone c.in-Ok.count (c.in-Ok.ensures.alone none)).call (λ failed. failed) attached)

@@ -1,4 +1,4 @@
-use Rattle.std.proofs.Common.{refl}
+use Rattle.std.proofs.Common.{⊎_elim, refl}
 use Rattle.disk_model.specs.Moments.{stays_here}
 use Rattle.redo_shell.proofs.DemoPlayed.{demo_said}
 use Rattle.redo_shell.proofs.KeepLemmas.{keeps_none}
@@ -16,4 +16,10 @@ returns-in-Err-clause-demo g c = record {
   keeps = keeps_none (g.M.Machine.disk c.args.machine.now) (g.met.M.Machine.lawful c.args.machine.now);
   short = λ is. stays_here (g.M.Machine.disk c.args.machine.now) (g.met.M.Machine.lawful c.args.machine.now);
   totals = λ memory. absurd (memory refl);
+}
+
+pub returns-in-Ok-clause-faults : goal.returns-in-Ok-clause-faults
+returns-in-Ok-clause-faults g c = record {
+  disk = λ is. ⊎_elim (λ e. cc (is, e)) (λ e. cc (is, e)) c.end_with.ensures.status;
+  output = λ is. ⊎_elim (λ e. cc e) (λ e. e) (c.end_with.ensures.cause is);
 }

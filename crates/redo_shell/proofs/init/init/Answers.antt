@@ -1,7 +1,7 @@
 use Rattle.std.proofs.Common.{◌≡◌, ◌++◌, ◌∙◌, inl, List, ℕ, ap, refl, sym, subst}
 use Rattle.disk_model.specs.Disk.{Files, IsSettled}
 use Rattle.disk_model.specs.declared.machine.FileNo.TheVariants.{Objects}
-use Rattle.formats.specs.Image.{BeginsStore}
+use Rattle.formats.specs.Objects.{BeginsStore}
 use Rattle.restart.specs.Starts.{from_settled}
 use Rattle.redo_shell.specs.Notices.{already_a_store}
 use Rattle.redo_shell.specs.Store.{IsNew}

@@ -1,4 +1,5 @@
 use Rattle.std.proofs.Common.{◌∙◌, []}
+use Rattle.disk_model.specs.Moments.{passes_twice}
 use Rattle.redo_shell.proofs.HoldLemmas.{always, attached_said, stays_between}
 use Rattle.redo_shell.proofs.MomentLemmas.{works_still}
 use Rattle.redo_shell.proofs.RunLemmas.{works_none, found_value, found_none, found_said, stops_before}
@@ -27,3 +28,6 @@ returns-then-branch-clause-attached g c = λ attached. always c.say_answer.resul
 pub returns-clause-attached : goal.returns-clause-attached
 returns-clause-attached g c = λ attached. always c.say_answer-2.result
     (attached_said (g.M.Machine.disk c.fetched.new.machine) (g.M.Machine.disk c.say_answer-2.new.machine) c.fetched.new.engine c.say_answer-2.ensures.runs (c.in_ok-fetched.ensures.attached attached))
+
+pub returns-then-branch-clause-time : goal.returns-then-branch-clause-time
+returns-then-branch-clause-time g c = passes_twice (g.M.Machine.disk c.args.machine.now) (g.M.Machine.disk c.fetched.new.machine) (g.M.Machine.disk c.say_answer.new.machine) (g.met.M.Machine.lawful c.say_answer.new.machine) c.fetched.ensures.kept.time c.say_answer.ensures.runs.time

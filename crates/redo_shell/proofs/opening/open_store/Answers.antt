@@ -58,6 +58,9 @@ returns-in-Ok-clause-ready g c = (c.in-Ok.ensures.ready.0, c.in-Ok.ensures.ready
 pub returns-in-Ok-clause-settled : goal.returns-in-Ok-clause-settled
 returns-in-Ok-clause-settled g c = c.in-Ok.ensures.opening.settled
 
+pub returns-in-Ok-clause-quiet : goal.returns-in-Ok-clause-quiet
+returns-in-Ok-clause-quiet g c = λ told. c.restart.ensures.opening.quiet told
+
 pub returns-in-Ok-clause-read : goal.returns-in-Ok-clause-read
 returns-in-Ok-clause-read g c = λ told. (c.in-Ok.ensures.judged told).read
 

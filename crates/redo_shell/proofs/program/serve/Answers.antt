@@ -1,12 +1,24 @@
 use Rattle.std.proofs.Common.{sym, subst}
 use Rattle.command_words.specs.Words.{IsAllowed}
 use Rattle.redo_shell.specs.Demo.{IsOfDemo}
-use Rattle.redo_shell.specs.Status.{IsOfDump, IsOfInit}
+use Rattle.redo_shell.specs.Status.{IsOfDump, IsOfInit, IsOfUpgrade}
 use Rattle.redo_shell.proofs.CallLemmas.{call_for}
 use Rattle.redo_shell.proofs.program.serve.Goals as goal
 
 pub init-requires : goal.init-requires
 init-requires g c = subst IsAllowed c.in-Init.is c.requires
+
+pub upgrade-requires : goal.upgrade-requires
+upgrade-requires g c = subst IsAllowed c.in-Upgrade.is c.requires
+
+pub returns-in-Upgrade-clause-call : goal.returns-in-Upgrade-clause-call
+returns-in-Upgrade-clause-call g c = call_for _ _ _ _ _ _ (sym c.in-Upgrade.is) c.upgrade.ensures.call
+
+pub returns-in-Upgrade-clause-read_fault : goal.returns-in-Upgrade-clause-read_fault
+returns-in-Upgrade-clause-read_fault g c = λ is. absurd (subst IsOfUpgrade is c.upgrade.ensures.call.ends)
+
+pub returns-in-Upgrade-clause-too_long : goal.returns-in-Upgrade-clause-too_long
+returns-in-Upgrade-clause-too_long g c = λ told is. absurd (subst IsOfUpgrade is c.upgrade.ensures.call.ends)
 
 pub returns-in-Run-clause-call : goal.returns-in-Run-clause-call
 returns-in-Run-clause-call g c = call_for _ _ _ _ _ _ (sym c.in-Run.is) c.run.ensures.call

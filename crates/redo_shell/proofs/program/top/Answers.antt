@@ -1,7 +1,7 @@
 use Rattle.std.proofs.Common.{⊎_elim, inl, inr, subst, sym, refl, map, string_bytes}
 use Rattle.disk_model.specs.Moments.{stays_here}
 use Rattle.command_words.specs.Refusals.{IsRefusal}
-use Rattle.command_words.specs.declared.asked.Asked.TheVariants.{Init, Run, Dump, Demo}
+use Rattle.command_words.specs.declared.asked.Asked.TheVariants.{Init, Run, Dump, Demo, Upgrade}
 use Rattle.redo_shell.proofs.CallLemmas.{call_for, call_caused, call_exactly, call_goes_on, unread_goes_on}
 use Rattle.redo_shell.specs.Causes.{IsUnread}
 use Rattle.redo_shell.specs.declared.status.Status.TheVariants.{Memory}
@@ -26,6 +26,9 @@ returns-in-Ok-clause-dump g c = λ asks. inl (call_for _ _ _ _ _ _ (c.words_ask_
 pub returns-in-Ok-clause-init : goal.returns-in-Ok-clause-init
 returns-in-Ok-clause-init g c = λ p asks. inl (call_for _ _ _ _ _ _ (c.words_ask_one_thing.ensures (map string_bytes c.args.words.now) c.in-Ok.asked (Init p) c.in-Ok.ensures.ok asks) c.serve.ensures.call)
 
+pub returns-in-Ok-clause-upgrade : goal.returns-in-Ok-clause-upgrade
+returns-in-Ok-clause-upgrade g c = λ q asks. inl (call_for _ _ _ _ _ _ (c.words_ask_one_thing.ensures (map string_bytes c.args.words.now) c.in-Ok.asked (Upgrade q) c.in-Ok.ensures.ok asks) c.serve.ensures.call)
+
 pub returns-in-Ok-clause-demo : goal.returns-in-Ok-clause-demo
 returns-in-Ok-clause-demo g c = λ seed steps asks. inl (call_for _ _ _ _ _ _ (c.words_ask_one_thing.ensures (map string_bytes c.args.words.now) c.in-Ok.asked (Demo seed steps) c.in-Ok.ensures.ok asks) c.serve.ensures.call)
 
@@ -33,7 +36,7 @@ pub returns-in-Ok-clause-usage : goal.returns-in-Ok-clause-usage
 returns-in-Ok-clause-usage g c = λ none. absurd (none c.in-Ok.asked c.in-Ok.ensures.ok)
 
 pub returns-in-Ok-clause-cause : goal.returns-in-Ok-clause-cause
-returns-in-Ok-clause-cause g c = call_caused c.in-Ok.asked c.serve.ensures.call c.serve.ensures.faults c.serve.ensures.read_fault c.serve.ensures.too_long
+returns-in-Ok-clause-cause g c = call_caused c.in-Ok.asked c.serve.ensures.call c.serve.ensures.faults c.serve.ensures.read_fault c.serve.ensures.too_long c.in-Ok.ensures.ok
 
 pub returns-in-Ok-clause-exactly : goal.returns-in-Ok-clause-exactly
 returns-in-Ok-clause-exactly g c = call_exactly c.in-Ok.asked c.serve.ensures.call c.serve.ensures.faults c.serve.ensures.read_fault c.serve.ensures.too_long
@@ -42,7 +45,7 @@ returns-in-Ok-clause-exactly g c = call_exactly c.in-Ok.asked c.serve.ensures.ca
     (λ p commands opens. c.standing_files_meet_their_format.ensures.format p _ commands opens.stands)
 
 pub returns-in-Ok-clause-session : goal.returns-in-Ok-clause-session
-returns-in-Ok-clause-session g c = call_goes_on g.M.Machine.disk c.args.machine.now c.serve.new.machine (g.met.M.Machine.lawful c.args.machine.now)
+returns-in-Ok-clause-session g c = call_goes_on g.M.Machine.disk c.args.machine.now c.serve.new.machine (g.met.M.Machine.lawful c.args.machine.now) c.serve.ensures.time
     (λ other asks. call_for _ _ _ _ _ _ (c.words_ask_one_thing.ensures (map string_bytes c.args.words.now) c.in-Ok.asked other c.in-Ok.ensures.ok asks) c.serve.ensures.call)
 
 pub returns-in-Err-Refused-clause-images : goal.returns-in-Err-Refused-clause-images
@@ -56,6 +59,9 @@ returns-in-Err-Refused-clause-dump g c = λ asks. absurd (c.in-Err-Refused.ensur
 
 pub returns-in-Err-Refused-clause-init : goal.returns-in-Err-Refused-clause-init
 returns-in-Err-Refused-clause-init g c = λ p asks. absurd (c.in-Err-Refused.ensures.refused (subst IsRefusal (sym c.in-Err-Refused.field-0-is) tt) _ asks)
+
+pub returns-in-Err-Refused-clause-upgrade : goal.returns-in-Err-Refused-clause-upgrade
+returns-in-Err-Refused-clause-upgrade g c = λ q asks. absurd (c.in-Err-Refused.ensures.refused (subst IsRefusal (sym c.in-Err-Refused.field-0-is) tt) _ asks)
 
 pub returns-in-Err-Refused-clause-demo : goal.returns-in-Err-Refused-clause-demo
 returns-in-Err-Refused-clause-demo g c = λ seed steps asks. absurd (c.in-Err-Refused.ensures.refused (subst IsRefusal (sym c.in-Err-Refused.field-0-is) tt) _ asks)
@@ -90,14 +96,17 @@ returns-in-Err-Refused-clause-exactly g c = λ faultless. record {
   dumps = λ asks. absurd (c.in-Err-Refused.ensures.refused (subst IsRefusal (sym c.in-Err-Refused.field-0-is) tt) _ asks);
   init = λ p asks. absurd (c.in-Err-Refused.ensures.refused (subst IsRefusal (sym c.in-Err-Refused.field-0-is) tt) _ asks);
   demos = λ seed steps asks. absurd (c.in-Err-Refused.ensures.refused (subst IsRefusal (sym c.in-Err-Refused.field-0-is) tt) _ asks);
+  upgrades = λ q asks. absurd (c.in-Err-Refused.ensures.refused (subst IsRefusal (sym c.in-Err-Refused.field-0-is) tt) _ asks);
 }
 
 pub returns-in-Err-Refused-clause-session : goal.returns-in-Err-Refused-clause-session
 returns-in-Err-Refused-clause-session g c = record {
-  run = λ first next inits runs bytes asks. absurd (c.in-Err-Refused.ensures.refused (subst IsRefusal (sym c.in-Err-Refused.field-0-is) tt) _ asks);
+  time = c.end_with.ensures.runs.time;
+  run = λ first next sizes runs bytes asks. absurd (c.in-Err-Refused.ensures.refused (subst IsRefusal (sym c.in-Err-Refused.field-0-is) tt) _ asks);
   run_untold = λ asks. absurd (c.in-Err-Refused.ensures.refused (subst IsRefusal (sym c.in-Err-Refused.field-0-is) tt) _ asks);
-  init = λ p first next inits runs said asks. absurd (c.in-Err-Refused.ensures.refused (subst IsRefusal (sym c.in-Err-Refused.field-0-is) tt) _ asks);
-  dump = λ first next inits runs said asks. absurd (c.in-Err-Refused.ensures.refused (subst IsRefusal (sym c.in-Err-Refused.field-0-is) tt) _ asks);
+  init = λ p first next sizes runs said asks. absurd (c.in-Err-Refused.ensures.refused (subst IsRefusal (sym c.in-Err-Refused.field-0-is) tt) _ asks);
+  dump = λ first next sizes runs said asks. absurd (c.in-Err-Refused.ensures.refused (subst IsRefusal (sym c.in-Err-Refused.field-0-is) tt) _ asks);
+  upgrade = λ q first next sizes runs said asks. absurd (c.in-Err-Refused.ensures.refused (subst IsRefusal (sym c.in-Err-Refused.field-0-is) tt) _ asks);
 }
 
 pub returns-clause-demo : goal.returns-clause-demo
@@ -107,3 +116,6 @@ pub returns-clause-session : goal.returns-clause-session
 returns-clause-session g c =
     let unread : IsUnread (g.M.Machine.disk c.args.machine.now) (g.M.Machine.disk c.args.machine.now) Memory = record { ends = refl; stays = stays_here (g.M.Machine.disk c.args.machine.now) (g.met.M.Machine.lawful c.args.machine.now) } in
     unread_goes_on g.M.Machine.disk c.args.machine.now c.args.machine.now unread
+
+pub returns-clause-upgrade : goal.returns-clause-upgrade
+returns-clause-upgrade g c = λ q asks. inr (record { ends = refl; stays = stays_here (g.M.Machine.disk c.args.machine.now) (g.met.M.Machine.lawful c.args.machine.now) })

@@ -1,11 +1,14 @@
-use Rattle.redo_shell.proofs.LineLemmas.{as_command, as_request}
+use Rattle.redo_shell.proofs.LineLemmas.{as_request}
 use Rattle.redo_shell.proofs.work.Work.of.Goals as goal
 
 pub returns-in-Run : goal.returns-in-Run
-returns-in-Run c = λ bytes asks. as_command bytes c.plain_op.ensures (as_request bytes c.in-Run.is asks)
+returns-in-Run c = λ bytes asks. as_request bytes c.in-Run.is asks
 
 pub returns-in-AppRun : goal.returns-in-AppRun
 returns-in-AppRun c = λ bytes asks. as_request bytes c.in-AppRun.is asks
+
+pub returns-in-ProgramRun : goal.returns-in-ProgramRun
+returns-in-ProgramRun c = λ bytes asks. as_request bytes c.in-ProgramRun.is asks
 
 pub returns-in-TreeInsert : goal.returns-in-TreeInsert
 returns-in-TreeInsert c = λ bytes asks. as_request bytes c.in-TreeInsert.is asks
@@ -18,6 +21,15 @@ returns-in-TreeGet c = λ bytes asks. as_request bytes c.in-TreeGet.is asks
 
 pub returns-in-TreeRange : goal.returns-in-TreeRange
 returns-in-TreeRange c = λ bytes asks. as_request bytes c.in-TreeRange.is asks
+
+pub returns-in-HashPut : goal.returns-in-HashPut
+returns-in-HashPut c = λ bytes asks. as_request bytes c.in-HashPut.is asks
+
+pub returns-in-HashDelete : goal.returns-in-HashDelete
+returns-in-HashDelete c = λ bytes asks. as_request bytes c.in-HashDelete.is asks
+
+pub returns-in-HashGet : goal.returns-in-HashGet
+returns-in-HashGet c = λ bytes asks. as_request bytes c.in-HashGet.is asks
 
 pub returns-in-Get : goal.returns-in-Get
 returns-in-Get c = λ bytes asks. as_request bytes c.in-Get.is asks

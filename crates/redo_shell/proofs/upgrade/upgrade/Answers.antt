@@ -1,0 +1,82 @@
+use Rattle.std.proofs.Common.{◌++◌, ◌∙◌, inl, List, ℕ, ap, arith}
+use Rattle.disk_model.specs.Moments.{passes_twice}
+use Rattle.store_engine.specs.Upgrading.{IsSecond}
+use Rattle.redo_shell.specs.Causes.{IsCutStore}
+use Rattle.redo_shell.specs.Notices.{already_version_two, damaged, smaller}
+use Rattle.redo_shell.proofs.HoldLemmas.{rises_within}
+use Rattle.redo_shell.proofs.UpgradeLemmas.{cut_store, in_between, judged_whole, unopened_upgrade, upgrade_images, upgrade_settled, upgrade_unopened}
+use Rattle.redo_shell.proofs.upgrade.upgrade.Goals as goal
+
+pub returns-in-Ok-clause-time : goal.returns-in-Ok-clause-time
+returns-in-Ok-clause-time g c = passes_twice (g.M.Machine.disk c.args.machine.now) (g.M.Machine.disk c.open_store.new.machine) (g.M.Machine.disk c.upgrade_open.new.machine) (g.met.M.Machine.lawful c.upgrade_open.new.machine) c.open_store.ensures.time c.upgrade_open.ensures.time
+
+pub returns-in-Ok-clause-call : goal.returns-in-Ok-clause-call
+returns-in-Ok-clause-call g c =
+    let old = (g.M.Machine.disk c.args.machine.now) in
+    let mid = (g.M.Machine.disk c.open_store.new.machine) in
+    let new = (g.M.Machine.disk c.upgrade_open.new.machine) in
+    let attached = c.in-Ok.ensures.ready.1 in
+    let lawful = g.met.M.Machine.lawful c.open_store.new.machine in
+    let first = c.open_store.ensures.time in
+    let second = c.upgrade_open.ensures.time in
+    record {
+      stands = λ p commands opens.
+          let opened = c.in-Ok.ensures.ok p commands opens in
+          let files = c.open_store.ensures.opens p commands opens in
+          let holds = (opened.shows files.first.0 files.first.1).0 in
+          let told_mid = first.files_told.0 opens.told in
+          let images = upgrade_images p c.args.params commands old mid new files first (c.upgrade_open.ensures.images p commands holds opened.all) in
+          record {
+            images = images;
+            from_settled = upgrade_settled p c.args.params commands old new (g.met.M.Machine.lawful c.args.machine.now) opens images;
+            stands = λ disk memory. c.upgrade_open.ensures.stands p commands holds opened.all;
+            done = λ is. (c.upgrade_open.ensures.done p commands holds opened.all is).0;
+            quiet = λ is. (c.upgrade_open.ensures.done p commands holds opened.all is).2 ∙ files.quiet;
+            larger = λ is. (c.upgrade_open.ensures.done p commands holds opened.all is).1;
+            smaller = λ is.
+                let said = c.upgrade_open.ensures.smaller p commands holds is in
+                (said.0, said.1 ∙ ap (λ (l : List ℕ). l ++ smaller p.objects p.cap) files.quiet);
+            already = λ is.
+                let said = c.upgrade_open.ensures.already told_mid attached is in
+                (in_between IsSecond old mid new lawful first second said.0, said.1 ∙ ap (λ (l : List ℕ). l ++ already_version_two) files.quiet);
+            first = λ is. in_between (λ files. IsSecond files → ⊥) old mid new lawful first second (λ version. c.upgrade_open.ensures.first told_mid attached is version);
+            idle = λ is. c.upgrade_open.ensures.idle p commands holds opened.all is;
+            store = c.upgrade_open.ensures.status.1;
+          };
+      ends = c.upgrade_open.ensures.status.0;
+      judged = λ told.
+          let told_mid = first.files_told.0 told in
+          judged_whole c.upgrade_open.result (c.in-Ok.ensures.read told) c.upgrade_open.ensures.status.1
+          (λ is.
+          let said = c.upgrade_open.ensures.damaged told_mid attached is in
+          record {
+            whole = c.in-Ok.ensures.read told;
+            cut = in_between IsCutStore old mid new lawful first second (cut_store mid c.in-Ok.engine told_mid attached said.0);
+            file = said.1.0;
+            place = said.1.1;
+            said = said.1.2 ∙ ap (λ (l : List ℕ). l ++ damaged said.1.0 said.1.1) (c.in-Ok.ensures.quiet told);
+          });
+    }
+
+pub returns-in-Ok-clause-faults : goal.returns-in-Ok-clause-faults
+returns-in-Ok-clause-faults g c = record {
+  disk = λ is. rises_within _ _ _ _ c.open_store.ensures.time.disk_faults (omega arith) (c.upgrade_open.ensures.faults.disk is);
+  output = λ is. rises_within _ _ _ _ c.open_store.ensures.time.say_faults (omega arith) (c.upgrade_open.ensures.faults.output is);
+}
+
+pub returns-in-Err-clause-call : goal.returns-in-Err-clause-call
+returns-in-Err-clause-call g c =
+    let old = (g.M.Machine.disk c.args.machine.now) in
+    let mid = (g.M.Machine.disk c.open_store.new.machine) in
+    let unopened = c.in-Err.ensures.unopened in
+    record {
+      stands = λ p commands opens.
+          let files = c.open_store.ensures.opens p commands opens in
+          let image = c.standing_files_meet_their_format.ensures.format p _ commands opens.stands in
+          upgrade_unopened p c.args.params commands old mid c.in-Err.status (g.met.M.Machine.lawful c.args.machine.now) opens files unopened.ends ((unopened.judged opens.told).store image) (unopened.quiet opens.told image);
+      ends = unopened_upgrade c.in-Err.status unopened.ends;
+      judged = λ told. inl (unopened.judged told);
+    }
+
+pub returns-in-Err-clause-faults : goal.returns-in-Err-clause-faults
+returns-in-Err-clause-faults g c = c.in-Err.ensures.unopened.faults
