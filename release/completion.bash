@@ -5,7 +5,7 @@ _redo() {
   if [ "$COMP_CWORD" = 2 ] && [ "$at" = 3 ]; then
     mapfile -t COMPREPLY < <(compgen -d -- "$word")
   elif [ "$COMP_CWORD" = "$at" ]; then
-    mapfile -t COMPREPLY < <(compgen -W "init run dump demo help --version --help -C" -- "$word")
+    mapfile -t COMPREPLY < <(compgen -W "init run dump demo upgrade help --version --help -C" -- "$word")
   elif [ "${COMP_WORDS[at]}" = demo ]; then
     mapfile -t COMPREPLY < <(compgen -W "--seed --steps --help" -- "$word")
   fi
