@@ -151,7 +151,7 @@ fn other_bytes_are_no_record(rt: HostRuntime) -> Result<(), Fail> {
 }
 
 // A settled machine with a new log.
-fn new_store(alloc: Global) -> Result<MemMachine, Fail> {
+pub fn new_store(alloc: Global) -> Result<MemMachine, Fail> {
     let mut machine = MemMachine::new(alloc, [64, 512, 512], 64, 1024, Vec::new(alloc))?;
     RecordLog::<PlainOp>::create(&mut machine)?;
     Ok(machine.crash(Crash::New))

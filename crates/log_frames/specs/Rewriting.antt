@@ -30,6 +30,10 @@ pub record IsPassiveOrNew (m : Disk) (file : FileNo) (epoch : ℕ) (header : Hea
 abbrev pub next_header : LogView → ℕ → ℕ → Header
 next_header log base commands = record { epoch = log.header.epoch + 1; base = base; commands = commands }
 
+-- the header of the second log of a store
+abbrev pub second_header : ℕ → ℕ → Header
+second_header base commands = record { epoch = 2; base = base; commands = commands }
+
 -- a log file after its rewrite
 abbrev pub rewritten : LogView → ℕ → ℕ → List (List ℕ) → LogView
 rewritten log base commands payloads = record {

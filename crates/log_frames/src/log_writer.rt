@@ -1,14 +1,15 @@
 // Writes a new log piece by piece.
 ghost use Rattle.std.specs.Prelude.{◌≡◌, ◌<◌, ◌≤◌, ◌+◌, ◌^◌, ◌∷◌, ◌++◌, [], List, ℕ, IfOk, IsErr, OnErr, OnOk, length, take};
 ghost use Rattle.byteorder.specs.Endian.{little_bytes};
-ghost use Rattle.disk_model.specs.Disk.{In, IsSettledIn, Rises, Runs, Same};
+ghost use Rattle.disk_model.specs.Disk.{HoldsAt, In, IsSettledIn, Rises, Runs, Same, Torn};
 ghost use Rattle.formats.specs.Log.{Header as Fields, blocks, IsClosedLog};
 ghost use Rattle.log_frames.specs.Reading.{header_of};
-ghost use Rattle.log_frames.specs.Rewriting.{IsPrepared, KeepsClosed};
+ghost use Rattle.log_frames.specs.Rewriting.{IsPrepared, KeepsClosed, second_header};
 ghost use Rattle.log_frames.specs.Writing.{HasPut, HasPutLog, put_of};
 
+use crate::creating::close;
 use crate::header::Header;
-use crate::layout::CLOSED;
+use crate::layout::{CLOSED, OPEN};
 use crate::rewriting::{block_head, fields_of};
 use disk_model::{Failed, FileNo, Machine};
 use std::alloc::{AllocError, Global};
@@ -152,6 +153,41 @@ impl LogWriter {
         Ok(())
     }
 
+    /// Closes the header gate of its file where it is open, and writes a first byte where there is none.
+    pub fn close_header<M: Machine>(&self, machine: &mut M) -> Result<(), Failed>
+        ensures runs { Runs (In self.now.file (Torn 0 1)) Same (M.disk machine.old) (M.disk machine.new) }
+        ensures closed { (M.disk machine.old).tells_files → OnOk result (IsClosedLog ((M.disk machine.new).reads self.now.file)) }
+        ensures cause { IsErr result → Rises (M.disk machine.old).disk_faults (M.disk machine.new).disk_faults }
+    {
+        close(machine, self.file)?;
+        Ok(())
+    }
+
+    /// Begins the second log of a store, which has this base and so many commands before it: what was put then are its header,
+    /// behind a closed gate, and nothing after it.
+    pub fn begin_second<M: Machine>(
+        &mut self,
+        machine: &mut M,
+        base: u64,
+        commands: u64,
+    ) -> Result<(), Failed>
+        requires { self.old ≡ record { file = self.old.file; place = 1; bytes = [] } }
+        ensures runs { Runs (In self.old.file KeepsClosed) Same (M.disk machine.old) (M.disk machine.new) }
+        ensures file { self.new.file ≡ self.old.file }
+        ensures begun { (M.disk machine.old).tells_files → IsClosedLog ((M.disk machine.old).reads self.old.file)
+            → OnOk result (HasPutLog (M.disk machine.new) self.new (second_header base commands) []) }
+        ensures end { OnOk result (put_of self.new ≡ 33) }
+        ensures cause { IsErr result → Rises (M.disk machine.old).disk_faults (M.disk machine.new).disk_faults }
+    {
+        let header = Header {
+            epoch: 2,
+            base,
+            commands,
+        };
+        self.begin(machine, header)?;
+        Ok(())
+    }
+
     /// Begins a block of so many bytes, which are put next.
     pub fn begin_block<M: Machine>(&mut self, machine: &mut M, len: u32) -> Result<(), Failed>
         requires fits { put_of self.old + 5 < 2 ^ 63 }
@@ -179,6 +215,18 @@ impl LogWriter {
     {
         self.put(machine, &[CLOSED])?;
         self.write_out(machine)?;
+        machine.sync(self.file)?;
+        Ok(())
+    }
+
+    /// Opens the header gate of a log that is finished: from then on it counts.
+    pub fn open_header<M: Machine>(&self, machine: &mut M) -> Result<(), Failed>
+        ensures runs { Runs (In self.now.file (Torn 0 1)) Same (M.disk machine.old) (M.disk machine.new) }
+        ensures opened { (M.disk machine.old).tells_files → OnOk result (In self.now.file (HoldsAt 0 (1 ∷ [])) (M.disk machine.old).reads (M.disk machine.new).reads) }
+        ensures settled { OnOk result (IsSettledIn self.now.file (M.disk machine.new)) }
+        ensures cause { IsErr result → Rises (M.disk machine.old).disk_faults (M.disk machine.new).disk_faults }
+    {
+        machine.write_at(self.file, 0, &[OPEN])?;
         machine.sync(self.file)?;
         Ok(())
     }

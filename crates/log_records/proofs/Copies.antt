@@ -1,5 +1,6 @@
 -- How far the records of a log are put into a new one.
-use Rattle.std.proofs.Common.{◌≡◌, ◌≢◌, ◌+◌, ◌-◌, ◌<◌, ◌≤◌, ℕ, List, [], ◌∷◌, ◌++◌, length, map, refl, sym, ap, ◌∙◌, subst, arith, append_assoc, length-append}
+use Rattle.std.proofs.Common.{◌≡◌, ◌≢◌, ◌+◌, ◌-◌, ◌<◌, ◌≤◌, ◌↔◌, ℕ, Bool, true, false, IsTrue, List, [], ◌∷◌, ◌++◌, length, map, refl, sym, ap, ◌∙◌, subst, arith, append_assoc, length-append}
+use Rattle.std.proofs.lemmas.Bool.{both_ways}
 use Rattle.std.proofs.lemmas.List.{append-nil, drop_all, length-drop, map-append}
 use Rattle.std.proofs.lemmas.List.Elements.{filter-append}
 use Rattle.byteorder.specs.Endian.{little_bytes}
@@ -9,12 +10,13 @@ use Rattle.disk_model.specs.declared.machine.FileNo.{FileNo}
 use Rattle.oper_core.specs.Meaning.{Meaning}
 use Rattle.formats.specs.Log.{Header, blocks, header_fields, IsWholeLog}
 use Rattle.formats.specs.Records.{record_code, payload_of, AreRecords, IsRecordLog, records_of}
+use Rattle.formats.specs.Reading.{FailsBy}
 use Rattle.formats.specs.declared.record.Record.{Record}
 use Rattle.log_frames.specs.LogView.{LogView}
 use Rattle.log_frames.specs.Rewriting.{IsFront, KeepsClosed}
 use Rattle.log_frames.specs.Writing.{LogWriterView, HasPut, HasPutLog, put_of}
 use Rattle.log_records.specs.CodecLaws.{HasCodes}
-use Rattle.log_records.specs.Copying.{HasCopied, IsLaid, IsPlanned, later_of}
+use Rattle.log_records.specs.Copying.{HasCopied, HasFilled, IsFilled, IsLaid, IsPlanned, PutFails, later_of, read_from_put}
 use Rattle.log_records.specs.Laying.{Fits, codes_of, laid, room_of}
 use Rattle.log_records.specs.Loading.{IsTailFault}
 use Rattle.log_records.specs.Measuring.{block_lengths}
@@ -24,6 +26,8 @@ use Rattle.log_records.specs.Rewriting.{code_lengths, in_full_blocks, is_numbere
 use Rattle.log_records.specs.Uniqueness.{first_records, one_grouping}
 use Rattle.log_records.specs.declared.blocks_left.BlocksLeft.{BlocksLeft}
 use Rattle.log_records.specs.declared.new_log.NewLog.{NewLog}
+use Rattle.log_records.specs.declared.put_err.PutErr.{PutErr}
+use Rattle.log_records.specs.declared.put_err.PutErr.TheVariants.{DiskFault, Memory}
 use Rattle.log_records.proofs.Laid.{are_laid, fits_behind, fits_first, laid_behind, laid_first}
 
 -- what was put is not changed by calls that change no file
@@ -112,6 +116,11 @@ rises_since old mid new less rises small = let later = rises small in omega (ari
 pub rises_until : (old mid new : Disk) → mid.disk_faults ≤ new.disk_faults → Rises old.disk_faults mid.disk_faults → Rises old.disk_faults new.disk_faults
 rises_until old mid new less rises small = let earlier = rises (omega (arith, less, small)) in omega (arith, earlier, less)
 
+-- a record that was not put
+pub put_fails : (rises rises' : Type 0) (fault : FileNo → ℕ → Type 0) (e : PutErr) → (rises → rises') → PutFails rises e → FailsBy rises' fault (read_from_put e)
+put_fails rises rises' fault DiskFault risen fails = risen fails
+put_fails rises rises' fault Memory risen fails = tt
+
 -- a file that may have been another before the run, in which the others stayed
 pub beside : {change : List ℕ → List ℕ → Type 0} (old new : Disk) (file : FileNo) → Runs (In file change) Same old new → (now : Files) → new.agrees now → (was : Files) × old.agrees was × OthersStay file was now
 beside old new file run now agrees = let was = run.agreed now agrees in (was.0, was.1, was.2.others)
@@ -188,8 +197,8 @@ module _ {O : Type 0} (m : Meaning O) where
       so.records_are ∙ one_grouping m codes base base base base so.groups groups (subst (λ (l : List (Record O)). AreRecords m base base l) so.records_are all.placed) holds.placed (sym so.payloads_are)
 
   -- what was planned stays so where another file alone has changed
-  pub planned_beside : {change : List ℕ → List ℕ → Type 0} (old new : Disk) (file : FileNo) (log : LogView) (base : ℕ) (check : Record O) (it : NewLog) → log.active ≢ file → Runs (In file change) Same old new → IsPlanned m old log base check it → IsPlanned m new log base check it
-  planned_beside old new file log base check it apart run is = record {
+  pub planned_beside : {change : List ℕ → List ℕ → Type 0} (old new : Disk) (file : FileNo) (log : LogView) (base : ℕ) (more : List (Record O)) (it : NewLog) → log.active ≢ file → Runs (In file change) Same old new → IsPlanned m old log base more it → IsPlanned m new log base more it
+  planned_beside old new file log base more it apart run is = record {
     records = is.records;
     all = all_beside old new file log is.records apart run is.all;
     commands = is.commands;
@@ -197,77 +206,88 @@ module _ {O : Type 0} (m : Meaning O) where
     short = is.short;
   }
 
-  module _ (d : Disk) (log : LogView) (base : ℕ) (check : Record O) (it : NewLog) (is : IsPlanned m d log base check it) where
+  -- the codes of records, and of some more
+  codes_are : (records more : List (Record O)) → codes_of m (records ++ more) ≡ codes_of m records ++ codes_of m more
+  codes_are records more = map-append (record_code m) records more
+
+  -- with a check there are some
+  pub some_with : (records : List (Record O)) (r : Record O) → 0 < length (records ++ r ∷ [])
+  some_with records r = omega (arith, length-append records (r ∷ []))
+
+  module _ (d : Disk) (log : LogView) (base : ℕ) (more : List (Record O)) (it : NewLog) (is : IsPlanned m d log base more it) (some : 0 < length (numbered_from base is.records ++ more)) where
     abbrev kept : List (Record O)
     kept = numbered_from base is.records
 
-    codes_are : codes_of m (kept ++ check ∷ []) ≡ codes_of m kept ++ record_code m check ∷ []
-    codes_are = map-append _ kept (check ∷ [])
-
-    some_kept : 0 < length (kept ++ check ∷ [])
-    some_kept = omega (arith, length-append kept (check ∷ []))
-
     -- its records have room in its blocks
-    pub planned_fits : Fits 0 it.lengths.items (codes_of m kept ++ record_code m check ∷ [])
-    planned_fits = subst (λ (l : List ℕ). Fits 0 l (codes_of m kept ++ record_code m check ∷ [])) (sym is.lengths)
-        (subst (Fits 0 (block_lengths 0 (code_lengths m (kept ++ check ∷ [])))) codes_are (are_laid m (kept ++ check ∷ []) some_kept is.short).fits)
+    pub planned_fits : Fits 0 it.lengths.items (codes_of m kept ++ codes_of m more)
+    planned_fits = subst (λ (l : List ℕ). Fits 0 l (codes_of m kept ++ codes_of m more)) (sym is.lengths)
+        (subst (Fits 0 (block_lengths 0 (code_lengths m (kept ++ more)))) (codes_are kept more) (are_laid m (kept ++ more) some is.short).fits)
 
     -- and are laid there as the new log's payloads are
     pub planned_laid : (records : List (Record O)) → is.records ≡ records
-        → laid 0 it.lengths.items (codes_of m (numbered_from base records ++ check ∷ [])) ≡ blocks (map (payload_of m) (in_full_blocks m (numbered_from base records ++ check ∷ [])))
-    planned_laid records same = subst (λ (l : List (Record O)). laid 0 it.lengths.items (codes_of m (numbered_from base l ++ check ∷ [])) ≡ blocks (map (payload_of m) (in_full_blocks m (numbered_from base l ++ check ∷ [])))) same
-        (ap (λ (l : List ℕ). laid 0 l (codes_of m (kept ++ check ∷ []))) is.lengths ∙ (are_laid m (kept ++ check ∷ []) some_kept is.short).laid_are)
+        → laid 0 it.lengths.items (codes_of m (numbered_from base records ++ more)) ≡ blocks (map (payload_of m) (in_full_blocks m (numbered_from base records ++ more)))
+    planned_laid records same = subst (λ (l : List (Record O)). laid 0 it.lengths.items (codes_of m (numbered_from base l ++ more)) ≡ blocks (map (payload_of m) (in_full_blocks m (numbered_from base l ++ more)))) same
+        (ap (λ (l : List ℕ). laid 0 l (codes_of m (kept ++ more))) is.lengths ∙ (are_laid m (kept ++ more) some is.short).laid_are)
 
   -- all were put, and the blocks are full
-  pub has_copied : (old one new : Disk) (log : LogView) (base : ℕ) (check : Record O) (lengths : List ℕ) (out out' out'' : LogWriterView) (blocks blocks' blocks'' : BlocksLeft) (records : List (Record O))
-      → blocks.left ≡ 0 → later_of blocks ≡ lengths → (old.tells_files → one.tells_files) → AreAll m new log records → IsLaid old one out out' blocks blocks' (codes_of m (numbered_from base records))
-      → IsLaid one new out' out'' blocks' blocks'' (record_code m check ∷ []) → blocks''.left ≡ 0 → length blocks''.lengths.items ≤ blocks''.next → HasCopied m old new log base check lengths out out''
-  has_copied old one new log base check lengths out out' out'' blocks blocks' blocks'' records none lengths_are tells all first second full no_more =
+  pub has_copied : (d old one new : Disk) (log : LogView) (base : ℕ) (more : List (Record O)) (lengths : List ℕ) (out out' out'' : LogWriterView) (blocks blocks' : BlocksLeft) (records : List (Record O))
+      → blocks.left ≡ 0 → later_of blocks ≡ lengths → (old.tells_files → one.tells_files) → AreAll m d log records → IsLaid old one out out' blocks blocks' (codes_of m (numbered_from base records))
+      → IsFilled one new out' out'' blocks' (codes_of m more) → HasCopied m d old new log base more lengths out out''
+  has_copied d old one new log base more lengths out out' out'' blocks blocks' records none lengths_are tells all first last =
       let kept = numbered_from base records in
-      let both = laid_then old one new out out' out'' blocks blocks' blocks'' (codes_of m kept) (record_code m check ∷ []) tells first second in
-      let codes : codes_of m (kept ++ check ∷ []) ≡ codes_of m kept ++ record_code m check ∷ [] = map-append _ kept (check ∷ []) in
-      let later : later_of blocks'' ≡ [] = drop_all blocks''.next blocks''.lengths.items no_more in
-      let bytes : laid 0 lengths (codes_of m (kept ++ check ∷ [])) ≡ both.bytes =
-      (λ i. laid (sym none i) (sym lengths_are i) ((codes ∙ sym (append-nil (codes_of m kept ++ record_code m check ∷ []))) i)) ∙ both.laid_are [] ∙ append-nil both.bytes in
+      let behind = laid blocks'.left (later_of blocks') (codes_of m more) in
+      let bytes : laid 0 lengths (codes_of m (kept ++ more)) ≡ first.bytes ++ behind = (λ i. laid (sym none i) (sym lengths_are i) (codes_are kept more i)) ∙ first.laid_are (codes_of m more) in
       record {
         records = records;
         all = all;
-        put = λ told front has. subst (λ (l : List ℕ). HasPut new out'' (front ++ l)) (sym bytes) (both.put told front has);
-        end = omega (arith, both.end, full, none, ap room_of later, ap room_of lengths_are);
+        put = λ told front has. subst (λ (l : List ℕ). HasPut new out'' l) (append_assoc front first.bytes behind ∙ ap (λ (l : List ℕ). front ++ l) (sym bytes))
+            (last.put (tells told) (front ++ first.bytes) (first.put told front has));
+        end = omega (arith, last.end, first.end, none, ap room_of lengths_are);
       }
 
-  -- the check has no room, or some block is not full: the log reads otherwise than when it was measured
-  module _ (codes : HasCodes m) (old one now : Disk) (log : LogView) (base : ℕ) (check : Record O) (it : NewLog) (out out' : LogWriterView) (blocks blocks' : BlocksLeft) (records : List (Record O)) (planned : IsPlanned m now log base check it)
-      (none : blocks.left ≡ 0) (lengths_are : later_of blocks ≡ it.lengths.items) (all : AreAll m now log records) (put : IsLaid old one out out' blocks blocks' (codes_of m (numbered_from base records))) where
-    has_room_still : (files : Files) (payloads : List (List ℕ)) → now.agrees files → IsWholeLog log.header payloads (files log.active) → Fits blocks'.left (later_of blocks') (record_code m check ∷ [])
-    has_room_still files payloads agree whole =
+  -- the last records have no room, or leave room: the log reads otherwise than when it was measured
+  pub not_filled : HasCodes m → (old one now : Disk) (log : LogView) (base : ℕ) (more : List (Record O)) (it : NewLog) (out out' : LogWriterView) (blocks blocks' : BlocksLeft) (records : List (Record O)) (planned : IsPlanned m now log base more it)
+      → 0 < length (numbered_from base planned.records ++ more) → blocks.left ≡ 0 → later_of blocks ≡ it.lengths.items → AreAll m now log records → IsLaid old one out out' blocks blocks' (codes_of m (numbered_from base records))
+      → (Fits blocks'.left (later_of blocks') (codes_of m more) → ⊥) → (place : ℕ) → IsTailFault m now log log.active place
+  not_filled codes old one now log base more it out out' blocks blocks' records planned some none lengths_are all put never place = (
+    refl,
+    λ files agree payloads whole.
         let same = all_same codes now log planned.records records files payloads planned.all all agree whole in
-        put.fits (record_code m check ∷ []) (subst (λ (k : ℕ). Fits k (later_of blocks) (codes_of m (numbered_from base records) ++ record_code m check ∷ [])) (sym none)
-        (subst (λ (l : List ℕ). Fits 0 l (codes_of m (numbered_from base records) ++ record_code m check ∷ [])) (sym lengths_are)
-        (subst (λ (l : List (Record O)). Fits 0 it.lengths.items (codes_of m (numbered_from base l) ++ record_code m check ∷ [])) same (planned_fits now log base check it planned))))
-
-    pub no_room_for_check : ((rest : List (List ℕ)) → Fits blocks'.left (later_of blocks') ((record_code m check ∷ []) ++ rest) → ⊥) → (place : ℕ) → IsTailFault m now log log.active place
-    no_room_for_check full place = (refl, λ files agree payloads whole. absurd (full [] (has_room_still files payloads agree whole)))
-
-    pub not_full : (two : Disk) (out'' : LogWriterView) (blocks'' : BlocksLeft) → IsLaid one two out' out'' blocks' blocks'' (record_code m check ∷ []) → ((blocks''.left ≡ 0) × (length blocks''.lengths.items ≤ blocks''.next) → ⊥) → (place : ℕ) → IsTailFault m now log log.active place
-    not_full two out'' blocks'' last open_still place = (
-      refl,
-      λ files agree payloads whole.
-          let ends = last.fits [] (has_room_still files payloads agree whole) in
-          absurd (open_still (ends.0, omega (arith, ap length ends.1, length-drop blocks''.next blocks''.lengths.items))),
-    )
+        absurd (never (put.fits (codes_of m more) (subst (λ (k : ℕ). Fits k (later_of blocks) (codes_of m (numbered_from base records) ++ codes_of m more)) (sym none)
+        (subst (λ (l : List ℕ). Fits 0 l (codes_of m (numbered_from base records) ++ codes_of m more)) (sym lengths_are)
+        (subst (λ (l : List (Record O)). Fits 0 it.lengths.items (codes_of m (numbered_from base l) ++ codes_of m more)) same (planned_fits now log base more it planned some)))))),
+  )
 
   -- the new log is put, but for its header gate and the closed gate after it
-  pub put_log : HasCodes m → (one two : Disk) (log : LogView) (base : ℕ) (check : Record O) (it : NewLog) (out out' : LogWriterView) (header : Header) (groups : List (List (Record O))) → one.tells_files → two.agrees two.reads
-      → IsRecordLog m log.header groups (two.reads log.active) → IsPlanned m two log base check it → HasPutLog one out header [] → HasCopied m one two log base check it.lengths.items out out'
-      → HasPutLog two out' header (blocks (map (payload_of m) (in_full_blocks m (numbered_from base (records_of groups) ++ check ∷ []))))
-  put_log codes one two log base check it out out' header groups told agree holds planned begun copied =
-      let copied_are = all_of_groups codes two log copied.records groups two.reads copied.all agree holds in
-      let planned_are = all_of_groups codes two log planned.records groups two.reads planned.all agree holds in
-      let bytes : laid 0 it.lengths.items (codes_of m (numbered_from base copied.records ++ check ∷ [])) ≡ blocks (map (payload_of m) (in_full_blocks m (numbered_from base (records_of groups) ++ check ∷ []))) =
-      ap (λ (l : List (Record O)). laid 0 it.lengths.items (codes_of m (numbered_from base l ++ check ∷ []))) copied_are ∙ planned_laid two log base check it planned (records_of groups) planned_are in
+  pub put_log : HasCodes m → (d one two : Disk) (log : LogView) (base : ℕ) (more : List (Record O)) (it : NewLog) (out out' : LogWriterView) (header : Header) (groups : List (List (Record O))) → one.tells_files → d.agrees d.reads
+      → IsRecordLog m log.header groups (d.reads log.active) → (planned : IsPlanned m d log base more it) → 0 < length (numbered_from base planned.records ++ more) → HasPutLog one out header [] → HasCopied m d one two log base more it.lengths.items out out'
+      → HasPutLog two out' header (blocks (map (payload_of m) (in_full_blocks m (numbered_from base (records_of groups) ++ more))))
+  put_log codes d one two log base more it out out' header groups told agree holds planned some begun copied =
+      let copied_are = all_of_groups codes d log copied.records groups d.reads copied.all agree holds in
+      let planned_are = all_of_groups codes d log planned.records groups d.reads planned.all agree holds in
+      let bytes : laid 0 it.lengths.items (codes_of m (numbered_from base copied.records ++ more)) ≡ blocks (map (payload_of m) (in_full_blocks m (numbered_from base (records_of groups) ++ more))) =
+      ap (λ (l : List (Record O)). laid 0 it.lengths.items (codes_of m (numbered_from base l ++ more))) copied_are ∙ planned_laid d log base more it planned some (records_of groups) planned_are in
       record {
         gate = begun.gate;
         closed = begun.closed;
         has = subst (λ (l : List ℕ). HasPut two out' l) (λ i. begun.gate ∷ (append-nil (header_fields header) i ++ bytes i)) (copied.put told (begun.gate ∷ (header_fields header ++ [])) begun.has);
       }
+
+-- whether the blocks are full once codes were put
+pub filled_or_not : (old new : Disk) (out out' : LogWriterView) (blocks blocks' : BlocksLeft) (codes : List (List ℕ)) (full : Bool) → IsLaid old new out out' blocks blocks' codes
+    → (IsTrue full ↔ ((blocks'.left ≡ 0) × (length blocks'.lengths.items ≤ blocks'.next))) → HasFilled old new out out' blocks codes full
+filled_or_not old new out out' blocks blocks' codes true put says =
+    let ends = says.0 refl in
+    let later : later_of blocks' ≡ [] = drop_all blocks'.next blocks'.lengths.items ends.1 in
+    let bytes : laid blocks.left (later_of blocks) codes ≡ put.bytes = ap (laid blocks.left (later_of blocks)) (sym (append-nil codes)) ∙ put.laid_are [] ∙ append-nil put.bytes in
+    record {
+      put = λ told front has. subst (λ (l : List ℕ). HasPut new out' (front ++ l)) (sym bytes) (put.put told front has);
+      end = omega (arith, put.end, ends.0, ap room_of later);
+    }
+filled_or_not old new out out' blocks blocks' codes false put says = λ fits.
+    let ends = put.fits [] (subst (Fits blocks.left (later_of blocks)) (sym (append-nil codes)) fits) in
+    absurd (both_ways false refl (says.1 (ends.0, omega (arith, ap length ends.1, length-drop blocks'.next blocks'.lengths.items))))
+
+-- codes that have no room do not fill the blocks
+pub no_room_for : (blocks : BlocksLeft) (codes : List (List ℕ)) → ((rest : List (List ℕ)) → Fits blocks.left (later_of blocks) (codes ++ rest) → ⊥) → Fits blocks.left (later_of blocks) codes → ⊥
+no_room_for blocks codes never fits = never [] (subst (Fits blocks.left (later_of blocks)) (sym (append-nil codes)) fits)

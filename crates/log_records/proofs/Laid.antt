@@ -56,7 +56,7 @@ drop_next xs i within =
     drop-cons xs i 0 within ∙ ap (λ (k : ℕ). slice_index xs i ∷ drop k xs) more
 
 module _ {O : Type 0} (m : Meaning O) where
-  code_some : (r : Record O) → 0 < length (record_code m r)
+  pub code_some : (r : Record O) → 0 < length (record_code m r)
   code_some (Command number op) = omega arith
   code_some (Identity number x value) = omega arith
   code_some (Check table) = omega arith

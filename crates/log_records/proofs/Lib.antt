@@ -7,6 +7,9 @@ mod Appended
 mod Measures
 mod Laid
 mod Copies
+mod CopyingAll
+mod LogCopies
+mod Blocks
 mod Numbered
 mod NumberedReading
 mod Rewrites

@@ -16,6 +16,7 @@ use Rattle.log_records.specs.RecordLaws.{count-append}
 use Rattle.log_records.specs.RecordLog.{counts}
 use Rattle.log_records.specs.Rewriting.{code_lengths, is_numbered_from, left_out, numbered_from, rewritten_records}
 use Rattle.log_records.specs.declared.measured.Measured.{Measured}
+use Rattle.log_records.proofs.Laid.{code_some}
 
 module _ {O : Type 0} (m : Meaning O) (base : ℕ) (records : List (Record O)) (r : Record O) (old new : Measured) (was : IsMeasured m base records old) where
   abbrev all : List (Record O)
@@ -25,9 +26,9 @@ module _ {O : Type 0} (m : Meaning O) (base : ℕ) (records : List (Record O)) (
   n = length (record_code m r)
 
   -- one that goes into a block
-  pub measured_kept : is_numbered_from base r ≡ true → new.commands ≡ old.commands → new.filled ≤ 2 ^ 30
+  pub measured_kept : is_numbered_from base r ≡ true → new.commands ≡ old.commands → n ≤ new.filled → new.filled ≤ 2 ^ 30
       → ((rest : List ℕ) → old.full.items ++ block_lengths old.filled (n ∷ rest) ≡ new.full.items ++ block_lengths new.filled rest) → IsMeasured m base all new
-  measured_kept is same short counted =
+  measured_kept is same some short counted =
       let out : left_out base all ≡ left_out base records = filter-append (λ x. not (is_numbered_from base x)) records (r ∷ []) ∙ ap (λ (l : List (Record O)). left_out base records ++ l) (cond-false _ _ _ (ap not is)) ∙ append-nil (left_out base records) in
       let kept : numbered_from base all ≡ numbered_from base records ++ r ∷ [] = filter-append (is_numbered_from base) records (r ∷ []) ∙ ap (λ (l : List (Record O)). numbered_from base records ++ l) (cond-true _ _ _ is) in
       let lengths : code_lengths m (numbered_from base all) ≡ code_lengths m (numbered_from base records) ++ n ∷ [] =
@@ -35,6 +36,7 @@ module _ {O : Type 0} (m : Meaning O) (base : ℕ) (records : List (Record O)) (
       record {
         before = same ∙ was.before ∙ ap (λ (l : List (Record O)). length (commands_of l)) (sym out);
         short = short;
+        none = λ empty. absurd (omega (arith, empty, some, code_some m r));
         blocks = λ rest. ap (λ (l : List ℕ). block_lengths 0 (l ++ rest)) lengths
             ∙ ap (block_lengths 0) (append_assoc (code_lengths m (numbered_from base records)) (n ∷ []) rest)
             ∙ was.blocks (n ∷ rest) ∙ counted rest;
@@ -48,6 +50,7 @@ module _ {O : Type 0} (m : Meaning O) (base : ℕ) (records : List (Record O)) (
       record {
         before = omega (arith, more, was.before, ap (λ (l : List (Record O)). length (commands_of l)) out, count-append m (left_out base records) (r ∷ []));
         short = omega (arith, same, was.short);
+        none = λ empty. kept ∙ was.none (sym same ∙ empty);
         blocks = λ rest. ap (λ (l : List (Record O)). block_lengths 0 (code_lengths m l ++ rest)) kept ∙ was.blocks rest ∙ (λ i. sym full i ++ block_lengths (sym same i) rest);
       }
 

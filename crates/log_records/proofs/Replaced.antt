@@ -46,10 +46,10 @@ pub record IsClosing (old one : Disk) (log : LogView) : Type 0 where
   pub closed : old.tells_files → IsClosedLog (one.reads (other_of log.active))
   pub settled : IsSettled old → IsSettled one
 
-any_once : (old new : Disk) (file : FileNo) (change : List ℕ → List ℕ → Type 0) → Runs (In file change) Same old new → Runs (In file Any) Same old new
+pub any_once : (old new : Disk) (file : FileNo) (change : List ℕ → List ℕ → Type 0) → Runs (In file change) Same old new → Runs (In file Any) Same old new
 any_once old new file change run = runs_wider old new (In file change) (In file Any) (λ a b is. record { changed = tt; others = is.others }) run
 
-any_twice : (old mid new : Disk) (file : FileNo) → Runs (In file Any) Same old mid → Runs (In file Any) Same mid new → Runs (In file Any) Same old new
+pub any_twice : (old mid new : Disk) (file : FileNo) → Runs (In file Any) Same old mid → Runs (In file Any) Same mid new → Runs (In file Any) Same old new
 any_twice old mid new file first second = runs_twice old mid new (In file Any) (λ a b c x y. record { changed = tt; others = λ other apart. y.others other apart ∙ x.others other apart }) first second
 
 -- the runs of the first step, of both, and of all three
@@ -133,7 +133,7 @@ module _ {O : Type 0} (m : Meaning O) where
     pub end : 33 + room_of new.lengths.items ≡ end_of (new_payloads m base table stable)
     pub short : AreShort m (rewritten_records base table stable)
 
-  pub is_plan : (d : Disk) (log : LogView) (base : ℕ) (table : Table) (stable : List (Record O)) (new : NewLog) (is : IsPlanned m d log base (Check table) new) → is.records ≡ stable → IsPlan log base table stable new
+  pub is_plan : (d : Disk) (log : LogView) (base : ℕ) (table : Table) (stable : List (Record O)) (new : NewLog) (is : IsPlanned m d log base (Check table ∷ []) new) → is.records ≡ stable → IsPlan log base table stable new
   is_plan d log base table stable new is same = record {
     commands = is.commands ∙ ap (commands_before log base) same;
     end = ap (λ (n : ℕ). 33 + n) (ap room_of is.lengths ∙ room_measured m (rewritten_records base table is.records)) ∙ ap (λ (l : List (Record O)). end_of (new_payloads m base table l)) same;

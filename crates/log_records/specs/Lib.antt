@@ -8,8 +8,11 @@ pub mod Measuring
 pub mod Measured
 pub mod Laying
 pub mod Copying
+pub mod LogCopy
 pub mod RecordReader
+pub mod BlockReader
 pub mod NumberedReader
 pub mod Loading
 pub mod Uniqueness
 pub mod NumberedLaws
+pub mod BlockLaws

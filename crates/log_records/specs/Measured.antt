@@ -1,5 +1,5 @@
 -- What is measured of a log that is to be rewritten.
-use Rattle.std.proofs.Common.{◌≡◌, ◌≤◌, ◌^◌, ℕ, List, ◌++◌, length}
+use Rattle.std.proofs.Common.{◌≡◌, ◌≤◌, ◌^◌, ℕ, List, [], ◌++◌, length}
 use Rattle.oper_core.specs.Meaning.{Meaning}
 use Rattle.formats.specs.Records.{commands_of}
 use Rattle.formats.specs.declared.record.Record.{Record}
@@ -12,4 +12,6 @@ use Rattle.log_records.specs.declared.measured.Measured.{Measured}
 pub record IsMeasured {O : Type 0} (m : Meaning O) (base : ℕ) (records : List (Record O)) (it : Measured) : Type 0 where
   pub before : it.commands ≡ length (commands_of (left_out base records))
   pub short : it.filled ≤ 2 ^ 30
+  -- there are none where the block in hand has no byte
+  pub none : it.filled ≡ 0 → numbered_from base records ≡ []
   pub blocks : (rest : List ℕ) → block_lengths 0 (code_lengths m (numbered_from base records) ++ rest) ≡ it.full.items ++ block_lengths it.filled rest

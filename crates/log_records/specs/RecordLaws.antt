@@ -20,6 +20,14 @@ pub with_group : {O : Type 0} → List (List (Record O)) → List (Record O) →
 with_group groups [] = groups
 with_group groups (r ∷ records) = groups ++ (r ∷ records) ∷ []
 
+pub with_group-none : {O : Type 0} (groups : List (List (Record O))) → with_group groups [] ≡ groups
+unfolding with_group
+with_group-none groups = refl
+
+pub with_group-some : {O : Type 0} (groups : List (List (Record O))) (r : Record O) (records : List (Record O)) → with_group groups (r ∷ records) ≡ groups ++ (r ∷ records) ∷ []
+unfolding with_group
+with_group-some groups r records = refl
+
 module _ {O : Type 0} (m : Meaning O) where
   map_push : (groups : List (List (Record O))) (g : List (Record O)) → map (payload_of m) (groups ++ g ∷ []) ≡ map (payload_of m) groups ++ payload_of m g ∷ []
   map_push [] g = refl

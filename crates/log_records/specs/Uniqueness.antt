@@ -70,6 +70,19 @@ module _ {O : Type 0} (m : Meaning O) (codes : HasCodes m) where
       let rest = one_grouping base (next_after next g) base' (next_after next' h) gs hs (AreRecords-behind m base next g (records_of gs) are_g) (AreRecords-behind m base' next' h (records_of hs) are_h) tails in
       λ i. first i ++ rest i
 
+  -- and so are the groups
+  pub same_groups : (base next base' next' : ℕ) (gs hs : List (List (Record O))) → AreRecords m base next (records_of gs) → AreRecords m base' next' (records_of hs)
+      → map (payload_of m) gs ≡ map (payload_of m) hs → gs ≡ hs
+  same_groups base next base' next' [] [] are_g are_h same = refl
+  same_groups base next base' next' [] (h ∷ hs) are_g are_h same = cc
+  same_groups base next base' next' (g ∷ gs) [] are_g are_h same = cc
+  same_groups base next base' next' (g ∷ gs) (h ∷ hs) are_g are_h same =
+      let heads : payload_of m g ≡ payload_of m h = cc in
+      let tails : map (payload_of m) gs ≡ map (payload_of m) hs = cc in
+      let first = one_payload base next base' next' g h (AreRecords-front m base next g (records_of gs) are_g) (AreRecords-front m base' next' h (records_of hs) are_h) heads in
+      let rest = same_groups base (next_after next g) base' (next_after next' h) gs hs (AreRecords-behind m base next g (records_of gs) are_g) (AreRecords-behind m base' next' h (records_of hs) are_h) tails in
+      λ i. first i ∷ rest i
+
   -- the records of some groups and of a part of the next one are the first of all
   pub record FirstOf (all first : List (Record O)) : Type 0 where
     pub more : List (Record O)

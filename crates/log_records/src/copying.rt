@@ -1,6 +1,7 @@
 // Puts the records of a log into a new one, in blocks whose lengths are known.
-ghost use Rattle.std.specs.Prelude.{◌≡◌, ◌≢◌, ◌<◌, ◌≤◌, ◌+◌, ◌^◌, ◌↔◌, ◌++◌, ◌∷◌, [], List, ℕ, IsTrue, IfErr, IfOk, IsErr, OnOk, length};
-ghost use Rattle.disk_model.specs.Disk.{In, Rises, Runs, Same};
+ghost use Rattle.std.specs.Prelude.{◌≡◌, ◌≢◌, ◌<◌, ◌≤◌, ◌+◌, ◌^◌, ◌↔◌, ◌++◌, ◌∷◌, [], List, ℕ, IsTrue, IfErr, IfOk, IfSome, IsErr, OnOk, length, option_copied};
+ghost use Rattle.std.specs.Option.{option_to_list};
+ghost use Rattle.disk_model.specs.Disk.{In, Rises, Runs, Same, Stays};
 ghost use Rattle.oper_core.specs.Meaning.{IsSmall};
 ghost use Rattle.formats.specs.Reading.{FailsBy};
 ghost use Rattle.formats.specs.Records.{record_code, IsRecord};
@@ -9,16 +10,19 @@ ghost use Rattle.formats.specs.declared.record.Record.{Record};
 ghost use Rattle.log_frames.specs.Rewriting.{KeepsClosed};
 ghost use Rattle.log_frames.specs.Writing.{put_of};
 ghost use Rattle.log_records.specs.Codec.{IsEncodable};
-ghost use Rattle.log_records.specs.Copying.{HasCopied, HasLaid, IsLaid, IsPlanned, later_of, room_left};
+ghost use Rattle.log_records.specs.Copying.{HasCopied, HasFilled, HasLaid, IsLaid, IsPlanned, PutFails, later_of, room_left};
 ghost use Rattle.log_records.specs.Laying.{Fits, codes_of, room_of};
 ghost use Rattle.log_records.specs.Loading.{IsTailFault};
+ghost use Rattle.log_records.specs.LogCopy.{CopyFails, IsCopyPlanned};
 ghost use Rattle.log_records.specs.RecordReader.{AreAll};
 ghost use Rattle.log_records.specs.Rewriting.{numbered_from};
 
 use crate::RecordLog;
 use crate::blocks_left::BlocksLeft;
 use crate::codec::encode;
+use crate::copy_err::CopyErr;
 use crate::new_log::NewLog;
+use crate::put_err::PutErr;
 use crate::record_reader::RecordReader;
 use crate::rewriting::is_numbered_from;
 use disk_model::{Failed, Machine};
@@ -105,13 +109,13 @@ fn put_record<O: Oper, M: Machine>(
     code: &mut Vec<u8>,
     blocks: &mut BlocksLeft,
     out: &mut LogWriter,
-) -> Result<bool, ReadErr>
+) -> Result<bool, PutErr>
     requires code { IsEncodable O.meaning it.now }
     requires fits { put_of out.old + room_left blocks.old < 2 ^ 63 }
     ensures runs { Runs (In out.old.file KeepsClosed) Same (M.disk m.old) (M.disk m.new) }
     ensures file { out.new.file ≡ out.old.file }
     ensures laid { (b : Bounds) → IfOk result (HasLaid (M.disk m.old) (M.disk m.new) out.old out.new blocks.old blocks.new (record_code (O.meaning b) it.now ∷ [])) }
-    ensures cause { IfErr result (FailsBy (Rises (M.disk m.old).disk_faults (M.disk m.new).disk_faults) (λ f p. ⊥)) }
+    ensures cause { IfErr result (PutFails (Rises (M.disk m.old).disk_faults (M.disk m.new).disk_faults)) }
 {
     code.clear();
     encode(it, code)?;
@@ -127,13 +131,13 @@ fn copy_record<O: Oper, M: Machine>(
     code: &mut Vec<u8>,
     blocks: &mut BlocksLeft,
     out: &mut LogWriter,
-) -> Result<bool, ReadErr>
+) -> Result<bool, PutErr>
     requires code { IsEncodable O.meaning it.now }
     requires fits { put_of out.old + room_left blocks.old < 2 ^ 63 }
     ensures runs { Runs (In out.old.file KeepsClosed) Same (M.disk m.old) (M.disk m.new) }
     ensures file { out.new.file ≡ out.old.file }
     ensures laid { (b : Bounds) → IfOk result (HasLaid (M.disk m.old) (M.disk m.new) out.old out.new blocks.old blocks.new (codes_of (O.meaning b) (numbered_from base (it.now ∷ [])))) }
-    ensures cause { IfErr result (FailsBy (Rises (M.disk m.old).disk_faults (M.disk m.new).disk_faults) (λ f p. ⊥)) }
+    ensures cause { IfErr result (PutFails (Rises (M.disk m.old).disk_faults (M.disk m.new).disk_faults)) }
 {
     if !is_numbered_from(it, base) {
         return Ok(true);
@@ -147,6 +151,31 @@ fn are_full(blocks: &BlocksLeft) -> bool
     ensures { IsTrue result ↔ ((blocks.now.left ≡ 0) × (length blocks.now.lengths.items ≤ blocks.now.next)) }
 {
     blocks.left == 0 && blocks.lengths.len() <= blocks.next
+}
+
+// Puts a last record, if there is one; false where it has no room, or does not fill the blocks.
+fn put_last<O: Oper, M: Machine>(
+    alloc: Global,
+    m: &mut M,
+    last: Option<&Record<O>>,
+    blocks: &mut BlocksLeft,
+    out: &mut LogWriter,
+) -> Result<bool, PutErr>
+    requires code { IfSome last (λ r. IsEncodable O.meaning r.now) }
+    requires fits { put_of out.old + room_left blocks.old < 2 ^ 63 }
+    ensures runs { Runs (In out.old.file KeepsClosed) Same (M.disk m.old) (M.disk m.new) }
+    ensures file { out.new.file ≡ out.old.file }
+    ensures filled { (b : Bounds) → IfOk result (HasFilled (M.disk m.old) (M.disk m.new) out.old out.new blocks.old (codes_of (O.meaning b) (option_to_list (option_copied last.entry)))) }
+    ensures cause { IfErr result (PutFails (Rises (M.disk m.old).disk_faults (M.disk m.new).disk_faults)) }
+{
+    let Some(it) = last else {
+        return Ok(are_full(blocks));
+    };
+    let mut code = Vec::new(alloc);
+    if !put_record(m, it, &mut code, blocks, out)? {
+        return Ok(false);
+    }
+    Ok(are_full(blocks))
 }
 
 // The log reads otherwise than when it was measured.
@@ -192,6 +221,41 @@ fn copy_numbered<O: Oper, M: Machine>(
     Ok(())
 }
 
+// The same, from the log's own base on, into a log of another machine. One function cannot do both, as no machine can be
+// lent out twice at a time.
+fn copy_all<O: Oper, M: Machine, T: Machine>(
+    alloc: Global,
+    m: &mut M,
+    target: &mut T,
+    b: Bounds,
+    log: &LogFile,
+    blocks: &mut BlocksLeft,
+    out: &mut LogWriter,
+) -> Result<(), CopyErr>
+    requires small { IsSmall b }
+    requires fits { put_of out.old + room_left blocks.old < 2 ^ 63 }
+    ensures kept { Stays (M.disk m.old) (M.disk m.new) }
+    ensures runs { Runs (In out.old.file KeepsClosed) Same (T.disk target.old) (T.disk target.new) }
+    ensures file { out.new.file ≡ out.old.file }
+    ensures copied { OnOk result ((records : List (Record O)) × AreAll (O.meaning b) (M.disk m.new) log.now records
+        × IsLaid (T.disk target.old) (T.disk target.new) out.old out.new blocks.old blocks.new (codes_of (O.meaning b) (numbered_from log.now.header.base records))) }
+
+    // They have room, where all records of the log had.
+    ensures cause { (all : List (Record O)) (last : List (List ℕ)) → AreAll (O.meaning b) (M.disk m.old) log.now all
+        → Fits blocks.old.left (later_of blocks.old) (codes_of (O.meaning b) (numbered_from log.now.header.base all) ++ last)
+        → IfErr result (CopyFails (Rises (M.disk m.old).disk_faults (M.disk m.new).disk_faults) (Rises (T.disk target.old).disk_faults (T.disk target.new).disk_faults)
+        (IsTailFault (O.meaning b) (M.disk m.new) log.now) (λ u n l. ⊥)) }
+{
+    let mut reader = RecordReader::<O>::new(alloc, m, b, log)?;
+    let mut code = Vec::new(alloc);
+    while let Some(record) = reader.next(m)? {
+        if !copy_record(target, &record, log.base(), &mut code, blocks, out)? {
+            return Err(CopyErr::from(changed(log)));
+        }
+    }
+    Ok(())
+}
+
 impl<O: Oper> RecordLog<O> {
     // Puts the blocks of a new log that was planned: the numbered records from the base on, and the check.
     pub(crate) fn copy<M: Machine>(
@@ -203,12 +267,12 @@ impl<O: Oper> RecordLog<O> {
         out: &mut LogWriter,
     ) -> Result<(), ReadErr>
         requires apart { self.now.log.active ≢ out.old.file }
-        requires planned { IsPlanned (O.meaning self.now.bounds) (M.disk m.old) self.now.log base check.now new }
+        requires planned { IsPlanned (O.meaning self.now.bounds) (M.disk m.old) self.now.log base (check.now ∷ []) new }
         requires grammar { IsRecord (O.meaning self.now.bounds) check.now }
         requires fits { put_of out.old + room_of new.lengths.items < 2 ^ 63 }
         ensures runs { Runs (In out.old.file KeepsClosed) Same (M.disk m.old) (M.disk m.new) }
         ensures file { out.new.file ≡ out.old.file }
-        ensures copied { OnOk result (HasCopied (O.meaning self.now.bounds) (M.disk m.old) (M.disk m.new) self.now.log base check.now new.lengths.items out.old out.new) }
+        ensures copied { OnOk result (HasCopied (O.meaning self.now.bounds) (M.disk m.new) (M.disk m.old) (M.disk m.new) self.now.log base (check.now ∷ []) new.lengths.items out.old out.new) }
         ensures cause { IfErr result (FailsBy (Rises (M.disk m.old).disk_faults (M.disk m.new).disk_faults) (IsTailFault (O.meaning self.now.bounds) (M.disk m.new) self.now.log)) }
     {
         let mut blocks = BlocksLeft {
@@ -225,12 +289,47 @@ impl<O: Oper> RecordLog<O> {
             &mut blocks,
             out,
         )?;
-        let mut code = Vec::new(self.alloc);
-        if !put_record(m, check, &mut code, &mut blocks, out)? {
+        if !put_last(self.alloc, m, Some(check), &mut blocks, out)? {
             return Err(changed(&self.log));
         }
-        if !are_full(&blocks) {
-            return Err(changed(&self.log));
+        Ok(())
+    }
+
+    // Puts the blocks of the copy that was planned into a log of another machine: the numbered records, and the last one, if there is
+    // one.
+    pub(crate) fn copy_into<M: Machine, T: Machine>(
+        &self,
+        m: &mut M,
+        target: &mut T,
+        last: Option<&Record<O>>,
+        new: NewLog,
+        out: &mut LogWriter,
+    ) -> Result<(), CopyErr>
+        requires planned { IsCopyPlanned (O.meaning self.now.bounds) (M.disk m.old) self.now.log new (option_copied last) }
+        requires fits { put_of out.old + room_of new.lengths.items < 2 ^ 63 }
+        ensures kept { Stays (M.disk m.old) (M.disk m.new) }
+        ensures runs { Runs (In out.old.file KeepsClosed) Same (T.disk target.old) (T.disk target.new) }
+        ensures file { out.new.file ≡ out.old.file }
+        ensures copied { OnOk result (HasCopied (O.meaning self.now.bounds) (M.disk m.new) (T.disk target.old) (T.disk target.new) self.now.log self.now.log.header.base (option_to_list (option_copied last.entry)) new.lengths.items out.old out.new) }
+        ensures cause { IfErr result (CopyFails (Rises (M.disk m.old).disk_faults (M.disk m.new).disk_faults) (Rises (T.disk target.old).disk_faults (T.disk target.new).disk_faults)
+            (IsTailFault (O.meaning self.now.bounds) (M.disk m.new) self.now.log) (λ u n l. ⊥)) }
+    {
+        let mut blocks = BlocksLeft {
+            left: 0,
+            lengths: new.lengths,
+            next: 0,
+        };
+        copy_all::<O, M, T>(
+            self.alloc,
+            m,
+            target,
+            self.bounds,
+            &self.log,
+            &mut blocks,
+            out,
+        )?;
+        if !put_last(self.alloc, target, last, &mut blocks, out)? {
+            return Err(CopyErr::from(changed(&self.log)));
         }
         Ok(())
     }

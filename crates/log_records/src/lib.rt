@@ -3,32 +3,40 @@
 //! The one contract is [`RecordLog`]: commands and identity writes have consecutive numbers, and a check names the one that
 //! comes next. An append adds exactly one record, a force makes all of them stable or leaves those that were, and a rewrite
 //! puts the numbered records from a base on, and a check, in the place of the log, or leaves the old one: it reads the log
-//! twice, and has one record in memory at a time. A command's code may be made before it is added, which then takes no
-//! memory. Below it stands the codec: a record is decoded exactly where the bytes begin with the code of one in the grammar,
-//! and no code is another's beginning. The crate depends on log_frames, whose blocks hold the records, on formats, whose
-//! grammar this is, on redo_tables for the tables, and on oper_core for the operations.
+//! twice, and has one record in memory at a time. A copy puts all numbered records into the log of a new store on another
+//! machine in the same way. A [`NumberedReader`] gives the numbered records one by one, a [`BlockReader`] those of one block
+//! after the other, as bytes. A command's code may be made before it is added, which then takes no memory. Below it stands
+//! the codec: a record is decoded exactly where the bytes begin with the code of one in the grammar, and no code is another's
+//! beginning. The crate depends on log_frames, whose blocks hold the records, on formats, whose grammar this is, on
+//! redo_tables for the tables, and on oper_core for the operations.
 #![tactic(auto)]
 
+mod block_reader;
 mod blocks_left;
 mod codec;
+mod copy_err;
 mod copying;
 mod counted;
 mod encoding;
 mod forcing;
 mod loading;
+mod log_copy;
 mod measured;
 mod measuring;
 mod new_log;
 mod numbered_reader;
 mod placing;
 mod planning;
+mod put_err;
 mod record_log;
 mod record_reader;
 mod rewrite_err;
 mod rewriting;
 mod stable;
 
+pub use block_reader::BlockReader;
 pub use codec::{decode, encode, one_record};
+pub use copy_err::CopyErr;
 pub use encoding::EncodedCommand;
 pub use numbered_reader::NumberedReader;
 pub use record_log::RecordLog;

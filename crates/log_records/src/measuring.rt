@@ -46,7 +46,7 @@ pub fn count_record(length: u32, filled: &mut u32, found: &mut Vec<u32>) -> Resu
     requires short { length ≤ 2 ^ 30 }
     requires filled { filled.old ≤ 2 ^ 30 }
     ensures counted { OnOk result ((rest : List ℕ) → found.old.items ++ block_lengths filled.old (length ∷ rest) ≡ found.new.items ++ block_lengths filled.new rest) }
-    ensures filled { OnOk result (filled.new ≤ 2 ^ 30) }
+    ensures filled { OnOk result ((length ≤ filled.new) × (filled.new ≤ 2 ^ 30)) }
 {
     if *filled + length <= MAX_PAYLOAD {
         *filled += length;

@@ -1,5 +1,5 @@
 // What a new log will be, before anything of it is written.
-ghost use Rattle.std.specs.Prelude.{◌≡◌, ◌<◌, ◌+◌, ◌^◌, [], List, IfErr, IfOk};
+ghost use Rattle.std.specs.Prelude.{◌≡◌, ◌<◌, ◌+◌, ◌^◌, ◌∷◌, [], List, IfErr, IfOk};
 ghost use Rattle.disk_model.specs.Disk.{Rises, Stays};
 ghost use Rattle.formats.specs.Reading.{FailsBy, TellsDamage};
 ghost use Rattle.formats.specs.declared.record.Record.{Record};
@@ -20,13 +20,13 @@ use oper_core::Oper;
 use redo_tables::Table;
 
 // No memory holds the lengths of so many blocks.
-const MAX_BLOCKS: usize = 1 << 32;
+pub const MAX_BLOCKS: usize = 1 << 32;
 
 // A header, and the closed gate after the last block.
 const NO_BLOCKS: u64 = 34;
 
 // The length of a log file whose blocks have these lengths.
-fn file_length(lengths: &[u32]) -> u64
+pub fn file_length(lengths: &[u32]) -> u64
     requires fits { 34 + room_of lengths.now < 2 ^ 63 }
     ensures { result ≡ 34 + room_of lengths.now }
 {
@@ -47,7 +47,7 @@ impl<O: Oper> RecordLog<O> {
     ) -> Result<NewLog, ReadErr>
         requires { IsRewritable (O.meaning self.now.bounds) self.now base table.now }
         ensures kept { Stays (M.disk m.old) (M.disk m.new) }
-        ensures planned { IfOk result (λ it. IsPlanned (O.meaning self.now.bounds) (M.disk m.new) self.now.log base (Check table.now) it) }
+        ensures planned { IfOk result (λ it. IsPlanned (O.meaning self.now.bounds) (M.disk m.new) self.now.log base (Check table.now ∷ []) it) }
         ensures fits { IfOk result (λ it. 34 + room_of it.lengths.items < 2 ^ 63) }
         ensures undamaged { (M.disk m.old).tells_files → (stable : List (Record O)) → Keeps (O.meaning self.now.bounds) (M.disk m.old) self.now stable []
             → IfErr result (λ e. TellsDamage e → ⊥) }

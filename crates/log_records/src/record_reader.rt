@@ -1,11 +1,13 @@
 // Reads the records of a log, one after the other.
-ghost use Rattle.std.specs.Prelude.{◌≡◌, ◌<◌, ◌≤◌, ◌^◌, [], List, ℕ, IsTrue, IfErr, IfNone, IfOk, IfSome, OnOk, length};
+ghost use Rattle.std.specs.Prelude.{◌≡◌, ◌<◌, ◌≤◌, ◌^◌, ◌↔◌, [], List, ℕ, IsFalse, IsTrue, IfErr, IfNone, IfOk, IfSome, OnOk, length};
 ghost use Rattle.disk_model.specs.Disk.{Files, Rises, Stays};
+ghost use Rattle.formats.specs.Log.{IsWholeLog};
 ghost use Rattle.formats.specs.Reading.{FailsBy};
-ghost use Rattle.formats.specs.Records.{record_code, IsPlaced};
+ghost use Rattle.formats.specs.Records.{record_code, IsPlaced, IsRecord};
 ghost use Rattle.formats.specs.declared.record.Record.{Record};
 ghost use Rattle.log_frames.specs.LogView.{LogView};
 ghost use Rattle.log_frames.specs.Payloads.{remaining, ahead, IsInLog};
+ghost use Rattle.log_records.specs.BlockReader.{GoesOn, TakesRecord};
 ghost use Rattle.log_records.specs.Codec.{StartsWithRecord};
 ghost use Rattle.log_records.specs.Loading.{IsTailFault};
 ghost use Rattle.log_records.specs.RecordReader.{IsReading, HasFound, HasGoneOn, StartsWithNone};
@@ -103,6 +105,8 @@ impl<O: Oper> RecordReader<O> {
         ensures kept { Stays (M.disk m.old) (M.disk m.new) }
         ensures bounds { IfOk result (λ it. it.bounds ≡ b) }
         ensures reading { IfOk result (λ it. IsReading (O.meaning b) (M.disk m.new) log.now it []) }
+        ensures starts { (files : Files) → (M.disk m.new).agrees files → (payloads : List (List ℕ)) → IsWholeLog log.now.header payloads (files log.now.active)
+            → IfOk result (λ it. IsInLog (files log.now.active) it.payloads payloads [] [] payloads) }
         ensures cause { IfErr result (FailsBy (Rises (M.disk m.old).disk_faults (M.disk m.new).disk_faults) (λ f p. ⊥)) }
     {
         Ok(RecordReader {
@@ -113,6 +117,13 @@ impl<O: Oper> RecordReader<O> {
             payloads: log.reader(alloc, m)?,
             of: PhantomData,
         })
+    }
+
+    /// Whether nothing is left of the block in hand.
+    pub fn is_between_blocks(&self) -> bool
+        ensures { IsTrue result ↔ (remaining self.now.payloads ≡ 0) }
+    {
+        self.payloads.remaining() == 0
     }
 
     /// The number after the records that were read.
@@ -129,6 +140,10 @@ impl<O: Oper> RecordReader<O> {
         ensures some { IfOk result (λ more. IsTrue more → (0 < remaining self.new.payloads) × (ahead self.new.payloads ≤ ahead self.old.payloads)) }
         ensures read { (log : LogView) (records : List (Record O)) → IsReading (O.meaning self.old.bounds) (M.disk m.old) log self.old records
             → IfOk result (HasGoneOn (O.meaning self.old.bounds) (M.disk m.new) log self.new records) }
+        ensures goes_on { (files : Files) → (M.disk m.new).agrees files → (payloads passed : List (List ℕ)) (taken : List ℕ) (later : List (List ℕ))
+            → (remaining self.old.payloads ≡ 0 → taken ≡ []) → IsInLog (files self.old.payloads.file) self.old.payloads payloads passed taken later
+            → IfOk result (GoesOn (files self.new.payloads.file) self.new.payloads payloads passed taken) }
+        ensures through { IfOk result (λ more. IsFalse more → remaining self.old.payloads ≡ 0) }
         ensures cause { (log : LogView) (records : List (Record O)) → IsReading (O.meaning self.old.bounds) (M.disk m.old) log self.old records
             → IfErr result (FailsBy (Rises (M.disk m.old).disk_faults (M.disk m.new).disk_faults) (IsTailFault (O.meaning self.old.bounds) (M.disk m.new) log)) }
     {
@@ -144,8 +159,15 @@ impl<O: Oper> RecordReader<O> {
         ensures kept { Stays (M.disk m.old) (M.disk m.new) }
         ensures bounds { self.new.bounds ≡ self.old.bounds }
         ensures less { IfOk result (λ found. IfSome found (λ _. ahead self.new.payloads < ahead self.old.payloads)) }
+        ensures grammar { IfOk result (λ found. IfSome found (IsRecord (O.meaning self.old.bounds))) }
         ensures read { (log : LogView) (records : List (Record O)) → IsReading (O.meaning self.old.bounds) (M.disk m.old) log self.old records
             → IfOk result (HasFound (O.meaning self.old.bounds) (M.disk m.new) log self.new records) }
+
+        // It stays in the block in hand, and begins the next one where nothing is left of that.
+        ensures takes { (files : Files) → (M.disk m.new).agrees files → (payloads passed : List (List ℕ)) (taken : List ℕ) (later : List (List ℕ))
+            → (remaining self.old.payloads ≡ 0 → taken ≡ []) → IsInLog (files self.old.payloads.file) self.old.payloads payloads passed taken later
+            → IfOk result (TakesRecord (O.meaning self.old.bounds) (files self.new.payloads.file) self.new.payloads payloads passed taken) }
+        ensures through { IfOk result (λ found. IfNone found (remaining self.old.payloads ≡ 0)) }
         ensures cause { (log : LogView) (records : List (Record O)) → IsReading (O.meaning self.old.bounds) (M.disk m.old) log self.old records
             → IfErr result (FailsBy (Rises (M.disk m.old).disk_faults (M.disk m.new).disk_faults) (IsTailFault (O.meaning self.old.bounds) (M.disk m.new) log)) }
     {

@@ -45,7 +45,7 @@ impl<O: Oper> RecordLog<O> {
         requires apart { self.now.log.active ≢ out.old.file }
         requires new { out.old ≡ record { file = out.old.file; place = 1; bytes = [] } }
         requires epoch { self.now.log.header.epoch < 2 ^ 62 }
-        requires planned { IsPlanned (O.meaning self.now.bounds) (M.disk m.old) self.now.log base check.now new }
+        requires planned { IsPlanned (O.meaning self.now.bounds) (M.disk m.old) self.now.log base (check.now ∷ []) new }
         requires grammar { IsRecord (O.meaning self.now.bounds) check.now }
         requires fits { 34 + room_of new.lengths.items ≤ 2 ^ 48 }
         ensures runs { Runs (In out.old.file KeepsClosed) Same (M.disk m.old) (M.disk m.new) }
@@ -75,7 +75,7 @@ impl<O: Oper> RecordLog<O> {
         requires apart { self.now.log.active ≢ out.old.file }
         requires new { out.old ≡ record { file = out.old.file; place = 1; bytes = [] } }
         requires epoch { self.now.log.header.epoch < 2 ^ 62 }
-        requires planned { IsPlanned (O.meaning self.now.bounds) (M.disk m.old) self.now.log base check.now new }
+        requires planned { IsPlanned (O.meaning self.now.bounds) (M.disk m.old) self.now.log base (check.now ∷ []) new }
         requires grammar { IsRecord (O.meaning self.now.bounds) check.now }
         requires fits { 34 + room_of new.lengths.items ≤ 2 ^ 48 }
         ensures runs { Runs (In out.old.file KeepsClosed) Same (M.disk m.old) (M.disk m.new) }

@@ -15,7 +15,7 @@ use Rattle.log_records.specs.Laying.{codes_of}
 use Rattle.log_records.specs.Loading.{IsTailFault}
 use Rattle.log_records.specs.NumberedLaws.{all_in_grammar, last_of}
 use Rattle.log_records.specs.Rewriting.{numbered_from}
-use Rattle.log_records.proofs.Copies.{all_beside, codes_then, laid_none, laid_on, laid_then, no_room, reading_on, rises_since}
+use Rattle.log_records.proofs.Copies.{all_beside, codes_then, laid_none, laid_on, laid_then, no_room, put_fails, reading_on, rises_since}
 use Rattle.log_records.proofs.Passing.{next_found, next_ended, next_fails}
 use Rattle.log_records.proofs.copying.copy_numbered.Goals as goal
 
@@ -163,7 +163,7 @@ returns-in_err-copy_record-clause-cause g c all last are fits =
     let read = g.M.Machine.disk c.next.new.m in
     let so_far = runs_then_stays first (g.M.Machine.disk c.loop-code.m) read (In c.args.out.now.file KeepsClosed) inv.kept c.next.ensures.kept in
     let p = err_from_is_err_and c.from_residual-in_err-copy_record.result c.from_residual-in_err-copy_record.ensures.1 in
-    rw (p.1, p.2) (fails_on _ _ _ _ c.in_err-copy_record.field-0.0 (rises_since first read (g.M.Machine.disk c.copy_record.new.m) so_far.time.disk_faults) (λ f place never. absurd never) c.in_err-copy_record.ensures.cause)
+    rw (p.1, p.2) (put_fails _ _ _ c.in_err-copy_record.field-0.0 (rises_since first read (g.M.Machine.disk c.copy_record.new.m) so_far.time.disk_faults) c.in_err-copy_record.ensures.cause)
 
 pub returns-then-not-branch-clause-cause : goal.returns-then-not-branch-clause-cause
 returns-then-not-branch-clause-cause g c all last are fits =

@@ -18,6 +18,7 @@ loop-so_far-init g c = record {
   measured = record {
     before = refl;
     short = omega arith;
+    none = λ empty. refl;
     blocks = λ rest. ap (λ (l : List ℕ). l ++ block_lengths 0 rest) (sym c.new-full.ensures.items);
   };
 }

@@ -10,7 +10,7 @@ pub returns-then-is_numbered_from : goal.returns-then-is_numbered_from
 returns-then-is_numbered_from g c b records was =
     let old = c.args.so_far.now in
     measured_kept (g.O.Oper.meaning b) c.args.base records c.args.it.now old (record { commands = old.commands; full = c.count_record.new.found; filled = c.count_record.new.filled }) was
-    (sym c.is_numbered_from.ensures ∙ c.if-is_numbered_from.true) refl c.in_ok-count_record.ensures.filled
+    (sym c.is_numbered_from.ensures ∙ c.if-is_numbered_from.true) refl (omega (arith, c.in_ok-count_record.ensures.filled.0, c.code_length.ensures b)) c.in_ok-count_record.ensures.filled.1
     (λ rest. ap (λ (k : ℕ). old.full.items ++ block_lengths old.filled (k ∷ rest)) (sym (c.code_length.ensures b)) ∙ c.in_ok-count_record.ensures.counted rest)
 
 pub returns : goal.returns

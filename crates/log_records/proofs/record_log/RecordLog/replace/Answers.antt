@@ -41,7 +41,7 @@ write_log-requires-clause-planned g c =
     let b = now.bounds in
     let m = g.O.Oper.meaning b in
     let closed = subst (λ (v : RecordLogView). HasClosed old one v.log) c.self.view_is (record { run = c.begin_rewrite.ensures.runs; idle = c.begin_rewrite.ensures.idle }) in
-    planned_beside m old one (other_of now.log.active) now.log c.args.base (Check c.args.table) c.args.new c.requires.apart closed.run c.requires.planned
+    planned_beside m old one (other_of now.log.active) now.log c.args.base (Check c.args.table ∷ []) c.args.new c.requires.apart closed.run c.requires.planned
 
 pub write_log-requires-clause-grammar : goal.write_log-requires-clause-grammar
 write_log-requires-clause-grammar g c =

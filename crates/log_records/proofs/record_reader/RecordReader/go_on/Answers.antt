@@ -1,10 +1,12 @@
-use Rattle.std.proofs.Common.{sym, subst}
+use Rattle.std.proofs.Common.{◌≡◌, [], sym, ap, subst, arith}
 use Rattle.std.proofs.lemmas.Result.{err_from_is_err_and}
 use Rattle.disk_model.specs.Disk.{Rises}
 use Rattle.formats.specs.Reading.{FailsBy}
+use Rattle.log_frames.specs.Payloads.{IsInLog, remaining}
 use Rattle.log_frames.specs.Reading.{fails_on}
 use Rattle.log_records.specs.Loading.{IsTailFault}
 use Rattle.log_records.specs.RecordReader.{RecordReaderView, IsReading, HasGoneOn}
+use Rattle.log_records.proofs.Blocks.{goes_next}
 use Rattle.log_records.proofs.Passing.{reading_stays, reading_whole, gone_on}
 use Rattle.log_records.proofs.record_reader.RecordReader.go_on.Goals as goal
 
@@ -30,3 +32,10 @@ returns-then-remaining-eq0-clause-read g c log records is =
     let here = reading_stays (g.O.Oper.meaning r.bounds) old new log it records c.next_payload.ensures.kept own in
     subst (λ (v : RecordReaderView). HasGoneOn (g.O.Oper.meaning v.bounds) new log (record it { payloads = c.next_payload.new.self }) records c.in_ok-more.more) c.self.view_is
     (gone_on (g.O.Oper.meaning r.bounds) new log it c.next_payload.new.self records c.in_ok-more.more here c.next_payload.ensures.file c.in_ok-more.ensures.next)
+
+pub returns-then-remaining-eq0-clause-goes_on : goal.returns-then-remaining-eq0-clause-goes_on
+returns-then-remaining-eq0-clause-goes_on g c files agree payloads passed taken later empty stands =
+    let moved = c.next_payload.new.self in
+    let none : taken ≡ [] = empty (omega (arith, c.remaining.ensures, c.if-remaining-eq0.true, ap (λ (v : RecordReaderView). remaining v.payloads) c.self.view_is)) in
+    let here = subst (λ (v : RecordReaderView). IsInLog (files v.payloads.file) v.payloads payloads passed taken later) (sym c.self.view_is) stands in
+    goes_next (files moved.file) moved payloads passed taken later c.in_ok-more.more none (c.in_ok-more.ensures.next files agree payloads passed taken later here)

@@ -1,8 +1,13 @@
-use Rattle.std.proofs.Common.{◌≡◌, ◌<◌, ◌++◌, ◌∙◌, ◌∷◌, [], Bool, ap, subst, arith}
+use Rattle.std.proofs.Common.{◌≡◌, ◌<◌, ◌++◌, ◌∙◌, ◌∷◌, [], Bool, sym, ap, subst, arith}
+use Rattle.disk_model.specs.Moments.{agreed_before}
+use Rattle.disk_model.specs.declared.machine.FileNo.{FileNo}
 use Rattle.oper_core.specs.declared.bounds.Bounds.{Bounds}
-use Rattle.log_frames.specs.Payloads.{remaining}
+use Rattle.formats.specs.Records.{record_code}
+use Rattle.log_frames.specs.Payloads.{IsInLog, remaining}
+use Rattle.log_records.specs.BlockReader.{GoesOn}
 use Rattle.log_records.specs.Loading.{IsTailFault}
 use Rattle.log_records.specs.RecordReader.{RecordReaderView, IsReading, HasGoneOn}
+use Rattle.log_records.proofs.Blocks.{takes_record}
 use Rattle.log_records.proofs.Passing.{reading_searched, reading_more, reading_broken}
 use Rattle.log_records.proofs.record_reader.RecordReader.next.Goals as goal
 
@@ -41,3 +46,27 @@ returns-clause-read g c log records is =
     let last = reading_more m new log (record it { payloads = searched }) c.take.new.self records found c.in-Some.length c.next_behind-self-inside.result reading some.0 some.1 some.2 some.3 behind file c.take.ensures.read in
     let after : RecordReaderView = record { bounds = r.bounds; base = r.base; next = c.next_behind-self-inside.result; payloads = c.take.new.self } in
     subst (λ (b : Bounds). IsReading (g.O.Oper.meaning b) new log after (records ++ found ∷ [])) bounds last
+
+pub returns-then-not-branch-clause-takes : goal.returns-then-not-branch-clause-takes
+returns-then-not-branch-clause-takes g c files agree payloads passed taken later empty stands =
+    let went = c.go_on.new.self.payloads in
+    subst (λ (more : Bool). GoesOn (files went.file) went payloads passed taken more) c.if-not-branch.true (c.in_ok-go_on.ensures.goes_on files agree payloads passed taken later empty stands)
+
+pub returns-clause-takes : goal.returns-clause-takes
+returns-clause-takes g c files agree payloads passed taken later empty stands =
+    let r = c.self.inside in
+    let went = c.go_on.new.self.payloads in
+    let searched = c.find_record.new.payloads in
+    let moved = c.take.new.self in
+    let bounds : r.bounds ≡ c.args.self.now.bounds = ap (λ (v : RecordReaderView). v.bounds) (c.self.view_is ∙ c.go_on.ensures.same) in
+    let some = rw c.in-Some.is at c.in_ok-found.ensures.some in
+    let on = subst (λ (more : Bool). GoesOn (files went.file) went payloads passed taken more) c.if-not-branch.false
+    (c.in_ok-go_on.ensures.goes_on files (agreed_before c.find_record.ensures.kept files agree) payloads passed taken later empty stands) in
+    let here = subst (λ (v : RecordReaderView). IsInLog (files v.payloads.file) v.payloads payloads passed taken on.0) (sym c.self.view_is) on.1 in
+    let took = c.take.ensures.read (files searched.file) payloads passed taken on.0 (c.in_ok-found.ensures.read files agree payloads passed taken on.0 here) in
+    let file = sym (ap (λ v. v.file) c.take.ensures.took) in (
+      on.0,
+      subst (λ (b : Bounds). IsInLog (files moved.file) moved payloads passed (taken ++ record_code (g.O.Oper.meaning b) c.in-Some.record) on.0) bounds
+          (subst (λ (f : FileNo). IsInLog (files f) moved payloads passed (taken ++ record_code (g.O.Oper.meaning r.bounds) c.in-Some.record) on.0) file
+          (takes_record (g.O.Oper.meaning r.bounds) (files searched.file) searched moved payloads passed taken on.0 c.in-Some.record c.in-Some.length some.0 some.2 took)),
+    )
