@@ -4,7 +4,7 @@ use Rattle.std.proofs.lemmas.Bool.{cases_eq, cases_lt}
 use Rattle.disk_model.specs.Disk.{written_over}
 use Rattle.oper_core.specs.Cell.{Cell}
 use Rattle.formats.specs.Bytes.{byte_at, IsClosedAt}
-use Rattle.formats.specs.Objects.{slot_place, place_in, holder, cell_of, open_identifier}
+use Rattle.formats.specs.Objects.{slot_place, layout_in, place_in, holder, cell_of, open_identifier}
 use Rattle.formats.specs.declared.layout.Layout.{Layout}
 use Rattle.formats.specs.declared.params.Params.{Params}
 use Rattle.stable_objects.specs.Filling.{IsFilledTo}
@@ -46,8 +46,11 @@ module _ (p : Params) (n : ℕ) (cells : ℕ → Cell) (old new : List ℕ) (is 
   other_closed : open_identifier (place_in old n 1) old < (cells n).id
   other_closed = omega (arith, some, closed_tells (place_in old n 1) old (is.rest n 1 (omega arith) below (omega arith)))
 
-  pub filled_more : IsFilledTo p (n + 1) cells new
-  filled_more =
+  stays_put : layout_in new ≡ layout_in old
+  stays_put = stands p n 0 old new is.whole below (omega arith) agrees
+
+  more : IsFilledTo p (n + 1) cells new
+  more =
       let has = renewed p n 0 old new is.whole below (omega arith) agrees (cells n).id (cells n).value other_closed numbered short put.opened put.filled in
       record {
         whole = has.whole;
@@ -57,9 +60,12 @@ module _ (p : Params) (n : ℕ) (cells : ℕ → Cell) (old new : List ℕ) (is 
         ];
         rest = λ x s le there two is_open.
             let stays = each_stays p n 0 old new is.whole below (omega arith) agrees x s there two (λ same. omega (arith, same, le, two)) in
-            let places : place_in new x s ≡ place_in old x s = ap (λ (l : Layout). slot_place l x s) (stands p n 0 old new is.whole below (omega arith) agrees) in
+            let places : place_in new x s ≡ place_in old x s = ap (λ (l : Layout). slot_place l x s) stays_put in
             is.rest x s (omega (arith, le)) there two (sym stays.gate ∙ ap (λ (place : ℕ). byte_at place new) (sym places) ∙ is_open);
       }
+
+  pub filled_more : IsFilledTo p (n + 1) cells new × (layout_in new ≡ layout_in old)
+  filled_more = (more, stays_put)
 
 -- a byte before a slot that is put is written in both files
 module _ (at byte place id : ℕ) (value old new : List ℕ) (less : at < place) (there : at < length old) (put : IsPut place id value old new) where

@@ -11,7 +11,7 @@ use Rattle.formats.specs.declared.params.Params.{Params}
 use Rattle.formats.specs.declared.read_err.ReadErr.{ReadErr}
 use Rattle.formats.specs.declared.read_err.ReadErr.TheVariants.{DiskFault, Damaged, Memory}
 use Rattle.stable_objects.specs.Filling.{IsFilledTo}
-use Rattle.stable_objects.specs.Growing.{IsGrown, IsGrowing, IsReady, IsStillOrGrown, GrowsNot, pair_before}
+use Rattle.stable_objects.specs.Growing.{IsGrown, IsGrowing, IsReady, IsStillOrGrown, GrowsNot, MovesNot, pair_before}
 use Rattle.stable_objects.specs.Larger.{IsFirst, IsStill, HasLastHead, end_of_slots, seconded}
 use Rattle.stable_objects.specs.Making.{KeepsFront, IsNewFile}
 use Rattle.stable_objects.specs.SlotsView.{SlotsView, AreOf}
@@ -72,7 +72,7 @@ now_grown p q old mid filled = record {
 
 -- a value is not read
 pub read_fails : (old new : Disk) (slots : SlotsView) (fault : FileNo → ℕ → Type 0) (e : ReadErr) → Stays old new → FailsBy (Rises old.disk_faults new.disk_faults) fault e
-    → ((files : Files) → new.agrees files → AreOf slots (files Objects) → TellsDamage e → ⊥) → GrowsNot old new slots e
+    → ((files : Files) → new.agrees files → AreOf slots (files Objects) → TellsDamage e → ⊥) → MovesNot old new slots e
 read_fails old new slots fault DiskFault stays fails whole = fails
 read_fails old new slots fault (Damaged file place) stays fails whole = λ ready. whole old.reads (told_agrees stays ready.told) ready.are tt
 read_fails old new slots fault Memory stays fails whole = tt
@@ -89,10 +89,16 @@ module _ (slots : SlotsView) (q : Params) (first : IsFirst slots) where
       }
 
   -- a later call fails, and so does the whole
-  pub fails_later : (old mid new : Disk) (e : ReadErr) → RunsBehind (end_of_slots slots) old mid → GrowsNot mid new slots e → GrowsNot old new slots e
+  pub fails_later : (old mid new : Disk) (e : ReadErr) → RunsBehind (end_of_slots slots) old mid → MovesNot mid new slots e → MovesNot old new slots e
   fails_later old mid new DiskFault run risen = λ below. let rose = risen below in omega (arith, rose, run.time.disk_faults)
   fails_later old mid new (Damaged file place) run never = λ ready. never (ready_again old mid run ready)
   fails_later old mid new Memory run fails = tt
+
+  -- so a growth whose pairs are not moved reports no damage
+  pub grows_not : (old new : Disk) (e : ReadErr) → (old.tells_files → AreOf slots (old.reads Objects) → HasLastHead slots (old.reads Objects)) → MovesNot old new slots e → GrowsNot old new slots e
+  grows_not old new DiskFault head risen = risen
+  grows_not old new (Damaged file place) head never = λ told are. absurd (never (record { told = told; are = are; head = head told are }))
+  grows_not old new Memory head fails = tt
 
   -- while nothing was written
   pub looking : (old new : Disk) → old.tells_moments → IsSettled old → AreOf slots (old.reads Objects) → Stays old new → LeavesOnly old new (IsGrowing old slots q)

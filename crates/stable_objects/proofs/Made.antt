@@ -1,6 +1,6 @@
 -- What the writes that make the objects file leave of it.
-use Rattle.std.proofs.Common.{◌≡◌, ◌≢◌, ◌⊎◌, ◌<◌, ◌≤◌, ◌+◌, ◌-◌, ◌*◌, inl, inr, ℕ, true, false, List, [], ◌∷◌, length, get_or, drop, min, refl, sym, ◌∙◌, ap, subst, arith, length-drop}
-use Rattle.std.proofs.lemmas.List.{get_or-take, take_min}
+use Rattle.std.proofs.Common.{◌≡◌, ◌≢◌, ◌⊎◌, ◌<◌, ◌≤◌, ◌+◌, ◌-◌, ◌*◌, inl, inr, ℕ, true, false, List, [], ◌∷◌, length, get_or, drop, refl, sym, ◌∙◌, ap, subst, arith, length-drop}
+use Rattle.std.proofs.lemmas.List.{take_min}
 use Rattle.std.proofs.lemmas.Bool.{cases_eq, cases_lt, cond-true, cond-false}
 use Rattle.disk_model.specs.Disk.{Files, Disk, Runs, Stays, Same, In, Torn, HoldsAt, Any, IsSettled, IsSettledIn, LeavesOnly, written_over}
 use Rattle.disk_model.specs.Moments.{runs_twice, runs_wider, runs_join, runs_then_stays, stays_settled, settled_again, from_reads, first_call, goes_on}
@@ -12,21 +12,12 @@ use Rattle.formats.specs.declared.layout.Layout.{Layout}
 use Rattle.formats.specs.declared.params.Params.{Params}
 use Rattle.stable_objects.specs.SlotGates.{slot_gate}
 use Rattle.stable_objects.specs.Layouts.{fits_first, no_store, new_form, new_layout}
+use Rattle.stable_objects.specs.GateLaws.{torn_keeps, keeps_twice}
 use Rattle.stable_objects.specs.LayoutLaws.{form_same, params_at_same, new_is_form, new_in_form}
 use Rattle.stable_objects.specs.Making.{KeepsGate, KeepsFront, HasClosedSlots, HasFields, IsClosedFile, IsNewFile, IsLaidOut, IsClosedOrWhole, opened}
 use Rattle.stable_objects.specs.Replacing.{AgreesOutside}
 use Rattle.stable_objects.proofs.Outside.{torn_agrees, held_agrees, byte_beside, number_stays}
 use Rattle.stable_objects.proofs.Bytes.{written_long, byte_before, byte_after, byte_written, held_first, torn_first, byte_behind}
-
--- a write after the gate keeps it
-pub torn_keeps : (at n : ℕ) (old new : List ℕ) → 1 ≤ at → Torn at n old new → KeepsGate old new
-torn_keeps at n old new le torn some = (
-  omega (arith, torn.no_shorter, some),
-  sym (get_or-take (min at (length old)) new 0 0 (omega (arith, some))) ∙ ap (λ (l : List ℕ). get_or l 0 0) torn.before ∙ get_or-take at old 0 0 le,
-)
-
-keeps_twice : (a b c : List ℕ) → KeepsGate a b → KeepsGate b c → KeepsGate a c
-keeps_twice a b c first second some = let then = first some in let after = second then.0 in (after.0, after.1 ∙ then.1)
 
 -- one write more after the gate
 pub run_keeps : (old mid new : Disk) (at n : ℕ) → 1 ≤ at → Runs (In Objects KeepsGate) Same old mid → Runs (In Objects (Torn at n)) Same mid new → Runs (In Objects KeepsGate) Same old new
@@ -37,10 +28,6 @@ run_keeps old mid new at n le first second = runs_twice old mid new (In Objects 
     })
     first
     (runs_wider mid new (In Objects (Torn at n)) (In Objects KeepsGate) (λ a b is. record { changed = torn_keeps at n (a Objects) (b Objects) le is.changed; others = is.others }) second)
-
--- one write after the gate
-pub torn_run : (old new : Disk) (at n : ℕ) → 1 ≤ at → Runs (In Objects (Torn at n)) Same old new → Runs (In Objects KeepsGate) Same old new
-torn_run old new at n le run = runs_wider old new (In Objects (Torn at n)) (In Objects KeepsGate) (λ a b is. record { changed = torn_keeps at n (a Objects) (b Objects) le is.changed; others = is.others }) run
 
 -- a write from a place on keeps what stands before it
 pub torn_front : (first at n : ℕ) (old new : List ℕ) → first ≤ at → Torn at n old new → KeepsFront first old new
@@ -69,14 +56,6 @@ front_less old new first at le run = runs_wider old new (In Objects (KeepsFront 
 pub front_keeps : (old new : Disk) (first : ℕ) → 1 ≤ first → Runs (In Objects (KeepsFront first)) Same old new → Runs (In Objects KeepsGate) Same old new
 front_keeps old new first le run = runs_wider old new (In Objects (KeepsFront first)) (In Objects KeepsGate)
     (λ a b is. record { changed = λ some. (omega (arith, some, is.changed.0), is.changed.1 0 some (omega (arith, le))); others = is.others }) run
-
-pub keeps_join : (old mid new : Disk) → Runs (In Objects KeepsGate) Same old mid → Runs (In Objects KeepsGate) Same mid new → Runs (In Objects KeepsGate) Same old new
-keeps_join old mid new one two = runs_twice old mid new (In Objects KeepsGate)
-    (λ a b c x y. record {
-      changed = keeps_twice (a Objects) (b Objects) (c Objects) x.changed y.changed;
-      others = λ other is_other. y.others other is_other ∙ x.others other is_other;
-    })
-    one two
 
 -- this place is within the file, and a gate there is closed
 pub record IsClosedWithin (place : ℕ) (file : List ℕ) : Type 0 where
@@ -130,13 +109,19 @@ closed_behind layout at bytes old new le holds closed =
 gate_agrees : (old : List ℕ) → 0 < length old → AgreesOutside 0 1 old (1 ∷ drop 1 old)
 gate_agrees old some = record { no_shorter = omega (arith, some, length-drop 1 old); before = λ j within less. absurd (omega (arith, less)); behind = refl }
 
+-- nor its form
+form_opened : (file : List ℕ) → 0 < length file → form_in (opened file) ≡ form_in file
+form_opened file some =
+    let agrees = gate_agrees file some in
+    let number : (place : ℕ) → 1 ≤ place → number_at 4 place (opened file) ≡ number_at 4 place file = λ place le. number_stays 0 1 file (opened file) agrees place 4 (inr le) in
+    form_same (opened file) file (byte_behind 1 file 8 (omega arith)) (number 9 (omega arith)) (number 13 (omega arith))
+
 -- with the gate open, the whole file
 pub now_open : (p : Params) (file : List ℕ) → IsInRange p → 0 < length file → HasFields p file → HasClosedSlots (new_layout p) file → IsNewFile p (opened file)
 now_open p file in_range some fields closed =
     let agrees = gate_agrees file some in
     let number : (place : ℕ) → 1 ≤ place → number_at 4 place (opened file) ≡ number_at 4 place file = λ place le. number_stays 0 1 file (opened file) agrees place 4 (inr le) in
-    let form_stays : form_in (opened file) ≡ form_in file = form_same (opened file) file (byte_behind 1 file 8 (omega arith)) (number 9 (omega arith)) (number 13 (omega arith)) in
-    let form : form_in (opened file) ≡ new_form p = form_stays ∙ fields.form in
+    let form : form_in (opened file) ≡ new_form p = form_opened file some ∙ fields.form in
     let known = new_is_form p in
     let numbers = (new_form p).numbers in
     let at_numbers : params_at numbers (opened file) ≡ params_at numbers file =
@@ -165,7 +150,9 @@ now_open p file in_range some fields closed =
 pub laid_out : (p : Params) (file : List ℕ) → IsInRange p → HasFields p file → HasClosedSlots (new_layout p) file → IsLaidOut p file
 laid_out p file in_range fields closed =
     let some : 0 < length file = omega (arith, closed.whole) in
-    record { some = some; new = now_open p file in_range some fields closed }
+    let new = now_open p file in_range some fields closed in
+    let form : form_in (opened file) ≡ new_form p = form_opened file some ∙ fields.form in
+    record { some = some; new = new; layout = λ i. record { params = new.whole.params i; first = (form i).first } }
 
 -- where the slots of a new store begin
 pub first_place : (p : Params) → fits_first p ≡ true → (new_layout p).first ≡ 32

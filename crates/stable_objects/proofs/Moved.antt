@@ -96,7 +96,7 @@ module _ (slots : SlotsView) (q : Params) (start old : List ℕ) (x : ℕ) (firs
         let place = slot_place (larger_layout slots q) x 0 in
         let written = put_with_byte 8 50 place id value old new (omega arith) (omega (arith, reach)) put in
         let spot : place ≡ place_in (seconded old) x 0 = sym (larger_place slots q old still.are first x (pair_before slots.params start) filled x 0) in
-        filled_more q x (pair_before slots.params start) (seconded old) (seconded new) filled there (omega (arith, cell_id, some)) (omega (arith, cell_id, numbered)) (omega (arith, ap length cell_value, short))
+        (filled_more q x (pair_before slots.params start) (seconded old) (seconded new) filled there (omega (arith, cell_id, some)) (omega (arith, cell_id, numbered)) (omega (arith, ap length cell_value, short))
         (subst (λ (k : ℕ). IsPut k (pair_before slots.params start x).id (pair_before slots.params start x).value (seconded old) (seconded new)) spot
         (subst (λ (k : ℕ). IsPut place k (pair_before slots.params start x).value (seconded old) (seconded new)) (sym cell_id)
-        (subst (λ (v : List ℕ). IsPut place id v (seconded old) (seconded new)) (sym cell_value) written)))
+        (subst (λ (v : List ℕ). IsPut place id v (seconded old) (seconded new)) (sym cell_value) written)))).0

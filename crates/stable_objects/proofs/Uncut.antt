@@ -2,11 +2,16 @@
 use Rattle.std.proofs.Common.{◌≡◌, ◌≢◌, ◌<◌, ◌≤◌, ◌+◌, ◌*◌, ◌-◌, ℕ, List, length, sym, ◌∙◌, ap, arith}
 use Rattle.std.specs.Prelude.{slice_index_or}
 use Rattle.formats.specs.Bytes.{IsOpenAt}
-use Rattle.formats.specs.Objects.{place_in, open_identifier}
+use Rattle.formats.specs.Objects.{last_slot, place_in, open_identifier}
 use Rattle.stable_objects.specs.Larger.{HasLastHead}
 use Rattle.stable_objects.specs.SlotGates.{slot_gate}
 use Rattle.stable_objects.specs.SlotLaws.{open_tells, told_is_open, place_of_file}
 use Rattle.stable_objects.specs.SlotsView.{SlotsView, AreOf, layout_of}
+
+-- the gate of the last slot, counted through the file
+pub last_gate : (slots : SlotsView) (last : ℕ) → last + 1 ≡ 2 * slots.params.objects → slot_gate (layout_of slots) last ≡ last_slot (layout_of slots)
+last_gate slots last is_last =
+    let here : last ≡ 2 * (slots.params.objects - 1) + 1 = omega (arith, is_last) in ap (λ (k : ℕ). slot_gate (layout_of slots) k) here
 
 module _ (slots : SlotsView) (file : List ℕ) (are : AreOf slots file) (last : ℕ) (is_last : last + 1 ≡ 2 * slots.params.objects) where
   here : (x : ℕ) → x + 1 ≡ slots.params.objects → 2 * x + 1 ≡ last

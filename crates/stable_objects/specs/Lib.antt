@@ -5,6 +5,7 @@ pub mod SlotsView
 pub mod Heads
 pub mod Reading
 pub mod Making
+pub mod GateLaws
 pub mod Filling
 pub mod Larger
 pub mod Growing

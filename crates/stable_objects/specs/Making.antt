@@ -4,10 +4,10 @@ use Rattle.oper_core.specs.declared.bounds.Bounds.{Bounds}
 use Rattle.disk_model.specs.Disk.{Files, Disk, OthersStay}
 use Rattle.disk_model.specs.declared.machine.FileNo.TheVariants.{Objects}
 use Rattle.formats.specs.Bytes.{byte_at, IsClosedAt}
-use Rattle.formats.specs.Objects.{IsObjectsFile, AreSlotsClosed, form_in, params_in, slot_place, last_slot}
+use Rattle.formats.specs.Objects.{IsObjectsFile, AreSlotsClosed, form_in, layout_in, params_in, slot_place, last_slot}
 use Rattle.formats.specs.declared.layout.Layout.{Layout}
 use Rattle.formats.specs.declared.params.Params.{Params}
-use Rattle.stable_objects.specs.Layouts.{new_form}
+use Rattle.stable_objects.specs.Layouts.{new_form, new_layout}
 
 -- the numbers of a store with these bounds and this limit
 abbrev pub params_with : Bounds → ℕ → Params
@@ -46,10 +46,11 @@ pub record IsNewFile (p : Params) (file : List ℕ) : Type 0 where
   pub whole : IsObjectsFile p file
   pub closed : AreSlotsClosed p file
 
--- with its gate open the file is that of a new store
+-- with its gate open the file is that of a new store, whose slots stand where those of a new one do
 pub record IsLaidOut (p : Params) (file : List ℕ) : Type 0 where
   pub some : 0 < length file
   pub new : IsNewFile p (opened file)
+  pub layout : layout_in (opened file) ≡ new_layout p
 
 -- The objects gate is closed, or the objects file is that of a new store. The other files are as they were, and nothing was said.
 pub record IsClosedOrWhole (old : Disk) (p : Params) (files : Files) (bytes : List ℕ) : Type 0 where

@@ -4,7 +4,7 @@ ghost use Rattle.disk_model.specs.Disk.{Runs, Stays, In, Any, Same, IsSettled, L
 ghost use Rattle.disk_model.specs.declared.machine.FileNo.TheVariants.{Objects};
 ghost use Rattle.formats.specs.Objects.{IsInRange};
 ghost use Rattle.stable_objects.specs.Filling.{IsFilledTo};
-ghost use Rattle.stable_objects.specs.Growing.{GrowsNot, IsGrown, IsGrowing, IsStillOrGrown, pair_before};
+ghost use Rattle.stable_objects.specs.Growing.{GrowsNot, IsGrown, IsGrowing, IsStillOrGrown, MovesNot, pair_before};
 ghost use Rattle.stable_objects.specs.Larger.{IsFirst, IsLarger, IsStill, HasLastHead, end_of_slots, seconded};
 ghost use Rattle.stable_objects.specs.Making.{KeepsFront};
 ghost use Rattle.stable_objects.specs.SlotsView.{AreOf};
@@ -52,7 +52,7 @@ impl Slots {
         ensures moved { (M.disk machine.old).tells_files → (start : List ℕ) → IsStill self.now start ((M.disk machine.old).reads Objects) →
             IsFilledTo params object (pair_before self.now.params start) (seconded ((M.disk machine.old).reads Objects)) →
             OnOk result (IsFilledTo params (object + 1) (pair_before self.now.params start) (seconded ((M.disk machine.new).reads Objects))) }
-        ensures cause { IfErr result (GrowsNot (M.disk machine.old) (M.disk machine.new) self.now) }
+        ensures cause { IfErr result (MovesNot (M.disk machine.old) (M.disk machine.new) self.now) }
     {
         let id = self.read(machine, object, value)?;
         if id == 0 {
@@ -77,7 +77,7 @@ impl Slots {
             HasLastHead self.now ((M.disk machine.old).reads Objects) →
             IsFilledTo params 0 (pair_before self.now.params start) (seconded ((M.disk machine.old).reads Objects)) →
             OnOk result (IsFilledTo params self.now.params.objects (pair_before self.now.params start) (seconded ((M.disk machine.new).reads Objects))) }
-        ensures cause { IfErr result (GrowsNot (M.disk machine.old) (M.disk machine.new) self.now) }
+        ensures cause { IfErr result (MovesNot (M.disk machine.old) (M.disk machine.new) self.now) }
     {
         let mut value = Vec::new(alloc);
         for object in 0..self.params.objects {
@@ -90,8 +90,8 @@ impl Slots {
     /// the pair of each object, syncs, and then writes the version. A crash at any moment leaves the store as it was, or
     /// the larger one. It moves one value at a time.
     ///
-    /// It answers `Damaged` where the last slot is open and the file ends within its head, `DiskFault` where the device
-    /// fails, and `Memory`.
+    /// It answers `Damaged`, with the place of the last slot's length, where that slot is open and the file ends within its
+    /// head, `DiskFault` where the device fails, and `Memory`.
     pub fn grow<M: Machine>(
         &self,
         alloc: Global,

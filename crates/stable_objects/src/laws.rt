@@ -3,7 +3,7 @@ ghost use Rattle.std.specs.Prelude.{◌≡◌, ◌≢◌, ◌<◌, ◌≤◌, �
 ghost use Rattle.disk_model.specs.Disk.{Torn, written_over};
 ghost use Rattle.oper_core.specs.Cell.{Cell};
 ghost use Rattle.formats.specs.Bytes.{byte_at};
-ghost use Rattle.formats.specs.Objects.{place_in};
+ghost use Rattle.formats.specs.Objects.{layout_in, place_in};
 ghost use Rattle.formats.specs.declared.params.Params.{Params};
 ghost use Rattle.stable_objects.specs.Filling.{IsFilledTo};
 ghost use Rattle.stable_objects.specs.Larger.{IsFirst, IsStill, HasLastHead, end_of_slots, seconded};
@@ -11,11 +11,12 @@ ghost use Rattle.stable_objects.specs.Making.{IsNewFile, KeepsFront, opened};
 ghost use Rattle.stable_objects.specs.Replacing.{IsPut};
 ghost use Rattle.stable_objects.specs.SlotsView.{SlotsView, AreOf};
 
-/// A new file is filled by the pairs of its objects, one after the other; an object without one is passed over.
+/// A new file is filled by the pairs of its objects, one after the other, and its slots stay in their places; an object without
+/// a pair is passed over.
 pub fn a_file_is_filled()
     ensures begins { (p : Params) (cells : ℕ → Cell) (file : List ℕ) → IsNewFile p file → IsFilledTo p 0 cells file }
     ensures put { (p : Params) (n : ℕ) (cells : ℕ → Cell) (old new : List ℕ) → IsFilledTo p n cells old → n < p.objects → 1 ≤ (cells n).id → (cells n).id < 2 ^ 62 →
-        length (cells n).value ≤ p.cap → IsPut (place_in old n 0) (cells n).id (cells n).value old new → IsFilledTo p (n + 1) cells new }
+        length (cells n).value ≤ p.cap → IsPut (place_in old n 0) (cells n).id (cells n).value old new → IsFilledTo p (n + 1) cells new × (layout_in new ≡ layout_in old) }
     ensures passed { (p : Params) (n : ℕ) (cells : ℕ → Cell) (file : List ℕ) → IsFilledTo p n cells file → n < p.objects → cells n ≡ record { id = 0; value = [] } →
         IsFilledTo p (n + 1) cells file }
 {}

@@ -4,7 +4,8 @@ use Rattle.disk_model.specs.declared.machine.FileNo.TheVariants.{Objects}
 use Rattle.formats.specs.Objects.{header_fields, number_fields}
 use Rattle.stable_objects.specs.Layouts.{new_layout}
 use Rattle.stable_objects.proofs.Fields.{first_fields, second_fields, no_numbers, length-header_fields, length-number_fields}
-use Rattle.stable_objects.proofs.Made.{torn_run, run_keeps, closed_behind, first_place, second_place}
+use Rattle.stable_objects.specs.GateLaws.{torn_run}
+use Rattle.stable_objects.proofs.Made.{run_keeps, closed_behind, first_place, second_place}
 use Rattle.stable_objects.proofs.creating.write_fields.Goals as goal
 
 pub returns-in_err-write_at-clause-runs : goal.returns-in_err-write_at-clause-runs

@@ -4,7 +4,7 @@ use Rattle.disk_model.specs.Disk.{Files}
 use Rattle.disk_model.specs.declared.machine.FileNo.TheVariants.{Objects}
 use Rattle.stable_objects.specs.Growing.{IsGrown}
 use Rattle.stable_objects.specs.Larger.{IsStill, end_of_slots}
-use Rattle.stable_objects.proofs.Grown.{all_moved, behind_any, behind_none, behind_settled, either, fails_later, looking, moving, now_grown, run_all, run_laid, run_moved, still_none, version_any, writing}
+use Rattle.stable_objects.proofs.Grown.{all_moved, behind_any, behind_none, behind_settled, either, fails_later, grows_not, looking, moving, now_grown, run_all, run_laid, run_moved, still_none, version_any, writing}
 use Rattle.stable_objects.proofs.Staying.{still_in_front}
 use Rattle.stable_objects.proofs.slots.Slots.grow.Goals as goal
 
@@ -65,7 +65,8 @@ pub returns-in_err-move_pairs-clause-cause : goal.returns-in_err-move_pairs-clau
 returns-in_err-move_pairs-clause-cause g c =
     let slots = c.args.self.now in
     let e = err_from_is_err_and c.from_residual-in_err-move_pairs.result c.from_residual-in_err-move_pairs.ensures.1 in
-    rw (e.1, e.2) (fails_later slots c.args.params c.requires.first (g.M.Machine.disk c.args.machine.now) (g.M.Machine.disk c.lay_out_larger.new.machine) (g.M.Machine.disk c.move_pairs.new.machine) c.in_err-move_pairs.field-0.0 (run_laid slots c.args.params c.requires.first c.find_last_head.ensures.kept c.lay_out_larger.ensures.runs) c.in_err-move_pairs.ensures.cause)
+    rw (e.1, e.2) (grows_not slots c.args.params c.requires.first (g.M.Machine.disk c.args.machine.now) (g.M.Machine.disk c.move_pairs.new.machine) c.in_err-move_pairs.field-0.0 c.in_ok-find_last_head.ensures.whole
+    (fails_later slots c.args.params c.requires.first (g.M.Machine.disk c.args.machine.now) (g.M.Machine.disk c.lay_out_larger.new.machine) (g.M.Machine.disk c.move_pairs.new.machine) c.in_err-move_pairs.field-0.0 (run_laid slots c.args.params c.requires.first c.find_last_head.ensures.kept c.lay_out_larger.ensures.runs) c.in_err-move_pairs.ensures.cause))
 
 pub returns-in_err-sync-clause-runs : goal.returns-in_err-sync-clause-runs
 returns-in_err-sync-clause-runs g c =

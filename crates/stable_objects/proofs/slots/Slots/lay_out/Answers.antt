@@ -4,7 +4,8 @@ use Rattle.disk_model.specs.Moments.{runs_then_stays}
 use Rattle.disk_model.specs.declared.machine.FileNo.TheVariants.{Objects}
 use Rattle.formats.specs.declared.layout.Layout.{Layout}
 use Rattle.stable_objects.specs.Making.{HasClosedSlots, IsLaidOut}
-use Rattle.stable_objects.proofs.Made.{front_keeps, keeps_join, keeps_settled, laid_out}
+use Rattle.stable_objects.specs.GateLaws.{keeps_join}
+use Rattle.stable_objects.proofs.Made.{front_keeps, keeps_settled, laid_out}
 use Rattle.stable_objects.proofs.slots.Slots.lay_out.Goals as goal
 
 pub returns-in_err-close_slots-clause-runs : goal.returns-in_err-close_slots-clause-runs
