@@ -10,11 +10,9 @@ mod laws;
 mod limit;
 mod redoing;
 mod replay;
-mod tuning;
 
 pub use laws::{
     a_found_world_is_due, a_redo_ends, a_redo_goes_on, a_redo_leaves_nothing, a_replay_is_shown,
     an_empty_store_shows_it, records_are_members, what_is_due_is_set,
 };
 pub use redoing::redo;
-pub use tuning::Tuning;

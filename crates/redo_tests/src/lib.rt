@@ -1,5 +1,5 @@
-//! A test crate: the tests of explain_core, dirty_cache, identity_writes and analysis_pass, and those of redo_pass and
-//! running_store over files. The library is empty.
+//! A test crate: the tests of explain_core, dirty_cache, identity_writes and analysis_pass, and those of redo_pass,
+//! restart and running_store over files. The library is empty.
 //!
 //! They stand apart so that the proofs of those crates are made once, and not a second time with their tests.
 #![tactic(auto)]
@@ -20,3 +20,5 @@ mod redone;
 mod stops;
 #[cfg(test)]
 mod thinning;
+#[cfg(test)]
+mod tuned;

@@ -50,7 +50,7 @@ pub const CHECKED: &[u8] = &[
 ];
 
 // The place of the first block of a log, and that of the block after three puts.
-const FIRST: u64 = 33;
+pub const FIRST: u64 = 33;
 
 pub const BEHIND_THREE: u64 = 98;
 

@@ -9,7 +9,7 @@ use formats::ReadErr;
 use log_records::RecordLog;
 use op_codec::AllOps;
 use oper_core::Bounds;
-use redo_pass::{Tuning, redo};
+use redo_pass::redo;
 use redo_tables::Table;
 use running_store::{Objects, Store};
 use std::alloc::Global;
@@ -67,19 +67,11 @@ pub fn begun(alloc: Global, machine: &mut MemMachine) -> Result<(Store<AllOps>, 
     ensures empty { IfOk result (λ it. ((x : ℕ) → held it.0.parts.volatile.objects.cache x ≡ None) × (it.0.parts.volatile.entries ≡ [])) }
 {
     let graph = WriteGraph::new(alloc)?;
-    let objects = Objects::load(alloc, machine, 2)?;
+    let objects = Objects::load(alloc, machine, 2, 0)?;
     let (log, last) = loaded(alloc, machine, objects.bounds())?;
     refuse_late(&objects, log.next())?;
     let plan = analyse(alloc, log.base(), last);
     Ok((Store::new(alloc, log, objects, graph), plan))
-}
-
-// A redo that leaves so many objects dirty.
-fn within(limit: usize) -> Tuning {
-    Tuning {
-        clean: 2,
-        redo_dirty: limit,
-    }
 }
 
 // Does the log again, on a machine that fails after so many calls of the redo.
@@ -91,7 +83,7 @@ pub fn run_redo(
 ) -> Result<Redone, Fail> {
     let (mut store, plan) = begun(alloc, &mut machine)?;
     let mut fuse = Fuse::new(machine, calls);
-    let ends = redo(&plan, &mut store, &mut fuse, within(limit)).is_ok();
+    let ends = redo(&plan, &mut store, &mut fuse, limit).is_ok();
     Ok(Redone {
         machine: fuse.into_inner(),
         store,

@@ -21,7 +21,7 @@ use Rattle.running_store.specs.Taking.{ArePartsInUse}
 use Rattle.restart.specs.Damage.{IsReadAsDamaged, IsReported}
 use Rattle.restart.specs.DamageLaws.{passes_all, one_first_fault}
 use Rattle.restart.specs.Loading.{LoadsNot}
-use Rattle.restart.specs.Opening.{IsJudged, IsOpening}
+use Rattle.restart.specs.Opening.{IsJudged, IsOpening, KeepsLayout}
 use Rattle.restart.specs.WellFormed.{IsWellFormed, opens_gate}
 
 -- calls that say nothing, one after the other
@@ -65,9 +65,10 @@ on_ok (Err e) holds = tt
 
 module _ {O : Type 0} (meaning : Bounds → Meaning O) (bounded : (b : Bounds) → HasBounds b (meaning b)) (lawful : (b : Bounds) → IsSmall b → IsLawful (meaning b)) (old new : Disk) where
   -- files that meet their format
-  pub judged_whole : IsWellFormed meaning old.reads → (result : Result Parts OpenErr) → IfErr result IsNoDamage → IsJudged meaning old new result
-  judged_whole image result none = record {
+  pub judged_whole : IsWellFormed meaning old.reads → (result : Result Parts OpenErr) → IfErr result IsNoDamage → OnOk result (KeepsLayout (old.reads Objects) (new.reads Objects)) → IsJudged meaning old new result
+  judged_whole image result none layout = record {
     read = on_ok result image;
+    layout = layout;
     whole = λ is. none;
     kept = inl image;
     no_store = λ is. absurd (IfErr-at_err IsNoDamage is none);
@@ -89,6 +90,7 @@ module _ {O : Type 0} (meaning : Bounds → Meaning O) (bounded : (b : Bounds) �
     pub judged_unread : (e : OpenErr) → (IsWellFormed meaning old.reads → IsNoDamage e) → LoadsNot meaning old new e → (e ≡ Memory → IsOpenAt 0 (old.reads Objects)) → IsJudged meaning old new (Err e)
     judged_unread e whole fails memory = record {
       read = tt;
+      layout = tt;
       whole = whole;
       kept = inr kept;
       no_store = λ is. IfErr-at_err (LoadsNot meaning old new) is fails old.reads (told_agrees kept told);

@@ -1,12 +1,20 @@
--- What a restart does, as a function of the world that the files show and of the log's length.
+-- What a restart does, as a function of the world that the files show, of the log's length, and of how many objects may be
+-- dirty in its redo.
 use Rattle.std.specs.Prelude.{ℕ, ◌∷◌}
 use Rattle.oper_core.specs.Meaning.{Meaning}
+use Rattle.formats.specs.declared.params.Params.{Params}
 use Rattle.explain_core.specs.World.{World, step}
 use Rattle.explain_core.specs.World.Step.{Crash}
 use Rattle.running_store.specs.Courses.{Course, course, and_then}
 use Rattle.running_store.specs.Courses.Stop.{Through}
+use Rattle.running_store.specs.Limits.{objects_within}
 use Rattle.checkpointing.specs.Courses.{closing_course}
 use Rattle.redo_pass.specs.Redo.{redo_steps}
+use Rattle.restart.specs.declared.tuning.Tuning.{Tuning}
+
+-- how many objects may be dirty in a redo before it installs
+abbrev pub dirty_limit : Tuning → Params → ℕ
+dirty_limit tuning p = objects_within tuning.redo_dirty tuning.redo_bytes p
 
 -- all turns of the redo, and after them a check, where the log has room for one
 abbrev pub opening_course : {O : Type 0} → Meaning O → ℕ → World O → ℕ → Course O

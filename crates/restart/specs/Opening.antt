@@ -9,6 +9,7 @@ use Rattle.oper_core.specs.declared.bounds.Bounds.{Bounds}
 use Rattle.formats.specs.Bytes.{IsOpenAt, IsClosedAt}
 use Rattle.formats.specs.FirstFault.{IsDamaged}
 use Rattle.formats.specs.Image.{EndsAt}
+use Rattle.formats.specs.Objects.{is_second, layout_in}
 use Rattle.formats.specs.declared.params.Params.{Params}
 use Rattle.stable_objects.specs.Reading.{IsNoDamage}
 use Rattle.stable_objects.specs.declared.open_err.OpenErr.{OpenErr}
@@ -42,11 +43,17 @@ pub record IsOpening {O : Type 0} (meaning : Bounds → Meaning O) (old new : Di
   pub in_use : IfOk result ArePartsInUse
   pub attached : IfOk result (IsAttached meaning new)
 
+-- the file keeps its version, its numbers, and the place of its first slot
+pub record KeepsLayout (old new : List ℕ) : Type 0 where
+  pub version : is_second new ≡ is_second old
+  pub layout : layout_in new ≡ layout_in old
+
 -- What a restart says of the files, where the machine reports them. A store is opened only where they meet their format;
 -- where they do, they are neither called damaged nor no store. Where they do not, they stay as they are, and the damage
 -- that is reported is there, and none other: it is that of the first check that fails.
 pub record IsJudged {O : Type 0} (meaning : Bounds → Meaning O) (old new : Disk) (result : Result Parts OpenErr) : Type 0 where
   pub read : OnOk result (IsWellFormed meaning old.reads)
+  pub layout : OnOk result (KeepsLayout (old.reads Objects) (new.reads Objects))
   pub whole : IsWellFormed meaning old.reads → IfErr result IsNoDamage
   pub kept : IsWellFormed meaning old.reads ⊎ Stays old new
   pub no_store : IsErrOf result NotAStore → IsClosedAt 0 (old.reads Objects)

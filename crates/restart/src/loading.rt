@@ -7,6 +7,7 @@ ghost use Rattle.stable_objects.specs.Reading.{IsNoDamage};
 ghost use Rattle.restart.specs.Loading.{IsFiled, IsFreshStore, IsRead, LoadsNot};
 ghost use Rattle.restart.specs.WellFormed.{IsWellFormed};
 
+use crate::Tuning;
 use analysis_pass::{Plan, analyse};
 use disk_model::{FileNo, Machine, settle};
 use log_records::RecordLog;
@@ -22,9 +23,9 @@ use write_graph::WriteGraph;
 pub(crate) fn load<O: Oper, M: Machine>(
     alloc: Global,
     machine: &mut M,
-    clean: usize,
+    tuning: Tuning,
 ) -> Result<(Store<O>, Plan), OpenErr>
-    requires some { 0 < clean }
+    requires some { 0 < tuning.clean }
     ensures kept { Stays (M.disk machine.old) (M.disk machine.new) }
     ensures ready { IfOk result (λ it. IsFreshStore (M.disk machine.new) it.0) }
     ensures read { (M.disk machine.old).tells_files → IfOk result (λ it. IsRead O.meaning (M.disk machine.old).reads (M.disk machine.new) it.0.parts it.1) }
@@ -34,7 +35,7 @@ pub(crate) fn load<O: Oper, M: Machine>(
     ensures memory { (M.disk machine.old).tells_files → IsErrOf result OpenErr.Memory → IsOpenAt 0 ((M.disk machine.old).reads ObjectsFile) }
 {
     settle(machine)?;
-    let objects = Objects::load(alloc, machine, clean)?;
+    let objects = Objects::load(alloc, machine, tuning.clean, tuning.clean_bytes)?;
     let (log, last) = RecordLog::<O>::load_checked(alloc, machine, objects.bounds())?;
     if let Some(place) = objects.first_late(log.next()) {
         drop((objects, log, last));

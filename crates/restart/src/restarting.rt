@@ -4,7 +4,7 @@ ghost use Rattle.formats.specs.declared.params.Params.{Params as Numbers};
 ghost use Rattle.explain_core.specs.World.{World};
 ghost use Rattle.running_store.specs.Parts.{meaning_in};
 ghost use Rattle.running_store.specs.Taking.{IsAfter};
-ghost use Rattle.restart.specs.Courses.{restart_course};
+ghost use Rattle.restart.specs.Courses.{dirty_limit, restart_course};
 ghost use Rattle.restart.specs.Damage.{IsReported};
 ghost use Rattle.restart.specs.Loading.{IsFresh};
 ghost use Rattle.restart.specs.Opening.{IsJudged, IsOpening, OpensOn, OpensThrough, opened};
@@ -35,16 +35,17 @@ pub fn restart<O: Oper, M: Machine>(
     // Of each world that the files show the whole course is taken, and the log is as long as that says.
     ensures follows { (p : Numbers) (used : ℕ) (w : World O) → OpensOn (meaning_in O.meaning p) p (M.disk machine.old) used w →
         IfOk (opened result) (λ it. IsAfter (meaning_in O.meaning p) p (M.disk machine.new) it w
-        (restart_course (meaning_in O.meaning p) tuning.redo_dirty w used)) }
+        (restart_course (meaning_in O.meaning p) (dirty_limit tuning p) w used)) }
     ensures steps { (M.disk machine.old).tells_moments → (p : Numbers) (used : ℕ) (w : World O) →
         OpensOn (meaning_in O.meaning p) p (M.disk machine.old) used w →
         OpensThrough (meaning_in O.meaning p) p (M.disk machine.old) (M.disk machine.new) w
-        (restart_course (meaning_in O.meaning p) tuning.redo_dirty w used).steps }
+        (restart_course (meaning_in O.meaning p) (dirty_limit tuning p) w used).steps }
 {
     explain_core::crash_keeps::<O>();
     standing::unseen_steps_change_nothing::<O>();
-    let (mut store, plan) = load::<O, M>(alloc, machine, tuning.clean)?;
-    match open(&plan, &mut store, machine, tuning) {
+    let (mut store, plan) = load::<O, M>(alloc, machine, tuning)?;
+    let limit = tuning.dirty_limit(store.params());
+    match open(&plan, &mut store, machine, limit) {
         Ok(()) => {
             // Called for its clauses: a store that is not broken is in use.
             let _params = store.params();

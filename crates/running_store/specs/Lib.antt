@@ -12,6 +12,7 @@ pub mod Flushed
 pub mod Early
 pub mod Installed
 pub mod InUse
+pub mod Limits
 pub mod Lengths
 pub mod LengthLaws
 pub mod Among

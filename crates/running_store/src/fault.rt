@@ -1,10 +1,10 @@
 // Whether a call failed with the disk.
 ghost use Rattle.std.specs.Prelude.{◌≡◌, ◌||◌, Bool, true};
-ghost use Rattle.running_store.specs.Faults.{has_failed, is_read_fault, is_rewrite_fault};
+ghost use Rattle.running_store.specs.Faults.{has_failed, is_copy_fault, is_read_fault, is_rewrite_fault};
 
 use disk_model::Failed;
 use formats::ReadErr;
-use log_records::RewriteErr;
+use log_records::{CopyErr, RewriteErr};
 
 /// Why a call fails. One of the causes is a fault of the disk.
 pub(crate) trait Fault: Drop {
@@ -45,6 +45,20 @@ impl Fault for RewriteErr {
             | RewriteErr::Exhausted { .. }
             | RewriteErr::Damaged { .. }
             | RewriteErr::Memory => false,
+        }
+    }
+}
+
+impl Fault for CopyErr {
+    ghost is_fault = { is_copy_fault };
+
+    fn is_disk_fault(&self) -> bool {
+        match self {
+            CopyErr::DiskFault => true,
+            CopyErr::LogFull { .. }
+            | CopyErr::TargetFault
+            | CopyErr::Damaged { .. }
+            | CopyErr::Memory => false,
         }
     }
 }

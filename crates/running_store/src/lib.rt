@@ -11,7 +11,8 @@
 //!
 //! [`Objects`] holds what is cached: an object's identifier and value are those of the cache, or else those of its slot, and
 //! what was read and forgotten is read again, and is the same. The length of each value is known without a read, from the
-//! cache or the head of its slot, so `next_empty` finds the next empty object in memory alone. An error says what can come:
+//! cache or the head of its slot, so `next_empty` finds the next empty object in memory alone. For a backup a
+//! slot is read past the cache (`read_slot`), and the log is copied to another machine (`copy_log`). An error says what can come:
 //! `ReadErr` of a call that reads, `RewriteErr` of a rewrite, `Failed` or `Memory` of one that fails by that alone, and
 //! [`StoreErr`] of the calls above that fail by either. The crate depends on log_records, stable_objects, dirty_cache,
 //! number_lists and write_graph, of which a store is made, on standing and explain_core, which say what files and worlds are,
@@ -28,13 +29,17 @@ mod fault;
 mod fetching;
 mod finishing;
 mod laws;
+mod limits;
+mod log_copy;
 mod objects;
 mod reading;
 mod rewriting;
+mod slots;
 mod store;
 mod store_err;
 
 pub use laws::{a_check_taken_now, dirty_objects_are_counted};
+pub use limits::objects_within;
 pub use objects::Objects;
 pub use store::Store;
 pub use store_err::StoreErr;

@@ -12,8 +12,10 @@ ghost use Rattle.oper_core.specs.State.{is_among};
 ghost use Rattle.dirty_cache.specs.Contents.{held, is_dirty, AreDirty, HasRoom};
 ghost use Rattle.running_store.specs.Fetched.{IsFetched};
 ghost use Rattle.running_store.specs.Laid.{IsLaidOn, values_in, id_at, with_chosen, with_entries};
+ghost use Rattle.running_store.specs.Limits.{clean_limit as clean_objects};
 
 use crate::empties::empty_objects;
+use crate::limits::clean_limit;
 use dirty_cache::Cache;
 use disk_model::Machine;
 use formats::Params;
@@ -45,17 +47,20 @@ impl Model for Objects {
 }
 
 impl Objects {
-    /// The objects of the store in the objects file, of which at most so many clean ones are cached at a time, at least
-    /// one. None is cached yet.
+    /// The objects of the store in the objects file. Of the clean ones as many are cached at a time as have at most
+    /// `clean_bytes` bytes together, however long their values are, and at least `clean`, which is one or more. None is
+    /// cached yet.
     pub fn load<M: Machine>(
         alloc: Global,
         machine: &mut M,
         clean: usize,
+        clean_bytes: usize,
     ) -> Result<Objects, OpenErr>
         requires { 0 < clean }
         ensures kept { Stays (M.disk machine.old) (M.disk machine.new) }
         ensures read { (files : Files) → (M.disk machine.new).agrees files → IfOk result (λ o. IsLaidOn o (files ObjectsFile)) }
         ensures empty { IfOk result (λ o. (x : ℕ) → held o.cache x ≡ None) }
+        ensures limit { IfOk result (λ o. o.cache.limit ≡ clean_objects clean clean_bytes o.slots.params) }
         ensures cause { IfErr result (OpensNot ((files : Files) → (M.disk machine.new).agrees files → IsClosedAt 0 (files ObjectsFile))
             (FailsBy (Rises (M.disk machine.old).disk_faults (M.disk machine.new).disk_faults)
             (FailsAt (λ place. (files : Files) → (M.disk machine.new).agrees files → IsDamagedAt (files ObjectsFile) place)))) }
@@ -63,7 +68,8 @@ impl Objects {
         ensures memory { (files : Files) → (M.disk machine.new).agrees files → IsErrOf result OpenErr.Memory → IsOpenAt 0 (files ObjectsFile) }
     {
         let slots = Slots::load(alloc, machine)?;
-        let cache = Cache::new(alloc, clean)?;
+        let limit = clean_limit(clean, clean_bytes, slots.params());
+        let cache = Cache::new(alloc, limit)?;
         let empties = empty_objects(alloc, &slots)?;
         Ok(Objects {
             alloc,

@@ -25,7 +25,7 @@ use Rattle.redo_pass.proofs.redoing.redo.Goals as goal
 
 -- the reader has given one record more than were done
 next : (g : Over) (c : In-Some g)
-    → IsAt g.O.Oper.meaning c.args.tuning.redo_dirty c.args.plan.now c.args.store.now (g.M.Machine.disk c.args.machine.now) (g.M.Machine.disk c.read_log.new.machine) c.read_log.new.self c.read_log.new.reader c.loop-reader.invariant.0 (c.loop-reader.invariant.0 ++ c.in-Some.record ∷ [])
+    → IsAt g.O.Oper.meaning c.args.limit c.args.plan.now c.args.store.now (g.M.Machine.disk c.args.machine.now) (g.M.Machine.disk c.read_log.new.machine) c.read_log.new.self c.read_log.new.reader c.loop-reader.invariant.0 (c.loop-reader.invariant.0 ++ c.in-Some.record ∷ [])
 next g c =
     next_given (g.M.Machine.disk c.read_log.new.machine) c.read_log.new.reader c.in_ok-record.field-0 c.loop-reader.invariant c.in_ok-record.ensures.read c.read_log.ensures.kept.stays c.in_ok-record.ensures.kept.store c.read_log.ensures.reader.same c.read_log.ensures.reader.bounds c.in-Some.is
 
@@ -33,7 +33,7 @@ pub loop-reader-init : goal.loop-reader-init
 loop-reader-init g c = (
   [],
   record {
-    so_far = done_still (done_none {meaning = g.O.Oper.meaning} {limit = c.args.tuning.redo_dirty} {plan = c.args.plan.now} {first = c.args.store.now} (g.met.M.Machine.lawful c.args.machine.now) c.requires.unbroken c.requires.empty) c.log_reader.ensures.kept.stays c.in_ok-reader.ensures.kept.store;
+    so_far = done_still (done_none {meaning = g.O.Oper.meaning} {limit = c.args.limit} {plan = c.args.plan.now} {first = c.args.store.now} (g.met.M.Machine.lawful c.args.machine.now) c.requires.unbroken c.requires.empty) c.log_reader.ensures.kept.stays c.in_ok-reader.ensures.kept.store;
     from = c.in_ok-reader.ensures.reader.from ∙ c.start.ensures;
     bounds = c.in_ok-reader.ensures.reader.bounds;
     reading = subst (λ (b : Bounds). IsReadingNumbered (g.O.Oper.meaning b) (g.M.Machine.disk c.log_reader.new.machine) c.args.store.now.parts.log c.in_ok-reader.reader []) (sym c.in_ok-reader.ensures.reader.bounds) c.in_ok-reader.ensures.reader.reading;
@@ -51,7 +51,7 @@ returns-in_err-reader-clause-objects g c =
 
 pub returns-in_err-reader-clause-steps : goal.returns-in_err-reader-clause-steps
 returns-in_err-reader-clause-steps g c = λ steps settled p w to.
-    steps_of (g.O.Oper.meaning (bounds_of p)) p c.args.tuning.redo_dirty w to (still_moments (done_none {meaning = g.O.Oper.meaning} {limit = c.args.tuning.redo_dirty} {plan = c.args.plan.now} {first = c.args.store.now} (g.met.M.Machine.lawful c.args.machine.now) c.requires.unbroken c.requires.empty) c.log_reader.ensures.kept.stays steps settled p w to)
+    steps_of (g.O.Oper.meaning (bounds_of p)) p c.args.limit w to (still_moments (done_none {meaning = g.O.Oper.meaning} {limit = c.args.limit} {plan = c.args.plan.now} {first = c.args.store.now} (g.met.M.Machine.lawful c.args.machine.now) c.requires.unbroken c.requires.empty) c.log_reader.ensures.kept.stays steps settled p w to)
 
 pub returns-in_err-reader-clause-cause : goal.returns-in_err-reader-clause-cause
 returns-in_err-reader-clause-cause g c =
@@ -78,7 +78,7 @@ returns-in_err-record-clause-objects g c =
 
 pub returns-in_err-record-clause-steps : goal.returns-in_err-record-clause-steps
 returns-in_err-record-clause-steps g c = λ steps settled p w to.
-    steps_of (g.O.Oper.meaning (bounds_of p)) p c.args.tuning.redo_dirty w to (still_moments c.loop-reader.invariant.1.so_far c.read_log.ensures.kept.stays steps settled p w to)
+    steps_of (g.O.Oper.meaning (bounds_of p)) p c.args.limit w to (still_moments c.loop-reader.invariant.1.so_far c.read_log.ensures.kept.stays steps settled p w to)
 
 pub returns-in_err-record-clause-cause : goal.returns-in_err-record-clause-cause
 returns-in_err-record-clause-cause g c =
@@ -124,7 +124,7 @@ returns-in_err-replay-clause-objects g c =
 pub returns-in_err-replay-clause-steps : goal.returns-in_err-replay-clause-steps
 returns-in_err-replay-clause-steps g c = λ steps settled p w to.
     let one = next g (goal.at.returns-in_err-replay-clause-steps g c).In-Some in
-    steps_of (g.O.Oper.meaning (bounds_of p)) p c.args.tuning.redo_dirty w to (still_moments one.so_far c.replay.ensures.replayed.read.read.stays steps settled p w to)
+    steps_of (g.O.Oper.meaning (bounds_of p)) p c.args.limit w to (still_moments one.so_far c.replay.ensures.replayed.read.read.stays steps settled p w to)
 
 pub returns-in_err-replay-clause-cause : goal.returns-in_err-replay-clause-cause
 returns-in_err-replay-clause-cause g c =
@@ -156,7 +156,7 @@ returns-in_err-limit_dirty-clause-objects g c =
 pub returns-in_err-limit_dirty-clause-steps : goal.returns-in_err-limit_dirty-clause-steps
 returns-in_err-limit_dirty-clause-steps g c = λ steps settled p w to.
     let one = next g (goal.at.returns-in_err-limit_dirty-clause-steps g c).In-Some in
-    steps_of (g.O.Oper.meaning (bounds_of p)) p c.args.tuning.redo_dirty w to
+    steps_of (g.O.Oper.meaning (bounds_of p)) p c.args.limit w to
     (moments_on c.in-Some.record one (c.params-params.ensures.in_use c.requires.unbroken) c.in_ok-replay.ensures.replayed c.in_ok-replay.ensures.shown (λ b small. has_codes (g.O.Oper.meaning b) b small (g.met.O.Oper.bounded b) (g.met.O.Oper.lawful b small))
     c.turns_keep.ensures.sound c.unseen_steps_change_nothing.ensures c.limit_dirty.ensures.steps steps settled p w to)
 
@@ -196,7 +196,7 @@ returns-clause-objects g c =
 pub returns-clause-redone : goal.returns-clause-redone
 returns-clause-redone g c = λ told settled p w to.
     let meaning = g.O.Oper.meaning in
-    let limit = c.args.tuning.redo_dirty in
+    let limit = c.args.limit in
     let old = g.M.Machine.disk c.args.machine.now in
     let inv = c.loop-reader.invariant in
     let done = done_still c.loop-reader.invariant.1.so_far c.read_log.ensures.kept.stays c.in_ok-record.ensures.kept.store in
@@ -208,4 +208,4 @@ returns-clause-redone g c = λ told settled p w to.
 pub returns-clause-steps : goal.returns-clause-steps
 returns-clause-steps g c = λ steps settled p w to.
     let done = done_still c.loop-reader.invariant.1.so_far c.read_log.ensures.kept.stays c.in_ok-record.ensures.kept.store in
-    steps_of (g.O.Oper.meaning (bounds_of p)) p c.args.tuning.redo_dirty w to (done.steps steps settled p w to)
+    steps_of (g.O.Oper.meaning (bounds_of p)) p c.args.limit w to (done.steps steps settled p w to)

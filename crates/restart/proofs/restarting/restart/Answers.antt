@@ -1,4 +1,4 @@
-use Rattle.std.proofs.Common.{inl, arith, sym, subst, ⊎_elim, Ok, Err}
+use Rattle.std.proofs.Common.{◌≡◌, ◌∙◌, ℕ, inl, arith, ap, sym, subst, ⊎_elim, Ok, Err}
 use Rattle.std.proofs.lemmas.Bool.{false_from_ne_true}
 use Rattle.disk_model.specs.declared.machine.FileNo.TheVariants.{Objects}
 use Rattle.formats.specs.Objects.{bounds_of}
@@ -8,14 +8,20 @@ use Rattle.stable_objects.specs.declared.open_err.OpenErr.{OpenErr}
 use Rattle.explain_core.specs.World.{step}
 use Rattle.explain_core.specs.World.Step.{Crash}
 use Rattle.standing.specs.OneStable.{small_store}
+use Rattle.running_store.specs.Kept.{IsAttached}
+use Rattle.running_store.specs.Taking.{IsAfter}
 use Rattle.redo_pass.specs.Endings.{as_error}
+use Rattle.restart.specs.Courses.{dirty_limit, restart_course}
 use Rattle.restart.specs.Damage.{IsReported}
-use Rattle.restart.specs.Opening.{IsJudged, IsOpening, opened}
+use Rattle.restart.specs.Opening.{IsJudged, IsOpening, OpensThrough, opened}
 use Rattle.restart.specs.Starts.{at_start}
 use Rattle.restart.proofs.Judged.{quiet_stays, quiet_then, rises_behind, cause_of, not_opened, is_opened, is_reported, none_reported, judged_whole, judged_unread}
+use Rattle.restart.proofs.Layouts.{keeps_layout}
 use Rattle.restart.proofs.Opened.{filed_well_formed, unharmed}
 use Rattle.restart.proofs.Redone.{opening_fails, redo_damages, redo_never}
 use Rattle.restart.proofs.Restarts.{read_attached, to_redo, whole_after, whole_moments}
+use Rattle.restart.proofs.restarting.restart.Given.{Over}
+use Rattle.restart.proofs.restarting.restart.Goals.{In-Ok}
 use Rattle.restart.proofs.restarting.restart.Goals as goal
 
 pub returns-in_err-store-clause-opening : goal.returns-in_err-store-clause-opening
@@ -53,7 +59,7 @@ pub returns-clause-judged : goal.returns-clause-judged
 returns-clause-judged g c told =
     subst (λ (e : OpenErr). IsJudged g.O.Oper.meaning (g.M.Machine.disk c.args.machine.now) (g.M.Machine.disk c.open.new.machine) (Err e)) (sym c.from.ensures)
     (judged_whole g.O.Oper.meaning g.met.O.Oper.bounded g.met.O.Oper.lawful (g.M.Machine.disk c.args.machine.now) (g.M.Machine.disk c.open.new.machine) (filed_well_formed g.O.Oper.meaning (g.M.Machine.disk c.args.machine.now).reads c.in_ok-store.store.parts c.in_ok-store.plan (c.in_ok-store.ensures.read told).filed) (Err (open_from_read c.in-Err.cause))
-    (unharmed c.in-Err.cause (none_told _ _ c.in-Err.cause (λ f place found. redo_never g.O.Oper.meaning g.met.O.Oper.bounded g.met.O.Oper.lawful (g.M.Machine.disk c.args.machine.now) (g.M.Machine.disk c.load.new.machine) (g.M.Machine.disk c.open.new.machine) c.load.ensures.kept c.in_ok-store.store.parts c.open.new.store.parts c.in_ok-store.plan c.in_ok-store.ensures.ready.bounds f place found told (c.in_ok-store.ensures.read told)) c.in-Err.ensures.damage)))
+    (unharmed c.in-Err.cause (none_told _ _ c.in-Err.cause (λ f place found. redo_never g.O.Oper.meaning g.met.O.Oper.bounded g.met.O.Oper.lawful (g.M.Machine.disk c.args.machine.now) (g.M.Machine.disk c.load.new.machine) (g.M.Machine.disk c.open.new.machine) c.load.ensures.kept c.in_ok-store.store.parts c.open.new.store.parts c.in_ok-store.plan c.in_ok-store.ensures.ready.bounds f place found told (c.in_ok-store.ensures.read told)) c.in-Err.ensures.damage)) tt)
 
 pub returns-clause-reported : goal.returns-clause-reported
 returns-clause-reported g c =
@@ -66,7 +72,15 @@ returns-clause-steps g c told p used w opens =
     let m = g.O.Oper.meaning (bounds_of p) in
     let small = small_store p ((g.M.Machine.disk c.args.machine.now).reads Objects) opens.shows.objects in
     let to = to_redo g.O.Oper.meaning (g.M.Machine.disk c.args.machine.now) (g.M.Machine.disk c.load.new.machine) c.load.ensures.kept c.in_ok-store.store.parts c.in_ok-store.plan c.in_ok-store.ensures.ready.bounds p used w opens (c.in_ok-store.ensures.read opens.told) (c.crash_keeps.ensures (bounds_of p) w small opens.sound) (c.unseen_steps_change_nothing.ensures p (g.M.Machine.disk c.args.machine.now).reads w Crash opens.sound tt opens.shows) in
-    whole_moments g.O.Oper.meaning (g.M.Machine.disk c.args.machine.now) (g.M.Machine.disk c.load.new.machine) c.load.ensures.kept c.in_ok-store.store.parts c.in_ok-store.plan c.in_ok-store.ensures.ready.bounds p used w opens to c.args.tuning.redo_dirty (g.M.Machine.disk c.open.new.machine) told (c.open.ensures.steps (c.load.ensures.kept.time.moments_told.0 told) p (step m w Crash) to)
+    let limit : c.dirty_limit-limit.result ≡ dirty_limit c.args.tuning p = c.dirty_limit-limit.ensures ∙ ap (dirty_limit c.args.tuning) (c.params.ensures.value ∙ to.params) in
+    subst (λ (n : ℕ). OpensThrough m p (g.M.Machine.disk c.args.machine.now) (g.M.Machine.disk c.open.new.machine) w (restart_course m n w used).steps) limit
+    (whole_moments g.O.Oper.meaning (g.M.Machine.disk c.args.machine.now) (g.M.Machine.disk c.load.new.machine) c.load.ensures.kept c.in_ok-store.store.parts c.in_ok-store.plan c.in_ok-store.ensures.ready.bounds p used w opens to c.dirty_limit-limit.result (g.M.Machine.disk c.open.new.machine) told (c.open.ensures.steps (c.load.ensures.kept.time.moments_told.0 told) p (step m w Crash) to))
+
+-- the store that is opened is attached to its files
+still_attached : (g : Over) (c : In-Ok g) → IsAttached g.O.Oper.meaning (g.M.Machine.disk c.open.new.machine) c.open.new.store.parts
+still_attached g c =
+    ⊎_elim (λ failed. absurd failed)
+    (λ kept. kept (read_attached g.O.Oper.meaning (g.M.Machine.disk c.args.machine.now) (g.M.Machine.disk c.load.new.machine) c.load.ensures.kept c.in_ok-store.store.parts c.in_ok-store.plan c.in_ok-store.ensures.ready.bounds c.in_ok-store.ensures.read)) c.in-Ok.ensures.call.attached
 
 pub returns-in-Ok-clause-opening : goal.returns-in-Ok-clause-opening
 returns-in-Ok-clause-opening g c =
@@ -74,11 +88,13 @@ returns-in-Ok-clause-opening g c =
     is_opened g.O.Oper.meaning (g.M.Machine.disk c.args.machine.now) (g.M.Machine.disk c.open.new.machine) c.open.new.store.parts (quiet_then (g.M.Machine.disk c.args.machine.now) (g.M.Machine.disk c.load.new.machine) (g.M.Machine.disk c.open.new.machine) (quiet_stays (g.M.Machine.disk c.args.machine.now) (g.M.Machine.disk c.load.new.machine) c.load.ensures.kept) c.in-Ok.ensures.call.quiet)
     (⊎_elim (λ failed. absurd failed) (λ kept. kept c.in_ok-store.ensures.ready.settled) call.settled)
     (c.params-params.ensures.in_use (false_from_ne_true _ call.broken.0))
-    (⊎_elim (λ failed. absurd failed) (λ kept. kept (read_attached g.O.Oper.meaning (g.M.Machine.disk c.args.machine.now) (g.M.Machine.disk c.load.new.machine) c.load.ensures.kept c.in_ok-store.store.parts c.in_ok-store.plan c.in_ok-store.ensures.ready.bounds c.in_ok-store.ensures.read)) call.attached)
+    (still_attached g (goal.at.returns-in-Ok-clause-opening g c).In-Ok)
 
 pub returns-in-Ok-clause-judged : goal.returns-in-Ok-clause-judged
 returns-in-Ok-clause-judged g c told =
     judged_whole g.O.Oper.meaning g.met.O.Oper.bounded g.met.O.Oper.lawful (g.M.Machine.disk c.args.machine.now) (g.M.Machine.disk c.open.new.machine) (filed_well_formed g.O.Oper.meaning (g.M.Machine.disk c.args.machine.now).reads c.in_ok-store.store.parts c.in_ok-store.plan (c.in_ok-store.ensures.read told).filed) (Ok c.open.new.store.parts) tt
+    (keeps_layout c.in_ok-store.store.parts.volatile.objects.slots c.open.new.store.parts.volatile.objects.slots ((g.M.Machine.disk c.args.machine.now).reads Objects) ((g.M.Machine.disk c.open.new.machine).reads Objects) c.in-Ok.ensures.call.layout
+    (c.in_ok-store.ensures.read told).filed.laid.slots (still_attached g (goal.at.returns-in-Ok-clause-judged g c).In-Ok (c.in-Ok.ensures.call.quiet.time.files_told.0 (c.load.ensures.kept.time.files_told.0 told))).0.slots)
 
 pub returns-in-Ok-clause-reported : goal.returns-in-Ok-clause-reported
 returns-in-Ok-clause-reported g c =
@@ -94,11 +110,15 @@ returns-in-Ok-clause-follows g c p used w opens =
     let m = g.O.Oper.meaning (bounds_of p) in
     let small = small_store p ((g.M.Machine.disk c.args.machine.now).reads Objects) opens.shows.objects in
     let to = to_redo g.O.Oper.meaning (g.M.Machine.disk c.args.machine.now) (g.M.Machine.disk c.load.new.machine) c.load.ensures.kept c.in_ok-store.store.parts c.in_ok-store.plan c.in_ok-store.ensures.ready.bounds p used w opens (c.in_ok-store.ensures.read opens.told) (c.crash_keeps.ensures (bounds_of p) w small opens.sound) (c.unseen_steps_change_nothing.ensures p (g.M.Machine.disk c.args.machine.now).reads w Crash opens.sound tt opens.shows) in
-    whole_after g.O.Oper.meaning (g.M.Machine.disk c.args.machine.now) (g.M.Machine.disk c.load.new.machine) c.load.ensures.kept c.in_ok-store.store.parts c.in_ok-store.plan c.in_ok-store.ensures.ready.bounds p used w opens to c.args.tuning.redo_dirty (g.M.Machine.disk c.open.new.machine) c.open.new.store.parts (c.in-Ok.ensures.follows p (step m w Crash) to)
+    let limit : c.dirty_limit-limit.result ≡ dirty_limit c.args.tuning p = c.dirty_limit-limit.ensures ∙ ap (dirty_limit c.args.tuning) (c.params.ensures.value ∙ to.params) in
+    subst (λ (n : ℕ). IsAfter m p (g.M.Machine.disk c.open.new.machine) c.open.new.store.parts w (restart_course m n w used)) limit
+    (whole_after g.O.Oper.meaning (g.M.Machine.disk c.args.machine.now) (g.M.Machine.disk c.load.new.machine) c.load.ensures.kept c.in_ok-store.store.parts c.in_ok-store.plan c.in_ok-store.ensures.ready.bounds p used w opens to c.dirty_limit-limit.result (g.M.Machine.disk c.open.new.machine) c.open.new.store.parts (c.in-Ok.ensures.follows p (step m w Crash) to))
 
 pub returns-in-Ok-clause-steps : goal.returns-in-Ok-clause-steps
 returns-in-Ok-clause-steps g c told p used w opens =
     let m = g.O.Oper.meaning (bounds_of p) in
     let small = small_store p ((g.M.Machine.disk c.args.machine.now).reads Objects) opens.shows.objects in
     let to = to_redo g.O.Oper.meaning (g.M.Machine.disk c.args.machine.now) (g.M.Machine.disk c.load.new.machine) c.load.ensures.kept c.in_ok-store.store.parts c.in_ok-store.plan c.in_ok-store.ensures.ready.bounds p used w opens (c.in_ok-store.ensures.read opens.told) (c.crash_keeps.ensures (bounds_of p) w small opens.sound) (c.unseen_steps_change_nothing.ensures p (g.M.Machine.disk c.args.machine.now).reads w Crash opens.sound tt opens.shows) in
-    whole_moments g.O.Oper.meaning (g.M.Machine.disk c.args.machine.now) (g.M.Machine.disk c.load.new.machine) c.load.ensures.kept c.in_ok-store.store.parts c.in_ok-store.plan c.in_ok-store.ensures.ready.bounds p used w opens to c.args.tuning.redo_dirty (g.M.Machine.disk c.open.new.machine) told (c.open.ensures.steps (c.load.ensures.kept.time.moments_told.0 told) p (step m w Crash) to)
+    let limit : c.dirty_limit-limit.result ≡ dirty_limit c.args.tuning p = c.dirty_limit-limit.ensures ∙ ap (dirty_limit c.args.tuning) (c.params.ensures.value ∙ to.params) in
+    subst (λ (n : ℕ). OpensThrough m p (g.M.Machine.disk c.args.machine.now) (g.M.Machine.disk c.open.new.machine) w (restart_course m n w used).steps) limit
+    (whole_moments g.O.Oper.meaning (g.M.Machine.disk c.args.machine.now) (g.M.Machine.disk c.load.new.machine) c.load.ensures.kept c.in_ok-store.store.parts c.in_ok-store.plan c.in_ok-store.ensures.ready.bounds p used w opens to c.dirty_limit-limit.result (g.M.Machine.disk c.open.new.machine) told (c.open.ensures.steps (c.load.ensures.kept.time.moments_told.0 told) p (step m w Crash) to))
