@@ -1,11 +1,11 @@
 -- The steps of installs and drains beside a copy of the slots may be taken while it is made.
 use Rattle.std.proofs.Common.{◌≡◌, sym, subst, ℕ, ◌+◌, ◌<◌, Bool, true, false, List, [], ◌∷◌, ◌++◌, length, refl, inl, inr, Option, None, Some}
 use Rattle.std.specs.Prelude.{◌==◌, IsTrue, IsFalse, nat_lt, if◌then◌else◌}
-use Rattle.std.specs.List.{AllByRecursion, list_any}
+use Rattle.std.specs.List.{list_any}
 use Rattle.std.proofs.lemmas.Bool.{both_ways, or_cases, or_left, or_parts, eqb-true, and_from, eq-eqb, lt-ltb, cases_Bool, not_from_false}
 use Rattle.oper_core.specs.Meaning.{Meaning, IsLawful}
 use Rattle.oper_core.specs.State.{is_among}
-use Rattle.explain_core.specs.Backup.{AreBeside, IsIdentityAt, IsOneIdentity, MayWhileCopied}
+use Rattle.explain_core.specs.Backup.{AreBeside, IsIdentityAt, IsOneIdentity}
 use Rattle.explain_core.specs.History.{Member, numbered}
 use Rattle.explain_core.specs.History.Member.{Command, Identity}
 use Rattle.explain_core.specs.World.{World, Step, step, run}
@@ -13,6 +13,7 @@ use Rattle.explain_core.specs.World.Step.{Block_gate}
 use Rattle.running_store.specs.CourseLaws.{behind_both, through_is}
 use Rattle.running_store.specs.Courses.{Course, and_then, waits, force_steps, is_identity_at, is_identity_some, removal_steps}
 use Rattle.cache_manager.specs.EachStep.{each_force, each_identities}
+use Rattle.cache_manager.specs.FreeSteps.{IsFree, free_beside}
 use Rattle.cache_manager.specs.InstallCourses.{identities, is_stale, must_log, others, next_node, work, finish_steps, install_course, drain_course}
 use Rattle.running_store.specs.Running.{IsRunning, KeepsSound}
 use Rattle.cache_manager.proofs.Goes.{Goes}
@@ -21,14 +22,6 @@ use Rattle.cache_manager.proofs.Next.{next_is}
 use Rattle.cache_manager.proofs.WorkOf.{AreAlone, all_the_node, listed_is}
 
 module _ {O : Type 0} (m : Meaning O) (copied : ℕ) where
-  -- a step that may be taken in any world while the slots are copied
-  abbrev IsFree : Step O → Type 0
-  IsFree s = (v : World O) → MayWhileCopied v copied s
-
-  free_beside : (w : World O) (steps : List (Step O)) → AllByRecursion IsFree steps → AreBeside m copied w steps
-  free_beside w [] are = tt
-  free_beside w (s ∷ steps) are = (are.0 w, free_beside (step m w s) steps are.1)
-
   beside_append : (w : World O) (xs ys : List (Step O)) → AreBeside m copied w xs → AreBeside m copied (run m w xs) ys → AreBeside m copied w (xs ++ ys)
   unfolding run
   beside_append w [] ys a b = b
@@ -90,9 +83,9 @@ module _ {O : Type 0} (m : Meaning O) (copied : ℕ) where
     finish_beside : (w : World O) (c : ℕ) → IsRunning m w → IsTrue (w.graph c) → IsFalse (must_log m copied w) → AreBeside m copied w (finish_steps m w)
     finish_beside w c is there may =
         let v = run m w (force_steps m w) in
-        beside_append w (force_steps m w) (removal_steps m (next_node m w) (work m w)) (free_beside w (force_steps m w) (each_force m IsFree (λ v. tt) w))
+        beside_append w (force_steps m w) (removal_steps m (next_node m w) (work m w)) (free_beside m copied w (force_steps m w) (each_force m (IsFree copied) (λ v. tt) w))
         (removal_beside v (next_node m w) (work m w) (λ x among low. same_identity w v (next_node m w) (force_history w) (one_identity w c is there may x among low)))
 
     pub go_beside : (w : World O) (used : ℕ) → IsRunning m w → AreBeside m copied w (install_course m copied w used).steps × AreBeside m copied w (drain_course m copied w used).steps
     go_beside w used is = by_courses m copied lawful keeps alone (λ w c. AreBeside m copied w c.steps) (λ w used. tt) (λ w used c is there may. finish_beside w c is there may)
-        (λ w used c is there must. free_beside w (identities m (others m copied w) w used).steps (each_identities m IsFree (λ v. tt) (others m copied w) (λ x there value v. tt) w used)) beside_then w used is
+        (λ w used c is there must. free_beside m copied w (identities m (others m copied w) w used).steps (each_identities m (IsFree copied) (λ v. tt) (others m copied w) (λ x there value v. tt) w used)) beside_then w used is

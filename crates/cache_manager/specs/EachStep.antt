@@ -21,10 +21,10 @@ module _ {O : Type 0} (m : Meaning O) (P : Step O → Type 0) where
   each_append [] ys first second = second
   each_append (x ∷ xs) ys first second = (first.0, each_append xs ys first.1 second)
 
-  each_either : (b : Bool) (c e : Course O) → Each c.steps → Each e.steps → Each (if b then c else e).steps
+  pub each_either : (b : Bool) (c e : Course O) → Each c.steps → Each e.steps → Each (if b then c else e).steps
   each_either b c e first second = cond_both b c e (λ (c : Course O). Each c.steps) (λ is. first) (λ is. second)
 
-  each_then : (w : World O) (first : Course O) (next : World O → ℕ → Course O) → Each first.steps → ((v : World O) (used : ℕ) → Each (next v used).steps) → Each (and_then m w first next).steps
+  pub each_then : (w : World O) (first : Course O) (next : World O → ℕ → Course O) → Each first.steps → ((v : World O) (used : ℕ) → Each (next v used).steps) → Each (and_then m w first next).steps
   each_then w first next a b =
       let second = next (run m w first.steps) first.used in
       behind_both (λ (c : Course O). Each c.steps) first second first.stop (λ on. each_append first.steps second.steps a (b (run m w first.steps) first.used)) (λ ends. a)
@@ -33,11 +33,14 @@ module _ {O : Type 0} (m : Meaning O) (P : Step O → Type 0) where
     pub each_force : (w : World O) → Each (force_steps m w)
     each_force w = cond_both (waits m w) (Block_gate ∷ []) [] Each (λ is. (force, tt)) (λ is. tt)
 
+    pub each_room : (w : World O) (n : ℕ) → Each (room_steps m w n)
+    each_room w n = cond_both (nat_lt (2 ^ 30) (buffered m w + n)) (force_steps m w) [] Each (λ is. each_force w) (λ is. tt)
+
     each_identity : (x : ℕ) → ((value : List ℕ) → P (Append (Identity x value))) → (w : World O) (used : ℕ) → Each (identity_course m x w used).steps
     each_identity x write w used =
         let n = identity_length (cached_length m w x) in
         each_then w (course (room_steps m w n) used Through) (λ v used. placed m v used (2 ^ 48) n true (identity_steps m x v))
-        (cond_both (nat_lt (2 ^ 30) (buffered m w + n)) (force_steps m w) [] Each (λ is. each_force w) (λ is. tt))
+        (each_room w n)
         (λ v used.
         let fits = course (identity_steps m x v) (grown m v used n) Through in
         let ends = course (force_steps m v) used (At_end (end_of v)) in

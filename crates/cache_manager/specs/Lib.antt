@@ -4,6 +4,7 @@ pub mod Endings
 pub mod RecordPlace
 pub mod Told
 pub mod EachStep
+pub mod FreeSteps
 pub mod Upkeep
 pub mod FewLogged
 pub mod Thin

@@ -5,3 +5,5 @@ pub mod Checks
 pub mod WorkedStore
 pub mod SkippingCheck
 pub mod WorkedNew
+pub mod WiderLog
+pub mod ObjectsChanged

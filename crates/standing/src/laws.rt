@@ -1,15 +1,17 @@
 ghost use Rattle.std.specs.Prelude.{◌≡◌, ◌<◌, ◌≤◌, ◌+◌, ◌⊎◌, ℕ, Bool, IsTrue, IsFalse, List, [], ◌∷◌, length, take};
 ghost use Rattle.std.specs.List.{AllByRecursion};
-ghost use Rattle.disk_model.specs.Disk.{Files};
+ghost use Rattle.disk_model.specs.Disk.{Files, OthersStay};
 ghost use Rattle.disk_model.specs.declared.machine.FileNo.{FileNo};
 ghost use Rattle.disk_model.specs.declared.machine.FileNo.TheVariants.{Objects};
 ghost use Rattle.oper_core.specs.Cell.{Cell};
 ghost use Rattle.oper_core.specs.Meaning.{AreWithin, state_after};
 ghost use Rattle.formats.specs.Bytes.{IsOpenAt};
 ghost use Rattle.formats.specs.Image.{IsFault};
-ghost use Rattle.formats.specs.Objects.{bounds_of, place_in, identifier_at};
+ghost use Rattle.formats.specs.Objects.{IsObjectsFile, bounds_of, cell_of, place_in, identifier_at};
 ghost use Rattle.formats.specs.declared.params.Params.{Params};
 ghost use Rattle.log_frames.specs.Creating.{IsNewLog};
+ghost use Rattle.stable_objects.specs.Growing.{IsGrown};
+ghost use Rattle.stable_objects.specs.Larger.{IsLarger};
 ghost use Rattle.stable_objects.specs.Making.{IsNewFile};
 ghost use Rattle.install_order.specs.Order.{Access};
 ghost use Rattle.explain_core.specs.Backup.{IsCopied, copy_of};
@@ -91,6 +93,18 @@ pub fn same_parts_stand_for_the_same<O: Oper>()
 {
     files_hold_one_store::<O>();
     explain_core::wider_bounds_keep_stable_parts::<O>();
+}
+
+/// Files of which the objects file alone changed stand for the commands that they stood for, where each object has the pair that
+/// it had, and, in the larger store, where that file grew.
+pub fn a_changed_objects_file_stands<O: Oper>()
+    ensures still { (p : Params) (old new : Files) (commands : List O) → OthersStay Objects old new → IsObjectsFile p (new Objects) →
+        ((x : ℕ) → x < p.objects → cell_of x (new Objects) ≡ cell_of x (old Objects)) →
+        StandsFor O.meaning p old commands → StandsFor O.meaning p new commands }
+    ensures grown { (p q : Params) (old new : Files) (commands : List O) → IsLarger p q → OthersStay Objects old new →
+        IsGrown p q (old Objects) (new Objects) → StandsFor O.meaning p old commands → StandsFor O.meaning q new commands }
+{
+    same_parts_stand_for_the_same::<O>();
 }
 
 /// Files that stand for commands meet their format: they have no fault, and each open slot has the number of a record

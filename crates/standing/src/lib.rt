@@ -11,8 +11,8 @@ mod laws;
 mod worked;
 
 pub use laws::{
-    a_copy_stands, checks_of_a_log_fit, files_hold_one_store, files_show_a_world,
-    files_stand_for_one_state, image_stands, new_files_stand_for_nothing,
+    a_changed_objects_file_stands, a_copy_stands, checks_of_a_log_fit, files_hold_one_store,
+    files_show_a_world, files_stand_for_one_state, image_stands, new_files_stand_for_nothing,
     same_parts_stand_for_the_same, standing_files_have_no_fault, unseen_steps_change_nothing,
 };
 pub use worked::{
