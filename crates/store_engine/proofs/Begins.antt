@@ -33,7 +33,7 @@ abbrev pub EndKeeps : {O : Type 0} → (Bounds → Meaning O) → Type 0
 EndKeeps {O} meaning = (b : Bounds) (w : World O) → IsSound (meaning b) w → IsAllowed (meaning b) w End → IsSound (meaning b) (step (meaning b) w End)
 
 -- after a force all members are stable, and no check waits
-record IsStill {O : Type 0} (w : World O) : Type 0 where
+pub record IsStill {O : Type 0} (w : World O) : Type 0 where
   pub forced : w.forced ≡ length w.history
   pub none : w.pending ≡ []
 
@@ -41,7 +41,7 @@ no_tables : (l : List Starts) → nat_lt 0 (length l) ≡ false → l ≡ []
 no_tables [] is = refl
 no_tables (t ∷ l) is = absurd (omega (arith, ltb-false _ _ is))
 
-force_still : {O : Type 0} (m : Meaning O) (w : World O) → w.forced ≤ length w.history → IsStill (run m w (force_steps m w))
+pub force_still : {O : Type 0} (m : Meaning O) (w : World O) → w.forced ≤ length w.history → IsStill (run m w (force_steps m w))
 unfolding run step
 force_still {O} m w within = elim (cases_Bool (waits m w)) [
   | inl some ↦ subst (λ (l : List (Step O)). IsStill (run m w l)) (sym (cond-true (waits m w) (Block_gate ∷ []) [] some)) (record { forced = refl; none = refl })

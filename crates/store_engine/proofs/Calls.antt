@@ -26,21 +26,22 @@ begun_still None next later le begun = tt
 begun_still (Some n) next later le begun = omega (arith, le, begun)
 
 -- where the engine's group is none, what holds of an engine without one holds of it
-pub as_alone : (store later : StoreView) (group : Option ℕ) (before : EngineView) → engine_of store group ≡ before → before.group ≡ None → (P : EngineView → EngineView → Type 0) → P (engine_of store None) (engine_of later None)
-    → P before (engine_of later group)
-as_alone store later group before is none P has =
+pub as_alone : (store later : StoreView) (group copied : Option ℕ) (before : EngineView) → engine_of store group copied ≡ before → before.group ≡ None → (P : EngineView → EngineView → Type 0)
+    → P (engine_of store None copied) (engine_of later None copied) → P before (engine_of later group copied)
+as_alone store later group copied before is none P has =
     let alone : group ≡ None = ap (λ (e : EngineView). e.group) is ∙ none in
-    subst (λ (e : EngineView). P e (engine_of later group)) is (subst (λ (o : Option ℕ). P (engine_of store o) (engine_of later o)) (sym alone) has)
+    subst (λ (e : EngineView). P e (engine_of later group copied)) is (subst (λ (o : Option ℕ). P (engine_of store o copied) (engine_of later o copied)) (sym alone) has)
 
 module _ {O : Type 0} (meaning : Bounds → Meaning O) (old new : Disk) (store later : StoreView) (logged : ℕ) (stops : RecordLogView → Stop → Type 0) (ending : Ending)
     (call : of_store.IsCall meaning old new store later logged stops ending) where
-  pub call_of : (most : ℕ) (group : Option ℕ) → ((log : RecordLogView) (stop : Stop) → stops log stop → StopsCommand (is_some group) most log stop)
-      → IsEngineCall meaning most old new (engine_of store group) (engine_of later group) logged ending
-  call_of most group so = record {
+  pub call_of : (most : ℕ) (group copied : Option ℕ) → ((log : RecordLogView) (stop : Stop) → stops log stop → StopsCommand (is_some group) most log stop)
+      → IsEngineCall meaning most old new (engine_of store group copied) (engine_of later group copied) logged ending
+  call_of most group copied so = record {
     time = call.quiet.time;
     quiet = call.quiet.said;
     params = ap (λ (l : Layout). l.params) call.layout;
     group = refl;
+    copied = refl;
     attached = call.attached;
     identities = call.identities;
     stopped = λ stop is. so later.parts.log stop (call.stopped stop is);
@@ -52,9 +53,9 @@ module _ {O : Type 0} (meaning : Bounds → Meaning O) (old new : Disk) (store l
   fine = unbroken_or later.broken (IsFailed ending) call.broken
 
   -- outside groups
-  module _ (course : Meaning O → World O → ℕ → Course O) (takes : Takes meaning old new store.parts later.parts course ending) where
-    pub takes_of : TakesIn meaning old new (engine_of store None) (engine_of later None) course ending
-    takes_of = takes_alone meaning old new (engine_of store None) (engine_of later None) course ending takes refl refl fine
+  module _ (copied : Option ℕ) (course : Meaning O → World O → ℕ → Course O) (takes : Takes meaning old new store.parts later.parts course ending) where
+    pub takes_of : TakesIn meaning old new (engine_of store None copied) (engine_of later None copied) course ending
+    takes_of = takes_alone meaning old new (engine_of store None copied) (engine_of later None copied) course ending takes refl refl fine
 
-    pub keeps_of : KeepsRuns meaning → ((p : _) → Stand meaning p) → MayTake meaning course → IsPlainCourse course → KeepsCommands meaning old new (engine_of store None) (engine_of later None) ending
-    keeps_of = takes_keeps meaning old new (engine_of store None) (engine_of later None) course ending takes refl refl fine
+    pub keeps_of : KeepsRuns meaning → ((p : _) → Stand meaning p) → MayTake meaning course → IsPlainCourse course → KeepsCommands meaning old new (engine_of store None copied) (engine_of later None copied) ending
+    keeps_of = takes_keeps meaning old new (engine_of store None copied) (engine_of later None copied) course ending takes refl refl fine

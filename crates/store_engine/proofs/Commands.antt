@@ -364,16 +364,16 @@ pub record IsExecuted {O : Type 0} (meaning : Bounds → Meaning O) (old new : D
   pub outcome : of_store_command.IsOutcome meaning grouped old new store.parts later.parts op r
 
 -- the engine says the same, of what it shows
-module _ {O : Type 0} (meaning : Bounds → Meaning O) (old new : Disk) (store later : StoreView) (group : Option ℕ) (op : O) (r : Result ℕ ExecErr) (grouped : Bool) (flag : grouped ≡ is_some group)
+module _ {O : Type 0} (meaning : Bounds → Meaning O) (old new : Disk) (store later : StoreView) (group copied : Option ℕ) (op : O) (r : Result ℕ ExecErr) (grouped : Bool) (flag : grouped ≡ is_some group)
     (executed : IsExecuted meaning old new store later op r grouped) (keeps : KeepsRuns meaning) (may : MayExecAll meaning store.parts.volatile.objects.slots.params.limit op) where
   it : IsExecuted meaning old new store later op r (is_some group)
   it = subst (λ (b : Bool). IsExecuted meaning old new store later op r b) flag executed
 
   abbrev before : EngineView
-  before = engine_of store group
+  before = engine_of store group copied
 
   abbrev after : EngineView
-  after = engine_of later group
+  after = engine_of later group copied
 
   taken : TakesIn meaning old new before after (λ m w used. exec_course m (is_some w.group) (params_of before).limit op w used) (ending_of_exec r)
   taken = exec_takes meaning old new before after op r (is_some group) refl keeps may refl (fine meaning old new store later 0 _ (ending_of_exec r) it.call) it.takes
@@ -393,7 +393,7 @@ module _ {O : Type 0} (meaning : Bounds → Meaning O) (old new : Disk) (store l
 
   pub ran : ((p : Params) → Stand meaning p) → ((p : Params) → IsLiveMap (meaning_in meaning p)) → ((p : Params) → IsGroupCounted (meaning_in meaning p)) → HasRun meaning old new before after op r
   ran stand map counted = record {
-    call = call_of meaning old new store later 0 _ (ending_of_exec r) it.call (params_of before).limit group (λ log stop at. at);
+    call = call_of meaning old new store later 0 _ (ending_of_exec r) it.call (params_of before).limit group copied (λ log stop at. at);
     takes = taken;
     ok = λ p commands holds. exec_ok meaning p old new before after op keeps may refl commands holds r (taken.follows p holds.world holds.shows) (cause p holds.world holds.shows);
     err = λ p commands holds. exec_err meaning p old new before after op keeps may refl commands holds r (taken.follows p holds.world holds.shows) (cause p holds.world holds.shows) (is_some group) undone;

@@ -44,21 +44,22 @@ fetch_cause : {T : Type 0} (r : Result T ReadErr) (old new : Disk) (engine : Eng
 fetch_cause (Ok value) old new engine object below cause = tt
 fetch_cause (Err e) old new engine object below cause = (below, cause)
 
-module _ {O : Type 0} (meaning : Bounds → Meaning O) (old new : Disk) (store later : StoreView) (group : Option ℕ) (failed : Type 0) (is : of_store.IsFetch old new store later failed) where
+module _ {O : Type 0} (meaning : Bounds → Meaning O) (old new : Disk) (store later : StoreView) (group copied : Option ℕ) (failed : Type 0) (is : of_store.IsFetch old new store later failed) where
   same_parts : with_objects store.parts later.parts.volatile.objects ≡ later.parts
   same_parts = λ i. parts (sym is.log i) later.parts.volatile.objects (sym is.entries i)
 
-  fetched_call : (bad : Type 0) → failed ↔ bad → IsEngineFetch meaning old new (engine_of store group) (engine_of later group) bad
+  fetched_call : (bad : Type 0) → failed ↔ bad → IsEngineFetch meaning old new (engine_of store group copied) (engine_of later group copied) bad
   fetched_call bad so = record {
     kept = is.read.stays;
     log = is.log;
     identities = is.identities;
     group = refl;
+    copied = refl;
     attached = λ at. subst (λ (it : Parts). of_parts.IsAttached meaning new it) same_parts (read_attached meaning old new store.parts later.parts.volatile.objects is.read at);
     broken = (λ set. so.0 (is.broken.0 set), λ fails. is.broken.1 (so.1 fails));
   }
 
-  fetched_shows : (p : Params) (w : World O) → later.broken ≡ false → ShowsIn meaning p old (engine_of store group) w → ShowsIn meaning p new (engine_of later group) w
+  fetched_shows : (p : Params) (w : World O) → later.broken ≡ false → ShowsIn meaning p old (engine_of store group copied) w → ShowsIn meaning p new (engine_of later group copied) w
   fetched_shows p w fine shows = record {
     unbroken = fine;
     sound = shows.sound;
@@ -77,22 +78,22 @@ module _ {O : Type 0} (meaning : Bounds → Meaning O) (old new : Disk) (store l
           ap (λ (o : Option Pair). (cell_or o (cell_of x file)).value) had
           ∙ sym (ap (λ (o : Option Pair). (cell_or o (cell_of x other)).value) had)
 
-  pub fetched_value : (p : Params) → IsLiveMap (meaning_in meaning p) → (commands : List O) → later.broken ≡ false → Holds meaning p old (engine_of store group) commands
+  pub fetched_value : (p : Params) → IsLiveMap (meaning_in meaning p) → (commands : List O) → later.broken ≡ false → Holds meaning p old (engine_of store group copied) commands
       → (x : ℕ) → x < later.parts.volatile.objects.slots.params.objects → IsSome (held later.parts.volatile.objects.cache x)
       → (file : List ℕ) → values_in later.parts.volatile.objects file x ≡ state_of meaning p commands x
   fetched_value p map commands fine holds x below cached file =
-      let there : Holds meaning p new (engine_of later group) commands = record { world = holds.world; shows = fetched_shows p holds.world fine holds.shows; commands_are = holds.commands_are } in
+      let there : Holds meaning p new (engine_of later group copied) commands = record { world = holds.world; shows = fetched_shows p holds.world fine holds.shows; commands_are = holds.commands_are } in
       let here = subst (λ (q : Params). x < q.objects) there.shows.shows.store.params below in
-      cached_value file (new.reads Objects) x cached ∙ holds_map meaning p new (engine_of later group) commands there map x here
+      cached_value file (new.reads Objects) x cached ∙ holds_map meaning p new (engine_of later group copied) commands there map x here
 
 -- what a fetch says, where there is such an object
-pub fetched_of : {O T : Type 0} (meaning : Bounds → Meaning O) (old new : Disk) (store later : StoreView) (group : Option ℕ) (object : ℕ) (r : Result T ReadErr)
-    → of_store.IsFetch old new store later (has_failed is_read_fault r ≡ true) → object < (params_of (engine_of store group)).objects
+pub fetched_of : {O T : Type 0} (meaning : Bounds → Meaning O) (old new : Disk) (store later : StoreView) (group copied : Option ℕ) (object : ℕ) (r : Result T ReadErr)
+    → of_store.IsFetch old new store later (has_failed is_read_fault r ≡ true) → object < (params_of (engine_of store group copied)).objects
     → IfErr r (FailsBy (Rises old.disk_faults new.disk_faults) (IsLongSlot new store.parts.volatile.objects.slots object))
-    → HasFetched meaning old new (engine_of store group) (engine_of later group) object (result_err r)
-fetched_of meaning old new store later group object r is below cause = record {
-  call = fetched_call meaning old new store later group _ is _ (fails_so r);
+    → HasFetched meaning old new (engine_of store group copied) (engine_of later group copied) object (result_err r)
+fetched_of meaning old new store later group copied object r is below cause = record {
+  call = fetched_call meaning old new store later group copied _ is _ (fails_so r);
   params = ap (λ (s : SlotsView). s.params) is.read.fetched.slots;
-  shows = λ p w shows. ⊎_elim (λ bad. inl ((fails_so r).0 bad)) (λ fine. inr (fetched_shows meaning old new store later group _ is p w fine shows)) (unbroken_or later.broken (has_failed is_read_fault r ≡ true) is.broken);
-  cause = fetch_cause r old new (engine_of store group) object below cause;
+  shows = λ p w shows. ⊎_elim (λ bad. inl ((fails_so r).0 bad)) (λ fine. inr (fetched_shows meaning old new store later group copied _ is p w fine shows)) (unbroken_or later.broken (has_failed is_read_fault r ≡ true) is.broken);
+  cause = fetch_cause r old new (engine_of store group copied) object below cause;
 }

@@ -1,8 +1,5 @@
 -- What the laying out of a store leaves at each moment.
-use Rattle.std.proofs.Common.{◌≡◌, inl, inr, ℕ, List, [], ◌∷◌, length, get_or, take, drop, sym, ◌∙◌, ap, subst, arith, length-take}
-use Rattle.std.specs.Prelude.{codes}
-use Rattle.std.proofs.lemmas.List.{get_or-take}
-use Rattle.std.proofs.lemmas.Bool.{cases_eq}
+use Rattle.std.proofs.Common.{◌≡◌, inl, inr, ℕ, List, [], sym, ◌∙◌, ap, subst}
 use Rattle.disk_model.specs.Disk.{Files, Disk, Passes, Runs, Stays, Same, In, Any, Torn, IsSettled, LeavesOnly}
 use Rattle.disk_model.specs.Moments.{first_call, goes_on, runs_on, weaker, from_reads, stays_settled, passes_twice}
 use Rattle.disk_model.specs.declared.machine.FileNo.TheVariants.{Objects}
@@ -14,30 +11,11 @@ use Rattle.oper_core.specs.declared.bounds.Bounds.{Bounds}
 use Rattle.formats.specs.declared.params.Params.{Params}
 use Rattle.log_frames.specs.Creating.{LogsAlone, IsNewLog}
 use Rattle.log_frames.specs.Laws.{log_stays}
+use Rattle.stable_objects.specs.GateLaws.{closed_begins, torn_begins}
 use Rattle.stable_objects.specs.Making.{IsClosedFile, IsNewFile, IsClosedOrWhole}
 use Rattle.store_engine.specs.Engine.{InEachImage, IsNew, IsNewStore}
 use Rattle.restart.specs.Starts.{OrAtStart, then_leaves}
 use Rattle.store_engine.specs.Store.{Stands}
-
--- no store begins after a closed gate
-closed_begins : (file : List ℕ) → IsClosedAt 0 file → BeginsStore file → ⊥
-closed_begins file closed begins = closed (sym (get_or-take 8 file 0 0 (omega arith)) ∙ ap (λ (l : List ℕ). get_or l 0 0) begins)
-
--- nor does one while the gate is closed
-torn_begins : (file new : List ℕ) → (BeginsStore file → ⊥) → (IsClosedFile file → new ≡ file) → Torn 0 1 file new → BeginsStore new → ⊥
-torn_begins [] new none idle torn begins =
-    let long = torn.no_longer in
-    let eight : length (take 8 new) ≡ 8 = ap (λ (l : List ℕ). length l) begins in
-    absurd (omega (arith, long, eight, length-take 8 new))
-torn_begins (gate ∷ rest) [] none idle torn begins = cc
-torn_begins (gate ∷ rest) (gate' ∷ rest') none idle torn begins =
-    elim (cases_eq gate 1) [
-      | inl is_open ↦
-          let behind : take 7 rest' ≡ codes "RDOOBJ0" = ap (λ (l : List ℕ). drop 1 l) begins in
-          let same : rest' ≡ rest = torn.after in
-          none (ap (λ (g : ℕ). g ∷ take 7 rest) is_open ∙ ap (λ (l : List ℕ). 1 ∷ l) (ap (λ (l : List ℕ). take 7 l) (sym same) ∙ behind))
-      | inr closed ↦ none (subst (λ (l : List ℕ). BeginsStore l) (idle (record { some = omega arith; closed = closed })) begins)
-    ]
 
 -- the calls in a row
 pub in_a_row : (old first second third : Disk) → Stays old first → Runs (In Objects (Torn 0 1)) Same first second → Runs LogsAlone Same second third → Passes old third

@@ -10,6 +10,10 @@ pub mod Calls
 pub mod Works
 pub mod Begins
 pub mod Fetching
+pub mod SlotReads
+pub mod LogCopies
+pub mod CopiedLogs
+pub mod Besides
 pub mod Stats
 pub mod Logged
 pub mod Formats
@@ -24,5 +28,4 @@ pub mod ListStart
 pub mod ListRuns
 pub mod ListFetches
 pub mod ListMachines
-pub mod WiderLog
 pub mod Enlarged

@@ -2,8 +2,8 @@
 use Rattle.std.proofs.Common.{◌≡◌, ◌∙◌, sym, subst, ap, ℕ, ◌+◌, ◌≤◌, List, [], ◌++◌, length, take, refl, inl, inr, ◌⊎◌, ⊎_elim, Option, None, Some, arith, length-append, append_assoc}
 use Rattle.std.proofs.Math.Seq.{drop-append-add, take-append-add, take-length}
 use Rattle.std.proofs.lemmas.List.{append-nil, take-append-le}
-use Rattle.disk_model.specs.Disk.{Files, Disk, IsDisk, LeavesOnly, Passes, Stays}
-use Rattle.disk_model.specs.Moments.{goes_on, passes_twice, runs_on, weaker}
+use Rattle.disk_model.specs.Disk.{Files, Disk, IsDisk, LeavesOnly, Stays}
+use Rattle.disk_model.specs.Moments.{passes_twice, runs_on, weaker}
 use Rattle.disk_model.specs.Silent.{IsSilent}
 use Rattle.oper_core.specs.Meaning.{Meaning}
 use Rattle.oper_core.specs.declared.bounds.Bounds.{Bounds}
@@ -19,6 +19,7 @@ use Rattle.running_store.specs.Courses.{Course, Stop}
 use Rattle.running_store.specs.Taking.{Ending}
 use Rattle.running_store.specs.Taking.Ending.{Done, Stopped, Short, Failed}
 use Rattle.store_engine.specs.Engine.{EngineView, Between, ShowsIn, commands_since, forced_in, group_size, used_in}
+use Rattle.store_engine.specs.ImageLaws.{leaves_still}
 use Rattle.store_engine.specs.Store.{meaning_in}
 use Rattle.store_engine.specs.Lists.{AddsFront, HasReached, IsNeed, IsStoppedAt, commands_course, larger}
 use Rattle.store_engine.proofs.ListCourses.{course_behind, ends_joined, ends_short}
@@ -51,15 +52,6 @@ module _ {O : Type 0} (meaning : Bounds → Meaning O) (p : Params) where
   leaves_more old mid new group forced before start later commands more all quiet fewer either on is leaves =
       weaker mid new (Between meaning p mid group forced later commands) (Between meaning p old group before start all) leaves
       (λ files said between. subst (λ (l : List O). Between meaning p old group before start l files said) is (between_more old mid group forced before start later commands more files said quiet fewer either on between))
-
-  -- images of a machine that reads alone are those that it had
-  pub leaves_still : (old mid new : Disk) (P : Files → List ℕ → Type 0) → IsDisk mid → Passes old mid → Stays mid new → old.tells_moments → LeavesOnly old mid P → LeavesOnly old new P
-  leaves_still old mid new P lawful time stays told leaves =
-      let told_mid = time.moments_told.0 told in
-      goes_on old mid new P told_mid leaves stays.time (λ c s left.
-      let from = stays.crash told_mid c s left in
-      let was : P from.0.0 mid.said = leaves.each from.0.0 mid.said (lawful.among old.clock mid.clock from.0.0 mid.said time.later (omega arith) from.0.1) in
-      subst (λ (f : Files). P f s) (sym from.0.2) (subst (λ (l : List ℕ). P from.0.0 l) (sym from.1) was))
 
   module _ (old mid new : Disk) (before between after : EngineView) (w : World O) (commands front : List O) (lawful_mid : IsDisk mid) (lawful_new : IsDisk new)
       (first : AddsFront meaning p old mid before between w commands front Done) where

@@ -38,6 +38,7 @@ calls_none meaning d e fine = record {
     quiet = λ told. refl;
     params = refl;
     group = refl;
+    copied = refl;
     attached = inr (λ attached. attached);
     identities = omega arith;
     stopped = λ stop is. cc;
@@ -108,6 +109,7 @@ module _ {O : Type 0} (meaning : Bounds → Meaning O) (old new : Disk) (before 
         quiet = fetched.call.kept.said;
         params = fetched.params;
         group = fetched.call.group;
+        copied = fetched.call.copied;
         attached = inr fetched.call.attached;
         identities = omega (arith, fetched.call.identities);
         stopped = not_stopped error (params_of before).limit;
@@ -131,6 +133,7 @@ module _ {O : Type 0} (meaning : Bounds → Meaning O) (old mid new : Disk) (bef
       quiet = λ told. second.call.quiet (first.call.time.files_told.0 told) ∙ first.call.quiet told;
       params = second.call.params ∙ first.call.params;
       group = second.call.group ∙ first.call.group;
+      copied = second.call.copied ∙ first.call.copied;
       attached = ⊎_elim (λ failed. inl failed) (λ keeps. inr (λ attached. keeps (still_attached attached))) second.call.attached;
       identities = omega (arith, first.call.identities, second.call.identities);
       stopped = λ stop is.

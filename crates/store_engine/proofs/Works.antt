@@ -1,5 +1,5 @@
 -- What the calls say that no group allows, of an engine in which none is open: from what the call on its store says.
-use Rattle.std.proofs.Common.{◌≡◌, ◌∙◌, ap, ℕ, ◌+◌, ◌≤◌, false, [], length, refl, None}
+use Rattle.std.proofs.Common.{◌≡◌, ◌∙◌, ap, ℕ, ◌+◌, ◌≤◌, false, [], length, refl, arith, subst, Option, None}
 use Rattle.std.specs.Prelude.{Result, Ok, Err, IfOk, IfErr, OnOk}
 use Rattle.disk_model.specs.Disk.{Disk}
 use Rattle.disk_model.specs.declared.machine.Failed.{Failed as Failure}
@@ -11,7 +11,8 @@ use Rattle.log_records.specs.Loading.{IsTailFault}
 use Rattle.log_records.specs.RecordLog.{RecordLogView}
 use Rattle.log_records.specs.declared.rewrite_err.RewriteErr.{RewriteErr}
 use Rattle.dirty_cache.specs.Contents.{is_dirty}
-use Rattle.explain_core.specs.World.{World}
+use Rattle.explain_core.specs.Turns.{count_below, dirty_in}
+use Rattle.explain_core.specs.World.{World, end_of}
 use Rattle.running_store.specs.Calls as of_store
 use Rattle.running_store.specs.Calls.{IsForce, Never, ending_of_force}
 use Rattle.running_store.specs.Courses.{force_course}
@@ -31,7 +32,7 @@ use Rattle.checkpointing.specs.Courses.{checkpoint_course, trim_course}
 use Rattle.checkpointing.specs.Left.{DamagedBy, IsTooLong}
 use Rattle.checkpointing.specs.declared.check_err.CheckErr.{CheckErr}
 use Rattle.store_engine.specs.Calls.{IsChecking, IsDraining, IsForcing, IsInstalling, IsTrimming}
-use Rattle.store_engine.specs.Engine.{engine_of}
+use Rattle.store_engine.specs.Engine.{engine_of, so_far}
 use Rattle.store_engine.specs.Store.{meaning_in}
 use Rattle.store_engine.proofs.Calls.{call_of, keeps_of, takes_of}
 use Rattle.store_engine.proofs.Grouped.{alone_shown}
@@ -46,25 +47,25 @@ abbrev pub counted : {T : Type 0} → StoreView → Result T Failure → Result 
 counted later (Ok value) = Ok later.parts.log.forced
 counted later (Err e) = Err e
 
-module _ {O : Type 0} (meaning : Bounds → Meaning O) (old new : Disk) (store later : StoreView) (keeps : KeepsRuns meaning) (stand : (p : Params) → Stand meaning p) where
+module _ {O : Type 0} (meaning : Bounds → Meaning O) (old new : Disk) (store later : StoreView) (copied : Option ℕ) (keeps : KeepsRuns meaning) (stand : (p : Params) → Stand meaning p) where
   -- ---- a force
 
   pub forcing : {T : Type 0} (r : Result T Failure) → of_store.IsCall meaning old new store later 0 Never (ending_of_force r) → Takes meaning old new store.parts later.parts (λ m w used. force_course m w used) (ending_of_force r)
-      → IsForce store later r → MayTake meaning (λ m w used. force_course m w used) → IsForcing meaning old new (engine_of store None) (engine_of later None) (counted later r)
+      → IsForce store later r → MayTake meaning (λ m w used. force_course m w used) → IsForcing meaning old new (engine_of store None copied) (engine_of later None copied) (counted later r)
   forcing (Ok value) call takes forced may =
       let all = ap (λ (l : RecordLogView). l.forced) forced.0 in
       record {
-        call = call_of meaning old new store later 0 Never _ call log_limit None (λ log stop is. absurd is);
-        takes = takes_of meaning old new store later 0 Never _ call (λ m w used. force_course m w used) takes;
-        commands = keeps_of meaning old new store later 0 Never _ call (λ m w used. force_course m w used) takes keeps stand may (λ m w used. are_plain (force_course m w used).steps (upkeep_force m w));
-        forced = λ p commands holds. let is = all ∙ holds_accepted meaning p old (engine_of store None) commands holds in (is, is);
+        call = call_of meaning old new store later 0 Never _ call log_limit None copied (λ log stop is. absurd is);
+        takes = takes_of meaning old new store later 0 Never _ call copied (λ m w used. force_course m w used) takes;
+        commands = keeps_of meaning old new store later 0 Never _ call copied (λ m w used. force_course m w used) takes keeps stand may (λ m w used. are_plain (force_course m w used).steps (upkeep_force m w));
+        forced = λ p commands holds. let is = all ∙ holds_accepted meaning p old (engine_of store None copied) commands holds in (is, is);
         empty = ap (λ (l : RecordLogView). l.log.pending) forced.0;
         count = refl;
       }
   forcing (Err e) call takes forced may = record {
-    call = call_of meaning old new store later 0 Never _ call log_limit None (λ log stop is. absurd is);
-    takes = takes_of meaning old new store later 0 Never _ call (λ m w used. force_course m w used) takes;
-    commands = keeps_of meaning old new store later 0 Never _ call (λ m w used. force_course m w used) takes keeps stand may (λ m w used. are_plain (force_course m w used).steps (upkeep_force m w));
+    call = call_of meaning old new store later 0 Never _ call log_limit None copied (λ log stop is. absurd is);
+    takes = takes_of meaning old new store later 0 Never _ call copied (λ m w used. force_course m w used) takes;
+    commands = keeps_of meaning old new store later 0 Never _ call copied (λ m w used. force_course m w used) takes keeps stand may (λ m w used. are_plain (force_course m w used).steps (upkeep_force m w));
     forced = λ p commands holds. tt;
     empty = tt;
     count = tt;
@@ -72,43 +73,62 @@ module _ {O : Type 0} (meaning : Bounds → Meaning O) (old new : Disk) (store l
 
   -- ---- installs
 
-  pub installing : (r : Result Install InstallErr) → of_store.IsCall meaning old new store later (logged_since store later) (StopsAt log_limit) (ending_of r)
-      → Takes meaning old new store.parts later.parts (λ m w used. install_course m 0 w used) (ending_of r)
-      → ((p : Params) (w : World O) → Shows (meaning_in meaning p) p old store.parts w → IfOk r (IsInstall (meaning_in meaning p) w (install_course (meaning_in meaning p) 0 w (log_length store)).steps))
-      → IfOk r (TellsParts store.parts later.parts) → MayTake meaning (λ m w used. install_course m 0 w used) → IsInstalling meaning old new (engine_of store None) (engine_of later None) r
-  installing r call takes told tells may = record {
-    call = call_of meaning old new store later (logged_since store later) (StopsAt log_limit) (ending_of r) call log_limit None (λ log stop at. at);
-    takes = takes_of meaning old new store later (logged_since store later) (StopsAt log_limit) (ending_of r) call (λ m w used. install_course m 0 w used) takes;
-    commands = keeps_of meaning old new store later (logged_since store later) (StopsAt log_limit) (ending_of r) call (λ m w used. install_course m 0 w used) takes keeps stand may (λ m w used. are_plain (install_course m 0 w used).steps (upkeep_install m 0 w used));
-    told = λ p w shows. told p w (alone_shown meaning p old (engine_of store None) w shows refl);
-    tells = tells;
-  }
+  pub installing : (n : ℕ) → n ≡ so_far copied → (r : Result Install InstallErr) → of_store.IsCall meaning old new store later (logged_since store later) (StopsAt log_limit) (ending_of r)
+      → Takes meaning old new store.parts later.parts (λ m w used. install_course m n w used) (ending_of r)
+      → ((p : Params) (w : World O) → Shows (meaning_in meaning p) p old store.parts w → IfOk r (IsInstall (meaning_in meaning p) w (install_course (meaning_in meaning p) n w (log_length store)).steps))
+      → IfOk r (TellsParts store.parts later.parts) → MayTake meaning (λ m w used. install_course m (so_far copied) w used)
+      → IsInstalling meaning old new (engine_of store None copied) (engine_of later None copied) r
+  installing n is r call taken telling tells may =
+      let k = so_far copied in
+      let takes = subst (λ (n : ℕ). Takes meaning old new store.parts later.parts (λ m w used. install_course m n w used) (ending_of r)) is taken in
+      let told = subst (λ (n : ℕ). (p : Params) (w : World O) → Shows (meaning_in meaning p) p old store.parts w → IfOk r (IsInstall (meaning_in meaning p) w (install_course (meaning_in meaning p) n w (log_length store)).steps)) is telling in
+      record {
+        call = call_of meaning old new store later (logged_since store later) (StopsAt log_limit) (ending_of r) call log_limit None copied (λ log stop at. at);
+        takes = takes_of meaning old new store later (logged_since store later) (StopsAt log_limit) (ending_of r) call copied (λ m w used. install_course m k w used) takes;
+        commands = keeps_of meaning old new store later (logged_since store later) (StopsAt log_limit) (ending_of r) call copied (λ m w used. install_course m k w used) takes keeps stand may (λ m w used. are_plain (install_course m k w used).steps (upkeep_install m k w used));
+        told = λ p w shows. told p w (alone_shown meaning p old (engine_of store None copied) w shows refl);
+        tells = tells;
+      }
 
-  pub draining : (r : Result ℕ InstallErr) → of_store.IsCall meaning old new store later (logged_since store later) (StopsAt log_limit) (ending_of r)
-      → Takes meaning old new store.parts later.parts (λ m w used. drain_course m 0 w used) (ending_of r)
-      → ((p : Params) (w : World O) → Shows (meaning_in meaning p) p old store.parts w → IfOk r (λ n. n ≡ removals (drain_course (meaning_in meaning p) 0 w (log_length store)).steps))
+  -- a drain removes few nodes, where the steps that it takes do
+  few_removed : (r : Result ℕ InstallErr) (removed bound : ℕ) → IfOk r (λ n. n ≡ removed) → removed ≤ bound → IfOk r (λ n. n ≤ bound)
+  few_removed (Ok n) removed bound count few = omega (arith, count, few)
+  few_removed (Err e) removed bound count few = tt
+
+  pub draining : (n : ℕ) → n ≡ so_far copied → (r : Result ℕ InstallErr) → of_store.IsCall meaning old new store later (logged_since store later) (StopsAt log_limit) (ending_of r)
+      → Takes meaning old new store.parts later.parts (λ m w used. drain_course m n w used) (ending_of r)
+      → ((p : Params) (w : World O) → Shows (meaning_in meaning p) p old store.parts w → IfOk r (λ count. count ≡ removals (drain_course (meaning_in meaning p) n w (log_length store)).steps))
       → IfOk r (λ n. n + next_of store ≤ length store.parts.volatile.entries + next_of later) → OnOk r (later.parts.volatile.entries ≡ [])
       → ((p : Params) (w : World O) → Shows (meaning_in meaning p) p old store.parts w → OnOk r ((x : ℕ) → is_dirty later.parts.volatile.objects.cache x ≡ false))
-      → MayTake meaning (λ m w used. drain_course m 0 w used) → IsDraining meaning old new (engine_of store None) (engine_of later None) r
-  draining r call takes count bounded drained clean may = record {
-    call = call_of meaning old new store later (logged_since store later) (StopsAt log_limit) (ending_of r) call log_limit None (λ log stop at. at);
-    takes = takes_of meaning old new store later (logged_since store later) (StopsAt log_limit) (ending_of r) call (λ m w used. drain_course m 0 w used) takes;
-    commands = keeps_of meaning old new store later (logged_since store later) (StopsAt log_limit) (ending_of r) call (λ m w used. drain_course m 0 w used) takes keeps stand may (λ m w used. are_plain (drain_course m 0 w used).steps (upkeep_drain m 0 w used));
-    count = λ p w shows. count p w (alone_shown meaning p old (engine_of store None) w shows refl);
-    bounded = bounded_so r (next_of store) (next_of later) (length store.parts.volatile.entries) call.rising bounded;
-    drained = drained;
-    clean = λ p w shows. clean p w (alone_shown meaning p old (engine_of store None) w shows refl);
-  }
+      → MayTake meaning (λ m w used. drain_course m (so_far copied) w used)
+      → ((p : Params) (w : World O) (used : ℕ) → removals (drain_course (meaning_in meaning p) (so_far copied) w used).steps ≤ count_below (end_of w) w.graph + dirty_in (meaning_in meaning p) w)
+      → IsDraining meaning old new (engine_of store None copied) (engine_of later None copied) r
+  draining n is r call taken counts bounded drained clean may removed =
+      let k = so_far copied in
+      let takes = subst (λ (n : ℕ). Takes meaning old new store.parts later.parts (λ m w used. drain_course m n w used) (ending_of r)) is taken in
+      let count = subst (λ (n : ℕ). (p : Params) (w : World O) → Shows (meaning_in meaning p) p old store.parts w → IfOk r (λ count. count ≡ removals (drain_course (meaning_in meaning p) n w (log_length store)).steps)) is counts in
+      record {
+        call = call_of meaning old new store later (logged_since store later) (StopsAt log_limit) (ending_of r) call log_limit None copied (λ log stop at. at);
+        takes = takes_of meaning old new store later (logged_since store later) (StopsAt log_limit) (ending_of r) call copied (λ m w used. drain_course m k w used) takes;
+        commands = keeps_of meaning old new store later (logged_since store later) (StopsAt log_limit) (ending_of r) call copied (λ m w used. drain_course m k w used) takes keeps stand may (λ m w used. are_plain (drain_course m k w used).steps (upkeep_drain m k w used));
+        count = λ p w shows. count p w (alone_shown meaning p old (engine_of store None copied) w shows refl);
+        bounded = bounded_so r (next_of store) (next_of later) (length store.parts.volatile.entries) call.rising bounded;
+        few = λ p w shows.
+            few_removed r (removals (drain_course (meaning_in meaning p) k w (log_length store)).steps) (count_below (end_of w) w.graph + dirty_in (meaning_in meaning p) w)
+            (count p w (alone_shown meaning p old (engine_of store None copied) w shows refl)) (removed p w (log_length store));
+        drained = drained;
+        clean = λ p w shows. clean p w (alone_shown meaning p old (engine_of store None copied) w shows refl);
+      }
 
   -- ---- a check, and a trim
 
   pub checking : {T : Type 0} (r : Result T CheckErr) → of_store.IsCall meaning old new store later 0 (StopsAt log_limit) (ending_of_check r)
       → Takes meaning old new store.parts later.parts (λ m w used. checkpoint_course m w used) (ending_of_check r) → MayTake meaning (λ m w used. checkpoint_course m w used)
-      → IsChecking meaning old new (engine_of store None) (engine_of later None) r
+      → IsChecking meaning old new (engine_of store None copied) (engine_of later None copied) r
   checking r call takes may = record {
-    call = call_of meaning old new store later 0 (StopsAt log_limit) (ending_of_check r) call log_limit None (λ log stop at. at);
-    takes = takes_of meaning old new store later 0 (StopsAt log_limit) (ending_of_check r) call (λ m w used. checkpoint_course m w used) takes;
-    commands = keeps_of meaning old new store later 0 (StopsAt log_limit) (ending_of_check r) call (λ m w used. checkpoint_course m w used) takes keeps stand may (λ m w used. are_plain (checkpoint_course m w used).steps (upkeep_checkpoint m w used));
+    call = call_of meaning old new store later 0 (StopsAt log_limit) (ending_of_check r) call log_limit None copied (λ log stop at. at);
+    takes = takes_of meaning old new store later 0 (StopsAt log_limit) (ending_of_check r) call copied (λ m w used. checkpoint_course m w used) takes;
+    commands = keeps_of meaning old new store later 0 (StopsAt log_limit) (ending_of_check r) call copied (λ m w used. checkpoint_course m w used) takes keeps stand may (λ m w used. are_plain (checkpoint_course m w used).steps (upkeep_checkpoint m w used));
   }
 
   abbrev epoch : ℕ
@@ -118,11 +138,11 @@ module _ {O : Type 0} (meaning : Bounds → Meaning O) (old new : Disk) (store l
       → Takes meaning old new store.parts later.parts (λ m w used. trim_course m store.parts.log.log.header.epoch w used) (ending_of_rewrite r)
       → OnOk r (later.parts.log.log.header.epoch ≡ store.parts.log.log.header.epoch + 1) → (old.tells_files → HasLog (meaning store.parts.log.bounds) old store.parts.log → IfErr r (DamagedBy (λ file place. ⊥)))
       → IfErr r (DamagedBy (IsTailFault (meaning later.parts.log.bounds) new later.parts.log.log)) → IfErr r IsTooLong → (store.parts.volatile.entries ≡ [] → OnOk r (later.parts.log.log.header.base ≡ next_of later))
-      → MayTake meaning (λ m w used. trim_course m store.parts.log.log.header.epoch w used) → IsTrimming meaning old new (engine_of store None) (engine_of later None) r
+      → MayTake meaning (λ m w used. trim_course m store.parts.log.log.header.epoch w used) → IsTrimming meaning old new (engine_of store None copied) (engine_of later None copied) r
   trimming r call takes raised undamaged damage long emptied may = record {
-    call = call_of meaning old new store later 0 (StopsAt log_limit) (ending_of_rewrite r) call log_limit None (λ log stop at. at);
-    takes = takes_of meaning old new store later 0 (StopsAt log_limit) (ending_of_rewrite r) call (λ m w used. trim_course m epoch w used) takes;
-    commands = keeps_of meaning old new store later 0 (StopsAt log_limit) (ending_of_rewrite r) call (λ m w used. trim_course m epoch w used) takes keeps stand may (λ m w used. are_plain (trim_course m epoch w used).steps (upkeep_trim m epoch w used));
+    call = call_of meaning old new store later 0 (StopsAt log_limit) (ending_of_rewrite r) call log_limit None copied (λ log stop at. at);
+    takes = takes_of meaning old new store later 0 (StopsAt log_limit) (ending_of_rewrite r) call copied (λ m w used. trim_course m epoch w used) takes;
+    commands = keeps_of meaning old new store later 0 (StopsAt log_limit) (ending_of_rewrite r) call copied (λ m w used. trim_course m epoch w used) takes keeps stand may (λ m w used. are_plain (trim_course m epoch w used).steps (upkeep_trim m epoch w used));
     epoch = raised;
     undamaged = λ told attached file place is. damaged_by (λ f n. ⊥) r file place (undamaged told (attached told).1) is;
     damage = λ file place is. damaged_by _ r file place damage is;

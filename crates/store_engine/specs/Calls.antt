@@ -11,7 +11,8 @@ use Rattle.log_records.specs.Loading.{IsTailFault}
 use Rattle.log_records.specs.declared.rewrite_err.RewriteErr.{RewriteErr}
 use Rattle.log_records.specs.declared.rewrite_err.RewriteErr.TheVariants as of_rewrite
 use Rattle.dirty_cache.specs.Contents.{is_dirty}
-use Rattle.explain_core.specs.World.{World}
+use Rattle.explain_core.specs.Turns.{count_below, dirty_in}
+use Rattle.explain_core.specs.World.{World, end_of}
 use Rattle.explain_core.specs.World.Step.{Begin, End}
 use Rattle.running_store.specs.Courses.{Course, course, force_course, force_steps}
 use Rattle.cache_manager.specs.InstallCourses.{install_course, drain_course, removals}
@@ -27,15 +28,20 @@ use Rattle.checkpointing.specs.Courses.{checkpoint_course, trim_course}
 use Rattle.checkpointing.specs.Left.{IsTooLong, ending_of_check}
 use Rattle.checkpointing.specs.declared.check_err.CheckErr.{CheckErr}
 use Rattle.checkpointing.specs.declared.check_err.CheckErr.TheVariants as of_checking
-use Rattle.store_engine.specs.Engine.{EngineView, Holds, IsAttached, IsEngineCall, KeepsCommands, ShowsIn, TakesIn, forced_in, logged_since, used_in}
+use Rattle.store_engine.specs.Engine.{EngineView, Holds, IsAttached, IsEngineCall, KeepsCommands, ShowsIn, TakesIn, forced_in, logged_since, so_far, used_in}
 use Rattle.store_engine.specs.Store.{meaning_in}
 use Rattle.store_engine.specs.declared.work_err.WorkErr.{WorkErr}
-use Rattle.store_engine.specs.declared.work_err.WorkErr.TheVariants.{InGroup, LogFull, LsnEnd, Exhausted, DiskFault, Damaged, Memory}
+use Rattle.store_engine.specs.declared.work_err.WorkErr.TheVariants.{InGroup, InBackup, LogFull, LsnEnd, Exhausted, DiskFault, Damaged, Memory}
 
 -- a call is refused while a group is open that has so many commands
 abbrev pub refused_in : Option ℕ → Result (Unit {0}) WorkErr
 refused_in None = Ok tt
 refused_in (Some size) = Err (InGroup size)
+
+-- a trim is refused while the slots are copied, of which so many are
+abbrev pub refused_beside : Option ℕ → Result (Unit {0}) WorkErr
+refused_beside None = Ok tt
+refused_beside (Some copied) = Err (InBackup copied)
 
 -- why the calls below were not done, as the engine answers it
 abbrev pub work_from_install : InstallErr → WorkErr
@@ -81,11 +87,19 @@ begin_course m w used = course (force_steps m w ++ Begin ∷ []) used Through
 abbrev pub end_course : {O : Type 0} → Meaning O → World O → ℕ → Course O
 end_course m w used = course (End ∷ []) used Through
 
--- Within a group a call is refused with the number of the group's commands, and nothing is done.
-pub record IsRefused {T : Type 0} {M : Type 0} (size : ℕ) (old new : M) (before after : EngineView) (result : Result T WorkErr) : Type 0 where
-  pub answer : result ≡ Err (InGroup size)
+-- A call is refused so, and nothing is done.
+pub record IsRefusedSo {T : Type 0} {M : Type 0} (why : WorkErr) (old new : M) (before after : EngineView) (result : Result T WorkErr) : Type 0 where
+  pub answer : result ≡ Err why
   pub machine : new ≡ old
   pub engine : after ≡ before
+
+-- within a group with the number of the group's commands
+abbrev pub IsRefused : {T : Type 0} {M : Type 0} → ℕ → M → M → EngineView → EngineView → Result T WorkErr → Type 0
+IsRefused size = IsRefusedSo (InGroup size)
+
+-- a trim while the slots are copied with the number of those that are
+abbrev pub IsRefusedBeside : {T : Type 0} {M : Type 0} → ℕ → M → M → EngineView → EngineView → Result T WorkErr → Type 0
+IsRefusedBeside copied = IsRefusedSo (InBackup copied)
 
 module _ {O : Type 0} (meaning : Bounds → Meaning O) (old new : Disk) (before after : EngineView) where
   -- the log was forced, or the disk failed
@@ -100,19 +114,22 @@ module _ {O : Type 0} (meaning : Bounds → Meaning O) (old new : Disk) (before 
   -- a node was installed, or none was left
   pub record IsInstalling (answer : Result Install InstallErr) : Type 0 where
     pub call : IsEngineCall meaning log_limit old new before after (logged_since before after) (ending_of answer)
-    pub takes : TakesIn meaning old new before after (λ m w used. install_course m 0 w used) (ending_of answer)
+    pub takes : TakesIn meaning old new before after (λ m w used. install_course m (so_far before.copied) w used) (ending_of answer)
     pub commands : KeepsCommands meaning old new before after (ending_of answer)
-    pub told : (p : Params) (w : World O) → ShowsIn meaning p old before w → IfOk answer (IsInstall (meaning_in meaning p) w (install_course (meaning_in meaning p) 0 w (used_in before)).steps)
+    pub told : (p : Params) (w : World O) → ShowsIn meaning p old before w → IfOk answer (IsInstall (meaning_in meaning p) w (install_course (meaning_in meaning p) (so_far before.copied) w (used_in before)).steps)
     pub tells : IfOk answer (TellsParts before.parts after.parts)
 
   -- nodes were installed until none was left
   pub record IsDraining (answer : Result ℕ InstallErr) : Type 0 where
     pub call : IsEngineCall meaning log_limit old new before after (logged_since before after) (ending_of answer)
-    pub takes : TakesIn meaning old new before after (λ m w used. drain_course m 0 w used) (ending_of answer)
+    pub takes : TakesIn meaning old new before after (λ m w used. drain_course m (so_far before.copied) w used) (ending_of answer)
     pub commands : KeepsCommands meaning old new before after (ending_of answer)
-    pub count : (p : Params) (w : World O) → ShowsIn meaning p old before w → IfOk answer (λ n. n ≡ removals (drain_course (meaning_in meaning p) 0 w (used_in before)).steps)
+    pub count : (p : Params) (w : World O) → ShowsIn meaning p old before w → IfOk answer (λ n. n ≡ removals (drain_course (meaning_in meaning p) (so_far before.copied) w (used_in before)).steps)
     -- each install takes an entry out of the graph at least, and each identity write puts one in
     pub bounded : IfOk answer (λ n. n ≤ length before.parts.volatile.entries + logged_since before after)
+    -- and these are of different objects that were dirty: at most as many nodes as the graph had members and there were dirty
+    -- objects together
+    pub few : (p : Params) (w : World O) → ShowsIn meaning p old before w → IfOk answer (λ n. n ≤ count_below (end_of w) w.graph + dirty_in (meaning_in meaning p) w)
     pub drained : OnOk answer (after.parts.volatile.entries ≡ [])
     pub clean : (p : Params) (w : World O) → ShowsIn meaning p old before w → OnOk answer ((x : ℕ) → is_dirty after.parts.volatile.objects.cache x ≡ false)
 

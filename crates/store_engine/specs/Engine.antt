@@ -29,7 +29,7 @@ use Rattle.running_store.specs.Courses.Stop.{Through, Full, At_end, Worn}
 use Rattle.running_store.specs.Kept as of_parts
 use Rattle.running_store.specs.Laid.{values_in}
 use Rattle.running_store.specs.Parts.{Parts, Shows}
-use Rattle.running_store.specs.StoreView.{StoreView}
+use Rattle.running_store.specs.StoreView.{StoreView, next_of, store_params}
 use Rattle.running_store.specs.Taking.{Ending}
 use Rattle.running_store.specs.Taking.Ending.{Done, Stopped, Short, Failed}
 use Rattle.execution.specs.Done as of_command
@@ -48,12 +48,24 @@ pub record EngineView : Type 0 where
   pub identities : ℕ
   -- the number at which the open group began
   pub group : Option ℕ
+  -- so many objects are copied, while the slots are copied
+  pub copied : Option ℕ
   -- a call was answered that the disk failed
   pub broken : Bool
 
--- the engine of this store, whose open group began with this number
-abbrev pub engine_of : StoreView → Option ℕ → EngineView
-engine_of store group = record { parts = store.parts; identities = store.identities; group = group; broken = store.broken }
+-- the engine of this store, whose open group began with this number, and of whose objects so many are copied
+abbrev pub engine_of : StoreView → Option ℕ → Option ℕ → EngineView
+engine_of store group copied = record { parts = store.parts; identities = store.identities; group = group; copied = copied; broken = store.broken }
+
+-- the open group began up to the next number, and no more objects are copied than there are
+pub record AreWithin (store : StoreView) (group copied : Option ℕ) : Type 0 where
+  pub begun : store.broken ≡ false → IfSome group (λ n. n ≤ next_of store)
+  pub few : IfSome copied (λ n. n ≤ (store_params store).objects)
+
+-- so many objects are copied, none where nothing is
+abbrev pub so_far : Option ℕ → ℕ
+so_far None = 0
+so_far (Some copied) = copied
 
 -- the numbers of its store
 abbrev pub params_of : EngineView → Params
@@ -118,28 +130,30 @@ module _ {O : Type 0} (meaning : Bounds → Meaning O) where
   IsAttached d engine = of_parts.IsAttached meaning d engine.parts
 
   -- What holds on every machine of each call that may change the log, which may have `most` bytes: time passes, nothing is
-  -- said, the store's numbers stay, and the open group; unless it is answered that the disk failed, the engine stays
-  -- attached; so many identity writes are logged; a call that was stopped says the numbers of the log that it leaves; the
-  -- engine is broken exactly where it is answered that the disk failed, and then the disk counted that. (The count may rise
-  -- beside another answer: where a force succeeds, zeros may have been refused.)
+  -- said, the store's numbers stay, the open group, and how many objects are copied; unless it is answered that the disk
+  -- failed, the engine stays attached; so many identity writes are logged; a call that was stopped says the numbers of the log
+  -- that it leaves; the engine is broken exactly where it is answered that the disk failed, and then the disk counted that.
+  -- (The count may rise beside another answer: where a force succeeds, zeros may have been refused.)
   pub record IsEngineCall (most : ℕ) (old new : Disk) (before after : EngineView) (logged : ℕ) (ending : Ending) : Type 0 where
     pub time : Passes old new
     pub quiet : old.tells_files → new.said ≡ old.said
     pub params : params_of after ≡ params_of before
     pub group : after.group ≡ before.group
+    pub copied : after.copied ≡ before.copied
     pub attached : IsFailed ending ⊎ (IsAttached old before → IsAttached new after)
     pub identities : after.identities ≡ before.identities + logged
     pub stopped : (stop : Stop) → ending ≡ Stopped stop → StopsCommand (is_some before.group) most after.parts.log stop
     pub broken : (after.broken ≡ true) ↔ IsFailed ending
     pub fault : IsFailed ending → Rises old.disk_faults new.disk_faults
 
-  -- What holds on every machine of a fetch: the files, the log, the counts and the open group stay, and nothing is said; the
-  -- engine stays attached; it is broken exactly where it is answered that the disk failed.
+  -- What holds on every machine of a fetch: the files, the log, the counts, the open group and how many objects are copied
+  -- stay, and nothing is said; the engine stays attached; it is broken exactly where it is answered that the disk failed.
   pub record IsEngineFetch (old new : Disk) (before after : EngineView) (failed : Type 0) : Type 0 where
     pub kept : Stays old new
     pub log : after.parts.log ≡ before.parts.log
     pub identities : after.identities ≡ before.identities
     pub group : after.group ≡ before.group
+    pub copied : after.copied ≡ before.copied
     pub attached : IsAttached old before → IsAttached new after
     pub broken : (after.broken ≡ true) ↔ failed
 
@@ -155,6 +169,14 @@ module _ {O : Type 0} (meaning : Bounds → Meaning O) where
     pub group : w.group ≡ engine.group
     pub shows : Shows (meaning_in meaning p) p d engine.parts (ungrouped w)
     pub no_check : IfSome engine.group (λ begun. w.pending ≡ [])
+
+  -- What holds on every machine of a call that only reads: the files and the engine stay as they are, but that it is broken
+  -- exactly where it is answered that the disk failed. Unless it is, engine and files show the world that they showed.
+  pub record IsEngineRead (old new : Disk) (before after : EngineView) (failed : Type 0) : Type 0 where
+    pub kept : Stays old new
+    pub engine : after ≡ record before { broken = after.broken }
+    pub broken : (after.broken ≡ true) ↔ failed
+    pub shows : (p : Params) (w : World O) → ShowsIn p old before w → failed ⊎ ShowsIn p new after w
 
   -- engine and files show the world after the whole course, and the log is as long as the course says
   pub record IsAfterIn (p : Params) (d : Disk) (engine : EngineView) (w : World O) (course : Course O) : Type 0 where

@@ -2,6 +2,8 @@ pub mod Store
 pub mod Grouping
 pub mod Engine
 pub mod Calls
+pub mod Beside
+pub mod LogOf
 pub mod Upgrading
 pub mod Failures
 pub mod FailureLaws

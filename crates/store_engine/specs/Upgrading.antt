@@ -10,6 +10,7 @@ use Rattle.formats.specs.Objects.{is_second}
 use Rattle.formats.specs.declared.params.Params.{Params}
 use Rattle.formats.specs.declared.read_err.ReadErr.{ReadErr}
 use Rattle.formats.specs.declared.read_err.ReadErr.TheVariants as of_read
+use Rattle.stable_objects.specs.Growing.{IsCutAt}
 use Rattle.stable_objects.specs.Larger.{IsFirst, IsLarger, HasLastHead}
 use Rattle.store_engine.specs.Engine.{EngineView, Holds, InEachImage, IsAttached, forced_in, params_of}
 use Rattle.store_engine.specs.Store.{Stands}
@@ -84,7 +85,7 @@ module _ {O : Type 0} (meaning : Bounds → Meaning O) where
     pub left : (p : Params) (commands : List O) → Holds meaning p old engine commands → WhereIdle (InEachImage new (λ files. Stands meaning p files (take (forced_in engine) commands))) answer
     -- the store is of version 2 exactly where the objects file says so
     pub version : old.tells_files → IsAttached meaning old engine → (IsErrOf answer AlreadyTwo ↔ IsSecond old.reads)
-    pub undamaged : old.tells_files → IsAttached meaning old engine → IsUncut old engine → (file : FileNo) (place : ℕ) → IsErrOf answer (Damaged file place) → ⊥
+    pub damaged : old.tells_files → IsAttached meaning old engine → (file : FileNo) (place : ℕ) → IsErrOf answer (Damaged file place) → IsCutAt engine.parts.volatile.objects.slots (old.reads Objects) file place
     -- done, each image is of the larger store, and stands for the commands that were forced
     pub upgraded : (p : Params) (commands : List O) → Holds meaning p old engine commands → OnOk answer (InEachImage new (IsUpgraded q (take (forced_in engine) commands)))
     -- and whatever was answered it stands for them, as at each moment meanwhile

@@ -12,30 +12,31 @@ use disk_model::Machine;
 use formats::{Params, ReadErr};
 use oper_core::Oper;
 use running_store::Store;
+use std::alloc::Global;
 use std::marker::Model;
 
-/// A store in use, and the group of commands that is open, if one is.
+/// A store in use, the group of commands that is open, if one is, and how many objects are copied, while a backup is made.
 ///
 /// The machine is passed to each call. Between `begin` and `end` a group is open: nothing is forced then, and a crash
-/// leaves all of its commands or none. After a `DiskFault` the engine is broken, and only `stat` and `is_broken` may be
-/// called.
+/// leaves all of its commands or none. While the slots are copied, installs keep to an order in which what has been copied
+/// stays a part of a store. After a `DiskFault` the engine is broken, and only `stat` and `is_broken` may be called.
 #[derive(Drop)]
 pub struct Engine<O: Oper> {
     pub(crate) store: Store<O>,
     // The number at which the open group began.
     pub(crate) group: Option<u64>,
+    // So many objects are copied, while the slots are copied.
+    pub(crate) copied: Option<u32>,
 }
 
 impl<O: Oper> Model for Engine<O> {
-    ghost use Rattle.std.specs.Prelude.{◌≡◌, ◌≤◌, false, IfSome};
-    ghost use Rattle.running_store.specs.StoreView.{next_of};
-    ghost use Rattle.store_engine.specs.Engine.{EngineView, engine_of};
+    ghost use Rattle.store_engine.specs.Engine.{AreWithin, EngineView, engine_of};
 
     ghost Value = { EngineView };
 
-    ghost view = { λ e. engine_of e.store e.group };
+    ghost view = { λ e. engine_of e.store e.group e.copied };
 
-    ghost invariant = { λ e. e.store.broken ≡ false → IfSome e.group (λ n. n ≤ next_of e.store) };
+    ghost invariant = { λ e. AreWithin e.store e.group e.copied };
 }
 
 impl<O: Oper> Engine<O> {
@@ -45,6 +46,11 @@ impl<O: Oper> Engine<O> {
         ensures range { IsInRange (params_of self.now) }
     {
         self.store.objects().params()
+    }
+
+    /// The allocator of its memory.
+    pub fn alloc(&self) -> Global {
+        self.store.alloc()
     }
 
     /// Whether a call was answered that the disk failed. Then only `stat` and `is_broken` may be called.

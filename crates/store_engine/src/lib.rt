@@ -10,8 +10,14 @@
 //! Of several commands, run one after the other, `AddsFront` of specs/Lists.antt says what they make of an engine,
 //! wherever they end: [`nothing_is_made`] begins a loop over [`Engine::exec`] and [`Engine::fetch`], [`exec_goes_on`] and
 //! [`fetch_goes_on`] keep it going, and [`calls_go_on`] does so for what holds on every machine.
+//!
+//! While the slots are copied for a backup ([`Engine::set_copied`] says how far), installs and drains take the courses
+//! beside the copy, and a trim is refused. Every other call leaves a copy of the first slots of the world that engine and
+//! files then show ([`calls_keep_a_copy`]), so no call here knows where the backup goes.
 #![tactic(auto)]
 
+mod beside;
+mod copying;
 mod engine;
 mod executing;
 mod grouping;
@@ -28,6 +34,9 @@ mod upgrading;
 mod work_err;
 mod working;
 
+pub use beside::{
+    a_copied_log_is_of_the_world, a_copy_goes_on, calls_go_beside_a_copy, calls_keep_a_copy,
+};
 pub use cache_manager::{Install, InstallErr};
 pub use checkpointing::CheckErr;
 pub use engine::Engine;
@@ -44,6 +53,7 @@ pub use lists::{
     calls_go_on, commands_log_no_identity, exec_goes_on, fetch_goes_on, fronts_are_joined,
     nothing_is_made,
 };
+pub use log_records::CopyErr;
 pub use restart::{Tuning, one_damage};
 pub use stable_objects::OpenErr;
 pub use stat::Stat;

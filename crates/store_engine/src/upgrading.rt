@@ -24,7 +24,7 @@ impl<O: Oper> Engine<O> {
         requires in_range { IsInRange params }
         ensures { IsUpgrading O.meaning (M.disk machine.old) (M.disk machine.new) self.now params result }
     {
-        standing::same_parts_stand_for_the_same::<O>();
+        standing::a_changed_objects_file_stands::<O>();
         engine_stands(machine, self);
         let slots = self.store.objects().slots();
         if !slots.is_first() {

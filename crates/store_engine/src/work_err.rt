@@ -14,6 +14,9 @@ pub enum WorkErr {
     /// A group of so many commands is open, and nothing was done.
     #[error("a group of {commands} commands is open")]
     InGroup { commands: u64 },
+    /// The slots are copied, so many objects so far, and nothing was done.
+    #[error("a backup is being made, {copied} objects are copied")]
+    InBackup { copied: u32 },
     /// The log has no room for a record, or for the one that would take its place.
     #[error("the log is full: {used} bytes are used, {need} more are needed, the limit is {limit}")]
     LogFull { used: u64, need: u64, limit: u64 },

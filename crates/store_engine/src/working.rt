@@ -5,8 +5,8 @@ ghost use Rattle.log_records.specs.declared.rewrite_err.RewriteErr.{RewriteErr a
 ghost use Rattle.cache_manager.specs.declared.install.Install.{Install as Installs};
 ghost use Rattle.cache_manager.specs.declared.install_err.InstallErr.{InstallErr as InstallFailure};
 ghost use Rattle.checkpointing.specs.declared.check_err.CheckErr.{CheckErr as CheckFailure};
-ghost use Rattle.store_engine.specs.Calls.{IsBeginning, IsChecking, IsDraining, IsForcing, IsInstalling, IsRefused, IsTrimming, refused_in, work_of_check, work_of_force, work_of_install, work_of_trim};
-ghost use Rattle.store_engine.specs.Engine.{group_size};
+ghost use Rattle.store_engine.specs.Calls.{IsBeginning, IsChecking, IsDraining, IsForcing, IsInstalling, IsRefused, IsRefusedBeside, IsTrimming, refused_beside, refused_in, work_of_check, work_of_force, work_of_install, work_of_trim};
+ghost use Rattle.store_engine.specs.Engine.{group_size, so_far};
 
 use crate::Engine;
 use crate::work_err::WorkErr;
@@ -23,6 +23,26 @@ impl<O: Oper> Engine<O> {
         match self.group() {
             Some(commands) => Err(WorkErr::InGroup { commands }),
             None => Ok(()),
+        }
+    }
+
+    // Refuses a trim while the slots are copied, with the number of the objects that are.
+    fn uncopied(&self) -> Result<(), WorkErr>
+        ensures { result ≡ refused_beside self.now.copied }
+    {
+        match self.copied {
+            Some(copied) => Err(WorkErr::InBackup { copied }),
+            None => Ok(()),
+        }
+    }
+
+    // How many objects are copied: none while nothing is.
+    fn copied_so_far(&self) -> u32
+        ensures { result ≡ so_far self.now.copied }
+    {
+        match self.copied {
+            Some(copied) => copied,
+            None => 0,
         }
     }
 
@@ -59,7 +79,8 @@ impl<O: Oper> Engine<O> {
 
     /// Installs the minimal node of the least name. While it has two objects or more to flush, identity writes of all but
     /// the longest are logged; then all that waits is forced, the one object, if there is one, is flushed, and the node
-    /// leaves the graph.
+    /// leaves the graph. While the slots are copied, the longest is kept of those that are not copied yet, and a copied object
+    /// is flushed by the node of an identity write of it alone, which is logged before.
     ///
     /// It answers `InGroup` in a group, and `LogFull` and `LsnEnd` where an identity write has no place; all that waited is
     /// forced then.
@@ -72,7 +93,8 @@ impl<O: Oper> Engine<O> {
         standing::image_stands::<O>();
         cache_manager::install_may_be_taken::<O>();
         self.alone()?;
-        Ok(cache_manager::install_one(&mut self.store, machine, 0)?)
+        let copied = self.copied_so_far();
+        Ok(cache_manager::install_one(&mut self.store, machine, copied)?)
     }
 
     /// Installs the minimal node of the least name until no node is left. It answers how many were installed; in a group
@@ -85,8 +107,10 @@ impl<O: Oper> Engine<O> {
         explain_core::every_run_keeps::<O>();
         standing::image_stands::<O>();
         cache_manager::drain_may_be_taken::<O>();
+        cache_manager::drain_is_bounded::<O>();
         self.alone()?;
-        Ok(cache_manager::drain(&mut self.store, machine, 0)?)
+        let copied = self.copied_so_far();
+        Ok(cache_manager::drain(&mut self.store, machine, copied)?)
     }
 
     /// Takes a check of where a redo begins now, and forces it. Where the log has no room for it, what waits is forced, and
@@ -106,18 +130,20 @@ impl<O: Oper> Engine<O> {
     /// Forces the log and puts another in its place: the commands and identity writes from the least number in the write
     /// graph on, or none where the graph is empty, and after them a check taken now.
     ///
-    /// The first that applies is answered: `InGroup`; `Exhausted`, where no greater epoch is left; after the force `Damaged`,
+    /// The first that applies is answered: `InGroup`; `InBackup`, while the slots are copied; `Exhausted`, where no greater epoch is left; after the force `Damaged`,
     /// where the log that is read breaks its format, at the first place where it does, `LogFull` and `Memory`. A log that is
     /// as the engine left it is never `Damaged`.
     pub fn trim<M: Machine>(&mut self, machine: &mut M) -> Result<(), WorkErr>
         requires unbroken { self.old.broken ≡ false }
         ensures in_group { IfSome (group_size self.old) (λ size. IsRefused size machine.old machine.new self.old self.new result) }
-        ensures alone { self.old.group ≡ None → (answer : Result _ RewriteFailure) × (result ≡ work_of_trim answer) × IsTrimming O.meaning (M.disk machine.old) (M.disk machine.new) self.old self.new answer }
+        ensures in_backup { self.old.group ≡ None → IfSome self.old.copied (λ copied. IsRefusedBeside copied machine.old machine.new self.old self.new result) }
+        ensures alone { self.old.group ≡ None → self.old.copied ≡ None → (answer : Result _ RewriteFailure) × (result ≡ work_of_trim answer) × IsTrimming O.meaning (M.disk machine.old) (M.disk machine.new) self.old self.new answer }
     {
         explain_core::every_run_keeps::<O>();
         standing::image_stands::<O>();
         checkpointing::trim_may_be_taken::<O>();
         self.alone()?;
+        self.uncopied()?;
         Ok(checkpointing::trim(&mut self.store, machine)?)
     }
 }

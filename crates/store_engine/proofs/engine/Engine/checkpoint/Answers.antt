@@ -17,12 +17,12 @@ module _ (g : Over) (c : After-checkpoint g) where
   new = g.M.Machine.disk c.checkpoint.new.machine
 
   abbrev after : EngineView
-  after = engine_of c.checkpoint.new.store c.self.inside.group
+  after = engine_of c.checkpoint.new.store c.self.inside.group c.self.inside.copied
 
   worked : c.args.self.now.group ≡ None → IsChecking g.O.Oper.meaning old new c.args.self.now after c.checkpoint.result
   worked none =
-      as_alone c.self.inside.store c.checkpoint.new.store c.self.inside.group c.args.self.now c.self.view_is none (λ before after. IsChecking g.O.Oper.meaning old new before after c.checkpoint.result)
-      (checking g.O.Oper.meaning old new c.self.inside.store c.checkpoint.new.store (λ b w steps. c.every_run_keeps.ensures.from_sound b w steps) (λ p files w. c.image_stands.ensures p files w) c.checkpoint.result
+      as_alone c.self.inside.store c.checkpoint.new.store c.self.inside.group c.self.inside.copied c.args.self.now c.self.view_is none (λ before after. IsChecking g.O.Oper.meaning old new before after c.checkpoint.result)
+      (checking g.O.Oper.meaning old new c.self.inside.store c.checkpoint.new.store c.self.inside.copied (λ b w steps. c.every_run_keeps.ensures.from_sound b w steps) (λ p files w. c.image_stands.ensures p files w) c.checkpoint.result
       c.checkpoint.ensures.call c.checkpoint.ensures.takes (λ b w used small running. c.checkpoint_may_be_taken.ensures b w used small running))
 
 pub returns-in_err-checkpoint-clause-alone : goal.returns-in_err-checkpoint-clause-alone

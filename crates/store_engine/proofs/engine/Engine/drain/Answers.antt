@@ -1,7 +1,8 @@
-use Rattle.std.proofs.Common.{◌≡◌, None}
+use Rattle.std.proofs.Common.{◌≡◌, ◌∙◌, ap, sym, None}
 use Rattle.disk_model.specs.Disk.{Disk}
+use Rattle.formats.specs.Objects.{bounds_of}
 use Rattle.store_engine.specs.Calls.{IsDraining, work_from_install}
-use Rattle.store_engine.specs.Engine.{EngineView, engine_of}
+use Rattle.store_engine.specs.Engine.{EngineView, engine_of, so_far}
 use Rattle.store_engine.proofs.Calls.{as_alone}
 use Rattle.store_engine.proofs.Ways.{works_err, works_ok}
 use Rattle.store_engine.proofs.Works.{draining}
@@ -17,13 +18,14 @@ module _ (g : Over) (c : After-drain g) where
   new = g.M.Machine.disk c.drain.new.machine
 
   abbrev after : EngineView
-  after = engine_of c.drain.new.store c.self.inside.group
+  after = engine_of c.drain.new.store c.self.inside.group c.self.inside.copied
 
   worked : c.args.self.now.group ≡ None → IsDraining g.O.Oper.meaning old new c.args.self.now after c.drain.result
   worked none =
-      as_alone c.self.inside.store c.drain.new.store c.self.inside.group c.args.self.now c.self.view_is none (λ before after. IsDraining g.O.Oper.meaning old new before after c.drain.result)
-      (draining g.O.Oper.meaning old new c.self.inside.store c.drain.new.store (λ b w steps. c.every_run_keeps.ensures.from_sound b w steps) (λ p files w. c.image_stands.ensures p files w) c.drain.result
-      c.drain.ensures.call c.drain.ensures.takes c.drain.ensures.count c.drain.ensures.bounded c.drain.ensures.drained c.drain.ensures.clean (λ b w used small running. c.drain_may_be_taken.ensures.taken b 0 w used small running))
+      as_alone c.self.inside.store c.drain.new.store c.self.inside.group c.self.inside.copied c.args.self.now c.self.view_is none (λ before after. IsDraining g.O.Oper.meaning old new before after c.drain.result)
+      (draining g.O.Oper.meaning old new c.self.inside.store c.drain.new.store c.self.inside.copied (λ b w steps. c.every_run_keeps.ensures.from_sound b w steps) (λ p files w. c.image_stands.ensures p files w)
+      c.copied_so_far-copied.result (c.copied_so_far-copied.ensures ∙ ap (λ (e : EngineView). so_far e.copied) (sym c.self.view_is)) c.drain.result
+      c.drain.ensures.call c.drain.ensures.takes c.drain.ensures.count c.drain.ensures.bounded c.drain.ensures.drained c.drain.ensures.clean (λ b w used small running. c.drain_may_be_taken.ensures.taken b (so_far c.self.inside.copied) w used small running) (λ p w used. c.drain_is_bounded.ensures.removed (bounds_of p) (so_far c.self.inside.copied) w used))
 
 pub returns-in_err-drain-clause-alone : goal.returns-in_err-drain-clause-alone
 returns-in_err-drain-clause-alone g c = λ none.

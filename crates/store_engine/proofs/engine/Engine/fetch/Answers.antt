@@ -32,16 +32,16 @@ module _ (g : Over) (c : After-fetch g) where
   new = g.M.Machine.disk c.fetch.new.machine
 
   abbrev after : EngineView
-  after = engine_of c.fetch.new.self c.self.inside.group
+  after = engine_of c.fetch.new.self c.self.inside.group c.self.inside.copied
 
-  below : c.args.object < (params_of (engine_of c.self.inside.store c.self.inside.group)).objects
+  below : c.args.object < (params_of (engine_of c.self.inside.store c.self.inside.group c.self.inside.copied)).objects
   below = omega (arith, c.if-object-params.false, ap (λ (q : Params). q.objects) c.params.ensures.value, ap (λ (e : EngineView). (params_of e).objects) c.self.view_is)
 
   fetched : (r : Result (Unit {0}) ReadErr) → c.fetch.result ≡ r → HasFetched g.O.Oper.meaning old new c.args.self.now after c.args.object (result_err r)
   fetched r is =
       subst (λ (q : Result _ ReadErr). HasFetched g.O.Oper.meaning old new c.args.self.now after c.args.object (result_err q)) is
       (subst (λ (e : EngineView). HasFetched g.O.Oper.meaning old new e after c.args.object (result_err c.fetch.result)) c.self.view_is
-      (fetched_of g.O.Oper.meaning old new c.self.inside.store c.fetch.new.self c.self.inside.group c.args.object c.fetch.result c.fetch.ensures.call below c.fetch.ensures.cause))
+      (fetched_of g.O.Oper.meaning old new c.self.inside.store c.fetch.new.self c.self.inside.group c.self.inside.copied c.args.object c.fetch.result c.fetch.ensures.call below c.fetch.ensures.cause))
 
 pub returns-in_err-fetch-clause-fetched : goal.returns-in_err-fetch-clause-fetched
 returns-in_err-fetch-clause-fetched g c =
@@ -72,5 +72,5 @@ returns-clause-value g c = λ p commands holds there.
     let at = (goal.at.returns-clause-value g c).After-fetch in
     let is_fine = ⊎_elim (λ bad. cc bad) (λ fine. fine) (unbroken_or c.fetch.new.self.broken _ c.in_ok-fetch.ensures.call.broken) in
     let here = subst (λ (s : SlotsView). c.args.object < s.params.objects) (sym c.fetch.ensures.call.read.fetched.slots) (below g at) in
-    fetched_value g.O.Oper.meaning (old g at) (new g at) c.self.inside.store c.fetch.new.self c.self.inside.group _ c.fetch.ensures.call p (λ w x. c.live_cache_is_the_map.ensures (bounds_of p) w x) commands is_fine
+    fetched_value g.O.Oper.meaning (old g at) (new g at) c.self.inside.store c.fetch.new.self c.self.inside.group c.self.inside.copied _ c.fetch.ensures.call p (λ w x. c.live_cache_is_the_map.ensures (bounds_of p) w x) commands is_fine
     (subst (λ (e : EngineView). Holds g.O.Oper.meaning p (old g at) e commands) (sym c.self.view_is) holds) c.args.object here c.in_ok-fetch.ensures.cached

@@ -18,12 +18,12 @@ module _ (g : Over) (c : After-force g) where
   new = g.M.Machine.disk c.force.new.machine
 
   abbrev after : EngineView
-  after = engine_of c.force.new.self c.self.inside.group
+  after = engine_of c.force.new.self c.self.inside.group c.self.inside.copied
 
   forced : c.args.self.now.group ≡ None → IsForcing g.O.Oper.meaning old new c.args.self.now after (counted c.force.new.self c.force.result)
   forced none =
-      as_alone c.self.inside.store c.force.new.self c.self.inside.group c.args.self.now c.self.view_is none (λ before after. IsForcing g.O.Oper.meaning old new before after (counted c.force.new.self c.force.result))
-      (forcing g.O.Oper.meaning old new c.self.inside.store c.force.new.self (λ b w steps. c.every_run_keeps.ensures.from_sound b w steps) (λ p files w. c.image_stands.ensures p files w) c.force.result
+      as_alone c.self.inside.store c.force.new.self c.self.inside.group c.self.inside.copied c.args.self.now c.self.view_is none (λ before after. IsForcing g.O.Oper.meaning old new before after (counted c.force.new.self c.force.result))
+      (forcing g.O.Oper.meaning old new c.self.inside.store c.force.new.self c.self.inside.copied (λ b w steps. c.every_run_keeps.ensures.from_sound b w steps) (λ p files w. c.image_stands.ensures p files w) c.force.result
       c.force.ensures.call c.force.ensures.takes c.force.ensures.forced (λ b w used small running. c.force_may_be_taken.ensures b w used small running))
 
 pub returns-in_err-force-clause-alone : goal.returns-in_err-force-clause-alone

@@ -1,7 +1,7 @@
-use Rattle.std.proofs.Common.{◌≡◌, None}
+use Rattle.std.proofs.Common.{◌≡◌, ◌∙◌, ap, sym, None}
 use Rattle.disk_model.specs.Disk.{Disk}
 use Rattle.store_engine.specs.Calls.{IsInstalling, work_from_install}
-use Rattle.store_engine.specs.Engine.{EngineView, engine_of}
+use Rattle.store_engine.specs.Engine.{EngineView, engine_of, so_far}
 use Rattle.store_engine.proofs.Calls.{as_alone}
 use Rattle.store_engine.proofs.Ways.{works_err, works_ok}
 use Rattle.store_engine.proofs.Works.{installing}
@@ -17,13 +17,14 @@ module _ (g : Over) (c : After-install_one g) where
   new = g.M.Machine.disk c.install_one.new.machine
 
   abbrev after : EngineView
-  after = engine_of c.install_one.new.store c.self.inside.group
+  after = engine_of c.install_one.new.store c.self.inside.group c.self.inside.copied
 
   worked : c.args.self.now.group ≡ None → IsInstalling g.O.Oper.meaning old new c.args.self.now after c.install_one.result
   worked none =
-      as_alone c.self.inside.store c.install_one.new.store c.self.inside.group c.args.self.now c.self.view_is none (λ before after. IsInstalling g.O.Oper.meaning old new before after c.install_one.result)
-      (installing g.O.Oper.meaning old new c.self.inside.store c.install_one.new.store (λ b w steps. c.every_run_keeps.ensures.from_sound b w steps) (λ p files w. c.image_stands.ensures p files w) c.install_one.result
-      c.install_one.ensures.call c.install_one.ensures.takes c.install_one.ensures.told c.install_one.ensures.tells (λ b w used small running. c.install_may_be_taken.ensures b 0 w used small running))
+      as_alone c.self.inside.store c.install_one.new.store c.self.inside.group c.self.inside.copied c.args.self.now c.self.view_is none (λ before after. IsInstalling g.O.Oper.meaning old new before after c.install_one.result)
+      (installing g.O.Oper.meaning old new c.self.inside.store c.install_one.new.store c.self.inside.copied (λ b w steps. c.every_run_keeps.ensures.from_sound b w steps) (λ p files w. c.image_stands.ensures p files w)
+      c.copied_so_far-copied.result (c.copied_so_far-copied.ensures ∙ ap (λ (e : EngineView). so_far e.copied) (sym c.self.view_is)) c.install_one.result
+      c.install_one.ensures.call c.install_one.ensures.takes c.install_one.ensures.told c.install_one.ensures.tells (λ b w used small running. c.install_may_be_taken.ensures b (so_far c.self.inside.copied) w used small running))
 
 pub returns-in_err-install_one-clause-alone : goal.returns-in_err-install_one-clause-alone
 returns-in_err-install_one-clause-alone g c = λ none.

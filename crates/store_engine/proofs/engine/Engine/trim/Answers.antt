@@ -17,20 +17,20 @@ module _ (g : Over) (c : After-trim g) where
   new = g.M.Machine.disk c.trim.new.machine
 
   abbrev after : EngineView
-  after = engine_of c.trim.new.store c.self.inside.group
+  after = engine_of c.trim.new.store c.self.inside.group c.self.inside.copied
 
   worked : c.args.self.now.group ≡ None → IsTrimming g.O.Oper.meaning old new c.args.self.now after c.trim.result
   worked none =
-      as_alone c.self.inside.store c.trim.new.store c.self.inside.group c.args.self.now c.self.view_is none (λ before after. IsTrimming g.O.Oper.meaning old new before after c.trim.result)
-      (trimming g.O.Oper.meaning old new c.self.inside.store c.trim.new.store (λ b w steps. c.every_run_keeps.ensures.from_sound b w steps) (λ p files w. c.image_stands.ensures p files w) c.trim.result
+      as_alone c.self.inside.store c.trim.new.store c.self.inside.group c.self.inside.copied c.args.self.now c.self.view_is none (λ before after. IsTrimming g.O.Oper.meaning old new before after c.trim.result)
+      (trimming g.O.Oper.meaning old new c.self.inside.store c.trim.new.store c.self.inside.copied (λ b w steps. c.every_run_keeps.ensures.from_sound b w steps) (λ p files w. c.image_stands.ensures p files w) c.trim.result
       c.trim.ensures.call c.trim.ensures.takes c.trim.ensures.epoch c.trim.ensures.undamaged c.trim.ensures.damage c.trim.ensures.long c.trim.ensures.emptied (λ b w used small running. c.trim_may_be_taken.ensures b w c.self.inside.store.parts.log.log.header.epoch used small running))
 
 pub returns-in_err-trim-clause-alone : goal.returns-in_err-trim-clause-alone
-returns-in_err-trim-clause-alone g c = λ none.
+returns-in_err-trim-clause-alone g c = λ none uncopied.
     let at = (goal.at.returns-in_err-trim-clause-alone g c).After-trim in
     works_err work_from_rewrite (λ r. IsTrimming g.O.Oper.meaning (old g at) (new g at) c.args.self.now (after g at) r) c.from_residual-in_err-trim.result c.trim.result c.in_err-trim.field-0.0 c.from_residual-in_err-trim.ensures.1 c.in_err-trim.was (worked g at none)
 
 pub returns-clause-alone : goal.returns-clause-alone
-returns-clause-alone g c = λ none.
+returns-clause-alone g c = λ none uncopied.
     let at = (goal.at.returns-clause-alone g c).After-trim in
     works_ok work_from_rewrite (λ r. IsTrimming g.O.Oper.meaning (old g at) (new g at) c.args.self.now (after g at) r) c.trim.result c.in_ok-trim.field-0 c.in_ok-trim.was (worked g at none)

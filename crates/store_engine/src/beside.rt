@@ -1,0 +1,84 @@
+// The calls of an engine beside a copy of its slots.
+ghost use Rattle.std.specs.Prelude.{ℕ, IsTrue, List};
+ghost use Rattle.std.specs.Option.{is_some};
+ghost use Rattle.oper_core.specs.Cell.{Cell};
+ghost use Rattle.oper_core.specs.Meaning.{IsSmall};
+ghost use Rattle.oper_core.specs.declared.bounds.Bounds.{Bounds};
+ghost use Rattle.explain_core.specs.Backup.{IsCopied};
+ghost use Rattle.explain_core.specs.RunLaws.{Begins};
+ghost use Rattle.explain_core.specs.Sound.{IsSound};
+ghost use Rattle.explain_core.specs.World.{IsLive, Step, World, run};
+ghost use Rattle.running_store.specs.Courses.{force_course};
+ghost use Rattle.running_store.specs.Running.{IsRunning};
+ghost use Rattle.cache_manager.specs.InstallCourses.{drain_course, install_course};
+ghost use Rattle.checkpointing.specs.Courses.{checkpoint_course};
+ghost use Rattle.execution.specs.Courses.{exec_course};
+ghost use Rattle.store_engine.specs.Beside.{BeginKeepsCopy, CheckKeepsCopy, CourseKeepsCopy, DrainKeepsCopy, EndKeepsCopy, ExecKeepsCopy, FetchKeepsCopy, ForceKeepsCopy, InstallKeepsCopy, MayGoBeside};
+ghost use Rattle.store_engine.specs.Calls.{begin_course, end_course};
+ghost use Rattle.store_engine.specs.Grouping.{ungrouped};
+ghost use Rattle.store_engine.specs.LogOf.{CopyHoldsLog, KeepsShown};
+
+use disk_model::Machine;
+use oper_core::Oper;
+
+/// The steps of each call but a trim may be taken beside a copy of the slots, which has the objects below a number: of a
+/// command, of a force, of an install and of a drain that keep to it, of a checkpoint, and of the beginning and the end of a
+/// group. A fetch takes none.
+pub fn calls_go_beside_a_copy<O: Oper>()
+    ensures exec { (b : Bounds) (copied limit : ℕ) (op : O) (w : World O) (used : ℕ) → IsSmall b → IsSound (O.meaning b) w → IsLive w →
+        MayGoBeside (O.meaning b) copied w (exec_course (O.meaning b) (is_some w.group) limit op w used).steps }
+    ensures force { (b : Bounds) (copied : ℕ) (w : World O) (used : ℕ) → IsSmall b → IsRunning (O.meaning b) w →
+        MayGoBeside (O.meaning b) copied w (force_course (O.meaning b) w used).steps }
+    ensures install { (b : Bounds) (copied : ℕ) (w : World O) (used : ℕ) → IsSmall b → IsRunning (O.meaning b) w →
+        MayGoBeside (O.meaning b) copied w (install_course (O.meaning b) copied w used).steps }
+    ensures drain { (b : Bounds) (copied : ℕ) (w : World O) (used : ℕ) → IsSmall b → IsRunning (O.meaning b) w →
+        MayGoBeside (O.meaning b) copied w (drain_course (O.meaning b) copied w used).steps }
+    ensures checkpoint { (b : Bounds) (copied : ℕ) (w : World O) (used : ℕ) → IsSmall b → IsRunning (O.meaning b) w →
+        MayGoBeside (O.meaning b) copied w (checkpoint_course (O.meaning b) w used).steps }
+    ensures begin { (b : Bounds) (copied : ℕ) (w : World O) (used : ℕ) → IsSmall b → IsRunning (O.meaning b) w →
+        MayGoBeside (O.meaning b) copied w (begin_course (O.meaning b) w used).steps }
+    ensures end { (b : Bounds) (copied : ℕ) (w : World O) (used : ℕ) → IsTrue (is_some w.group) →
+        MayGoBeside (O.meaning b) copied w (end_course (O.meaning b) w used).steps }
+{
+    execution::exec_may_be_taken::<O>();
+    cache_manager::force_may_be_taken::<O>();
+    cache_manager::install_may_be_taken::<O>();
+    cache_manager::drain_may_be_taken::<O>();
+    cache_manager::installs_go_beside_a_copy::<O>();
+    checkpointing::checkpoint_may_be_taken::<O>();
+}
+
+/// What was copied of a world stays a copy under all first steps of a course that may go beside it, so also where a call on an
+/// engine that shows the world took that course, some of it or all.
+pub fn a_copy_goes_on<O: Oper, M: Machine>()
+    ensures some { (b : Bounds) (copied : ℕ) (cells : ℕ → Cell) (w : World O) (steps taken : List (Step O)) → IsSmall b → IsSound (O.meaning b) w →
+        IsCopied (O.meaning b) (ungrouped w) copied cells → MayGoBeside (O.meaning b) copied w steps → Begins steps taken →
+        IsCopied (O.meaning b) (ungrouped (run (O.meaning b) w taken)) copied cells }
+    ensures course { CourseKeepsCopy O.meaning M.disk }
+{
+    explain_core::copy_stays::<O>();
+}
+
+/// So each call of an engine whose slots are copied keeps what has been copied, unless it fails with the disk: a command and a
+/// fetch at any time, a force, an install, a drain, a checkpoint and the beginning of a group where none is open, and its end.
+/// (A trim is refused.)
+pub fn calls_keep_a_copy<O: Oper, M: Machine>()
+    ensures exec { ExecKeepsCopy O.meaning M.disk }
+    ensures fetch { FetchKeepsCopy O.meaning M.disk }
+    ensures force { ForceKeepsCopy O.meaning M.disk }
+    ensures install { InstallKeepsCopy O.meaning M.disk }
+    ensures drain { DrainKeepsCopy O.meaning M.disk }
+    ensures checkpoint { CheckKeepsCopy O.meaning M.disk }
+    ensures begin { BeginKeepsCopy O.meaning M.disk }
+    ensures end { EndKeepsCopy O.meaning M.disk }
+{
+    calls_go_beside_a_copy::<O>();
+    a_copy_goes_on::<O, M>();
+    explain_core::end_keeps::<O>();
+}
+
+/// Where engine and files show a world, files to which the engine's log is copied have the log of that world.
+pub fn a_copied_log_is_of_the_world<O: Oper, M: Machine>()
+    ensures keeps { KeepsShown O.meaning M.disk }
+    ensures holds { CopyHoldsLog O.meaning M.disk }
+{}
