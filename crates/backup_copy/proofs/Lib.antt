@@ -1,0 +1,14 @@
+pub mod Shown
+pub mod Going
+pub mod LaidOut
+pub mod Filled
+pub mod Pairs
+pub mod Copied
+pub mod Ends
+pub mod Passed
+pub mod Opened
+pub mod Begun
+pub mod Saved
+pub mod CopiedLog
+pub mod Forced
+pub mod Finished

@@ -1,0 +1,5 @@
+pub mod Failures
+pub mod Target
+pub mod Copies
+pub mod Refusals
+pub mod Calls
