@@ -1,5 +1,7 @@
 -- Free objects: they are empty and stand in the range, and one that is written is free no longer.
-use Rattle.std.proofs.Common.{◌≡◌, ◌≤◌, ◌<◌, ℕ, zero, suc, ◌+◌, Bool, true, false, if◌then◌else◌, List, [], ◌∷◌, length, filter, refl, sym, ap, ◌∙◌, subst, arith, true≢false}
+use Rattle.std.proofs.Common.{◌≡◌, ◌≢◌, ◌≤◌, ◌<◌, inl, inr, ℕ, zero, suc, ◌+◌, Bool, true, false, if◌then◌else◌, List, [], ◌∷◌, length, filter, refl, sym, ap, ◌∙◌, subst, arith, true≢false}
+use Rattle.std.specs.List.{AllByRecursion}
+use Rattle.std.proofs.lemmas.Bool.Decides.{eqb_tells}
 use Rattle.oper_core.specs.State.{State}
 use Rattle.call_plans.specs.Free.{is_empty, objects_from}
 
@@ -45,6 +47,16 @@ first_free s (suc n) x y rest e =
           let later = first_free s n (suc x) y rest e in
           record { above = omega (arith, later.above); empty = later.empty; others = later.others; rest_is = later.rest_is; ends = omega (arith, later.ends) }
     ] refl e
+
+-- an object that is free was free before, where each of those that are written has a value
+pub none_freed : (s t : State) (z : ℕ) (written : List ℕ) → AllByRecursion (λ x. is_empty (t x) ≡ false) written → (AllByRecursion (λ x. z ≢ x) written → t z ≡ s z)
+    → is_empty (t z) ≡ true → is_empty (s z) ≡ true
+none_freed s t z [] full other empty = sym (ap is_empty (other tt)) ∙ empty
+none_freed s t z (x ∷ written) full other empty =
+    elim (eqb_tells z x) [
+      | inl here ↦ absurd (true≢false (sym empty ∙ ap (λ (y : ℕ). is_empty (t y)) here.1 ∙ full.0))
+      | inr apart ↦ none_freed s t z written full.1 (λ rest. other (apart.1, rest)) empty
+    ]
 
 module _ (s t : State) (fewer : (z : ℕ) → is_empty (t z) ≡ true → is_empty (s z) ≡ true) where
   counts : (a b : Bool) → (a ≡ true → b ≡ true) → (x : ℕ) (l m : List ℕ) → length l ≤ length m → length (if a then x ∷ l else l) ≤ length (if b then x ∷ m else m)

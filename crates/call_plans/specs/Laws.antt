@@ -1,5 +1,5 @@
 -- What a plan does to a state, and to the map that a range stands for.
-use Rattle.std.specs.Prelude.{◌≡◌, ⊤, ℕ, ◌<◌, None, Some, List, [], ◌∷◌, ◌++◌, take, length, fold}
+use Rattle.std.specs.Prelude.{◌≡◌, ⊤, ℕ, ◌≤◌, ◌<◌, None, Some, List, [], ◌∷◌, ◌++◌, take, length, fold}
 use Rattle.oper_core.specs.State.{State}
 use Rattle.oper_core.specs.Meaning.{Meaning, after, Accepts, refusal_of}
 use Rattle.oper_core.specs.declared.refusal.Refusal.TheVariants.{TooLarge}
@@ -8,6 +8,14 @@ use Rattle.call_plans.specs.Plan.{Plan}
 -- a plan that is not refused ends with such a command
 abbrev pub EndsWith : {O R : Type 0} → (O → Type 0) → Plan O R → Type 0
 EndsWith {O} IsLast plan = plan.refusal ≡ None → (last : O) × IsLast last × (front : List O) × (plan.commands ≡ front ++ last ∷ [])
+
+-- the objects from one to another have the same values in both states
+abbrev pub AreAlike : ℕ → ℕ → State → State → Type 0
+AreAlike lo hi s t = (x : ℕ) → lo ≤ x → x ≤ hi → t x ≡ s x
+
+-- what a state is, and its content, depend on these objects alone
+abbrev pub DependOn : {C : Type 0} → ℕ → ℕ → (State → Type 0) → (State → C) → Type 0
+DependOn lo hi Is content = (s t : State) → AreAlike lo hi s t → Is s → Is t × (content t ≡ content s)
 
 module _ {O : Type 0} (m : Meaning O) where
   -- the state after commands, one after the other

@@ -1,5 +1,5 @@
 -- What a call on a range of objects stands for: commands, one after the other, and why it is refused at their end, if it is.
-use Rattle.std.specs.Prelude.{ℕ, zero, suc, Option, None, Some, List, [], ◌∷◌}
+use Rattle.std.specs.Prelude.{◌≡◌, ◌⊎◌, ℕ, zero, suc, Option, None, Some, List, [], ◌∷◌}
 use Rattle.oper_core.specs.State.{State}
 use Rattle.oper_core.specs.Meaning.{Meaning, after}
 
@@ -14,6 +14,10 @@ pub record Plan (O R : Type 0) : Type 0 where
   pub refusal : Option R
 
 module _ {O R : Type 0} where
+  -- it is the command that comes next
+  abbrev pub IsNext : (State → Next O R) → State → O → Type 0
+  IsNext next s op = (next s ≡ goes_on op) ⊎ (next s ≡ ends op)
+
   -- a call without a command
   abbrev pub refused_by : R → Plan O R
   refused_by r = record { commands = []; refusal = Some r }

@@ -1,18 +1,14 @@
 -- What holds of every plan, from what holds of its steps.
-use Rattle.std.proofs.Common.{◌≡◌, ◌<◌, ◌⊎◌, ℕ, zero, suc, Some, unwrap_or, List, [], ◌∷◌, length, take, refl, ap, ◌∙◌, subst, arith, inl, inr}
+use Rattle.std.proofs.Common.{◌≡◌, ◌<◌, ℕ, zero, suc, Some, unwrap_or, List, [], ◌∷◌, length, take, refl, ap, ◌∙◌, subst, arith, inl, inr}
 use Rattle.oper_core.specs.State.{State}
 use Rattle.oper_core.specs.Meaning.{Meaning, after, Accepts, refusal_of}
 use Rattle.oper_core.specs.declared.refusal.Refusal.TheVariants.{TooLarge}
-use Rattle.call_plans.specs.Plan.{Next, goes_on, ends, refuses, Plan, refused_by, one_command, plan_next, plan_from}
+use Rattle.call_plans.specs.Plan.{Next, goes_on, ends, refuses, IsNext, Plan, refused_by, one_command, plan_next, plan_from}
 use Rattle.call_plans.specs.Laws.{AllAccepted, FirstTooLarge, EndsWith, Acts, after_all}
 
 module _ {O R : Type 0} (m : Meaning O) (next : State → Next O R) where
-  -- it is the command that comes next
-  abbrev pub IsNext : State → O → Type 0
-  IsNext s op = (next s ≡ goes_on op) ⊎ (next s ≡ ends op)
-
   -- each command is accepted, if each is that comes next
-  pub all_accepted : ((s : State) (op : O) → IsNext s op → Accepts m s op) → (n : ℕ) (s : State) → AllAccepted m s (plan_from m next n s).commands
+  pub all_accepted : ((s : State) (op : O) → IsNext next s op → Accepts m s op) → (n : ℕ) (s : State) → AllAccepted m s (plan_from m next n s).commands
   all_accepted each zero s = tt
   all_accepted each (suc n) s =
       elim (next s) as (λ t. next s ≡ t → AllAccepted m s (plan_next (λ op. plan_from m next n (after m s op)) t).commands) [
@@ -21,7 +17,7 @@ module _ {O R : Type 0} (m : Meaning O) (next : State → Next O R) where
         | refuses r ↦ λ is. tt
       ] refl
 
-  pub first_too_large : ((s : State) (op : O) → IsNext s op → refusal_of m s op ≡ Some TooLarge) → (n : ℕ) (s : State) → FirstTooLarge m s (plan_from m next n s).commands
+  pub first_too_large : ((s : State) (op : O) → IsNext next s op → refusal_of m s op ≡ Some TooLarge) → (n : ℕ) (s : State) → FirstTooLarge m s (plan_from m next n s).commands
   first_too_large each zero s = tt
   first_too_large each (suc n) s =
       elim (next s) as (λ t. next s ≡ t → FirstTooLarge m s (plan_next (λ op. plan_from m next n (after m s op)) t).commands) [

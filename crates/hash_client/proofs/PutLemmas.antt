@@ -1,19 +1,17 @@
 -- What the calls answer, from what is met.
 use Rattle.std.proofs.Common.{◌≡◌, ◌≤◌, ◌<◌, refl, sym, ap, ◌∙◌, subst, ℕ, suc, ◌+◌, ◌-◌, ◌==◌, Bool, true, false, Option, Result, Ok, Err, List, [], ◌∷◌, if◌then◌else◌, arith}
-use Rattle.std.specs.Prelude.{IfOk, nat_lt, ◌&&◌}
+use Rattle.std.specs.Prelude.{nat_lt, ◌&&◌}
 use Rattle.std.proofs.lemmas.Bool.{cond-true, cond-false, lt-ltb, le-ltb, ne_eqb}
 use Rattle.oper_core.specs.State.{State}
 use Rattle.oper_core.specs.declared.bounds.Bounds.{Bounds}
 use Rattle.formats.specs.Objects.{bounds_of}
 use Rattle.formats.specs.declared.params.Params.{Params}
-use Rattle.running_store.specs.Taking.Ending.{Done}
-use Rattle.store_engine.specs.Lists.{ending_of}
 use Rattle.key_entries.specs.EntryLaws.{true_both}
 use Rattle.key_entries.specs.Pairs.{has}
 use Rattle.op_codec.specs.AllOps.{hash}
 use Rattle.call_plans.specs.Free.{free_from}
 use Rattle.call_plans.specs.Laws.{AllAccepted, FirstTooLarge}
-use Rattle.call_plans.specs.Plan.{ends, refuses, plan_from, refused_by, one_command}
+use Rattle.call_plans.specs.Plan.{IsNext, ends, refuses, plan_from, refused_by, one_command}
 use Rattle.hash_ops.specs.Operation.{hash_meaning}
 use Rattle.hash_ops.specs.declared.bucket.Bucket.{Bucket}
 use Rattle.hash_ops.specs.declared.hash_op.HashOp.{HashOp}
@@ -21,9 +19,8 @@ use Rattle.hash_ops.specs.declared.hash_op.HashOp.TheVariants.{Delete, Put, Spli
 use Rattle.hash_file.specs.Find.{Met, found, find_bucket}
 use Rattle.hash_file.specs.Plan.{HashPlan, delete_on, delete_plan, get_answer, get_on, is_there, has_room, put_next, put_on, put_plan, with_free}
 use Rattle.hash_file.specs.declared.refusal.HashRefusal.TheVariants as refusals
-use Rattle.range_calls.specs.Answers.{cause_in}
 use Rattle.range_calls.specs.Due.{IsDue}
-use Rattle.range_calls.specs.DueLaws.{first_due, turn_due}
+use Rattle.range_calls.specs.DueLaws.{next_due}
 use Rattle.range_calls.specs.Free.{IsLeastFree, free_between}
 use Rattle.range_calls.specs.Store.{Command}
 use Rattle.range_calls.specs.Turns.{turn_answer}
@@ -109,23 +106,16 @@ module _ (lo : ℕ) (key value free : List ℕ) (x : ℕ) (b : Bucket) where
   put_splits full shallow =
       sym (ap (turn_answer hash) (put_full full ∙ cond-false (b.depth == 6) (refuses (refusals.HashFull x)) (with_free (λ new. Split lo x new) free) (ne_eqb b.depth 6 shallow)))
 
--- the command of the next turn is due
-pub next_due : (p : Params) (lo hi : ℕ) (s : State) (key value : List ℕ) → is_there (bounds_of p) lo hi ≡ true
+-- a command that comes next is due
+pub put_due : (p : Params) (lo hi : ℕ) (s : State) (key value : List ℕ) → is_there (bounds_of p) lo hi ≡ true
     → (1024 ≤ p.cap → AllAccepted (hash_meaning (bounds_of p)) s (put_plan (bounds_of p) lo hi s key value).commands) → (p.cap < 1024 → FirstTooLarge (hash_meaning (bounds_of p)) s (put_plan (bounds_of p) lo hi s key value).commands)
-    → (r : Result Turn (CallErr HashRefusal)) → (ending_of (cause_in r) ≡ Done → r ≡ turn_answer hash (put_next (bounds_of p) lo hi key value s)) → IfOk r (λ turn. IsDue p s turn.op)
-next_due p lo hi s key value there accepted large r answer =
+    → (op : HashOp) → IsNext (put_next (bounds_of p) lo hi key value) s op → IsDue p s (hash op)
+put_due p lo hi s key value there accepted large =
     let b = bounds_of p in
     let whole = put_there b lo hi s key there value in
-    turn_due hash (hash_meaning b) (put_next b lo hi key value) p 6 s (λ op. refl)
+    next_due hash (hash_meaning b) (put_next b lo hi key value) p 6 s (λ op. refl)
     (λ wide. subst (λ (q : HashPlan). AllAccepted (hash_meaning b) s q.commands) whole (accepted wide))
-    (λ narrow. subst (λ (q : HashPlan). FirstTooLarge (hash_meaning b) s q.commands) whole (large narrow)) r answer
-
--- so is that of a delete
-pub delete_due : (p : Params) (s : State) (plan : HashPlan) (object : ℕ) (key : List ℕ) → plan ≡ one_command (Delete object key) → (op : Command) → op ≡ hash (Delete object key)
-    → (1024 ≤ p.cap → AllAccepted (hash_meaning (bounds_of p)) s plan.commands) → (p.cap < 1024 → FirstTooLarge (hash_meaning (bounds_of p)) s plan.commands) → IsDue p s op
-delete_due p s plan object key is op same accepted large =
-    subst (λ (o : Command). IsDue p s o) (sym same)
-    (first_due hash (hash_meaning (bounds_of p)) p s (λ op. refl) plan.commands (Delete object key) [] (ap (λ (q : HashPlan). q.commands) is) accepted large)
+    (λ narrow. subst (λ (q : HashPlan). FirstTooLarge (hash_meaning b) s q.commands) whole (large narrow))
 
 -- the plan of a delete whose key is there, or not
 pub delete_present : (key : List ℕ) (x : ℕ) (b : Bucket) → has key b.pairs.items ≡ true → delete_on key (found x b) ≡ one_command (Delete x key)

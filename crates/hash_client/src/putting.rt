@@ -48,16 +48,19 @@ impl<'a> Turns for NewPair<'a> {
 
     ghost is_there = { λ pair p. pair.file.now.hi < p.objects };
 
+    fn commands_are_due(&self) {
+        commands_are_accepted();
+        let _last = self.file.last();
+        let _key = self.key.as_slice();
+        let _value = self.value.as_slice();
+    }
+
     fn next_turn<M: Machine>(
         &self,
         engine: &mut Engine<AllOps>,
         machine: &mut M,
     ) -> Result<Turn, HashErr> {
         reads_go_on::<M>();
-        commands_are_accepted();
-        let _last = self.file.last();
-        let _key = self.key.as_slice();
-        let _value = self.value.as_slice();
         let met = find_bucket(self.file, engine, machine, self.key)?;
         match met {
             Some(found) => put_turn(self, engine, machine, found),

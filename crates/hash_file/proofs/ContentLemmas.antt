@@ -112,7 +112,7 @@ module _ (lo hi : ℕ) (s : State) (h : HasDirectory lo hi s) where
   abbrev pub entry_of : (key : List ℕ) → IsEntry lo hi s h.directory (index_of key)
   entry_of key = h.entries (index_of key) (index_small key)
 
-  count : length h.directory.entries.items ≡ 2 ^ h.directory.depth
+  pub count : length h.directory.entries.items ≡ 2 ^ h.directory.depth
   count = directory_count (s lo) h.directory h.is
 
   abbrev pub pairs_at : ℕ → List (List ℕ × List ℕ)

@@ -1,14 +1,12 @@
 -- The beginning of a file and each split leave a hash file with the same content, come closer to the put, and take a free object.
-use Rattle.std.proofs.Common.{◌≡◌, ◌≢◌, ◌≤◌, ◌<◌, ℕ, zero, suc, ◌-◌, ◌^◌, ◌==◌, Bool, true, false, Option, Some, List, [], ◌∷◌, ◌++◌, All, refl, sym, ap, ◌∙◌, subst, arith, inl, inr, true≢false}
+use Rattle.std.proofs.Common.{◌≡◌, ◌≤◌, ◌<◌, ℕ, zero, suc, ◌-◌, ◌^◌, ◌==◌, Bool, true, false, Option, Some, List, [], ◌∷◌, ◌++◌, All, refl, sym, ap, ◌∙◌, subst, arith, inl, inr, true≢false}
 use Rattle.std.specs.FinMap.{from_entries}
 use Rattle.std.proofs.lemmas.List.Elements.{All-nil, All-from_get_or}
-use Rattle.std.proofs.lemmas.Bool.Decides.{eqb_tells}
 use Rattle.oper_core.specs.State.{State}
 use Rattle.oper_core.specs.Meaning.{after}
 use Rattle.oper_core.specs.declared.bounds.Bounds.{Bounds}
-use Rattle.key_entries.specs.ValueLaws.{HasTwo, HasThree}
 use Rattle.call_plans.specs.Free.{is_empty, objects_from, free_from}
-use Rattle.call_plans.specs.FreeLaws.{one_taken}
+use Rattle.call_plans.specs.FreeLaws.{none_freed, one_taken}
 use Rattle.call_plans.specs.Plan.{goes_on}
 use Rattle.hash_ops.specs.Blocks.{IsDirectory, bucket, bucket_in, directory, directory_in}
 use Rattle.hash_ops.specs.BlockLaws.{directory_count, directory_found}
@@ -28,33 +26,6 @@ use Rattle.hash_file.proofs.ContentLemmas.{content_empty, entry_of}
 use Rattle.hash_file.proofs.SplitLemmas.{IsSplit, split_file, split_content}
 use Rattle.hash_file.proofs.StepLemmas.{left_of, goes_tells}
 use Rattle.hash_file.proofs.StateLemmas.{finds, free_inside, begun_has, begun_directory, begun_bucket, begun_closer, split, split_few, after_split, new_empty, split_has, split_renames, split_half, split_closer}
-
--- objects that get a value are free no longer
-
-module _ (s t : State) where
-  two_fewer : (a b : ℕ) (u v : List ℕ) → HasTwo s t a b u v → is_empty u ≡ false → is_empty v ≡ false → (z : ℕ) → is_empty (t z) ≡ true → is_empty (s z) ≡ true
-  two_fewer a b u v has first second z empty =
-      elim (eqb_tells z a) [
-        | inl here ↦ absurd (true≢false (sym empty ∙ ap (λ (y : ℕ). is_empty (t y)) here.1 ∙ ap is_empty has.first ∙ first))
-        | inr other ↦ elim (eqb_tells z b) [
-          | inl here ↦ absurd (true≢false (sym empty ∙ ap (λ (y : ℕ). is_empty (t y)) here.1 ∙ ap is_empty has.second ∙ second))
-          | inr others ↦ sym (ap is_empty (has.others z other.1 others.1)) ∙ empty
-        ]
-      ]
-
-  three_fewer : (a b c : ℕ) (u v w : List ℕ) → HasThree s t a b c u v w → is_empty u ≡ false → is_empty v ≡ false → is_empty w ≡ false
-      → (z : ℕ) → is_empty (t z) ≡ true → is_empty (s z) ≡ true
-  three_fewer a b c u v w has first second third z empty =
-      elim (eqb_tells z c) [
-        | inl here ↦ absurd (true≢false (sym empty ∙ ap (λ (y : ℕ). is_empty (t y)) here.1 ∙ ap is_empty has.third ∙ third))
-        | inr last ↦ elim (eqb_tells z a) [
-          | inl here ↦ absurd (true≢false (sym empty ∙ ap (λ (y : ℕ). is_empty (t y)) here.1 ∙ ap is_empty has.first ∙ first))
-          | inr other ↦ elim (eqb_tells z b) [
-            | inl here ↦ absurd (true≢false (sym empty ∙ ap (λ (y : ℕ). is_empty (t y)) here.1 ∙ ap is_empty has.second ∙ second))
-            | inr others ↦ sym (ap is_empty (has.others z other.1 others.1 last.1)) ∙ empty
-          ]
-        ]
-      ]
 
 -- where a key is found on a hash file
 
@@ -142,7 +113,7 @@ module _ (b : Bounds) (lo hi : ℕ) (key value : List ℕ) (range : IsRange b lo
             entries = λ i less. one_entry t x (free_inside b lo hi key order within range.small.objects range.wide s x rest is) first i less;
           });
           content = ap (λ (o : Option Directory). map_of t o) read ∙ ap (λ (o : Option Bucket). from_entries (pairs_in o ++ [])) first ∙ sym (content_empty lo s empty);
-          taken = one_taken s t (two_fewer s t lo x _ _ has refl refl) (objects_from (suc lo) (hi - lo)) x rest is (ap is_empty has.second);
+          taken = one_taken s t (λ z. none_freed s t z (lo ∷ x ∷ []) (ap is_empty has.first, (ap is_empty has.second, tt)) (λ apart. has.others z apart.0 apart.1.0)) (objects_from (suc lo) (hi - lo)) x rest is (ap is_empty has.second);
         }
 
     split_keeps : (h : HasDirectory lo hi s) (x : ℕ) (c : Bucket) (at : IsFound lo hi s key x c) → at.directory ≡ h.directory → (c.depth == 6) ≡ false
@@ -172,7 +143,8 @@ module _ (b : Bounds) (lo hi : ℕ) (key value : List ℕ) (range : IsRange b lo
         record {
           file = inr (split_file lo hi s t x new c h w);
           content = split_content lo hi s t x new c h w;
-          taken = one_taken s t (three_fewer s t lo x new _ _ _ has refl refl refl) (objects_from (suc lo) (hi - lo)) new rest is (ap is_empty has.third);
+          taken = one_taken s t
+              (λ z. none_freed s t z (lo ∷ x ∷ new ∷ []) (ap is_empty has.first, (ap is_empty has.second, (ap is_empty has.third, tt))) (λ apart. has.others z apart.0 apart.1.0 apart.1.1.0)) (objects_from (suc lo) (hi - lo)) new rest is (ap is_empty has.third);
         }
 
     pub growth : (op : HashOp) → IsHash lo hi s → put_next b lo hi key value s ≡ goes_on op → GrowthKeeps b lo hi s op

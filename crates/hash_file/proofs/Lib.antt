@@ -8,3 +8,4 @@ pub mod StateLemmas
 pub mod GrowthLemmas
 pub mod WriteLemmas
 pub mod CallLemmas
+pub mod AlikeLemmas

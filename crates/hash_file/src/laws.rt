@@ -6,7 +6,7 @@ ghost use Rattle.oper_core.specs.State.{State};
 ghost use Rattle.oper_core.specs.declared.bounds.Bounds.{Bounds};
 ghost use Rattle.key_entries.specs.Short.{is_short};
 ghost use Rattle.call_plans.specs.Plan.{goes_on};
-ghost use Rattle.call_plans.specs.Laws.{AllAccepted, FirstTooLarge, EndsWith};
+ghost use Rattle.call_plans.specs.Laws.{AllAccepted, DependOn, FirstTooLarge, EndsWith};
 ghost use Rattle.hash_ops.specs.Operation.{hash_meaning};
 ghost use Rattle.hash_ops.specs.declared.hash_op.HashOp.{HashOp};
 ghost use Rattle.hash_ops.specs.declared.hash_op.HashOp.TheVariants.{Put};
@@ -56,4 +56,9 @@ pub fn a_hash_file_refuses_by_cause()
         → (put_plan b lo hi s key value).refusal ≡ Some r → IsFull r }
     ensures delete { (b : Bounds) (lo hi : ℕ) (s : State) (key : List ℕ) → IsTrue (is_there b lo hi) → IsHash lo hi s
         → (delete_plan b lo hi s key).refusal ≡ (if is_some (get (content_of lo s) key) then None else Some NoKey) }
+{}
+
+/// Whether a range is a hash file, and what it holds, depends on its own objects alone.
+pub fn a_hash_file_depends_on_its_range()
+    ensures { (lo hi : ℕ) → lo ≤ hi → DependOn lo hi (IsHash lo hi) (content_of lo) }
 {}

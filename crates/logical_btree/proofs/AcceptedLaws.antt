@@ -10,9 +10,9 @@ use Rattle.key_entries.specs.Pairs.{has}
 use Rattle.btree_ops.specs.Operation.{node_meaning}
 use Rattle.btree_ops.specs.declared.node_op.NodeOp.{NodeOp}
 use Rattle.btree_ops.specs.declared.node_op.NodeOp.TheVariants.{Delete}
-use Rattle.call_plans.specs.Plan.{refused_by, one_command}
+use Rattle.call_plans.specs.Plan.{IsNext, refused_by, one_command}
 use Rattle.call_plans.specs.Laws.{AllAccepted, FirstTooLarge}
-use Rattle.call_plans.specs.PlanLaws.{IsNext, all_accepted, first_too_large}
+use Rattle.call_plans.specs.PlanLaws.{all_accepted, first_too_large}
 use Rattle.logical_btree.specs.Walk.{Way, size, walk}
 use Rattle.logical_btree.specs.Plan.{TreePlan, TreeNext, insert_next, insert_from, insert_plan, delete_on, delete_plan, is_there}
 use Rattle.logical_btree.specs.declared.refusal.TreeRefusal.TheVariants.{NoObject, NoKey}
@@ -62,7 +62,7 @@ module _ (b : Bounds) (lo hi : ℕ) (key value : List ℕ) (short : IsTrue (is_s
 
   -- whatever comes next is due
   module _ (order : lo ≤ hi) (inside : hi < b.objects) where
-    next_due : (s : State) (op : NodeOp) → IsNext (node_meaning b) next_of s op → IsDue b s op
+    next_due : (s : State) (op : NodeOp) → IsNext next_of s op → IsDue b s op
     next_due s op (inl is) = subst (λ (next : TreeNext). IsDueNext lo hi key value b order inside short s next) is (insert_due lo hi key value b order inside short fits s)
     next_due s op (inr is) = subst (λ (next : TreeNext). IsDueNext lo hi key value b order inside short s next) is (insert_due lo hi key value b order inside short fits s)
 

@@ -23,3 +23,4 @@ pub mod FullLaws
 pub mod SplitsKeepLaws
 pub mod CutLemmas
 pub mod WayLemmas
+pub mod AlikeLemmas

@@ -35,7 +35,7 @@ use Rattle.logical_btree.specs.Laws.{SplitKeeps}
 use Rattle.logical_btree.proofs.CommandLemmas.{leaf_at}
 use Rattle.logical_btree.proofs.CutLemmas.{LeafParts, InnerParts, parts, placed, separator_short, start_held}
 use Rattle.logical_btree.proofs.DueLemmas.{RootMade, NodeMade, SplitsRoot, SplitsNode, Tells, insert_tells, root_made, node_made, root_apart, node_apart}
-use Rattle.call_plans.specs.FreeLaws.{one_taken}
+use Rattle.call_plans.specs.FreeLaws.{none_freed, one_taken}
 use Rattle.logical_btree.proofs.GoesLemmas.{objects_of as way_objects, tree_goes}
 use Rattle.logical_btree.proofs.GrownLemmas.{LeafCut, InnerCut, ParentCut}
 use Rattle.logical_btree.proofs.MovedLemmas.{same_ok}
@@ -62,18 +62,10 @@ written b s op made wide is =
     (ap (where_roomy b.cap) is ∙ if_true (nat_le 1024 b.cap) (Ok made) (Err TooLarge) wide)
 
 -- three nodes that are written leave no more objects free
-three_fewer : (s t : State) (a c d : ℕ) (u v w : Node) → HasThree s t a c d (node_code u) (node_code v) (node_code w) → (z : ℕ) → is_empty (t z) ≡ true → is_empty (s z) ≡ true
-three_fewer s t a c d u v w has z empty =
-    elim (eqb_tells z a) [
-      | inl here ↦ absurd (true≢false (sym empty ∙ ap (λ (y : ℕ). is_empty (t y)) here.1 ∙ ap is_empty has.first ∙ code_some u))
-      | inr first ↦ elim (eqb_tells z c) [
-        | inl here ↦ absurd (true≢false (sym empty ∙ ap (λ (y : ℕ). is_empty (t y)) here.1 ∙ ap is_empty has.second ∙ code_some v))
-        | inr second ↦ elim (eqb_tells z d) [
-          | inl here ↦ absurd (true≢false (sym empty ∙ ap (λ (y : ℕ). is_empty (t y)) here.1 ∙ ap is_empty has.third ∙ code_some w))
-          | inr third ↦ sym (ap is_empty (has.others z first.1 second.1 third.1)) ∙ empty
-        ]
-      ]
-    ]
+three_written : (s t : State) (a c d : ℕ) (u v w : Node) → HasThree s t a c d (node_code u) (node_code v) (node_code w) → (z : ℕ) → is_empty (t z) ≡ true → is_empty (s z) ≡ true
+three_written s t a c d u v w has z =
+    none_freed s t z (a ∷ c ∷ d ∷ []) (ap is_empty has.first ∙ code_some u, (ap is_empty has.second ∙ code_some v, (ap is_empty has.third ∙ code_some w, tt)))
+    (λ apart. has.others z apart.0 apart.1.0 apart.1.1.0)
 
 -- one list is the other with one entry more
 record Added (new : List ℕ × ℕ) (branches more : List (List ℕ × ℕ)) : Type 0 where
@@ -155,7 +147,7 @@ module _ (b : Bounds) (lo hi : ℕ) (key value : List ℕ) (wide : IsTrue (nat_l
     root_taken : length (free_in (after (node_meaning b) s (SplitRoot lo r.left r.right)) lo hi) < length (free_in s lo hi)
     root_taken =
         let h : Halves = root_new.halves in
-        one_taken s (after (node_meaning b) s (SplitRoot lo r.left r.right)) (three_fewer s (after (node_meaning b) s (SplitRoot lo r.left r.right)) lo r.left r.right new_root h.left h.right root_has)
+        one_taken s (after (node_meaning b) s (SplitRoot lo r.left r.right)) (three_written s (after (node_meaning b) s (SplitRoot lo r.left r.right)) lo r.left r.right new_root h.left h.right root_has)
         (objects_from lo (size lo hi)) r.left r.rest r.free (ap is_empty root_has.second ∙ code_some h.left)
 
     root_keeps : IsTree lo hi s → SplitKeeps b lo hi s op
@@ -238,7 +230,7 @@ module _ (b : Bounds) (lo hi : ℕ) (key value : List ℕ) (wide : IsTrue (nat_l
     node_taken : length (free_in after_node lo hi) < length (free_in s lo hi)
     node_taken =
         let h : Halves = node_new.halves in
-        one_taken s after_node (three_fewer s after_node r.place.parent r.found.child r.new new_parent h.left h.right node_has) (objects_from lo (size lo hi)) r.new r.rest r.free
+        one_taken s after_node (three_written s after_node r.place.parent r.found.child r.new new_parent h.left h.right node_has) (objects_from lo (size lo hi)) r.new r.rest r.free
         (ap is_empty node_has.third ∙ code_some h.right)
 
     node_keeps : IsTree lo hi s → SplitKeeps b lo hi s op

@@ -8,7 +8,7 @@ ghost use Rattle.oper_core.specs.declared.bounds.Bounds.{Bounds};
 ghost use Rattle.key_entries.specs.Short.{is_short};
 ghost use Rattle.key_entries.specs.Entries.{byte_order};
 ghost use Rattle.call_plans.specs.Plan.{goes_on};
-ghost use Rattle.call_plans.specs.Laws.{AllAccepted, FirstTooLarge, EndsWith};
+ghost use Rattle.call_plans.specs.Laws.{AllAccepted, DependOn, FirstTooLarge, EndsWith};
 ghost use Rattle.btree_ops.specs.Operation.{node_meaning};
 ghost use Rattle.btree_ops.specs.declared.node_op.NodeOp.{NodeOp};
 ghost use Rattle.btree_ops.specs.declared.node_op.NodeOp.TheVariants.{Put};
@@ -67,4 +67,9 @@ pub fn a_tree_refuses_by_cause()
         → (insert_plan b lo hi s key value).refusal ≡ Some r → IsTreeFull r }
     ensures delete { (b : Bounds) (lo hi : ℕ) (s : State) (key : List ℕ) → IsTrue (is_there b lo hi) → IsTree lo hi s
         → (delete_plan b lo hi s key).refusal ≡ (if is_some (get (content_of lo hi s) key) then None else Some NoKey) }
+{}
+
+/// Whether a range is a tree, and what it holds, depends on its own objects alone.
+pub fn a_tree_depends_on_its_range()
+    ensures { (lo hi : ℕ) → lo ≤ hi → DependOn lo hi (IsTree lo hi) (content_of lo hi) }
 {}

@@ -20,8 +20,8 @@ mod worked;
 pub use child::child_for;
 pub use full::is_full;
 pub use laws::{
-    a_range_rises, a_split_keeps_the_tree, a_tree_is_an_ordered_map, a_tree_refuses_by_cause,
-    an_insert_ends_with_its_put, commands_are_accepted,
+    a_range_rises, a_split_keeps_the_tree, a_tree_depends_on_its_range, a_tree_is_an_ordered_map,
+    a_tree_refuses_by_cause, an_insert_ends_with_its_put, commands_are_accepted,
 };
 pub use refusal::TreeRefusal;
 pub use tree::Tree;

@@ -1,5 +1,5 @@
--- The command that comes next is due, where those of the plan are accepted.
-use Rattle.std.proofs.Common.{◌≡◌, ◌≤◌, ◌<◌, ℕ, suc, Ok, Err, Result, List, [], ◌∷◌, length, refl, sym, ap, ◌∙◌, subst}
+-- The command that comes next is due, where those of its plan are accepted.
+use Rattle.std.proofs.Common.{◌≡◌, ◌≤◌, ◌<◌, ◌⊎◌, inl, inr, ℕ, suc, true, false, Ok, Err, Result, List, [], ◌∷◌, length, refl, sym, ap, ◌∙◌, subst}
 use Rattle.std.specs.Prelude.{IfOk, IsTrue, nat_le}
 use Rattle.std.proofs.lemmas.Bool.{le-leb}
 use Rattle.oper_core.specs.State.{State}
@@ -11,7 +11,7 @@ use Rattle.key_entries.specs.Short.{is_short}
 use Rattle.op_codec.specs.AllOps.{all_meaning}
 use Rattle.running_store.specs.Taking.Ending.{Done}
 use Rattle.store_engine.specs.Lists.{ending_of}
-use Rattle.call_plans.specs.Plan.{Next, goes_on, ends, refuses, Plan, plan_next, plan_from}
+use Rattle.call_plans.specs.Plan.{Next, goes_on, ends, refuses, IsNext, Plan, one_command, plan_next, plan_from}
 use Rattle.call_plans.specs.Laws.{AllAccepted, FirstTooLarge}
 use Rattle.range_calls.specs.Answers.{cause_in}
 use Rattle.range_calls.specs.Due.{IsDue}
@@ -29,25 +29,39 @@ first_due {O} kind m p s means commands op more is accepted large = record {
   narrow = λ narrow. means op ∙ subst (λ (l : List O). FirstTooLarge m s l) is (large narrow);
 }
 
-module _ {O R : Type 0} (kind : O → Command) (m : Meaning O) (next : State → Next O R) (p : Params) (n : ℕ) (s : State)
-    (means : (op : O) → refusal_of (all_meaning (bounds_of p)) s (kind op) ≡ refusal_of m s op)
-    (accepted : 1024 ≤ p.cap → AllAccepted m s (plan_from m next (suc n) s).commands) (large : p.cap < 1024 → FirstTooLarge m s (plan_from m next (suc n) s).commands) where
-  abbrev on : O → Plan O R
-  on op = plan_from m next n (after m s op)
+-- the command of a plan that has one
+pub one_due : {O R : Type 0} (kind : O → Command) (m : Meaning O) (p : Params) (s : State) → ((op : O) → refusal_of (all_meaning (bounds_of p)) s (kind op) ≡ refusal_of m s op)
+    → (plan : Plan O R) (op : O) → plan ≡ one_command op → (command : Command) → command ≡ kind op
+    → (1024 ≤ p.cap → AllAccepted m s plan.commands) → (p.cap < 1024 → FirstTooLarge m s plan.commands) → IsDue p s command
+one_due {O} {R} kind m p s means plan op is command same accepted large =
+    subst (λ (o : Command). IsDue p s o) (sym same) (first_due kind m p s means plan.commands op [] (ap (λ (q : Plan O R). q.commands) is) accepted large)
 
-  at_next : (x : Next O R) → next s ≡ x → (r : Result Turn (CallErr R)) → r ≡ turn_answer kind x → IfOk r (λ turn. IsDue p s turn.op)
-  at_next (goes_on op) is r same =
-      subst (λ (q : Result Turn (CallErr R)). IfOk q (λ turn. IsDue p s turn.op)) (sym same)
-      (first_due kind m p s means (plan_from m next (suc n) s).commands op (on op).commands (ap (λ (x : Next O R). (plan_next on x).commands) is) accepted large)
-  at_next (ends op) is r same =
-      subst (λ (q : Result Turn (CallErr R)). IfOk q (λ turn. IsDue p s turn.op)) (sym same)
-      (first_due kind m p s means (plan_from m next (suc n) s).commands op [] (ap (λ (x : Next O R). (plan_next on x).commands) is) accepted large)
-  at_next (refuses refusal) is r same = subst (λ (q : Result Turn (CallErr R)). IfOk q (λ turn. IsDue p s turn.op)) (sym same) tt
+-- the command that comes next in a plan
+pub next_due : {O R : Type 0} (kind : O → Command) (m : Meaning O) (next : State → Next O R) (p : Params) (n : ℕ) (s : State)
+    → ((op : O) → refusal_of (all_meaning (bounds_of p)) s (kind op) ≡ refusal_of m s op)
+    → (1024 ≤ p.cap → AllAccepted m s (plan_from m next (suc n) s).commands) → (p.cap < 1024 → FirstTooLarge m s (plan_from m next (suc n) s).commands)
+    → (op : O) → IsNext next s op → IsDue p s (kind op)
+next_due {O} {R} kind m next p n s means accepted large op (inl is) =
+    first_due kind m p s means (plan_from m next (suc n) s).commands op (plan_from m next n (after m s op)).commands
+    (ap (λ (x : Next O R). (plan_next (λ op. plan_from m next n (after m s op)) x).commands) is) accepted large
+next_due {O} {R} kind m next p n s means accepted large op (inr is) =
+    first_due kind m p s means (plan_from m next (suc n) s).commands op []
+    (ap (λ (x : Next O R). (plan_next (λ op. plan_from m next n (after m s op)) x).commands) is) accepted large
 
-  -- the command of the next turn
-  pub turn_due : (r : Result Turn (CallErr R)) → (ending_of (cause_in r) ≡ Done → r ≡ turn_answer kind (next s)) → IfOk r (λ turn. IsDue p s turn.op)
-  turn_due (Ok turn) answer = at_next (next s) refl (Ok turn) (answer refl)
-  turn_due (Err e) answer = tt
+-- that of a turn
+pub turn_due : {O R : Type 0} (kind : O → Command) (p : Params) (s : State) (x : Next O R) → ((op : O) → (x ≡ goes_on op) ⊎ (x ≡ ends op) → IsDue p s (kind op))
+    → (r : Result Turn (CallErr R)) → (ending_of (cause_in r) ≡ Done → r ≡ turn_answer kind x) → IfOk r (λ turn. IsDue p s turn.op)
+turn_due {O} {R} kind p s x due (Err e) answer = tt
+turn_due {O} {R} kind p s x due (Ok turn) answer = by_next x due (answer refl)
+  where
+    by_next : (x : Next O R) → ((op : O) → (x ≡ goes_on op) ⊎ (x ≡ ends op) → IsDue p s (kind op)) → Ok turn ≡ turn_answer kind x → IsDue p s turn.op
+    by_next (goes_on op) due is =
+        let same : turn ≡ record { op = kind op; last = false } = cc is in
+        subst (λ (t : Turn). IsDue p s t.op) (sym same) (due op (inl refl))
+    by_next (ends op) due is =
+        let same : turn ≡ record { op = kind op; last = true } = cc is in
+        subst (λ (t : Turn). IsDue p s t.op) (sym same) (due op (inr refl))
+    by_next (refuses refusal) due is = cc
 
 -- a key, or a value, of so many bytes is short
 pub short_is : (bytes : List ℕ) → 1 ≤ length bytes → length bytes ≤ 32 → IsTrue (is_short bytes)

@@ -56,6 +56,7 @@ reads_short disk short old now before after reads = record {
       quiet = reads.calls.call.quiet;
       params = reads.calls.call.params;
       group = reads.calls.call.group;
+      copied = reads.calls.call.copied;
       attached = reads.calls.call.attached;
       identities = reads.calls.call.identities;
       stopped = λ stop is. cc;

@@ -5,9 +5,11 @@ pub mod Joining
 pub mod Due
 pub mod Free
 pub mod Turns
+pub mod OnlyCalls
 pub mod JoinLaws
 pub mod MakeLaws
 pub mod ReadLaws
 pub mod DueLaws
 pub mod TurnLaws
 pub mod RunLaws
+pub mod OnlyCallsLaws

@@ -1,7 +1,9 @@
 -- The commands of a call, one after the other.
-use Rattle.std.proofs.Common.{◌≡◌, ◌≤◌, ◌<◌, refl, sym, ap, ◌∙◌, ◌⊎◌, inl, inr, ℕ, suc, true, false, Option, None, Some, Ok, Err, List, [], ◌∷◌, ◌++◌, map, fold, option_map, append-nil, append_assoc, arith}
+use Rattle.std.proofs.Common.{◌≡◌, ◌≤◌, ◌<◌, refl, sym, ap, ◌∙◌, ◌⊎◌, inl, inr, ℕ, suc, true, false, Option, None, Some, Ok, Err, List, [], ◌∷◌, ◌++◌, map, option_map, append-nil, append_assoc, arith}
 use Rattle.std.proofs.lemmas.Bool.{cases_lt}
-use Rattle.oper_core.specs.State.{State}
+use Rattle.std.proofs.lemmas.List.{map-append}
+use Rattle.std.proofs.lemmas.List.Sums.{fold-append}
+use Rattle.oper_core.specs.State.{State, start}
 use Rattle.oper_core.specs.Meaning.{Meaning, after}
 use Rattle.oper_core.specs.declared.refusal.Refusal.TheVariants.{TooLarge}
 use Rattle.formats.specs.Objects.{bounds_of}
@@ -16,10 +18,6 @@ use Rattle.range_calls.specs.Turns.{is_last, turn_answer, turn_plan}
 use Rattle.range_calls.specs.declared.call_err.CallErr.{CallErr}
 use Rattle.range_calls.specs.declared.call_err.CallErr.TheVariants.{Refused, Exec}
 use Rattle.range_calls.specs.declared.turn.Turn.{Turn}
-
-map-more : {O : Type 0} (kind : O → Command) (front ops : List O) → map kind (front ++ ops) ≡ map kind front ++ map kind ops
-map-more kind [] ops = refl
-map-more kind (x ∷ front) ops = ap (λ (l : List Command). kind x ∷ l) (map-more kind front ops)
 
 -- where a front was made, values are wide
 abbrev pub IsWide : {O : Type 0} → ℕ → List O → Type 0
@@ -77,11 +75,7 @@ module _ {O R : Type 0} (kind : O → Command) (p : Params) (m : Meaning O) (mea
     (next : State → Next O R) (most : ℕ) (commands : List Command) where
   -- the state after one command more
   state_after_one : (l : List Command) (op : O) → state_of p (l ++ kind op ∷ []) ≡ after m (state_of p l) op
-  state_after_one l op = fold_more (after (all_meaning (bounds_of p))) _ l (kind op) ∙ means (state_of p l) op
-    where
-      fold_more : (f : State → Command → State) (s : State) (l : List Command) (x : Command) → fold f s (l ++ x ∷ []) ≡ f (fold f s l) x
-      fold_more f s [] x = refl
-      fold_more f s (y ∷ l) x = fold_more f (f s y) l x
+  state_after_one l op = fold-append (after (all_meaning (bounds_of p))) start l (kind op ∷ []) ∙ means (state_of p l) op
 
   abbrev pub whole_plan : Plan O R
   whole_plan = plan_from m next most (state_of p commands)
@@ -106,7 +100,7 @@ module _ {O R : Type 0} (kind : O → Command) (p : Params) (m : Meaning O) (mea
 
     more_here : (op : O) → state_of p (commands ++ map kind (front ++ op ∷ [])) ≡ after m (state_of p here) op
     more_here op =
-        ap (λ (l : List Command). state_of p (commands ++ l)) (map-more kind front (op ∷ []))
+        ap (λ (l : List Command). state_of p (commands ++ l)) (map-append kind front (op ∷ []))
         ∙ ap (λ (l : List Command). state_of p l) (sym (append_assoc commands (map kind front) (kind op ∷ [])))
         ∙ state_after_one here op
 
@@ -158,9 +152,9 @@ module _ {O R : Type 0} (kind : O → Command) (p : Params) (m : Meaning O) (mea
         record {
           whole =
               ap (λ (l : List Command). map kind front ++ (l ++ map kind (rest_on comes))) (made_wide p.cap (map kind (turn_plan comes).commands) wide)
-              ∙ ap (λ (l : List Command). map kind front ++ l) (sym (map-more kind (turn_plan comes).commands (rest_on comes)))
+              ∙ ap (λ (l : List Command). map kind front ++ l) (sym (map-append kind (turn_plan comes).commands (rest_on comes)))
               ∙ ap (λ (l : List O). map kind front ++ map kind l) (sym (split_next comes))
-              ∙ sym (map-more kind front (plan_next on comes).commands)
+              ∙ sym (map-append kind front (plan_next on comes).commands)
               ∙ sym (made_wide p.cap (map kind (front ++ (plan_next on comes).commands)) wide)
               ∙ ap (λ (q : Plan O R). made_of p.cap (map kind q.commands)) (sym going.plan);
         },
@@ -210,7 +204,7 @@ module _ {O R : Type 0} (kind : O → Command) (p : Params) (m : Meaning O) (mea
         made =
             ap (λ (q : Plan O R). map kind front ++ (made_of p.cap (map kind q.commands) ++ [])) turn
             ∙ ap (λ (l : List Command). map kind front ++ (l ++ [])) (made_wide p.cap (kind op ∷ []) wide)
-            ∙ sym (map-more kind front (op ∷ []));
+            ∙ sym (map-append kind front (op ∷ []));
       }
     ]
 

@@ -5,7 +5,8 @@
 //! to the commands of the store those of its plan, the definition `plan_from` of `call_plans`, or a beginning of them where
 //! the log, memory or the disk ends it, and answers as the plan does. Beside it stand what such a call is made of: [`see`]
 //! fetches an object, [`least_free`] finds the least object of a range whose value is empty, [`make`] runs a command that is
-//! due. [`CallErr`] is why a call was not done. The laws of specs/ say what calls make that come one after the other.
+//! due. [`CallErr`] is why a call was not done. The laws of specs/ say what calls make that come one after the other, and that a
+//! range which only its own calls have written is what it was, whatever stop cut the last of them short (`OnlyCalls`).
 #![tactic(auto)]
 
 mod call_err;
@@ -18,7 +19,7 @@ mod turning;
 
 pub use call_err::CallErr;
 pub use freeing::least_free;
-pub use laws::{makes_go_on, reads_go_on, reads_run_short};
+pub use laws::{files_stand_for_one_state, makes_go_on, reads_go_on, reads_run_short};
 pub use making::make;
 pub use seeing::see;
 pub use turn::Turn;

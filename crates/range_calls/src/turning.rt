@@ -10,7 +10,7 @@ ghost use Rattle.op_codec.specs.AllOps.{all_meaning};
 ghost use Rattle.running_store.specs.Taking.Ending.{Done};
 ghost use Rattle.store_engine.specs.Engine.{params_of};
 ghost use Rattle.store_engine.specs.Lists.{AddsFront, AreCalls, ending_of};
-ghost use Rattle.call_plans.specs.Plan.{Next, plan_from};
+ghost use Rattle.call_plans.specs.Plan.{IsNext, Next, plan_from};
 ghost use Rattle.range_calls.specs.Answers.{cause_in, made_of, refused_in};
 ghost use Rattle.range_calls.specs.Due.{IsDue};
 ghost use Rattle.range_calls.specs.Making.{Makes, Reads};
@@ -44,7 +44,11 @@ pub trait Turns {
     /// The store has the objects of its range.
     ghost is_there: { Self → Params → Type 0 };
 
-    /// Finds the command that comes next, which is due.
+    /// Each command that comes next is due.
+    fn commands_are_due(&self)
+        ensures { (p : Params) (s : State) (op : Self.Op) → is_there self.now p → IsNext (next self.now (bounds_of p)) s op → IsDue p s (kind op) };
+
+    /// Finds the command that comes next.
     fn next_turn<M: Machine>(
         &self,
         engine: &mut Engine<AllOps>,
@@ -54,12 +58,28 @@ pub trait Turns {
         requires there { is_there self.now (params_of engine.old) }
         ensures reads { Reads (M.disk machine.old) (M.disk machine.new) engine.old engine.new (cause_in result) }
         ensures answer { (p : Params) (commands : List Command) → Holds p (M.disk machine.old) engine.old commands → ending_of (cause_in result) ≡ Done →
-            result ≡ turn_answer kind (next self.now (bounds_of p) (state_of p commands)) }
-        ensures due { (p : Params) (commands : List Command) → Holds p (M.disk machine.old) engine.old commands →
-            IfOk result (λ turn. IsDue p (state_of p commands) turn.op) };
+            result ≡ turn_answer kind (next self.now (bounds_of p) (state_of p commands)) };
 
     /// An operation of the store means what it means in its kind.
     ghost means: { (b : Bounds) (s : State) (op : Self.Op) → after (all_meaning b) s (kind op) ≡ after (meaning b) s op };
+}
+
+/// Finds the command that comes next, which is due.
+fn due_turn<C: Turns, M: Machine>(
+    call: &C,
+    engine: &mut Engine<AllOps>,
+    machine: &mut M,
+) -> Result<Turn, CallErr<C::Refusal>>
+    requires unbroken { engine.old.broken ≡ false }
+    requires there { C.is_there call.now (params_of engine.old) }
+    ensures reads { Reads (M.disk machine.old) (M.disk machine.new) engine.old engine.new (cause_in result) }
+    ensures answer { (p : Params) (commands : List Command) → Holds p (M.disk machine.old) engine.old commands → ending_of (cause_in result) ≡ Done →
+        result ≡ turn_answer C.kind (C.next call.now (bounds_of p) (state_of p commands)) }
+    ensures due { (p : Params) (commands : List Command) → Holds p (M.disk machine.old) engine.old commands →
+        IfOk result (λ turn. IsDue p (state_of p commands) turn.op) }
+{
+    call.commands_are_due();
+    call.next_turn(engine, machine)
 }
 
 /// Makes the command that comes next. It reports whether that was the last.
@@ -78,7 +98,7 @@ fn take_turn<C: Turns, M: Machine>(
         IfOk result (λ last. last ≡ is_last (C.next call.now (bounds_of p) (state_of p commands))) }
 {
     makes_go_on::<M>();
-    let turn = call.next_turn(engine, machine)?;
+    let turn = due_turn(call, engine, machine)?;
     make(engine, machine, turn.op)?;
     Ok(turn.last)
 }

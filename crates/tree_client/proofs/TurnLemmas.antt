@@ -1,27 +1,22 @@
 -- The command that comes next in an insert.
 use Rattle.std.proofs.Common.{◌≡◌, ◌≤◌, ◌<◌, refl, sym, ap, ◌∙◌, subst, ℕ, suc, true, false, Option, None, Some, Result, Ok, Err, List, [], ◌∷◌, if◌then◌else◌}
-use Rattle.std.specs.Prelude.{IfOk}
 use Rattle.std.proofs.lemmas.Bool.{cond-true, cond-false}
 use Rattle.oper_core.specs.State.{State}
 use Rattle.oper_core.specs.declared.bounds.Bounds.{Bounds}
 use Rattle.formats.specs.Objects.{bounds_of}
 use Rattle.formats.specs.declared.params.Params.{Params}
-use Rattle.running_store.specs.Taking.Ending.{Done}
-use Rattle.store_engine.specs.Lists.{ending_of}
 use Rattle.key_entries.specs.Pairs.{has}
 use Rattle.btree_ops.specs.Operation.{node_meaning}
 use Rattle.btree_ops.specs.declared.node_op.NodeOp.{NodeOp}
-use Rattle.btree_ops.specs.declared.node_op.NodeOp.TheVariants.{Delete, Put}
+use Rattle.btree_ops.specs.declared.node_op.NodeOp.TheVariants.{Put}
 use Rattle.op_codec.specs.AllOps.{node}
 use Rattle.call_plans.specs.Laws.{AllAccepted, FirstTooLarge}
-use Rattle.call_plans.specs.Plan.{ends, refuses, one_command, refused_by}
+use Rattle.call_plans.specs.Plan.{IsNext, ends, refuses, refused_by}
 use Rattle.logical_btree.specs.Walk.{Pair, walk, size}
 use Rattle.logical_btree.specs.Plan.{Full, TreePlan, first_full, free_in, insert_from, insert_next, insert_plan, is_there, next_on, next_with, split_with, steps_of}
 use Rattle.logical_btree.specs.declared.refusal.TreeRefusal.TheVariants as refusals
-use Rattle.range_calls.specs.Answers.{cause_in}
 use Rattle.range_calls.specs.Due.{IsDue}
-use Rattle.range_calls.specs.DueLaws.{first_due, turn_due}
-use Rattle.range_calls.specs.Store.{Command}
+use Rattle.range_calls.specs.DueLaws.{next_due}
 use Rattle.range_calls.specs.Turns.{turn_answer}
 use Rattle.range_calls.specs.declared.turn.Turn.{Turn}
 use Rattle.tree_client.specs.Answers.{TreeErr}
@@ -89,21 +84,14 @@ module _ (b : Bounds) (lo hi : ℕ) (key value : List ℕ) (s : State) where
   pub plan_past : b.objects ≤ hi → insert_plan b lo hi s key value ≡ refused_by refusals.NoObject
   plan_past past = cond-false (is_there b lo hi) (insert_from b lo hi key value (suc (size lo hi)) s) (refused_by refusals.NoObject) (is_past b lo hi past)
 
--- the command of the next turn is due
-pub next_due : (p : Params) (lo hi : ℕ) (s : State) (key value : List ℕ) → is_there (bounds_of p) lo hi ≡ true
+-- a command that comes next is due
+pub insert_due : (p : Params) (lo hi : ℕ) (s : State) (key value : List ℕ) → is_there (bounds_of p) lo hi ≡ true
     → (1024 ≤ p.cap → AllAccepted (node_meaning (bounds_of p)) s (insert_plan (bounds_of p) lo hi s key value).commands)
     → (p.cap < 1024 → FirstTooLarge (node_meaning (bounds_of p)) s (insert_plan (bounds_of p) lo hi s key value).commands)
-    → (r : Result Turn TreeErr) → (ending_of (cause_in r) ≡ Done → r ≡ turn_answer node (insert_next (bounds_of p) lo hi s key value)) → IfOk r (λ turn. IsDue p s turn.op)
-next_due p lo hi s key value there accepted large r answer =
+    → (op : NodeOp) → IsNext (λ t. insert_next (bounds_of p) lo hi t key value) s op → IsDue p s (node op)
+insert_due p lo hi s key value there accepted large =
     let b = bounds_of p in
     let whole = plan_there b lo hi key value s there in
-    turn_due node (node_meaning b) (λ t. insert_next b lo hi t key value) p (size lo hi) s (λ op. refl)
+    next_due node (node_meaning b) (λ t. insert_next b lo hi t key value) p (size lo hi) s (λ op. refl)
     (λ wide. subst (λ (q : TreePlan). AllAccepted (node_meaning b) s q.commands) whole (accepted wide))
-    (λ narrow. subst (λ (q : TreePlan). FirstTooLarge (node_meaning b) s q.commands) whole (large narrow)) r answer
-
--- so is that of a delete
-pub delete_due : (p : Params) (s : State) (plan : TreePlan) (object : ℕ) (key : List ℕ) → plan ≡ one_command (Delete object key) → (op : Command) → op ≡ node (Delete object key)
-    → (1024 ≤ p.cap → AllAccepted (node_meaning (bounds_of p)) s plan.commands) → (p.cap < 1024 → FirstTooLarge (node_meaning (bounds_of p)) s plan.commands) → IsDue p s op
-delete_due p s plan object key is op same accepted large =
-    subst (λ (o : Command). IsDue p s o) (sym same)
-    (first_due node (node_meaning (bounds_of p)) p s (λ op. refl) plan.commands (Delete object key) [] (ap (λ (q : TreePlan). q.commands) is) accepted large)
+    (λ narrow. subst (λ (q : TreePlan). FirstTooLarge (node_meaning b) s q.commands) whole (large narrow))

@@ -47,6 +47,13 @@ impl<'a> Turns for NewPair<'a> {
 
     ghost is_there = { λ pair p. pair.tree.now.hi < p.objects };
 
+    fn commands_are_due(&self) {
+        commands_are_accepted();
+        let _last = self.tree.last();
+        let _key = self.key.as_slice();
+        let _value = self.value.as_slice();
+    }
+
     /// Finds the command that comes next: the split of the first full node on the way, or the put of the pair, where the key is
     /// there or no node on the way is full.
     fn next_turn<M: Machine>(
@@ -55,10 +62,6 @@ impl<'a> Turns for NewPair<'a> {
         machine: &mut M,
     ) -> Result<Turn, TreeErr> {
         reads_go_on::<M>();
-        commands_are_accepted();
-        let _last = self.tree.last();
-        let _key = self.key.as_slice();
-        let _value = self.value.as_slice();
         let found = walk(self.tree, engine, machine, self.key)?;
         let put = node_op(NodeOp::Put {
             object: found.leaf,

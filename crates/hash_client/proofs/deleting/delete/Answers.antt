@@ -2,6 +2,8 @@ use Rattle.std.proofs.Common.{◌≡◌, ◌≤◌, refl, sym, ap, ◌∙◌, su
 use Rattle.formats.specs.Objects.{bounds_of}
 use Rattle.formats.specs.declared.params.Params.{Params}
 use Rattle.key_entries.specs.Pairs.{has}
+use Rattle.hash_ops.specs.Operation.{hash_meaning}
+use Rattle.hash_ops.specs.declared.hash_op.HashOp.TheVariants.{Delete}
 use Rattle.op_codec.specs.AllOps.{all_meaning, hash}
 use Rattle.running_store.specs.Taking.Ending.{Done}
 use Rattle.store_engine.specs.Lists.{AddsFront}
@@ -11,7 +13,7 @@ use Rattle.hash_file.specs.Plan.{HashPlan, delete_plan}
 use Rattle.hash_file.specs.declared.refusal.HashRefusal.{HashRefusal}
 use Rattle.range_calls.specs.Answers.{cause_in, made_of, refused_in}
 use Rattle.range_calls.specs.Due.{IsDue}
-use Rattle.range_calls.specs.DueLaws.{short_is}
+use Rattle.range_calls.specs.DueLaws.{one_due, short_is}
 use Rattle.range_calls.specs.JoinLaws.{holds_behind}
 use Rattle.range_calls.specs.MakeLaws.{made_none}
 use Rattle.range_calls.specs.ReadLaws.{adds_passed, one_behind, passed, read_adds, refuses_passed}
@@ -20,7 +22,7 @@ use Rattle.range_calls.specs.declared.call_err.CallErr.{CallErr}
 use Rattle.hash_client.specs.Finding.{met_answer}
 use Rattle.hash_client.specs.declared.finding.Found.{Found}
 use Rattle.hash_client.proofs.FindLemmas.{bad_met, found_met, unused_met}
-use Rattle.hash_client.proofs.PutLemmas.{delete_absent, delete_due, delete_met, delete_past, delete_present, is_within}
+use Rattle.hash_client.proofs.PutLemmas.{delete_absent, delete_met, delete_past, delete_present, is_within}
 use Rattle.hash_client.proofs.deleting.delete.Goals as goal
 
 none_of : (p : Params) (plan : HashPlan) (r : HashRefusal) → plan ≡ refused_by r → made_of p.cap (map hash plan.commands) ≡ []
@@ -148,7 +150,7 @@ returns-then-has_key-clause-adds g c = λ p commands holds.
     let here : has key c.in-Some.found.bucket.pairs.items ≡ true = ap (λ (l : List (List ℕ × List ℕ)). has key l) (sym c.as_slice.ensures.value) ∙ sym c.if-has_key.ensures in
     let plan = delete_met b lo hi s key there (found c.in-Some.found.object c.in-Some.found.bucket) (found_met (find_bucket lo hi s key) c.in-Some.found told) ∙ delete_present key c.in-Some.found.object c.in-Some.found.bucket here in
     let short = short_is key (omega (arith, c.as_slice-bytes.ensures.some)) (omega (arith, c.as_slice-bytes.ensures.few)) in
-    let due = delete_due p s (delete_plan b lo hi s key) c.in-Some.found.object key plan c.hash_op-op.result c.hash_op-op.ensures
+    let due = one_due hash (hash_meaning b) p s (λ op. refl) (delete_plan b lo hi s key) (Delete c.in-Some.found.object key) plan c.hash_op-op.result c.hash_op-op.ensures
     (λ wide. c.commands_are_accepted.ensures.delete b lo hi s key short wide) (λ narrow. c.commands_are_accepted.ensures.delete_too_large b lo hi s key short narrow) in
     one_behind g.M.Machine.disk c.makes_go_on.ensures.front c.args.machine.now c.find_bucket.new.machine c.make.new.machine c.args.engine.now c.find_bucket.new.engine c.make.new.engine (cause_in c.make.result)
     c.in_ok-met.ensures.reads holds (made_of p.cap (c.hash_op-op.result ∷ [])) (made_of p.cap (map hash (delete_plan b lo hi s key).commands))
@@ -168,7 +170,7 @@ returns-then-has_key-clause-answer g c = λ p commands holds done.
     let here : has key c.in-Some.found.bucket.pairs.items ≡ true = ap (λ (l : List (List ℕ × List ℕ)). has key l) (sym c.as_slice.ensures.value) ∙ sym c.if-has_key.ensures in
     let plan = delete_met b lo hi s key there (found c.in-Some.found.object c.in-Some.found.bucket) (found_met (find_bucket lo hi s key) c.in-Some.found told) ∙ delete_present key c.in-Some.found.object c.in-Some.found.bucket here in
     let short = short_is key (omega (arith, c.as_slice-bytes.ensures.some)) (omega (arith, c.as_slice-bytes.ensures.few)) in
-    let due = delete_due p s (delete_plan b lo hi s key) c.in-Some.found.object key plan c.hash_op-op.result c.hash_op-op.ensures
+    let due = one_due hash (hash_meaning b) p s (λ op. refl) (delete_plan b lo hi s key) (Delete c.in-Some.found.object key) plan c.hash_op-op.result c.hash_op-op.ensures
     (λ wide. c.commands_are_accepted.ensures.delete b lo hi s key short wide) (λ narrow. c.commands_are_accepted.ensures.delete_too_large b lo hi s key short narrow) in
     let mid = holds_behind c.in_ok-met.ensures.reads holds in
     c.make.ensures.answer p mid.world mid.shows (subst (λ (l : List Command). IsDue p (state_of p l) c.hash_op-op.result) (sym mid.commands_are) due) done

@@ -36,14 +36,14 @@ returns-clause-last g c = λ p commands holds.
 
 pub returns-clause-makes : goal.returns-clause-makes
 returns-clause-makes g c = record {
-  calls = c.makes_go_on.ensures.calls c.args.machine.now c.next_turn.new.machine c.make.new.machine c.args.engine.now c.next_turn.new.engine c.make.new.engine None c.in_ok-turn.ensures.reads.calls c.in_ok-make.ensures.calls;
+  calls = c.makes_go_on.ensures.calls c.args.machine.now c.due_turn.new.machine c.make.new.machine c.args.engine.now c.due_turn.new.engine c.make.new.engine None c.in_ok-turn.ensures.reads.calls c.in_ok-make.ensures.calls;
   adds = λ p w shows rest ended.
       let kind = g.C.Turns.kind in
       let commands = commands_of w.history in
       let next = g.C.Turns.next c.args.call.now (bounds_of p) (state_of p commands) in
       let holds : Holds p (g.M.Machine.disk c.args.machine.now) c.args.engine.now commands = record { world = w; shows = shows; commands_are = refl } in
       let found = found_turn kind next c.in_ok-turn.turn (c.in_ok-turn.ensures.answer p commands holds refl) in
-      turn_adds g.M.Machine.disk c.makes_go_on.ensures.front c.args.machine.now c.next_turn.new.machine c.make.new.machine c.args.engine.now c.next_turn.new.engine c.make.new.engine None p w shows
+      turn_adds g.M.Machine.disk c.makes_go_on.ensures.front c.args.machine.now c.due_turn.new.machine c.make.new.machine c.args.engine.now c.due_turn.new.engine c.make.new.engine None p w shows
       c.in_ok-turn.ensures.reads c.in_ok-turn.turn.op (map kind (turn_plan next).commands) found.plan (c.in_ok-turn.ensures.due p commands holds) c.in_ok-make.ensures.adds rest ended;
 }
 
@@ -51,14 +51,14 @@ pub returns-in_err-make-clause-makes : goal.returns-in_err-make-clause-makes
 returns-in_err-make-clause-makes g c =
     makes_err c.from_residual-in_err-make.result c.in_err-make.field-0.0 (passed c.from_residual-in_err-make.result c.in_err-make.field-0.0 c.from_residual-in_err-make.ensures.1)
     (record {
-      calls = c.makes_go_on.ensures.calls c.args.machine.now c.next_turn.new.machine c.make.new.machine c.args.engine.now c.next_turn.new.engine c.make.new.engine (cause_of c.in_err-make.field-0.0) c.in_ok-turn.ensures.reads.calls c.in_err-make.ensures.calls;
+      calls = c.makes_go_on.ensures.calls c.args.machine.now c.due_turn.new.machine c.make.new.machine c.args.engine.now c.due_turn.new.engine c.make.new.engine (cause_of c.in_err-make.field-0.0) c.in_ok-turn.ensures.reads.calls c.in_err-make.ensures.calls;
       adds = λ p w shows rest ended.
           let kind = g.C.Turns.kind in
           let commands = commands_of w.history in
           let next = g.C.Turns.next c.args.call.now (bounds_of p) (state_of p commands) in
           let holds : Holds p (g.M.Machine.disk c.args.machine.now) c.args.engine.now commands = record { world = w; shows = shows; commands_are = refl } in
           let found = found_turn kind next c.in_ok-turn.turn (c.in_ok-turn.ensures.answer p commands holds refl) in
-          turn_adds g.M.Machine.disk c.makes_go_on.ensures.front c.args.machine.now c.next_turn.new.machine c.make.new.machine c.args.engine.now c.next_turn.new.engine c.make.new.engine (cause_of c.in_err-make.field-0.0) p w shows
+          turn_adds g.M.Machine.disk c.makes_go_on.ensures.front c.args.machine.now c.due_turn.new.machine c.make.new.machine c.args.engine.now c.due_turn.new.engine c.make.new.engine (cause_of c.in_err-make.field-0.0) p w shows
           c.in_ok-turn.ensures.reads c.in_ok-turn.turn.op (map kind (turn_plan next).commands) found.plan (c.in_ok-turn.ensures.due p commands holds) c.in_err-make.ensures.adds rest ended;
     })
 

@@ -2,7 +2,9 @@ use Rattle.std.proofs.Common.{◌≡◌, ◌≤◌, refl, sym, ap, ◌∙◌, su
 use Rattle.formats.specs.Objects.{bounds_of}
 use Rattle.formats.specs.declared.params.Params.{Params}
 use Rattle.key_entries.specs.Pairs.{has}
-use Rattle.op_codec.specs.AllOps.{all_meaning}
+use Rattle.btree_ops.specs.Operation.{node_meaning}
+use Rattle.btree_ops.specs.declared.node_op.NodeOp.TheVariants.{Delete}
+use Rattle.op_codec.specs.AllOps.{all_meaning, node}
 use Rattle.logical_btree.specs.Plan.{TreePlan, delete_plan}
 use Rattle.logical_btree.specs.declared.refusal.TreeRefusal.{TreeRefusal}
 use Rattle.logical_btree.specs.Walk.{Pair, walk}
@@ -11,12 +13,11 @@ use Rattle.running_store.specs.Taking.Ending.{Done}
 use Rattle.range_calls.specs.Answers as answers
 use Rattle.tree_client.specs.Answers.{cause_in, made_of, refused_in}
 use Rattle.range_calls.specs.Due.{IsDue}
-use Rattle.range_calls.specs.DueLaws.{short_is}
+use Rattle.range_calls.specs.DueLaws.{one_due, short_is}
 use Rattle.range_calls.specs.Store.{Command, state_of}
 use Rattle.range_calls.specs.JoinLaws.{holds_behind}
 use Rattle.range_calls.specs.MakeLaws.{made_none}
 use Rattle.tree_client.proofs.PlanLemmas.{bad_way, delete_absent, delete_bad, delete_past, delete_present, end_of_way, is_within}
-use Rattle.tree_client.proofs.TurnLemmas.{delete_due}
 use Rattle.range_calls.specs.ReadLaws.{adds_passed, one_behind, passed, read_adds, refuses_passed}
 use Rattle.tree_client.proofs.deleting.delete.Goals as goal
 
@@ -95,7 +96,7 @@ returns-then-has_key-clause-adds g c = λ p commands holds.
     let here : has key c.in_ok-end.end.pairs.items ≡ true = ap (λ (l : List Pair). has key l) (sym c.as_slice.ensures.value) ∙ sym c.if-has_key.ensures in
     let plan = delete_present b lo hi s key there c.in_ok-end.end found here in
     let short = short_is key (omega (arith, c.as_slice-bytes.ensures.some)) (omega (arith, c.as_slice-bytes.ensures.few)) in
-    let due = delete_due p s (delete_plan b lo hi s key) c.in_ok-end.end.leaf key plan c.node_op-op.result c.node_op-op.ensures
+    let due = one_due node (node_meaning b) p s (λ op. refl) (delete_plan b lo hi s key) (Delete c.in_ok-end.end.leaf key) plan c.node_op-op.result c.node_op-op.ensures
     (λ wide. c.commands_are_accepted.ensures.delete b lo hi s key short wide) (λ narrow. c.commands_are_accepted.ensures.delete_too_large b lo hi s key short narrow) in
     one_behind g.M.Machine.disk c.makes_go_on.ensures.front c.args.machine.now c.walk.new.machine c.make.new.machine c.args.engine.now c.walk.new.engine c.make.new.engine (cause_in c.make.result)
     c.in_ok-end.ensures.reads holds (answers.made_of p.cap (c.node_op-op.result ∷ [])) (made_of p.cap (delete_plan b lo hi s key).commands)
@@ -115,7 +116,7 @@ returns-then-has_key-clause-answer g c = λ p commands holds done.
     let here : has key c.in_ok-end.end.pairs.items ≡ true = ap (λ (l : List Pair). has key l) (sym c.as_slice.ensures.value) ∙ sym c.if-has_key.ensures in
     let plan = delete_present b lo hi s key there c.in_ok-end.end found here in
     let short = short_is key (omega (arith, c.as_slice-bytes.ensures.some)) (omega (arith, c.as_slice-bytes.ensures.few)) in
-    let due = delete_due p s (delete_plan b lo hi s key) c.in_ok-end.end.leaf key plan c.node_op-op.result c.node_op-op.ensures
+    let due = one_due node (node_meaning b) p s (λ op. refl) (delete_plan b lo hi s key) (Delete c.in_ok-end.end.leaf key) plan c.node_op-op.result c.node_op-op.ensures
     (λ wide. c.commands_are_accepted.ensures.delete b lo hi s key short wide) (λ narrow. c.commands_are_accepted.ensures.delete_too_large b lo hi s key short narrow) in
     let mid = holds_behind c.in_ok-end.ensures.reads holds in
     c.make.ensures.answer p mid.world mid.shows (subst (λ (l : List Command). IsDue p (state_of p l) c.node_op-op.result) (sym mid.commands_are) due) done

@@ -6,18 +6,15 @@ use Rattle.op_codec.specs.AllOps.{hash}
 use Rattle.call_plans.specs.Free.{free_from}
 use Rattle.hash_file.specs.Find.{Met, find_bucket, found, unused}
 use Rattle.hash_file.specs.Plan.{put_next, put_on}
-use Rattle.range_calls.specs.Due.{IsDue}
-use Rattle.range_calls.specs.DueLaws.{short_is}
 use Rattle.range_calls.specs.JoinLaws.{holds_behind}
 use Rattle.range_calls.specs.Making.{Reads}
-use Rattle.range_calls.specs.ReadLaws.{answers_passed, nothing_passed, passed}
+use Rattle.range_calls.specs.ReadLaws.{answers_passed, passed}
 use Rattle.range_calls.specs.Store.{state_of}
 use Rattle.range_calls.specs.Turns.{turn_answer}
-use Rattle.range_calls.specs.declared.turn.Turn.{Turn}
 use Rattle.hash_client.specs.Finding.{met_answer}
 use Rattle.hash_client.specs.declared.finding.Found.{Found}
 use Rattle.hash_client.proofs.FindLemmas.{bad_met, found_met, unused_met}
-use Rattle.hash_client.proofs.PutLemmas.{bad_turn, free_is, is_within, next_due}
+use Rattle.hash_client.proofs.PutLemmas.{bad_turn, free_is}
 use Rattle.hash_client.proofs.putting.NewPairTurns.next_turn.Goals as goal
 
 pub returns-in_err-met-clause-answer : goal.returns-in_err-met-clause-answer
@@ -28,10 +25,6 @@ returns-in_err-met-clause-answer g c = λ p commands holds.
     let key = c.args.self.now.key in
     answers_passed c.from_residual.result c.in_err-met.field-0.0 (turn_answer hash (put_next (bounds_of p) lo hi key c.args.self.now.value s)) (passed c.from_residual.result c.in_err-met.field-0.0 c.from_residual.ensures.1)
     (λ done. bad_turn (bounds_of p) lo hi s key c.args.self.now.value c.in_err-met.field-0.0 (bad_met (find_bucket lo hi s key) c.in_err-met.field-0.0 (c.in_err-met.ensures.answer p commands holds done)))
-
-pub returns-in_err-met-clause-due : goal.returns-in_err-met-clause-due
-returns-in_err-met-clause-due g c = λ p commands holds.
-    nothing_passed c.from_residual.result c.in_err-met.field-0.0 (λ (turn : Turn). IsDue p (state_of p commands) turn.op) (passed c.from_residual.result c.in_err-met.field-0.0 c.from_residual.ensures.1)
 
 pub returns-in-Some-clause-reads : goal.returns-in-Some-clause-reads
 returns-in-Some-clause-reads g c =
@@ -64,31 +57,3 @@ returns-in-None-clause-answer g c = λ p commands holds done.
     c.begin_turn.ensures.answer p commands (holds_behind c.in_ok-met.ensures.reads holds) (omega (arith, c.requires.there, fits))
     ∙ ap (λ (l : List ℕ). turn_answer hash (put_on lo key c.args.self.now.value l unused)) (free_is s lo hi)
     ∙ sym (ap (λ (m : Met). turn_answer hash (put_on lo key c.args.self.now.value (free_from s (suc lo) (hi - lo)) m)) (unused_met (find_bucket lo hi s key) told))
-
-pub returns-in-Some-clause-due : goal.returns-in-Some-clause-due
-returns-in-Some-clause-due g c = λ p commands holds.
-    let s = state_of p commands in
-    let lo = c.args.self.now.file.now.lo in
-    let hi = c.args.self.now.file.now.hi in
-    let k = c.args.self.now.key in
-    let v = c.args.self.now.value in
-    let fits = ap (λ (q : Params). q.objects) holds.shows.shows.store.params in
-    let there = is_within (bounds_of p) lo hi (omega (arith, c.last-last.ensures.order, c.last-last.ensures.value)) (omega (arith, c.requires.there, fits)) in
-    let key = short_is k c.as_slice-key.ensures.some c.as_slice-key.ensures.few in
-    let value = short_is v c.as_slice-value.ensures.some c.as_slice-value.ensures.few in
-    next_due p lo hi s k v there (λ wide. c.commands_are_accepted.ensures.put (bounds_of p) lo hi s k v key value wide) (λ narrow. c.commands_are_accepted.ensures.put_too_large (bounds_of p) lo hi s k v key value narrow)
-    c.put_turn.result (returns-in-Some-clause-answer g c p commands holds)
-
-pub returns-in-None-clause-due : goal.returns-in-None-clause-due
-returns-in-None-clause-due g c = λ p commands holds.
-    let s = state_of p commands in
-    let lo = c.args.self.now.file.now.lo in
-    let hi = c.args.self.now.file.now.hi in
-    let k = c.args.self.now.key in
-    let v = c.args.self.now.value in
-    let fits = ap (λ (q : Params). q.objects) holds.shows.shows.store.params in
-    let there = is_within (bounds_of p) lo hi (omega (arith, c.last-last.ensures.order, c.last-last.ensures.value)) (omega (arith, c.requires.there, fits)) in
-    let key = short_is k c.as_slice-key.ensures.some c.as_slice-key.ensures.few in
-    let value = short_is v c.as_slice-value.ensures.some c.as_slice-value.ensures.few in
-    next_due p lo hi s k v there (λ wide. c.commands_are_accepted.ensures.put (bounds_of p) lo hi s k v key value wide) (λ narrow. c.commands_are_accepted.ensures.put_too_large (bounds_of p) lo hi s k v key value narrow)
-    c.begin_turn.result (returns-in-None-clause-answer g c p commands holds)

@@ -6,17 +6,15 @@ use Rattle.key_entries.specs.Pairs.{has}
 use Rattle.op_codec.specs.AllOps.{node}
 use Rattle.logical_btree.specs.Plan.{TreeNext, insert_next}
 use Rattle.logical_btree.specs.Walk.{Pair, walk}
-use Rattle.range_calls.specs.Due.{IsDue}
-use Rattle.range_calls.specs.DueLaws.{short_is}
 use Rattle.range_calls.specs.JoinLaws.{holds_behind}
 use Rattle.range_calls.specs.Making.{Reads}
-use Rattle.range_calls.specs.ReadLaws.{answers_passed, nothing_passed, passed}
+use Rattle.range_calls.specs.ReadLaws.{answers_passed, passed}
 use Rattle.range_calls.specs.Store.{Command, state_of}
 use Rattle.range_calls.specs.Turns.{turn_answer}
 use Rattle.range_calls.specs.declared.turn.Turn.{Turn}
 use Rattle.tree_client.specs.Answers.{TreeErr}
-use Rattle.tree_client.proofs.PlanLemmas.{bad_way, end_of_way, is_within}
-use Rattle.tree_client.proofs.TurnLemmas.{next_bad, next_due, next_present, next_put, next_split}
+use Rattle.tree_client.proofs.PlanLemmas.{bad_way, end_of_way}
+use Rattle.tree_client.proofs.TurnLemmas.{next_bad, next_present, next_put, next_split}
 use Rattle.tree_client.proofs.inserting.NewPairTurns.next_turn.Goals as goal
 
 pub returns-in_err-found-clause-answer : goal.returns-in_err-found-clause-answer
@@ -30,10 +28,6 @@ returns-in_err-found-clause-answer g c = λ p commands holds.
     (λ done.
     let bad = bad_way (walk lo hi s key) c.in_err-found.field-0.0 (c.in_err-found.ensures.answer p commands holds done) in
     ap (λ (e : TreeErr). (let r : Result Turn TreeErr = Err e in r)) bad.error ∙ sym (ap (λ (n : TreeNext). turn_answer node n) (next_bad (bounds_of p) lo hi s key value c.in_err-found.field-0.0 bad)))
-
-pub returns-in_err-found-clause-due : goal.returns-in_err-found-clause-due
-returns-in_err-found-clause-due g c = λ p commands holds.
-    nothing_passed c.from_residual.result c.in_err-found.field-0.0 (λ (turn : Turn). IsDue p (state_of p commands) turn.op) (passed c.from_residual.result c.in_err-found.field-0.0 c.from_residual.ensures.1)
 
 -- what the leaf's pairs say of the key
 pub returns-then-has_key-clause-answer : goal.returns-then-has_key-clause-answer
@@ -76,45 +70,3 @@ returns-in-Some-clause-answer g c = λ p commands holds done.
     let same = rw c.in-Some.is at told in
     same
     ∙ sym (ap (λ (n : TreeNext). turn_answer node n) (next_split (bounds_of p) lo hi s key c.args.self.now.value c.in_ok-found.found found absent c.in-Some.full c.in-Some.is))
-
-pub returns-then-has_key-clause-due : goal.returns-then-has_key-clause-due
-returns-then-has_key-clause-due g c = λ p commands holds.
-    let s = state_of p commands in
-    let lo = c.args.self.now.tree.now.lo in
-    let hi = c.args.self.now.tree.now.hi in
-    let k = c.args.self.now.key in
-    let v = c.args.self.now.value in
-    let fits = ap (λ (q : Params). q.objects) holds.shows.shows.store.params in
-    let there = is_within (bounds_of p) lo hi (omega (arith, c.last-last.ensures.order, c.last-last.ensures.value)) (omega (arith, c.requires.there, fits)) in
-    let key = short_is k c.as_slice-key.ensures.some c.as_slice-key.ensures.few in
-    let value = short_is v c.as_slice-value.ensures.some c.as_slice-value.ensures.few in
-    next_due p lo hi s k v there (λ wide. c.commands_are_accepted.ensures.insert (bounds_of p) lo hi s k v key value wide) (λ narrow. c.commands_are_accepted.ensures.insert_too_large (bounds_of p) lo hi s k v key value narrow)
-    (Ok (record { op = c.node_op-put.result; last = true })) (returns-then-has_key-clause-answer g c p commands holds)
-
-pub returns-in-None-clause-due : goal.returns-in-None-clause-due
-returns-in-None-clause-due g c = λ p commands holds.
-    let s = state_of p commands in
-    let lo = c.args.self.now.tree.now.lo in
-    let hi = c.args.self.now.tree.now.hi in
-    let k = c.args.self.now.key in
-    let v = c.args.self.now.value in
-    let fits = ap (λ (q : Params). q.objects) holds.shows.shows.store.params in
-    let there = is_within (bounds_of p) lo hi (omega (arith, c.last-last.ensures.order, c.last-last.ensures.value)) (omega (arith, c.requires.there, fits)) in
-    let key = short_is k c.as_slice-key.ensures.some c.as_slice-key.ensures.few in
-    let value = short_is v c.as_slice-value.ensures.some c.as_slice-value.ensures.few in
-    next_due p lo hi s k v there (λ wide. c.commands_are_accepted.ensures.insert (bounds_of p) lo hi s k v key value wide) (λ narrow. c.commands_are_accepted.ensures.insert_too_large (bounds_of p) lo hi s k v key value narrow)
-    (Ok (record { op = c.node_op-put.result; last = true })) (returns-in-None-clause-answer g c p commands holds)
-
-pub returns-in-Some-clause-due : goal.returns-in-Some-clause-due
-returns-in-Some-clause-due g c = λ p commands holds.
-    let s = state_of p commands in
-    let lo = c.args.self.now.tree.now.lo in
-    let hi = c.args.self.now.tree.now.hi in
-    let k = c.args.self.now.key in
-    let v = c.args.self.now.value in
-    let fits = ap (λ (q : Params). q.objects) holds.shows.shows.store.params in
-    let there = is_within (bounds_of p) lo hi (omega (arith, c.last-last.ensures.order, c.last-last.ensures.value)) (omega (arith, c.requires.there, fits)) in
-    let key = short_is k c.as_slice-key.ensures.some c.as_slice-key.ensures.few in
-    let value = short_is v c.as_slice-value.ensures.some c.as_slice-value.ensures.few in
-    next_due p lo hi s k v there (λ wide. c.commands_are_accepted.ensures.insert (bounds_of p) lo hi s k v key value wide) (λ narrow. c.commands_are_accepted.ensures.insert_too_large (bounds_of p) lo hi s k v key value narrow)
-    c.split_turn.result (returns-in-Some-clause-answer g c p commands holds)
