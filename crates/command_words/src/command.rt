@@ -19,7 +19,8 @@ const LINES: &str = "Lines:\n  \
     pexec A P, prun A P N, pread A X, pwrite A X\n  \
     tinsert LO HI KEY VAL, tget LO HI KEY, tdelete LO HI KEY, trange LO HI FROM TO\n  \
     hset LO HI KEY VAL, hget LO HI KEY, hdel LO HI KEY\n  \
-    begin, end, force, install, drain, checkpoint, trim, stat, # a comment\n\n\
+    begin, end, force, install, drain, checkpoint, trim, stat, # a comment\n  \
+    bstart, bcopy K, bfinish\n\n\
     The lines drain and trim make a full log short again. `rlwrap redo run` lets lines be edited; Ctrl-D ends\n\
     the input and forces, Ctrl-C loses what is not forced.";
 

@@ -4,7 +4,7 @@ use Rattle.install_order.specs.declared.entry.Entry.{Entry}
 use Rattle.oper_core.specs.Meaning.{Meaning}
 use Rattle.op_codec.specs.AllOps.{AllOps, all_meaning}
 use Rattle.script_lines.specs.Grammar.{Request, AsksFor, IsBad, lines_of}
-use Rattle.script_lines.specs.declared.line.Line.TheVariants.{Run, AppRun, ProgramRun, TreeInsert, TreeDelete, TreeGet, TreeRange, HashPut, HashGet, HashDelete, Get, Force, Install, Drain, Checkpoint, Trim, Begin, End, Stat, Skip}
+use Rattle.script_lines.specs.declared.line.Line.TheVariants.{Run, AppRun, ProgramRun, TreeInsert, TreeDelete, TreeGet, TreeRange, HashPut, HashGet, HashDelete, Get, Force, Install, Drain, Checkpoint, Trim, Begin, End, Stat, BackupStart, BackupCopy, BackupFinish, Skip}
 use Rattle.graph_view.specs.declared.accesses.Accesses.{Accesses}
 use Rattle.graph_view.specs.declared.asked.Asked.{Asked}
 use Rattle.graph_view.specs.declared.asked.Asked.TheVariants.{Command, Nothing, Several, Bad}
@@ -42,6 +42,9 @@ asked_by Trim = Nothing
 asked_by Begin = Nothing
 asked_by End = Nothing
 asked_by Stat = Nothing
+asked_by BackupStart = Nothing
+asked_by (BackupCopy count) = Nothing
+asked_by BackupFinish = Nothing
 asked_by Skip = Nothing
 
 -- what a line is to the write graph

@@ -64,6 +64,9 @@ impl Asked {
             | Line::Begin
             | Line::End
             | Line::Stat
+            | Line::BackupStart
+            | Line::BackupCopy { .. }
+            | Line::BackupFinish
             | Line::Skip => Asked::Nothing,
         }
     }

@@ -1,5 +1,5 @@
 -- A text is that of one reply.
-use Rattle.std.proofs.Common.{◌≡◌, ◌≢◌, ◌*◌, ◌/◌, ◌%◌, ◌^◌, ◌<◌, ◌≤◌, ◌++◌, List, ℕ, [], ◌∷◌, length, drop, get_or, if◌then◌else◌, ◌==◌, refl, sym, ◌∙◌, ap, ◌⊎◌, inl, inr, ⊎_elim, append_assoc, arith, Bool, true, false, codes}
+use Rattle.std.proofs.Common.{◌≡◌, ◌≢◌, ◌+◌, ◌*◌, ◌/◌, ◌%◌, ◌^◌, ◌<◌, ◌≤◌, ◌++◌, List, ℕ, [], ◌∷◌, length, drop, get_or, if◌then◌else◌, ◌==◌, refl, sym, ◌∙◌, ap, ◌⊎◌, inl, inr, ⊎_elim, append_assoc, arith, Bool, true, false, codes}
 use Rattle.std.proofs.lemmas.Bool.Decides.{nat_tests}
 use Rattle.std.proofs.lemmas.List.{append-nil}
 use Rattle.std.proofs.lemmas.Fmt.{decimal_injective, decimal_nonempty, digits_decimal}
@@ -9,13 +9,15 @@ use Rattle.std.specs.Str.{bytes_eq, all_ascii_digits}
 use Rattle.std.specs.Char.{is_ascii_digit}
 use Rattle.oper_core.specs.declared.refusal.Refusal.{Refusal}
 use Rattle.oper_core.specs.declared.refusal.Refusal.TheVariants.{NoObject, Same, BadPlace, BadWidth, NotApp, NotCode, Halted, NoInput, NotNode, NoKey, NodeFull, TooLarge}
-use Rattle.script_lines.specs.Replies.{Reply, ok, value, forced, bad, refused, full, end, object_value, command_count, stat, ran, pairs, bad_tree, tree_full, denied, in_group, no_group, summary, silence, Pair, pair_text, spaced_pair, pairs_reply, spaced, numbers_of, AreSmall, HasSmallNumbers, hex_glyph, hex_pair, hex_text, denial_name, name_of, text_of, reply_of, said_line}
+use Rattle.script_lines.specs.Replies.{Reply, ok, value, forced, bad, refused, full, end, object_value, command_count, stat, ran, pairs, bad_tree, tree_full, denied, in_group, no_group, copied, saved, backup_denied, summary, silence, Pair, pair_text, spaced_pair, pairs_reply, spaced, numbers_of, AreSmall, HasSmallNumbers, hex_glyph, hex_pair, hex_text, backup_denial_name, denial_name, name_of, text_of, reply_of, said_line}
 use Rattle.script_lines.specs.declared.denial.Denial.{Denial}
 use Rattle.script_lines.specs.declared.denial.Denial.TheVariants.{BadHash, HashFull, NoRoom}
+use Rattle.script_lines.specs.declared.backup_denial.BackupDenial.{BackupDenial}
+use Rattle.script_lines.specs.declared.backup_denial.BackupDenial.TheVariants.{InBackup, NoBackup, AlreadyStore, NotCopied}
 use Rattle.script_lines.specs.declared.answer.Answer.{Answer}
 use Rattle.script_lines.specs.declared.answer.StatLine.{StatLine}
 use Rattle.script_lines.specs.declared.answer.Totals.{Totals}
-use Rattle.script_lines.specs.declared.answer.Answer.TheVariants.{Done, Value, Forced, Bad, Refused, Full, End, Object, Commands, Stat, Ran, Pairs, BadTree, TreeFull, Denied, InGroup, NoGroup, Summary}
+use Rattle.script_lines.specs.declared.answer.Answer.TheVariants.{Done, Value, Forced, Bad, Refused, Full, End, Object, Commands, Stat, Ran, Pairs, BadTree, TreeFull, Denied, InGroup, NoGroup, Copied, Saved, BackupDenied, Summary}
 use Rattle.script_lines.proofs.NumberLemmas.{own}
 
 -- some byte of the text is this one
@@ -29,7 +31,7 @@ kind ok = 0
 kind (value bytes) = 1
 kind (forced n) = 2
 kind bad = 3
-kind (refused refusal) = 4
+kind (refused refusal) = 20
 kind (full used need limit) = 5
 kind (end n) = 6
 kind (object_value object bytes) = 7
@@ -37,38 +39,58 @@ kind (command_count n) = 8
 kind (stat counts) = 9
 kind (ran n) = 10
 kind (pairs pair others) = 11
-kind bad_tree = 4
-kind tree_full = 4
-kind (denied why) = 4
-kind in_group = 4
-kind no_group = 4
+kind bad_tree = 21
+kind tree_full = 22
+kind in_group = 23
+kind no_group = 24
+kind (denied why) = 25
+kind (backup_denied why) = 26
+kind (copied n) = 13
+kind (saved n) = 14
 kind (summary totals) = 12
 kind silence = 1
 
--- the kind of a text without a colon: by three of its bytes, its length, and whether it has a space
-abbrev kind_by : ℕ → ℕ → ℕ → ℕ → Bool → ℕ
-kind_by first second fourth size spaced =
+-- a refusal of a tree, of a group, of a hash file or of a backup has a name of its own; those of a hash file have one number
+-- here, and so have those of a backup
+abbrev number_of_name : List ℕ → ℕ
+number_of_name name =
+    if bytes_eq name (codes "BadTree") then 1
+    else if bytes_eq name (codes "TreeFull") then 2
+    else if bytes_eq name (codes "InGroup") then 3
+    else if bytes_eq name (codes "NoGroup") then 4
+    else if bytes_eq name (codes "BadHash") then 5
+    else if bytes_eq name (codes "HashFull") then 5
+    else if bytes_eq name (codes "NoRoom") then 5
+    else if bytes_eq name (codes "InBackup") then 6
+    else if bytes_eq name (codes "NoBackup") then 6
+    else if bytes_eq name (codes "AlreadyStore") then 6
+    else if bytes_eq name (codes "NotCopied") then 6
+    else 0
+
+-- the kind of a text without a colon: by three of its bytes, its length, the name behind `refused`, and whether it has a space
+abbrev kind_by : ℕ → ℕ → ℕ → ℕ → ℕ → Bool → ℕ
+kind_by first second fourth size name spaced =
     if second == 107 then 0
     else if second == 117 then 5
     else if second == 110 then 6
     else if second == 116 then 9
-    else if second == 111 then (if first == 102 then 2 else 8)
-    else if second == 101 then (if fourth == 117 then 4 else if fourth == 111 then 12 else 1)
-    else if second == 97 then (if fourth == 32 then 10 else if size == 3 then 3 else 1)
+    else if second == 111 then (if first == 102 then 2 else if fourth == 105 then 13 else 8)
+    else if second == 101 then (if fourth == 117 then 20 + name else if fourth == 111 then 12 else 1)
+    else if second == 97 then (if fourth == 32 then 10 else if spaced then 14 else if size == 3 then 3 else 1)
     else if spaced then 7
     else 1
 
 abbrev plain_kind : List ℕ → ℕ
-plain_kind text = kind_by (get_or text 0 0) (get_or text 1 0) (get_or text 3 0) (length text) (has 32 text)
+plain_kind text = kind_by (get_or text 0 0) (get_or text 1 0) (get_or text 3 0) (length text) (number_of_name (drop 8 text)) (has 32 text)
 
 abbrev kind_of : List ℕ → ℕ
 kind_of text = if has 58 text then 11 else plain_kind text
 
-kind_value : (first second fourth size : ℕ) (spaced : Bool) → second ≤ 102 → fourth ≤ 102 → fourth ≢ 32 → size ≢ 3 → spaced ≡ false → kind_by first second fourth size spaced ≡ 1
-kind_value first second fourth size spaced low fourth_low other even none = grind (arith, nat_tests)
+kind_value : (first second fourth size name : ℕ) (spaced : Bool) → second ≤ 102 → fourth ≤ 102 → fourth ≢ 32 → size ≢ 3 → spaced ≡ false → kind_by first second fourth size name spaced ≡ 1
+kind_value first second fourth size name spaced low fourth_low other even none = grind (arith, nat_tests)
 
-kind_object : (first second fourth size : ℕ) (spaced : Bool) → second ≤ 57 → spaced ≡ true → kind_by first second fourth size spaced ≡ 7
-kind_object first second fourth size spaced low some = grind (arith, nat_tests)
+kind_object : (first second fourth size name : ℕ) (spaced : Bool) → second ≤ 57 → spaced ≡ true → kind_by first second fourth size name spaced ≡ 7
+kind_object first second fourth size name spaced low some = grind (arith, nat_tests)
 
 -- a byte that a text lacks
 lacks_on : (mark b : ℕ) (text : List ℕ) → b ≢ mark → has mark text ≡ false → has mark (b ∷ text) ≡ false
@@ -126,7 +148,7 @@ fourth_other b (c ∷ bytes) is = omega (arith, glyph_high (c % 16), is)
 hex_kind : (bytes : List ℕ) → plain_kind (hex_text bytes) ≡ 1
 hex_kind [] = refl
 hex_kind (b ∷ bytes) =
-    kind_value _ _ _ _ _ (glyph_low b) (fourth_low b bytes) (fourth_other b bytes) (λ is. omega (arith, is, even_size (b ∷ bytes))) (no_space_in (b ∷ bytes))
+    kind_value _ _ _ _ _ _ (glyph_low b) (fourth_low b bytes) (fourth_other b bytes) (λ is. omega (arith, is, even_size (b ∷ bytes))) (no_space_in (b ∷ bytes))
 
 pairs_one : (u v : List ℕ) → flat_map hex_pair u ≡ flat_map hex_pair v → u ≡ v
 pairs_one [] [] same = refl
@@ -182,7 +204,7 @@ second_low (d ∷ e ∷ digits) rest are some = (digit_high e (head_digit e digi
 object_kind : (n : ℕ) (rest : List ℕ) → n < 2 ^ 64 → plain_kind (decimal n ++ 32 ∷ rest) ≡ 7
 object_kind n rest small =
     let text = decimal n ++ 32 ∷ rest in
-    kind_object (get_or text 0 0) (get_or text 1 0) (get_or text 3 0) (length text) (has 32 text) (second_low (decimal n) rest (digits_decimal own n small) (decimal_nonempty n small)) (has_behind 32 (decimal n) rest)
+    kind_object (get_or text 0 0) (get_or text 1 0) (get_or text 3 0) (length text) (number_of_name (drop 8 text)) (has 32 text) (second_low (decimal n) rest (digits_decimal own n small) (decimal_nonempty n small)) (has_behind 32 (decimal n) rest)
 
 -- the text up to the first such byte, and after it
 parted : (mark : ℕ) (p q u v : List ℕ) → has mark p ≡ false → has mark q ≡ false → p ++ mark ∷ u ≡ q ++ mark ∷ v → (p ≡ q) × (u ≡ v)
@@ -296,19 +318,8 @@ named TooLarge = refl
 refused_one : (a b : Refusal) → name_of a ≡ name_of b → a ≡ b
 refused_one a b same = sym (named a) ∙ ap refusal_of same ∙ named b
 
--- a refusal of a tree, of a hash file or of a group has a name of its own
-abbrev tree_name : List ℕ → ℕ
-tree_name name =
-    if bytes_eq name (codes "BadTree") then 1
-    else if bytes_eq name (codes "TreeFull") then 2
-    else if bytes_eq name (codes "InGroup") then 3
-    else if bytes_eq name (codes "NoGroup") then 4
-    else if bytes_eq name (codes "BadHash") then 5
-    else if bytes_eq name (codes "HashFull") then 6
-    else if bytes_eq name (codes "NoRoom") then 7
-    else 0
-
-other_name : (refusal : Refusal) → tree_name (name_of refusal) ≡ 0
+-- no refusal of a command has the name of another refusal
+other_name : (refusal : Refusal) → number_of_name (name_of refusal) ≡ 0
 other_name NoObject = refl
 other_name Same = refl
 other_name BadPlace = refl
@@ -322,41 +333,51 @@ other_name NoKey = refl
 other_name NodeFull = refl
 other_name TooLarge = refl
 
-not_bad_tree : (a : Refusal) → codes "refused " ++ name_of a ≡ codes "refused BadTree" → ⊥
-not_bad_tree a same = let is : tree_name (name_of a) ≡ 1 = ap (λ (l : List ℕ). tree_name (drop 8 l)) same in omega (arith, other_name a, is)
+-- the refusals of a hash file
+denial_number : (why : Denial) → number_of_name (denial_name why) ≡ 5
+denial_number BadHash = refl
+denial_number HashFull = refl
+denial_number NoRoom = refl
 
-not_tree_full : (a : Refusal) → codes "refused " ++ name_of a ≡ codes "refused TreeFull" → ⊥
-not_tree_full a same = let is : tree_name (name_of a) ≡ 2 = ap (λ (l : List ℕ). tree_name (drop 8 l)) same in omega (arith, other_name a, is)
+abbrev denial_of : List ℕ → Denial
+denial_of name = if bytes_eq name (codes "BadHash") then BadHash else if bytes_eq name (codes "HashFull") then HashFull else NoRoom
 
-not_in_group : (a : Refusal) → codes "refused " ++ name_of a ≡ codes "refused InGroup" → ⊥
-not_in_group a same = let is : tree_name (name_of a) ≡ 3 = ap (λ (l : List ℕ). tree_name (drop 8 l)) same in omega (arith, other_name a, is)
-
-not_no_group : (a : Refusal) → codes "refused " ++ name_of a ≡ codes "refused NoGroup" → ⊥
-not_no_group a same = let is : tree_name (name_of a) ≡ 4 = ap (λ (l : List ℕ). tree_name (drop 8 l)) same in omega (arith, other_name a, is)
-
--- and so has each of a hash file
-abbrev denial_of : ℕ → Denial
-denial_of n = if n == 5 then BadHash else if n == 6 then HashFull else NoRoom
-
-denial_named : (why : Denial) → denial_of (tree_name (denial_name why)) ≡ why
+denial_named : (why : Denial) → denial_of (denial_name why) ≡ why
 denial_named BadHash = refl
 denial_named HashFull = refl
 denial_named NoRoom = refl
 
 denied_one : (a b : Denial) → denial_name a ≡ denial_name b → a ≡ b
-denied_one a b same = sym (denial_named a) ∙ ap (λ (l : List ℕ). denial_of (tree_name l)) same ∙ denial_named b
+denied_one a b same = sym (denial_named a) ∙ ap denial_of same ∙ denial_named b
 
-denial_mark : (why : Denial) → 5 ≤ tree_name (denial_name why)
-denial_mark BadHash = omega arith
-denial_mark HashFull = omega arith
-denial_mark NoRoom = omega arith
+-- and those of a backup
+backup_denial_number : (why : BackupDenial) → number_of_name (backup_denial_name why) ≡ 6
+backup_denial_number InBackup = refl
+backup_denial_number NoBackup = refl
+backup_denial_number AlreadyStore = refl
+backup_denial_number NotCopied = refl
 
--- so no other text is that of one
-not_denied : (why : Denial) (text : List ℕ) → tree_name (drop 8 text) ≤ 4 → codes "refused " ++ denial_name why ≡ text → ⊥
-not_denied why text other same = let is : tree_name (denial_name why) ≡ tree_name (drop 8 text) = ap (λ (l : List ℕ). tree_name (drop 8 l)) same in omega (arith, denial_mark why, is, other)
+abbrev backup_denial_of : List ℕ → BackupDenial
+backup_denial_of name =
+    if bytes_eq name (codes "InBackup") then InBackup
+    else if bytes_eq name (codes "NoBackup") then NoBackup
+    else if bytes_eq name (codes "AlreadyStore") then AlreadyStore
+    else NotCopied
 
-not_denied_refused : (why : Denial) (a : Refusal) → codes "refused " ++ denial_name why ≡ codes "refused " ++ name_of a → ⊥
-not_denied_refused why a same = let is : tree_name (denial_name why) ≡ tree_name (name_of a) = ap (λ (l : List ℕ). tree_name (drop 8 l)) same in omega (arith, denial_mark why, other_name a, is)
+backup_denial_named : (why : BackupDenial) → backup_denial_of (backup_denial_name why) ≡ why
+backup_denial_named InBackup = refl
+backup_denial_named NoBackup = refl
+backup_denial_named AlreadyStore = refl
+backup_denial_named NotCopied = refl
+
+backup_denied_one : (a b : BackupDenial) → backup_denial_name a ≡ backup_denial_name b → a ≡ b
+backup_denied_one a b same = sym (backup_denial_named a) ∙ ap backup_denial_of same ∙ backup_denial_named b
+
+no_colon_backup : (why : BackupDenial) → has 58 (backup_denial_name why) ≡ false
+no_colon_backup InBackup = refl
+no_colon_backup NoBackup = refl
+no_colon_backup AlreadyStore = refl
+no_colon_backup NotCopied = refl
 
 no_colon_denial : (why : Denial) → has 58 (denial_name why) ≡ false
 no_colon_denial BadHash = refl
@@ -462,7 +483,7 @@ kind_told ok small = refl
 kind_told (value bytes) small = without (hex_text bytes) 1 (no_colon_hex bytes) (hex_kind bytes)
 kind_told (forced n) small = without (codes "forced " ++ decimal n) 2 (no_colon_decimal n small) refl
 kind_told bad small = refl
-kind_told (refused refusal) small = without (codes "refused " ++ name_of refusal) 4 (no_colon_name refusal) refl
+kind_told (refused refusal) small = without (codes "refused " ++ name_of refusal) 20 (no_colon_name refusal) (ap (λ (n : ℕ). 20 + n) (other_name refusal))
 kind_told (full used need limit) small =
     without (codes "full " ++ decimal used ++ 32 ∷ decimal need ++ 32 ∷ decimal limit) 5
     (lacks_both 58 (codes "full " ++ decimal used ++ 32 ∷ decimal need) (32 ∷ decimal limit)
@@ -475,9 +496,12 @@ kind_told (ran n) small = without (codes "ran " ++ decimal n) 10 (no_colon_decim
 kind_told (pairs pair others) small = ap (λ (t : Bool). if t then 11 else plain_kind (pair_text pair ++ flat_map spaced_pair others)) (has_colon pair (flat_map spaced_pair others))
 kind_told bad_tree small = refl
 kind_told tree_full small = refl
-kind_told (denied why) small = without (codes "refused " ++ denial_name why) 4 (no_colon_denial why) refl
+kind_told (denied why) small = without (codes "refused " ++ denial_name why) 25 (no_colon_denial why) (ap (λ (n : ℕ). 20 + n) (denial_number why))
 kind_told in_group small = refl
 kind_told no_group small = refl
+kind_told (copied n) small = without (codes "copied " ++ decimal n) 13 (no_colon_decimal n small) refl
+kind_told (saved n) small = without (codes "saved " ++ decimal n) 14 (no_colon_decimal n small) refl
+kind_told (backup_denied why) small = without (codes "refused " ++ backup_denial_name why) 26 (no_colon_backup why) (ap (λ (n : ℕ). 20 + n) (backup_denial_number why))
 kind_told (summary totals) small = without (to_sum totals) 12 (ap (has 58) (regrouped totals) ∙ no_colon_totals totals small) refl
 kind_told silence small = refl
 
@@ -507,39 +531,12 @@ same_kind (ran m) (ran n) p q like same = ap ran (decimal_injective m n p q (ap 
 same_kind (pairs x xs) (pairs y ys) p q like same = let both = pairs_told x y xs ys same in cc (both.0, both.1)
 same_kind bad_tree bad_tree p q like same = refl
 same_kind tree_full tree_full p q like same = refl
-same_kind bad_tree tree_full p q like same = absurd (omega (arith, ap (λ (l : List ℕ). get_or l 8 0) same))
-same_kind tree_full bad_tree p q like same = absurd (omega (arith, ap (λ (l : List ℕ). get_or l 8 0) same))
-same_kind (refused a) bad_tree p q like same = absurd (not_bad_tree a same)
-same_kind (refused a) tree_full p q like same = absurd (not_tree_full a same)
-same_kind bad_tree (refused a) p q like same = absurd (not_bad_tree a (sym same))
-same_kind tree_full (refused a) p q like same = absurd (not_tree_full a (sym same))
 same_kind (denied a) (denied b) p q like same = ap denied (denied_one a b (ap (λ (l : List ℕ). drop 8 l) same))
-same_kind (denied a) (refused b) p q like same = absurd (not_denied_refused a b same)
-same_kind (refused b) (denied a) p q like same = absurd (not_denied_refused a b (sym same))
-same_kind (denied a) bad_tree p q like same = absurd (not_denied a (codes "refused BadTree") (omega arith) same)
-same_kind (denied a) tree_full p q like same = absurd (not_denied a (codes "refused TreeFull") (omega arith) same)
-same_kind (denied a) in_group p q like same = absurd (not_denied a (codes "refused InGroup") (omega arith) same)
-same_kind (denied a) no_group p q like same = absurd (not_denied a (codes "refused NoGroup") (omega arith) same)
-same_kind bad_tree (denied a) p q like same = absurd (not_denied a (codes "refused BadTree") (omega arith) (sym same))
-same_kind tree_full (denied a) p q like same = absurd (not_denied a (codes "refused TreeFull") (omega arith) (sym same))
-same_kind in_group (denied a) p q like same = absurd (not_denied a (codes "refused InGroup") (omega arith) (sym same))
-same_kind no_group (denied a) p q like same = absurd (not_denied a (codes "refused NoGroup") (omega arith) (sym same))
 same_kind in_group in_group p q like same = refl
 same_kind no_group no_group p q like same = refl
-same_kind bad_tree in_group p q like same = absurd (omega (arith, ap (λ (l : List ℕ). get_or l 8 0) same))
-same_kind bad_tree no_group p q like same = absurd (omega (arith, ap (λ (l : List ℕ). get_or l 8 0) same))
-same_kind tree_full in_group p q like same = absurd (omega (arith, ap (λ (l : List ℕ). get_or l 8 0) same))
-same_kind tree_full no_group p q like same = absurd (omega (arith, ap (λ (l : List ℕ). get_or l 8 0) same))
-same_kind in_group bad_tree p q like same = absurd (omega (arith, ap (λ (l : List ℕ). get_or l 8 0) same))
-same_kind in_group tree_full p q like same = absurd (omega (arith, ap (λ (l : List ℕ). get_or l 8 0) same))
-same_kind in_group no_group p q like same = absurd (omega (arith, ap (λ (l : List ℕ). get_or l 8 0) same))
-same_kind no_group bad_tree p q like same = absurd (omega (arith, ap (λ (l : List ℕ). get_or l 8 0) same))
-same_kind no_group tree_full p q like same = absurd (omega (arith, ap (λ (l : List ℕ). get_or l 8 0) same))
-same_kind no_group in_group p q like same = absurd (omega (arith, ap (λ (l : List ℕ). get_or l 8 0) same))
-same_kind (refused a) in_group p q like same = absurd (not_in_group a same)
-same_kind in_group (refused a) p q like same = absurd (not_in_group a (sym same))
-same_kind (refused a) no_group p q like same = absurd (not_no_group a same)
-same_kind no_group (refused a) p q like same = absurd (not_no_group a (sym same))
+same_kind (copied m) (copied n) p q like same = ap copied (decimal_injective m n p q (ap (λ (l : List ℕ). drop 7 l) same))
+same_kind (saved m) (saved n) p q like same = ap saved (decimal_injective m n p q (ap (λ (l : List ℕ). drop 6 l) same))
+same_kind (backup_denied a) (backup_denied b) p q like same = ap backup_denied (backup_denied_one a b (ap (λ (l : List ℕ). drop 8 l) same))
 same_kind (summary s) (summary t) p q like same = ap summary (totals_one s t p q (ap (λ (l : List ℕ). drop 10 l) (sym (regrouped s) ∙ same ∙ regrouped t)))
 same_kind silence silence p q like same = refl
 same_kind silence (value []) p q like same = absurd cc
@@ -612,4 +609,7 @@ said_answer TreeFull = refl
 said_answer (Denied why) = refl
 said_answer InGroup = refl
 said_answer NoGroup = refl
+said_answer (Copied n) = refl
+said_answer (Saved n) = refl
+said_answer (BackupDenied why) = refl
 said_answer (Summary totals) = refl

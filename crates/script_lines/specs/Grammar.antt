@@ -7,7 +7,7 @@ use Rattle.app_program.specs.declared.program_op.ProgramOp.TheVariants.{Step, Fe
 use Rattle.op_codec.specs.AllOps.{plain, program}
 use Rattle.op_meaning.specs.declared.plain_op.PlainOp.TheVariants.{Put, Copy, Append, Cut, Sort, Swap, Exec, AppRead, AppWrite}
 use Rattle.script_lines.specs.declared.line.Line.{Line}
-use Rattle.script_lines.specs.declared.line.Line.TheVariants.{Run, ProgramRun, AppRun, TreeInsert, TreeGet, TreeDelete, TreeRange, HashPut, HashGet, HashDelete, Get, Force, Install, Drain, Checkpoint, Trim, Begin, End, Stat, Skip}
+use Rattle.script_lines.specs.declared.line.Line.TheVariants.{Run, ProgramRun, AppRun, TreeInsert, TreeGet, TreeDelete, TreeRange, HashPut, HashGet, HashDelete, Get, Force, Install, Drain, Checkpoint, Trim, Begin, End, Stat, BackupStart, BackupCopy, BackupFinish, Skip}
 
 -- one byte more in front of the first text
 abbrev pub before_first : ℕ → List (List ℕ) → List (List ℕ)
@@ -120,6 +120,9 @@ store_rows =
     ∷ row (codes "begin") (asks Begin)
     ∷ row (codes "end") (asks End)
     ∷ row (codes "stat") (asks Stat)
+    ∷ row (codes "bstart") (asks BackupStart)
+    ∷ row (codes "bcopy") (one (λ count. BackupCopy count))
+    ∷ row (codes "bfinish") (asks BackupFinish)
     ∷ []
 
 -- before these those that are asked of a hash file,

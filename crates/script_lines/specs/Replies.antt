@@ -6,10 +6,12 @@ use Rattle.oper_core.specs.declared.refusal.Refusal.{Refusal}
 use Rattle.oper_core.specs.declared.refusal.Refusal.TheVariants.{NoObject, Same, BadPlace, BadWidth, NotApp, NotCode, Halted, NoInput, NotNode, NoKey, NodeFull, TooLarge}
 use Rattle.script_lines.specs.declared.denial.Denial.{Denial}
 use Rattle.script_lines.specs.declared.denial.Denial.TheVariants.{BadHash, HashFull, NoRoom}
+use Rattle.script_lines.specs.declared.backup_denial.BackupDenial.{BackupDenial}
+use Rattle.script_lines.specs.declared.backup_denial.BackupDenial.TheVariants.{InBackup, NoBackup, AlreadyStore, NotCopied}
 use Rattle.script_lines.specs.declared.answer.Answer.{Answer}
 use Rattle.script_lines.specs.declared.answer.StatLine.{StatLine}
 use Rattle.script_lines.specs.declared.answer.Totals.{Totals}
-use Rattle.script_lines.specs.declared.answer.Answer.TheVariants.{Done, Value, Forced, Bad, Refused, Full, End, Object, Commands, Stat, Ran, Pairs, BadTree, TreeFull, Denied, InGroup, NoGroup, Summary}
+use Rattle.script_lines.specs.declared.answer.Answer.TheVariants.{Done, Value, Forced, Bad, Refused, Full, End, Object, Commands, Stat, Ran, Pairs, BadTree, TreeFull, Denied, InGroup, NoGroup, Copied, Saved, BackupDenied, Summary}
 
 -- a key and its value
 abbrev pub Pair : Type 0
@@ -46,6 +48,12 @@ pub data Reply : Type 0 where
   in_group : Reply
   -- no group is open
   no_group : Reply
+  -- so many objects are copied into the backup
+  copied : ℕ → Reply
+  -- the backup is a store, which was given so many commands
+  saved : ℕ → Reply
+  -- a line of a backup, or a trim while one goes on, is refused
+  backup_denied : BackupDenial → Reply
   -- what a generated script did
   summary : Totals → Reply
   -- nothing: the line is skipped
@@ -75,6 +83,9 @@ reply_of TreeFull = tree_full
 reply_of (Denied why) = denied why
 reply_of InGroup = in_group
 reply_of NoGroup = no_group
+reply_of (Copied n) = copied n
+reply_of (Saved n) = saved n
+reply_of (BackupDenied why) = backup_denied why
 reply_of (Summary totals) = summary totals
 
 -- a lower-case hexadecimal digit
@@ -111,6 +122,13 @@ denial_name BadHash = codes "BadHash"
 denial_name HashFull = codes "HashFull"
 denial_name NoRoom = codes "NoRoom"
 
+-- and of a backup's
+abbrev pub backup_denial_name : BackupDenial → List ℕ
+backup_denial_name InBackup = codes "InBackup"
+backup_denial_name NoBackup = codes "NoBackup"
+backup_denial_name AlreadyStore = codes "AlreadyStore"
+backup_denial_name NotCopied = codes "NotCopied"
+
 -- a number in digits after a space
 abbrev pub spaced : ℕ → List ℕ
 spaced n = 32 ∷ decimal n
@@ -146,6 +164,9 @@ text_of tree_full = codes "refused TreeFull"
 text_of (denied why) = codes "refused " ++ denial_name why
 text_of in_group = codes "refused InGroup"
 text_of no_group = codes "refused NoGroup"
+text_of (copied n) = codes "copied " ++ decimal n
+text_of (saved n) = codes "saved " ++ decimal n
+text_of (backup_denied why) = codes "refused " ++ backup_denial_name why
 text_of (summary totals) = codes "demo seed " ++ decimal totals.seed ++ codes " steps " ++ decimal totals.steps ++ codes " lines " ++ decimal totals.lines
     ++ codes " bytes " ++ decimal totals.bytes ++ codes " accepted " ++ decimal totals.accepted ++ codes " refused " ++ decimal totals.refused ++ codes " sum " ++ decimal totals.sum
 text_of silence = []
@@ -164,6 +185,8 @@ HasSmallNumbers (object_value object bytes) = object < 2 ^ 64
 HasSmallNumbers (command_count n) = n < 2 ^ 64
 HasSmallNumbers (stat counts) = AreSmall (numbers_of counts)
 HasSmallNumbers (ran n) = n < 2 ^ 64
+HasSmallNumbers (copied n) = n < 2 ^ 64
+HasSmallNumbers (saved n) = n < 2 ^ 64
 HasSmallNumbers (summary t) = AreSmall (t.seed ∷ t.steps ∷ t.lines ∷ t.bytes ∷ t.accepted ∷ t.refused ∷ t.sum ∷ [])
 HasSmallNumbers reply = ⊤
 

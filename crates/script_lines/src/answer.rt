@@ -3,6 +3,7 @@ ghost use Rattle.std.specs.Fmt.{decimal};
 ghost use Rattle.std.specs.List.{flat_map};
 ghost use Rattle.script_lines.specs.Replies.{reply_of, pairs_reply, summary, text_of, said_line, name_of, spaced, numbers_of, pair_text, spaced_pair};
 
+use crate::backup_denial::{BackupDenial, backup_denial_name};
 use crate::denial::{Denial, denial_name};
 use crate::hex::{push_hex, push_value};
 use crate::number::{push_number, push_numbers};
@@ -85,6 +86,12 @@ pub enum Answer<'a> {
     InGroup,
     /// No group is open that could end: `refused NoGroup`.
     NoGroup,
+    /// So many objects are copied into the backup: `copied c`.
+    Copied(u32),
+    /// The backup is a store, which was given so many commands: `saved n`.
+    Saved(u64),
+    /// A line of a backup is refused, or a trim while one goes on: `refused NAME`.
+    BackupDenied(BackupDenial),
     /// What a generated script did: `demo`, and seven numbers, each after its name.
     Summary(Totals),
 }
@@ -238,6 +245,9 @@ fn write_answer(alloc: Global, text: &mut Vec<u8>, answer: &Answer<'_>) -> Resul
         Answer::Denied(denial) => push_refused(text, denial_name(*denial))?,
         Answer::InGroup => text.extend_from_slice(b"refused InGroup")?,
         Answer::NoGroup => text.extend_from_slice(b"refused NoGroup")?,
+        Answer::Copied(count) => push_counted(alloc, text, b"copied", u64::from(*count))?,
+        Answer::Saved(count) => push_counted(alloc, text, b"saved", *count)?,
+        Answer::BackupDenied(denial) => push_refused(text, backup_denial_name(*denial))?,
         Answer::Summary(totals) => push_totals(alloc, text, totals)?,
     }
     Ok(())

@@ -9,6 +9,7 @@
 #![tactic(auto)]
 
 mod answer;
+mod backup_denial;
 mod demo;
 mod denial;
 mod draws;
@@ -24,6 +25,7 @@ mod reader;
 mod steps;
 
 pub use answer::{Answer, StatLine, Totals, answer_line, answer_text};
+pub use backup_denial::BackupDenial;
 pub use demo::demo_script;
 pub use denial::Denial;
 pub use laws::{a_line_asks_one_thing, a_text_says_one_thing, scripts_are_short};

@@ -98,6 +98,14 @@ pub enum Line {
     End,
     /// `stat`: the counts of the store are reported.
     Stat,
+    /// `bstart`: a backup of the store begins.
+    BackupStart,
+    /// `bcopy K`: so many objects more are copied into the backup, or all that are left.
+    BackupCopy {
+        count: u32,
+    },
+    /// `bfinish`: the backup becomes a store.
+    BackupFinish,
     /// A line without fields, or a comment: it gets no answer.
     Skip,
 }
@@ -156,6 +164,12 @@ fn store_line(word: &[u8], rest: &[u8]) -> Option<Line>
         no_field(rest).map(|()| Line::End)
     } else if word == b"stat".as_slice() {
         no_field(rest).map(|()| Line::Stat)
+    } else if word == b"bstart".as_slice() {
+        no_field(rest).map(|()| Line::BackupStart)
+    } else if word == b"bcopy".as_slice() {
+        one_number(rest).map(|count| Line::BackupCopy { count })
+    } else if word == b"bfinish".as_slice() {
+        no_field(rest).map(|()| Line::BackupFinish)
     } else {
         None
     }

@@ -1,6 +1,6 @@
 use Rattle.std.proofs.Common.{codes, refl, rules}
 use Rattle.script_lines.specs.Grammar.{store_rows}
-use Rattle.script_lines.specs.declared.line.Line.TheVariants.{Begin, Checkpoint, Drain, End, Force, Get, Install, Stat, Trim}
+use Rattle.script_lines.specs.declared.line.Line.TheVariants.{BackupCopy, BackupFinish, BackupStart, Begin, Checkpoint, Drain, End, Force, Get, Install, Stat, Trim}
 use Rattle.script_lines.proofs.ReadLemmas.{by_row}
 use Rattle.script_lines.proofs.line.store_line.Goals as goal
 
@@ -30,3 +30,12 @@ returns-then-eq-8 c = by_row store_rows c.args.word.now (codes "end") _ c.map-th
 
 pub returns-then-eq-9 : goal.returns-then-eq-9
 returns-then-eq-9 c = by_row store_rows c.args.word.now (codes "stat") _ c.map-then-eq-9.result (c.no_field-then-eq-9.ensures Stat) (search rules) refl (search rules)
+
+pub returns-then-eq-10 : goal.returns-then-eq-10
+returns-then-eq-10 c = by_row store_rows c.args.word.now (codes "bstart") _ c.map-then-eq-10.result (c.no_field-then-eq-10.ensures BackupStart) (search rules) refl (search rules)
+
+pub returns-then-eq-11 : goal.returns-then-eq-11
+returns-then-eq-11 c = by_row store_rows c.args.word.now (codes "bcopy") _ c.map-then-eq-11.result (c.one_number-then-eq-11.ensures (λ count. BackupCopy count)) (search rules) refl (search rules)
+
+pub returns-then-eq-12 : goal.returns-then-eq-12
+returns-then-eq-12 c = by_row store_rows c.args.word.now (codes "bfinish") _ c.map-then-eq-12.result (c.no_field-then-eq-12.ensures BackupFinish) (search rules) refl (search rules)
