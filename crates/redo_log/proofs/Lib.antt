@@ -1,0 +1,6 @@
+pub mod LineLemmas
+pub mod ReadLemmas
+pub mod Steps
+pub mod UsedLemmas
+pub mod RecordLemmas
+pub mod ListLemmas

@@ -1,0 +1,40 @@
+use Rattle.std.proofs.Common.{subst, sym}
+use Rattle.std.specs.Prelude.{IfErr}
+use Rattle.disk_model.specs.Disk.{Files}
+use Rattle.disk_model.specs.Moments.{told_agrees}
+use Rattle.log_records.specs.Loading.IsLoadFault.{in_blocks}
+use Rattle.redo_log.specs.Listing.{HasStore, IsLogStopped}
+use Rattle.redo_log.specs.Saying.{says_nothing, says_then}
+use Rattle.redo_log.specs.Stops.{stop_from_read}
+use Rattle.redo_log.proofs.ListLemmas.{listed, load_damaged, log_stopped, on_ok, stopped_by}
+use Rattle.redo_log.proofs.listing.list_log.Goals as goal
+
+pub returns-in_err-log-clause-runs : goal.returns-in_err-log-clause-runs
+returns-in_err-log-clause-runs g c = says_nothing c.load.ensures.kept
+
+pub returns-in_err-log-clause-cause : goal.returns-in_err-log-clause-cause
+returns-in_err-log-clause-cause g c told store =
+    let files = (g.M.Machine.disk c.args.machine.now).reads in
+    stopped_by c.from_residual.result (stop_from_read c.in_err-log.field-0.0) (IsLogStopped files) c.from_residual.ensures.1
+    (log_stopped files _ _ c.in_err-log.field-0.0 (λ file place is. load_damaged files c.args.b store file place (in_blocks file place (is files (told_agrees c.load.ensures.kept told)))) c.in_err-log.ensures.cause)
+
+pub returns-in_err-end_listing-clause-runs : goal.returns-in_err-end_listing-clause-runs
+returns-in_err-end_listing-clause-runs g c = says_then (says_then (says_nothing c.load.ensures.kept) c.say_log-said.ensures.runs) (says_nothing c.end_listing.ensures.kept)
+
+pub returns-in_err-end_listing-clause-cause : goal.returns-in_err-end_listing-clause-cause
+returns-in_err-end_listing-clause-cause g c told store =
+    let run = says_then (says_nothing c.load.ensures.kept) c.say_log-said.ensures.runs in
+    let same = run.reads told in
+    subst (λ (f : Files). IfErr c.from_residual-in_err-end_listing.result (IsLogStopped f)) same
+    (stopped_by c.from_residual-in_err-end_listing.result c.in_err-end_listing.field-0.0 (IsLogStopped (g.M.Machine.disk c.say_log-said.new.machine).reads) c.from_residual-in_err-end_listing.ensures.1
+    (c.in_err-end_listing.ensures.cause (run.time.files_told.0 told) (subst (λ (f : Files). HasStore f c.args.b) (sym same) store)))
+
+pub returns-clause-runs : goal.returns-clause-runs
+returns-clause-runs g c = says_then (says_then (says_nothing c.load.ensures.kept) c.say_log-said.ensures.runs) (says_nothing c.end_listing.ensures.kept)
+
+pub returns-clause-listed : goal.returns-clause-listed
+returns-clause-listed g c told store =
+    let first = g.M.Machine.disk c.args.machine.now in
+    let found = c.in_ok-log.ensures.read first.reads (told_agrees c.load.ensures.kept told) in
+    listed first (g.M.Machine.disk c.load.new.machine) (g.M.Machine.disk c.say_log-said.new.machine) (g.M.Machine.disk c.end_listing.new.machine) c.args.b _ _ found.0 told store c.load.ensures.kept c.say_log-said.ensures.runs c.end_listing.ensures.kept found.1
+    (λ told_mid holds. on_ok c.say_log-said.result _ c.in_ok-end_listing.ensures.all (c.say_log-said.ensures.said told_mid found.0 holds found.2 found.3)) c.in_ok-end_listing.ensures.whole

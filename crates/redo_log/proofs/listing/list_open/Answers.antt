@@ -1,0 +1,27 @@
+use Rattle.std.proofs.Common.{◌++◌, ◌∙◌, List, ℕ, ap, subst}
+use Rattle.redo_log.specs.Listing.{IsLogStopped, damaged}
+use Rattle.redo_log.specs.Saying.{says_then}
+use Rattle.redo_log.proofs.listing.list_open.Goals as goal
+
+pub returns-in-Err-clause-keeps : goal.returns-in-Err-clause-keeps
+returns-in-Err-clause-keeps g c = says_then c.list_log.ensures.runs c.end_stopped.ensures.runs
+
+pub returns-in-Err-clause-listed : goal.returns-in-Err-clause-listed
+returns-in-Err-clause-listed g c told store done = absurd (c.end_stopped.ensures.undone done)
+
+pub returns-in-Err-clause-a_store : goal.returns-in-Err-clause-a_store
+returns-in-Err-clause-a_store g c told store none =
+    let is = c.end_stopped.ensures.no_store (c.list_log.ensures.runs.time.files_told.0 told) none in
+    subst (IsLogStopped (g.M.Machine.disk c.args.machine.now).reads) is.0 (c.in-Err.ensures.cause told store)
+
+pub returns-in-Err-clause-damaged : goal.returns-in-Err-clause-damaged
+returns-in-Err-clause-damaged g c told store done =
+    let is = c.end_stopped.ensures.damaged (c.list_log.ensures.runs.time.files_told.0 told) done in
+    let lines = c.list_log.ensures.runs.said told in
+    record {
+      file = is.0;
+      place = is.1;
+      is = subst (IsLogStopped (g.M.Machine.disk c.args.machine.now).reads) is.2 (c.in-Err.ensures.cause told store);
+      lines = lines.0;
+      said = is.3 ∙ ap (λ (l : List ℕ). l ++ damaged is.0 is.1) lines.1;
+    }

@@ -1,0 +1,60 @@
+use Rattle.std.proofs.Common.{◌++◌, ◌∙◌, [], List, ℕ, ap, subst, sym}
+use Rattle.std.proofs.lemmas.List.{append-nil}
+use Rattle.disk_model.specs.Disk.{Files}
+use Rattle.redo_log.specs.Listing.{HasStore, IsDamageSaid, IsListed, IsStopped, damaged, not_a_store}
+use Rattle.redo_log.specs.Saying.{says_nothing, says_then}
+use Rattle.redo_log.proofs.listing.list_store.Goals as goal
+
+pub returns-in-Ok-clause-keeps : goal.returns-in-Ok-clause-keeps
+returns-in-Ok-clause-keeps g c = says_then (says_nothing c.read_bounds.ensures.kept) c.list_open.ensures.keeps
+
+pub returns-in-Ok-clause-listed : goal.returns-in-Ok-clause-listed
+returns-in-Ok-clause-listed g c told done =
+    let kept = c.read_bounds.ensures.kept in
+    let first = g.M.Machine.disk c.args.machine.now in
+    let mid = g.M.Machine.disk c.read_bounds.new.machine in
+    let new = g.M.Machine.disk c.list_open.new.machine in
+    let store = subst (λ (f : Files). HasStore f c.in-Ok.b) (sym (kept.reads told)) (c.in-Ok.ensures.whole told) in
+    subst (λ (f : Files). IsListed f first.said new.said) (kept.reads told) (subst (λ (s : List ℕ). IsListed mid.reads s new.said) (kept.said told) (c.list_open.ensures.listed (kept.time.files_told.0 told) store done))
+
+pub returns-in-Ok-clause-no_store : goal.returns-in-Ok-clause-no_store
+returns-in-Ok-clause-no_store g c told none =
+    let kept = c.read_bounds.ensures.kept in
+    let store = subst (λ (f : Files). HasStore f c.in-Ok.b) (sym (kept.reads told)) (c.in-Ok.ensures.whole told) in
+    absurd (c.list_open.ensures.a_store (kept.time.files_told.0 told) store none)
+
+pub returns-in-Ok-clause-damaged : goal.returns-in-Ok-clause-damaged
+returns-in-Ok-clause-damaged g c told done =
+    let kept = c.read_bounds.ensures.kept in
+    let first = g.M.Machine.disk c.args.machine.now in
+    let mid = g.M.Machine.disk c.read_bounds.new.machine in
+    let new = g.M.Machine.disk c.list_open.new.machine in
+    let store = subst (λ (f : Files). HasStore f c.in-Ok.b) (sym (kept.reads told)) (c.in-Ok.ensures.whole told) in
+    subst (λ (f : Files). IsDamageSaid f first.said new.said) (kept.reads told) (subst (λ (s : List ℕ). IsDamageSaid mid.reads s new.said) (kept.said told) (c.list_open.ensures.damaged (kept.time.files_told.0 told) store done))
+
+pub returns-in-Err-clause-keeps : goal.returns-in-Err-clause-keeps
+returns-in-Err-clause-keeps g c = says_then (says_nothing c.read_bounds.ensures.kept) c.end_stopped.ensures.runs
+
+pub returns-in-Err-clause-listed : goal.returns-in-Err-clause-listed
+returns-in-Err-clause-listed g c told done = absurd (c.end_stopped.ensures.undone done)
+
+pub returns-in-Err-clause-no_store : goal.returns-in-Err-clause-no_store
+returns-in-Err-clause-no_store g c told none =
+    let kept = c.read_bounds.ensures.kept in
+    let is = c.end_stopped.ensures.no_store (kept.time.files_told.0 told) none in (
+      subst (IsStopped (g.M.Machine.disk c.args.machine.now).reads) is.0 (c.in-Err.ensures.cause told),
+      is.1 ∙ ap (λ (l : List ℕ). l ++ not_a_store) (kept.said told),
+    )
+
+pub returns-in-Err-clause-damaged : goal.returns-in-Err-clause-damaged
+returns-in-Err-clause-damaged g c told done =
+    let kept = c.read_bounds.ensures.kept in
+    let is = c.end_stopped.ensures.damaged (kept.time.files_told.0 told) done in
+    let before = (g.M.Machine.disk c.args.machine.now).said in
+    record {
+      file = is.0;
+      place = is.1;
+      is = subst (IsStopped (g.M.Machine.disk c.args.machine.now).reads) is.2 (c.in-Err.ensures.cause told);
+      lines = [];
+      said = is.3 ∙ ap (λ (l : List ℕ). l ++ damaged is.0 is.1) (kept.said told ∙ sym (append-nil before));
+    }

@@ -1,0 +1,17 @@
+use Rattle.disk_model.specs.Moments.{told_agrees}
+use Rattle.redo_log.specs.Listing.{IsStopped}
+use Rattle.redo_log.specs.Stops.{stop_from_open}
+use Rattle.redo_log.proofs.ListLemmas.{has_store, objects_damaged, stopped_by, unopened}
+use Rattle.redo_log.proofs.listing.read_bounds.Goals as goal
+
+pub returns-clause-whole : goal.returns-clause-whole
+returns-clause-whole g c told =
+    let files = (g.M.Machine.disk c.args.machine.now).reads in
+    has_store files c.in_ok-slots.slots c.bounds.result (c.in_ok-slots.ensures.read files (told_agrees c.load.ensures.kept told)) c.bounds.ensures
+
+pub returns-in_err-slots-clause-cause : goal.returns-in_err-slots-clause-cause
+returns-in_err-slots-clause-cause g c told =
+    let files = (g.M.Machine.disk c.args.machine.now).reads in
+    let agrees = told_agrees c.load.ensures.kept told in
+    stopped_by c.from_residual.result (stop_from_open c.in_err-slots.field-0.0) (IsStopped files) c.from_residual.ensures.1
+    (unopened files _ _ _ c.in_err-slots.field-0.0 (λ none. none files agrees) (λ file place is. objects_damaged files file place is.0 (is.1 files agrees)) c.in_err-slots.ensures.cause)

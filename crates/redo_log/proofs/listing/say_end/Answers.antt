@@ -1,0 +1,25 @@
+use Rattle.std.proofs.Common.{◌++◌, ◌∙◌, ℕ, ap}
+use Rattle.std.specs.Prelude.{codes}
+use Rattle.disk_model.specs.Moments.{told_agrees}
+use Rattle.redo_log.specs.Lines.{line}
+use Rattle.redo_log.specs.Saying.{says_front, says_nothing, says_then}
+use Rattle.redo_log.proofs.listing.say_end.Goals as goal
+
+pub returns-in_err-left-clause-runs : goal.returns-in_err-left-clause-runs
+returns-in_err-left-clause-runs g c = says_nothing c.left_behind.ensures.kept
+
+pub returns-in_err-line-clause-runs : goal.returns-in_err-line-clause-runs
+returns-in_err-line-clause-runs g c = says_nothing c.left_behind.ensures.kept
+
+pub returns-in_err-say_line-clause-runs : goal.returns-in_err-say_line-clause-runs
+returns-in_err-say_line-clause-runs g c = says_then (says_nothing c.left_behind.ensures.kept) (says_front _ c.say_line.ensures.runs)
+
+pub returns-clause-runs : goal.returns-clause-runs
+returns-clause-runs g c = says_then (says_nothing c.left_behind.ensures.kept) (says_front _ c.say_line.ensures.runs)
+
+pub returns-clause-said : goal.returns-clause-said
+returns-clause-said g c told =
+    let first = g.M.Machine.disk c.args.machine.now in
+    let kept = c.left_behind.ensures.kept in
+    let text = c.as_slice.ensures.value ∙ c.in_ok-line.ensures ∙ ap (λ (k : ℕ). line c.args.file c.args.end k (codes "end")) (c.in_ok-left.ensures.left first.reads (told_agrees kept told)) in
+    c.in_ok-say_line.ensures.all (kept.time.files_told.0 told) ∙ λ i. kept.said told i ++ text i

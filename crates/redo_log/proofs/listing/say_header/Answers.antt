@@ -1,0 +1,19 @@
+use Rattle.std.proofs.Common.{◌++◌, ◌∙◌, List, ℕ, ap}
+use Rattle.disk_model.specs.Moments.{stays_here}
+use Rattle.redo_log.specs.Lines.{header_words, line}
+use Rattle.redo_log.specs.Saying.{says_front, says_nothing}
+use Rattle.redo_log.proofs.listing.say_header.Goals as goal
+
+pub returns-in_err-line-clause-runs : goal.returns-in_err-line-clause-runs
+returns-in_err-line-clause-runs g c = says_nothing (stays_here (g.M.Machine.disk c.args.machine.now) (g.met.M.Machine.lawful c.args.machine.now))
+
+pub returns-in_err-say_line-clause-runs : goal.returns-in_err-say_line-clause-runs
+returns-in_err-say_line-clause-runs g c = says_front _ c.say_line.ensures.runs
+
+pub returns-clause-runs : goal.returns-clause-runs
+returns-clause-runs g c = says_front _ c.say_line.ensures.runs
+
+pub returns-clause-said : goal.returns-clause-said
+returns-clause-said g c told =
+    let text = c.as_slice.ensures.value ∙ c.in_ok-line.ensures ∙ λ i. line (c.active.ensures i) 0 33 (header_words (record { epoch = c.epoch.ensures i; base = c.base.ensures i; commands = c.commands.ensures i })) in
+    c.in_ok-say_line.ensures.all told ∙ ap (λ (l : List ℕ). (g.M.Machine.disk c.args.machine.now).said ++ l) text

@@ -1,0 +1,28 @@
+use Rattle.std.proofs.Common.{◌∙◌}
+use Rattle.op_codec.specs.AllOps.{all_meaning}
+use Rattle.redo_log.specs.Saying.{says_nothing, says_then, still_agrees}
+use Rattle.redo_log.proofs.ListLemmas.{end_used, log_goes_on}
+use Rattle.redo_log.proofs.listing.say_log.Goals as goal
+
+pub returns-in_err-payloads-clause-runs : goal.returns-in_err-payloads-clause-runs
+returns-in_err-payloads-clause-runs g c = says_then c.say_header.ensures.runs (says_nothing c.reader.ensures.kept)
+
+pub say_blocks-requires : goal.say_blocks-requires
+say_blocks-requires g c = c.in_ok-payloads.ensures.through
+
+pub returns-in_err-say_blocks-clause-runs : goal.returns-in_err-say_blocks-clause-runs
+returns-in_err-say_blocks-clause-runs g c = says_then (says_then c.say_header.ensures.runs (says_nothing c.reader.ensures.kept)) c.say_blocks.ensures.runs
+
+pub returns-in_err-say_end-clause-runs : goal.returns-in_err-say_end-clause-runs
+returns-in_err-say_end-clause-runs g c = says_then (says_then (says_then c.say_header.ensures.runs (says_nothing c.reader.ensures.kept)) c.say_blocks.ensures.runs) c.say_end.ensures.runs
+
+pub returns-clause-runs : goal.returns-clause-runs
+returns-clause-runs g c = says_then (says_then (says_then c.say_header.ensures.runs (says_nothing c.reader.ensures.kept)) c.say_blocks.ensures.runs) c.say_end.ensures.runs
+
+pub returns-clause-said : goal.returns-clause-said
+returns-clause-said g c told payloads holds end none =
+    log_goes_on (all_meaning c.args.b) (g.M.Machine.disk c.args.machine.now) (g.M.Machine.disk c.say_header.new.machine) (g.M.Machine.disk c.reader.new.machine) (g.M.Machine.disk c.say_blocks.new.machine) (g.M.Machine.disk c.say_end.new.machine)
+    c.args.log.now.active c.active.result c.args.log.now.header payloads c.in_ok-payloads.payloads c.used.result told
+    c.say_header.ensures.runs c.reader.ensures.kept c.say_blocks.ensures.runs (c.in_ok-say_header.ensures.said told) c.in_ok-payloads.ensures.file c.active.ensures (c.used.ensures ∙ end_used c.args.log.now _ none end)
+    (c.in_ok-payloads.ensures.starts (g.M.Machine.disk c.args.machine.now).reads (still_agrees (says_then c.say_header.ensures.runs (says_nothing c.reader.ensures.kept)) told) payloads holds.log)
+    c.in_ok-say_blocks.ensures.said c.in_ok-say_end.ensures.said

@@ -1,0 +1,37 @@
+use Rattle.std.proofs.Common.{Bool, subst}
+use Rattle.log_frames.specs.Forcing.{with_block}
+use Rattle.log_frames.specs.Payloads.{HasNext}
+use Rattle.op_codec.specs.AllOps.{all_meaning}
+use Rattle.redo_log.specs.Saying.{says_nothing, says_then}
+use Rattle.redo_log.proofs.Steps.{blocks_done, blocks_go_on, no_block}
+use Rattle.redo_log.proofs.saying.say_blocks.Goals as goal
+
+pub loop-alloc-init : goal.loop-alloc-init
+loop-alloc-init g c = no_block (all_meaning c.args.b) (g.M.Machine.disk c.args.machine.now) c.args.payloads.now (g.met.M.Machine.lawful c.args.machine.now) c.requires
+
+pub next_payload-requires : goal.next_payload-requires
+next_payload-requires g c = record { through = c.loop-alloc.invariant.through }
+
+pub loop-alloc-preserved : goal.loop-alloc-preserved
+loop-alloc-preserved g c =
+    let next = c.next_payload.new.self in
+    blocks_go_on (all_meaning c.args.b) (g.M.Machine.disk c.args.machine.now) (g.M.Machine.disk c.loop-alloc.machine) (g.M.Machine.disk c.next_payload.new.machine) (g.M.Machine.disk c.say_block.new.machine) c.args.payloads.now c.loop-alloc.payloads next c.say_block.new.payloads
+    c.loop-alloc.invariant c.next_payload.ensures.kept c.next_payload.ensures.file (c.in_ok-next_payload.ensures.some c.if-not-branch.false).0
+    (λ files agree payloads passed taken later stands. subst (λ (more : Bool). HasNext (files next.file) next payloads (with_block passed taken) later more) c.if-not-branch.false (c.in_ok-next_payload.ensures.next files agree payloads passed taken later stands))
+    c.say_block.ensures.runs c.say_block.ensures.file c.in_ok-say_block.ensures.less.0 c.in_ok-say_block.ensures.said
+
+pub returns-in_err-next_payload-clause-runs : goal.returns-in_err-next_payload-clause-runs
+returns-in_err-next_payload-clause-runs g c = says_then c.loop-alloc.invariant.run (says_nothing c.next_payload.ensures.kept)
+
+pub returns-then-not-branch-clause-runs : goal.returns-then-not-branch-clause-runs
+returns-then-not-branch-clause-runs g c = says_then c.loop-alloc.invariant.run (says_nothing c.next_payload.ensures.kept)
+
+pub returns-then-not-branch-clause-said : goal.returns-then-not-branch-clause-said
+returns-then-not-branch-clause-said g c told all stands =
+    let next = c.next_payload.new.self in
+    blocks_done (all_meaning c.args.b) (g.M.Machine.disk c.args.machine.now) (g.M.Machine.disk c.loop-alloc.machine) (g.M.Machine.disk c.next_payload.new.machine) c.args.payloads.now c.loop-alloc.payloads next c.loop-alloc.invariant c.next_payload.ensures.kept
+    (λ files agree payloads passed taken later stood. subst (λ (more : Bool). HasNext (files next.file) next payloads (with_block passed taken) later more) c.if-not-branch.true (c.in_ok-next_payload.ensures.next files agree payloads passed taken later stood))
+    told all stands
+
+pub returns-in_err-say_block-clause-runs : goal.returns-in_err-say_block-clause-runs
+returns-in_err-say_block-clause-runs g c = says_then (says_then c.loop-alloc.invariant.run (says_nothing c.next_payload.ensures.kept)) c.say_block.ensures.runs

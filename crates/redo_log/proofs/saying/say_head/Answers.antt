@@ -1,0 +1,20 @@
+use Rattle.std.proofs.Common.{◌∙◌}
+use Rattle.disk_model.specs.Moments.{stays_here}
+use Rattle.redo_log.specs.Saying.{says_front, says_nothing}
+use Rattle.redo_log.proofs.Steps.{head_said}
+use Rattle.redo_log.proofs.saying.say_head.Goals as goal
+
+pub returns-in_err-line-clause-runs : goal.returns-in_err-line-clause-runs
+returns-in_err-line-clause-runs g c = says_nothing (stays_here (g.M.Machine.disk c.args.machine.now) (g.met.M.Machine.lawful c.args.machine.now))
+
+pub returns-in_err-say_line-clause-runs : goal.returns-in_err-say_line-clause-runs
+returns-in_err-say_line-clause-runs g c = says_front _ c.say_line.ensures.runs
+
+pub returns-clause-runs : goal.returns-clause-runs
+returns-clause-runs g c = says_front _ c.say_line.ensures.runs
+
+pub returns-clause-said : goal.returns-clause-said
+returns-clause-said g c told all passed later stands some =
+    let first = g.M.Machine.disk c.args.machine.now in
+    head_said (first.reads c.args.payloads.now.file) c.args.payloads.now all passed later c.file.result c.place.result c.saturating_sub.result c.remaining.result _ first.said (g.M.Machine.disk c.say_line.new.machine).said
+    c.file.ensures c.place.ensures c.saturating_sub.ensures c.remaining.ensures (c.as_slice.ensures.value ∙ c.in_ok-line.ensures) (c.in_ok-say_line.ensures.all told) stands some

@@ -1,0 +1,43 @@
+use Rattle.std.proofs.Common.{◌∙◌, arith}
+use Rattle.disk_model.specs.Moments.{told_agrees}
+use Rattle.op_codec.specs.AllOps.{all_meaning}
+use Rattle.redo_log.specs.Saying.{says_front, says_nothing, says_then}
+use Rattle.redo_log.proofs.ReadLemmas.{ahead_off, code_some, code_within, taken_off}
+use Rattle.redo_log.proofs.Steps.{says_record}
+use Rattle.redo_log.proofs.saying.say_record.Goals as goal
+
+pub returns-in_err-it-clause-runs : goal.returns-in_err-it-clause-runs
+returns-in_err-it-clause-runs g c = says_nothing c.find_record.ensures.kept
+
+pub returns-in_err-line-clause-runs : goal.returns-in_err-line-clause-runs
+returns-in_err-line-clause-runs g c = says_nothing c.find_record.ensures.kept
+
+pub returns-in_err-say_line-clause-runs : goal.returns-in_err-say_line-clause-runs
+returns-in_err-say_line-clause-runs g c = says_then (says_nothing c.find_record.ensures.kept) (says_front _ c.say_line.ensures.runs)
+
+pub take-requires : goal.take-requires
+take-requires g c = code_within (all_meaning c.args.b) c.find_record.new.payloads.bytes c.in_ok-it.it c.in_ok-it.length c.in_ok-it.ensures.found.0 c.in_ok-it.ensures.found.1
+
+pub returns-clause-runs : goal.returns-clause-runs
+returns-clause-runs g c = says_then (says_nothing c.find_record.ensures.kept) (says_front _ c.say_line.ensures.runs)
+
+pub returns-clause-less : goal.returns-clause-less
+returns-clause-less g c =
+    let m = all_meaning c.args.b in
+    let searched = c.find_record.new.payloads in
+    let moved = c.take.new.self in
+    let found = c.in_ok-it.ensures.found in
+    let some = code_some m c.in_ok-it.it in (
+      omega (arith, taken_off m searched moved c.in_ok-it.it c.in_ok-it.length found.0 found.1 c.take.ensures.took, some, c.in_ok-it.ensures.all.0),
+      omega (arith, ahead_off m searched moved c.in_ok-it.it c.in_ok-it.length found.0 found.1 c.take.ensures.took, some, c.in_ok-it.ensures.all.1),
+    )
+
+pub returns-clause-said : goal.returns-clause-said
+returns-clause-said g c told all passed taken later is some =
+    let first = g.M.Machine.disk c.args.machine.now in
+    let kept = c.find_record.ensures.kept in
+    let found = c.in_ok-it.ensures.found in
+    says_record (all_meaning c.args.b) first (g.M.Machine.disk c.find_record.new.machine) (g.M.Machine.disk c.say_line.new.machine) c.args.payloads.now c.find_record.new.payloads c.take.new.self all passed taken later
+    c.in_ok-it.it c.file.result c.in_ok-it.length c.place.result _ told kept c.find_record.ensures.file c.in_ok-it.ensures.all.0 found.0 found.1 some
+    (c.in_ok-it.ensures.read first.reads (told_agrees kept told) all passed taken later is) c.take.ensures.read c.take.ensures.took c.file.ensures c.place.ensures
+    (c.as_slice.ensures.value ∙ c.in_ok-line.ensures) (c.in_ok-say_line.ensures.all (kept.time.files_told.0 told))

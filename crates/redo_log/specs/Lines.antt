@@ -1,0 +1,60 @@
+-- The lines of a log: each says the file, a place in it, how many bytes stand there, and what they are.
+use Rattle.std.specs.Prelude.{ℕ, ◌+◌, ◌++◌, suc, nat_eq, if◌then◌else◌, List, [], ◌∷◌, codes, length, map}
+use Rattle.std.specs.Fmt.{decimal}
+use Rattle.std.specs.List.{flat_map}
+use Rattle.disk_model.specs.declared.machine.FileNo.{FileNo}
+use Rattle.disk_model.specs.declared.machine.FileNo.TheVariants.{Objects, LogA, LogB}
+use Rattle.oper_core.specs.Meaning.{Meaning}
+use Rattle.op_codec.specs.AllOps.{AllOps}
+use Rattle.formats.specs.Log.{Header, end_of}
+use Rattle.formats.specs.Records.{payload_of, record_code}
+use Rattle.formats.specs.declared.record.Record.{Record}
+use Rattle.formats.specs.declared.record.Record.TheVariants.{Command, Identity, Check}
+use Rattle.script_lines.specs.Replies.{spaced}
+use Rattle.redo_log.specs.Words.{op_words}
+
+abbrev pub name_of_file : FileNo → List ℕ
+name_of_file Objects = codes "objects"
+name_of_file LogA = codes "log_a"
+name_of_file LogB = codes "log_b"
+
+-- a line
+abbrev pub line : FileNo → ℕ → ℕ → List ℕ → List ℕ
+line file place count what = name_of_file file ++ spaced place ++ spaced count ++ 32 ∷ what ++ 10 ∷ []
+
+abbrev pub header_words : Header → List ℕ
+header_words h = codes "header epoch" ++ spaced h.epoch ++ codes " base" ++ spaced h.base ++ codes " commands" ++ spaced h.commands
+
+-- an object of a check, and where its redo starts
+abbrev pub start_words : ℕ × ℕ → List ℕ
+start_words s = spaced s.0 ++ 58 ∷ decimal s.1
+
+-- a command has its operation, an identity write its object and the length of its value, a check its redo starts
+abbrev pub record_words : Record AllOps → List ℕ
+record_words (Command number op) = codes "command" ++ spaced number ++ 32 ∷ op_words op
+record_words (Identity number x value) = codes "identity" ++ spaced number ++ codes " object" ++ spaced x ++ codes " length" ++ spaced (length value)
+record_words (Check table) = codes "check" ++ spaced table.next ++ codes " starts" ++ flat_map start_words table.starts
+
+-- the lines of records, the first of which stands at this place
+abbrev pub record_lines : Meaning AllOps → FileNo → ℕ → List (Record AllOps) → List ℕ
+record_lines m file place [] = []
+record_lines m file place (r ∷ records) = line file place (length (record_code m r)) (record_words r) ++ record_lines m file (place + length (record_code m r)) records
+
+-- those of a block and of its records
+abbrev pub block_lines : Meaning AllOps → FileNo → ℕ → List (Record AllOps) → List ℕ
+block_lines m file place group = line file place (length (payload_of m group)) (codes "block") ++ record_lines m file (place + 5) group
+
+-- those of blocks, the first of which stands at this place
+abbrev pub blocks_lines : Meaning AllOps → FileNo → ℕ → List (List (Record AllOps)) → List ℕ
+blocks_lines m file place [] = []
+blocks_lines m file place (group ∷ groups) = block_lines m file place group ++ blocks_lines m file (place + (5 + length (payload_of m group))) groups
+
+-- how many bytes there are up to the last one that isn't 0
+abbrev pub used : List ℕ → ℕ
+used [] = 0
+used (byte ∷ bytes) = if nat_eq (byte + used bytes) 0 then 0 else suc (used bytes)
+
+-- the lines of a log: its header, its blocks, a group of records each, and where it ends, with the bytes that a torn force left there
+abbrev pub log_lines : Meaning AllOps → FileNo → Header → List (List (Record AllOps)) → ℕ → List ℕ
+log_lines m file header groups left =
+    line file 0 33 (header_words header) ++ blocks_lines m file 33 groups ++ line file (end_of (map (payload_of m) groups)) left (codes "end")

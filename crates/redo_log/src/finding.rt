@@ -1,0 +1,56 @@
+// Finds the next record of a log.
+ghost use Rattle.std.specs.Prelude.{◌≡◌, List, ℕ, IfOk, IfSome, OnOk, length};
+ghost use Rattle.disk_model.specs.Disk.{Files, Stays};
+ghost use Rattle.formats.specs.Records.{record_code};
+ghost use Rattle.log_frames.specs.Payloads.{IsInLog, ahead, remaining};
+ghost use Rattle.log_records.specs.Codec.{StartsWithRecord};
+ghost use Rattle.op_codec.specs.AllOps.{all_meaning};
+
+use crate::stop::Stop;
+use disk_model::Machine;
+use formats::Record;
+use log_frames::PayloadReader;
+use log_records::decode;
+use op_codec::AllOps;
+use oper_core::{Bounds, Memory};
+use std::alloc::Global;
+
+/// The record whose code the bytes begin with, and the code's length.
+fn decoded(
+    alloc: Global,
+    b: Bounds,
+    bytes: &[u8],
+) -> Result<Option<(Record<AllOps>, usize)>, Memory>
+    ensures { IfOk result (λ found. IfSome found (λ pair.
+        StartsWithRecord (all_meaning b) bytes.now pair.0 × (pair.1 ≡ length (record_code (all_meaning b) pair.0)))) }
+{
+    decode(alloc, b, bytes)
+}
+
+/// Brings bytes of the payload in hand into memory until they begin with a record, and answers the length of its code beside
+/// it. Fails where the whole payload's do not.
+pub fn find_record<M: Machine>(
+    alloc: Global,
+    machine: &mut M,
+    b: Bounds,
+    payloads: &mut PayloadReader,
+) -> Result<(Record<AllOps>, usize), Stop>
+    ensures kept { Stays (M.disk machine.old) (M.disk machine.new) }
+    ensures file { payloads.new.file ≡ payloads.old.file }
+    ensures all { OnOk result ((remaining payloads.new ≡ remaining payloads.old) × (ahead payloads.new ≡ ahead payloads.old)) }
+    ensures read { (files : Files) → (M.disk machine.new).agrees files → (all passed : List (List ℕ)) (taken : List ℕ) (later : List (List ℕ))
+        → IsInLog (files payloads.old.file) payloads.old all passed taken later → OnOk result (IsInLog (files payloads.new.file) payloads.new all passed taken later) }
+    ensures found { IfOk result (λ pair. StartsWithRecord (all_meaning b) payloads.new.bytes pair.0 × (pair.1 ≡ length (record_code (all_meaning b) pair.0))) }
+{
+    loop {
+        if let Some(found) = decoded(alloc, b, payloads.bytes())? {
+            return Ok(found);
+        }
+        if !payloads.read_more(machine)? {
+            return Err(Stop::Damaged {
+                file: payloads.file(),
+                place: payloads.place(),
+            });
+        }
+    }
+}

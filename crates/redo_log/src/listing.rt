@@ -1,0 +1,226 @@
+// Lists the log of a store.
+ghost use Rattle.std.specs.Prelude.{◌≡◌, ◌≢◌, ◌⊎◌, ⊤, ◌++◌, [], List, ℕ, IfErr, IfOk, IsOk, OnOk, codes, drop};
+ghost use Rattle.disk_model.specs.Disk.{Runs, Same, SaysFront, Stays};
+ghost use Rattle.disk_model.specs.declared.machine.FileNo.{FileNo as File};
+ghost use Rattle.disk_model.specs.declared.machine.FileNo.TheVariants.{Objects};
+ghost use Rattle.formats.specs.Bytes.{IsClosedAt};
+ghost use Rattle.formats.specs.InForce.{HoldsLog};
+ghost use Rattle.formats.specs.Log.{end_of};
+ghost use Rattle.formats.specs.Reading.{FailsBy};
+ghost use Rattle.log_records.specs.Loading.{IsLoadFault};
+ghost use Rattle.op_codec.specs.AllOps.{all_meaning};
+ghost use Rattle.oper_core.specs.Meaning.{IsSmall};
+ghost use Rattle.redo_log.specs.Lines.{header_words, line, used};
+ghost use Rattle.redo_log.specs.Listing.{ArePlaced, HasStore, IsDamageSaid, IsListed, IsLogStopped, IsStopped, SaysLog, damaged, not_a_store};
+ghost use Rattle.redo_log.specs.Saying.{OnlySays};
+
+use crate::left::left_behind;
+use crate::lines::{damage_line, header_line, line_of};
+use crate::saying::{say_blocks, say_line};
+use crate::status::Status;
+use crate::stop::Stop;
+use disk_model::{FileNo, Machine};
+use formats::ReadErr;
+use log_frames::LogFile;
+use log_records::RecordLog;
+use op_codec::AllOps;
+use oper_core::{Bounds, Memory, Oper};
+use stable_objects::Slots;
+use std::alloc::Global;
+
+/// Says a line, and ends with this status, or where the output fails with that.
+fn end_with<M: Machine>(machine: &mut M, line: &[u8], status: Status) -> Status
+    ensures runs { Runs Same (SaysFront line.now) (M.disk machine.old) (M.disk machine.new) }
+    ensures all { (M.disk machine.old).tells_files → result ≢ Status.SayFault → (M.disk machine.new).said ≡ (M.disk machine.old).said ++ line.now }
+    ensures status { (result ≡ status) ⊎ (result ≡ Status.SayFault) }
+{
+    match machine.say(line) {
+        Ok(()) => status,
+        Err(_) => Status::SayFault,
+    }
+}
+
+/// Says where a file breaks its format, and ends with that status, or out of memory for the line with that, or where the output
+/// fails with that.
+fn end_damaged<M: Machine>(alloc: Global, machine: &mut M, file: FileNo, place: u64) -> Status
+    ensures runs { OnlySays (M.disk machine.old) (M.disk machine.new) }
+    ensures all { (M.disk machine.old).tells_files → result ≡ Status.Damaged → (M.disk machine.new).said ≡ (M.disk machine.old).said ++ damaged file place }
+    ensures status { (result ≡ Status.Damaged) ⊎ ((result ≡ Status.Memory) ⊎ (result ≡ Status.SayFault)) }
+{
+    match damage_line(alloc, file, place) {
+        Ok(line) => end_with(machine, line.as_slice(), Status::Damaged),
+        Err(Memory) => Status::Memory,
+    }
+}
+
+/// Ends with the status of what ended the lines early, and says it where it is about the files.
+fn end_stopped<M: Machine>(alloc: Global, machine: &mut M, stop: Stop) -> Status
+    ensures runs { OnlySays (M.disk machine.old) (M.disk machine.new) }
+    ensures no_store { (M.disk machine.old).tells_files → result ≡ Status.NotAStore → (stop ≡ Stop.NotAStore) × ((M.disk machine.new).said ≡ (M.disk machine.old).said ++ not_a_store) }
+    ensures damaged { (M.disk machine.old).tells_files → result ≡ Status.Damaged → (file : File) × (place : ℕ) × (stop ≡ Stop.Damaged file place)
+        × ((M.disk machine.new).said ≡ (M.disk machine.old).said ++ damaged file place) }
+    ensures undone { result ≢ Status.Done }
+{
+    match stop {
+        Stop::NotAStore => end_with(machine, b"not a store\n", Status::NotAStore),
+        Stop::Damaged { file, place } => end_damaged(alloc, machine, file, place),
+        Stop::DiskFault => Status::DiskFault,
+        Stop::SayFault => Status::SayFault,
+        Stop::Memory => Status::Memory,
+    }
+}
+
+/// How many objects the store has, and how long they may be.
+fn read_bounds<M: Machine>(alloc: Global, machine: &mut M) -> Result<Bounds, Stop>
+    ensures kept { Stays (M.disk machine.old) (M.disk machine.new) }
+    ensures whole { (M.disk machine.old).tells_files → IfOk result (HasStore (M.disk machine.old).reads) }
+    ensures cause { (M.disk machine.old).tells_files → IfErr result (IsStopped (M.disk machine.old).reads) }
+{
+    let slots = Slots::load(alloc, machine)?;
+    Ok(slots.bounds())
+}
+
+/// Says where a log ends, and what a torn force left there.
+fn say_end<M: Machine>(alloc: Global, machine: &mut M, file: FileNo, end: u64) -> Result<(), Stop>
+    ensures runs { OnlySays (M.disk machine.old) (M.disk machine.new) }
+    ensures said { (M.disk machine.old).tells_files
+        → OnOk result ((M.disk machine.new).said ≡ (M.disk machine.old).said ++ line file end (used (drop end ((M.disk machine.old).reads file))) (codes "end")) }
+{
+    let left = left_behind(alloc, machine, file, end)?;
+    let line = line_of(alloc, file, end, left, b"end")?;
+    say_line(machine, line.as_slice())?;
+    Ok(())
+}
+
+/// Says the header of a log.
+fn say_header<M: Machine>(alloc: Global, machine: &mut M, log: &LogFile) -> Result<(), Stop>
+    ensures runs { OnlySays (M.disk machine.old) (M.disk machine.new) }
+    ensures said { (M.disk machine.old).tells_files
+        → OnOk result ((M.disk machine.new).said ≡ (M.disk machine.old).said ++ line log.now.active 0 33 (header_words log.now.header)) }
+{
+    let line = header_line(alloc, log.active(), log.epoch(), log.base(), log.commands())?;
+    say_line(machine, line.as_slice())?;
+    Ok(())
+}
+
+/// Says a log from its header to its end.
+fn say_log<M: Machine>(alloc: Global, machine: &mut M, b: Bounds, log: &LogFile) -> Result<(), Stop>
+    ensures runs { OnlySays (M.disk machine.old) (M.disk machine.new) }
+    ensures said { (M.disk machine.old).tells_files → (payloads : List (List ℕ)) → HoldsLog log.now.active log.now.header payloads (M.disk machine.old).reads
+        → log.now.end ≡ end_of payloads → log.now.pending ≡ []
+        → OnOk result (SaysLog (all_meaning b) (M.disk machine.old).reads log.now.active log.now.header payloads (M.disk machine.old).said (M.disk machine.new).said) }
+{
+    say_header(alloc, machine, log)?;
+    let mut payloads = log.reader(alloc, machine)?;
+    say_blocks(alloc, machine, b, &mut payloads)?;
+    say_end(alloc, machine, log.active(), log.used())?;
+    Ok(())
+}
+
+/// Reads the log once more, and checks that each of its records is right in its place.
+fn check_records<O: Oper, M: Machine>(
+    alloc: Global,
+    machine: &mut M,
+    b: Bounds,
+) -> Result<(), ReadErr>
+    ensures kept { Stays (M.disk machine.old) (M.disk machine.new) }
+    ensures whole { (M.disk machine.old).tells_files → IsSmall b → OnOk result (ArePlaced (O.meaning b) (M.disk machine.old).reads) }
+    ensures cause { (M.disk machine.old).tells_files → IfErr result (FailsBy ⊤ (IsLoadFault (O.meaning b) (M.disk machine.old).reads)) }
+{
+    match RecordLog::<O>::load_checked(alloc, machine, b) {
+        Ok(loaded) => {
+            drop(loaded);
+            Ok(())
+        }
+        Err(cause) => Err(cause),
+    }
+}
+
+/// The same for the operations of a store.
+fn check_log<M: Machine>(alloc: Global, machine: &mut M, b: Bounds) -> Result<(), ReadErr>
+    ensures kept { Stays (M.disk machine.old) (M.disk machine.new) }
+    ensures whole { (M.disk machine.old).tells_files → IsSmall b → OnOk result (ArePlaced (all_meaning b) (M.disk machine.old).reads) }
+    ensures cause { (M.disk machine.old).tells_files → IfErr result (FailsBy ⊤ (IsLoadFault (all_meaning b) (M.disk machine.old).reads)) }
+{
+    check_records::<AllOps, M>(alloc, machine, b)
+}
+
+/// The same, and a fault of the log is one of the store.
+fn check_store<M: Machine>(alloc: Global, machine: &mut M, b: Bounds) -> Result<(), Stop>
+    ensures kept { Stays (M.disk machine.old) (M.disk machine.new) }
+    ensures whole { (M.disk machine.old).tells_files → HasStore (M.disk machine.old).reads b → OnOk result (ArePlaced (all_meaning b) (M.disk machine.old).reads) }
+    ensures cause { (M.disk machine.old).tells_files → HasStore (M.disk machine.old).reads b → IfErr result (IsLogStopped (M.disk machine.old).reads) }
+{
+    check_log(alloc, machine, b)?;
+    Ok(())
+}
+
+/// Checks the log of which this was said. Bytes that are no record are reported by the check; where it finds no fault, the disk
+/// did not give the same bytes twice.
+fn end_listing<M: Machine>(
+    alloc: Global,
+    machine: &mut M,
+    b: Bounds,
+    said: Result<(), Stop>,
+) -> Result<(), Stop>
+    ensures kept { Stays (M.disk machine.old) (M.disk machine.new) }
+    ensures whole { (M.disk machine.old).tells_files → HasStore (M.disk machine.old).reads b → OnOk result (ArePlaced (all_meaning b) (M.disk machine.old).reads) }
+    ensures cause { (M.disk machine.old).tells_files → HasStore (M.disk machine.old).reads b → IfErr result (IsLogStopped (M.disk machine.old).reads) }
+    ensures all { OnOk result (IsOk said) }
+{
+    match said {
+        Ok(()) => check_store(alloc, machine, b),
+        Err(Stop::SayFault) => Err(Stop::SayFault),
+        Err(Stop::Memory) => Err(Stop::Memory),
+        Err(_) => {
+            check_store(alloc, machine, b)?;
+            Err(Stop::DiskFault)
+        }
+    }
+}
+
+/// Says the log of a store of these bounds, and checks it.
+fn list_log<M: Machine>(alloc: Global, machine: &mut M, b: Bounds) -> Result<(), Stop>
+    ensures runs { OnlySays (M.disk machine.old) (M.disk machine.new) }
+    ensures listed { (M.disk machine.old).tells_files → HasStore (M.disk machine.old).reads b
+        → OnOk result (IsListed (M.disk machine.old).reads (M.disk machine.old).said (M.disk machine.new).said) }
+    ensures cause { (M.disk machine.old).tells_files → HasStore (M.disk machine.old).reads b → IfErr result (IsLogStopped (M.disk machine.old).reads) }
+{
+    let log = LogFile::load(alloc, machine)?;
+    let said = say_log(alloc, machine, b, &log);
+    drop(log);
+    end_listing(alloc, machine, b, said)?;
+    Ok(())
+}
+
+/// The same, and ends with the status that reports it.
+fn list_open<M: Machine>(alloc: Global, machine: &mut M, b: Bounds) -> Status
+    ensures keeps { OnlySays (M.disk machine.old) (M.disk machine.new) }
+    ensures listed { (M.disk machine.old).tells_files → HasStore (M.disk machine.old).reads b → result ≡ Status.Done
+        → IsListed (M.disk machine.old).reads (M.disk machine.old).said (M.disk machine.new).said }
+    ensures a_store { (M.disk machine.old).tells_files → HasStore (M.disk machine.old).reads b → result ≢ Status.NotAStore }
+    ensures damaged { (M.disk machine.old).tells_files → HasStore (M.disk machine.old).reads b → result ≡ Status.Damaged
+        → IsDamageSaid (M.disk machine.old).reads (M.disk machine.old).said (M.disk machine.new).said }
+{
+    match list_log(alloc, machine, b) {
+        Ok(()) => Status::Done,
+        Err(stop) => end_stopped(alloc, machine, stop),
+    }
+}
+
+/// Says the log of the store as lines, one for the header, each block, each record, and the end. It writes no file. Where there is
+/// no store it says that; where the files break their format it says some lines, and the place.
+pub fn list_store<M: Machine>(alloc: Global, machine: &mut M) -> Status
+    // No file changes, at no moment.
+    ensures keeps { OnlySays (M.disk machine.old) (M.disk machine.new) }
+    // The lines are those of all records that the log holds, in their order, and nothing else.
+    ensures listed { (M.disk machine.old).tells_files → result ≡ Status.Done → IsListed (M.disk machine.old).reads (M.disk machine.old).said (M.disk machine.new).said }
+    ensures no_store { (M.disk machine.old).tells_files → result ≡ Status.NotAStore
+        → IsClosedAt 0 ((M.disk machine.old).reads Objects) × ((M.disk machine.new).said ≡ (M.disk machine.old).said ++ not_a_store) }
+    ensures damaged { (M.disk machine.old).tells_files → result ≡ Status.Damaged → IsDamageSaid (M.disk machine.old).reads (M.disk machine.old).said (M.disk machine.new).said }
+{
+    match read_bounds(alloc, machine) {
+        Ok(b) => list_open(alloc, machine, b),
+        Err(stop) => end_stopped(alloc, machine, stop),
+    }
+}

@@ -1,0 +1,58 @@
+//! The program `redo_log`: it prints the log of the store in the current folder as text, one line for the header, each block, each
+//! record and the end. No file is written.
+//!
+//! The one contract is that of `list_store`: no call of it changes a file, and what it says is exactly the lines of the records
+//! that the log holds, in their order, or that there is no store, or, after some lines, where the files break their format. One
+//! record is in memory at a time. It depends on stable_objects for the bounds of the store, on log_frames, whose reader gives the
+//! payloads, on log_records, which decodes the records and checks them, on op_codec and the families of operations, whose words
+//! these are, on the hexadecimal of script_lines, on redo_tables for the starts of a check, and on formats, oper_core and the
+//! machine of disk_model.
+#![tactic(auto)]
+
+mod finding;
+mod left;
+mod lines;
+mod listing;
+mod saying;
+mod status;
+mod stop;
+mod words;
+
+use disk_model::FileMachine;
+use listing::list_store;
+use status::Status;
+use std::fs::{File, TryLockError};
+use std::process::ExitCode;
+
+// Lists the log while no other program uses the store.
+fn list_locked(rt: HostRuntime) -> ExitCode {
+    let Ok(folder) = File::open(&rt, ".") else {
+        return ExitCode::from(72);
+    };
+    match folder.try_lock() {
+        Ok(()) => {
+            let mut machine = FileMachine::new(rt);
+            ExitCode::from(list_store(rt.alloc(), &mut machine).number())
+        }
+        Err(TryLockError::WouldBlock) => {
+            let _told = eprintln!(rt; "redo_log: another program uses the store in this folder");
+            ExitCode::from(71)
+        }
+        Err(TryLockError::Error(_)) => ExitCode::from(72),
+    }
+}
+
+/// Status 0; 3 where there is no store, 4 where it is damaged, 5 where the disk fails, 7 where the output does, 8 without memory; 71
+/// where another program uses the store, and 72 where the folder cannot be locked.
+fn main(rt: HostRuntime) -> ExitCode {
+    // The first file that is opened takes the number of a standard stream that is closed. These take it before a file of
+    // the store does. Where they cannot be opened nothing is done.
+    let (Ok(_first), Ok(_second), Ok(_third)) = (
+        File::open(&rt, "/dev/null"),
+        File::open(&rt, "/dev/null"),
+        File::open(&rt, "/dev/null"),
+    ) else {
+        return ExitCode::from(Status::DiskFault.number());
+    };
+    list_locked(rt)
+}

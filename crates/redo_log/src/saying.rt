@@ -1,0 +1,115 @@
+// Says what a log holds, record by record.
+ghost use Rattle.std.specs.Prelude.{◌≡◌, ◌<◌, ◌≤◌, ◌++◌, [], List, ℕ, OnOk, codes};
+ghost use Rattle.disk_model.specs.Disk.{Runs, Same, SaysFront};
+ghost use Rattle.log_frames.specs.Payloads.{IsInLog, ahead, remaining};
+ghost use Rattle.formats.specs.Log.{end_of};
+ghost use Rattle.op_codec.specs.AllOps.{all_meaning};
+ghost use Rattle.redo_log.specs.Lines.{line};
+ghost use Rattle.redo_log.specs.Saying.{OnlySays};
+ghost use Rattle.redo_log.specs.Reading.{SaysRecord, SaysBlock, SaysBlocks};
+
+use crate::finding::find_record;
+use crate::lines::{line_of, record_line};
+use crate::stop::Stop;
+use disk_model::Machine;
+use formats::BLOCK_HEAD;
+use log_frames::PayloadReader;
+use oper_core::Bounds;
+use std::alloc::Global;
+
+/// Says a line.
+pub fn say_line<M: Machine>(machine: &mut M, line: &[u8]) -> Result<(), Stop>
+    ensures runs { Runs Same (SaysFront line.now) (M.disk machine.old) (M.disk machine.new) }
+    ensures all { (M.disk machine.old).tells_files → OnOk result ((M.disk machine.new).said ≡ (M.disk machine.old).said ++ line.now) }
+{
+    match machine.say(line) {
+        Ok(()) => Ok(()),
+        Err(_) => Err(Stop::SayFault),
+    }
+}
+
+/// Says the next record of the payload in hand, and takes it.
+fn say_record<M: Machine>(
+    alloc: Global,
+    machine: &mut M,
+    b: Bounds,
+    payloads: &mut PayloadReader,
+) -> Result<(), Stop>
+    ensures runs { OnlySays (M.disk machine.old) (M.disk machine.new) }
+    ensures file { payloads.new.file ≡ payloads.old.file }
+    ensures less { OnOk result ((remaining payloads.new < remaining payloads.old) × (ahead payloads.new ≤ ahead payloads.old)) }
+    ensures said { (M.disk machine.old).tells_files → (all passed : List (List ℕ)) (taken : List ℕ) (later : List (List ℕ))
+        → IsInLog ((M.disk machine.old).reads payloads.old.file) payloads.old all passed taken later → 0 < remaining payloads.old
+        → OnOk result (SaysRecord (all_meaning b) ((M.disk machine.old).reads payloads.old.file) payloads.old payloads.new all passed taken later (M.disk machine.old).said (M.disk machine.new).said) }
+{
+    let (it, length) = find_record(alloc, machine, b, payloads)?;
+    let line = record_line(alloc, payloads.file(), payloads.place(), length as u64, &it)?;
+    say_line(machine, line.as_slice())?;
+    payloads.take(length);
+    Ok(())
+}
+
+/// Says the line of the block whose payload is in hand, of which nothing was taken.
+fn say_head<M: Machine>(
+    alloc: Global,
+    machine: &mut M,
+    payloads: &PayloadReader,
+) -> Result<(), Stop>
+    ensures runs { OnlySays (M.disk machine.old) (M.disk machine.new) }
+    ensures said { (M.disk machine.old).tells_files → (all passed later : List (List ℕ))
+        → IsInLog ((M.disk machine.old).reads payloads.now.file) payloads.now all passed [] later → 0 < remaining payloads.now
+        → OnOk result ((M.disk machine.new).said ≡ (M.disk machine.old).said ++ line payloads.now.file (end_of passed) (remaining payloads.now) (codes "block")) }
+{
+    let line = line_of(
+        alloc,
+        payloads.file(),
+        payloads.place().saturating_sub(BLOCK_HEAD as u64),
+        payloads.remaining(),
+        b"block",
+    )?;
+    say_line(machine, line.as_slice())?;
+    Ok(())
+}
+
+/// Says the block of the payload in hand, of which nothing was taken, and its records, and takes them all.
+fn say_block<M: Machine>(
+    alloc: Global,
+    machine: &mut M,
+    b: Bounds,
+    payloads: &mut PayloadReader,
+) -> Result<(), Stop>
+    ensures runs { OnlySays (M.disk machine.old) (M.disk machine.new) }
+    ensures file { payloads.new.file ≡ payloads.old.file }
+    ensures less { OnOk result ((remaining payloads.new ≡ 0) × (ahead payloads.new ≤ ahead payloads.old)) }
+    ensures said { (M.disk machine.old).tells_files → (all passed later : List (List ℕ))
+        → IsInLog ((M.disk machine.old).reads payloads.old.file) payloads.old all passed [] later → 0 < remaining payloads.old
+        → OnOk result (SaysBlock (all_meaning b) ((M.disk machine.old).reads payloads.old.file) payloads.old payloads.new all passed later (M.disk machine.old).said (M.disk machine.new).said) }
+{
+    say_head(alloc, machine, payloads)?;
+    loop {
+        if payloads.remaining() == 0 {
+            return Ok(());
+        }
+        say_record(alloc, machine, b, payloads)?;
+    }
+}
+
+/// Says all blocks of a log, of which none was passed.
+pub fn say_blocks<M: Machine>(
+    alloc: Global,
+    machine: &mut M,
+    b: Bounds,
+    payloads: &mut PayloadReader,
+) -> Result<(), Stop>
+    requires { remaining payloads.old ≡ 0 }
+    ensures runs { OnlySays (M.disk machine.old) (M.disk machine.new) }
+    ensures said { (M.disk machine.old).tells_files → (all : List (List ℕ)) → IsInLog ((M.disk machine.old).reads payloads.old.file) payloads.old all [] [] all
+        → OnOk result (SaysBlocks (all_meaning b) payloads.old all (M.disk machine.old).said (M.disk machine.new).said) }
+{
+    loop {
+        if !payloads.next_payload(machine)? {
+            return Ok(());
+        }
+        say_block(alloc, machine, b, payloads)?;
+    }
+}
